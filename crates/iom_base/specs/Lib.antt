@@ -1,0 +1,3 @@
+pub mod Rights
+pub mod Causes
+pub mod Spans

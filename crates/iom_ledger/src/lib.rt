@@ -1,0 +1,13 @@
+//! The ledger of grants: which device holds which frame at which page with which right, and what it
+//! has released and may still reach until the release's ticket is confirmed.
+//!
+//! What the ledger answers is read off a *history* of entries (`specs/History.antt`), which no code
+//! stores. The layers above may rely on each call carrying agreement with a history on to the history
+//! with the call's entry, and on each look-up answering what every such history says.
+#![tactic(auto)]
+
+mod entry;
+mod refusal;
+
+pub use entry::Entry;
+pub use refusal::Refusal;
