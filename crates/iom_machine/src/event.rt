@@ -1,0 +1,38 @@
+use crate::sequence::Sequence;
+use iom_base::{DeviceId, Rights};
+
+/// One thing that happens: a call of the driver, an act of a device or a step of the IOMMU.
+#[derive(Drop)]
+pub enum Event {
+    /// A raw device is plugged in.
+    PlugRaw { device: DeviceId },
+    /// The driver is asked to attach the device with first-stage translation alone.
+    AttachFirst { device: DeviceId },
+    /// The driver is asked to grant the device the frame at the page, with the right.
+    Grant {
+        device: DeviceId,
+        page: u64,
+        frame: u64,
+        rights: Rights,
+    },
+    /// The driver is asked to release what the device holds at the page.
+    Release { device: DeviceId, page: u64 },
+    /// The IOMMU takes its next command.
+    Fetch,
+    /// The driver looks which tickets are done.
+    Poll,
+    /// The device asks to read so many bytes at the address.
+    Read {
+        device: DeviceId,
+        address: u64,
+        len: u64,
+    },
+    /// The device asks to write the bytes at the address.
+    Write {
+        device: DeviceId,
+        address: u64,
+        bytes: Sequence<u8>,
+    },
+    /// The oldest accepted access of the device is made.
+    Commit { device: DeviceId },
+}

@@ -1,0 +1,17 @@
+//! The ledger machine: what an IOMMU with its driver may answer to each event, whatever it caches.
+//!
+//! It has no tables, directory, caches, commands or messages: a state is a history of grants, the
+//! frames with their owners and bytes, and the devices with their accesses in flight. `specs/` says
+//! which steps are lawful; the layers above are proved to take lawful steps alone, and the laws of
+//! this crate say what every run of lawful steps has.
+#![tactic(auto)]
+
+mod event;
+mod outcome;
+mod sequence;
+mod state;
+
+pub use event::Event;
+pub use outcome::{CommandName, Fetched, Outcome, Trace};
+pub use sequence::Sequence;
+pub use state::{Access, Attachment, Device, DeviceKind, Frame, InFlight, Mode, Owner, State};

@@ -1,0 +1,69 @@
+use arrayvec::ArrayVec;
+use iom_base::Cause;
+use iom_ledger::Refusal;
+
+/// A command of the IOMMU's command queue, by its name.
+#[derive(Clone, Copy, PartialEq, Eq, Debug)]
+pub enum CommandName {
+    IotinvalVma,
+    IotinvalGvma,
+    IofenceC,
+    IodirInvalDdt,
+    AtsInval,
+}
+
+/// What a fetch did.
+#[derive(Clone, Copy, PartialEq, Eq, Debug)]
+pub enum Fetched {
+    /// It took the command, and did it.
+    Did(CommandName),
+    /// The command at the head waits.
+    Waiting,
+    /// There is no command.
+    Empty,
+    /// Command processing is stopped.
+    Stopped,
+}
+
+/// What comes of an event.
+#[derive(Drop)]
+pub enum Outcome {
+    /// The call did what it was asked.
+    Done,
+    /// The call did nothing, and says why.
+    Refused(Refusal),
+    /// What was released is free once this ticket is confirmed.
+    Ticket(u32),
+    /// The tickets from the first to the last are confirmed now.
+    Confirmed { first: u32, last: u32 },
+    /// No ticket is confirmed now.
+    NoneConfirmed,
+    Fetched(Fetched),
+    /// The access is accepted, as the device's so-many-eth, counted from 1.
+    Accepted(u64),
+    /// Eight accesses of the device are in flight.
+    Busy,
+    /// The access has no bytes or too many, or leaves its page.
+    BadSpan,
+    /// The access is refused.
+    Fault(Cause),
+    /// A read was made, and gave these bytes.
+    Read(ArrayVec<u8, 4096>),
+    /// A write of so many bytes was made.
+    Wrote(u64),
+    /// Nothing of the device is in flight.
+    NothingInFlight,
+}
+
+/// Counts that stand beside an outcome.
+#[derive(Clone, Copy, PartialEq, Eq, Debug)]
+pub struct Trace {
+    /// Tickets that are not confirmed.
+    pub tickets: u64,
+    /// Accesses accepted and not made, over all devices.
+    pub flight: u64,
+    /// Messages in the fabric.
+    pub messages: u64,
+    /// Free frames.
+    pub free: u64,
+}

@@ -1,0 +1,91 @@
+use crate::sequence::Sequence;
+use iom_base::{AccessKind, DeviceId};
+use iom_ledger::Entry;
+
+/// What a device is, and so which requests it can make.
+#[derive(Clone, Copy, PartialEq, Eq, Debug)]
+pub enum DeviceKind {
+    /// It sends anything, freely.
+    Raw,
+    /// It has a cache of translations (ATS).
+    Ats,
+    /// A virtio block device.
+    Block,
+    /// A virtio block device with a cache of translations.
+    CachedBlock,
+}
+
+/// Which stages translate a device's addresses.
+#[derive(Clone, Copy, PartialEq, Eq, Debug)]
+pub enum Mode {
+    First,
+    Second,
+    Both,
+}
+
+/// How a device is attached.
+#[derive(Clone, Copy, PartialEq, Eq, Debug)]
+pub enum Attachment {
+    Detached,
+    /// Attached in the mode, with ATS or without.
+    Attached { mode: Mode, ats: bool },
+    /// Cut off under the ticket. How it was attached before stays known.
+    Quarantined { ticket: u32, mode: Mode, ats: bool },
+    /// Detached once the ticket is confirmed. How it was attached before stays known.
+    Leaving { ticket: u32, mode: Mode, ats: bool },
+}
+
+/// Whose a reserved frame is.
+#[derive(Clone, Copy, PartialEq, Eq, Debug)]
+pub enum Owner {
+    System,
+    OneDevice(DeviceId),
+}
+
+/// A frame of memory. Where it has an owner it is reserved, and its bytes mean nothing.
+#[derive(Drop)]
+pub struct Frame {
+    pub owner: Option<Owner>,
+    pub bytes: Sequence<u8>,
+}
+
+/// What a device asks of memory.
+#[derive(Drop)]
+pub struct Access {
+    pub address: u64,
+    pub len: u64,
+    pub kind: AccessKind,
+    /// The bytes of a write; none of a read.
+    pub bytes: Sequence<u8>,
+}
+
+/// An access that is accepted and not yet made, with the frame that it will touch.
+#[derive(Drop)]
+pub struct InFlight {
+    pub access: Access,
+    pub frame: u32,
+}
+
+/// A plugged device.
+#[derive(Drop)]
+pub struct Device {
+    pub id: DeviceId,
+    pub kind: DeviceKind,
+    pub attachment: Attachment,
+    /// How many of its accesses were ever accepted.
+    pub accepted: u64,
+    /// Those that aren't made yet, the oldest first.
+    pub in_flight: Sequence<InFlight>,
+}
+
+/// All that the machine knows.
+#[derive(Drop)]
+pub struct State {
+    pub frames: Sequence<Frame>,
+    /// What happened to the grants, the newest entry first.
+    pub history: Sequence<Entry>,
+    /// The last ticket that was given; they count from 1.
+    pub tickets: u32,
+    /// In the order of plugging.
+    pub devices: Sequence<Device>,
+}
