@@ -1,5 +1,5 @@
 -- What a ledger shows, and when that is what a history says.
-use Rattle.std.specs.Prelude.{◌≡◌, ℕ, ◌⊎◌, List, Option, None, Some, map}
+use Rattle.std.specs.Prelude.{◌≡◌, ◌≢◌, ℕ, ◌⊎◌, List, Option, None, Some, map}
 use Rattle.std.specs.Option.{option_map, option_to_list}
 use Rattle.iom_base.specs.declared.rights.Rights.{Rights}
 use Rattle.iom_base.specs.Rights.{r, rw}
@@ -37,3 +37,9 @@ pub record Agrees (ledger : Ledger) (history : History) : Type 0 where
 -- the right is one of the two that are granted
 abbrev pub IsGrantable : Rights → Type 0
 IsGrantable rights = (rights ≡ r) ⊎ (rights ≡ rw)
+
+-- no pair on the frame is held, and none lingers
+abbrev pub IsUnnamed : Ledger → ℕ → Type 0
+IsUnnamed ledger frame =
+    (device page : ℕ) (rights : Rights)
+    → (held_in ledger device page ≢ Some (frame, rights)) × (lingering_in ledger device page ≢ Some (frame, rights))

@@ -27,7 +27,7 @@ impl Ledger {
     ghost use Rattle.iom_ledger.specs.declared.entry.Entry.TheVariants.{Granted, Released, AllReleased, Confirmed};
     ghost use Rattle.iom_ledger.specs.History.{History, Pair, confirms, held_at, lingering_at, Holds, Lingers, IsFree};
     ghost use Rattle.iom_ledger.specs.Unconfirmed.{unconfirmed};
-    ghost use Rattle.iom_ledger.specs.Shown.{Agrees, IsGrantable, held_in, released_in, lingering_in, waiting_in};
+    ghost use Rattle.iom_ledger.specs.Shown.{Agrees, IsGrantable, IsUnnamed, held_in, released_in, lingering_in, waiting_in};
     ghost use Rattle.iom_ledger.specs.Changes.{IsUnchanged, Grants, Releases, ReleasesAll, Confirms};
 
     /// A ledger of no grants. Makes the room of 256 tickets.
@@ -67,7 +67,8 @@ impl Ledger {
 
     /// Whether no device holds or lingers on the frame, so that none may reach it.
     pub fn is_free(&self, frame: u32) -> bool
-        ensures { (h : History) → Agrees self.now h → IsTrue result ↔ IsFree h frame }
+        ensures shown { IsTrue result ↔ IsUnnamed self.now frame }
+        ensures free { (h : History) → Agrees self.now h → IsTrue result ↔ IsFree h frame }
     {
         is_free_in(&self.devices, frame)
     }
