@@ -1,5 +1,5 @@
-ghost use Rattle.std.specs.Prelude.{◌≡◌, ◌≢◌, ◌↔◌, ◌/◌, ℕ, List, length, Some, IsSome, OnSome, IfNone};
-ghost use Rattle.iom_phys_mem.specs.Words.{IsPlace, word_at, byte_at};
+ghost use Rattle.std.specs.Prelude.{◌≡◌, ◌≢◌, ◌↔◌, ◌/◌, ℕ, List, length, Some, IsSome, OnSome, IfNone, slice_get};
+ghost use Rattle.iom_phys_mem.specs.Words.{IsPlace, word_at, byte_at, with_word};
 
 /// Frames of bytes that can be read and written by words: physical memory, or a smaller one of a test.
 ///
@@ -24,7 +24,9 @@ pub trait Bytes {
         ensures stored { OnSome result (word_at 8 (frames_of self.new) address ≡ Some value) }
         ensures other_words { (a : ℕ) → a ≢ address → word_at 8 (frames_of self.new) a ≡ word_at 8 (frames_of self.old) a }
         ensures other_bytes { (a : ℕ) → a / 8 ≢ address / 8 → byte_at (frames_of self.new) a ≡ byte_at (frames_of self.old) a }
+        ensures other_frames { (n : ℕ) → n ≢ address / 4096 → slice_get (frames_of self.new) n ≡ slice_get (frames_of self.old) n }
         ensures frames { length (frames_of self.new) ≡ length (frames_of self.old) }
+        ensures whole { OnSome result (frames_of self.new ≡ with_word 8 (frames_of self.old) address value) }
         ensures refused { IfNone result (frames_of self.new ≡ frames_of self.old) };
 
     /// Stores 4 bytes. None exactly where the address isn't a multiple of 4, or is outside: then nothing
@@ -34,6 +36,8 @@ pub trait Bytes {
         ensures stored { OnSome result (word_at 4 (frames_of self.new) address ≡ Some value) }
         ensures other_words { (a : ℕ) → a / 8 ≢ address / 8 → word_at 8 (frames_of self.new) a ≡ word_at 8 (frames_of self.old) a }
         ensures other_bytes { (a : ℕ) → a / 4 ≢ address / 4 → byte_at (frames_of self.new) a ≡ byte_at (frames_of self.old) a }
+        ensures other_frames { (n : ℕ) → n ≢ address / 4096 → slice_get (frames_of self.new) n ≡ slice_get (frames_of self.old) n }
         ensures frames { length (frames_of self.new) ≡ length (frames_of self.old) }
+        ensures whole { OnSome result (frames_of self.new ≡ with_word 4 (frames_of self.old) address value) }
         ensures refused { IfNone result (frames_of self.new ≡ frames_of self.old) };
 }
