@@ -82,10 +82,6 @@ frame_elsewhere frames i k frame ne =
 frame_here : (frames : List (List ℕ)) (i : ℕ) (frame : List ℕ) → i < length frames → slice_get (set frames i frame) i ≡ Some frame
 frame_here frames i frame lt = slice_get_read (set frames i frame) (length (set frames i frame)) i frame refl (rw (length-set frames i frame) lt) (sym (get_or-set_same frames i frame frame lt))
 
--- the frame that is read at an index
-pub frame_found : (frames : List (List ℕ)) (i : ℕ) (frame : List ℕ) → i < length frames → frame ≡ get_or frames i frame → slice_get frames i ≡ Some frame
-frame_found frames i frame lt e = slice_get_read frames (length frames) i frame refl lt e
-
 -- the frames with the number's bytes put into the frame that was found
 pub put_word : (n value address : ℕ) (frames : List (List ℕ)) (frame : List ℕ) → slice_get frames (address / 4096) ≡ Some frame
     → set frames (address / 4096) (with_bytes frame (address % 4096) (little_bytes n value)) ≡ with_word n frames address value

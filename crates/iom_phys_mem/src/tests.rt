@@ -1,4 +1,5 @@
 use super::*;
+use iom_base::FRAME_SIZE;
 use std::alloc::Global;
 use std::process::Abort;
 use std::test::Fail;
@@ -101,6 +102,30 @@ fn lent_frames_are_the_memory(rt: HostRuntime) -> Result<(), Fail> {
     Ok(())
 }
 
+// Two frames that stand in the value itself, as a test of a layer above may have them.
+#[derive(Drop)]
+struct TwoFrames([[u8; FRAME_SIZE]; 2]);
+
+impl Bytes for TwoFrames {
+    ghost frames_of = { λ memory. memory.0 };
+
+    fn frames(&self) -> u32 {
+        2
+    }
+
+    fn load_u64(&self, address: u64) -> Option<u64> {
+        frames::load_u64(&self.0, address)
+    }
+
+    fn store_u64(&mut self, address: u64, value: u64) -> Option<()> {
+        frames::store_u64(&mut self.0, address, value)
+    }
+
+    fn store_u32(&mut self, address: u64, value: u32) -> Option<()> {
+        frames::store_u32(&mut self.0, address, value)
+    }
+}
+
 // Generic over where the bytes stand: moves a word.
 fn move_word<B: Bytes>(bytes: &mut B, from: u64, to: u64) -> Option<()> {
     let word = bytes.load_u64(from)?;
@@ -114,4 +139,22 @@ fn words_move_through_the_bound(rt: HostRuntime) {
     assert_eq!(rt; move_word(&mut memory, 8, END - 8), Some(()));
     assert_eq!(rt; memory.load_u64(END - 8), Some(DIGITS));
     assert_eq!(rt; move_word(&mut memory, 8, END), None);
+
+    let mut small = TwoFrames([[0; FRAME_SIZE]; 2]);
+    assert_eq!(rt; small.frames(), 2);
+    assert_eq!(rt; small.store_u32(4, 0x0807_0605), Some(()));
+    assert_eq!(rt; move_word(&mut small, 0, 8184), Some(()));
+    assert_eq!(rt; small.load_u64(8184), Some(0x0807_0605_0000_0000));
+    assert_eq!(rt; move_word(&mut small, 0, 8192), None);
+}
+
+#[test]
+fn faults_print(rt: HostRuntime) {
+    for (fault, want) in [
+        (MemError::BadSize, "a memory has 64 to 4096 frames"),
+        (MemError::OutOfMemory, "out of memory"),
+    ] {
+        let text = format!(in rt.alloc(); "{fault}").or_else(|_| format!(in rt.alloc(); "{fault}"));
+        assert_eq!(rt; text.expect(&rt, "memory for a text").as_str(), want);
+    }
 }
