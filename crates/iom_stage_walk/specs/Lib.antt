@@ -1,0 +1,5 @@
+pub mod Fields
+pub mod Entries
+pub mod Paths
+pub mod Through
+pub mod Laws

@@ -1,0 +1,91 @@
+-- The path of a translation: reaches a leaf, or stops with a cause (RISC-V Privileged Architecture, "Sv39",
+-- virtual address translation), for any number of levels.
+use Rattle.std.specs.Prelude.{◌≡◌, ◌≢◌, ℕ, ◌+◌, ◌*◌, ◌/◌, ◌%◌, ◌^◌, ◌<◌, ◌≤◌, ◌⊎◌, true, false, List, [], ◌∷◌, length, replicate, None}
+use Rattle.iom_base.specs.Causes.{page_fault_of, access_fault_of}
+use Rattle.iom_base.specs.Rights.{allows}
+use Rattle.iom_base.specs.declared.access.AccessKind.{AccessKind}
+use Rattle.iom_base.specs.declared.cause.Cause.{Cause}
+use Rattle.iom_base.specs.declared.rights.Rights.{Rights}
+use Rattle.iom_stage_walk.specs.Entries.{Entries, entries, slot}
+use Rattle.iom_stage_walk.specs.declared.entry.Entry.TheVariants.{Outside, Faulty, Pointer, Leaf}
+use Rattle.iom_stage_walk.specs.declared.walked.Walked.{Walked}
+use Rattle.iom_stage_walk.specs.declared.walked.WalkFault.{WalkFault}
+
+-- how many pages a leaf spans whose table is followed by these indices: 512 for each level below
+abbrev pub span : List ℕ → ℕ
+span [] = 1
+span (i ∷ is) = 512 * span is
+
+-- which of those pages the indices name
+abbrev pub page_in : List ℕ → ℕ
+page_in [] = 0
+page_in (i ∷ is) = span is * i + page_in is
+
+-- a leaf gives the page that the indices below it name this frame and right: it is aligned to what it spans, and
+-- allows the kind of access
+pub record IsLawfulLeaf (kind : AccessKind) (base : ℕ) (rights : Rights) (below : List ℕ) (frame : ℕ) (given : Rights) : Type 0 where
+  pub aligned : base % span below ≡ 0
+  pub allowed : allows rights kind ≡ true
+  pub page : frame ≡ base + page_in below
+  pub same : given ≡ rights
+
+-- from the table the indices, one a level, lead to a leaf that is lawful for the kind of access: each entry stands at
+-- its index of the table that the one before names
+abbrev pub Reaches : Entries → AccessKind → ℕ → List ℕ → ℕ → Rights → Type 0
+Reaches e kind table [] frame given = ⊥
+Reaches e kind table (i ∷ below) frame given =
+    ((next : ℕ) × (e (slot table i) ≡ Pointer next) × Reaches e kind next below frame given)
+    ⊎ ((base : ℕ) × (rights : Rights) × (e (slot table i) ≡ Leaf base rights) × IsLawfulLeaf kind base rights below frame given)
+
+-- the leaf isn't lawful: a misaligned superpage, or its rights lack the kind of access
+abbrev pub IsUnlawfulLeaf : AccessKind → ℕ → Rights → List ℕ → Type 0
+IsUnlawfulLeaf kind base rights below = (base % span below ≢ 0) ⊎ (allows rights kind ≡ false)
+
+-- from the table the path along the indices is lawful up to an entry or a load that has this cause. A pointer at the
+-- last level leaves no index for the table that it names
+abbrev pub Stops : Entries → AccessKind → ℕ → List ℕ → Cause → Type 0
+Stops e kind table [] cause = cause ≡ page_fault_of kind
+Stops e kind table (i ∷ below) cause =
+    ((next : ℕ) × (e (slot table i) ≡ Pointer next) × Stops e kind next below cause)
+    ⊎ (((e (slot table i) ≡ Outside) × (cause ≡ access_fault_of kind))
+    ⊎ (((e (slot table i) ≡ Faulty) × (cause ≡ page_fault_of kind))
+    ⊎ ((base : ℕ) × (rights : Rights) × (e (slot table i) ≡ Leaf base rights) × (cause ≡ page_fault_of kind) × IsUnlawfulLeaf kind base rights below)))
+
+-- the indices of a page in tables with so many entries each, the root's first: nine bits of the page number a level,
+-- more in a root that is wider
+abbrev pub path_of : List ℕ → ℕ → List ℕ
+path_of [] page = []
+path_of (width ∷ widths) page = page / 512 ^ length widths % width ∷ path_of widths page
+
+-- the tables of a first stage of so many levels, three in Sv39: each a frame of 512 entries
+abbrev pub first_widths : ℕ → List ℕ
+first_widths levels = replicate levels 512
+
+-- the highest bit that such tables translate, 38 in Sv39, equals all higher bits of the 64
+abbrev pub IsCanonical : ℕ → ℕ → Type 0
+IsCanonical levels address = (address < 2 ^ (9 * levels + 11)) ⊎ (2 ^ 64 ≤ address + 2 ^ (9 * levels + 11))
+
+-- the frame lies in memory
+abbrev pub IsInMemory : List (List ℕ) → ℕ → Type 0
+IsInMemory frames frame = frame < length frames
+
+-- the path of the address from the root of a first stage reaches a leaf, whose page's frame lies in memory
+pub record ReachesFirst (levels : ℕ) (frames : List (List ℕ)) (root address : ℕ) (kind : AccessKind) (walked : Walked) : Type 0 where
+  pub canonical : IsCanonical levels address
+  pub path : Reaches (entries frames) kind root (path_of (first_widths levels) (address / 4096)) walked.frame walked.rights
+  pub inside : IsInMemory frames walked.frame
+  pub no_guest : walked.guest_frames ≡ replicate 4 None
+
+-- the path of the address from the root of a first stage stops with the cause: at the high bits of the address, within
+-- the tables, or at a leaf whose page's frame lies outside memory
+abbrev pub StopsAt : ℕ → List (List ℕ) → ℕ → ℕ → AccessKind → Cause → Type 0
+StopsAt levels frames root address kind cause =
+    ((IsCanonical levels address → ⊥) × (cause ≡ page_fault_of kind))
+    ⊎ ((IsCanonical levels address × Stops (entries frames) kind root (path_of (first_widths levels) (address / 4096)) cause)
+    ⊎ (IsCanonical levels address × ((frame : ℕ) × (rights : Rights) × Reaches (entries frames) kind root (path_of (first_widths levels) (address / 4096)) frame rights
+    × (length frames ≤ frame) × (cause ≡ access_fault_of kind))))
+
+pub record StopsFirst (levels : ℕ) (frames : List (List ℕ)) (root address : ℕ) (kind : AccessKind) (fault : WalkFault) : Type 0 where
+  pub cause : StopsAt levels frames root address kind fault.cause
+  pub no_guest_address : fault.gpa ≡ 0
+  pub explicit : fault.implicit ≡ false

@@ -1,0 +1,163 @@
+ghost use Rattle.std.specs.Prelude.{◌≡◌, ◌≢◌, ◌↔◌, ℕ, ◌+◌, ◌*◌, ◌/◌, ◌%◌, ◌^◌, ◌<◌, ◌≤◌, ◌⊎◌, IsTrue, IfOk, IfErr, Ok, Err, length, slice_index, EachIndex, true, false};
+ghost use Rattle.iom_base.specs.Causes.{page_fault_of};
+ghost use Rattle.iom_base.specs.Rights.{allows};
+ghost use Rattle.iom_stage_walk.specs.Entries.{Entries, IsBounded, entries, slot};
+ghost use Rattle.iom_stage_walk.specs.Paths.{span, page_in, IsLawfulLeaf, IsUnlawfulLeaf, Reaches, Stops, StopsAt, path_of, first_widths, IsCanonical, ReachesFirst, StopsFirst};
+ghost use Rattle.iom_stage_walk.specs.declared.walked.Walked.{Walked};
+ghost use Rattle.iom_stage_walk.specs.declared.walked.WalkFault.{WalkFault};
+
+use crate::entry::{Entry, entry_at};
+use crate::walked::{WalkFault, Walked};
+use iom_base::{AccessKind, Cause, Rights};
+use iom_phys_mem::Bytes;
+
+/// What a walk loads its entries from: memory, or with two stages a guest's memory.
+pub(crate) trait Tables {
+    /// What stands at each entry.
+    ghost entries: { Self → Entries };
+
+    /// The entry at an index of the table that begins at a frame.
+    fn entry(&self, table: u64, index: u64) -> Entry
+        requires table { table < 2 ^ 44 }
+        requires index { index < 4096 }
+        ensures value { result ≡ entries self.now (slot table index) }
+        ensures bounded { IsBounded result };
+}
+
+impl<B: Bytes> Tables for B {
+    ghost entries = { λ memory. entries (B.frames_of memory) };
+
+    fn entry(&self, table: u64, index: u64) -> Entry {
+        entry_at(self, table, index)
+    }
+}
+
+/// The leaf of a path: the frame of the asked page, wherever that is, and what it allows.
+#[derive(Clone, Copy)]
+pub(crate) struct Reached {
+    pub(crate) frame: u64,
+    pub(crate) rights: Rights,
+}
+
+/// How many pages a leaf spans above these indices, and which of them they name.
+fn page_below(below: &[u64]) -> (u64, u64)
+    requires small { EachIndex below.now (λ k. slice_index below.now k < 4096) }
+    requires short { length below.now ≤ 3 }
+    ensures span { result.0 ≡ span below.now }
+    ensures page { result.1 ≡ page_in below.now }
+    ensures positive { 0 < result.0 }
+    ensures fits { result.1 < 2 ^ 50 }
+{
+    match below {
+        [] => (1, 0),
+        [a] => (512, *a),
+        [a, b] => (262_144, 512 * *a + *b),
+        [a, b, c] => (134_217_728, 262_144 * *a + 512 * *b + *c),
+        _ => unreachable!(),
+    }
+}
+
+/// What a leaf gives to an access of the page that the indices below it name.
+fn judge_leaf(kind: AccessKind, base: u64, rights: Rights, below: &[u64]) -> Result<Reached, Cause>
+    requires base { base < 2 ^ 44 }
+    requires small { EachIndex below.now (λ k. slice_index below.now k < 4096) }
+    requires short { length below.now ≤ 3 }
+    ensures ok { IfOk result (λ leaf. IsLawfulLeaf kind base rights below.now leaf.frame leaf.rights) }
+    ensures err { IfErr result (λ cause. (cause ≡ page_fault_of kind) × IsUnlawfulLeaf kind base rights below.now) }
+{
+    let (pages, inside) = page_below(below);
+    if base % pages != 0 || !rights.allows(kind) {
+        return Err(Cause::page_fault(kind));
+    }
+    Ok(Reached {
+        frame: base + inside,
+        rights,
+    })
+}
+
+/// Follows the indices, one a level, from the table at `root`: one load a level and no more.
+pub(crate) fn walk<T: Tables>(
+    tables: &T,
+    root: u64,
+    indices: &[u64],
+    kind: AccessKind,
+) -> Result<Reached, Cause>
+    requires root { root < 2 ^ 44 }
+    requires small { EachIndex indices.now (λ k. slice_index indices.now k < 4096) }
+    requires short { length indices.now ≤ 4 }
+    ensures ok { IfOk result (λ leaf. Reaches (T.entries tables.now) kind root indices.now leaf.frame leaf.rights) }
+    ensures err { IfErr result (λ cause. Stops (T.entries tables.now) kind root indices.now cause) }
+{
+    let mut table = root;
+    for k in 0..indices.len() {
+        match tables.entry(table, indices[k]) {
+            Entry::Pointer(next) => table = next,
+            Entry::Leaf(base, rights) => return judge_leaf(kind, base, rights, &indices[k + 1..]),
+            Entry::Faulty => return Err(Cause::page_fault(kind)),
+            Entry::Outside => return Err(Cause::access_fault(kind)),
+        }
+    }
+    Err(Cause::page_fault(kind))
+}
+
+/// Whether the highest bit that so many levels translate equals all higher ones.
+fn is_canonical(levels: usize, address: u64) -> bool
+    requires { levels ≤ 4 }
+    ensures { IsTrue result ↔ IsCanonical levels address }
+{
+    let half = 1u64 << (9 * levels + 11);
+    address < half || u64::MAX - address < half
+}
+
+/// A walk of a first stage of as many levels as there are indices, those of the address.
+fn walk_levels<B: Bytes>(
+    memory: &B,
+    root: u64,
+    address: u64,
+    indices: &[u64],
+    kind: AccessKind,
+) -> Result<Walked, Cause>
+    requires root { root < 2 ^ 44 }
+    requires short { length indices.now ≤ 4 }
+    requires path { indices.now ≡ path_of (first_widths (length indices.now)) (address / 4096) }
+    ensures ok { IfOk result (ReachesFirst (length indices.now) (B.frames_of memory.now) root address kind) }
+    ensures err { IfErr result (StopsAt (length indices.now) (B.frames_of memory.now) root address kind) }
+{
+    if !is_canonical(indices.len(), address) {
+        return Err(Cause::page_fault(kind));
+    }
+    let leaf = walk(memory, root, indices, kind)?;
+    if leaf.frame >= u64::from(memory.frames()) {
+        return Err(Cause::access_fault(kind));
+    }
+    Ok(Walked {
+        frame: leaf.frame as u32,
+        rights: leaf.rights,
+        guest_frames: [None; 4],
+    })
+}
+
+/// The walk of a first stage of three levels, Sv39, whose root table is at the page number `root`:
+/// Ok exactly where the path of the address reaches, with its leaf; else the cause with which it stops.
+/// At most three loads.
+pub fn walk_first<B: Bytes>(
+    memory: &B,
+    root: u64,
+    address: u64,
+    kind: AccessKind,
+) -> Result<Walked, WalkFault>
+    requires { root < 2 ^ 44 }
+    ensures reached { (walked : Walked) → (result ≡ Ok walked) ↔ ReachesFirst 3 (B.frames_of memory.now) root address kind walked }
+    ensures stopped { (fault : WalkFault) → (result ≡ Err fault) ↔ StopsFirst 3 (B.frames_of memory.now) root address kind fault }
+{
+    let page = address / 4096;
+    let indices = [page / 262_144 % 512, page / 512 % 512, page % 512];
+    match walk_levels(memory, root, address, &indices, kind) {
+        Ok(walked) => Ok(walked),
+        Err(cause) => Err(WalkFault {
+            cause,
+            gpa: 0,
+            implicit: false,
+        }),
+    }
+}
