@@ -1,1 +1,3 @@
-
+pub mod RowLemmas
+pub mod PendingLemmas
+pub mod AgreementLemmas

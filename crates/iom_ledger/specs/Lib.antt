@@ -1,2 +1,6 @@
 pub mod History
 pub mod Refusals
+pub mod Unconfirmed
+pub mod Rows
+pub mod Shown
+pub mod Changes

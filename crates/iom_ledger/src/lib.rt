@@ -3,11 +3,21 @@
 //!
 //! What the ledger answers is read off a *history* of entries (`specs/History.antt`), which no code
 //! stores. The layers above may rely on each call carrying agreement with a history on to the history
-//! with the call's entry, and on each look-up answering what every such history says.
+//! with the call's entry, and on each look-up answering what every such history says
+//! (`specs/Shown.antt`).
 #![tactic(auto)]
 
+mod devices;
 mod entry;
+mod ledger;
+mod lookups;
 mod refusal;
+mod ring;
+mod row;
 
 pub use entry::Entry;
+pub use ledger::Ledger;
 pub use refusal::Refusal;
+
+#[cfg(test)]
+mod tests;

@@ -5,9 +5,13 @@ use iom_base::{DeviceId, Rights};
 #[derive(Drop)]
 pub enum Event {
     /// A raw device is plugged in.
-    PlugRaw { device: DeviceId },
+    PlugRaw {
+        device: DeviceId,
+    },
     /// The driver is asked to attach the device with first-stage translation alone.
-    AttachFirst { device: DeviceId },
+    AttachFirst {
+        device: DeviceId,
+    },
     /// The driver is asked to grant the device the frame at the page, with the right.
     Grant {
         device: DeviceId,
@@ -16,7 +20,10 @@ pub enum Event {
         rights: Rights,
     },
     /// The driver is asked to release what the device holds at the page.
-    Release { device: DeviceId, page: u64 },
+    Release {
+        device: DeviceId,
+        page: u64,
+    },
     /// The IOMMU takes its next command.
     Fetch,
     /// The driver looks which tickets are done.
@@ -34,5 +41,7 @@ pub enum Event {
         bytes: Sequence<u8>,
     },
     /// The oldest accepted access of the device is made.
-    Commit { device: DeviceId },
+    Commit {
+        device: DeviceId,
+    },
 }

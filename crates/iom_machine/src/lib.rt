@@ -6,12 +6,17 @@
 //! this crate say what every run of lawful steps has.
 #![tactic(auto)]
 
+mod choice;
 mod event;
+mod headline;
+mod judge;
 mod outcome;
 mod sequence;
 mod state;
 
+pub use choice::Choice;
 pub use event::Event;
+pub use headline::reclaim_theorem;
 pub use outcome::{CommandName, Fetched, Outcome, Trace};
 pub use sequence::Sequence;
 pub use state::{Access, Attachment, Device, DeviceKind, Frame, InFlight, Mode, Owner, State};

@@ -81,6 +81,8 @@ pub struct Device {
 /// All that the machine knows.
 #[derive(Drop)]
 pub struct State {
+    /// How many levels the device directory has, from 1 to 3. They bound the ids that it can name.
+    pub levels: u8,
     pub frames: Sequence<Frame>,
     /// What happened to the grants, the newest entry first.
     pub history: Sequence<Entry>,

@@ -6,7 +6,7 @@ use Rattle.std.proofs.lemmas.Bool.Decides.{eqb_tells, leb_tells}
 use Rattle.std.proofs.lemmas.Option.{slice_get_read, slice_get_cases, slice_get_past, slice_get-get_or}
 use Rattle.byteorder.specs.Numbers.{little_number-reads_back}
 use Rattle.byteorder.specs.Endian.{little_number, little_from, little_bytes}
-use Rattle.iom_phys_mem.specs.Words.{with_bytes, word_at, byte_at}
+use Rattle.iom_phys_mem.specs.Words.{with_bytes, word_at, byte_at, with_word}
 use borrow.Rule.Slice.PartMut.{put_mid, mid_of}
 
 -- a write of all of a part is one of its bytes
@@ -71,7 +71,7 @@ number_elsewhere frame bytes offset at n le apart =
     ∙ sym (get_or-drop at frame k 0))
 
 -- the other frames stay
-frame_elsewhere : (frames : List (List ℕ)) (i k : ℕ) (frame : List ℕ) → k ≢ i → slice_get (set frames i frame) k ≡ slice_get frames k
+pub frame_elsewhere : (frames : List (List ℕ)) (i k : ℕ) (frame : List ℕ) → k ≢ i → slice_get (set frames i frame) k ≡ slice_get frames k
 frame_elsewhere frames i k frame ne =
     elim ((slice_get_cases frames k).1) [
       | inl x ↦ slice_get-get_or (set frames i frame) k frame (rw (length-set frames i frame) x.1) ∙ ap Some (get_or-set_other frames i k frame frame ne) ∙ sym (slice_get-get_or frames k frame x.1)
@@ -82,9 +82,11 @@ frame_elsewhere frames i k frame ne =
 frame_here : (frames : List (List ℕ)) (i : ℕ) (frame : List ℕ) → i < length frames → slice_get (set frames i frame) i ≡ Some frame
 frame_here frames i frame lt = slice_get_read (set frames i frame) (length (set frames i frame)) i frame refl (rw (length-set frames i frame) lt) (sym (get_or-set_same frames i frame frame lt))
 
--- the frame that is read at an index
-pub frame_found : (frames : List (List ℕ)) (i : ℕ) (frame : List ℕ) → i < length frames → frame ≡ get_or frames i frame → slice_get frames i ≡ Some frame
-frame_found frames i frame lt e = slice_get_read frames (length frames) i frame refl lt e
+-- the frames with the number's bytes put into the frame that was found
+pub put_word : (n value address : ℕ) (frames : List (List ℕ)) (frame : List ℕ) → slice_get frames (address / 4096) ≡ Some frame
+    → set frames (address / 4096) (with_bytes frame (address % 4096) (little_bytes n value)) ≡ with_word n frames address value
+unfolding with_word
+put_word n value address frames frame found = rw found refl
 
 -- the word that was stored is read back
 pub word_back : (n value address : ℕ) (frames : List (List ℕ)) (frame : List ℕ) → address % n ≡ 0 → address / 4096 < length frames → address % 4096 ≤ length frame → value < 256 ^ n

@@ -1,7 +1,7 @@
 -- Bytes and words of a memory, which is seen as the list of its frames, each the list of its bytes.
-use Rattle.std.specs.Prelude.{◌≡◌, ℕ, ◌+◌, ◌/◌, ◌%◌, ◌<◌, ◌==◌, replicate, List, ◌++◌, length, take, drop, slice_get, Option, None, option_map, if◌then◌else◌}
-use Rattle.std.specs.Option.{option_and_then}
-use Rattle.byteorder.specs.Endian.{little_number}
+use Rattle.std.specs.Prelude.{◌≡◌, ℕ, ◌+◌, ◌/◌, ◌%◌, ◌<◌, ◌==◌, replicate, List, ◌++◌, length, take, drop, slice_get, slice_set, Option, None, option_map, if◌then◌else◌}
+use Rattle.std.specs.Option.{option_and_then, option_map_or}
+use Rattle.byteorder.specs.Endian.{little_number, little_bytes}
 
 -- a frame of zeros
 unfoldable pub zeroed : List ℕ
@@ -25,3 +25,9 @@ IsPlace n frames address = (address % n ≡ 0) × (address / 4096 < length frame
 -- the frame's bytes, with these from the offset on
 abbrev pub with_bytes : List ℕ → ℕ → List ℕ → List ℕ
 with_bytes frame offset bytes = take offset frame ++ bytes ++ drop (offset + length bytes) frame
+
+-- the frames after a number is stored in n bytes at an address, the least byte first; as they were where the address is outside
+unfoldable pub with_word : ℕ → List (List ℕ) → ℕ → ℕ → List (List ℕ)
+with_word n frames address value =
+    option_map_or (λ frame. slice_set frames (address / 4096) (with_bytes frame (address % 4096) (little_bytes n value)))
+    (slice_get frames (address / 4096)) frames

@@ -1,4 +1,4 @@
-// Numbers written into one frame.
+// Numbers written into one frame, the least byte first.
 ghost use Rattle.std.specs.Prelude.{◌≡◌, ◌+◌, ◌≤◌, length};
 ghost use Rattle.byteorder.specs.Endian.{little_bytes};
 ghost use Rattle.iom_phys_mem.specs.Words.{with_bytes};

@@ -1,0 +1,119 @@
+ghost use Rattle.std.specs.Prelude.{◌≡◌, ◌<◌, ◌≤◌, [], ◌∷◌, ◌++◌, length, drop, IfOk, Some, None, slice_get, option_map, OnSome};
+ghost use Rattle.iom_base.specs.declared.access.AccessKind.TheVariants.{Read, Write};
+ghost use Rattle.iom_inflight.specs.Flights.{read_flight, write_flight, described, OldestIsRead, OldestWrites};
+
+use circular_buffer::HeapCircularBuffer;
+use iom_base::{AccessKind, FRAME_SIZE};
+use std::alloc::{AllocError, Global};
+use std::marker::Model;
+
+/// How many accesses of one device may be in flight.
+pub const MAX_IN_FLIGHT: usize = 8;
+
+/// An access that was accepted, without the bytes of a write.
+#[derive(Clone, Copy, PartialEq, Eq, Debug)]
+pub struct Accepted {
+    /// The address that the device asked for.
+    pub address: u64,
+    /// How many bytes, at most 4,096.
+    pub len: u16,
+    pub kind: AccessKind,
+    /// The frame that it was translated to.
+    pub frame: u32,
+}
+
+/// The accesses of one device in flight, the oldest first.
+#[derive(Drop)]
+pub struct InFlight {
+    waiting: HeapCircularBuffer<Accepted>,
+    /// The bytes of the writes among them, one after another.
+    bytes: HeapCircularBuffer<u8>,
+}
+
+impl Model for InFlight {
+    ghost use Rattle.std.specs.Prelude.{List};
+    ghost use Rattle.iom_inflight.specs.Flights.{Flight};
+
+    ghost Value = { List Flight };
+
+    ghost use Rattle.iom_inflight.specs.Rings.{flights_of, AreRings};
+
+    ghost view = { λ f. flights_of f.waiting.items f.bytes.items };
+
+    ghost invariant = { λ f. AreRings f.waiting f.bytes };
+}
+
+impl InFlight {
+    /// None in flight, with room for eight.
+    pub fn new(alloc: Global) -> Result<InFlight, AllocError>
+        ensures { IfOk result (λ flights. flights ≡ []) }
+    {
+        let waiting = HeapCircularBuffer::with_capacity(alloc, MAX_IN_FLIGHT)?;
+        let bytes = HeapCircularBuffer::with_capacity(alloc, MAX_IN_FLIGHT * FRAME_SIZE)?;
+        Ok(InFlight { waiting, bytes })
+    }
+
+    /// How many are in flight.
+    pub fn count(&self) -> usize
+        ensures count { result ≡ length self.now }
+        ensures few { result ≤ 8 }
+    {
+        self.waiting.len()
+    }
+
+    /// The oldest, which is made next.
+    pub fn oldest(&self) -> Option<Accepted>
+        ensures { result ≡ option_map described (slice_get self.now 0) }
+    {
+        self.waiting.front().copied()
+    }
+
+    /// Takes a read of so many bytes at the address, on the frame. Takes no memory.
+    pub fn accept_read(&mut self, address: u64, len: u16, frame: u32)
+        requires room { length self.old < 8 }
+        requires len { len ≤ 4096 }
+        ensures { self.new ≡ self.old ++ read_flight address len frame ∷ [] }
+    {
+        let access = Accepted {
+            address,
+            len,
+            kind: AccessKind::Read,
+            frame,
+        };
+        self.waiting.push_back(access);
+    }
+
+    /// Takes a write of the bytes at the address, on the frame. Takes no memory.
+    pub fn accept_write(&mut self, address: u64, bytes: &[u8], frame: u32)
+        requires room { length self.old < 8 }
+        requires len { length bytes.now ≤ 4096 }
+        ensures { self.new ≡ self.old ++ write_flight address bytes.now frame ∷ [] }
+    {
+        let access = Accepted {
+            address,
+            len: bytes.len() as u16,
+            kind: AccessKind::Write,
+            frame,
+        };
+        self.waiting.push_back(access);
+        self.bytes.fill_from_slice(bytes);
+    }
+
+    /// The oldest is a read: it is made, and no more in flight.
+    pub fn take_read(&mut self)
+        requires { OldestIsRead self.old }
+        ensures { self.new ≡ drop 1 self.old }
+    {
+        self.waiting.pop_front();
+    }
+
+    /// The oldest is a write: its bytes come out, and it is no more in flight.
+    pub fn take_write(&mut self, target: &mut [u8])
+        requires write { OldestWrites self.old target.old }
+        ensures bytes { option_map (λ f. f.bytes) (slice_get self.old 0) ≡ Some target.new }
+        ensures rest { self.new ≡ drop 1 self.old }
+    {
+        self.waiting.pop_front();
+        self.bytes.read_into(target);
+    }
+}

@@ -1,0 +1,32 @@
+use super::*;
+use iom_base::AccessKind;
+use std::test::Fail;
+
+#[test]
+fn accesses_come_out_in_order_with_their_bytes(rt: HostRuntime) -> Result<(), Fail> {
+    let mut flights = InFlight::new(rt.alloc())?;
+    assert!(rt; flights.oldest().is_none());
+    if flights.count() < 8 {
+        flights.accept_write(0x3010, b"\xaa\xbb", 5);
+    }
+    if flights.count() < 8 {
+        flights.accept_read(0x4000, 7, 6);
+    }
+    if flights.count() < 8 {
+        flights.accept_write(0x3000, b"\xcc", 5);
+    }
+    assert_eq!(rt; flights.count(), 3);
+    let first = Accepted {
+        address: 0x3010,
+        len: 2,
+        kind: AccessKind::Write,
+        frame: 5,
+    };
+    assert_eq!(rt; flights.oldest(), Some(first));
+    let mut two = [0; 2];
+    if flights.oldest() == Some(first) {
+        flights.take_write(&mut two);
+    }
+    assert_eq!(rt; two, [0xaa, 0xbb]);
+    Ok(())
+}

@@ -1,0 +1,47 @@
+-- How each call changes what a ledger shows.
+use Rattle.std.specs.Prelude.{◌≡◌, ℕ, not, ◌==◌, ◌&&◌, List, [], ◌∷◌, ◌++◌, filter, Option, None, Some, if◌then◌else◌}
+use Rattle.iom_ledger.specs.declared.ledger.Ledger.{Ledger}
+use Rattle.iom_ledger.specs.History.{Pair}
+use Rattle.iom_ledger.specs.Shown.{held_in, released_in, waiting_in}
+
+-- nothing changes
+pub record IsUnchanged (old new : Ledger) : Type 0 where
+  pub held : (d a : ℕ) → held_in new d a ≡ held_in old d a
+  pub lingering : (d a : ℕ) → released_in new d a ≡ released_in old d a
+  pub waiting : waiting_in new ≡ waiting_in old
+
+-- the pair is held at the page of the device, and nothing else changes
+pub record Grants (old new : Ledger) (device page : ℕ) (pair : Pair) : Type 0 where
+  pub held : (d a : ℕ) → held_in new d a ≡ (if (device == d) && (page == a) then Some pair else held_in old d a)
+  pub lingering : (d a : ℕ) → released_in new d a ≡ released_in old d a
+  pub waiting : waiting_in new ≡ waiting_in old
+
+-- what was held and is released under the ticket, else what lingered already
+abbrev pub released_from : Option Pair → ℕ → Option (ℕ × Pair) → Option (ℕ × Pair)
+released_from None ticket lingered = lingered
+released_from (Some pair) ticket lingered = Some (ticket, pair)
+
+-- what was held at the page of the device lingers under the ticket, which waits, and nothing else changes
+pub record Releases (old new : Ledger) (device page ticket : ℕ) : Type 0 where
+  pub held : (d a : ℕ) → held_in new d a ≡ (if (device == d) && (page == a) then None else held_in old d a)
+  pub lingering : (d a : ℕ) → released_in new d a
+      ≡ (if (device == d) && (page == a) then released_from (held_in old d a) ticket (released_in old d a) else released_in old d a)
+  pub waiting : waiting_in new ≡ waiting_in old ++ ticket ∷ []
+
+-- all that the device held lingers under the ticket, which waits, and nothing else changes
+pub record ReleasesAll (old new : Ledger) (device ticket : ℕ) : Type 0 where
+  pub held : (d a : ℕ) → held_in new d a ≡ (if device == d then None else held_in old d a)
+  pub lingering : (d a : ℕ) → released_in new d a
+      ≡ (if device == d then released_from (held_in old d a) ticket (released_in old d a) else released_in old d a)
+  pub waiting : waiting_in new ≡ waiting_in old ++ ticket ∷ []
+
+-- what lingers, unless it was released under the ticket
+abbrev pub unless_under : ℕ → Option (ℕ × Pair) → Option (ℕ × Pair)
+unless_under ticket None = None
+unless_under ticket (Some released) = if ticket == released.0 then None else Some released
+
+-- what lingered under the ticket is gone, the ticket waits no more, and nothing else changes
+pub record Confirms (old new : Ledger) (ticket : ℕ) : Type 0 where
+  pub held : (d a : ℕ) → held_in new d a ≡ held_in old d a
+  pub lingering : (d a : ℕ) → released_in new d a ≡ unless_under ticket (released_in old d a)
+  pub waiting : waiting_in new ≡ filter (λ t. not (ticket == t)) (waiting_in old)

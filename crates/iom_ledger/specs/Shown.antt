@@ -1,0 +1,45 @@
+-- What a ledger shows, and when that is what a history says.
+use Rattle.std.specs.Prelude.{◌≡◌, ◌≢◌, ℕ, ◌⊎◌, List, Option, None, Some, map}
+use Rattle.std.specs.Option.{option_map, option_to_list}
+use Rattle.iom_base.specs.declared.rights.Rights.{Rights}
+use Rattle.iom_base.specs.Rights.{r, rw}
+use Rattle.iom_ledger.specs.declared.ledger.Ledger.{Ledger}
+use Rattle.iom_ledger.specs.History.{History, Pair, held_at, lingering_at}
+use Rattle.iom_ledger.specs.Unconfirmed.{unconfirmed}
+use Rattle.iom_ledger.specs.Rows.{row_at, held_of, released_of}
+
+-- the pair that the device holds at the page
+abbrev pub held_in : Ledger → ℕ → ℕ → Option Pair
+held_in ledger device page = held_of (row_at ledger.devices device page)
+
+-- the pair that lingers at the page, with the ticket under which it was released
+abbrev pub released_in : Ledger → ℕ → ℕ → Option (ℕ × Pair)
+released_in ledger device page = released_of (row_at ledger.devices device page)
+
+-- the pair that lingers at the page
+abbrev pub lingering_in : Ledger → ℕ → ℕ → Option Pair
+lingering_in ledger device page = option_map (λ released. released.1) (released_in ledger device page)
+
+-- the tickets under which something was released and that aren't confirmed, the oldest first
+abbrev pub waiting_in : Ledger → List ℕ
+waiting_in ledger = map (λ release. release.ticket) ledger.pending.items
+
+-- at the page this pair is held, or this one lingers with its ticket, and the history says so
+pub record AgreesAt (held : Option Pair) (released : Option (ℕ × Pair)) (history : History) (device page : ℕ) : Type 0 where
+  pub holds : held_at history device page ≡ held
+  pub lingers : lingering_at history device page ≡ option_to_list released
+
+-- the ledger shows what the history says: at each page of each device, and of the tickets
+pub record Agrees (ledger : Ledger) (history : History) : Type 0 where
+  pub pages : (device page : ℕ) → AgreesAt (held_in ledger device page) (released_in ledger device page) history device page
+  pub waiting : unconfirmed history ≡ waiting_in ledger
+
+-- the right is one of the two that are granted
+abbrev pub IsGrantable : Rights → Type 0
+IsGrantable rights = (rights ≡ r) ⊎ (rights ≡ rw)
+
+-- no pair on the frame is held, and none lingers
+abbrev pub IsUnnamed : Ledger → ℕ → Type 0
+IsUnnamed ledger frame =
+    (device page : ℕ) (rights : Rights)
+    → (held_in ledger device page ≢ Some (frame, rights)) × (lingering_in ledger device page ≢ Some (frame, rights))

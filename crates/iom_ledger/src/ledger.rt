@@ -1,0 +1,168 @@
+ghost use Rattle.std.specs.Prelude.{◌≡◌};
+ghost use Rattle.iom_ledger.specs.Rows.{AllGranted, AllNamed};
+
+use crate::devices::{Devices, grant_in, release_all_in, release_in, row_in};
+use crate::lookups::{holds_anything_in, is_free_in, lingers_anything_in};
+use crate::ring::{Ring, confirm_in, note};
+use crate::row::{Pending, Row};
+use circular_buffer::HeapCircularBuffer;
+use indexmap::IndexMap;
+use iom_base::{DeviceId, Rights};
+use std::alloc::{AllocError, Global};
+
+/// The grants of all devices, and the tickets that aren't confirmed.
+///
+/// A released pair stays, marked with its ticket, until the ticket is confirmed.
+#[derive(Drop)]
+pub struct Ledger {
+    devices: Devices,
+    pending: Ring,
+    ghost granted: { AllGranted devices },
+    ghost named: { AllNamed devices pending.items },
+    ghost room: { pending.capacity ≡ 256 },
+}
+
+impl Ledger {
+    ghost use Rattle.std.specs.Prelude.{◌↔◌, ◌<◌, ◌≤◌, ℕ, List, [], ◌∷◌, length, false, not, IsTrue, IsSome, IfOk, OnOk, OnErr, Some, None};
+    ghost use Rattle.iom_ledger.specs.declared.entry.Entry.TheVariants.{Granted, Released, AllReleased, Confirmed};
+    ghost use Rattle.iom_ledger.specs.History.{History, Pair, confirms, held_at, lingering_at, Holds, Lingers, IsFree};
+    ghost use Rattle.iom_ledger.specs.Unconfirmed.{unconfirmed};
+    ghost use Rattle.iom_ledger.specs.Shown.{Agrees, IsGrantable, IsUnnamed, held_in, released_in, lingering_in, waiting_in};
+    ghost use Rattle.iom_ledger.specs.Changes.{IsUnchanged, Grants, Releases, ReleasesAll, Confirms};
+
+    /// A ledger of no grants. Makes the room of 256 tickets.
+    pub fn new(alloc: Global) -> Result<Ledger, AllocError>
+        ensures { IfOk result (λ ledger. Agrees ledger []) }
+    {
+        Ok(Ledger {
+            devices: IndexMap::new(alloc),
+            pending: HeapCircularBuffer::with_capacity(alloc, 256)?,
+        })
+    }
+
+    /// What the device holds at the page.
+    pub fn holds(&self, device: DeviceId, page: u64) -> Option<(u32, Rights)>
+        ensures shown { result ≡ held_in self.now device page }
+        ensures held { (h : History) → Agrees self.now h → result ≡ held_at h device page }
+    {
+        let row = row_in(&self.devices, device, page)?;
+        match row.ticket {
+            None => Some((row.frame, row.rights)),
+            Some(_) => None,
+        }
+    }
+
+    /// What the device has released at the page, under a ticket that isn't confirmed.
+    pub fn lingers(&self, device: DeviceId, page: u64) -> Option<(u32, Rights)>
+        ensures shown { result ≡ lingering_in self.now device page }
+        ensures lingering { (h : History) → Agrees self.now h → (pair : Pair) → (result ≡ Some pair) ↔ Lingers h device page pair }
+        ensures none { (h : History) → Agrees self.now h → result ≡ None → lingering_at h device page ≡ [] }
+    {
+        let row = row_in(&self.devices, device, page)?;
+        match row.ticket {
+            None => None,
+            Some(_) => Some((row.frame, row.rights)),
+        }
+    }
+
+    /// Whether no device holds or lingers on the frame, so that none may reach it.
+    pub fn is_free(&self, frame: u32) -> bool
+        ensures shown { IsTrue result ↔ IsUnnamed self.now frame }
+        ensures free { (h : History) → Agrees self.now h → IsTrue result ↔ IsFree h frame }
+    {
+        is_free_in(&self.devices, frame)
+    }
+
+    /// Whether the device holds some page.
+    pub fn holds_anything(&self, device: DeviceId) -> bool
+        ensures shown { IsTrue result ↔ ((page : ℕ) × IsSome (held_in self.now device page)) }
+        ensures held { (h : History) → Agrees self.now h → IsTrue result ↔ ((page : ℕ) × (pair : Pair) × Holds h device page pair) }
+    {
+        holds_anything_in(&self.devices, device)
+    }
+
+    /// Whether something that the device has released lingers.
+    pub fn lingers_anything(&self, device: DeviceId) -> bool
+        ensures shown { IsTrue result ↔ ((page : ℕ) × IsSome (lingering_in self.now device page)) }
+        ensures lingering { (h : History) → Agrees self.now h → IsTrue result ↔ ((page : ℕ) × (pair : Pair) × Lingers h device page pair) }
+    {
+        lingers_anything_in(&self.devices, device)
+    }
+
+    /// The number of tickets under which something was released and that aren't confirmed.
+    pub fn waiting(&self) -> usize
+        ensures shown { result ≡ length (waiting_in self.now) }
+        ensures unconfirmed { (h : History) → Agrees self.now h → result ≡ length (unconfirmed h) }
+        ensures within { result ≤ 256 }
+    {
+        self.pending.len()
+    }
+
+    /// Grants the device the frame at a page where it holds nothing and nothing lingers, with the
+    /// right R or RW. Makes the room of the grant: where that is refused nothing changes, and nothing
+    /// else is refused.
+    pub fn grant(
+        &mut self,
+        device: DeviceId,
+        page: u64,
+        frame: u32,
+        rights: Rights,
+    ) -> Result<(), AllocError>
+        requires not_held { held_in self.old device page ≡ None }
+        requires not_lingering { lingering_in self.old device page ≡ None }
+        requires right { IsGrantable rights }
+        ensures agrees { OnOk result ((h : History) → Agrees self.old h → Agrees self.new (Granted device page frame rights ∷ h)) }
+        ensures granted { OnOk result (Grants self.old self.new device page (frame, rights)) }
+        ensures refused { OnErr result (IsUnchanged self.old self.new) }
+        ensures refused_agrees { OnErr result ((h : History) → Agrees self.old h → Agrees self.new h) }
+    {
+        let row = Row {
+            frame,
+            rights,
+            ticket: None,
+        };
+        grant_in(&mut self.devices, device, page, row)
+    }
+
+    /// Releases what the device holds at the page, under a ticket that isn't confirmed yet. Takes no
+    /// memory.
+    pub fn release(&mut self, device: DeviceId, page: u64, ticket: u32)
+        requires held { IsSome (held_in self.old device page) }
+        requires room { length (waiting_in self.old) < 256 }
+        ensures agrees { (h : History) → Agrees self.old h → confirms h ticket ≡ false → Agrees self.new (Released device page ticket ∷ h) }
+        ensures released { Releases self.old self.new device page ticket }
+    {
+        release_in(&mut self.devices, device, page, ticket);
+        let release = Pending {
+            ticket,
+            device,
+            page: Some(page),
+        };
+        note(&mut self.pending, release);
+    }
+
+    /// Releases all that the device holds, under a ticket that isn't confirmed yet. The ticket waits
+    /// even where the device holds nothing. Takes no memory.
+    pub fn release_all(&mut self, device: DeviceId, ticket: u32)
+        requires { length (waiting_in self.old) < 256 }
+        ensures agrees { (h : History) → Agrees self.old h → confirms h ticket ≡ false → Agrees self.new (AllReleased device ticket ∷ h) }
+        ensures released { ReleasesAll self.old self.new device ticket }
+    {
+        release_all_in(&mut self.devices, device, ticket);
+        let release = Pending {
+            ticket,
+            device,
+            page: None,
+        };
+        note(&mut self.pending, release);
+    }
+
+    /// Forgets what was released under the ticket. Where nothing waits for it, nothing changes. Takes
+    /// no memory.
+    pub fn confirm(&mut self, ticket: u32)
+        ensures agrees { (h : History) → Agrees self.old h → Agrees self.new (Confirmed ticket ∷ h) }
+        ensures confirmed { Confirms self.old self.new ticket }
+    {
+        confirm_in(&mut self.devices, &mut self.pending, ticket);
+    }
+}

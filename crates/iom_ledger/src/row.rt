@@ -1,0 +1,43 @@
+//! A row of the ledger, and what is kept beside the rows of each ticket that isn't confirmed.
+ghost use Rattle.std.specs.Prelude.{◌≡◌, ◌==◌};
+ghost use Rattle.iom_ledger.specs.Rows.{released_row, waits_for};
+
+use iom_base::{DeviceId, Rights};
+
+/// A frame and the right to it, and the ticket under which it was released, if it was.
+#[derive(Clone, Copy, PartialEq, Eq, Debug)]
+pub(crate) struct Row {
+    pub(crate) frame: u32,
+    pub(crate) rights: Rights,
+    pub(crate) ticket: Option<u32>,
+}
+
+/// A release whose ticket isn't confirmed: of one page, or where no page is named of all that the
+/// device held.
+#[derive(Clone, Copy, PartialEq, Eq, Debug)]
+pub(crate) struct Pending {
+    pub(crate) ticket: u32,
+    pub(crate) device: DeviceId,
+    pub(crate) page: Option<u64>,
+}
+
+impl Row {
+    /// Releases the row under the ticket, unless it is released already.
+    pub(crate) fn release(&mut self, ticket: u32)
+        ensures { self.new ≡ released_row self.old ticket }
+    {
+        if self.ticket.is_none() {
+            self.ticket = Some(ticket);
+        }
+    }
+
+    /// Whether the row was released under the ticket.
+    pub(crate) fn waits_for(&self, ticket: u32) -> bool
+        ensures { result ≡ waits_for self.now.ticket ticket }
+    {
+        match self.ticket {
+            None => false,
+            Some(own) => ticket == own,
+        }
+    }
+}

@@ -1,0 +1,194 @@
+use super::*;
+use iom_base::{DeviceId, Rights};
+use std::alloc::Global;
+use std::test::Fail;
+
+/// Number and name of each refusal, as the list of refusals has them.
+const REFUSALS: [(Refusal, &str); 23] = [
+    (Refusal::NoSuchDevice, "refused 1 NoSuchDevice"),
+    (Refusal::AlreadyAttached, "refused 2 AlreadyAttached"),
+    (Refusal::NotAttached, "refused 3 NotAttached"),
+    (Refusal::NotTrusted, "refused 4 NotTrusted"),
+    (Refusal::FrameOutOfRange, "refused 5 FrameOutOfRange"),
+    (Refusal::FrameReserved, "refused 6 FrameReserved"),
+    (Refusal::IovaOutOfRange, "refused 7 IovaOutOfRange"),
+    (Refusal::IovaBusy, "refused 8 IovaBusy"),
+    (Refusal::NotGranted, "refused 9 NotGranted"),
+    (Refusal::NoFrames, "refused 10 NoFrames"),
+    (Refusal::QueueFull, "refused 11 QueueFull"),
+    (Refusal::TooManyPending, "refused 12 TooManyPending"),
+    (Refusal::Quarantined, "refused 13 Quarantined"),
+    (Refusal::NumbersUsedUp, "refused 14 NumbersUsedUp"),
+    (Refusal::Memory, "refused 15 Memory"),
+    (Refusal::StillGranted, "refused 16 StillGranted"),
+    (Refusal::IdTooWide, "refused 17 IdTooWide"),
+    (Refusal::TooManyDevices, "refused 18 TooManyDevices"),
+    (Refusal::NotStarted, "refused 19 NotStarted"),
+    (Refusal::AlreadyPlugged, "refused 20 AlreadyPlugged"),
+    (Refusal::WrongKind, "refused 21 WrongKind"),
+    (Refusal::BadMedium, "refused 22 BadMedium"),
+    (Refusal::BadQueue, "refused 23 BadQueue"),
+];
+
+#[test]
+fn each_refusal_is_told_by_number_and_name(rt: HostRuntime) -> Result<(), Fail> {
+    for (refusal, line) in REFUSALS {
+        let text = format!(in rt.alloc(); "{refusal}")?;
+        assert_eq!(rt; text.as_str(), line);
+    }
+    Ok(())
+}
+
+/// Brings an entry about by the ledger's calls.
+fn bring_about(ledger: &mut Ledger, entry: Entry) -> Result<(), Fail> {
+    match entry {
+        Entry::Granted {
+            device,
+            page,
+            frame,
+            rights,
+        } => {
+            let is_granted = rights == Rights::R || rights == Rights::RW;
+            let is_taken =
+                ledger.holds(device, page).is_some() || ledger.lingers(device, page).is_some();
+            if is_granted && !is_taken {
+                ledger.grant(device, page, frame, rights)?;
+            }
+        }
+        Entry::Released {
+            device,
+            page,
+            ticket,
+        } => {
+            if ledger.holds(device, page).is_some() && ledger.waiting() < 256 {
+                ledger.release(device, page, ticket);
+            }
+        }
+        Entry::AllReleased { device, ticket } => {
+            if ledger.waiting() < 256 {
+                ledger.release_all(device, ticket);
+            }
+        }
+        Entry::Confirmed { ticket } => ledger.confirm(ticket),
+    }
+    Ok(())
+}
+
+/// What every look-up answers: of three pages what is held there, or in brackets what lingers; which
+/// of three frames are free; which of two devices hold something, and of which something lingers; and
+/// how many tickets wait.
+fn answers(alloc: Global, ledger: &Ledger) -> Result<String, Fail> {
+    let mut line = String::new(alloc);
+    for (device, page) in [(1, 16), (1, 17), (2, 16)] {
+        if let Some((frame, rights)) = ledger.holds(device, page) {
+            line.push_str(&format!(in alloc; "{frame}{rights} ")?)?;
+        }
+        if let Some((frame, rights)) = ledger.lingers(device, page) {
+            line.push_str(&format!(in alloc; "({frame}{rights}) ")?)?;
+        }
+        if ledger.holds(device, page).is_none() && ledger.lingers(device, page).is_none() {
+            line.push_str("- ")?;
+        }
+    }
+    line.push_str("free")?;
+    for frame in [5, 6, 7] {
+        if ledger.is_free(frame) {
+            line.push_str(&format!(in alloc; " {frame}")?)?;
+        }
+    }
+    line.push_str(" holds")?;
+    for device in [1, 2] {
+        if ledger.holds_anything(device) {
+            line.push_str(&format!(in alloc; " {device}")?)?;
+        }
+    }
+    line.push_str(" lingers")?;
+    for device in [1, 2] {
+        if ledger.lingers_anything(device) {
+            line.push_str(&format!(in alloc; " {device}")?)?;
+        }
+    }
+    let waiting = ledger.waiting();
+    line.push_str(&format!(in alloc; " waiting {waiting}")?)?;
+    Ok(line)
+}
+
+fn granted(device: DeviceId, page: u64, frame: u32, rights: Rights) -> Entry {
+    Entry::Granted {
+        device,
+        page,
+        frame,
+        rights,
+    }
+}
+
+fn released(device: DeviceId, page: u64, ticket: u32) -> Entry {
+    Entry::Released {
+        device,
+        page,
+        ticket,
+    }
+}
+
+fn all_released(device: DeviceId, ticket: u32) -> Entry {
+    Entry::AllReleased { device, ticket }
+}
+
+fn confirmed(ticket: u32) -> Entry {
+    Entry::Confirmed { ticket }
+}
+
+#[test]
+fn each_lookup_answers_what_the_history_says(rt: HostRuntime) -> Result<(), Fail> {
+    let mut ledger = Ledger::new(rt.alloc())?;
+    let first = answers(rt.alloc(), &ledger)?;
+    assert_eq!(rt; first.as_str(), "- - - free 5 6 7 holds lingers waiting 0");
+    // Each entry, with what the history leaves then, worked out by hand.
+    let walk = [
+        (granted(1, 16, 5, Rights::RW), "5rw - - free 6 7 holds 1 lingers waiting 0"),
+        (granted(2, 16, 5, Rights::R), "5rw - 5r free 6 7 holds 1 2 lingers waiting 0"),
+        (granted(1, 17, 6, Rights::R), "5rw 6r 5r free 7 holds 1 2 lingers waiting 0"),
+        (released(1, 16, 1), "(5rw) 6r 5r free 7 holds 1 2 lingers 1 waiting 1"),
+        (confirmed(9), "(5rw) 6r 5r free 7 holds 1 2 lingers 1 waiting 1"),
+        (all_released(2, 2), "(5rw) 6r (5r) free 7 holds 1 lingers 1 2 waiting 2"),
+        (confirmed(1), "- 6r (5r) free 7 holds 1 lingers 2 waiting 1"),
+        (granted(1, 16, 7, Rights::RW), "7rw 6r (5r) free holds 1 lingers 2 waiting 1"),
+        (all_released(1, 3), "(7rw) (6r) (5r) free holds lingers 1 2 waiting 2"),
+        (confirmed(2), "(7rw) (6r) - free 5 holds lingers 1 waiting 1"),
+        (all_released(2, 4), "(7rw) (6r) - free 5 holds lingers 1 waiting 2"),
+        (confirmed(3), "- - - free 5 6 7 holds lingers waiting 1"),
+        (confirmed(4), "- - - free 5 6 7 holds lingers waiting 0"),
+        (granted(2, 16, 6, Rights::RW), "- - 6rw free 5 7 holds 2 lingers waiting 0"),
+    ];
+    for (entry, expected) in walk {
+        bring_about(&mut ledger, entry)?;
+        let line = answers(rt.alloc(), &ledger)?;
+        assert_eq!(rt; line.as_str(), expected);
+    }
+    Ok(())
+}
+
+#[test]
+fn a_refused_call_changes_nothing_and_succeeds_at_once_when_repeated(
+    rt: HostRuntime,
+) -> Result<(), Fail> {
+    let made = Ledger::new(rt.alloc());
+    let mut ledger = match made {
+        Ok(ledger) => ledger,
+        Err(_) => Ledger::new(rt.alloc())?,
+    };
+    for device in 1..4 {
+        for page in 0..20 {
+            if ledger.holds(device, page).is_none() && ledger.lingers(device, page).is_none() {
+                if ledger.grant(device, page, 5, Rights::R).is_err() {
+                    assert_eq!(rt; ledger.holds(device, page), None);
+                    assert_eq!(rt; ledger.lingers(device, page), None);
+                    assert_eq!(rt; ledger.holds_anything(device), page > 0);
+                    ledger.grant(device, page, 5, Rights::R)?;
+                }
+                assert_eq!(rt; ledger.holds(device, page), Some((5, Rights::R)));
+            }
+        }
+    }
+    Ok(())
+}

@@ -1,0 +1,262 @@
+-- The sentences of the headline, over every run.
+use Rattle.std.proofs.Common.{◌≡◌, ◌≢◌, ℕ, suc, zero, ◌+◌, ◌-◌, ◌<◌, ◌≤◌, ◌⊎◌, inl, inr, List, [], ◌∷◌, length, take, drop, slice_range, Option, None, Some, slice_get, slice_set, refl, sym, ap, ◌∙◌, subst, arith}
+use Rattle.std.specs.Option.{option_map_or}
+use Rattle.std.proofs.lemmas.Bool.{cases_eq}
+use Rattle.iom_base.specs.declared.access.AccessKind.TheVariants as kinds
+use Rattle.iom_base.specs.declared.cause.Cause.{Cause}
+use Rattle.iom_ledger.specs.declared.entry.Entry.{Entry}
+use Rattle.iom_ledger.specs.declared.entry.Entry.TheVariants as entries
+use Rattle.iom_ledger.specs.History.{History, May, Pair, Holds}
+use Rattle.iom_ledger.specs.History as ledger
+use Rattle.iom_machine.specs.declared.event.Event.{Event}
+use Rattle.iom_machine.specs.declared.event.Event.TheVariants as events
+use Rattle.iom_machine.specs.declared.outcome.Outcome.{Outcome}
+use Rattle.iom_machine.specs.declared.outcome.Outcome.TheVariants.{Done, Refused, Ticket, Confirmed, NoneConfirmed, Fetched, Accepted, Busy, BadSpan, Fault, Read, Wrote, NothingInFlight}
+use Rattle.iom_machine.specs.declared.state.Access.{Access}
+use Rattle.iom_machine.specs.declared.state.Attachment.{Attachment}
+use Rattle.iom_machine.specs.declared.state.Attachment.TheVariants.{Detached, Attached, Quarantined, Leaving}
+use Rattle.iom_machine.specs.declared.state.Device.{Device}
+use Rattle.iom_machine.specs.declared.state.Frame.{Frame}
+use Rattle.iom_machine.specs.declared.state.InFlight.{InFlight}
+use Rattle.iom_machine.specs.declared.state.Mode.TheVariants.{First, Second, Both}
+use Rattle.iom_machine.specs.declared.state.State.{State}
+use Rattle.iom_machine.specs.Frames.{bytes_of, stored, written}
+use Rattle.iom_machine.specs.Devices.{device_of, IsPlugged, EachInFlightMay}
+use Rattle.iom_machine.specs.Tickets.{confirmed_from}
+use Rattle.iom_machine.specs.Requests.{offset_of, IsWithinPage, IsBusy, HoldsFor, MayAccept, MayFault, MayAnswer, answered, with_accepted}
+use Rattle.iom_machine.specs.Machine.{Requests, Makes, Step, Run}
+use Rattle.iom_machine.specs.Headline.{IsReached, byte_at, IsOldest, IsOutside, AreNamedBytes, TouchesItsOwn, AsksFor, IsOneStage, GrantsFrame, NoneGrants, TouchesFrame}
+use Rattle.iom_machine.proofs.ReachLemmas.{NamesFrame, reach_before}
+use Rattle.iom_machine.proofs.ByteLemmas.{slice_get-set_same, slice_get-set_other, slice_get-written_inside, slice_get-written_outside, slice_get-range, length-range}
+use Rattle.iom_machine.proofs.InFlightLemmas.{match_cases, some_case, All-at, AllInFlight-of, found_device}
+use Rattle.iom_machine.proofs.SoundLemmas.{IsSound, IsWhole, AreWholeFrames, Change, change-step, sound_if_reached}
+
+pub in_flight_may : (state : State) → IsReached state → EachInFlightMay state
+in_flight_may state reached = (sound_if_reached state reached).reaches
+
+-- the bytes that are named lie in the frame, where it is there
+named_in : (frame : Frame) (made : InFlight) (bytes : List ℕ) → length frame.bytes ≡ 4096 → IsWithinPage made.access
+    → bytes ≡ slice_range frame.bytes (offset_of made.access) (offset_of made.access + made.access.len)
+    → (length bytes ≡ made.access.len) × ((k : ℕ) → k < made.access.len → slice_get bytes k ≡ slice_get frame.bytes (offset_of made.access + k))
+named_in frame made bytes long within same =
+    let fits : offset_of made.access + made.access.len ≤ length frame.bytes = subst (λ n. offset_of made.access + made.access.len ≤ n) (sym long) within.1 in
+    ( ap (λ (l : List ℕ). length l) same ∙ length-range frame.bytes (offset_of made.access) made.access.len fits
+    , (λ k below. ap (λ (l : List ℕ). slice_get l k) same ∙ slice_get-range frame.bytes (offset_of made.access) made.access.len k fits below)
+    )
+
+-- the bytes of a frame that is there
+bytes_there : (frames : List Frame) (number : ℕ) (frame : Frame) → slice_get frames number ≡ Some frame → bytes_of frames number ≡ frame.bytes
+bytes_there frames number frame at = ap (λ (found : Option Frame). option_map_or (λ (f : Frame). f.bytes) found []) at
+
+-- a number below the length has an element
+element_at : {X : Type 0} (xs : List X) (k : ℕ) → k < length xs → (x : X) × (slice_get xs k ≡ Some x)
+element_at [] k below = absurd (omega arith)
+element_at (x ∷ xs) zero below = (x, refl)
+element_at (x ∷ xs) (suc k) below = let rest = element_at xs k (omega arith) in (rest.0, rest.1)
+
+-- the frame of an access in flight is there, with a page of bytes
+frame_there : (state : State) → IsSound state → (id : ℕ) (made : InFlight) → May state.history id made.frame made.access.kind
+    → (frame : Frame) × (slice_get state.frames made.frame ≡ Some frame) × (length frame.bytes ≡ 4096)
+frame_there state sound id made may =
+    let found = element_at state.frames made.frame (sound.in_memory id made.frame made.access.kind may) in
+    (found.0, found.1, All-at (λ (f : Frame). length f.bytes ≡ 4096) state.frames made.frame found.0 sound.frames found.1)
+
+-- the facts of the access that a commit makes
+made_facts : (state : State) → IsSound state → (id : ℕ) (device : Device) (made : InFlight) → device_of state id ≡ Some device → slice_get device.in_flight 0 ≡ Some made
+    → IsWhole id made × May state.history device.id made.frame made.access.kind
+made_facts state sound id device made at first =
+    ( All-at (λ flying. IsWhole device.id flying) device.in_flight 0 made (AllInFlight-of IsWhole state.devices id device at sound.whole) first
+    , All-at (λ flying. May state.history device.id flying.frame flying.access.kind) device.in_flight 0 made
+        (AllInFlight-of (λ i flying. May state.history i flying.frame flying.access.kind) state.devices id device at sound.reaches) first
+    )
+
+-- the bytes of a frame after a store into it
+bytes_stored : (frames : List Frame) (number : ℕ) (frame : Frame) (offset : ℕ) (bytes : List ℕ) → slice_get frames number ≡ Some frame
+    → bytes_of (stored frames number offset bytes) number ≡ written frame.bytes offset bytes
+bytes_stored frames number frame offset bytes at =
+    let new_frame : Frame = record frame { bytes = written frame.bytes offset bytes } in
+    ap (λ (found : Option Frame). bytes_of (option_map_or (λ (f : Frame). slice_set frames number (record f { bytes = written f.bytes offset bytes })) found frames) number) at
+    ∙ bytes_there (slice_set frames number new_frame) number new_frame (slice_get-set_same frames number frame new_frame at)
+
+-- and of another
+bytes_elsewhere : (frames : List Frame) (number other offset : ℕ) (bytes : List ℕ) → other ≢ number
+    → bytes_of (stored frames number offset bytes) other ≡ bytes_of frames other
+bytes_elsewhere frames number other offset bytes differ = by (slice_get frames number)
+  where
+    by : (found : Option Frame) → bytes_of (option_map_or (λ (f : Frame). slice_set frames number (record f { bytes = written f.bytes offset bytes })) found frames) other ≡ bytes_of frames other
+    by None = refl
+    by (Some frame) = ap (λ (found : Option Frame). option_map_or (λ (f : Frame). f.bytes) found [])
+        (slice_get-set_other frames number other (record frame { bytes = written frame.bytes offset bytes }) differ)
+
+-- a store touches its named bytes alone
+stores_its_own : (frames : List Frame) (made : InFlight) (frame : Frame) → slice_get frames made.frame ≡ Some frame → length frame.bytes ≡ 4096 → IsWithinPage made.access
+    → length made.access.bytes ≡ made.access.len
+    → AreNamedBytes (stored frames made.frame (offset_of made.access) made.access.bytes) made made.access.bytes
+      × ((number offset : ℕ) → IsOutside made number offset → byte_at (stored frames made.frame (offset_of made.access) made.access.bytes) number offset ≡ byte_at frames number offset)
+stores_its_own frames made frame at long within named =
+    ( ( named
+      , (λ k below. sym (ap (λ (l : List ℕ). slice_get l (offset_of made.access + k)) (bytes_stored frames made.frame frame (offset_of made.access) made.access.bytes at)
+          ∙ slice_get-written_inside frame.bytes (offset_of made.access) made.access.bytes k fits (subst (λ n. k < n) (sym named) below)))
+      )
+    , (λ number offset out. by number offset (cases_eq number made.frame) out)
+    )
+  where
+    fits : offset_of made.access + length made.access.bytes ≤ length frame.bytes
+    fits = subst (λ n. offset_of made.access + n ≤ length frame.bytes) (sym named) (subst (λ n. offset_of made.access + made.access.len ≤ n) (sym long) within.1)
+
+    other : (number offset : ℕ) → number ≢ made.frame → byte_at (stored frames made.frame (offset_of made.access) made.access.bytes) number offset ≡ byte_at frames number offset
+    other number offset differ = ap (λ (l : List ℕ). slice_get l offset) (bytes_elsewhere frames made.frame number (offset_of made.access) made.access.bytes differ)
+
+    span : (offset : ℕ) → (offset < offset_of made.access) ⊎ (offset_of made.access + made.access.len ≤ offset)
+        → slice_get (written frame.bytes (offset_of made.access) made.access.bytes) offset ≡ slice_get frame.bytes offset
+    span offset (inl below) = slice_get-written_outside frame.bytes (offset_of made.access) made.access.bytes offset fits (inl below)
+    span offset (inr above) = slice_get-written_outside frame.bytes (offset_of made.access) made.access.bytes offset fits
+        (inr (subst (λ n. offset_of made.access + n ≤ offset) (sym named) above))
+
+    here : (offset : ℕ) → (offset < offset_of made.access) ⊎ (offset_of made.access + made.access.len ≤ offset)
+        → byte_at (stored frames made.frame (offset_of made.access) made.access.bytes) made.frame offset ≡ byte_at frames made.frame offset
+    here offset out = ap (λ (l : List ℕ). slice_get l offset) (bytes_stored frames made.frame frame (offset_of made.access) made.access.bytes at)
+        ∙ span offset out ∙ sym (ap (λ (l : List ℕ). slice_get l offset) (bytes_there frames made.frame frame at))
+
+    by : (number offset : ℕ) → (number ≡ made.frame) ⊎ (number ≢ made.frame) → IsOutside made number offset
+        → byte_at (stored frames made.frame (offset_of made.access) made.access.bytes) number offset ≡ byte_at frames number offset
+    by number offset (inr differ) out = other number offset differ
+    by number offset (inl same) (inl differ) = other number offset differ
+    by number offset (inl same) (inr out) =
+        subst (λ n. byte_at (stored frames made.frame (offset_of made.access) made.access.bytes) n offset ≡ byte_at frames n offset) (sym same) (here offset out)
+
+touches-makes : (old new : State) (id : ℕ) (outcome : Outcome) → IsSound old → (device : Device) → device_of old id ≡ Some device → Makes old device outcome new → TouchesItsOwn old id outcome new
+touches-makes old new id (Read bytes) sound device at makes =
+    let found = some_case (slice_get device.in_flight 0) _ makes in
+    let made = found.0 in
+    let facts = made_facts old sound id device made at found.1 in
+    let there = frame_there old sound device.id made facts.1 in
+    let own : device.id ≡ id = (found_device old.devices id device at).1 in
+    let named = named_in there.0 made bytes.items there.2 facts.0.0
+        (found.2.2 ∙ ap (λ (l : List ℕ). slice_range l (offset_of made.access) (offset_of made.access + made.access.len)) (bytes_there old.frames made.frame there.0 there.1)) in
+    ( made
+    , (device, at, found.1)
+    , subst (λ i. May old.history i made.frame kinds.Read) own found.2.1
+    , (named.0, (λ k below. named.1 k below ∙ sym (ap (λ (l : List ℕ). slice_get l (offset_of made.access + k)) (bytes_there old.frames made.frame there.0 there.1))))
+    , ap (λ (s : State). s.frames) found.2.3
+    )
+touches-makes old new id (Wrote len) sound device at makes =
+    let found = some_case (slice_get device.in_flight 0) _ makes in
+    let made = found.0 in
+    let facts = made_facts old sound id device made at found.1 in
+    let there = frame_there old sound device.id made facts.1 in
+    let own : device.id ≡ id = (found_device old.devices id device at).1 in
+    let stores = stores_its_own old.frames made there.0 there.1 there.2 facts.0.0 (facts.0.1 found.2.0) in
+    let frames_now : new.frames ≡ stored old.frames made.frame (offset_of made.access) made.access.bytes = ap (λ (s : State). s.frames) found.2.3 in
+    ( made
+    , (device, at, found.1)
+    , subst (λ i. May old.history i made.frame kinds.Write) own found.2.1
+    , found.2.2
+    , subst (λ fs. AreNamedBytes fs made made.access.bytes) (sym frames_now) stores.0
+    , (λ frame offset out. ap (λ (fs : List Frame). byte_at fs frame offset) frames_now ∙ stores.1 frame offset out)
+    )
+touches-makes old new id NothingInFlight sound device at makes = ap (λ (s : State). s.frames) makes.1
+touches-makes old new id _ sound device at makes = absurd makes
+
+pub touches_its_own : (old new : State) (id : ℕ) (outcome : Outcome) → IsReached old → Step old (events.Commit id) outcome new → TouchesItsOwn old id outcome new
+touches_its_own old new id outcome reached (choice, step) = elim (match_cases (device_of old id) _ _ step) [
+  | inl (none, refused) ↦ subst (λ o. TouchesItsOwn old id o new) (sym refused.0) (ap (λ (s : State). s.frames) refused.1)
+  | inr (device, at, makes) ↦ touches-makes old new id outcome (sound_if_reached old reached) device at makes
+]
+
+-- a held page may be accepted on its frame alone
+accepted_where_held : (attachment : Attachment) (state : State) (id : ℕ) (access : Access) (frame chosen : ℕ)
+    → HoldsFor state.history id access frame → MayAccept attachment state id access chosen → chosen ≡ frame
+accepted_where_held (Attached First ats) state id access frame chosen held (inl other) =
+    let pairs : ◌≡◌ {A = Pair} (chosen, other.0) (frame, held.0) = cc in ap (λ (p : Pair). p.0) pairs
+accepted_where_held (Attached First ats) state id access frame chosen held (inr (none, lingers)) = absurd (none frame held)
+accepted_where_held (Attached Second ats) state id access frame chosen held (inl other) =
+    let pairs : ◌≡◌ {A = Pair} (chosen, other.0) (frame, held.0) = cc in ap (λ (p : Pair). p.0) pairs
+accepted_where_held (Attached Second ats) state id access frame chosen held (inr (none, lingers)) = absurd (none frame held)
+accepted_where_held (Attached Both ats) state id access frame chosen held may = absurd may
+accepted_where_held Detached state id access frame chosen held may = absurd may
+accepted_where_held (Quarantined ticket mode ats) state id access frame chosen held may = absurd may
+accepted_where_held (Leaving ticket mode ats) state id access frame chosen held may = absurd may
+
+-- a held page faults for no device that is attached in one stage
+no_fault_where_held : (device : Device) (state : State) (id : ℕ) (access : Access) (frame : ℕ) (cause : Cause) → IsOneStage device
+    → HoldsFor state.history id access frame → MayFault device.attachment state id access cause → ⊥
+no_fault_where_held device state id access frame cause (ats, inl first) held may = (subst (λ a. MayFault a state id access cause) first may).0 frame held
+no_fault_where_held device state id access frame cause (ats, inr second) held may = (subst (λ a. MayFault a state id access cause) second may).0 frame held
+
+answered_where_held : (chosen : ℕ) (old new : State) (frame : ℕ) (device : Device) (access : Access) (outcome : Outcome)
+    → MayAnswer old device access chosen outcome → new ≡ answered old device access chosen outcome → IsOneStage device → IsWithinPage access → ¬ IsBusy device
+    → HoldsFor old.history device.id access frame
+    → (outcome ≡ Accepted (device.accepted + 1)) × (new ≡ with_accepted old device access frame)
+answered_where_held chosen old new frame device access BadSpan answer next one within room held = absurd (answer within)
+answered_where_held chosen old new frame device access Busy answer next one within room held = absurd (room answer.1)
+answered_where_held chosen old new frame device access (Fault cause) answer next one within room held =
+    absurd (no_fault_where_held device old device.id access frame cause one held answer.1)
+answered_where_held chosen old new frame device access (Accepted number) answer next one within room held =
+    ( ap (λ n. Accepted n) answer.2
+    , next ∙ ap (λ f. with_accepted old device access f) (accepted_where_held device.attachment old device.id access frame chosen held answer.1)
+    )
+answered_where_held chosen old new frame device access _ answer next one within room held = absurd answer
+
+asked_where_held : (chosen : ℕ) (old new : State) (id frame : ℕ) (device : Device) (access : Access) (outcome : Outcome)
+    → Requests chosen old id access outcome new → IsPlugged old id device → IsOneStage device → IsWithinPage access → ¬ IsBusy device
+    → HoldsFor old.history id access frame
+    → (outcome ≡ Accepted (device.accepted + 1)) × (new ≡ with_accepted old device access frame)
+asked_where_held chosen old new id frame device access outcome step there one within room held =
+    let answer = rw there at step in
+    let own : device.id ≡ id = (found_device old.devices id device there).1 in
+    answered_where_held chosen old new frame device access outcome answer.0 answer.1 one within room (subst (λ i. HoldsFor old.history i access frame) (sym own) held)
+
+pub accepted_on_its_frame : (old new : State) (event : Event) (outcome : Outcome) (id frame : ℕ) (device : Device) (access : Access)
+    → Step old event outcome new → AsksFor event id access → IsPlugged old id device → IsOneStage device → IsWithinPage access → ¬ IsBusy device
+    → HoldsFor old.history id access frame
+    → (outcome ≡ Accepted (device.accepted + 1)) × (new ≡ with_accepted old device access frame)
+accepted_on_its_frame old new (events.Read d address len) outcome id frame device access (choice, step) (who, what) there one within room held =
+    asked_where_held choice.frame old new id frame device access outcome
+    (subst (λ i. Requests choice.frame old i access outcome new) who (subst (λ x. Requests choice.frame old d x outcome new) (sym what) step)) there one within room held
+accepted_on_its_frame old new (events.Write d address bytes) outcome id frame device access (choice, step) (who, what) there one within room held =
+    asked_where_held choice.frame old new id frame device access outcome
+    (subst (λ i. Requests choice.frame old i access outcome new) who (subst (λ x. Requests choice.frame old d x outcome new) (sym what) step)) there one within room held
+accepted_on_its_frame old new _ outcome id frame device access step asks there one within room held = absurd asks
+
+-- a frame that is free stays so, after an entry that doesn't grant it
+free_after : (entry : Entry) (h : History) (frame : ℕ) → ¬ NamesFrame entry frame → ledger.IsFree h frame → ledger.IsFree (entry ∷ h) frame
+free_after entry h frame other free device kind may = elim (reach_before entry h device frame kind may) [
+  | inl named ↦ other named
+  | inr before ↦ free device kind before
+]
+
+free_confirmed : (first n : ℕ) (h : History) (frame : ℕ) → ledger.IsFree h frame → ledger.IsFree (confirmed_from first n h) frame
+free_confirmed first zero h frame free = free
+free_confirmed first (suc n) h frame free = free_after (entries.Confirmed (first + n)) (confirmed_from first n h) frame (λ x. x) (free_confirmed first n h frame free)
+
+-- a frame that is free stays so, after a step that doesn't grant it
+free-change : (event : Event) (outcome : Outcome) (old new : State) (frame : ℕ) → Change event outcome old new → ¬ GrantsFrame event outcome frame
+    → ledger.IsFree old.history frame → ledger.IsFree new.history frame
+free-change event outcome old new frame (Change.ledger_stays stays) other free = subst (λ h. ledger.IsFree h frame) (sym stays.0) free
+free-change event outcome old new frame (Change.grants id page named rights granted low empty extended tickets) other free =
+    subst (λ h. ledger.IsFree h frame) (sym extended)
+    (free_after (entries.Granted id page named rights) old.history frame (λ same. other (subst (GrantsFrame event outcome) same granted)) free)
+free-change event outcome old new frame (Change.releases id page extended next) other free =
+    subst (λ h. ledger.IsFree h frame) (sym extended) (free_after (entries.Released id page new.tickets) old.history frame (λ x. x) free)
+free-change event outcome old new frame (Change.confirms_some first n most extended tickets reaches) other free =
+    subst (λ h. ledger.IsFree h frame) (sym extended) (free_confirmed first n old.history frame free)
+
+-- over a run in which no event grants it
+pub free-run : (old new : State) (events : List Event) (outcomes : List Outcome) (frame : ℕ) → Run old events outcomes new → NoneGrants events outcomes frame
+    → ledger.IsFree old.history frame → ledger.IsFree new.history frame
+free-run old new [] [] frame run none free = subst (λ (s : State). ledger.IsFree s.history frame) (sym run) free
+free-run old new (event ∷ events) (outcome ∷ outcomes) frame (mid, step, run) (other, none) free =
+    free-run mid new events outcomes frame run none (free-change event outcome old mid frame (change-step old mid event outcome step) other free)
+free-run old new [] (outcome ∷ outcomes) frame run none free = absurd run
+free-run old new (event ∷ events) [] frame run none free = absurd run
+
+-- what a commit makes may be reached
+made_may : (old new : State) (id frame : ℕ) (outcome : Outcome) (made : InFlight) → IsSound old → IsOldest old id made → made.frame ≡ frame → ledger.IsFree old.history frame → ⊥
+made_may old new id frame outcome made sound (device, at, first) on free =
+    free device.id made.access.kind (subst (λ f. May old.history device.id f made.access.kind) on (made_facts old sound id device made at first).1)
+
+pub untouched : (old new : State) (event : Event) (outcome : Outcome) (frame : ℕ) → IsSound old → ledger.IsFree old.history frame → TouchesFrame old event outcome frame → ⊥
+untouched old new (events.Commit id) (Read bytes) frame sound free (made, oldest, on) = made_may old new id frame (Read bytes) made sound oldest on free
+untouched old new (events.Commit id) (Wrote len) frame sound free (made, oldest, on) = made_may old new id frame (Wrote len) made sound oldest on free
+untouched old new _ _ frame sound free touches = absurd touches

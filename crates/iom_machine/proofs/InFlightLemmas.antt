@@ -1,0 +1,183 @@
+-- What a step keeps of each access in flight.
+use Rattle.std.proofs.Common.{◌≡◌, ℕ, ◌+◌, ◌==◌, ◌⊎◌, inl, inr, Bool, true, false, cond, List, [], ◌∷◌, ◌++◌, drop, find, All, Contains, Option, None, Some, MatchOption, IsSomeAnd, if◌then◌else◌, slice_get, refl, sym, ap, subst, arith}
+use Rattle.std.specs.Prelude.{⊤}
+use Rattle.std.proofs.lemmas.Bool.{eqb-true}
+use Rattle.std.proofs.lemmas.List.Elements.{All-push, All-nil, All-weaker, All-contains, All-cons, All-tail, All-head}
+use Rattle.std.proofs.lemmas.Option.{get_or_from_slice_get, slice_get_within}
+use Rattle.iom_ledger.specs.History.{History, May}
+use Rattle.iom_machine.specs.declared.event.Event.{Event}
+use Rattle.iom_machine.specs.declared.event.Event.TheVariants as events
+use Rattle.iom_machine.specs.declared.outcome.Outcome.{Outcome}
+use Rattle.iom_machine.specs.declared.outcome.Outcome.TheVariants.{Done, Refused, Ticket, Confirmed, NoneConfirmed, Fetched, Accepted, Busy, BadSpan, Fault, Read, Wrote, NothingInFlight}
+use Rattle.iom_machine.specs.declared.state.Access.{Access}
+use Rattle.iom_machine.specs.declared.state.Attachment.{Attachment}
+use Rattle.iom_machine.specs.declared.state.Attachment.TheVariants.{Detached, Attached, Quarantined, Leaving}
+use Rattle.iom_machine.specs.declared.state.Device.{Device}
+use Rattle.iom_machine.specs.declared.state.InFlight.{InFlight}
+use Rattle.iom_machine.specs.declared.state.Mode.TheVariants.{First, Second, Both}
+use Rattle.iom_machine.specs.declared.state.State.{State}
+use Rattle.iom_machine.specs.Devices.{device_of, replaced_device, with_device}
+use Rattle.iom_machine.specs.Requests.{read_of, write_of, page_of, IsWithinPage, MayAccept, MayAnswer, answered}
+use Rattle.iom_machine.specs.Machine.{Requests, Makes, Commits, Step}
+use Rattle.iom_machine.specs.Headline.{AsksFor, IsAccepted}
+use Rattle.iom_machine.proofs.ReachLemmas.{contains_head, contains_tail}
+
+-- a fact by cases of an option, with the case that it is
+pub match_cases : {X : Type 0} (o : Option X) (A : Type 0) (Q : X → Type 0) → MatchOption o A Q → ((o ≡ None) × A) ⊎ ((x : X) × (o ≡ Some x) × Q x)
+match_cases None A Q fact = inl (refl, fact)
+match_cases (Some x) A Q fact = inr (x, refl, fact)
+
+pub some_case : {X : Type 0} (o : Option X) (Q : X → Type 0) → IsSomeAnd o Q → (x : X) × (o ≡ Some x) × Q x
+some_case None Q fact = absurd fact
+some_case (Some x) Q fact = (x, refl, fact)
+
+-- a fact of all elements, at one of them
+pub All-at : {X : Type 0} (P : X → Type 0) (xs : List X) (k : ℕ) (x : X) → All P xs → slice_get xs k ≡ Some x → P x
+All-at P xs k x all at = subst P (get_or_from_slice_get xs k x x at) (all k x (slice_get_within xs k x at))
+
+pub All-rest : {X : Type 0} (P : X → Type 0) (xs : List X) → All P xs → All P (drop 1 xs)
+All-rest P [] all = all
+All-rest P (x ∷ xs) all = All-tail P x xs all
+
+-- a fact of each access in flight, with its device's id
+abbrev pub AllInFlight : (ℕ → InFlight → Type 0) → List Device → Type 0
+AllInFlight P devices = All (λ device. All (P device.id) device.in_flight) devices
+
+-- the access may still reach its frame
+abbrev pub StillMay : History → ℕ → InFlight → Type 0
+StillMay history id flying = May history id flying.frame flying.access.kind
+
+-- the device that is found is there, with its id
+pub found_device : (devices : List Device) (id : ℕ) (device : Device) → find (λ d. d.id == id) devices ≡ Some device → Contains devices device × (device.id ≡ id)
+found_device [] id device at = cc
+found_device (d ∷ devices) id device at = by (d.id == id) refl at (found_device devices id device)
+  where
+    by : (b : Bool) → (d.id == id) ≡ b → cond b (Some d) (find (λ x. x.id == id) devices) ≡ Some device
+        → (find (λ x. x.id == id) devices ≡ Some device → Contains devices device × (device.id ≡ id)) → Contains (d ∷ devices) device × (device.id ≡ id)
+    by true e at rest =
+        let same : d ≡ device = cc in
+        (subst (λ x. Contains (d ∷ devices) x) same (contains_head d devices), subst (λ (x : Device). x.id ≡ id) same (eqb-true d.id id e))
+    by false e at rest = (contains_tail d devices device (rest at).0, (rest at).1)
+
+-- where one device is changed
+pub AllInFlight-with : (P : ℕ → InFlight → Type 0) (devices : List Device) (id : ℕ) (now : Device) → AllInFlight P devices → All (P now.id) now.in_flight
+    → AllInFlight P (replaced_device devices id now)
+AllInFlight-with P [] id now all changed = all
+AllInFlight-with P (device ∷ others) id now all changed = by (device.id == id) (AllInFlight-with P others id now (All-tail (λ (d : Device). All (P d.id) d.in_flight) device others all) changed)
+  where
+    by : (b : Bool) → AllInFlight P (replaced_device others id now) → AllInFlight P (if b then now ∷ others else device ∷ replaced_device others id now)
+    by true rest = All-cons (λ (d : Device). All (P d.id) d.in_flight) now others changed (All-tail (λ (d : Device). All (P d.id) d.in_flight) device others all)
+    by false rest = All-cons (λ (d : Device). All (P d.id) d.in_flight) device (replaced_device others id now) (All-head (λ (d : Device). All (P d.id) d.in_flight) device others all) rest
+
+-- the facts of one device's accesses
+pub AllInFlight-of : (P : ℕ → InFlight → Type 0) (devices : List Device) (id : ℕ) (device : Device) → find (λ d. d.id == id) devices ≡ Some device → AllInFlight P devices
+    → All (P device.id) device.in_flight
+AllInFlight-of P devices id device at all = All-contains (λ (d : Device). All (P d.id) d.in_flight) devices device all (found_device devices id device at).0
+
+-- a weaker fact
+pub AllInFlight-weaker : (P Q : ℕ → InFlight → Type 0) → ((id : ℕ) (flying : InFlight) → P id flying → Q id flying) → (devices : List Device) → AllInFlight P devices → AllInFlight Q devices
+AllInFlight-weaker P Q says devices all =
+    All-weaker (λ (d : Device). All (P d.id) d.in_flight) (λ (d : Device). All (Q d.id) d.in_flight) (λ d h. All-weaker (P d.id) (Q d.id) (says d.id) d.in_flight h) devices all
+
+-- what may be accepted may be reached
+accepted_reach : (attachment : Attachment) (state : State) (id : ℕ) (access : Access) (frame : ℕ) → MayAccept attachment state id access frame → May state.history id frame access.kind
+accepted_reach (Attached First ats) state id access frame (inl holds) = (page_of access, holds.0, inl holds.1, holds.2)
+accepted_reach (Attached First ats) state id access frame (inr (none, lingers)) = (page_of access, lingers.0, inr lingers.1, lingers.2)
+accepted_reach (Attached Second ats) state id access frame (inl holds) = (page_of access, holds.0, inl holds.1, holds.2)
+accepted_reach (Attached Second ats) state id access frame (inr (none, lingers)) = (page_of access, lingers.0, inr lingers.1, lingers.2)
+accepted_reach (Attached Both ats) state id access frame may = absurd may
+accepted_reach Detached state id access frame may = absurd may
+accepted_reach (Quarantined ticket mode ats) state id access frame may = absurd may
+accepted_reach (Leaving ticket mode ats) state id access frame may = absurd may
+
+-- the outcome says that a request is accepted
+abbrev pub IsAcceptance : Outcome → Type 0
+IsAcceptance (Accepted number) = ⊤
+IsAcceptance _ = ⊥
+
+pub accepted_if : (event : Event) (outcome : Outcome) (id : ℕ) (access : Access) → AsksFor event id access → IsAcceptance outcome → IsAccepted event outcome id access
+accepted_if event (Accepted number) id access asks accepts = asks
+accepted_if event _ id access asks never = absurd never
+
+in_flight-answer : (P : ℕ → InFlight → Type 0) (chosen : ℕ) (old new : State) (id : ℕ) (device : Device) (access : Access) (outcome : Outcome) → device_of old id ≡ Some device
+    → MayAnswer old device access chosen outcome → new ≡ answered old device access chosen outcome
+    → (IsAcceptance outcome → IsWithinPage access → May old.history id chosen access.kind → P id (record { access = access; frame = chosen }))
+    → AllInFlight P old.devices → AllInFlight P new.devices
+in_flight-answer P chosen old new id device access (Accepted number) at (forwarded, accepts, next) same enters all =
+    let own : device.id ≡ id = (found_device old.devices id device at).1 in
+    let its : P device.id (record { access = access; frame = chosen }) =
+        subst (λ i. P i (record { access = access; frame = chosen })) (sym own)
+        (enters tt forwarded.0 (subst (λ i. May old.history i chosen access.kind) own (accepted_reach device.attachment old device.id access chosen accepts))) in
+    subst (λ (s : State). AllInFlight P s.devices) (sym same)
+    (AllInFlight-with P old.devices device.id _ all (All-push (P device.id) device.in_flight _ (AllInFlight-of P old.devices id device at all) its))
+in_flight-answer P chosen old new id device access BadSpan at answer same enters all = subst (λ (s : State). AllInFlight P s.devices) (sym same) all
+in_flight-answer P chosen old new id device access Busy at answer same enters all = subst (λ (s : State). AllInFlight P s.devices) (sym same) all
+in_flight-answer P chosen old new id device access (Fault cause) at answer same enters all = subst (λ (s : State). AllInFlight P s.devices) (sym same) all
+in_flight-answer P chosen old new id device access _ at answer same enters all = absurd answer
+
+in_flight-requests : (P : ℕ → InFlight → Type 0) (chosen : ℕ) (old new : State) (id : ℕ) (access : Access) (outcome : Outcome) → Requests chosen old id access outcome new
+    → (IsAcceptance outcome → IsWithinPage access → May old.history id chosen access.kind → P id (record { access = access; frame = chosen }))
+    → AllInFlight P old.devices → AllInFlight P new.devices
+in_flight-requests P chosen old new id access outcome step enters all = elim (match_cases (device_of old id) _ _ step) [
+  | inl (none, same) ↦ subst (λ (s : State). AllInFlight P s.devices) (sym same.1) all
+  | inr (device, at, answer) ↦ in_flight-answer P chosen old new id device access outcome at answer.0 answer.1 enters all
+]
+
+-- where the oldest access of a device is made
+in_flight-made : (P : ℕ → InFlight → Type 0) (old : State) (id : ℕ) (device : Device) → device_of old id ≡ Some device → AllInFlight P old.devices
+    → AllInFlight P (replaced_device old.devices device.id (record device { in_flight = drop 1 device.in_flight }))
+in_flight-made P old id device at all =
+    AllInFlight-with P old.devices device.id _ all (All-rest (P device.id) device.in_flight (AllInFlight-of P old.devices id device at all))
+
+in_flight-makes : (P : ℕ → InFlight → Type 0) (old new : State) (id : ℕ) (device : Device) (outcome : Outcome) → device_of old id ≡ Some device → Makes old device outcome new
+    → AllInFlight P old.devices → AllInFlight P new.devices
+in_flight-makes P old new id device (Read bytes) at makes all =
+    let made = some_case (slice_get device.in_flight 0) _ makes in
+    subst (λ (s : State). AllInFlight P s.devices) (sym made.2.3) (in_flight-made P old id device at all)
+in_flight-makes P old new id device (Wrote len) at makes all =
+    let made = some_case (slice_get device.in_flight 0) _ makes in
+    subst (λ (s : State). AllInFlight P s.devices) (sym made.2.3) (in_flight-made P old id device at all)
+in_flight-makes P old new id device NothingInFlight at makes all = subst (λ (s : State). AllInFlight P s.devices) (sym makes.1) all
+in_flight-makes P old new id device _ at makes all = absurd makes
+
+in_flight-commits : (P : ℕ → InFlight → Type 0) (old new : State) (id : ℕ) (outcome : Outcome) → Commits old id outcome new → AllInFlight P old.devices → AllInFlight P new.devices
+in_flight-commits P old new id outcome step all = elim (match_cases (device_of old id) _ _ step) [
+  | inl (none, same) ↦ subst (λ (s : State). AllInFlight P s.devices) (sym same.1) all
+  | inr (device, at, makes) ↦ in_flight-makes P old new id device outcome at makes all
+]
+
+-- the devices stay
+devices_stay : (P : ℕ → InFlight → Type 0) (old new : State) → new.devices ≡ old.devices → AllInFlight P old.devices → AllInFlight P new.devices
+devices_stay P old new same all = subst (AllInFlight P) (sym same) all
+
+-- A step keeps each fact of each access in flight, where it is true of those that enter.
+pub in_flight-step : (P : ℕ → InFlight → Type 0) (old new : State) (event : Event) (outcome : Outcome) → Step old event outcome new
+    → ((id : ℕ) (flying : InFlight) → IsAccepted event outcome id flying.access → IsWithinPage flying.access → StillMay old.history id flying → P id flying)
+    → AllInFlight P old.devices → AllInFlight P new.devices
+in_flight-step P old new (events.PlugRaw id) Done (choice, step) enters all =
+    subst (λ (s : State). AllInFlight P s.devices) (sym step.1) (All-push (λ (d : Device). All (P d.id) d.in_flight) old.devices _ all (All-nil (P id)))
+in_flight-step P old new (events.PlugRaw id) (Refused why) (choice, step) enters all = devices_stay P old new (ap (λ (s : State). s.devices) step.1) all
+in_flight-step P old new (events.PlugRaw id) _ (choice, step) enters all = absurd step
+in_flight-step P old new (events.AttachFirst id) Done (choice, step) enters all =
+    let found = some_case (device_of old id) _ step.2 in
+    subst (λ (s : State). AllInFlight P s.devices) (sym found.2) (AllInFlight-with P old.devices found.0.id _ all (AllInFlight-of P old.devices id found.0 found.1 all))
+in_flight-step P old new (events.AttachFirst id) (Refused why) (choice, step) enters all = devices_stay P old new (ap (λ (s : State). s.devices) step.1) all
+in_flight-step P old new (events.AttachFirst id) _ (choice, step) enters all = absurd step
+in_flight-step P old new (events.Grant id page frame rights) Done (choice, step) enters all = devices_stay P old new (ap (λ (s : State). s.devices) step.3) all
+in_flight-step P old new (events.Grant id page frame rights) (Refused why) (choice, step) enters all = devices_stay P old new (ap (λ (s : State). s.devices) step.1) all
+in_flight-step P old new (events.Grant id page frame rights) _ (choice, step) enters all = absurd step
+in_flight-step P old new (events.Release id page) (Ticket ticket) (choice, step) enters all = devices_stay P old new (ap (λ (s : State). s.devices) step.2) all
+in_flight-step P old new (events.Release id page) (Refused why) (choice, step) enters all = devices_stay P old new (ap (λ (s : State). s.devices) step.1) all
+in_flight-step P old new (events.Release id page) _ (choice, step) enters all = absurd step
+in_flight-step P old new events.Fetch (Fetched result) (choice, step) enters all = devices_stay P old new (ap (λ (s : State). s.devices) step) all
+in_flight-step P old new events.Fetch _ (choice, step) enters all = absurd step
+in_flight-step P old new events.Poll (Confirmed first last) (choice, step) enters all = devices_stay P old new (ap (λ (s : State). s.devices) step.3) all
+in_flight-step P old new events.Poll NoneConfirmed (choice, step) enters all = devices_stay P old new (ap (λ (s : State). s.devices) step) all
+in_flight-step P old new events.Poll _ (choice, step) enters all = absurd step
+in_flight-step P old new (events.Read id address len) outcome (choice, step) enters all =
+    in_flight-requests P choice.frame old new id (read_of address len) outcome step
+    (λ accepts within may. enters id _ (accepted_if (events.Read id address len) outcome id (read_of address len) (refl, refl) accepts) within may) all
+in_flight-step P old new (events.Write id address bytes) outcome (choice, step) enters all =
+    in_flight-requests P choice.frame old new id (write_of address bytes) outcome step
+    (λ accepts within may. enters id _ (accepted_if (events.Write id address bytes) outcome id (write_of address bytes) (refl, refl) accepts) within may) all
+in_flight-step P old new (events.Commit id) outcome (choice, step) enters all = in_flight-commits P old new id outcome step all

@@ -1,0 +1,416 @@
+-- What is true of every state that is reached.
+use Rattle.std.proofs.Common.{◌≡◌, ◌≢◌, ℕ, suc, zero, ◌+◌, ◌-◌, ◌<◌, ◌≤◌, ◌==◌, ◌⊎◌, inl, inr, Bool, true, false, not, ◌||◌, List, [], ◌∷◌, ◌++◌, length, All, Option, None, Some, is_some, if◌then◌else◌, slice_get, slice_set, nat_le, replicate, refl, sym, ap, ◌∙◌, subst, arith}
+use Rattle.std.proofs.lemmas.Bool.{eqb-true, or_parts}
+use Rattle.std.proofs.lemmas.Bool.Decides.{nat_tests}
+use Rattle.std.proofs.lemmas.Grind.{common_steps}
+use Rattle.std.proofs.lemmas.List.{length-replicate}
+use Rattle.std.proofs.lemmas.List.Elements.{All-nil, All-weaker, All-set, All-replicate}
+use Rattle.std.specs.Option.{option_map_or}
+use Rattle.iom_base.specs.declared.access.AccessKind.{AccessKind}
+use Rattle.iom_base.specs.declared.access.AccessKind.TheVariants as kinds
+use Rattle.iom_base.specs.declared.rights.Rights.{Rights}
+use Rattle.iom_ledger.specs.declared.entry.Entry.{Entry}
+use Rattle.iom_ledger.specs.declared.entry.Entry.TheVariants as entries
+use Rattle.iom_ledger.specs.declared.refusal.Refusal.{Refusal}
+use Rattle.iom_ledger.specs.History.{History, May, Pair, held_at, confirms}
+use Rattle.iom_machine.specs.declared.event.Event.{Event}
+use Rattle.iom_machine.specs.declared.event.Event.TheVariants as events
+use Rattle.iom_machine.specs.declared.outcome.Outcome.{Outcome}
+use Rattle.iom_machine.specs.declared.outcome.Outcome.TheVariants.{Done, Refused, Ticket, Confirmed, NoneConfirmed, Fetched, Accepted, Busy, BadSpan, Fault, Read, Wrote, NothingInFlight}
+use Rattle.iom_machine.specs.declared.state.Access.{Access}
+use Rattle.iom_machine.specs.declared.state.Device.{Device}
+use Rattle.iom_machine.specs.declared.state.Frame.{Frame}
+use Rattle.iom_machine.specs.declared.state.InFlight.{InFlight}
+use Rattle.iom_machine.specs.declared.state.Owner.{Owner}
+use Rattle.iom_machine.specs.declared.state.Owner.TheVariants.{System, OneDevice}
+use Rattle.iom_machine.specs.declared.state.State.{State}
+use Rattle.iom_machine.specs.Frames.{with_frame, reserved_for, stored, written}
+use Rattle.iom_machine.specs.Devices.{device_of, EachInFlightMay}
+use Rattle.iom_machine.specs.Tickets.{confirmed_from}
+use Rattle.iom_machine.specs.Refusals.{NoneApplies, first_that_applies, grant_reasons, is_held, is_lingering}
+use Rattle.iom_machine.specs.Requests.{read_of, write_of, offset_of, IsWithinPage, MayAnswer, answered}
+use Rattle.iom_machine.specs.Machine.{Requests, Makes, Commits, Step, Run, opening, empty_frame}
+use Rattle.iom_machine.specs.Headline.{GrantsFrame, AsksFor, IsAccepted, WasAccepted, IsReached, IsReachedBy}
+use Rattle.iom_machine.proofs.ReachLemmas.{NamesFrame, reach_before, reach_after_grant, reach_after_release}
+use Rattle.iom_machine.proofs.ByteLemmas.{length-written}
+use Rattle.iom_machine.proofs.InFlightLemmas.{match_cases, some_case, All-at, AllInFlight, AllInFlight-of, AllInFlight-weaker, StillMay, in_flight-step}
+
+-- an access that stays within its page, and a write with as many bytes as it names
+abbrev pub IsWhole : ℕ → InFlight → Type 0
+IsWhole id flying = IsWithinPage flying.access × (flying.access.kind ≡ kinds.Write → length flying.access.bytes ≡ flying.access.len)
+
+-- the frames have a page of bytes each
+abbrev pub AreWholeFrames : List Frame → Type 0
+AreWholeFrames frames = All (λ (frame : Frame). length frame.bytes ≡ 4096) frames
+
+-- each confirmed ticket was given
+abbrev pub WereGiven : History → ℕ → Type 0
+WereGiven history tickets = (t : ℕ) → confirms history t ≡ true → t ≤ tickets
+
+-- each frame that a device may reach is one of so many
+abbrev pub AreInMemory : History → ℕ → Type 0
+AreInMemory history size = (device frame : ℕ) (kind : AccessKind) → May history device frame kind → frame < size
+
+-- what is true of every state that is reached
+pub record IsSound (state : State) : Type 0 where
+  pub reaches : AllInFlight (StillMay state.history) state.devices
+  pub whole : AllInFlight IsWhole state.devices
+  pub tickets : WereGiven state.history state.tickets
+  pub frames : AreWholeFrames state.frames
+  pub in_memory : AreInMemory state.history (length state.frames)
+
+-- changing a frame keeps what is true of each, where the change does
+All-with_frame : (P : Frame → Type 0) (frames : List Frame) (number : ℕ) (change : Frame → Frame) → ((frame : Frame) → P frame → P (change frame)) → All P frames
+    → All P (with_frame frames number change)
+All-with_frame P frames number change keeps all = by (slice_get frames number) refl
+  where
+    by : (found : Option Frame) → slice_get frames number ≡ found → All P (option_map_or (λ frame. slice_set frames number (change frame)) found frames)
+    by None at = all
+    by (Some frame) at = All-set P frames number (change frame) (keeps frame (All-at P frames number frame all at)) all
+
+-- reserving frames keeps what is true of their bytes
+pub All-reserved : (P : List ℕ → Type 0) (owner : Owner) (numbers : List ℕ) (frames : List Frame) → All (λ (frame : Frame). P frame.bytes) frames
+    → All (λ (frame : Frame). P frame.bytes) (reserved_for owner numbers frames)
+All-reserved P owner [] frames all = all
+All-reserved P owner (number ∷ numbers) frames all =
+    All-reserved P owner numbers _ (All-with_frame (λ (frame : Frame). P frame.bytes) frames number (λ frame. record frame { owner = Some owner }) (λ frame its. its) all)
+
+-- each reason doesn't apply
+abbrev pub EachFails : List (Bool × Refusal) → Type 0
+EachFails [] = Unit {0}
+EachFails (reason ∷ later) = (reason.0 ≡ false) × EachFails later
+
+-- where no reason applies, each doesn't
+pub none_applies : (reasons : List (Bool × Refusal)) → NoneApplies reasons → EachFails reasons
+none_applies [] none = tt
+none_applies (reason ∷ later) none = by reason.0 refl none (none_applies later)
+  where
+    by : (b : Bool) → reason.0 ≡ b → (if b then Some reason.1 else first_that_applies later) ≡ None → (NoneApplies later → EachFails later) → EachFails (reason ∷ later)
+    by true e h rest = cc
+    by false e h rest = (e, rest h)
+
+-- a page that may be granted holds nothing
+pub grant_finds_nothing : (state : State) (id page frame : ℕ) → NoneApplies (grant_reasons state id page frame) → held_at state.history id page ≡ None
+grant_finds_nothing state id page frame none =
+    let fails = none_applies (grant_reasons state id page frame) none in
+    empty (held_at state.history id page) (or_parts (is_held state id page) (is_lingering state id page) fails.1.1.1.1.1.1.0).0
+  where
+    empty : (held : Option Pair) → is_some held ≡ false → held ≡ None
+    empty None h = refl
+    empty (Some pair) h = cc
+
+-- a frame that may be granted is one of the memory
+grant_in_memory : (state : State) (id page frame : ℕ) → NoneApplies (grant_reasons state id page frame) → frame < length state.frames
+grant_in_memory state id page frame none =
+    let fails = none_applies (grant_reasons state id page frame) none in
+    let low : nat_le (length state.frames) frame ≡ false = fails.1.1.1.0 in grind (arith, nat_tests)
+
+-- tickets that are confirmed, after some more are
+confirmed_before : (first n : ℕ) (h : History) (t : ℕ) → confirms (confirmed_from first n h) t ≡ true → (t < first + n) ⊎ (confirms h t ≡ true)
+confirmed_before first zero h t c = inr c
+confirmed_before first (suc n) h t c = by (first + n == t) refl c (confirmed_before first n h t)
+  where
+    by : (b : Bool) → (first + n == t) ≡ b → (b || confirms (confirmed_from first n h) t) ≡ true
+        → (confirms (confirmed_from first n h) t ≡ true → (t < first + n) ⊎ (confirms h t ≡ true)) → (t < first + suc n) ⊎ (confirms h t ≡ true)
+    by true e c rest = let same : first + n ≡ t = eqb-true (first + n) t e in inl (omega arith)
+    by false e c rest = elim (rest c) [ inl below ↦ inl (omega arith) | inr old ↦ inr old ]
+
+-- the next ticket isn't confirmed
+fresh_ticket : (history : History) (tickets : ℕ) → WereGiven history tickets → confirms history (tickets + 1) ≡ false
+fresh_ticket history tickets given = by (confirms history (tickets + 1)) refl
+  where
+    by : (b : Bool) → confirms history (tickets + 1) ≡ b → confirms history (tickets + 1) ≡ false
+    by false e = e
+    by true e = let above : tickets + 1 ≤ tickets = given (tickets + 1) e in absurd (omega arith)
+
+-- where it says of a state what it said of another
+same_history : (P : History → Type 0) (old new : State) → new.history ≡ old.history → P old.history → P new.history
+same_history P old new same fact = subst P (sym same) fact
+
+-- what requests and commits leave as it was: history, tickets
+abbrev pub SameLedger : State → State → Type 0
+SameLedger old new = (new.history ≡ old.history) × (new.tickets ≡ old.tickets)
+
+all_same : (old new : State) → new ≡ old → SameLedger old new
+all_same old new same = (ap (λ (s : State). s.history) same, ap (λ (s : State). s.tickets) same)
+
+same_ledger-requests : (chosen : ℕ) (old new : State) (id : ℕ) (access : Access) (outcome : Outcome) → Requests chosen old id access outcome new → SameLedger old new
+same_ledger-requests chosen old new id access outcome step = elim (match_cases (device_of old id) _ _ step) [
+  | inl (none, same) ↦ all_same old new same.1
+  | inr (device, at, answer) ↦ by device outcome answer.1
+]
+  where
+    by : (device : Device) (outcome : Outcome) → new ≡ answered old device access chosen outcome → SameLedger old new
+    by device (Accepted number) same = (ap (λ (s : State). s.history) same, ap (λ (s : State). s.tickets) same)
+    by device _ same = all_same old new same
+
+same_ledger-commits : (old new : State) (id : ℕ) (outcome : Outcome) → Commits old id outcome new → SameLedger old new
+same_ledger-commits old new id outcome step = elim (match_cases (device_of old id) _ _ step) [
+  | inl (none, same) ↦ all_same old new same.1
+  | inr (device, at, makes) ↦ by device outcome makes
+]
+  where
+    by : (device : Device) (outcome : Outcome) → Makes old device outcome new → SameLedger old new
+    by device (Read bytes) makes = let made = some_case (slice_get device.in_flight 0) _ makes in (ap (λ (s : State). s.history) made.2.3, ap (λ (s : State). s.tickets) made.2.3)
+    by device (Wrote len) makes = let made = some_case (slice_get device.in_flight 0) _ makes in (ap (λ (s : State). s.history) made.2.3, ap (λ (s : State). s.tickets) made.2.3)
+    by device NothingInFlight makes = all_same old new makes.1
+    by device _ makes = absurd makes
+
+-- How a step changes the ledger.
+pub data Change (event : Event) (outcome : Outcome) (old new : State) : Type 0 where
+  ledger_stays : SameLedger old new → Change event outcome old new
+  grants : (id page frame : ℕ) (rights : Rights) → GrantsFrame event outcome frame → frame < length old.frames → held_at old.history id page ≡ None → new.history ≡ entries.Granted id page frame rights ∷ old.history → new.tickets ≡ old.tickets → Change event outcome old new
+  releases : (id page : ℕ) → new.history ≡ entries.Released id page new.tickets ∷ old.history → new.tickets ≡ old.tickets + 1 → Change event outcome old new
+  confirms_some : (first n : ℕ) → first + n ≤ old.tickets + 1 → new.history ≡ confirmed_from first n old.history → new.tickets ≡ old.tickets → EachInFlightMay new → Change event outcome old new
+
+unchanged : (event : Event) (outcome : Outcome) (old new : State) → new ≡ old → Change event outcome old new
+unchanged event outcome old new same = Change.ledger_stays (all_same old new same)
+
+pub change-step : (old new : State) (event : Event) (outcome : Outcome) → Step old event outcome new → Change event outcome old new
+change-step old new (events.PlugRaw id) Done (choice, step) = Change.ledger_stays (ap (λ (s : State). s.history) step.1, ap (λ (s : State). s.tickets) step.1)
+change-step old new (events.PlugRaw id) (Refused why) (choice, step) = unchanged _ _ old new step.1
+change-step old new (events.PlugRaw id) _ (choice, step) = absurd step
+change-step old new (events.AttachFirst id) Done (choice, step) =
+    let found = some_case (device_of old id) _ step.2 in Change.ledger_stays (ap (λ (s : State). s.history) found.2, ap (λ (s : State). s.tickets) found.2)
+change-step old new (events.AttachFirst id) (Refused why) (choice, step) = unchanged _ _ old new step.1
+change-step old new (events.AttachFirst id) _ (choice, step) = absurd step
+change-step old new (events.Grant id page frame rights) Done (choice, step) =
+    Change.grants id page frame rights refl (grant_in_memory old id page frame step.0) (grant_finds_nothing old id page frame step.0) (ap (λ (s : State). s.history) step.3) (ap (λ (s : State). s.tickets) step.3)
+change-step old new (events.Grant id page frame rights) (Refused why) (choice, step) = unchanged _ _ old new step.1
+change-step old new (events.Grant id page frame rights) _ (choice, step) = absurd step
+change-step old new (events.Release id page) (Ticket ticket) (choice, step) =
+    let given : new.tickets ≡ ticket = ap (λ (s : State). s.tickets) step.2 in
+    Change.releases id page (ap (λ (s : State). s.history) step.2 ∙ ap (λ t. entries.Released id page t ∷ old.history) (sym given)) (given ∙ step.1)
+change-step old new (events.Release id page) (Refused why) (choice, step) = unchanged _ _ old new step.1
+change-step old new (events.Release id page) _ (choice, step) = absurd step
+change-step old new events.Fetch (Fetched result) (choice, step) = unchanged _ _ old new step
+change-step old new events.Fetch _ (choice, step) = absurd step
+change-step old new events.Poll (Confirmed first last) (choice, step) =
+    let upward : first ≤ last = step.1 in let most : last ≤ old.tickets = step.2 in
+    Change.confirms_some first (suc (last - first)) (omega arith) (ap (λ (s : State). s.history) step.3) (ap (λ (s : State). s.tickets) step.3) step.4
+change-step old new events.Poll NoneConfirmed (choice, step) = unchanged _ _ old new step
+change-step old new events.Poll _ (choice, step) = absurd step
+change-step old new (events.Read id address len) outcome (choice, step) = Change.ledger_stays (same_ledger-requests choice.frame old new id (read_of address len) outcome step)
+change-step old new (events.Write id address bytes) outcome (choice, step) = Change.ledger_stays (same_ledger-requests choice.frame old new id (write_of address bytes) outcome step)
+change-step old new (events.Commit id) outcome (choice, step) = Change.ledger_stays (same_ledger-commits old new id outcome step)
+
+-- a step takes no device's reach from an access in flight
+reaches-change : (event : Event) (outcome : Outcome) (old new : State) → Change event outcome old new → WereGiven old.history old.tickets → AllInFlight (StillMay old.history) new.devices → AllInFlight (StillMay new.history) new.devices
+reaches-change event outcome old new (Change.ledger_stays stays) given all = subst (λ h. AllInFlight (StillMay h) new.devices) (sym stays.0) all
+reaches-change event outcome old new (Change.grants id page frame rights granted low empty extended tickets) given all =
+    subst (λ h. AllInFlight (StillMay h) new.devices) (sym extended)
+    (AllInFlight-weaker (StillMay old.history) _ (λ d flying may. reach_after_grant old.history id page frame rights empty d flying.frame flying.access.kind may) new.devices all)
+reaches-change event outcome old new (Change.releases id page extended next) given all =
+    subst (λ h. AllInFlight (StillMay h) new.devices) (sym extended)
+    (AllInFlight-weaker (StillMay old.history) _ (λ d flying may. reach_after_release old.history id page new.tickets
+        (ap (confirms old.history) next ∙ fresh_ticket old.history old.tickets given) d flying.frame flying.access.kind may) new.devices all)
+reaches-change event outcome old new (Change.confirms_some first n most extended tickets reaches) given all = reaches
+
+-- confirmed tickets were given
+tickets-change : (event : Event) (outcome : Outcome) (old new : State) → Change event outcome old new → WereGiven old.history old.tickets → WereGiven new.history new.tickets
+tickets-change event outcome old new (Change.ledger_stays stays) given = rw (stays.0, stays.1) given
+tickets-change event outcome old new (Change.grants id page frame rights granted low empty extended tickets) given = rw (extended, tickets) given
+tickets-change event outcome old new (Change.releases id page extended next) given =
+    λ t c. let before : confirms old.history t ≡ true = subst (λ h. confirms h t ≡ true) extended c in
+    let below : t ≤ old.tickets = given t before in omega (arith, next)
+tickets-change event outcome old new (Change.confirms_some first n most extended tickets reaches) given =
+    λ t c. let below = confirmed_before first n old.history t (subst (λ h. confirms h t ≡ true) extended c) in
+    subst (λ last. t ≤ last) (sym tickets) (by t below)
+  where
+    by : (t : ℕ) → (t < first + n) ⊎ (confirms old.history t ≡ true) → t ≤ old.tickets
+    by t (inl below) = omega arith
+    by t (inr before) = given t before
+
+-- a frame that may be reached is one of the memory
+in_memory-change : (event : Event) (outcome : Outcome) (old new : State) → Change event outcome old new → length new.frames ≡ length old.frames → AreInMemory old.history (length old.frames)
+    → AreInMemory new.history (length new.frames)
+in_memory-change event outcome old new change size low = subst (λ n. AreInMemory new.history n) (sym size) (by change)
+  where
+    entered : (e : Entry) → ((frame : ℕ) → NamesFrame e frame → frame < length old.frames) → (h : History) → AreInMemory h (length old.frames) → AreInMemory (e ∷ h) (length old.frames)
+    entered e names h before device frame kind may = elim (reach_before e h device frame kind may) [
+      | inl named ↦ names frame named
+      | inr reached ↦ before device frame kind reached
+    ]
+
+    confirmed : (first n : ℕ) → AreInMemory (confirmed_from first n old.history) (length old.frames)
+    confirmed first zero = low
+    confirmed first (suc n) = entered (entries.Confirmed (first + n)) (λ frame named. absurd named) (confirmed_from first n old.history) (confirmed first n)
+
+    by : Change event outcome old new → AreInMemory new.history (length old.frames)
+    by (Change.ledger_stays stays) = subst (λ h. AreInMemory h (length old.frames)) (sym stays.0) low
+    by (Change.grants id page frame rights granted below empty extended tickets) = subst (λ h. AreInMemory h (length old.frames)) (sym extended)
+        (entered (entries.Granted id page frame rights) (λ named same. subst (λ n. n < length old.frames) same below) old.history low)
+    by (Change.releases id page extended next) = subst (λ h. AreInMemory h (length old.frames)) (sym extended)
+        (entered (entries.Released id page new.tickets) (λ frame named. absurd named) old.history low)
+    by (Change.confirms_some first n most extended tickets reaches) = subst (λ h. AreInMemory h (length old.frames)) (sym extended) (confirmed first n)
+
+same_frames-requests : (chosen : ℕ) (old new : State) (id : ℕ) (access : Access) (outcome : Outcome) → Requests chosen old id access outcome new → new.frames ≡ old.frames
+same_frames-requests chosen old new id access outcome step = elim (match_cases (device_of old id) _ _ step) [
+  | inl (none, same) ↦ ap (λ (s : State). s.frames) same.1
+  | inr (device, at, answer) ↦ by device outcome answer.1
+]
+  where
+    by : (device : Device) (outcome : Outcome) → new ≡ answered old device access chosen outcome → new.frames ≡ old.frames
+    by device (Accepted number) same = ap (λ (s : State). s.frames) same
+    by device _ same = ap (λ (s : State). s.frames) same
+
+-- what is kept where a frame gets an owner
+abbrev pub KeptByOwners : (List Frame → Type 0) → Type 0
+KeptByOwners P = (frames : List Frame) (number : ℕ) (owner : Owner) → P frames → P (with_frame frames number (λ frame. record frame { owner = Some owner }))
+
+-- what is kept where a write that is so is made
+abbrev pub KeptByWrites : (InFlight → Type 0) → (List Frame → Type 0) → Type 0
+KeptByWrites W P = (frames : List Frame) (made : InFlight) → W made → made.access.kind ≡ kinds.Write → P frames
+    → P (stored frames made.frame (offset_of made.access) made.access.bytes)
+
+kept-reserved : (P : List Frame → Type 0) → KeptByOwners P → (owner : Owner) (numbers : List ℕ) (frames : List Frame) → P frames → P (reserved_for owner numbers frames)
+kept-reserved P owned owner [] frames its = its
+kept-reserved P owned owner (number ∷ numbers) frames its = kept-reserved P owned owner numbers _ (owned frames number owner its)
+
+frames-commits : (W : InFlight → Type 0) (P : List Frame → Type 0) → KeptByWrites W P → (old new : State) (id : ℕ) (outcome : Outcome) → AllInFlight (λ id flying. W flying) old.devices
+    → Commits old id outcome new → P old.frames → P new.frames
+frames-commits W P written old new id outcome all step its = elim (match_cases (device_of old id) _ _ step) [
+  | inl (none, same) ↦ stay same.1
+  | inr (device, at, makes) ↦ by device at outcome makes
+]
+  where
+    stay : new ≡ old → P new.frames
+    stay same = subst (λ (s : State). P s.frames) (sym same) its
+
+    by : (device : Device) → device_of old id ≡ Some device → (outcome : Outcome) → Makes old device outcome new → P new.frames
+    by device at (Read bytes) makes = let made = some_case (slice_get device.in_flight 0) _ makes in subst (λ (s : State). P s.frames) (sym made.2.3) its
+    by device at (Wrote len) makes =
+        let made = some_case (slice_get device.in_flight 0) _ makes in
+        let fact = All-at W device.in_flight 0 made.0 (AllInFlight-of (λ id flying. W flying) old.devices id device at all) made.1 in
+        subst (λ (s : State). P s.frames) (sym made.2.3) (written old.frames made.0 fact made.2.0 its)
+    by device at NothingInFlight makes = stay makes.1
+    by device at _ makes = absurd makes
+
+-- A step keeps what reserving frames keeps, and making the writes in flight.
+pub frames-step : (W : InFlight → Type 0) (P : List Frame → Type 0) → KeptByOwners P → KeptByWrites W P
+    → (old new : State) (event : Event) (outcome : Outcome) → AllInFlight (λ id flying. W flying) old.devices → Step old event outcome new → P old.frames → P new.frames
+frames-step W P owned written old new (events.PlugRaw id) Done all (choice, step) its = subst P (sym (ap (λ (s : State). s.frames) step.1)) its
+frames-step W P owned written old new (events.PlugRaw id) (Refused why) all (choice, step) its = subst P (sym (ap (λ (s : State). s.frames) step.1)) its
+frames-step W P owned written old new (events.PlugRaw id) _ all (choice, step) its = absurd step
+frames-step W P owned written old new (events.AttachFirst id) Done all (choice, step) its =
+    let found = some_case (device_of old id) _ step.2 in
+    subst P (sym (ap (λ (s : State). s.frames) found.2)) (kept-reserved P owned (OneDevice id) choice.taken old.frames its)
+frames-step W P owned written old new (events.AttachFirst id) (Refused why) all (choice, step) its = subst P (sym (ap (λ (s : State). s.frames) step.1)) its
+frames-step W P owned written old new (events.AttachFirst id) _ all (choice, step) its = absurd step
+frames-step W P owned written old new (events.Grant id page frame rights) Done all (choice, step) its =
+    subst P (sym (ap (λ (s : State). s.frames) step.3)) (kept-reserved P owned (OneDevice id) choice.taken old.frames its)
+frames-step W P owned written old new (events.Grant id page frame rights) (Refused why) all (choice, step) its = subst P (sym (ap (λ (s : State). s.frames) step.1)) its
+frames-step W P owned written old new (events.Grant id page frame rights) _ all (choice, step) its = absurd step
+frames-step W P owned written old new (events.Release id page) (Ticket ticket) all (choice, step) its = subst P (sym (ap (λ (s : State). s.frames) step.2)) its
+frames-step W P owned written old new (events.Release id page) (Refused why) all (choice, step) its = subst P (sym (ap (λ (s : State). s.frames) step.1)) its
+frames-step W P owned written old new (events.Release id page) _ all (choice, step) its = absurd step
+frames-step W P owned written old new events.Fetch (Fetched result) all (choice, step) its = subst P (sym (ap (λ (s : State). s.frames) step)) its
+frames-step W P owned written old new events.Fetch _ all (choice, step) its = absurd step
+frames-step W P owned written old new events.Poll (Confirmed first last) all (choice, step) its = subst P (sym (ap (λ (s : State). s.frames) step.3)) its
+frames-step W P owned written old new events.Poll NoneConfirmed all (choice, step) its = subst P (sym (ap (λ (s : State). s.frames) step)) its
+frames-step W P owned written old new events.Poll _ all (choice, step) its = absurd step
+frames-step W P owned written old new (events.Read id address len) outcome all (choice, step) its = subst P (sym (same_frames-requests choice.frame old new id (read_of address len) outcome step)) its
+frames-step W P owned written old new (events.Write id address bytes) outcome all (choice, step) its = subst P (sym (same_frames-requests choice.frame old new id (write_of address bytes) outcome step)) its
+frames-step W P owned written old new (events.Commit id) outcome all (choice, step) its = frames-commits W P written old new id outcome all step its
+
+-- a write within its page keeps the length of a frame
+whole-stored : KeptByWrites (IsWhole 0) AreWholeFrames
+whole-stored frames made whole write all = All-with_frame (λ (f : Frame). length f.bytes ≡ 4096) frames made.frame
+    (λ frame. record frame { bytes = written frame.bytes (offset_of made.access) made.access.bytes })
+    (λ frame long. length-written frame.bytes (offset_of made.access) made.access.bytes
+        (subst (λ n. offset_of made.access + n ≤ length frame.bytes) (sym (whole.1 write)) (subst (λ n. offset_of made.access + made.access.len ≤ n) (sym long) whole.0.1)) ∙ long) all
+
+length-with_frame : (frames : List Frame) (number : ℕ) (change : Frame → Frame) → length (with_frame frames number change) ≡ length frames
+length-with_frame frames number change = by (slice_get frames number)
+  where
+    by : (found : Option Frame) → length (option_map_or (λ frame. slice_set frames number (change frame)) found frames) ≡ length frames
+    by None = refl
+    by (Some frame) = grind (arith, common_steps)
+
+all_so : {X : Type 0} (xs : List X) → All (λ x. Unit {0}) xs
+all_so xs k d below = tt
+
+-- A step keeps the number of frames.
+pub same_size-step : (old new : State) (event : Event) (outcome : Outcome) → Step old event outcome new → length new.frames ≡ length old.frames
+same_size-step old new event outcome step =
+    frames-step (λ flying. Unit {0}) (λ frames. length frames ≡ length old.frames)
+    (λ frames number owner same. length-with_frame frames number (λ frame. record frame { owner = Some owner }) ∙ same)
+    (λ frames made fact write same. length-with_frame frames made.frame (λ frame. record frame { bytes = written frame.bytes (offset_of made.access) made.access.bytes }) ∙ same)
+    old new event outcome (λ k d below. all_so _) step refl
+
+-- an access that is asked for names as many bytes as it has
+named_bytes : (event : Event) (outcome : Outcome) (id : ℕ) (access : Access) → IsAccepted event outcome id access → access.kind ≡ kinds.Write → length access.bytes ≡ access.len
+named_bytes event (Accepted number) id access accepted write = by event accepted
+  where
+    by : (event : Event) → AsksFor event id access → length access.bytes ≡ access.len
+    by (events.Read d address len) asks = let same : kinds.Read ≡ kinds.Write = sym (ap (λ (a : Access). a.kind) asks.1) ∙ write in cc
+    by (events.Write d address bytes) asks = subst (λ (a : Access). length a.bytes ≡ a.len) (sym asks.1) refl
+    by _ asks = absurd asks
+named_bytes event _ id access accepted write = absurd accepted
+
+pub sound-step : (old new : State) (event : Event) (outcome : Outcome) → IsSound old → Step old event outcome new → IsSound new
+sound-step old new event outcome sound step =
+    let change = change-step old new event outcome step in
+    record {
+      reaches = reaches-change event outcome old new change sound.tickets (in_flight-step (StillMay old.history) old new event outcome step (λ id flying accepted within may. may) sound.reaches);
+      whole = in_flight-step IsWhole old new event outcome step (λ id flying accepted within may. (within, named_bytes event outcome id flying.access accepted)) sound.whole;
+      tickets = tickets-change event outcome old new change sound.tickets;
+      frames = frames-step (IsWhole 0) AreWholeFrames
+          (λ frames number owner all. All-with_frame (λ (f : Frame). length f.bytes ≡ 4096) frames number (λ frame. record frame { owner = Some owner }) (λ frame its. its) all)
+          whole-stored old new event outcome sound.whole step sound.frames;
+      in_memory = in_memory-change event outcome old new change (same_size-step old new event outcome step) sound.in_memory;
+    }
+
+pub sound-run : (old new : State) (events : List Event) (outcomes : List Outcome) → IsSound old → Run old events outcomes new → IsSound new
+sound-run old new [] [] sound run = subst IsSound (sym run) sound
+sound-run old new (event ∷ events) (outcome ∷ outcomes) sound (mid, step, run) = sound-run mid new events outcomes (sound-step old mid event outcome sound step) run
+sound-run old new [] (outcome ∷ outcomes) sound run = absurd run
+sound-run old new (event ∷ events) [] sound run = absurd run
+
+-- where nothing is granted nothing is reached
+never_before : (device frame : ℕ) (kind : AccessKind) → ¬ May [] device frame kind
+never_before device frame kind (page, rights, inl holds, allowed) = let none : ◌≡◌ {A = Option Pair} None (Some (frame, rights)) = holds in cc
+never_before device frame kind (page, rights, inr (ticket, (k, below, at)), allowed) = omega arith
+
+pub sound-opening : (frames levels : ℕ) → IsSound (opening frames levels)
+sound-opening frames levels = record {
+  reaches = All-nil (λ (d : Device). All (StillMay [] d.id) d.in_flight);
+  whole = All-nil (λ (d : Device). All (IsWhole d.id) d.in_flight);
+  tickets = λ t c. cc;
+  in_memory = λ device frame kind may. absurd (never_before device frame kind may);
+  frames = All-reserved (λ bytes. length bytes ≡ 4096) System ((frames - 4) ∷ (frames - 3) ∷ (frames - 2) ∷ (frames - 1) ∷ []) (replicate frames empty_frame)
+      (All-replicate (λ (f : Frame). length f.bytes ≡ 4096) frames empty_frame (length-replicate {A = ℕ} 4096 0));
+}
+
+-- every state that is reached is sound
+pub sound_if_reached : (state : State) → IsReached state → IsSound state
+sound_if_reached state (events, outcomes, (frames, levels, run)) = sound-run (opening frames levels) state events outcomes (sound-opening frames levels) run
+
+-- what is in flight was in flight before, or was accepted since
+accepted-run : (P : ℕ → InFlight → Type 0) (old new : State) (events : List Event) (outcomes : List Outcome) → Run old events outcomes new → AllInFlight P old.devices
+    → AllInFlight (λ id flying. P id flying ⊎ WasAccepted events outcomes id flying.access) new.devices
+accepted-run P old new [] [] run all = AllInFlight-weaker P (λ id flying. P id flying ⊎ ⊥) (λ id flying its. inl its) new.devices (subst (λ (s : State). AllInFlight P s.devices) (sym run) all)
+accepted-run P old new (event ∷ events) (outcome ∷ outcomes) (mid, step, run) all =
+    let entered = in_flight-step (λ id flying. P id flying ⊎ IsAccepted event outcome id flying.access) old mid event outcome step
+        (λ id flying accepted within may. inr accepted) (AllInFlight-weaker P (λ id flying. P id flying ⊎ IsAccepted event outcome id flying.access) (λ id flying its. inl its) old.devices all) in
+    AllInFlight-weaker (λ id flying. (P id flying ⊎ IsAccepted event outcome id flying.access) ⊎ WasAccepted events outcomes id flying.access)
+    (λ id flying. P id flying ⊎ WasAccepted (event ∷ events) (outcome ∷ outcomes) id flying.access) (λ id flying found. by id flying found) new.devices
+    (accepted-run (λ id flying. P id flying ⊎ IsAccepted event outcome id flying.access) mid new events outcomes run entered)
+  where
+    by : (id : ℕ) (flying : InFlight) → (P id flying ⊎ IsAccepted event outcome id flying.access) ⊎ WasAccepted events outcomes id flying.access
+        → P id flying ⊎ WasAccepted (event ∷ events) (outcome ∷ outcomes) id flying.access
+    by id flying (inl (inl before)) = inl before
+    by id flying (inl (inr now)) = inr (inl now)
+    by id flying (inr later) = inr (inr later)
+accepted-run P old new [] (outcome ∷ outcomes) run all = absurd run
+accepted-run P old new (event ∷ events) [] run all = absurd run
+
+pub in_flight_was_accepted : (state : State) (events : List Event) (outcomes : List Outcome) → IsReachedBy events outcomes state
+    → AllInFlight (λ id flying. WasAccepted events outcomes id flying.access) state.devices
+in_flight_was_accepted state events outcomes (frames, levels, run) =
+    AllInFlight-weaker (λ id flying. ⊥ ⊎ WasAccepted events outcomes id flying.access) (λ id flying. WasAccepted events outcomes id flying.access) (λ id flying found. by id flying found) state.devices
+    (accepted-run (λ id flying. ⊥) (opening frames levels) state events outcomes run (All-nil (λ (d : Device). All (λ flying. ⊥) d.in_flight)))
+  where
+    by : (id : ℕ) (flying : InFlight) → ⊥ ⊎ WasAccepted events outcomes id flying.access → WasAccepted events outcomes id flying.access
+    by id flying (inl never) = absurd never
+    by id flying (inr found) = found

@@ -1,0 +1,128 @@
+-- After any list of events from power-on: what a made access touched, what was accepted and on which frame, and what no device touched.
+use Rattle.std.specs.Prelude.{◌≡◌, ◌≢◌, ℕ, ◌+◌, ◌<◌, ◌≤◌, ◌⊎◌, Bool, List, ◌∷◌, length, All, Option, Some, slice_get, ⊤}
+use Rattle.iom_base.specs.declared.access.AccessKind.TheVariants as kinds
+use Rattle.iom_ledger.specs.History.{May}
+use Rattle.iom_machine.specs.declared.event.Event.{Event}
+use Rattle.iom_machine.specs.declared.event.Event.TheVariants as events
+use Rattle.iom_machine.specs.declared.outcome.Outcome.{Outcome}
+use Rattle.iom_machine.specs.declared.outcome.Outcome.TheVariants.{Done, Accepted, Read, Wrote}
+use Rattle.iom_machine.specs.declared.state.Access.{Access}
+use Rattle.iom_machine.specs.declared.state.Attachment.TheVariants.{Attached}
+use Rattle.iom_machine.specs.declared.state.Device.{Device}
+use Rattle.iom_machine.specs.declared.state.DeviceKind.TheVariants.{Raw}
+use Rattle.iom_machine.specs.declared.state.Frame.{Frame}
+use Rattle.iom_machine.specs.declared.state.InFlight.{InFlight}
+use Rattle.iom_machine.specs.declared.state.Mode.TheVariants.{First, Second}
+use Rattle.iom_machine.specs.declared.state.State.{State}
+use Rattle.iom_machine.specs.Frames.{IsFree, bytes_of}
+use Rattle.iom_machine.specs.Devices.{IsPlugged, EachInFlightMay}
+use Rattle.iom_machine.specs.Requests.{read_of, write_of, offset_of, IsWithinPage, IsBusy, HoldsFor, with_accepted}
+use Rattle.iom_machine.specs.Machine.{Step, Run, opening}
+
+-- these events from power-on may have had these outcomes, and left the state
+abbrev pub IsReachedBy : List Event → List Outcome → State → Type 0
+IsReachedBy events outcomes state = (frames levels : ℕ) × Run (opening frames levels) events outcomes state
+
+-- some list of events from power-on leaves the state
+abbrev pub IsReached : State → Type 0
+IsReached state = (events : List Event) × (outcomes : List Outcome) × IsReachedBy events outcomes state
+
+-- the byte of a frame at an offset
+abbrev pub byte_at : List Frame → ℕ → ℕ → Option ℕ
+byte_at frames frame offset = slice_get (bytes_of frames frame) offset
+
+-- the access is the device's oldest in flight, which a commit makes
+abbrev pub IsOldest : State → ℕ → InFlight → Type 0
+IsOldest state id flying =
+    (device : Device) × IsPlugged state id device × (slice_get device.in_flight 0 ≡ Some flying)
+
+-- the place is none of those that the access names
+abbrev pub IsOutside : InFlight → ℕ → ℕ → Type 0
+IsOutside made frame offset =
+    (frame ≢ made.frame) ⊎ (offset < offset_of made.access) ⊎ (offset_of made.access + made.access.len ≤ offset)
+
+-- the bytes are those that the access names
+abbrev pub AreNamedBytes : List Frame → InFlight → List ℕ → Type 0
+AreNamedBytes frames made bytes =
+    (length bytes ≡ made.access.len)
+    × ((k : ℕ) → k < made.access.len → slice_get bytes k ≡ byte_at frames made.frame (offset_of made.access + k))
+
+-- A read that is made gives exactly its named bytes, and changes none; a write changes exactly its named bytes, to its own. Both of a frame that the device may reach then.
+abbrev pub TouchesItsOwn : State → ℕ → Outcome → State → Type 0
+TouchesItsOwn old id (Read bytes) new =
+    (made : InFlight) × IsOldest old id made × May old.history id made.frame kinds.Read
+    × AreNamedBytes old.frames made bytes.items × (new.frames ≡ old.frames)
+TouchesItsOwn old id (Wrote len) new =
+    (made : InFlight) × IsOldest old id made × May old.history id made.frame kinds.Write
+    × (len ≡ made.access.len) × AreNamedBytes new.frames made made.access.bytes
+    × ((frame offset : ℕ) → IsOutside made frame offset → byte_at new.frames frame offset ≡ byte_at old.frames frame offset)
+TouchesItsOwn old id _ new = new.frames ≡ old.frames
+
+-- the event asks for this access of this device
+abbrev pub AsksFor : Event → ℕ → Access → Type 0
+AsksFor (events.Read d address len) id access = (d ≡ id) × (access ≡ read_of address len)
+AsksFor (events.Write d address bytes) id access = (d ≡ id) × (access ≡ write_of address bytes)
+AsksFor _ id access = ⊥
+
+-- the event asked for the access, and was answered that it is accepted
+abbrev pub IsAccepted : Event → Outcome → ℕ → Access → Type 0
+IsAccepted event (Accepted number) id access = AsksFor event id access
+IsAccepted event _ id access = ⊥
+
+-- one of the events did
+abbrev pub WasAccepted : List Event → List Outcome → ℕ → Access → Type 0
+WasAccepted (event ∷ events) (outcome ∷ outcomes) id access =
+    IsAccepted event outcome id access ⊎ WasAccepted events outcomes id access
+WasAccepted _ _ id access = ⊥
+
+-- attached in one stage, with ATS or without
+abbrev pub IsOneStage : Device → Type 0
+IsOneStage device = (ats : Bool) × ((device.attachment ≡ Attached First ats) ⊎ (device.attachment ≡ Attached Second ats))
+
+-- the event grants the frame to a device
+abbrev pub GrantsFrame : Event → Outcome → ℕ → Type 0
+GrantsFrame (events.Grant id page named rights) Done frame = named ≡ frame
+GrantsFrame _ _ frame = ⊥
+
+-- none of the events does
+abbrev pub NoneGrants : List Event → List Outcome → ℕ → Type 0
+NoneGrants (event ∷ events) (outcome ∷ outcomes) frame = (¬ GrantsFrame event outcome frame) × NoneGrants events outcomes frame
+NoneGrants _ _ frame = ⊤
+
+-- the event makes an access to the frame
+abbrev pub TouchesFrame : State → Event → Outcome → ℕ → Type 0
+TouchesFrame old (events.Commit id) (Read bytes) frame = (made : InFlight) × IsOldest old id made × (made.frame ≡ frame)
+TouchesFrame old (events.Commit id) (Wrote len) frame = (made : InFlight) × IsOldest old id made × (made.frame ≡ frame)
+TouchesFrame old _ _ frame = ⊥
+
+-- Every access made touches exactly its named bytes, in a frame that the history then shows held by that device with that right, or released by it so and unconfirmed.
+abbrev pub MadeAccessesTouchTheirOwn : Type 0
+MadeAccessesTouchTheirOwn =
+    (old new : State) (id : ℕ) (outcome : Outcome)
+    → IsReached old → Step old (events.Commit id) outcome new → TouchesItsOwn old id outcome new
+
+-- A raw device that is attached in one stage has each access to a page that it so holds accepted, on that very frame.
+abbrev pub HeldPagesAreAccepted : Type 0
+HeldPagesAreAccepted =
+    (old new : State) (event : Event) (outcome : Outcome) (id frame : ℕ) (device : Device) (access : Access)
+    → IsReached old → Step old event outcome new → AsksFor event id access
+    → IsPlugged old id device → device.kind ≡ Raw → IsOneStage device
+    → IsWithinPage access → ¬ IsBusy device → HoldsFor old.history id access frame
+    → (outcome ≡ Accepted (device.accepted + 1)) × (new ≡ with_accepted old device access frame)
+
+-- A frame that is free is touched by no device until it is granted again.
+abbrev pub FreeFramesAreNotTouched : Type 0
+FreeFramesAreNotTouched =
+    (free old new : State) (frame : ℕ) (events : List Event) (outcomes : List Outcome) (event : Event) (outcome : Outcome)
+    → IsReached free → IsFree free frame → Run free events outcomes old → NoneGrants events outcomes frame
+    → Step old event outcome new → ¬ TouchesFrame old event outcome frame
+
+-- Every access in flight may still reach its frame.
+abbrev pub AccessesInFlightMay : Type 0
+AccessesInFlightMay = (state : State) → IsReached state → EachInFlightMay state
+
+-- Every access in flight was asked for by an earlier event of its device, with that address, length and bytes, and accepted.
+abbrev pub AccessesInFlightWereAccepted : Type 0
+AccessesInFlightWereAccepted =
+    (state : State) (events : List Event) (outcomes : List Outcome) → IsReachedBy events outcomes state
+    → All (λ device. All (λ flying. WasAccepted events outcomes device.id flying.access) device.in_flight) state.devices

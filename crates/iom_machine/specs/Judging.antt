@@ -1,0 +1,66 @@
+-- What the judge looks for in a history, in the devices and in the frames.
+use Rattle.std.specs.Prelude.{nat_eq, All, Contains, ◌≡◌, ◌≢◌, ◌<◌, length, find, slice_get, slice_set, ℕ, Bool, false, not, ◌==◌, ◌&&◌, ◌||◌, List, [], ◌∷◌, Option, MatchOption, ⊤}
+use Rattle.std.specs.List.{list_any, IsDistinct}
+use Rattle.std.specs.Option.{option_map_or}
+use Rattle.iom_base.specs.declared.access.AccessKind.{AccessKind}
+use Rattle.iom_base.specs.declared.access.AccessKind.TheVariants.{Read}
+use Rattle.iom_base.specs.Rights.{allows}
+use Rattle.iom_ledger.specs.declared.entry.Entry.TheVariants.{Granted, Released, AllReleased, Confirmed}
+use Rattle.iom_ledger.specs.History.{History, Pair, held_at, released_at, confirms}
+use Rattle.iom_machine.specs.declared.state.Device.{Device}
+use Rattle.iom_machine.specs.declared.state.State.{State}
+use Rattle.iom_machine.specs.Devices.{replaced_device}
+use Rattle.iom_machine.specs.Frames.{IsFree}
+
+-- whether the pair is on the frame, with a right that allows the kind
+abbrev pub serves : ℕ → AccessKind → Pair → Bool
+serves frame kind pair = (pair.0 == frame) && allows pair.1 kind
+
+-- whether the device holds the frame at the page, with such a right
+abbrev pub holds_for : History → ℕ → ℕ → AccessKind → ℕ → Bool
+holds_for history device page kind frame = option_map_or (serves frame kind) (held_at history device page) false
+
+-- whether the released pair serves, and its ticket isn't confirmed
+abbrev pub is_waiting : History → ℕ → AccessKind → ℕ × Pair → Bool
+is_waiting history frame kind released = not (confirms history released.0) && serves frame kind released.1
+
+-- whether the frame lingers at the page by these entries of the whole history, with such a right
+abbrev pub lingers_for : History → History → ℕ → ℕ → AccessKind → ℕ → Bool
+lingers_for all history device page kind frame = list_any (is_waiting all frame kind) (released_at history device page)
+
+-- whether the device reaches the frame at one of the pages that these entries grant
+abbrev pub reaches_in : History → History → ℕ → ℕ → AccessKind → Bool
+reaches_in all [] device frame kind = false
+reaches_in all (Granted d page f rights ∷ before) device frame kind =
+    holds_for all device page kind frame || lingers_for all all device page kind frame || reaches_in all before device frame kind
+reaches_in all (Released d page ticket ∷ before) device frame kind = reaches_in all before device frame kind
+reaches_in all (AllReleased d ticket ∷ before) device frame kind = reaches_in all before device frame kind
+reaches_in all (Confirmed ticket ∷ before) device frame kind = reaches_in all before device frame kind
+
+-- whether a device to which these entries grant anything reaches the frame
+abbrev pub anyone_reaches_in : History → History → ℕ → Bool
+anyone_reaches_in all [] frame = false
+anyone_reaches_in all (Granted d page f rights ∷ before) frame = reaches_in all all d frame Read || anyone_reaches_in all before frame
+anyone_reaches_in all (Released d page ticket ∷ before) frame = anyone_reaches_in all before frame
+anyone_reaches_in all (AllReleased d ticket ∷ before) frame = anyone_reaches_in all before frame
+anyone_reaches_in all (Confirmed ticket ∷ before) frame = anyone_reaches_in all before frame
+
+-- the device with this id is the one at this place
+abbrev pub IsPlaceOf : List Device → ℕ → ℕ → Type 0
+IsPlaceOf devices id place =
+    (place < length devices) × (find (λ device. device.id == id) devices ≡ slice_get devices place)
+    × ((now : Device) → replaced_device devices id now ≡ slice_set devices place now)
+
+-- the frame is free, and isn't the one that is named, if one is
+abbrev pub IsFreeBesides : State → Option ℕ → ℕ → Type 0
+IsFreeBesides state named number = IsFree state number × MatchOption named ⊤ (λ it. number ≢ it)
+
+-- the list has each number below n of this sort, once, and no others
+abbrev pub ListsAll : List ℕ → ℕ → (ℕ → Type 0) → Type 0
+ListsAll found n IsOfSort =
+    IsDistinct nat_eq found × All (λ number. (number < n) × IsOfSort number) found
+    × ((number : ℕ) → number < n → IsOfSort number → Contains found number)
+
+-- so many numbers below n are of this sort
+abbrev pub CountsAll : ℕ → ℕ → (ℕ → Type 0) → Type 0
+CountsAll count n IsOfSort = (found : List ℕ) × ListsAll found n IsOfSort × (length found ≡ count)

@@ -1,0 +1,172 @@
+-- The ledger machine: what may come of each event, and the state after it.
+use Rattle.std.specs.Prelude.{◌≡◌, ◌≢◌, ℕ, ◌+◌, ◌-◌, ◌≤◌, ◌⊎◌, Bool, false, List, [], ◌∷◌, ◌++◌, All, None, MatchOption, IsSomeAnd, slice_get, slice_range, drop, replicate, ⊤}
+use Rattle.iom_base.specs.declared.access.AccessKind.TheVariants as kinds
+use Rattle.iom_base.specs.declared.rights.Rights.{Rights}
+use Rattle.iom_base.specs.Rights.{r, rw}
+use Rattle.iom_ledger.specs.declared.entry.Entry.TheVariants as entry
+use Rattle.iom_ledger.specs.declared.refusal.Refusal.TheVariants.{NoSuchDevice}
+use Rattle.iom_ledger.specs.History.{May}
+use Rattle.iom_machine.specs.declared.choice.Choice.{Choice}
+use Rattle.iom_machine.specs.declared.event.Event.{Event}
+use Rattle.iom_machine.specs.declared.event.Event.TheVariants as events
+use Rattle.iom_machine.specs.declared.outcome.Outcome.{Outcome}
+use Rattle.iom_machine.specs.declared.outcome.Outcome.TheVariants.{Done, Refused, Ticket, Confirmed, NoneConfirmed, Fetched, Read, Wrote, NothingInFlight}
+use Rattle.iom_machine.specs.declared.state.Access.{Access}
+use Rattle.iom_machine.specs.declared.state.Attachment.TheVariants.{Detached, Attached}
+use Rattle.iom_machine.specs.declared.state.Device.{Device}
+use Rattle.iom_machine.specs.declared.state.DeviceKind.{DeviceKind}
+use Rattle.iom_machine.specs.declared.state.DeviceKind.TheVariants.{Raw}
+use Rattle.iom_machine.specs.declared.state.Frame.{Frame}
+use Rattle.iom_machine.specs.declared.state.Mode.{Mode}
+use Rattle.iom_machine.specs.declared.state.Mode.TheVariants.{First}
+use Rattle.iom_machine.specs.declared.state.Owner.TheVariants.{System, OneDevice}
+use Rattle.iom_machine.specs.declared.state.State.{State}
+use Rattle.iom_machine.specs.Frames.{IsFree, reserved_for, bytes_of, stored}
+use Rattle.iom_machine.specs.Devices.{device_of, with_device, EachInFlightMay}
+use Rattle.iom_machine.specs.Tickets.{last_confirmed, with_confirmed}
+use Rattle.iom_machine.specs.Refusals.{NoneApplies, IsRefusedBy, MayRefusePlug, MayRefuseAttach, MayRefuseGrant, MayRefuseRelease, plug_reasons, attach_reasons, grant_reasons, release_reasons}
+use Rattle.iom_machine.specs.Requests.{read_of, write_of, offset_of, MayAnswer, answered}
+
+-- the right is one of the two that are granted
+abbrev pub IsGrantable : Rights → Type 0
+IsGrantable rights = (rights ≡ r) ⊎ (rights ≡ rw)
+
+-- the event can come: a right that is to be granted is R or RW
+abbrev pub IsEvent : Event → Type 0
+IsEvent (events.Grant id page frame rights) = IsGrantable rights
+IsEvent _ = ⊤
+
+-- a device as it is plugged in: detached, with nothing in flight
+abbrev pub plugged_device : ℕ → DeviceKind → Device
+plugged_device id kind = record { id = id; kind = kind; attachment = Detached; accepted = 0; in_flight = [] }
+
+-- A device is plugged in.
+abbrev pub Plugs : State → ℕ → DeviceKind → Outcome → State → Type 0
+Plugs old id kind Done new =
+    NoneApplies (plug_reasons old id)
+    × (new ≡ record old { devices = old.devices ++ plugged_device id kind ∷ [] })
+Plugs old id kind (Refused why) new = IsRefusedBy (plug_reasons old id) MayRefusePlug why × (new ≡ old)
+Plugs old id kind _ new = ⊥
+
+-- A device is attached. Some free frames become its tables.
+abbrev pub Attaches : List ℕ → State → ℕ → Mode → Bool → Outcome → State → Type 0
+Attaches taken old id mode ats Done new =
+    NoneApplies (attach_reasons old id ats) × All (IsFree old) taken
+    × IsSomeAnd (device_of old id) (λ device.
+    new ≡ record (with_device old (record device { attachment = Attached mode ats })) {
+      frames = reserved_for (OneDevice id) taken old.frames;
+    })
+Attaches taken old id mode ats (Refused why) new =
+    IsRefusedBy (attach_reasons old id ats) (MayRefuseAttach old mode) why × (new ≡ old)
+Attaches taken old id mode ats _ new = ⊥
+
+-- A device gets a frame at a page. Some other free frames become its tables.
+abbrev pub Grants : List ℕ → State → ℕ → ℕ → ℕ → Rights → Outcome → State → Type 0
+Grants taken old id page frame rights Done new =
+    NoneApplies (grant_reasons old id page frame) × IsGrantable rights
+    × All (λ number. IsFree old number × (number ≢ frame)) taken
+    × (new ≡ record old {
+      history = entry.Granted id page frame rights ∷ old.history;
+      frames = reserved_for (OneDevice id) taken old.frames;
+    })
+Grants taken old id page frame rights (Refused why) new =
+    IsRefusedBy (grant_reasons old id page frame) (MayRefuseGrant old frame) why × (new ≡ old)
+Grants taken old id page frame rights _ new = ⊥
+
+-- What the device holds at a page is released, under the next ticket.
+abbrev pub Releases : State → ℕ → ℕ → Outcome → State → Type 0
+Releases old id page (Ticket ticket) new =
+    NoneApplies (release_reasons old id page) × (ticket ≡ old.tickets + 1)
+    × (new ≡ record old { history = entry.Released id page ticket ∷ old.history; tickets = ticket })
+Releases old id page (Refused why) new =
+    IsRefusedBy (release_reasons old id page) MayRefuseRelease why × (new ≡ old)
+Releases old id page _ new = ⊥
+
+-- The IOMMU takes a command, or none. Nothing changes that the machine knows.
+abbrev pub Fetches : State → Outcome → State → Type 0
+Fetches old (Fetched result) new = new ≡ old
+Fetches old _ new = ⊥
+
+-- Some of the oldest tickets that wait are confirmed, such that each access in flight may still reach its frame; or none is.
+abbrev pub Polls : State → Outcome → State → Type 0
+Polls old (Confirmed first last) new =
+    (first ≡ last_confirmed old.history + 1) × (first ≤ last) × (last ≤ old.tickets)
+    × (new ≡ with_confirmed old first last) × EachInFlightMay new
+Polls old NoneConfirmed new = new ≡ old
+Polls old _ new = ⊥
+
+-- A device acts; one that isn't plugged in is refused.
+abbrev pub Acts : (Device → Type 0) → State → ℕ → Outcome → State → Type 0
+Acts IfPlugged old id outcome new =
+    MatchOption (device_of old id) ((outcome ≡ Refused NoSuchDevice) × (new ≡ old)) IfPlugged
+
+-- A device asks for an access. Where it is accepted, that is on the frame.
+abbrev pub Requests : ℕ → State → ℕ → Access → Outcome → State → Type 0
+Requests frame old id access outcome new = Acts (λ device.
+    MayAnswer old device access frame outcome × (new ≡ answered old device access frame outcome)) old id outcome new
+
+-- the state, where the oldest access of the device is in flight no more
+abbrev pub with_oldest_made : State → Device → State
+with_oldest_made state device = with_device state (record device { in_flight = drop 1 device.in_flight })
+
+-- The oldest access of a plugged device in flight is made, on its frame, which the device may still reach.
+abbrev pub Makes : State → Device → Outcome → State → Type 0
+Makes old device (Read bytes) new = IsSomeAnd (slice_get device.in_flight 0) (λ made.
+    (made.access.kind ≡ kinds.Read) × May old.history device.id made.frame kinds.Read
+    × (bytes.items ≡ slice_range (bytes_of old.frames made.frame) (offset_of made.access) (offset_of made.access + made.access.len))
+    × (new ≡ with_oldest_made old device))
+Makes old device (Wrote len) new = IsSomeAnd (slice_get device.in_flight 0) (λ made.
+    (made.access.kind ≡ kinds.Write) × May old.history device.id made.frame kinds.Write
+    × (len ≡ made.access.len)
+    × (new ≡ record (with_oldest_made old device) {
+      frames = stored old.frames made.frame (offset_of made.access) made.access.bytes;
+    }))
+Makes old device NothingInFlight new = (device.in_flight ≡ []) × (new ≡ old)
+Makes old device _ new = ⊥
+
+-- The oldest accepted access of a device is made.
+abbrev pub Commits : State → ℕ → Outcome → State → Type 0
+Commits old id outcome new = Acts (λ device. Makes old device outcome new) old id outcome new
+
+-- The event may have this outcome, and leave this state, where what the outcome doesn't show is chosen so.
+abbrev pub ChosenStep : Choice → State → Event → Outcome → State → Type 0
+ChosenStep choice old (events.PlugRaw id) outcome new = Plugs old id Raw outcome new
+ChosenStep choice old (events.AttachFirst id) outcome new = Attaches choice.taken old id First false outcome new
+ChosenStep choice old (events.Grant id page frame rights) outcome new = Grants choice.taken old id page frame rights outcome new
+ChosenStep choice old (events.Release id page) outcome new = Releases old id page outcome new
+ChosenStep choice old events.Fetch outcome new = Fetches old outcome new
+ChosenStep choice old events.Poll outcome new = Polls old outcome new
+ChosenStep choice old (events.Read id address len) outcome new = Requests choice.frame old id (read_of address len) outcome new
+ChosenStep choice old (events.Write id address bytes) outcome new = Requests choice.frame old id (write_of address bytes) outcome new
+ChosenStep choice old (events.Commit id) outcome new = Commits old id outcome new
+
+-- The event may have this outcome, and leave this state.
+abbrev pub Step : State → Event → Outcome → State → Type 0
+Step old event outcome new = (choice : Choice) × ChosenStep choice old event outcome new
+
+-- These events may have these outcomes, one after another, and leave this state, where it is chosen so.
+abbrev pub ChosenRun : List Choice → State → List Event → List Outcome → State → Type 0
+ChosenRun [] old [] [] new = new ≡ old
+ChosenRun (choice ∷ choices) old (event ∷ events) (outcome ∷ outcomes) new =
+    (mid : State) × ChosenStep choice old event outcome mid × ChosenRun choices mid events outcomes new
+ChosenRun _ old _ _ new = ⊥
+
+-- These events may have these outcomes, one after another, and leave this state.
+abbrev pub Run : State → List Event → List Outcome → State → Type 0
+Run old [] [] new = new ≡ old
+Run old (event ∷ events) (outcome ∷ outcomes) new = (mid : State) × Step old event outcome mid × Run mid events outcomes new
+Run old _ _ new = ⊥
+
+-- a frame of zeros that belongs to nobody
+abbrev pub empty_frame : Frame
+empty_frame = record { owner = None; bytes = replicate 4096 0 }
+
+-- Power-on, with so many frames and levels of the device directory: nothing is granted or plugged in, all bytes are zero, and the last four frames are the system's.
+abbrev pub opening : ℕ → ℕ → State
+opening frames levels = record {
+  levels = levels;
+  frames = reserved_for System ((frames - 4) ∷ (frames - 3) ∷ (frames - 2) ∷ (frames - 1) ∷ []) (replicate frames empty_frame);
+  history = [];
+  tickets = 0;
+  devices = [];
+}

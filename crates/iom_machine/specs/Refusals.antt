@@ -1,0 +1,149 @@
+-- Why a call of the driver is refused: the first reason that applies, in the order of its list.
+use Rattle.std.specs.Prelude.{◌≡◌, ◌≢◌, ℕ, ◌^◌, Bool, true, false, not, ◌==◌, ◌&&◌, ◌||◌, nat_le, List, [], ◌∷◌, length, Option, None, Some, is_some, MatchOption, if◌then◌else◌, ⊤}
+use Rattle.std.specs.Option.{option_map_or}
+use Rattle.iom_ledger.specs.declared.refusal.Refusal.{Refusal}
+use Rattle.iom_ledger.specs.declared.refusal.Refusal.TheVariants.{NoSuchDevice, AlreadyAttached, NotAttached, NotTrusted, FrameOutOfRange, FrameReserved, IovaOutOfRange, IovaBusy, NotGranted, NoFrames, QueueFull, TooManyPending, NumbersUsedUp, Memory, IdTooWide, TooManyDevices, AlreadyPlugged}
+use Rattle.iom_ledger.specs.declared.refusal.Refusal.TheVariants as refusal
+use Rattle.iom_ledger.specs.History.{held_at, lingering_at}
+use Rattle.iom_machine.specs.declared.state.DeviceKind.{DeviceKind}
+use Rattle.iom_machine.specs.declared.state.DeviceKind.TheVariants.{Raw, Ats, Block, CachedBlock}
+use Rattle.iom_machine.specs.declared.state.Mode.{Mode}
+use Rattle.iom_machine.specs.declared.state.Mode.TheVariants.{First, Second, Both}
+use Rattle.iom_machine.specs.declared.state.Attachment.{Attachment}
+use Rattle.iom_machine.specs.declared.state.Attachment.TheVariants.{Detached, Quarantined, Leaving}
+use Rattle.iom_machine.specs.declared.state.State.{State}
+use Rattle.iom_machine.specs.Frames.{is_reserved, IsFree, FewerThan}
+use Rattle.iom_machine.specs.Devices.{device_of}
+use Rattle.iom_machine.specs.Tickets.{pending_tickets}
+
+-- the first refusal whose reason applies
+abbrev pub first_that_applies : List (Bool × Refusal) → Option Refusal
+first_that_applies [] = None
+first_that_applies (reason ∷ later) = if reason.0 then Some reason.1 else first_that_applies later
+
+-- no reason applies
+abbrev pub NoneApplies : List (Bool × Refusal) → Type 0
+NoneApplies reasons = first_that_applies reasons ≡ None
+
+-- the refusal is the first that applies, or, where none does, one that may come all the same
+abbrev pub IsRefusedBy : List (Bool × Refusal) → (Refusal → Type 0) → Refusal → Type 0
+IsRefusedBy reasons MayCome why = MatchOption (first_that_applies reasons) (MayCome why) (λ first. why ≡ first)
+
+-- whether a device is plugged in with this id
+abbrev pub is_plugged : State → ℕ → Bool
+is_plugged state id = is_some (device_of state id)
+
+-- how the device with this id is attached
+abbrev pub attachment_of : State → ℕ → Attachment
+attachment_of state id = option_map_or (λ device. device.attachment) (device_of state id) Detached
+
+-- whether nothing of an attachment is left
+abbrev pub is_detached : Attachment → Bool
+is_detached Detached = true
+is_detached _ = false
+
+-- whether it ends once a ticket is confirmed
+abbrev pub is_leaving : Attachment → Bool
+is_leaving (Leaving ticket mode ats) = true
+is_leaving _ = false
+
+-- whether the device is cut off under a ticket
+abbrev pub is_quarantined : Attachment → Bool
+is_quarantined (Quarantined ticket mode ats) = true
+is_quarantined _ = false
+
+-- whether a device of the kind has a cache of translations
+abbrev pub has_cache : DeviceKind → Bool
+has_cache Raw = false
+has_cache Ats = true
+has_cache Block = false
+has_cache CachedBlock = true
+
+-- whether the device with this id has one
+abbrev pub is_trusted : State → ℕ → Bool
+is_trusted state id = option_map_or (λ device. has_cache device.kind) (device_of state id) false
+
+-- the ids that a device directory can name are below this: 7, 16 or 24 bits, by its levels
+abbrev pub id_limit : ℕ → ℕ
+id_limit levels = if levels == 1 then 2 ^ 7 else if levels == 2 then 2 ^ 16 else 2 ^ 24
+
+-- whether the device directory can't name the id
+abbrev pub is_too_wide : State → ℕ → Bool
+is_too_wide state id = nat_le (id_limit state.levels) id
+
+-- whether the device holds something at the page
+abbrev pub is_held : State → ℕ → ℕ → Bool
+is_held state id page = is_some (held_at state.history id page)
+
+-- whether something lingers there
+abbrev pub is_lingering : State → ℕ → ℕ → Bool
+is_lingering state id page = not (length (lingering_at state.history id page) == 0)
+
+-- a device is plugged in
+abbrev pub plug_reasons : State → ℕ → List (Bool × Refusal)
+plug_reasons state id =
+    (is_plugged state id, AlreadyPlugged)
+    ∷ (nat_le 16 (length state.devices), TooManyDevices)
+    ∷ []
+
+-- a device is attached, with ATS or without
+abbrev pub attach_reasons : State → ℕ → Bool → List (Bool × Refusal)
+attach_reasons state id ats =
+    (not (is_plugged state id), NoSuchDevice)
+    ∷ (not (is_detached (attachment_of state id)), AlreadyAttached)
+    ∷ (is_too_wide state id, IdTooWide)
+    ∷ (ats && not (is_trusted state id), NotTrusted)
+    ∷ []
+
+-- the device isn't there, isn't attached (any longer), or is quarantined
+abbrev pub attachment_reasons : State → ℕ → List (Bool × Refusal) → List (Bool × Refusal)
+attachment_reasons state id later =
+    (not (is_plugged state id), NoSuchDevice)
+    ∷ (is_detached (attachment_of state id) || is_leaving (attachment_of state id), NotAttached)
+    ∷ (is_quarantined (attachment_of state id), refusal.Quarantined)
+    ∷ later
+
+-- a frame is granted at a page
+abbrev pub grant_reasons : State → ℕ → ℕ → ℕ → List (Bool × Refusal)
+grant_reasons state id page frame = attachment_reasons state id (
+    (nat_le (length state.frames) frame, FrameOutOfRange)
+    ∷ (is_reserved state.frames frame, FrameReserved)
+    ∷ (nat_le (2 ^ 26) page, IovaOutOfRange)
+    ∷ (is_held state id page || is_lingering state id page, IovaBusy)
+    ∷ [])
+
+-- a page is released
+abbrev pub release_reasons : State → ℕ → ℕ → List (Bool × Refusal)
+release_reasons state id page = attachment_reasons state id (
+    (not (is_held state id page), NotGranted)
+    ∷ (nat_le 256 (pending_tickets state), TooManyPending)
+    ∷ [])
+
+-- a plug may find no memory for the device
+abbrev pub MayRefusePlug : Refusal → Type 0
+MayRefusePlug Memory = ⊤
+MayRefusePlug _ = ⊥
+
+-- an attach in the mode may find too few free frames; in the first stage it takes at most three, for two pages of the device directory and a root
+abbrev pub MayLackFrames : State → Mode → Type 0
+MayLackFrames state First = FewerThan 3 (IsFree state)
+MayLackFrames state Second = ⊥
+MayLackFrames state Both = ⊥
+
+-- an attach may find too few free frames for its tables, or no memory
+abbrev pub MayRefuseAttach : State → Mode → Refusal → Type 0
+MayRefuseAttach state mode NoFrames = MayLackFrames state mode
+MayRefuseAttach state mode Memory = ⊤
+MayRefuseAttach state mode _ = ⊥
+
+-- a grant may find too few free frames for its tables, which are at most two besides the frame that it names; or no memory
+abbrev pub MayRefuseGrant : State → ℕ → Refusal → Type 0
+MayRefuseGrant state frame NoFrames = FewerThan 2 (λ number. IsFree state number × (number ≢ frame))
+MayRefuseGrant state frame Memory = ⊤
+MayRefuseGrant state frame _ = ⊥
+
+-- a release may find the command queue full, or the numbers of its fences used up
+abbrev pub MayRefuseRelease : Refusal → Type 0
+MayRefuseRelease QueueFull = ⊤
+MayRefuseRelease NumbersUsedUp = ⊤
+MayRefuseRelease _ = ⊥

@@ -1,0 +1,114 @@
+-- What a device's request may be answered: the first of a bad span, eight in flight, and what the history says of the page.
+use Rattle.std.specs.Prelude.{◌≡◌, ℕ, ◌+◌, ◌/◌, ◌%◌, ◌≤◌, ◌⊎◌, true, List, [], ◌∷◌, ◌++◌, length, if◌then◌else◌}
+use Rattle.iom_base.specs.declared.access.AccessKind.{AccessKind}
+use Rattle.iom_base.specs.declared.access.AccessKind.TheVariants.{Read, Write}
+use Rattle.iom_base.specs.declared.cause.Cause.{Cause}
+use Rattle.iom_base.specs.declared.cause.Cause.TheVariants.{DirectoryEntryNotValid, TransactionTypeDisallowed}
+use Rattle.iom_base.specs.declared.rights.Rights.{Rights}
+use Rattle.iom_base.specs.Causes.{page_fault_of, guest_page_fault_of}
+use Rattle.iom_base.specs.Rights.{allows}
+use Rattle.iom_base.specs.Spans.{FitsInPage}
+use Rattle.iom_ledger.specs.History.{History, Holds, Lingers}
+use Rattle.iom_machine.specs.declared.outcome.Outcome.{Outcome}
+use Rattle.iom_machine.specs.declared.outcome.Outcome.TheVariants.{Accepted, Busy, BadSpan, Fault}
+use Rattle.iom_machine.specs.declared.state.Access.{Access}
+use Rattle.iom_machine.specs.declared.state.Attachment.{Attachment}
+use Rattle.iom_machine.specs.declared.state.Attachment.TheVariants.{Detached, Attached, Quarantined, Leaving}
+use Rattle.iom_machine.specs.declared.state.Device.{Device}
+use Rattle.iom_machine.specs.declared.state.Mode.TheVariants.{First, Second, Both}
+use Rattle.iom_machine.specs.declared.state.State.{State}
+use Rattle.iom_machine.specs.Devices.{with_device}
+use Rattle.iom_machine.specs.Refusals.{is_too_wide}
+
+-- a read of so many bytes
+abbrev pub read_of : ℕ → ℕ → Access
+read_of address len = record { address = address; len = len; kind = Read; bytes = [] }
+
+-- a write of the bytes
+abbrev pub write_of : ℕ → List ℕ → Access
+write_of address bytes = record { address = address; len = length bytes; kind = Write; bytes = bytes }
+
+-- the page that the access is to
+abbrev pub page_of : Access → ℕ
+page_of access = access.address / 4096
+
+-- where in that page its bytes begin
+abbrev pub offset_of : Access → ℕ
+offset_of access = access.address % 4096
+
+-- from 1 to 4,096 bytes, all in one page
+abbrev pub IsWithinPage : Access → Type 0
+IsWithinPage access = FitsInPage access.address access.len
+
+-- the device may have no more accesses in flight
+abbrev pub IsBusy : Device → Type 0
+IsBusy device = 8 ≤ length device.in_flight
+
+-- the device holds the frame where the access is to, with a right that allows it
+abbrev pub HoldsFor : History → ℕ → Access → ℕ → Type 0
+HoldsFor history id access frame =
+    (rights : Rights) × Holds history id (page_of access) (frame, rights) × (allows rights access.kind ≡ true)
+
+-- the frame lingers there, with such a right
+abbrev pub LingersFor : History → ℕ → Access → ℕ → Type 0
+LingersFor history id access frame =
+    (rights : Rights) × Lingers history id (page_of access) (frame, rights) × (allows rights access.kind ≡ true)
+
+-- the device holds nothing there with such a right
+abbrev pub HoldsNoneFor : History → ℕ → Access → Type 0
+HoldsNoneFor history id access = (frame : ℕ) → ¬ HoldsFor history id access frame
+
+-- translated in one stage: what is held is accepted on its frame; what lingers may be
+abbrev pub MayAcceptInOneStage : History → ℕ → Access → ℕ → Type 0
+MayAcceptInOneStage history id access frame =
+    HoldsFor history id access frame ⊎ (HoldsNoneFor history id access × LingersFor history id access frame)
+
+-- translated in one stage: what isn't held may fault, with the stage's page fault
+abbrev pub MayFaultInOneStage : (AccessKind → Cause) → History → ℕ → Access → Cause → Type 0
+MayFaultInOneStage fault_of history id access cause =
+    HoldsNoneFor history id access × (cause ≡ fault_of access.kind)
+
+-- the IOMMU may accept the access, on the frame
+abbrev pub MayAccept : Attachment → State → ℕ → Access → ℕ → Type 0
+MayAccept Detached state id access frame = ⊥
+MayAccept (Attached First ats) state id access frame = MayAcceptInOneStage state.history id access frame
+MayAccept (Attached Second ats) state id access frame = MayAcceptInOneStage state.history id access frame
+MayAccept (Attached Both ats) state id access frame = ⊥
+MayAccept (Quarantined ticket mode ats) state id access frame = ⊥
+MayAccept (Leaving ticket mode ats) state id access frame = ⊥
+
+-- the IOMMU may refuse the access, with the cause
+abbrev pub MayFault : Attachment → State → ℕ → Access → Cause → Type 0
+MayFault Detached state id access cause =
+    cause ≡ (if is_too_wide state id then TransactionTypeDisallowed else DirectoryEntryNotValid)
+MayFault (Attached First ats) state id access cause = MayFaultInOneStage page_fault_of state.history id access cause
+MayFault (Attached Second ats) state id access cause = MayFaultInOneStage guest_page_fault_of state.history id access cause
+MayFault (Attached Both ats) state id access cause = ⊥
+MayFault (Quarantined ticket mode ats) state id access cause = ⊥
+MayFault (Leaving ticket mode ats) state id access cause = ⊥
+
+-- the request comes before the IOMMU: it stays within its page, and the device isn't busy
+abbrev pub IsForwarded : Device → Access → Type 0
+IsForwarded device access = IsWithinPage access × (¬ IsBusy device)
+
+-- what a plugged device's request may be answered, on which frame
+abbrev pub MayAnswer : State → Device → Access → ℕ → Outcome → Type 0
+MayAnswer state device access frame BadSpan = ¬ IsWithinPage access
+MayAnswer state device access frame Busy = IsWithinPage access × IsBusy device
+MayAnswer state device access frame (Accepted number) =
+    IsForwarded device access × MayAccept device.attachment state device.id access frame × (number ≡ device.accepted + 1)
+MayAnswer state device access frame (Fault cause) =
+    IsForwarded device access × MayFault device.attachment state device.id access cause
+MayAnswer state device access frame _ = ⊥
+
+-- the state, where one more access of the device is in flight
+abbrev pub with_accepted : State → Device → Access → ℕ → State
+with_accepted state device access frame = with_device state (record device {
+  accepted = device.accepted + 1;
+  in_flight = device.in_flight ++ record { access = access; frame = frame } ∷ [];
+})
+
+-- the state after the answer
+abbrev pub answered : State → Device → Access → ℕ → Outcome → State
+answered state device access frame (Accepted number) = with_accepted state device access frame
+answered state device access frame _ = state

@@ -1,0 +1,10 @@
+use crate::sequence::Sequence;
+
+/// What a step leaves free and its outcome doesn't show.
+#[derive(Drop)]
+pub struct Choice {
+    /// The frames that an attach or a grant made reserved.
+    pub taken: Sequence<u32>,
+    /// The frame on which a request was accepted.
+    pub frame: u32,
+}

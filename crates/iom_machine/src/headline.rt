@@ -1,0 +1,17 @@
+ghost use Rattle.iom_machine.specs.Headline.{MadeAccessesTouchTheirOwn, HeldPagesAreAccepted, FreeFramesAreNotTouched, AccessesInFlightMay, AccessesInFlightWereAccepted};
+
+/// What every run from power-on has.
+///
+/// After any list of events from power-on, every device access made touches exactly its named bytes
+/// in a frame that the history then shows held by that device with that right, or released by it so
+/// and unconfirmed; a raw, one-stage device's access to a page it so holds is accepted on that very
+/// frame; and a frame shown free is touched by no device until granted again. Every access in flight
+/// was asked for by its device and accepted, keeps its bytes, and may still reach its frame.
+pub fn reclaim_theorem()
+    ensures made { MadeAccessesTouchTheirOwn }
+    ensures accepted { HeldPagesAreAccepted }
+    ensures free { FreeFramesAreNotTouched }
+    ensures in_flight { AccessesInFlightMay }
+    ensures asked { AccessesInFlightWereAccepted }
+{
+}

@@ -1,0 +1,32 @@
+-- Marks of reserved frames, and free frames.
+use Rattle.std.specs.Prelude.{◌≡◌, ◌≢◌, ℕ, ◌-◌, ◌<◌, ◌≤◌, Bool, false, List, ◌++◌, replicate, Option, None, Some, is_some, slice_get}
+use Rattle.std.specs.Option.{option_map_or}
+use Rattle.iom_ledger.specs.declared.ledger.Ledger.{Ledger}
+use Rattle.iom_ledger.specs.Shown.{IsUnnamed}
+use Rattle.iom_table_frames.specs.declared.table_frames.Owner.{Owner}
+use Rattle.iom_table_frames.specs.declared.table_frames.Owner.TheVariants.{System}
+
+-- the marks at power-on: the last four frames are the system's
+abbrev pub opening_marks : ℕ → List (Option Owner)
+opening_marks frames = replicate (frames - 4) None ++ replicate 4 (Some System)
+
+-- whether the frame is reserved; one outside memory isn't
+abbrev pub is_reserved : List (Option Owner) → ℕ → Bool
+is_reserved marks frame = option_map_or (λ mark. is_some mark) (slice_get marks frame) false
+
+-- the frame is free for a table that isn't to be the named one: not reserved, and no device holds or lingers on it
+pub record IsFreeBesides (marks : List (Option Owner)) (ledger : Ledger) (named : Option ℕ) (frame : ℕ) : Type 0 where
+  pub other : named ≢ Some frame
+  pub unmarked : is_reserved marks frame ≡ false
+  pub unnamed : IsUnnamed ledger frame
+
+-- none is, from the first number on and below the limit
+abbrev pub NoneIsFree : List (Option Owner) → Ledger → Option ℕ → ℕ → ℕ → Type 0
+NoneIsFree marks ledger named first limit =
+    (frame : ℕ) → first ≤ frame → frame < limit → ¬ IsFreeBesides marks ledger named frame
+
+-- this one is, below the limit, and none is above it
+pub record IsHighestFree (marks : List (Option Owner)) (ledger : Ledger) (named : Option ℕ) (limit frame : ℕ) : Type 0 where
+  pub below : frame < limit
+  pub free : IsFreeBesides marks ledger named frame
+  pub highest : (higher : ℕ) → frame < higher → higher < limit → ¬ IsFreeBesides marks ledger named higher

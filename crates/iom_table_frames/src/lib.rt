@@ -1,0 +1,16 @@
+//! The frames of memory that are reserved for tables and queues, each for its owner, and the choice of
+//! a free frame for one more table.
+//!
+//! A frame that a page table of the IOMMU lies in must be written by nobody but the driver (RISC-V
+//! IOMMU Architecture Specification, section 2, "Data Structures"): so a table takes a frame that is
+//! neither reserved nor held, nor still reached, by any device. The layer above may rely on the
+//! highest such frame being the one that is found, and on a reservation changing one mark and the
+//! bytes of one frame, to zero.
+#![tactic(auto)]
+
+mod table_frames;
+
+pub use table_frames::{Owner, TableFrames};
+
+#[cfg(test)]
+mod tests;

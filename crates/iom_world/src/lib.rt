@@ -1,0 +1,5 @@
+#![tactic(auto)]
+
+mod commands;
+
+pub use commands::Commands;
