@@ -7,3 +7,5 @@ pub mod Mapping
 pub mod Words
 pub mod Pages
 pub mod Whole
+pub mod Walks
+pub mod Stays

@@ -34,8 +34,9 @@ loop-k-preserved g c =
       })
       | in_default w ↦
         let nowhere : entries (g.B.Bytes.frames_of c.loop-k.memory) (slot c.loop-k.table (get_or c.args.upper.now c.loop-k.k 0)) ≡ Faulty =
-          nowhere_here _ (upper_here g.shape _ _ _ c.args.upper.now c.args.last c.loop-k.k c.loop-k.table _ _ b page lt) (λ f e. w.in_default.not-Pointer f (c.entry_at.ensures.value ∙ e)) in
-        let left = frame_left g.shape _ _ _ c.args.upper.now c.loop-k.k c.loop-k.table c.args.frames.now c.loop-k.used b lt nowhere in
+          nowhere_here (entries (g.B.Bytes.frames_of c.loop-k.memory) (slot c.loop-k.table (get_or c.args.upper.now c.loop-k.k 0)))
+            (upper_here g.shape (g.B.Bytes.frames_of c.args.memory.now) (g.B.Bytes.frames_of c.loop-k.memory) c.args.root c.args.upper.now c.args.last c.loop-k.k c.loop-k.table _ _ b page lt) (λ f e. w.in_default.not-Pointer f (c.entry_at.ensures.value ∙ e)) in
+        let left = frame_left g.shape (g.B.Bytes.frames_of c.args.memory.now) (g.B.Bytes.frames_of c.loop-k.memory) c.args.root c.args.upper.now c.loop-k.k c.loop-k.table c.args.frames.now c.loop-k.used b lt nowhere in
         let put = subst (λ x. Puts (g.B.Bytes.frames_of c.loop-k.memory) (g.B.Bytes.frames_of w.put.new.memory) (slot c.loop-k.table (get_or c.args.upper.now c.loop-k.k 0)) x) w.pointer_word.ensures w.put.ensures.put in
         rw (w.memory-is, w.table-is, w.used-is)
       (record {
