@@ -9,3 +9,4 @@ pub mod Pages
 pub mod Whole
 pub mod Walks
 pub mod Stays
+pub mod Spare

@@ -1,16 +1,11 @@
 -- The leaf of a page, written after its tables, or cleared.
-use Rattle.std.proofs.Common.{◌≡◌, ◌≢◌, ◌+◌, ◌-◌, ◌*◌, ◌/◌, ◌%◌, ◌^◌, ◌<◌, ◌≤◌, ◌++◌, ◌∙◌, ◌⊎◌, inl, inr, ℕ, Bool, true, false, List, [], ◌∷◌, length, take, drop, get_or, slice_get, slice_index, Option, Some, None, refl, sym, ap, subst, arith, append_assoc, append-nil, length-append, length-drop, add-one}
-use Rattle.std.proofs.lemmas.Bool.Decides.{eqb_tells}
-use Rattle.iom_base.specs.declared.access.AccessKind.{AccessKind}
-use Rattle.iom_base.specs.declared.rights.Rights.{Rights}
+use Rattle.std.proofs.Common.{◌≡◌, ◌≢◌, ◌+◌, ◌++◌, ◌∙◌, ℕ, List, [], ◌∷◌, length, slice_get, None, refl, sym, ap, subst, arith, append_assoc, length-append}
 use Rattle.iom_stage_walk.specs.Entries.{Entries, entries, slot}
 use Rattle.iom_stage_walk.specs.declared.entry.Entry.{Entry}
 use Rattle.iom_stage_walk.specs.declared.entry.Entry.TheVariants.{Outside, Faulty, Pointer, Leaf}
-use Rattle.iom_stage_walk.proofs.Alike.{Alike, alike_back}
 use Rattle.iom_page_table.specs.Leaves.{leaf_here, leaf_under}
-use Rattle.iom_page_table.specs.Trees.{InShape, IsTableAt, IsSlotAt, IsUpper, IsLowest, IsTree, IsFrameOf, IsLastEntry, missing_here, missing_under, AreFresh}
-use Rattle.iom_page_table.specs.Building.{AllNarrow, IsNarrow, IsPage, lacking_here, lacking, IsFresh, InFrames, Grown, SameLeaf, Puts, Built}
-use Rattle.iom_page_table.specs.declared.leaf.PageLeaf.{PageLeaf}
+use Rattle.iom_page_table.specs.Trees.{InShape, IsTableAt, IsSlotAt, IsUpper, IsLowest, IsTree, IsFrameOf, IsLastEntry, missing_here, missing_under}
+use Rattle.iom_page_table.specs.Building.{IsPage, lacking_here, lacking, SameLeaf, Puts, Built}
 use Rattle.std.proofs.lemmas.List.{take_all}
 use Rattle.iom_page_table.proofs.Prefixes.{table_append, shape_front, leaf_at}
 use Rattle.iom_page_table.proofs.Lowest.{AtLowest, lowest_slot_was, lowest_slot_stays, lowest_tree, lowest_same, lowest_leaf}
@@ -76,7 +71,7 @@ no_table shape e root j tree (i ∷ q) p t tab inside long out =
     let inside3 : InShape shape (p ++ i ∷ []) = shape_front shape (p ++ i ∷ []) (q ++ j ∷ []) inside2 in
     let n : length (p ++ i ∷ []) + length q + 1 ≡ length shape = omega (arith, long, length-append p (i ∷ [])) in
     upper_none e t i (q ++ j ∷ []) (e (slot t i)) refl (tree.upper p i (slot t i) (t, inside3, tab, refl) (omega (arith, long)))
-      (λ next at. no_table shape e root j tree q (p ++ i ∷ []) next (table_append e root p (i ∷ []) t next tab (next, at, refl)) inside2 n (λ g below. out g (next, at, below)))
+    (λ next at. no_table shape e root j tree q (p ++ i ∷ []) next (table_append e root p (i ∷ []) t next tab (next, at, refl)) inside2 n (λ g below. out g (next, at, below)))
 
 -- the entry at which the last index stands
 pub last_entry : (e : Entries) (t : ℕ) (q : List ℕ) (j g s : ℕ) → IsTableAt e t q g → IsLastEntry e t (q ++ j ∷ []) s → s ≡ slot g j

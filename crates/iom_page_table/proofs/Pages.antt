@@ -1,17 +1,12 @@
 -- The indices of pages in Sv39.
-use Rattle.std.proofs.Common.{zero, suc, ◌≡◌, ◌≢◌, ◌+◌, ◌-◌, ◌*◌, ◌/◌, ◌%◌, ◌^◌, ◌<◌, ◌≤◌, ◌++◌, ◌∙◌, ◌⊎◌, inl, inr, ℕ, Bool, true, false, List, [], ◌∷◌, length, take, drop, get_or, slice_get, slice_index, Option, Some, None, refl, sym, ap, subst, arith, append_assoc, append-nil, length-append, length-drop, add-one}
+use Rattle.std.proofs.Common.{zero, suc, ◌≡◌, ◌≢◌, ◌+◌, ◌*◌, ◌/◌, ◌%◌, ◌^◌, ◌<◌, ◌≤◌, ◌++◌, ◌∙◌, ◌⊎◌, inl, inr, ℕ, Bool, true, false, List, [], ◌∷◌, length, get_or, slice_index, Option, None, refl, sym, ap, subst, arith, length-append}
 use Rattle.std.proofs.lemmas.Bool.Decides.{eqb_tells}
-use Rattle.iom_base.specs.declared.access.AccessKind.{AccessKind}
-use Rattle.iom_base.specs.declared.rights.Rights.{Rights}
-use Rattle.iom_stage_walk.specs.Entries.{Entries, entries, slot}
-use Rattle.iom_stage_walk.specs.declared.entry.Entry.{Entry}
-use Rattle.iom_stage_walk.specs.declared.entry.Entry.TheVariants.{Outside, Faulty, Pointer, Leaf}
-use Rattle.iom_stage_walk.proofs.Alike.{Alike, alike_back}
-use Rattle.iom_page_table.specs.Leaves.{leaf_here, leaf_under}
-use Rattle.iom_page_table.specs.Trees.{InShape, IsTableAt, IsSlotAt, IsUpper, IsLowest, IsTree, IsFrameOf, IsLastEntry, missing_here, missing_under, AreFresh}
-use Rattle.iom_page_table.specs.Building.{AllNarrow, IsNarrow, IsPage, lacking_here, lacking, IsFresh, InFrames, Grown, SameLeaf, Built}
+use Rattle.iom_stage_walk.specs.Entries.{entries}
+use Rattle.iom_page_table.specs.Leaves.{leaf_under}
+use Rattle.iom_page_table.specs.Trees.{InShape}
+use Rattle.iom_page_table.specs.Building.{AllNarrow, IsPage, SameLeaf}
 use Rattle.iom_page_table.specs.declared.leaf.PageLeaf.{PageLeaf}
-use Rattle.std.specs.Prelude.{cond, ◌==◌, ◌||◌, nat_lt, nat_le, if◌then◌else◌}
+use Rattle.std.specs.Prelude.{◌==◌, ◌||◌, nat_lt, nat_le, if◌then◌else◌}
 use Rattle.std.proofs.lemmas.Bool.{ltb-true, leb-true, lt-ltb}
 use Rattle.iom_stage_walk.specs.Paths.{path_of}
 use Rattle.iom_page_table.specs.Leaves.{leaf_of, is_translated}
@@ -56,7 +51,7 @@ or_left false b h = let no : ⊥ = cc in absurd no
 pub translated_cases : (p : ℕ) → is_translated 3 p ≡ true → (p < 67108864) ⊎ (4503599627370496 ≤ p + 67108864)
 translated_cases p h =
     elim (or_cases (nat_lt p 67108864) (nat_le 4503599627370496 (p + 67108864)) h) [
-      inl a ↦ inl (ltb-true p 67108864 a)
+      | inl a ↦ inl (ltb-true p 67108864 a)
       | inr b ↦ inr (leb-true 4503599627370496 (p + 67108864) b)
     ]
 
@@ -77,6 +72,14 @@ paths_apart p page small low translated ne e =
 pub translated_low : (page : ℕ) → page < 2 ^ 26 → is_translated 3 page ≡ true
 translated_low page low = or_left (nat_lt page 67108864) (nat_le 4503599627370496 (page + 67108864)) (lt-ltb page 67108864 low)
 
+-- the leaf of a page that is translated
+pub translated_leaf : (frames : List (List ℕ)) (root page : ℕ) → is_translated 3 page ≡ true → leaf_of 3 frames root page ≡ leaf_under (entries frames) root (path_of sv39 page)
+translated_leaf frames root page h = chosen (is_translated 3 page) (leaf_under (entries frames) root (path_of sv39 page)) h
+  where
+    chosen : (b : Bool) (x : Option PageLeaf) → b ≡ true → (if b then x else None) ≡ x
+    chosen true x h = refl
+    chosen false x h = let no : ⊥ = cc in absurd no
+
 pick_here : (in_range same : Bool) (a x b : Option PageLeaf) → in_range ≡ true → same ≡ true → a ≡ x → (if in_range then a else None) ≡ (if same then x else b)
 pick_here true true a x b t e h = h
 pick_here true false a x b t e h = let no : ⊥ = cc in absurd no
@@ -93,11 +96,11 @@ pub leaves_after : (old new : List (List ℕ)) (root page : ℕ) (x : Option Pag
     → (p : ℕ) → p < 2 ^ 52 → leaf_of 3 new root p ≡ (if p == page then x else leaf_of 3 old root p)
 leaves_after old new root page x low here same p small =
     elim (eqb_tells p page) [
-      inl e ↦
-        pick_here (is_translated 3 p) (p == page) (leaf_under (entries new) root (path_of sv39 p)) x (leaf_of 3 old root p)
+      | inl e ↦
+          pick_here (is_translated 3 p) (p == page) (leaf_under (entries new) root (path_of sv39 p)) x (leaf_of 3 old root p)
           (subst (λ n. is_translated 3 n ≡ true) (sym e.1) (translated_low page low)) e.0
           (subst (λ n. leaf_under (entries new) root (path_of sv39 n) ≡ x) (sym e.1) here)
       | inr n ↦
-        pick_other (is_translated 3 p) (p == page) (leaf_under (entries new) root (path_of sv39 p)) x (leaf_under (entries old) root (path_of sv39 p)) n.0
+          pick_other (is_translated 3 p) (p == page) (leaf_under (entries new) root (path_of sv39 p)) x (leaf_under (entries old) root (path_of sv39 p)) n.0
           (λ translated. same (path_of sv39 p) (path_shaped p) refl (paths_apart p page small low translated n.1))
     ]

@@ -1,15 +1,8 @@
 -- Trees that stay, and trees of a zeroed frame.
-use Rattle.std.proofs.Common.{◌≡◌, ◌≢◌, ◌+◌, ◌-◌, ◌*◌, ◌/◌, ◌%◌, ◌^◌, ◌<◌, ◌≤◌, ◌++◌, ◌∙◌, ◌⊎◌, inl, inr, ℕ, Bool, true, false, List, [], ◌∷◌, length, take, drop, get_or, slice_get, slice_index, Option, Some, None, refl, sym, ap, subst, arith, append_assoc, append-nil, length-append, length-drop, add-one}
-use Rattle.std.proofs.lemmas.Bool.Decides.{eqb_tells}
-use Rattle.iom_base.specs.declared.access.AccessKind.{AccessKind}
-use Rattle.iom_base.specs.declared.rights.Rights.{Rights}
+use Rattle.std.proofs.Common.{◌≡◌, ◌+◌, ◌*◌, ◌/◌, ◌%◌, ◌<◌, ◌++◌, ◌∙◌, ℕ, Bool, true, false, List, [], ◌∷◌, slice_get, Option, Some, None, refl, sym, ap, subst, arith}
 use Rattle.iom_stage_walk.specs.Entries.{Entries, entries, slot}
-use Rattle.iom_stage_walk.specs.declared.entry.Entry.{Entry}
-use Rattle.iom_stage_walk.specs.declared.entry.Entry.TheVariants.{Outside, Faulty, Pointer, Leaf}
-use Rattle.iom_stage_walk.proofs.Alike.{Alike, alike_back}
-use Rattle.iom_page_table.specs.Leaves.{leaf_here, leaf_under}
-use Rattle.iom_page_table.specs.Trees.{InShape, IsTableAt, IsSlotAt, IsUpper, IsLowest, IsTree, IsFrameOf, IsLastEntry, missing_here, missing_under, AreFresh}
-use Rattle.iom_page_table.specs.Building.{AllNarrow, IsNarrow, IsPage, lacking_here, lacking, IsFresh, InFrames, Grown, SameLeaf, Puts, Built}
+use Rattle.iom_stage_walk.specs.declared.entry.Entry.TheVariants.{Faulty}
+use Rattle.iom_page_table.specs.Trees.{InShape, IsTableAt, IsUpper, IsLowest, IsTree, IsFrameOf}
 use Rattle.iom_page_table.specs.declared.leaf.PageLeaf.{PageLeaf}
 use Rattle.std.specs.Prelude.{◌↔◌, if◌then◌else◌}
 use Rattle.iom_phys_mem.specs.Words.{zeroed}
@@ -48,22 +41,21 @@ pub root_tree : (e : Entries) (f w : ℕ) (ws : List ℕ) → ((j : ℕ) → j <
 root_tree e f w ws none =
     record {
       apart = λ p q i j s a b.
-        let x = only_root e f w ws p i a.0 none a.1 a.2 in
-        let y = only_root e f w ws q j b.0 none b.1 b.2 in
-        (x.0 ∙ sym y.0, same_index f i j (ap (λ t. slot t i) (sym x.1) ∙ sym a.3 ∙ b.3 ∙ ap (λ t. slot t j) y.1));
+          let x = only_root e f w ws p i a.0 none a.1 a.2 in
+          let y = only_root e f w ws q j b.0 none b.1 b.2 in
+          (x.0 ∙ sym y.0, same_index f i j (ap (λ t. slot t i) (sym x.1) ∙ sym a.3 ∙ b.3 ∙ ap (λ t. slot t j) y.1));
       upper = λ p i s a lt. let x = only_root e f w ws p i a.0 none a.1 a.2 in subst IsUpper (sym (ap e (a.3 ∙ ap (λ t. slot t i) x.1) ∙ none i x.2)) tt;
       lowest = λ p i s a lt. let x = only_root e f w ws p i a.0 none a.1 a.2 in subst IsLowest (sym (ap e (a.3 ∙ ap (λ t. slot t i) x.1) ∙ none i x.2)) tt;
     }
 
 pub zeroed_frames : (frames : List (List ℕ)) (root : ℕ) → slice_get frames root ≡ Some zeroed → (f : ℕ) → IsFrameOf sv39 (entries frames) root f ↔ (f ≡ root)
 zeroed_frames frames root here f =
-    let none = λ (j : ℕ) (lt : j < 512). zero_entry frames root j here lt in
-    (
+    let none = λ (j : ℕ) (lt : j < 512). zero_entry frames root j here lt in (
       λ h.
-      let x = only_root (entries frames) root 512 (512 ∷ 512 ∷ []) h.0 h.1 h.3.0 none h.3.1 h.3.2 in
-      let small = x.2 in
-      let at : h.2 ≡ 512 * root + h.1 = h.3.3 ∙ ap (λ t. slot t h.1) x.1 in
-      h.4 ∙ (let k : h.2 / 512 ≡ root = omega (arith, at, small) in k),
+          let x = only_root (entries frames) root 512 (512 ∷ 512 ∷ []) h.0 h.1 h.3.0 none h.3.1 h.3.2 in
+          let small = x.2 in
+          let at : h.2 ≡ 512 * root + h.1 = h.3.3 ∙ ap (λ t. slot t h.1) x.1 in
+          h.4 ∙ (let k : h.2 / 512 ≡ root = omega (arith, at, small) in k),
       λ e. ([], 0, slot root 0, (root, (omega arith, tt), refl, refl), e ∙ (let k : root ≡ (512 * root + 0) / 512 = omega arith in k)),
     )
 

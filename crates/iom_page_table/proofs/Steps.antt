@@ -1,20 +1,14 @@
 -- The loop that hangs the missing tables, step by step.
-use Rattle.std.proofs.Common.{◌≡◌, ◌≢◌, ◌+◌, ◌-◌, ◌*◌, ◌/◌, ◌%◌, ◌^◌, ◌<◌, ◌≤◌, ◌++◌, ◌∙◌, ◌⊎◌, inl, inr, ℕ, Bool, true, false, List, [], ◌∷◌, length, take, drop, get_or, slice_get, slice_index, Option, Some, None, refl, sym, ap, subst, arith, append_assoc, append-nil, length-append, length-drop, add-one}
+use Rattle.std.proofs.Common.{◌≡◌, ◌≢◌, ◌+◌, ◌<◌, ◌≤◌, ◌++◌, ◌∙◌, inl, inr, ℕ, List, [], ◌∷◌, length, take, drop, get_or, slice_index, refl, sym, ap, subst, arith, append_assoc, add-one}
 use Rattle.std.proofs.lemmas.Bool.Decides.{eqb_tells}
-use Rattle.iom_base.specs.declared.access.AccessKind.{AccessKind}
-use Rattle.iom_base.specs.declared.rights.Rights.{Rights}
 use Rattle.iom_stage_walk.specs.Entries.{Entries, entries, slot}
 use Rattle.iom_stage_walk.specs.declared.entry.Entry.{Entry}
 use Rattle.iom_stage_walk.specs.declared.entry.Entry.TheVariants.{Outside, Faulty, Pointer, Leaf}
-use Rattle.iom_stage_walk.proofs.Alike.{Alike, alike_back}
-use Rattle.iom_page_table.specs.Leaves.{leaf_here, leaf_under}
-use Rattle.iom_page_table.specs.Trees.{InShape, IsTableAt, IsSlotAt, IsUpper, IsLowest, IsTree, IsFrameOf, IsLastEntry, missing_here, missing_under, AreFresh}
-use Rattle.iom_page_table.specs.Building.{AllNarrow, IsNarrow, IsPage, lacking_here, lacking, IsFresh, InFrames, Grown, SameLeaf, Puts, Built}
-use Rattle.iom_page_table.specs.declared.leaf.PageLeaf.{PageLeaf}
+use Rattle.iom_page_table.specs.Trees.{InShape, IsTableAt, IsSlotAt, IsUpper, IsTree, IsFrameOf}
+use Rattle.iom_page_table.specs.Building.{IsPage, lacking_here, lacking, IsFresh, Puts, Built}
 use Rattle.std.proofs.lemmas.List.{take_more, length-take-le, take-append-drop, take_all, drop_all}
 use Rattle.iom_stage_walk.proofs.Steps.{rest_is}
 use Rattle.iom_page_table.proofs.Prefixes.{table_append, shape_front}
-use Rattle.iom_page_table.proofs.Trees.{Elsewhere}
 use Rattle.iom_page_table.proofs.Upper.{AtUpper, upper_tree, upper_same, f_table, new_zero, slot_was, slot_stays, stays_fresh, narrow_below}
 
 -- nothing hung yet
@@ -55,7 +49,7 @@ pub slot_here : (shape : List ℕ) (old new : List (List ℕ)) (root : ℕ) (upp
     → k < length upper → IsSlotAt shape (entries new) root (take k upper) (get_or upper k 0) (slot table (get_or upper k 0))
 slot_here shape old new root upper last k table frames used b page lt =
     let whole : upper ++ last ∷ [] ≡ (take k upper ++ get_or upper k 0 ∷ []) ++ (drop (k + 1) upper ++ last ∷ []) =
-      ap (λ l. l ++ last ∷ []) (sym (take-append-drop (k + 1) upper) ∙ ap (λ l. l ++ drop (k + 1) upper) (take_more upper k 0 lt)) ∙ append_assoc (take k upper ++ get_or upper k 0 ∷ []) (drop (k + 1) upper) (last ∷ []) in
+    ap (λ l. l ++ last ∷ []) (sym (take-append-drop (k + 1) upper) ∙ ap (λ l. l ++ drop (k + 1) upper) (take_more upper k 0 lt)) ∙ append_assoc (take k upper ++ get_or upper k 0 ∷ []) (drop (k + 1) upper) (last ∷ []) in
     (table, shape_front shape (take k upper ++ get_or upper k 0 ∷ []) (drop (k + 1) upper ++ last ∷ []) (subst (λ l. InShape shape l) whole page.inside), b.at, refl)
 
 pub above_here : (shape upper : List ℕ) (last k : ℕ) → IsPage shape upper last → k < length upper → length (take k upper) + 1 < length shape
@@ -104,7 +98,7 @@ new_frame : (shape : List ℕ) (old new : Entries) (root : ℕ) (q b : List ℕ)
 new_frame shape old new root q b j i s f h inside =
     let small : i < 512 = narrow_below shape q b j i h.narrow inside in
     let front : InShape shape ((q ++ j ∷ []) ++ i ∷ []) =
-      shape_front shape ((q ++ j ∷ []) ++ i ∷ []) b (subst (λ l. InShape shape l) (sym (append_assoc (q ++ j ∷ []) (i ∷ []) b ∙ append_assoc q (j ∷ []) (i ∷ b))) inside) in
+    shape_front shape ((q ++ j ∷ []) ++ i ∷ []) b (subst (λ l. InShape shape l) (sym (append_assoc (q ++ j ∷ []) (i ∷ []) b ∙ append_assoc q (j ∷ []) (i ∷ b))) inside) in
     (q ++ j ∷ [], i, slot f i, (f, front, f_table shape old new root q j s f h, refl), omega (arith, small))
 
 begins : (xs : List ℕ) (y : ℕ) → (i : ℕ) × (b : List ℕ) × (xs ++ y ∷ [] ≡ i ∷ b)
@@ -135,7 +129,7 @@ built_new shape old mid new root upper last k table frames used b page distinct 
     let lt2 : used < length frames = omega (arith, left) in
     let whole = subst (λ l. InShape shape l) (path_at upper last k lt) page.inside in
     let zero = λ (i : ℕ) (c : List ℕ) (e : drop (k + 1) upper ≡ i ∷ c). new_zero shape (entries mid) (entries new) root q j s f h i
-      (narrow_below shape q (c ++ last ∷ []) j i page.narrow (subst (λ l. InShape shape (q ++ j ∷ (l ++ last ∷ []))) e whole)) in
+    (narrow_below shape q (c ++ last ∷ []) j i page.narrow (subst (λ l. InShape shape (q ++ j ∷ (l ++ last ∷ []))) e whole)) in
     let next = begins (drop (k + 1) upper) last in
     let stays = slot_stays shape (entries mid) (entries new) root q j s f h in
     record {
@@ -146,21 +140,21 @@ built_new shape old mid new root upper last k table frames used b page distinct 
       grown = record {
         stays = λ p i m a. stays p i m (b.grown.stays p i m a);
         only = λ p i m a.
-          elim (slot_was shape (entries mid) (entries new) root q j s f h p i m a) [
-            inl x ↦ b.grown.only p i m x
-            | inr y ↦ inr (used, i, lt2, y.1, y.2)
-          ];
+            elim (slot_was shape (entries mid) (entries new) root q j s f h p i m a) [
+              | inl x ↦ b.grown.only p i m x
+              | inr y ↦ inr (used, i, lt2, y.1, y.2)
+            ];
         all = λ n ltn.
-          elim (eqb_tells n used) [
-            inl e ↦ subst (λ m. IsFrameOf shape (entries new) root (slice_index frames m)) (sym e.1)
-              (new_frame shape (entries mid) (entries new) root q next.1 j next.0 s f h (subst (λ l. InShape shape (q ++ j ∷ l)) next.2 whole))
-            | inr ne ↦ let no = ne.1 in frame_stays shape (entries mid) (entries new) root (slice_index frames n) stays (b.grown.all n (omega arith))
-          ];
+            elim (eqb_tells n used) [
+              | inl e ↦ subst (λ m. IsFrameOf shape (entries new) root (slice_index frames m)) (sym e.1)
+                  (new_frame shape (entries mid) (entries new) root q next.1 j next.0 s f h (subst (λ l. InShape shape (q ++ j ∷ l)) next.2 whole))
+              | inr ne ↦ let no = ne.1 in frame_stays shape (entries mid) (entries new) root (slice_index frames n) stays (b.grown.all n (omega arith))
+            ];
       };
       same = λ is inside long. upper_same shape (entries mid) (entries new) root q j s f h is inside long ∙ b.same is inside long;
       others = λ g out.
-        put.others g (λ e. out (q, j, s, stays q j s h.at, e))
-        ∙ b.others g (λ is. out (frame_stays shape (entries mid) (entries new) root g stays is));
+          put.others g (λ e. out (q, j, s, stays q j s h.at, e))
+          ∙ b.others g (λ is. out (frame_stays shape (entries mid) (entries new) root g stays is));
       size = put.size ∙ b.size;
     }
 

@@ -1,22 +1,19 @@
 -- What the walk of an address says of the leaf of its page.
-use Rattle.std.proofs.Common.{◌≡◌, ◌≢◌, ◌+◌, ◌-◌, ◌*◌, ◌/◌, ◌%◌, ◌^◌, ◌<◌, ◌≤◌, ◌++◌, ◌∙◌, ◌⊎◌, inl, inr, ℕ, Bool, true, false, List, [], ◌∷◌, length, take, drop, get_or, slice_get, slice_index, Option, Some, None, refl, sym, ap, subst, arith, append_assoc, append-nil, length-append, length-drop, add-one}
-use Rattle.std.proofs.lemmas.Bool.Decides.{eqb_tells}
+use Rattle.std.proofs.Common.{◌≡◌, ◌+◌, ◌/◌, ◌%◌, ◌++◌, ◌∙◌, inl, inr, ℕ, Bool, true, false, List, [], ◌∷◌, length, Option, Some, None, refl, sym, ap, subst, arith, append_assoc, length-append}
 use Rattle.iom_base.specs.declared.access.AccessKind.{AccessKind}
 use Rattle.iom_base.specs.declared.rights.Rights.{Rights}
 use Rattle.iom_stage_walk.specs.Entries.{Entries, entries, slot}
 use Rattle.iom_stage_walk.specs.declared.entry.Entry.{Entry}
 use Rattle.iom_stage_walk.specs.declared.entry.Entry.TheVariants.{Outside, Faulty, Pointer, Leaf}
-use Rattle.iom_stage_walk.proofs.Alike.{Alike, alike_back}
 use Rattle.iom_page_table.specs.Leaves.{leaf_here, leaf_under}
-use Rattle.iom_page_table.specs.Trees.{InShape, IsTableAt, IsSlotAt, IsUpper, IsLowest, IsTree, IsFrameOf, IsLastEntry, missing_here, missing_under, AreFresh}
-use Rattle.iom_page_table.specs.Building.{AllNarrow, IsNarrow, IsPage, lacking_here, lacking, IsFresh, InFrames, Grown, SameLeaf, Puts, Built}
+use Rattle.iom_page_table.specs.Trees.{InShape, IsTableAt, IsUpper, IsLowest, IsTree}
 use Rattle.iom_page_table.specs.declared.leaf.PageLeaf.{PageLeaf}
 use Rattle.std.specs.Prelude.{◌==◌, ◌||◌, nat_lt, nat_le, if◌then◌else◌}
 use Rattle.std.proofs.lemmas.Bool.{eq-eqb, eqb-true, lt-ltb, le-leb}
 use Rattle.std.proofs.lemmas.Option.{cond_some}
 use Rattle.iom_base.specs.Causes.{page_fault_of}
 use Rattle.iom_base.specs.Rights.{allows}
-use Rattle.iom_stage_walk.specs.Paths.{span, page_in, IsLawfulLeaf, Reaches, Stops, StopsAt, IsCanonical, path_of}
+use Rattle.iom_stage_walk.specs.Paths.{span, page_in, IsLawfulLeaf, Reaches, Stops, IsCanonical, path_of}
 use Rattle.iom_page_table.specs.Leaves.{leaf_of, is_translated}
 use Rattle.iom_page_table.specs.Trees.{sv39}
 use Rattle.iom_page_table.proofs.Prefixes.{table_append, shape_front, leaf_at}
@@ -35,7 +32,7 @@ pub reaches_leaf : (e : Entries) (kind : AccessKind) (t : ℕ) (is : List ℕ) (
 reaches_leaf e kind t [] f r a = absurd a
 reaches_leaf e kind t (i ∷ is) f r a =
     elim a [
-      inl x ↦ leaf_at e t i is (Pointer x.0) x.1 ∙ reaches_leaf e kind x.0 is f r x.2
+      | inl x ↦ leaf_at e t i is (Pointer x.0) x.1 ∙ reaches_leaf e kind x.0 is f r x.2
       | inr x ↦ leaf_at e t i is (Leaf x.0 x.1) x.2 ∙ lawful_leaf kind x.0 x.1 is f r (λ next. leaf_under e next is) x.3
     ]
 
@@ -51,12 +48,17 @@ reach_step e kind t i is l (Leaf base rights) at h ok go =
     let found : PageLeaf = record { frame = base + page_in is; rights = rights } in
     let both = cond_some (base % span is == 0) found l h in
     let same = same_leaf found l both.1 in
-    inr (base, rights, at, record {
-      aligned = eqb-true (base % span is) 0 both.0;
-      allowed = ap (λ u. allows u kind) same.1 ∙ ok;
-      page = sym same.0;
-      same = sym same.1;
-    })
+    inr (
+      base,
+      rights,
+      at,
+      record {
+        aligned = eqb-true (base % span is) 0 both.0;
+        allowed = ap (λ u. allows u kind) same.1 ∙ ok;
+        page = sym same.0;
+        same = sym same.1;
+      },
+    )
 
 -- where the leaf of the indices allows the access, their path reaches it
 pub leaf_reaches : (e : Entries) (kind : AccessKind) (t : ℕ) (is : List ℕ) (l : PageLeaf) → leaf_under e t is ≡ Some l → allows l.rights kind ≡ true → Reaches e kind t is l.frame l.rights
@@ -78,14 +80,6 @@ canonical_page address (inr high) = or_right (nat_lt (address / 4096) 67108864) 
 
 pub page_canonical : (address : ℕ) → is_translated 3 (address / 4096) ≡ true → IsCanonical 3 address
 page_canonical address h = elim (translated_cases (address / 4096) h) [ inl low ↦ inl (omega arith) | inr high ↦ inr (omega arith) ]
-
--- the leaf of a page that is translated
-pub translated_leaf : (frames : List (List ℕ)) (root page : ℕ) → is_translated 3 page ≡ true → leaf_of 3 frames root page ≡ leaf_under (entries frames) root (path_of sv39 page)
-translated_leaf frames root page h = chosen (is_translated 3 page) (leaf_under (entries frames) root (path_of sv39 page)) h
-  where
-    chosen : (b : Bool) (x : Option PageLeaf) → b ≡ true → (if b then x else None) ≡ x
-    chosen true x h = refl
-    chosen false x h = let no : ⊥ = cc in absurd no
 
 -- a page that has a leaf is translated
 pub leaf_translated : (frames : List (List ℕ)) (root page : ℕ) (l : PageLeaf) → leaf_of 3 frames root page ≡ Some l → (is_translated 3 page ≡ true) × (leaf_under (entries frames) root (path_of sv39 page) ≡ Some l)
@@ -119,5 +113,5 @@ tree_stops shape e root kind tree (i ∷ k ∷ is) p t tab inside long none =
     let inside2 : InShape shape ((p ++ i ∷ []) ++ (k ∷ is)) = subst (λ l. InShape shape l) (sym (append_assoc p (i ∷ []) (k ∷ is))) inside in
     let front = shape_front shape (p ++ i ∷ []) (k ∷ is) inside2 in
     stop_upper e kind t i (k ∷ is) (e (slot t i)) refl (tree.upper p i (slot t i) (t, front, tab, refl) (omega (arith, long)))
-      (λ next at. tree_stops shape e root kind tree (k ∷ is) (p ++ i ∷ []) next (table_append e root p (i ∷ []) t next tab (next, at, refl)) inside2 (omega (arith, long, length-append p (i ∷ [])))
-        (λ l below. none l (leaf_at e t i (k ∷ is) (Pointer next) at ∙ below)))
+    (λ next at. tree_stops shape e root kind tree (k ∷ is) (p ++ i ∷ []) next (table_append e root p (i ∷ []) t next tab (next, at, refl)) inside2 (omega (arith, long, length-append p (i ∷ [])))
+    (λ l below. none l (leaf_at e t i (k ∷ is) (Pointer next) at ∙ below)))

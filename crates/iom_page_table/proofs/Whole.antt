@@ -1,26 +1,23 @@
 -- What mapping and unmapping a page of Sv39 do to all pages and all frames.
-use Rattle.std.proofs.Common.{◌≡◌, ◌≢◌, ◌+◌, ◌-◌, ◌*◌, ◌/◌, ◌%◌, ◌^◌, ◌<◌, ◌≤◌, ◌++◌, ◌∙◌, ◌⊎◌, inl, inr, ℕ, Bool, true, false, List, [], ◌∷◌, length, take, drop, get_or, slice_get, slice_index, Option, Some, None, refl, sym, ap, subst, arith, append_assoc, append-nil, length-append, length-drop, add-one}
-use Rattle.std.proofs.lemmas.Bool.Decides.{eqb_tells}
-use Rattle.iom_base.specs.declared.access.AccessKind.{AccessKind}
+use Rattle.std.proofs.Common.{◌≡◌, ◌+◌, ◌*◌, ◌/◌, ◌%◌, ◌^◌, ◌<◌, ◌++◌, ◌∙◌, ◌⊎◌, inl, inr, ℕ, true, false, List, [], ◌∷◌, length, slice_get, slice_index, Option, Some, None, refl, sym, ap, subst, arith}
 use Rattle.iom_base.specs.declared.rights.Rights.{Rights}
-use Rattle.iom_stage_walk.specs.Entries.{Entries, entries, slot}
+use Rattle.iom_stage_walk.specs.Entries.{entries, slot}
 use Rattle.iom_stage_walk.specs.declared.entry.Entry.{Entry}
 use Rattle.iom_stage_walk.specs.declared.entry.Entry.TheVariants.{Outside, Faulty, Pointer, Leaf}
-use Rattle.iom_stage_walk.proofs.Alike.{Alike, alike_back}
 use Rattle.iom_page_table.specs.Leaves.{leaf_here, leaf_under}
-use Rattle.iom_page_table.specs.Trees.{InShape, IsTableAt, IsSlotAt, IsUpper, IsLowest, IsTree, IsFrameOf, IsLastEntry, missing_here, missing_under, AreFresh}
-use Rattle.iom_page_table.specs.Building.{AllNarrow, IsNarrow, IsPage, lacking_here, lacking, IsFresh, InFrames, Grown, SameLeaf, Puts, Built}
+use Rattle.iom_page_table.specs.Trees.{IsTableAt, IsLowest, IsTree, IsFrameOf, IsLastEntry}
+use Rattle.iom_page_table.specs.Building.{InFrames, Puts, Built}
 use Rattle.iom_page_table.specs.declared.leaf.PageLeaf.{PageLeaf}
-use Rattle.std.specs.Prelude.{◌↔◌, ◌==◌, if◌then◌else◌}
+use Rattle.std.specs.Prelude.{◌↔◌, ◌==◌, is_some, if◌then◌else◌}
 use Rattle.std.specs.List.{Contains}
 use Rattle.std.proofs.lemmas.List.{get_or_default}
-use Rattle.iom_phys_mem.specs.Words.{word_at, byte_at}
 use Rattle.iom_stage_walk.specs.Paths.{path_of}
 use Rattle.iom_page_table.specs.Leaves.{leaf_of}
 use Rattle.iom_page_table.specs.Trees.{sv39}
 use Rattle.iom_page_table.proofs.Mapping.{Sets, sets, no_table, last_entry, is_last_entry, last_table, whole_table, lowest_inside}
 use Rattle.iom_page_table.proofs.Words.{inside_of}
-use Rattle.iom_page_table.proofs.Pages.{is_page, path_shaped, leaves_after}
+use Rattle.iom_page_table.proofs.Prefixes.{leaf_below}
+use Rattle.iom_page_table.proofs.Pages.{is_page, leaves_after, translated_low, translated_leaf}
 
 -- a page's indices: those above the last level, and the last
 abbrev pub Splits : ℕ → List ℕ → Type 0
@@ -60,7 +57,7 @@ module _ (frames : List (List ℕ)) (root page : ℕ) (upper : List ℕ) (splits
   not_mapped tree none =
       let p = is_page page (page % 512) upper splits in
       subst (λ path. leaf_under (entries frames) root path ≡ None) splits
-        (no_table sv39 (entries frames) root (page % 512) tree upper [] root refl p.inside (omega (arith, p.long)) none)
+      (no_table sv39 (entries frames) root (page % 512) tree upper [] root refl p.inside (omega (arith, p.long)) none)
 
 -- the leaf of an entry at the last level
 leaf_one : (leaf : PageLeaf) → leaf_here (Leaf leaf.frame leaf.rights) [] (λ next. None) ≡ Some leaf
@@ -69,6 +66,25 @@ leaf_one leaf =
     let of_frame : ℕ → Option PageLeaf = λ n. Some record { frame = n; rights = leaf.rights } in
     let same : leaf.frame + 0 ≡ leaf.frame = omega arith in
     rw whole (ap of_frame same)
+
+-- the leaf of a page whose last table stands
+pub leaf_found : (frames : List (List ℕ)) (root page table : ℕ) (upper : List ℕ) → page < 2 ^ 26 → Splits page upper → IsTableAt (entries frames) root upper table
+    → leaf_of 3 frames root page ≡ leaf_here (entries frames (slot table (page % 512))) [] (λ next. None)
+leaf_found frames root page table upper low splits at =
+    translated_leaf frames root page (translated_low page low)
+    ∙ ap (λ path. leaf_under (entries frames) root path) (sym splits)
+    ∙ leaf_below (entries frames) root upper (page % 512 ∷ []) table at
+
+pub mapped_here : (x : Entry) (base : ℕ) (rights : Rights) → x ≡ Leaf base rights → is_some (leaf_here x [] (λ next. None)) ≡ true
+mapped_here x base rights e =
+    let whole : base % 1 ≡ 0 = omega arith in
+    rw (e, whole) refl
+
+pub nothing_here : (x : Entry) → IsLowest x → ((base : ℕ) (rights : Rights) → x ≡ Leaf base rights → ⊥) → is_some (leaf_here x [] (λ next. None)) ≡ false
+nothing_here Outside low other = absurd low
+nothing_here Faulty low other = refl
+nothing_here (Pointer next) low other = absurd low
+nothing_here (Leaf base rights) low other = absurd (other base rights refl)
 
 -- everything that mapping a page does
 pub record Maps (old new : List (List ℕ)) (root page : ℕ) (leaf : PageLeaf) (frames : List ℕ) : Type 0 where
@@ -92,17 +108,16 @@ maps old mid new root page table upper frames leaf low b splits put =
     let same = same_frames sv39 mid new root (path_of sv39 page) (Leaf leaf.frame leaf.rights) s in
     record {
       tree = s.tree;
-      tables = λ f.
-        (
-          λ h. elim (b.grown.only h.0 h.1 h.2 (s.was h.0 h.1 h.2 h.3)) [
-            inl x ↦ inl (h.0, h.1, h.2, x, h.4)
-            | inr x ↦ inr (in_frames frames f h.2 h.4 x)
-          ],
-          λ h. elim h [
-            inl x ↦ (x.0, x.1, x.2, s.stays x.0 x.1 x.2 (b.grown.stays x.0 x.1 x.2 x.3), x.4)
-            | inr x ↦ (same f).1 (subst (λ g. IsFrameOf sv39 (entries mid) root g) (sym (get_or_default frames x.0 f 0 x.1) ∙ x.2) (b.grown.all x.0 x.1))
-          ],
-        );
+      tables = λ f. (
+        λ h. elim (b.grown.only h.0 h.1 h.2 (s.was h.0 h.1 h.2 h.3)) [
+          | inl x ↦ inl (h.0, h.1, h.2, x, h.4)
+          | inr x ↦ inr (in_frames frames f h.2 h.4 x)
+        ],
+        λ h. elim h [
+          | inl x ↦ (x.0, x.1, x.2, s.stays x.0 x.1 x.2 (b.grown.stays x.0 x.1 x.2 x.3), x.4)
+          | inr x ↦ (same f).1 (subst (λ g. IsFrameOf sv39 (entries mid) root g) (sym (get_or_default frames x.0 f 0 x.1) ∙ x.2) (b.grown.all x.0 x.1))
+        ],
+      );
       leaves = leaves_after old new root page (Some leaf) low (s.leaf ∙ leaf_one leaf) (λ is inside long ne. s.same is inside long ne ∙ b.same is inside long);
       others = λ f out. s.others f (λ h. out ((same f).1 h)) ∙ b.others f (λ h. out ((same f).1 h));
     }

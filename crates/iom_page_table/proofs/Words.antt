@@ -1,18 +1,10 @@
 -- Words that are written, and frames that are zeroed, as entries.
-use Rattle.std.proofs.Common.{zero, suc, ◌≡◌, ◌≢◌, ◌+◌, ◌-◌, ◌*◌, ◌/◌, ◌%◌, ◌^◌, ◌<◌, ◌≤◌, ◌++◌, ◌∙◌, ◌⊎◌, inl, inr, ℕ, Bool, true, false, List, [], ◌∷◌, length, take, drop, get_or, slice_get, slice_index, Option, Some, None, refl, sym, ap, subst, arith, append_assoc, append-nil, length-append, length-drop, add-one}
-use Rattle.std.proofs.lemmas.Bool.Decides.{eqb_tells}
-use Rattle.iom_base.specs.declared.access.AccessKind.{AccessKind}
-use Rattle.iom_base.specs.declared.rights.Rights.{Rights}
-use Rattle.iom_stage_walk.specs.Entries.{Entries, entries, slot}
-use Rattle.iom_stage_walk.specs.declared.entry.Entry.{Entry}
-use Rattle.iom_stage_walk.specs.declared.entry.Entry.TheVariants.{Outside, Faulty, Pointer, Leaf}
-use Rattle.iom_stage_walk.proofs.Alike.{Alike, alike_back}
-use Rattle.iom_page_table.specs.Leaves.{leaf_here, leaf_under}
-use Rattle.iom_page_table.specs.Trees.{InShape, IsTableAt, IsSlotAt, IsUpper, IsLowest, IsTree, IsFrameOf, IsLastEntry, missing_here, missing_under, AreFresh}
-use Rattle.iom_page_table.specs.Building.{AllNarrow, IsNarrow, IsPage, lacking_here, lacking, IsFresh, InFrames, Grown, SameLeaf, Puts, Built}
-use Rattle.iom_page_table.specs.declared.leaf.PageLeaf.{PageLeaf}
-use Rattle.std.specs.Prelude.{IsSome, OnSome, ◌↔◌, replicate, option_map}
-use Rattle.std.specs.List.{All, AllPairs}
+use Rattle.std.proofs.Common.{zero, suc, ◌≡◌, ◌≢◌, ◌+◌, ◌*◌, ◌/◌, ◌%◌, ◌<◌, ◌∙◌, inl, inr, ℕ, List, length, drop, get_or, slice_get, slice_index, Option, Some, None, refl, sym, ap, subst, arith}
+use Rattle.iom_stage_walk.specs.Entries.{entries, slot}
+use Rattle.iom_stage_walk.specs.declared.entry.Entry.TheVariants.{Outside, Faulty}
+use Rattle.iom_page_table.specs.Trees.{IsFrameOf, AreFresh}
+use Rattle.iom_page_table.specs.Building.{IsFresh, Puts}
+use Rattle.std.specs.Prelude.{IsSome, OnSome, ◌↔◌, replicate}
 use Rattle.std.proofs.lemmas.List.Elements.{All-get_or}
 use Rattle.std.proofs.lemmas.List.{get_or-drop, get_or-replicate}
 use Rattle.std.proofs.lemmas.Option.{slice_get_cases}
@@ -36,11 +28,11 @@ unfolding entries
 inside_of frames s n =
     let frame : 8 * s / 4096 ≡ s / 512 = omega arith in
     elim ((slice_get_cases frames (s / 512)).1) [
-      inl x ↦ x.1
+      | inl x ↦ x.1
       | inr y ↦
-        let none : slice_get frames (8 * s / 4096) ≡ None = rw frame y.1 in
-        let aligned : 8 * s % 8 ≡ 0 = omega arith in
-        absurd (n (rw (aligned, none) refl))
+          let none : slice_get frames (8 * s / 4096) ≡ None = rw frame y.1 in
+          let aligned : 8 * s % 8 ≡ 0 = omega arith in
+          absurd (n (rw (aligned, none) refl))
     ]
 
 given_some : {U : Type 0} (o : Option U) (P : Type 0) → IsSome o → OnSome o P → P
@@ -57,8 +49,7 @@ puts old new table index w done inside place stored words frames size =
     let at : 8 * (512 * table + index) ≡ 4096 * table + 8 * index = omega arith in
     let frame : (4096 * table + 8 * index) / 4096 ≡ (512 * table + index) / 512 = omega arith in
     let is : IsSome done = place.1 (omega arith, omega (arith, frame)) in
-    let word : word_at 8 new (8 * (512 * table + index)) ≡ Some w = subst (λ a. word_at 8 new a ≡ Some w) (sym at) (given_some done (word_at 8 new (4096 * table + 8 * index) ≡ Some w) is stored) in
-    (
+    let word : word_at 8 new (8 * (512 * table + index)) ≡ Some w = subst (λ a. word_at 8 new a ≡ Some w) (sym at) (given_some done (word_at 8 new (4096 * table + 8 * index) ≡ Some w) is stored) in (
       record {
         entry = entry_of_word new (slot table index) w word;
         elsewhere = λ k n. entry_elsewhere old new k (words (8 * k) (λ e. n (omega (arith, e, at))));
@@ -99,7 +90,7 @@ fresh_at shape frames root fresh are n lt =
     record {
       zero = λ j small. zero_entry frames f j (All-get_or (λ g. slice_get frames g ≡ Some zeroed) fresh n 0 lt are.zero) small;
       apart = λ p i s at j small e. All-get_or (λ g. IsFrameOf shape (entries frames) root g → ⊥) fresh n 0 lt are.outside
-        (p, i, s, at, (let f_is : 512 * f + j ≡ s = e in omega (arith, f_is, small)));
+          (p, i, s, at, (let f_is : 512 * f + j ≡ s = e in omega (arith, f_is, small)));
     }
 
 pub fresh_apart : (shape : List ℕ) (frames : List (List ℕ)) (root : ℕ) (fresh : List ℕ) → AreFresh shape frames root fresh → (m n : ℕ) → m < n → n < length fresh → slice_index fresh n ≢ slice_index fresh m

@@ -1,6 +1,5 @@
 -- The leaf of a page, read off the tables of a root, for any number of levels.
 use Rattle.std.specs.Prelude.{◌==◌, ℕ, ◌+◌, ◌-◌, ◌*◌, ◌%◌, ◌^◌, Bool, ◌||◌, nat_lt, nat_le, List, [], ◌∷◌, Option, Some, None, if◌then◌else◌}
-use Rattle.iom_base.specs.declared.rights.Rights.{Rights}
 use Rattle.iom_stage_walk.specs.Entries.{Entries, entries, slot}
 use Rattle.iom_stage_walk.specs.Paths.{span, page_in, path_of, first_widths}
 use Rattle.iom_stage_walk.specs.declared.entry.Entry.{Entry}

@@ -2,7 +2,7 @@
 --
 -- The shape of tables is the list of their widths, how many entries a table of each level has, the root's first: 512
 -- three times in Sv39. A prefix of indices of the shape names a table, the empty one the root.
-use Rattle.std.specs.Prelude.{◌≡◌, ◌≢◌, ℕ, ◌+◌, ◌/◌, ◌<◌, ◌≤◌, List, [], ◌∷◌, ◌++◌, length, Some, slice_get}
+use Rattle.std.specs.Prelude.{◌≡◌, ◌≢◌, ℕ, ◌+◌, ◌/◌, ◌<◌, List, [], ◌∷◌, ◌++◌, length, Some, slice_get}
 use Rattle.std.specs.List.{All, AllPairs}
 use Rattle.iom_phys_mem.specs.Words.{zeroed}
 use Rattle.iom_stage_walk.specs.Entries.{Entries, entries, slot}

@@ -18,7 +18,13 @@ pub(crate) fn pointer_word(table: u32) -> u64
     ensures { entry_of (pte_of result) ≡ Entry.Pointer table }
 {
     let flags = PteFlags::V;
-    Pte { flags, software: 0, ppn: u64::from(table), reserved: 0 }.encode()
+    Pte {
+        flags,
+        software: 0,
+        ppn: u64::from(table),
+        reserved: 0,
+    }
+    .encode()
 }
 
 /// The word of a leaf: V, R, U and A, with W and D where it allows writes.
@@ -26,13 +32,22 @@ pub(crate) fn leaf_word(leaf: PageLeaf) -> u64
     requires { (leaf.rights ≡ r) ⊎ (leaf.rights ≡ rw) }
     ensures { entry_of (pte_of result) ≡ Entry.Leaf leaf.frame leaf.rights }
 {
-    let reads = PteFlags::V.union(PteFlags::R).union(PteFlags::U).union(PteFlags::A);
+    let reads = PteFlags::V
+        .union(PteFlags::R)
+        .union(PteFlags::U)
+        .union(PteFlags::A);
     let flags = if leaf.rights == Rights::RW {
         reads.union(PteFlags::W).union(PteFlags::D)
     } else {
         reads
     };
-    Pte { flags, software: 0, ppn: u64::from(leaf.frame), reserved: 0 }.encode()
+    Pte {
+        flags,
+        software: 0,
+        ppn: u64::from(leaf.frame),
+        reserved: 0,
+    }
+    .encode()
 }
 
 /// Writes the entry at an index of a table.
@@ -82,7 +97,13 @@ pub(crate) fn count_lacking<B: Bytes>(memory: &B, root: u64, upper: &[u64]) -> u
 }
 
 /// Hangs the missing tables under the root, and gives the table under the indices.
-pub(crate) fn build<B: Bytes>(memory: &mut B, root: u64, upper: &[u64], last: u64, frames: &[u32]) -> u64
+pub(crate) fn build<B: Bytes>(
+    memory: &mut B,
+    root: u64,
+    upper: &[u64],
+    last: u64,
+    frames: &[u32],
+) -> u64
     ghost shape: { List ℕ }
     requires root { root < 2 ^ 44 }
     requires small { EachIndex upper.now (λ k. slice_index upper.now k < 4096) }

@@ -16,4 +16,7 @@ mod leaf;
 mod tables;
 
 pub use leaf::PageLeaf;
-pub use tables::{map, missing, unmap};
+pub use tables::{is_mapped, map, missing, unmap};
+
+#[cfg(test)]
+mod tests;

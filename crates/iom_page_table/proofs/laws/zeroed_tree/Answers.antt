@@ -6,8 +6,7 @@ use Rattle.iom_page_table.proofs.laws.zeroed_tree.Goals as goal
 
 pub returns : goal.returns
 returns c =
-    λ frames root here.
-    (
+    λ frames root here. (
       root_tree (entries frames) root 512 (512 ∷ 512 ∷ []) (λ j lt. zero_entry frames root j here lt),
       zeroed_frames frames root here,
       zeroed_leaves frames root here,

@@ -1,6 +1,5 @@
-use Rattle.std.proofs.Common.{◌≡◌, ◌%◌, ◌∙◌, length, sym, ap, arith, subst}
+use Rattle.std.proofs.Common.{◌%◌, ◌∙◌, length, sym, ap, arith, subst}
 use Rattle.iom_stage_walk.specs.Entries.{entries, slot}
-use Rattle.iom_stage_walk.specs.declared.entry.Entry.TheVariants.{Leaf}
 use Rattle.iom_page_table.specs.Trees.{missing_under}
 use Rattle.iom_page_table.specs.Building.{Puts}
 use Rattle.iom_page_table.proofs.Mapping.{missing_lacking, whole_table}
@@ -15,8 +14,7 @@ build-table-requires g c =
     let e = entries (g.B.Bytes.frames_of c.args.memory.now) in
     let count = c.requires.count ∙ sym (ap (missing_under e c.args.root) c.upper_of.ensures) ∙ missing_lacking e c.args.root c.upper_of.result (c.args.page % 512) in
     let last = c.args.page % 512 in
-    λ κs within.
-    (
+    λ κs within. (
       within,
       (omega arith, (small_upper c.args.page last c.upper_of.result c.upper_of.ensures, (c.requires.tree, (is_page c.args.page last c.upper_of.result c.upper_of.ensures, (count, c.requires.fresh))))),
     )
@@ -27,7 +25,7 @@ put-requires-clause-inside g c =
     let mid = g.B.Bytes.frames_of c.build-table.new.memory in
     let b = c.build-table.ensures.built in
     entry_inside mid c.args.root c.args.page c.build-table.result c.upper_of.result b.tree c.upper_of.ensures
-      (whole_table sv39 old mid c.args.root c.upper_of.result c.build-table.result c.args.frames.now (length c.args.frames.now) b)
+    (whole_table sv39 old mid c.args.root c.upper_of.result c.build-table.result c.args.frames.now (length c.args.frames.now) b)
 
 -- all that the calls did
 done : (g : Over) (c : goal.After-put g)
@@ -36,7 +34,7 @@ done g c =
     let mid = g.B.Bytes.frames_of c.build-table.new.memory in
     let new = g.B.Bytes.frames_of c.put.new.memory in
     maps (g.B.Bytes.frames_of c.args.memory.now) mid new c.args.root c.args.page c.build-table.result c.upper_of.result c.args.frames.now c.args.leaf c.requires.page c.build-table.ensures.built c.upper_of.ensures
-      (subst (λ x. Puts mid new (slot c.build-table.result (c.args.page % 512)) x) c.leaf_word.ensures c.put.ensures.put)
+    (subst (λ x. Puts mid new (slot c.build-table.result (c.args.page % 512)) x) c.leaf_word.ensures c.put.ensures.put)
 
 pub returns-clause-tree : goal.returns-clause-tree
 returns-clause-tree g c = (done g c).tree
@@ -44,8 +42,8 @@ returns-clause-tree g c = (done g c).tree
 pub returns-clause-tables : goal.returns-clause-tables
 returns-clause-tables g c = (done g c).tables
 
-pub returns-clause-leaves : goal.returns-clause-leaves
-returns-clause-leaves g c = (done g c).leaves
+pub returns-clause-leaf : goal.returns-clause-leaf
+returns-clause-leaf g c = (done g c).leaves
 
-pub returns-clause-other_frames : goal.returns-clause-other_frames
-returns-clause-other_frames g c = (done g c).others
+pub returns-clause-outside : goal.returns-clause-outside
+returns-clause-outside g c = (done g c).others

@@ -1,6 +1,6 @@
-use Rattle.std.proofs.Common.{◌≡◌, ◌+◌, ◌*◌, ◌/◌, ◌%◌, ◌∙◌, Some, None, refl, subst, sym}
+use Rattle.std.proofs.Common.{◌≡◌, ◌*◌, Some, None, refl, subst, sym}
 use Rattle.iom_phys_mem.specs.Words.{word_at}
-use Rattle.iom_stage_walk.specs.Entries.{entries, slot}
+use Rattle.iom_stage_walk.specs.Entries.{entries}
 use Rattle.iom_stage_walk.specs.Paths.{path_of}
 use Rattle.iom_stage_walk.specs.declared.entry.Entry.TheVariants.{Faulty}
 use Rattle.iom_page_table.specs.Trees.{sv39, IsLastEntry}
@@ -20,8 +20,8 @@ returns-in-Some-clause-tables g c =
     same_frames sv39 (g.B.Bytes.frames_of c.args.memory.now) (g.B.Bytes.frames_of c.put.new.memory) c.args.root (path_of sv39 c.args.page) Faulty
     (sets_page (g.B.Bytes.frames_of c.args.memory.now) (g.B.Bytes.frames_of c.put.new.memory) c.args.root c.args.page c.in-Some.table c.upper_of.result Faulty c.requires.tree c.upper_of.ensures c.in-Some.ensures.some c.put.ensures.put tt)
 
-pub returns-in-Some-clause-leaves : goal.returns-in-Some-clause-leaves
-returns-in-Some-clause-leaves g c =
+pub returns-in-Some-clause-leaf : goal.returns-in-Some-clause-leaf
+returns-in-Some-clause-leaf g c =
     let s = sets_page (g.B.Bytes.frames_of c.args.memory.now) (g.B.Bytes.frames_of c.put.new.memory) c.args.root c.args.page c.in-Some.table c.upper_of.result Faulty c.requires.tree c.upper_of.ensures c.in-Some.ensures.some c.put.ensures.put tt in
     leaves_after (g.B.Bytes.frames_of c.args.memory.now) (g.B.Bytes.frames_of c.put.new.memory) c.args.root c.args.page None c.requires.page s.leaf s.same
 
@@ -37,12 +37,15 @@ returns-in-Some-clause-other_bytes g c =
     let is = is_entry (g.B.Bytes.frames_of c.args.memory.now) c.args.root c.args.page c.upper_of.result c.upper_of.ensures c.in-Some.table c.in-Some.ensures.some in
     c.put.ensures.other_bytes a (λ e. out (subst (λ n. IsLastEntry (entries (g.B.Bytes.frames_of c.args.memory.now)) c.args.root (path_of sv39 c.args.page) n) (sym e) is))
 
-pub returns-in-Some-clause-other_frames : goal.returns-in-Some-clause-other_frames
-returns-in-Some-clause-other_frames g c =
-    (sets_page (g.B.Bytes.frames_of c.args.memory.now) (g.B.Bytes.frames_of c.put.new.memory) c.args.root c.args.page c.in-Some.table c.upper_of.result Faulty c.requires.tree c.upper_of.ensures c.in-Some.ensures.some c.put.ensures.put tt).others
+pub returns-in-Some-clause-outside : goal.returns-in-Some-clause-outside
+returns-in-Some-clause-outside g c =
+    let old = g.B.Bytes.frames_of c.args.memory.now in
+    let new = g.B.Bytes.frames_of c.put.new.memory in
+    let s = sets_page old new c.args.root c.args.page c.in-Some.table c.upper_of.result Faulty c.requires.tree c.upper_of.ensures c.in-Some.ensures.some c.put.ensures.put tt in
+    λ f out. s.others f (λ h. out ((same_frames sv39 old new c.args.root (path_of sv39 c.args.page) Faulty s f).1 h))
 
-pub returns-in-None-clause-leaves : goal.returns-in-None-clause-leaves
-returns-in-None-clause-leaves g c =
+pub returns-in-None-clause-leaf : goal.returns-in-None-clause-leaf
+returns-in-None-clause-leaf g c =
     let frames = g.B.Bytes.frames_of c.args.memory.now in
     leaves_after frames frames c.args.root c.args.page None c.requires.page
     (not_mapped frames c.args.root c.args.page c.upper_of.result c.upper_of.ensures c.requires.tree c.in-None.ensures.none) (λ is inside long ne. refl)
