@@ -6,13 +6,16 @@ use Rattle.iom_stage_walk.specs.Entries.{Entries, entries, slot}
 use Rattle.iom_stage_walk.specs.declared.entry.Entry.{Entry}
 use Rattle.iom_stage_walk.specs.declared.entry.Entry.TheVariants.{Outside, Faulty, Pointer, Leaf}
 use Rattle.iom_page_table.specs.Leaves.{leaf_here, leaf_under}
-use Rattle.iom_page_table.specs.Trees.{InShape, IsTableAt, IsUpper, IsLowest, IsTree}
+use Rattle.iom_page_table.specs.Trees.{InShape, IsTableAt, IsFrameOf, IsUpper, IsLowest, IsTree}
 use Rattle.iom_page_table.specs.declared.leaf.PageLeaf.{PageLeaf}
 use Rattle.std.specs.Prelude.{◌==◌, ◌||◌, nat_lt, nat_le, if◌then◌else◌}
 use Rattle.std.proofs.lemmas.Bool.{eq-eqb, eqb-true, lt-ltb, le-leb}
 use Rattle.std.proofs.lemmas.Option.{cond_some}
 use Rattle.iom_base.specs.Causes.{page_fault_of}
 use Rattle.iom_base.specs.Rights.{allows}
+use Rattle.std.specs.List.{All}
+use Rattle.std.proofs.lemmas.List.Elements.{All-cons}
+use Rattle.iom_stage_walk.specs.Through.{after_pointer, through}
 use Rattle.iom_stage_walk.specs.Paths.{span, page_in, IsLawfulLeaf, Reaches, Stops, IsCanonical, path_of}
 use Rattle.iom_page_table.specs.Leaves.{leaf_of, is_translated}
 use Rattle.iom_page_table.specs.Trees.{sv39}
@@ -115,3 +118,24 @@ tree_stops shape e root kind tree (i ∷ k ∷ is) p t tab inside long none =
     stop_upper e kind t i (k ∷ is) (e (slot t i)) refl (tree.upper p i (slot t i) (t, front, tab, refl) (omega (arith, long)))
     (λ next at. tree_stops shape e root kind tree (k ∷ is) (p ++ i ∷ []) next (table_append e root p (i ∷ []) t next tab (next, at, refl)) inside2 (omega (arith, long, length-append p (i ∷ [])))
     (λ l below. none l (leaf_at e t i (k ∷ is) (Pointer next) at ∙ below)))
+
+all_none : (P : ℕ → Type 0) → All P []
+all_none P = λ k d lt. absurd (omega arith)
+
+-- the frames after an entry are tables of the root
+after_tables : (P : ℕ → Type 0) (x : Entry) (follow : ℕ → List ℕ) → ((next : ℕ) → x ≡ Pointer next → All P (follow next)) → All P (after_pointer x follow)
+after_tables P Outside follow go = all_none P
+after_tables P Faulty follow go = all_none P
+after_tables P (Pointer next) follow go = go next refl
+after_tables P (Leaf base rights) follow go = all_none P
+
+-- a path loads its entries from the tables of the root
+pub through_tables : (shape : List ℕ) (e : Entries) (root : ℕ) (full : List ℕ) → InShape shape full → (is p : List ℕ) (t : ℕ) → full ≡ p ++ is → IsTableAt e root p t → All (IsFrameOf shape e root) (through e t is)
+through_tables shape e root full shaped [] p t eq tab = all_none (IsFrameOf shape e root)
+through_tables shape e root full shaped (i ∷ is) p t eq tab =
+    let eq2 : full ≡ (p ++ i ∷ []) ++ is = eq ∙ sym (append_assoc p (i ∷ []) is) in
+    let front : InShape shape (p ++ i ∷ []) = shape_front shape (p ++ i ∷ []) is (subst (λ l. InShape shape l) eq2 shaped) in
+    All-cons (IsFrameOf shape e root) (slot t i / 512) (after_pointer (e (slot t i)) (λ next. through e next is))
+    (p, i, slot t i, (t, front, tab, refl), refl)
+    (after_tables (IsFrameOf shape e root) (e (slot t i)) (λ next. through e next is)
+    (λ next at. through_tables shape e root full shaped is (p ++ i ∷ []) next eq2 (table_append e root p (i ∷ []) t next tab (next, at, refl))))

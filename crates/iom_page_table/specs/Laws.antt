@@ -1,11 +1,13 @@
 -- Laws of the tables of Sv39.
 use Rattle.std.specs.Prelude.{◌≡◌, ◌↔◌, ℕ, ◌/◌, true, false, List, [], ◌∷◌, ◌++◌, replicate, slice_get, Some, None}
+use Rattle.std.specs.List.{All}
 use Rattle.iom_base.specs.Causes.{page_fault_of}
 use Rattle.iom_base.specs.Rights.{allows}
 use Rattle.iom_base.specs.declared.access.AccessKind.{AccessKind}
 use Rattle.iom_phys_mem.specs.Words.{zeroed}
 use Rattle.iom_stage_walk.specs.Entries.{entries}
 use Rattle.iom_stage_walk.specs.Paths.{ReachesFirst, StopsFirst, IsInMemory}
+use Rattle.iom_stage_walk.specs.Through.{first_through}
 use Rattle.iom_stage_walk.specs.declared.walked.Walked.{Walked}
 use Rattle.iom_page_table.specs.Leaves.{leaf_of}
 use Rattle.iom_page_table.specs.Sv39.{IsRoot, HasTable, KeepsOutside}
@@ -18,6 +20,10 @@ WalkReachesLeaf = (frames : List (List ℕ)) (root address : ℕ) (kind : Access
     → ReachesFirst 3 frames root address kind walked
     ↔ ((leaf_of 3 frames root (address / 4096) ≡ Some record { frame = walked.frame; rights = walked.rights })
     × (allows walked.rights kind ≡ true) × IsInMemory frames walked.frame × (walked.guest_frames ≡ replicate 4 None))
+
+-- the walk of an address loads its entries from the root's tables alone
+abbrev pub WalkThroughTables : Type 0
+WalkThroughTables = (frames : List (List ℕ)) (root address : ℕ) → All (HasTable frames root) (first_through 3 frames root address)
 
 -- in a tree the walk of an address whose page has no leaf that allows the access stops with a page fault
 abbrev pub WalkFaultsElse : Type 0

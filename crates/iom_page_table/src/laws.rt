@@ -1,9 +1,14 @@
 //! Laws of the tables of Sv39, each the contract of a function that does nothing.
-ghost use Rattle.iom_page_table.specs.Laws.{WalkReachesLeaf, WalkFaultsElse, TreeStays, TreesApart, ZeroedTree, DifferentTables};
+ghost use Rattle.iom_page_table.specs.Laws.{WalkReachesLeaf, WalkThroughTables, WalkFaultsElse, TreeStays, TreesApart, ZeroedTree, DifferentTables};
 
 /// The walk of an address reaches exactly the leaf of its page, where that allows the access.
 pub fn walk_reaches_leaf()
     ensures { WalkReachesLeaf }
+{}
+
+/// The walk of an address loads its entries from the root's tables alone.
+pub fn walk_through_tables()
+    ensures { WalkThroughTables }
 {}
 
 /// In a tree a page without a leaf that allows the access is a page fault.

@@ -219,6 +219,7 @@ fn the_first_and_the_last_page_are_mapped(rt: HostRuntime) {
 #[test]
 fn the_laws_can_be_called(_rt: HostRuntime) {
     laws::walk_reaches_leaf();
+    laws::walk_through_tables();
     laws::walk_faults_else();
     laws::tree_stays();
     laws::trees_apart();

@@ -23,7 +23,8 @@ page_in (i ∷ is) = span is * i + page_in is
 
 -- a leaf gives the page that the indices below it name this frame and right: it is aligned to what it spans, and
 -- allows the kind of access
-pub record IsLawfulLeaf (kind : AccessKind) (base : ℕ) (rights : Rights) (below : List ℕ) (frame : ℕ) (given : Rights) : Type 0 where
+pub record IsLawfulLeaf (kind : AccessKind) (base : ℕ) (rights : Rights) (below : List ℕ)
+    (frame : ℕ) (given : Rights) : Type 0 where
   pub aligned : base % span below ≡ 0
   pub allowed : allows rights kind ≡ true
   pub page : frame ≡ base + page_in below
@@ -35,7 +36,8 @@ abbrev pub Reaches : Entries → AccessKind → ℕ → List ℕ → ℕ → Rig
 Reaches e kind table [] frame given = ⊥
 Reaches e kind table (i ∷ below) frame given =
     ((next : ℕ) × (e (slot table i) ≡ Pointer next) × Reaches e kind next below frame given)
-    ⊎ ((base : ℕ) × (rights : Rights) × (e (slot table i) ≡ Leaf base rights) × IsLawfulLeaf kind base rights below frame given)
+    ⊎ ((base : ℕ) × (rights : Rights) × (e (slot table i) ≡ Leaf base rights)
+    × IsLawfulLeaf kind base rights below frame given)
 
 -- the leaf isn't lawful: a misaligned superpage, or its rights lack the kind of access
 abbrev pub IsUnlawfulLeaf : AccessKind → ℕ → Rights → List ℕ → Type 0
@@ -49,7 +51,8 @@ Stops e kind table (i ∷ below) cause =
     ((next : ℕ) × (e (slot table i) ≡ Pointer next) × Stops e kind next below cause)
     ⊎ (((e (slot table i) ≡ Outside) × (cause ≡ access_fault_of kind))
     ⊎ (((e (slot table i) ≡ Faulty) × (cause ≡ page_fault_of kind))
-    ⊎ ((base : ℕ) × (rights : Rights) × (e (slot table i) ≡ Leaf base rights) × (cause ≡ page_fault_of kind) × IsUnlawfulLeaf kind base rights below)))
+    ⊎ ((base : ℕ) × (rights : Rights) × (e (slot table i) ≡ Leaf base rights) × (cause ≡ page_fault_of kind)
+    × IsUnlawfulLeaf kind base rights below)))
 
 -- the indices of a page in tables with so many entries each, the root's first: nine bits of the page number a level,
 -- more in a root that is wider
@@ -61,6 +64,10 @@ path_of (width ∷ widths) page = page / 512 ^ length widths % width ∷ path_of
 abbrev pub first_widths : ℕ → List ℕ
 first_widths levels = replicate levels 512
 
+-- the indices of an address in such tables
+abbrev pub first_path : ℕ → ℕ → List ℕ
+first_path levels address = path_of (first_widths levels) (address / 4096)
+
 -- the highest bit that such tables translate, 38 in Sv39, equals all higher bits of the 64
 abbrev pub IsCanonical : ℕ → ℕ → Type 0
 IsCanonical levels address = (address < 2 ^ (9 * levels + 11)) ⊎ (2 ^ 64 ≤ address + 2 ^ (9 * levels + 11))
@@ -70,22 +77,27 @@ abbrev pub IsInMemory : List (List ℕ) → ℕ → Type 0
 IsInMemory frames frame = frame < length frames
 
 -- the path of the address from the root of a first stage reaches a leaf, whose page's frame lies in memory
-pub record ReachesFirst (levels : ℕ) (frames : List (List ℕ)) (root address : ℕ) (kind : AccessKind) (walked : Walked) : Type 0 where
+pub record ReachesFirst (levels : ℕ) (frames : List (List ℕ)) (root address : ℕ) (kind : AccessKind)
+    (walked : Walked) : Type 0 where
   pub canonical : IsCanonical levels address
-  pub path : Reaches (entries frames) kind root (path_of (first_widths levels) (address / 4096)) walked.frame walked.rights
+  pub path : Reaches (entries frames) kind root (first_path levels address) walked.frame walked.rights
   pub inside : IsInMemory frames walked.frame
   pub no_guest : walked.guest_frames ≡ replicate 4 None
 
--- the path of the address from the root of a first stage stops with the cause: at the high bits of the address, within
--- the tables, or at a leaf whose page's frame lies outside memory
+-- the path of the address from the root of a first stage stops with the cause: a page fault, where the high bits of
+-- the address aren't lawful; the cause with which it stops in the tables; or an access fault, where it reaches a leaf
+-- whose page's frame lies outside memory
 abbrev pub StopsAt : ℕ → List (List ℕ) → ℕ → ℕ → AccessKind → Cause → Type 0
 StopsAt levels frames root address kind cause =
     ((IsCanonical levels address → ⊥) × (cause ≡ page_fault_of kind))
-    ⊎ ((IsCanonical levels address × Stops (entries frames) kind root (path_of (first_widths levels) (address / 4096)) cause)
-    ⊎ (IsCanonical levels address × ((frame : ℕ) × (rights : Rights) × Reaches (entries frames) kind root (path_of (first_widths levels) (address / 4096)) frame rights
+    ⊎ ((IsCanonical levels address × Stops (entries frames) kind root (first_path levels address) cause)
+    ⊎ (IsCanonical levels address × ((frame : ℕ) × (rights : Rights)
+    × Reaches (entries frames) kind root (first_path levels address) frame rights
     × (length frames ≤ frame) × (cause ≡ access_fault_of kind))))
 
-pub record StopsFirst (levels : ℕ) (frames : List (List ℕ)) (root address : ℕ) (kind : AccessKind) (fault : WalkFault) : Type 0 where
+-- the same, as the fault of a walk without a guest
+pub record StopsFirst (levels : ℕ) (frames : List (List ℕ)) (root address : ℕ) (kind : AccessKind)
+    (fault : WalkFault) : Type 0 where
   pub cause : StopsAt levels frames root address kind fault.cause
   pub no_guest_address : fault.gpa ≡ 0
   pub explicit : fault.implicit ≡ false

@@ -2,7 +2,7 @@
 use Rattle.std.specs.Prelude.{◌≡◌, ℕ, ◌/◌, List, [], ◌∷◌, length, slice_get}
 use Rattle.std.specs.List.{All}
 use Rattle.iom_stage_walk.specs.Entries.{Entries, entries, slot}
-use Rattle.iom_stage_walk.specs.Paths.{path_of, first_widths}
+use Rattle.iom_stage_walk.specs.Paths.{first_path}
 use Rattle.iom_stage_walk.specs.declared.entry.Entry.{Entry}
 use Rattle.iom_stage_walk.specs.declared.entry.Entry.TheVariants.{Outside, Faulty, Pointer, Leaf}
 
@@ -20,7 +20,7 @@ through e table (i ∷ below) = slot table i / 512 ∷ after_pointer (e (slot ta
 
 -- the frames that the path of an address from the root of a first stage goes through
 abbrev pub first_through : ℕ → List (List ℕ) → ℕ → ℕ → List ℕ
-first_through levels frames root address = through (entries frames) root (path_of (first_widths levels) (address / 4096))
+first_through levels frames root address = through (entries frames) root (first_path levels address)
 
 -- the two memories are of one size, and have the same bytes in these frames
 pub record SameIn (fs : List ℕ) (old new : List (List ℕ)) : Type 0 where

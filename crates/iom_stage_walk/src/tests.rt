@@ -158,3 +158,11 @@ fn a_root_outside_memory_is_an_access_fault(rt: HostRuntime) -> Result<(), Fail>
     );
     Ok(())
 }
+
+#[test]
+fn the_laws_can_be_called(_rt: HostRuntime) {
+    laws::one_leaf();
+    laws::one_end();
+    laws::writes_as_reads();
+    laws::same_path();
+}
