@@ -66,7 +66,7 @@ fn judge_leaf(kind: AccessKind, base: u64, rights: Rights, below: &[u64]) -> Res
     ensures err { IfErr result (λ cause. (cause ≡ page_fault_of kind) × IsUnlawfulLeaf kind base rights below.now) }
 {
     let (pages, inside) = page_below(below);
-    if base % pages != 0 || !rights.allows(kind) {
+    if (pages > 1 && base % pages != 0) || !rights.allows(kind) {
         return Err(Cause::page_fault(kind));
     }
     Ok(Reached {
