@@ -1,1 +1,4 @@
 pub mod FenceLemmas
+pub mod PlaceLemmas
+pub mod PlugLemmas
+pub mod RefusalLemmas

@@ -1,0 +1,1 @@
+// What a device asks of memory, and its making.
