@@ -17,6 +17,7 @@ use Rattle.iom_world.specs.Facts.{IsDevice, AreDevices, HaveOwnIds, HoldersArePl
 use Rattle.iom_world.specs.Places.{IsAbsent, IsPlaceOf}
 use Rattle.iom_world.specs.Queue.{Queue}
 use Rattle.iom_world.specs.Sound.{IsSound}
+use Rattle.iom_world.specs.Tables.{HaveTables}
 use Rattle.iom_world.proofs.PlaceLemmas.{absent_shown, place_shown}
 
 -- an item of a list with one more at its end is one of the list, or the last
@@ -103,3 +104,15 @@ pub shown_plugged : (devices : List Device) (device : Device) (id : ℕ) (kind :
     → shown_devices (devices ++ device ∷ []) ≡ shown_devices devices ++ plugged_device id kind ∷ []
 shown_plugged [] device id kind new same = rw (new.own, same, new.detached, new.none, new.idle) refl
 shown_plugged (first ∷ others) device id kind new same = ap (λ ds. shown_device first ∷ ds) (shown_plugged others device id kind new same)
+
+-- the new device has no tables, and the others keep theirs
+pub tables_plugged : (memory : List (List ℕ)) (marks : List (Option Owner)) (ledger : Ledger) (devices : List Device) (device : Device) (id : ℕ)
+    → HaveTables memory marks ledger devices → IsNew device id → HaveTables memory marks ledger (devices ++ device ∷ [])
+tables_plugged memory marks ledger devices device id tables new k d root at rooted =
+    elim (get_pushed devices device d k at) [
+      inl e ↦ tables k d root e rooted
+      | inr e ↦ absurd (none_rooted (sym new.detached ∙ ap (λ (other : Device). other.root) (sym e.1) ∙ rooted))
+    ]
+  where
+    none_rooted : None ≡ Some root → ⊥
+    none_rooted same = cc

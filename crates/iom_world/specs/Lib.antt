@@ -4,5 +4,8 @@ pub mod Devices
 pub mod Frames
 pub mod Facts
 pub mod Sound
+pub mod Tables
+pub mod TablesAreFacts
 pub mod Places
+pub mod Held
 pub mod Shows

@@ -7,10 +7,12 @@
 //! are, and so on the sentences of the reclaim theorem.
 #![tactic(auto)]
 
-mod calls;
 mod commands;
 mod device;
+mod plugging;
+mod polling;
 mod requests;
+mod tables;
 mod world;
 
 pub use world::World;

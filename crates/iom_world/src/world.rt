@@ -1,4 +1,6 @@
 ghost use Rattle.iom_world.specs.Sound.{IsSound};
+ghost use Rattle.iom_world.specs.Tables.{HaveTables};
+ghost use Rattle.iom_world.specs.TablesAreFacts.{tables_prop};
 
 use crate::commands::Commands;
 use crate::device::Device;
@@ -21,4 +23,5 @@ pub struct World {
     /// How many events there were.
     pub(crate) events: u64,
     ghost sound: { IsSound memory marks ledger devices.items commands events },
+    ghost tables: { HaveTables memory marks ledger devices.items } by { tables_prop memory marks ledger devices.items },
 }

@@ -5,10 +5,11 @@ use Rattle.iom_machine.specs.Refusals.{plug_reasons, MayRefusePlug}
 use Rattle.iom_world.specs.Places.{IsAbsent}
 use Rattle.iom_world.specs.Devices.{shown_devices}
 use Rattle.iom_ledger.specs.declared.refusal.Refusal.TheVariants.{AlreadyPlugged, TooManyDevices, Memory}
-use Rattle.iom_world.proofs.PlugLemmas.{plugged_already, too_many, may_plug, sound_plugged, shown_plugged, length-shown, IsNew}
+use Rattle.iom_world.proofs.PlugLemmas.{plugged_already, too_many, may_plug, sound_plugged, tables_plugged, shown_plugged, length-shown, IsNew}
 use Rattle.iom_world.proofs.RefusalLemmas.{when_some, when_none, refused_first, refused_else, by_test}
 use Rattle.iom_machine.specs.Machine.{plugged_device}
 use Rattle.iom_world.specs.Sound.{IsSound}
+use Rattle.iom_world.specs.Tables.{HaveTables}
 use Rattle.iom_world.specs.declared.device.Device.{Device}
 use Rattle.iom_world.proofs.world.World.plug.Goals as goal
 use Rattle.iom_world.proofs.world.World.plug.Goals.{in-Ok-push, in-Err}
@@ -37,6 +38,9 @@ invariant_of-self c =
         (sound_plugged world.memory world.marks world.ledger world.devices.items world.commands world.events c.args.id _ world.sound absent (omega arith)
           record { own = refl; detached = refl; idle = c.in-Ok.ensures; none = refl })
         world.sound;
+      tables = by_test (λ (devices : List Device). HaveTables world.memory world.marks world.ledger devices) _ _ _ _ c.push.ensures.items
+        (tables_plugged world.memory world.marks world.ledger world.devices.items _ c.args.id world.tables record { own = refl; detached = refl; idle = c.in-Ok.ensures; none = refl })
+        world.tables;
     }
 
 pub returns-clause-step : goal.returns-clause-step

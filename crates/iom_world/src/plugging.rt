@@ -1,11 +1,8 @@
-// The calls of the driver, and the plugging of devices.
-ghost use Rattle.std.specs.Prelude.{◌≡◌, ◌≢◌, ℕ, ◌+◌, ◌<◌, ◌^◌, MatchOption, Some, slice_get, Bool, IsTrue, ◌↔◌, true};
+// Where devices are, and how one is plugged in.
+ghost use Rattle.std.specs.Prelude.{◌≡◌, MatchOption};
 ghost use Rattle.iom_machine.specs.declared.state.State.{State};
-ghost use Rattle.iom_machine.specs.Machine.{Plugs, Fetches, Polls};
-ghost use Rattle.iom_world.specs.Places.{IsAbsent, IsPlaceOf, SomeInFlight};
-ghost use Rattle.iom_machine.specs.declared.outcome.Fetched.{Fetched};
-ghost use Rattle.iom_machine.specs.declared.outcome.Outcome.TheVariants as Outcome;
-ghost use Rattle.iom_world.specs.Queue.{AfterFetch};
+ghost use Rattle.iom_machine.specs.Machine.{Plugs};
+ghost use Rattle.iom_world.specs.Places.{IsAbsent, IsPlaceOf};
 ghost use Rattle.iom_world.specs.Shows.{Shows};
 
 use crate::device::Device;
@@ -57,28 +54,5 @@ impl World {
             Ok(()) => Outcome::Done,
             Err(_) => Outcome::Refused(Refusal::Memory),
         }
-    }
-
-    /// Whether an access of some device is in flight.
-    fn is_any_in_flight(&self) -> bool
-        ensures { IsTrue result ↔ SomeInFlight self.now.devices.items }
-    {
-        for k in 0..self.devices.len() {
-            let device = &self.devices[k];
-            if device.in_flight.count() > 0 {
-                return true;
-            }
-        }
-        false
-    }
-
-    /// The IOMMU takes its next command.
-    pub(crate) fn fetch(&mut self) -> Outcome
-        ensures step { (state : State) → Shows self.old state → (next : State) × Fetches state result next × Shows self.new next }
-        ensures fetched { (in_flight : Bool) → (IsTrue in_flight ↔ SomeInFlight self.old.devices.items) → (fetched : Fetched) × (result ≡ Outcome.Fetched fetched) × AfterFetch self.old.commands in_flight fetched self.new.commands }
-        ensures events { self.new.events ≡ self.old.events }
-    {
-        let in_flight = self.is_any_in_flight();
-        Outcome::Fetched(self.commands.fetch(in_flight))
     }
 }

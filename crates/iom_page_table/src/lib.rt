@@ -1,0 +1,5 @@
+#![tactic(auto)]
+
+mod leaf;
+
+pub use leaf::PageLeaf;
