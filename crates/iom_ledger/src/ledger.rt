@@ -72,6 +72,14 @@ impl Ledger {
         }
     }
 
+    /// Whether the device neither holds anything at the page nor lingers there, so that it can be
+    /// granted a frame there.
+    pub fn is_vacant(&self, device: DeviceId, page: u64) -> bool
+        ensures { IsTrue result ↔ ((held_in self.now device page ≡ None) × (lingering_in self.now device page ≡ None)) }
+    {
+        row_in(&self.devices, device, page).is_none()
+    }
+
     /// Whether no device holds or lingers on the frame, so that none may reach it.
     pub fn is_free(&self, frame: u32) -> bool
         ensures shown { IsTrue result ↔ IsFreeIn self.now frame }

@@ -232,6 +232,7 @@ fn a_refused_call_changes_nothing_and_succeeds_at_once_when_repeated(
                     ledger.grant(device, page, 5, Rights::R)?;
                 }
                 assert_eq!(rt; ledger.holds(device, page), Some((5, Rights::R)));
+                assert!(rt; !ledger.is_vacant(device, page));
             }
         }
     }
