@@ -1,2 +1,4 @@
 pub mod Leaves
 pub mod Trees
+pub mod Building
+pub mod Laws

@@ -8,4 +8,5 @@ pub mod Tables
 pub mod TablesAreFacts
 pub mod Places
 pub mod Held
+pub mod Admission
 pub mod Shows

@@ -9,6 +9,7 @@
 
 mod commands;
 mod device;
+mod driver;
 mod plugging;
 mod polling;
 mod requests;

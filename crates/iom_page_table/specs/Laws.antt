@@ -1,0 +1,2 @@
+-- Laws of trees.
+use Rattle.std.specs.Prelude.{ℕ}
