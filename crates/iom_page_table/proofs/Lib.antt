@@ -1,9 +1,0 @@
-pub mod Prefixes
-pub mod Trees
-pub mod Lowest
-pub mod Upper
-pub mod Steps
-pub mod Mapping
-pub mod Words
-pub mod Pages
-pub mod Whole

@@ -1,2 +1,0 @@
--- Laws of trees.
-use Rattle.std.specs.Prelude.{ℕ}

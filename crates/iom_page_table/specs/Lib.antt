@@ -1,4 +1,0 @@
-pub mod Leaves
-pub mod Trees
-pub mod Building
-pub mod Laws
