@@ -12,6 +12,7 @@ mod headline;
 mod judge;
 mod outcome;
 mod sequence;
+mod sink;
 mod state;
 
 pub use choice::Choice;
@@ -19,4 +20,5 @@ pub use event::Event;
 pub use headline::reclaim_theorem;
 pub use outcome::{CommandName, Fetched, Outcome, Trace};
 pub use sequence::Sequence;
+pub use sink::Sink;
 pub use state::{Access, Attachment, Device, DeviceKind, Frame, InFlight, Mode, Owner, State};

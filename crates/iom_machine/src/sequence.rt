@@ -27,6 +27,15 @@ impl<T> Sequence<T> {
         }
     }
 
+    /// The empty list, with room for so many values.
+    pub fn with_capacity(alloc: Global, capacity: usize) -> Result<Self, AllocError>
+        ensures { IfOk result (λ values. values ≡ []) }
+    {
+        Ok(Sequence {
+            items: Vec::with_capacity(alloc, capacity)?,
+        })
+    }
+
     pub fn as_slice(&self) -> &[T]
         ensures { result.now ≡ self.now }
     {
