@@ -1,0 +1,12 @@
+pub mod Prefixes
+pub mod Trees
+pub mod Lowest
+pub mod Upper
+pub mod Steps
+pub mod Mapping
+pub mod Words
+pub mod Pages
+pub mod Whole
+pub mod Walks
+pub mod Stays
+pub mod Spare

@@ -1,0 +1,49 @@
+use Rattle.std.proofs.Common.{◌%◌, ◌∙◌, length, sym, ap, arith, subst}
+use Rattle.iom_stage_walk.specs.Entries.{entries, slot}
+use Rattle.iom_page_table.specs.Trees.{missing_under}
+use Rattle.iom_page_table.specs.Building.{Puts}
+use Rattle.iom_page_table.proofs.Mapping.{missing_lacking, whole_table}
+use Rattle.iom_page_table.proofs.Pages.{is_page, small_upper}
+use Rattle.iom_page_table.proofs.Whole.{entry_inside, Maps, maps}
+use Rattle.iom_page_table.specs.Trees.{sv39}
+use Rattle.iom_page_table.proofs.tables.map.Goals as goal
+use Rattle.iom_page_table.proofs.tables.map.Given.{Over}
+
+pub build-table-requires : goal.build-table-requires
+build-table-requires g c =
+    let e = entries (g.B.Bytes.frames_of c.args.memory.now) in
+    let count = c.requires.count ∙ sym (ap (missing_under e c.args.root) c.upper_of.ensures) ∙ missing_lacking e c.args.root c.upper_of.result (c.args.page % 512) in
+    let last = c.args.page % 512 in
+    λ κs within. (
+      within,
+      (omega arith, (small_upper c.args.page last c.upper_of.result c.upper_of.ensures, (c.requires.tree, (is_page c.args.page last c.upper_of.result c.upper_of.ensures, (count, c.requires.fresh))))),
+    )
+
+pub put-requires-clause-inside : goal.put-requires-clause-inside
+put-requires-clause-inside g c =
+    let old = g.B.Bytes.frames_of c.args.memory.now in
+    let mid = g.B.Bytes.frames_of c.build-table.new.memory in
+    let b = c.build-table.ensures.built in
+    entry_inside mid c.args.root c.args.page c.build-table.result c.upper_of.result b.tree c.upper_of.ensures
+    (whole_table sv39 old mid c.args.root c.upper_of.result c.build-table.result c.args.frames.now (length c.args.frames.now) b)
+
+-- all that the calls did
+done : (g : Over) (c : goal.After-put g)
+    → Maps (g.B.Bytes.frames_of c.args.memory.now) (g.B.Bytes.frames_of c.put.new.memory) c.args.root c.args.page c.args.leaf c.args.frames.now
+done g c =
+    let mid = g.B.Bytes.frames_of c.build-table.new.memory in
+    let new = g.B.Bytes.frames_of c.put.new.memory in
+    maps (g.B.Bytes.frames_of c.args.memory.now) mid new c.args.root c.args.page c.build-table.result c.upper_of.result c.args.frames.now c.args.leaf c.requires.page c.build-table.ensures.built c.upper_of.ensures
+    (subst (λ x. Puts mid new (slot c.build-table.result (c.args.page % 512)) x) c.leaf_word.ensures c.put.ensures.put)
+
+pub returns-clause-tree : goal.returns-clause-tree
+returns-clause-tree g c = (done g c).tree
+
+pub returns-clause-tables : goal.returns-clause-tables
+returns-clause-tables g c = (done g c).tables
+
+pub returns-clause-leaf : goal.returns-clause-leaf
+returns-clause-leaf g c = (done g c).leaves
+
+pub returns-clause-outside : goal.returns-clause-outside
+returns-clause-outside g c = (done g c).others

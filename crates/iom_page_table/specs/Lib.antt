@@ -1,0 +1,5 @@
+pub mod Leaves
+pub mod Trees
+pub mod Sv39
+pub mod Building
+pub mod Laws
