@@ -1,6 +1,6 @@
 -- What a ledger's rows show, read off each history that the ledger agrees with.
-use Rattle.std.proofs.Common.{◌≡◌, ℕ, ◌⊎◌, inl, inr, Bool, true, false, not, ◌==◌, ◌||◌, ◌++◌, List, [], ◌∷◌, filter, map, Contains, Option, None, Some, is_some, if◌then◌else◌, refl, sym, ap, ◌∙◌, subst, arith}
-use Rattle.std.specs.Option.{option_to_list}
+use Rattle.std.proofs.Common.{◌≡◌, ℕ, ◌⊎◌, inl, inr, Bool, true, false, not, ◌==◌, ◌||◌, List, [], ◌∷◌, filter, map, Contains, Option, None, Some, is_some, if◌then◌else◌, refl, sym, ap, ◌∙◌, subst, arith}
+use Rattle.std.specs.Option.{option_map, option_to_list}
 use Rattle.std.proofs.lemmas.Bool.{eqb-true, false≢true}
 use Rattle.std.proofs.lemmas.List.{append-nil}
 use Rattle.std.proofs.lemmas.List.Elements.{Contains-push, Contains-push_cases}
@@ -15,7 +15,7 @@ use Rattle.iom_ledger.specs.declared.ledger.Ledger.{Ledger}
 use Rattle.iom_ledger.specs.History.{History, Pair, confirms, released_at, Holds, Lingers, May}
 use Rattle.iom_ledger.specs.Unconfirmed.{tickets_of}
 use Rattle.iom_ledger.specs.Rows.{Devices, row_at, pair_of, held_of, released_of, unless_released, if_released, kept, waits_for, is_granted, has_granted_right, AllGranted, SomeRowNames, DropsRows}
-use Rattle.iom_ledger.specs.Shown.{AgreesAt, Agrees, released_in, waiting_in}
+use Rattle.iom_ledger.specs.Shown.{AgreesAt, Agrees, IsFreeIn, held_in, released_in}
 use Rattle.iom_ledger.specs.Changes.{Confirms, unless_under}
 use Rattle.iom_ledger.proofs.PendingLemmas.{is_other}
 
@@ -66,6 +66,7 @@ reached_from_row h device page row shows = by row.ticket row.frame row.rights sh
 
 -- a device that may reach a frame has a row that names it
 pub some_row_from_May : (ledger : Ledger) (h : History) → Agrees ledger h → (device frame : ℕ) (kind : AccessKind) → May h device frame kind → SomeRowNames ledger.devices frame
+unfolding held_in released_in
 some_row_from_May ledger h agrees device frame kind (page, rights, reaches, allowed) = elim reaches [
   | inl held ↦
       let (r, at, pair) = row_of_held (row_at ledger.devices device page) (frame, rights) (sym (agrees.pages device page).holds ∙ held) in
@@ -77,17 +78,26 @@ some_row_from_May ledger h agrees device frame kind (page, rights, reaches, allo
 
 -- a device that has a row with the frame may read it
 pub May_from_some_row : (ledger : Ledger) (h : History) → Agrees ledger h → AllGranted ledger.devices → (frame : ℕ) → SomeRowNames ledger.devices frame → (device : ℕ) × May h device frame Read
+unfolding held_in released_in
 May_from_some_row ledger h agrees granted frame (device, page, row, at, same) =
     let shows = subst (λ r. AgreesAt (held_of r) (released_of r) h device page) at (agrees.pages device page) in
-    let right = allows-granted row.rights (sym (ap has_granted_right at) ∙ granted device page) in
-    (device, (page, row.rights, elim (reached_from_row h device page row shows) [
-      | inl held ↦ inl (held ∙ ap (λ f. Some (f, row.rights)) same)
-      | inr lingers ↦ inr (subst (λ f. Lingers h device page (f, row.rights)) same lingers.1)
-    ], right))
+    let right = allows-granted row.rights (sym (ap has_granted_right at) ∙ granted device page) in (
+      device,
+      (
+        page,
+        row.rights,
+        elim (reached_from_row h device page row shows) [
+          | inl held ↦ inl (held ∙ ap (λ f. Some (f, row.rights)) same)
+          | inr lingers ↦ inr (subst (λ f. Lingers h device page (f, row.rights)) same lingers.1)
+        ],
+        right,
+      ),
+    )
 
 -- a released row lingers, and what lingers has a released row
 pub lingers_from_row : (ledger : Ledger) (h : History) → Agrees ledger h → (device page : ℕ) (row : Row) → row_at ledger.devices device page ≡ Some row → is_some row.ticket ≡ true
     → Lingers h device page (pair_of row)
+unfolding held_in released_in
 lingers_from_row ledger h agrees device page row at released =
     by row.ticket row.frame row.rights released (subst (λ r. AgreesAt (held_of r) (released_of r) h device page) at (agrees.pages device page))
   where
@@ -99,9 +109,43 @@ lingers_from_row ledger h agrees device page row at released =
 
 pub row_from_lingers : (ledger : Ledger) (h : History) → Agrees ledger h → (device page : ℕ) (pair : Pair) → Lingers h device page pair
     → (r : Row) × (row_at ledger.devices device page ≡ Some r) × (is_some r.ticket ≡ true)
+unfolding held_in released_in
 row_from_lingers ledger h agrees device page pair lingers =
     let (r, at, same, released) = row_of_lingering (row_at ledger.devices device page) lingers.0 pair (subst (λ l. Contains l (lingers.0, pair)) (agrees.pages device page).lingers lingers.1) in
     (r, at, released)
+
+-- the row of a pair that a ledger shows as lingering
+row_of_released : (row : Option Row) (pair : Pair) → option_map (λ released. released.1) (released_of row) ≡ Some pair → (r : Row) × (row ≡ Some r) × (pair_of r ≡ pair)
+row_of_released None pair lingers = cc
+row_of_released (Some row) pair lingers = by row.ticket row.frame row.rights lingers
+  where
+    by : (t : Option ℕ) (frame : ℕ) (rights : Rights) → option_map (λ released. released.1) (if_released t (frame, rights)) ≡ Some pair
+        → (r : Row) × (◌≡◌ {A = Option Row} (Some (record { frame = frame; rights = rights; ticket = t })) (Some r)) × (pair_of r ≡ pair)
+    by None frame rights lingers = cc
+    by (Some t) frame rights lingers = (record { frame = frame; rights = rights; ticket = Some t }, refl, cc)
+
+-- where no row names the frame, the ledger shows it as free
+pub IsFreeIn-from_rows : (ledger : Ledger) (frame : ℕ) → (SomeRowNames ledger.devices frame → ⊥) → IsFreeIn ledger frame
+unfolding held_in released_in
+IsFreeIn-from_rows ledger frame none device page rights = (
+  (λ held.
+      let (r, at, pair) = row_of_held (row_at ledger.devices device page) (frame, rights) held in
+      none (device, page, r, at, ap (λ p. p.0) pair)),
+  (λ lingers.
+      let (r, at, pair) = row_of_released (row_at ledger.devices device page) (frame, rights) lingers in
+      none (device, page, r, at, ap (λ p. p.0) pair)),
+)
+
+-- where a row names the frame, the ledger shows it as held or lingering
+pub not_free_from_row : (ledger : Ledger) (frame : ℕ) → SomeRowNames ledger.devices frame → IsFreeIn ledger frame → ⊥
+unfolding held_in released_in
+not_free_from_row ledger frame (device, page, row, at, same) free =
+    by row.ticket row.frame row.rights (ap held_of at) (ap (λ r. option_map (λ released. released.1) (released_of r)) at) same
+  where
+    by : (t : Option ℕ) (f : ℕ) (rights : Rights) → held_in ledger device page ≡ unless_released t (f, rights)
+        → option_map (λ released. released.1) (released_in ledger device page) ≡ option_map (λ released. released.1) (if_released t (f, rights)) → f ≡ frame → ⊥
+    by None f rights held lingers same = (free device page rights).0 (held ∙ ap (λ x. Some (x, rights)) same)
+    by (Some t) f rights held lingers same = (free device page rights).1 (lingers ∙ ap (λ x. Some (x, rights)) same)
 
 -- a filter by two tests is one filter after the other
 filter-not_or : {X : Type 0} (p q : X → Bool) (xs : List X) → filter (λ x. not (p x || q x)) xs ≡ filter (λ x. not (p x)) (filter (λ x. not (q x)) xs)

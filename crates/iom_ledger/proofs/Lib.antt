@@ -1,3 +1,4 @@
 pub mod RowLemmas
 pub mod PendingLemmas
 pub mod AgreementLemmas
+pub mod UnknownTickets

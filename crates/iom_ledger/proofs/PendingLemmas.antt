@@ -1,5 +1,5 @@
 -- What is left of the rows once some of the releases under a ticket are confirmed.
-use Rattle.std.proofs.Common.{◌≡◌, ◌+◌, ◌<◌, ℕ, Bool, true, false, not, ◌==◌, ◌&&◌, ◌||◌, ◌++◌, List, [], ◌∷◌, length, take, drop, get_or, filter, Option, None, Some, if◌then◌else◌, refl, sym, ap, ◌∙◌, subst, append_assoc, drop-cons, add-one}
+use Rattle.std.proofs.Common.{◌≡◌, ◌+◌, ◌<◌, ℕ, Bool, true, false, not, ◌==◌, ◌||◌, ◌++◌, List, [], ◌∷◌, length, take, drop, get_or, filter, Option, None, Some, if◌then◌else◌, refl, sym, ap, ◌∙◌, subst, append_assoc, drop-cons, add-one}
 use Rattle.std.specs.List.{list_any}
 use Rattle.std.proofs.lemmas.Bool.{eqb-true, and_parts, false≢true}
 use Rattle.std.proofs.lemmas.List.{take_more}
@@ -56,7 +56,7 @@ split_at n s more release lt =
 
 pub items_more : (ticket n : ℕ) (s : List Pending) (release : Pending) → n < length s
     → (drop (n + 1) s ++ filter (is_other ticket) (take n s)) ++ filter (is_other ticket) (get_or s n release ∷ [])
-        ≡ drop (n + 1) s ++ filter (is_other ticket) (take (n + 1) s)
+    ≡ drop (n + 1) s ++ filter (is_other ticket) (take (n + 1) s)
 items_more ticket n s release lt =
     rw (take_more s n release lt, filter-append (is_other ticket) (take n s) (get_or s n release ∷ [])) (append_assoc (drop (n + 1) s) (filter (is_other ticket) (take n s)) (filter (is_other ticket) (get_or s n release ∷ [])))
 

@@ -1,5 +1,5 @@
 -- How each call changes what a ledger shows.
-use Rattle.std.specs.Prelude.{◌≡◌, ℕ, not, ◌==◌, ◌&&◌, List, [], ◌∷◌, ◌++◌, filter, Option, None, Some, if◌then◌else◌}
+use Rattle.std.specs.Prelude.{◌≡◌, ℕ, not, ◌==◌, ◌&&◌, [], ◌∷◌, ◌++◌, filter, Option, None, Some, if◌then◌else◌}
 use Rattle.iom_ledger.specs.declared.ledger.Ledger.{Ledger}
 use Rattle.iom_ledger.specs.History.{Pair}
 use Rattle.iom_ledger.specs.Shown.{held_in, released_in, waiting_in}

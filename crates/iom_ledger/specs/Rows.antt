@@ -78,7 +78,7 @@ SetsRow old new device page row =
 abbrev pub ReleasesRow : Devices → Devices → ℕ → ℕ → ℕ → Type 0
 ReleasesRow old new device page ticket =
     (d a : ℕ) → row_at new d a
-        ≡ (if (device == d) && (page == a) then released (row_at old d a) ticket else row_at old d a)
+    ≡ (if (device == d) && (page == a) then released (row_at old d a) ticket else row_at old d a)
 
 -- each row of the device is released, and each other stays
 abbrev pub ReleasesRows : Devices → Devices → ℕ → ℕ → Type 0
@@ -107,7 +107,7 @@ names release device page ticket =
 abbrev pub DropsNamed : Devices → Devices → Pending → ℕ → Type 0
 DropsNamed old new release ticket =
     (d a : ℕ) → row_at new d a
-        ≡ (if names release d a ticket then kept (row_at old d a) ticket else row_at old d a)
+    ≡ (if names release d a ticket then kept (row_at old d a) ticket else row_at old d a)
 
 -- the ticket of a row that is released
 abbrev pub ticket_of : Option Row → Option ℕ

@@ -1,5 +1,5 @@
 -- What a ledger shows, and when that is what a history says.
-use Rattle.std.specs.Prelude.{◌≡◌, ◌≢◌, ℕ, ◌⊎◌, List, Option, None, Some, map}
+use Rattle.std.specs.Prelude.{◌≡◌, ◌≢◌, ℕ, ◌⊎◌, List, Option, Some, map}
 use Rattle.std.specs.Option.{option_map, option_to_list}
 use Rattle.iom_base.specs.declared.rights.Rights.{Rights}
 use Rattle.iom_base.specs.Rights.{r, rw}
@@ -9,11 +9,11 @@ use Rattle.iom_ledger.specs.Unconfirmed.{unconfirmed}
 use Rattle.iom_ledger.specs.Rows.{row_at, held_of, released_of}
 
 -- the pair that the device holds at the page
-abbrev pub held_in : Ledger → ℕ → ℕ → Option Pair
+unfoldable pub held_in : Ledger → ℕ → ℕ → Option Pair
 held_in ledger device page = held_of (row_at ledger.devices device page)
 
 -- the pair that lingers at the page, with the ticket under which it was released
-abbrev pub released_in : Ledger → ℕ → ℕ → Option (ℕ × Pair)
+unfoldable pub released_in : Ledger → ℕ → ℕ → Option (ℕ × Pair)
 released_in ledger device page = released_of (row_at ledger.devices device page)
 
 -- the pair that lingers at the page
@@ -21,7 +21,7 @@ abbrev pub lingering_in : Ledger → ℕ → ℕ → Option Pair
 lingering_in ledger device page = option_map (λ released. released.1) (released_in ledger device page)
 
 -- the tickets under which something was released and that aren't confirmed, the oldest first
-abbrev pub waiting_in : Ledger → List ℕ
+unfoldable pub waiting_in : Ledger → List ℕ
 waiting_in ledger = map (λ release. release.ticket) ledger.pending.items
 
 -- at the page this pair is held, or this one lingers with its ticket, and the history says so
@@ -34,12 +34,11 @@ pub record Agrees (ledger : Ledger) (history : History) : Type 0 where
   pub pages : (device page : ℕ) → AgreesAt (held_in ledger device page) (released_in ledger device page) history device page
   pub waiting : unconfirmed history ≡ waiting_in ledger
 
+-- no pair that is held or lingers names the frame
+abbrev pub IsFreeIn : Ledger → ℕ → Type 0
+IsFreeIn ledger frame = (device page : ℕ) (rights : Rights)
+    → (held_in ledger device page ≢ Some (frame, rights)) × (lingering_in ledger device page ≢ Some (frame, rights))
+
 -- the right is one of the two that are granted
 abbrev pub IsGrantable : Rights → Type 0
 IsGrantable rights = (rights ≡ r) ⊎ (rights ≡ rw)
-
--- no pair on the frame is held, and none lingers
-abbrev pub IsUnnamed : Ledger → ℕ → Type 0
-IsUnnamed ledger frame =
-    (device page : ℕ) (rights : Rights)
-    → (held_in ledger device page ≢ Some (frame, rights)) × (lingering_in ledger device page ≢ Some (frame, rights))

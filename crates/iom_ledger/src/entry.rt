@@ -17,7 +17,12 @@ pub enum Entry {
         ticket: u32,
     },
     /// All that the device holds is released, under the ticket.
-    AllReleased { device: DeviceId, ticket: u32 },
+    AllReleased {
+        device: DeviceId,
+        ticket: u32,
+    },
     /// The ticket is confirmed: what was released under it is reached no more.
-    Confirmed { ticket: u32 },
+    Confirmed {
+        ticket: u32,
+    },
 }

@@ -1,4 +1,7 @@
+#![tactic(auto, unfolding(crate::specs::Shown::held_in, crate::specs::Shown::released_in, crate::specs::Shown::waiting_in))]
+
 ghost use Rattle.std.specs.Prelude.{◌≡◌};
+ghost use Rattle.iom_ledger.specs.declared.ledger.TheConstants.{MAX_WAITING};
 ghost use Rattle.iom_ledger.specs.Rows.{AllGranted, AllNamed};
 
 use crate::devices::{Devices, grant_in, release_all_in, release_in, row_in};
@@ -10,6 +13,9 @@ use indexmap::IndexMap;
 use iom_base::{DeviceId, Rights};
 use std::alloc::{AllocError, Global};
 
+/// The most tickets that wait at a time.
+pub const MAX_WAITING: usize = 256;
+
 /// The grants of all devices, and the tickets that aren't confirmed.
 ///
 /// A released pair stays, marked with its ticket, until the ticket is confirmed.
@@ -19,24 +25,24 @@ pub struct Ledger {
     pending: Ring,
     ghost granted: { AllGranted devices },
     ghost named: { AllNamed devices pending.items },
-    ghost room: { pending.capacity ≡ 256 },
+    ghost room: { pending.capacity ≡ MAX_WAITING },
 }
 
 impl Ledger {
-    ghost use Rattle.std.specs.Prelude.{◌↔◌, ◌<◌, ◌≤◌, ℕ, List, [], ◌∷◌, length, false, not, IsTrue, IsSome, IfOk, OnOk, OnErr, Some, None};
+    ghost use Rattle.std.specs.Prelude.{◌↔◌, ◌<◌, ◌≤◌, ℕ, List, [], ◌∷◌, Contains, length, false, not, IsTrue, IsSome, IfOk, OnOk, OnErr, Some, None};
     ghost use Rattle.iom_ledger.specs.declared.entry.Entry.TheVariants.{Granted, Released, AllReleased, Confirmed};
     ghost use Rattle.iom_ledger.specs.History.{History, Pair, confirms, held_at, lingering_at, Holds, Lingers, IsFree};
     ghost use Rattle.iom_ledger.specs.Unconfirmed.{unconfirmed};
-    ghost use Rattle.iom_ledger.specs.Shown.{Agrees, IsGrantable, IsUnnamed, held_in, released_in, lingering_in, waiting_in};
+    ghost use Rattle.iom_ledger.specs.Shown.{Agrees, IsFreeIn, IsGrantable, held_in, released_in, lingering_in, waiting_in};
     ghost use Rattle.iom_ledger.specs.Changes.{IsUnchanged, Grants, Releases, ReleasesAll, Confirms};
 
-    /// A ledger of no grants. Makes the room of 256 tickets.
+    /// A ledger of no grants. Makes the room of [`MAX_WAITING`] tickets, so that no release takes memory.
     pub fn new(alloc: Global) -> Result<Ledger, AllocError>
         ensures { IfOk result (λ ledger. Agrees ledger []) }
     {
         Ok(Ledger {
             devices: IndexMap::new(alloc),
-            pending: HeapCircularBuffer::with_capacity(alloc, 256)?,
+            pending: HeapCircularBuffer::with_capacity(alloc, MAX_WAITING)?,
         })
     }
 
@@ -55,6 +61,7 @@ impl Ledger {
     /// What the device has released at the page, under a ticket that isn't confirmed.
     pub fn lingers(&self, device: DeviceId, page: u64) -> Option<(u32, Rights)>
         ensures shown { result ≡ lingering_in self.now device page }
+        ensures alone { IsSome result → held_in self.now device page ≡ None }
         ensures lingering { (h : History) → Agrees self.now h → (pair : Pair) → (result ≡ Some pair) ↔ Lingers h device page pair }
         ensures none { (h : History) → Agrees self.now h → result ≡ None → lingering_at h device page ≡ [] }
     {
@@ -65,9 +72,17 @@ impl Ledger {
         }
     }
 
+    /// Whether the device neither holds anything at the page nor lingers there, so that it can be
+    /// granted a frame there.
+    pub fn is_vacant(&self, device: DeviceId, page: u64) -> bool
+        ensures { IsTrue result ↔ ((held_in self.now device page ≡ None) × (lingering_in self.now device page ≡ None)) }
+    {
+        row_in(&self.devices, device, page).is_none()
+    }
+
     /// Whether no device holds or lingers on the frame, so that none may reach it.
     pub fn is_free(&self, frame: u32) -> bool
-        ensures shown { IsTrue result ↔ IsUnnamed self.now frame }
+        ensures shown { IsTrue result ↔ IsFreeIn self.now frame }
         ensures free { (h : History) → Agrees self.now h → IsTrue result ↔ IsFree h frame }
     {
         is_free_in(&self.devices, frame)
@@ -93,7 +108,7 @@ impl Ledger {
     pub fn waiting(&self) -> usize
         ensures shown { result ≡ length (waiting_in self.now) }
         ensures unconfirmed { (h : History) → Agrees self.now h → result ≡ length (unconfirmed h) }
-        ensures within { result ≤ 256 }
+        ensures within { result ≤ MAX_WAITING }
     {
         self.pending.len()
     }
@@ -128,7 +143,7 @@ impl Ledger {
     /// memory.
     pub fn release(&mut self, device: DeviceId, page: u64, ticket: u32)
         requires held { IsSome (held_in self.old device page) }
-        requires room { length (waiting_in self.old) < 256 }
+        requires room { length (waiting_in self.old) < MAX_WAITING }
         ensures agrees { (h : History) → Agrees self.old h → confirms h ticket ≡ false → Agrees self.new (Released device page ticket ∷ h) }
         ensures released { Releases self.old self.new device page ticket }
     {
@@ -144,7 +159,7 @@ impl Ledger {
     /// Releases all that the device holds, under a ticket that isn't confirmed yet. The ticket waits
     /// even where the device holds nothing. Takes no memory.
     pub fn release_all(&mut self, device: DeviceId, ticket: u32)
-        requires { length (waiting_in self.old) < 256 }
+        requires { length (waiting_in self.old) < MAX_WAITING }
         ensures agrees { (h : History) → Agrees self.old h → confirms h ticket ≡ false → Agrees self.new (AllReleased device ticket ∷ h) }
         ensures released { ReleasesAll self.old self.new device ticket }
     {
@@ -162,6 +177,7 @@ impl Ledger {
     pub fn confirm(&mut self, ticket: u32)
         ensures agrees { (h : History) → Agrees self.old h → Agrees self.new (Confirmed ticket ∷ h) }
         ensures confirmed { Confirms self.old self.new ticket }
+        ensures unknown { ¬ Contains (waiting_in self.old) ticket → IsUnchanged self.old self.new }
     {
         confirm_in(&mut self.devices, &mut self.pending, ticket);
     }

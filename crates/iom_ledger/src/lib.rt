@@ -1,6 +1,9 @@
 //! The ledger of grants: which device holds which frame at which page with which right, and what it
 //! has released and may still reach until the release's ticket is confirmed.
 //!
+//! The RISC-V IOMMU Architecture Specification 1.0 has no such table: an IOMMU follows the bytes that
+//! software puts into memory, and which device is to reach what is for software to know.
+//!
 //! What the ledger answers is read off a *history* of entries (`specs/History.antt`), which no code
 //! stores. The layers above may rely on each call carrying agreement with a history on to the history
 //! with the call's entry, and on each look-up answering what every such history says
@@ -16,7 +19,7 @@ mod ring;
 mod row;
 
 pub use entry::Entry;
-pub use ledger::Ledger;
+pub use ledger::{Ledger, MAX_WAITING};
 pub use refusal::Refusal;
 
 #[cfg(test)]

@@ -5,7 +5,7 @@ ghost use Rattle.iom_ledger.specs.Rows.{released_row, waits_for};
 use iom_base::{DeviceId, Rights};
 
 /// A frame and the right to it, and the ticket under which it was released, if it was.
-#[derive(Clone, Copy, PartialEq, Eq, Debug)]
+#[derive(Clone, Copy)]
 pub(crate) struct Row {
     pub(crate) frame: u32,
     pub(crate) rights: Rights,
@@ -14,7 +14,7 @@ pub(crate) struct Row {
 
 /// A release whose ticket isn't confirmed: of one page, or where no page is named of all that the
 /// device held.
-#[derive(Clone, Copy, PartialEq, Eq, Debug)]
+#[derive(Clone, Copy)]
 pub(crate) struct Pending {
     pub(crate) ticket: u32,
     pub(crate) device: DeviceId,

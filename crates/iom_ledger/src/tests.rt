@@ -1,9 +1,9 @@
 use super::*;
 use iom_base::{DeviceId, Rights};
-use std::alloc::Global;
+use std::alloc::{AllocError, Global};
 use std::test::Fail;
 
-/// Number and name of each refusal, as the list of refusals has them.
+/// The line of each refusal, in the order of their numbers.
 const REFUSALS: [(Refusal, &str); 23] = [
     (Refusal::NoSuchDevice, "refused 1 NoSuchDevice"),
     (Refusal::AlreadyAttached, "refused 2 AlreadyAttached"),
@@ -49,8 +49,8 @@ fn bring_about(ledger: &mut Ledger, entry: Entry) -> Result<(), Fail> {
             rights,
         } => {
             let is_granted = rights == Rights::R || rights == Rights::RW;
-            let is_taken =
-                ledger.holds(device, page).is_some() || ledger.lingers(device, page).is_some();
+            let is_taken = ledger.holds(device, page).is_some()
+                || ledger.lingers(device, page).is_some();
             if is_granted && !is_taken {
                 ledger.grant(device, page, frame, rights)?;
             }
@@ -60,12 +60,12 @@ fn bring_about(ledger: &mut Ledger, entry: Entry) -> Result<(), Fail> {
             page,
             ticket,
         } => {
-            if ledger.holds(device, page).is_some() && ledger.waiting() < 256 {
+            if ledger.holds(device, page).is_some() && ledger.waiting() < MAX_WAITING {
                 ledger.release(device, page, ticket);
             }
         }
         Entry::AllReleased { device, ticket } => {
-            if ledger.waiting() < 256 {
+            if ledger.waiting() < MAX_WAITING {
                 ledger.release_all(device, ticket);
             }
         }
@@ -74,43 +74,55 @@ fn bring_about(ledger: &mut Ledger, entry: Entry) -> Result<(), Fail> {
     Ok(())
 }
 
-/// What every look-up answers: of three pages what is held there, or in brackets what lingers; which
-/// of three frames are free; which of two devices hold something, and of which something lingers; and
-/// how many tickets wait.
-fn answers(alloc: Global, ledger: &Ledger) -> Result<String, Fail> {
-    let mut line = String::new(alloc);
-    for (device, page) in [(1, 16), (1, 17), (2, 16)] {
-        if let Some((frame, rights)) = ledger.holds(device, page) {
-            line.push_str(&format!(in alloc; "{frame}{rights} ")?)?;
-        }
-        if let Some((frame, rights)) = ledger.lingers(device, page) {
-            line.push_str(&format!(in alloc; "({frame}{rights}) ")?)?;
-        }
-        if ledger.holds(device, page).is_none() && ledger.lingers(device, page).is_none() {
-            line.push_str("- ")?;
+/// What a page shows: what is held there, in brackets what lingers, or a dash.
+fn page_text(
+    alloc: Global,
+    ledger: &Ledger,
+    device: DeviceId,
+    page: u64,
+) -> Result<String, AllocError> {
+    match (ledger.holds(device, page), ledger.lingers(device, page)) {
+        (Some((frame, rights)), None) => format!(in alloc; "{frame}{rights}"),
+        (None, Some((frame, rights))) => format!(in alloc; "({frame}{rights})"),
+        (None, None) => format!(in alloc; "-"),
+        (Some(_), Some(_)) => format!(in alloc; "both"),
+    }
+}
+
+/// The numbers of those that are so.
+fn numbers_text(alloc: Global, rows: &[(u32, bool)]) -> Result<String, AllocError> {
+    let mut text = String::new(alloc);
+    for (number, is_so) in rows {
+        if *is_so {
+            text.push_str(&format!(in alloc; " {number}")?)?;
         }
     }
-    line.push_str("free")?;
-    for frame in [5, 6, 7] {
-        if ledger.is_free(frame) {
-            line.push_str(&format!(in alloc; " {frame}")?)?;
-        }
-    }
-    line.push_str(" holds")?;
-    for device in [1, 2] {
-        if ledger.holds_anything(device) {
-            line.push_str(&format!(in alloc; " {device}")?)?;
-        }
-    }
-    line.push_str(" lingers")?;
-    for device in [1, 2] {
-        if ledger.lingers_anything(device) {
-            line.push_str(&format!(in alloc; " {device}")?)?;
-        }
-    }
+    Ok(text)
+}
+
+/// What every look-up answers: at three pages; which of three frames are free; which of two devices
+/// hold something, and of which something lingers; and how many tickets wait.
+fn answers(alloc: Global, ledger: &Ledger) -> Result<String, AllocError> {
+    let first = page_text(alloc, ledger, 1, 16)?;
+    let second = page_text(alloc, ledger, 1, 17)?;
+    let other = page_text(alloc, ledger, 2, 16)?;
+    let frames = [
+        (5, ledger.is_free(5)),
+        (6, ledger.is_free(6)),
+        (7, ledger.is_free(7)),
+    ];
+    let free = numbers_text(alloc, &frames)?;
+    let holding = [(1, ledger.holds_anything(1)), (2, ledger.holds_anything(2))];
+    let holds = numbers_text(alloc, &holding)?;
+    let lingering = [
+        (1, ledger.lingers_anything(1)),
+        (2, ledger.lingers_anything(2)),
+    ];
+    let lingers = numbers_text(alloc, &lingering)?;
     let waiting = ledger.waiting();
-    line.push_str(&format!(in alloc; " waiting {waiting}")?)?;
-    Ok(line)
+    let pages = format!(in alloc; "{first} {second} {other}")?;
+    let devices = format!(in alloc; "holds{holds} lingers{lingers}")?;
+    format!(in alloc; "{pages} free{free} {devices} waiting {waiting}")
 }
 
 fn granted(device: DeviceId, page: u64, frame: u32, rights: Rights) -> Entry {
@@ -145,20 +157,53 @@ fn each_lookup_answers_what_the_history_says(rt: HostRuntime) -> Result<(), Fail
     assert_eq!(rt; first.as_str(), "- - - free 5 6 7 holds lingers waiting 0");
     // Each entry, with what the history leaves then, worked out by hand.
     let walk = [
-        (granted(1, 16, 5, Rights::RW), "5rw - - free 6 7 holds 1 lingers waiting 0"),
-        (granted(2, 16, 5, Rights::R), "5rw - 5r free 6 7 holds 1 2 lingers waiting 0"),
-        (granted(1, 17, 6, Rights::R), "5rw 6r 5r free 7 holds 1 2 lingers waiting 0"),
-        (released(1, 16, 1), "(5rw) 6r 5r free 7 holds 1 2 lingers 1 waiting 1"),
-        (confirmed(9), "(5rw) 6r 5r free 7 holds 1 2 lingers 1 waiting 1"),
-        (all_released(2, 2), "(5rw) 6r (5r) free 7 holds 1 lingers 1 2 waiting 2"),
+        (
+            granted(1, 16, 5, Rights::RW),
+            "5rw - - free 6 7 holds 1 lingers waiting 0",
+        ),
+        (
+            granted(2, 16, 5, Rights::R),
+            "5rw - 5r free 6 7 holds 1 2 lingers waiting 0",
+        ),
+        (
+            granted(1, 17, 6, Rights::R),
+            "5rw 6r 5r free 7 holds 1 2 lingers waiting 0",
+        ),
+        (
+            released(1, 16, 1),
+            "(5rw) 6r 5r free 7 holds 1 2 lingers 1 waiting 1",
+        ),
+        (
+            confirmed(9),
+            "(5rw) 6r 5r free 7 holds 1 2 lingers 1 waiting 1",
+        ),
+        (
+            all_released(2, 2),
+            "(5rw) 6r (5r) free 7 holds 1 lingers 1 2 waiting 2",
+        ),
         (confirmed(1), "- 6r (5r) free 7 holds 1 lingers 2 waiting 1"),
-        (granted(1, 16, 7, Rights::RW), "7rw 6r (5r) free holds 1 lingers 2 waiting 1"),
-        (all_released(1, 3), "(7rw) (6r) (5r) free holds lingers 1 2 waiting 2"),
-        (confirmed(2), "(7rw) (6r) - free 5 holds lingers 1 waiting 1"),
-        (all_released(2, 4), "(7rw) (6r) - free 5 holds lingers 1 waiting 2"),
+        (
+            granted(1, 16, 7, Rights::RW),
+            "7rw 6r (5r) free holds 1 lingers 2 waiting 1",
+        ),
+        (
+            all_released(1, 3),
+            "(7rw) (6r) (5r) free holds lingers 1 2 waiting 2",
+        ),
+        (
+            confirmed(2),
+            "(7rw) (6r) - free 5 holds lingers 1 waiting 1",
+        ),
+        (
+            all_released(2, 4),
+            "(7rw) (6r) - free 5 holds lingers 1 waiting 2",
+        ),
         (confirmed(3), "- - - free 5 6 7 holds lingers waiting 1"),
         (confirmed(4), "- - - free 5 6 7 holds lingers waiting 0"),
-        (granted(2, 16, 6, Rights::RW), "- - 6rw free 5 7 holds 2 lingers waiting 0"),
+        (
+            granted(2, 16, 6, Rights::RW),
+            "- - 6rw free 5 7 holds 2 lingers waiting 0",
+        ),
     ];
     for (entry, expected) in walk {
         bring_about(&mut ledger, entry)?;
@@ -187,6 +232,7 @@ fn a_refused_call_changes_nothing_and_succeeds_at_once_when_repeated(
                     ledger.grant(device, page, 5, Rights::R)?;
                 }
                 assert_eq!(rt; ledger.holds(device, page), Some((5, Rights::R)));
+                assert!(rt; !ledger.is_vacant(device, page));
             }
         }
     }

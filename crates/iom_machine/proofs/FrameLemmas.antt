@@ -1,8 +1,8 @@
 -- Lists of frames.
-use Rattle.std.proofs.Common.{◌≡◌, ◌≢◌, ℕ, ◌+◌, ◌<◌, ◌≤◌, ◌⊎◌, inl, inr, Bool, false, true, List, [], ◌∷◌, ◌++◌, length, length-append, All, Contains, nat_eq, Option, None, refl, sym, ap, ◌∙◌, subst, arith}
+use Rattle.std.proofs.Common.{◌≡◌, ℕ, ◌+◌, ◌<◌, inl, inr, Bool, false, true, List, [], ◌∷◌, ◌++◌, length, length-append, All, Contains, nat_eq, Option, None, refl, sym, ap, ◌∙◌, subst, arith}
 use Rattle.std.specs.Cmp.{nat_eq_equiv}
 use Rattle.std.specs.List.{IsDistinct, list_any}
-use Rattle.std.proofs.lemmas.Bool.{cases_eq, false≢true, eqb-true, eq-eqb}
+use Rattle.std.proofs.lemmas.Bool.{cases_eq, eqb-true, eq-eqb}
 use Rattle.std.proofs.lemmas.List.Elements.{All-nil, All-push, All-weaker, All-contains, Contains-push, Contains-append_left}
 use Rattle.std.proofs.lemmas.Map.Keys.{IsDistinct-push}
 use Rattle.iom_machine.specs.Judging.{ListsAll, CountsAll, IsFreeBesides}
@@ -22,24 +22,24 @@ not_among xs n below = by (list_any (nat_eq n) xs) refl
         let same : n ≡ found.0 = eqb-true n found.0 found.2 in absurd (omega arith)
 
 pub ListsAll-more : (P : ℕ → Type 0) (found : List ℕ) (n : ℕ) → ListsAll found n P → P n → ListsAll (found ++ n ∷ []) (n + 1) P
-ListsAll-more P found n (once, each, whole) here =
-    ( IsDistinct-push nat_eq_equiv found n once (not_among found n (All-weaker (λ x. (x < n) × P x) (λ x. x < n) (λ x h. h.0) found each))
-    , All-push (λ x. (x < n + 1) × P x) found n (All-weaker (λ x. (x < n) × P x) (λ x. (x < n + 1) × P x) (λ x h. (omega (arith, h.0), h.1)) found each) (omega arith, here)
-    , (λ x below p. elim (cases_eq x n) [
-        | inl same ↦ subst (λ y. Contains (found ++ n ∷ []) y) (sym same) (Contains-push found n)
-        | inr other ↦ Contains-append_left found (n ∷ []) x (whole x (omega arith) p)
-      ])
-    )
+ListsAll-more P found n (once, each, whole) here = (
+  IsDistinct-push nat_eq_equiv found n once (not_among found n (All-weaker (λ x. (x < n) × P x) (λ x. x < n) (λ x h. h.0) found each)),
+  All-push (λ x. (x < n + 1) × P x) found n (All-weaker (λ x. (x < n) × P x) (λ x. (x < n + 1) × P x) (λ x h. (omega (arith, h.0), h.1)) found each) (omega arith, here),
+  (λ x below p. elim (cases_eq x n) [
+    | inl same ↦ subst (λ y. Contains (found ++ n ∷ []) y) (sym same) (Contains-push found n)
+    | inr other ↦ Contains-append_left found (n ∷ []) x (whole x (omega arith) p)
+  ]),
+)
 
 pub ListsAll-same : (P : ℕ → Type 0) (found : List ℕ) (n : ℕ) → ListsAll found n P → ¬ P n → ListsAll found (n + 1) P
-ListsAll-same P found n (once, each, whole) never =
-    ( once
-    , All-weaker (λ x. (x < n) × P x) (λ x. (x < n + 1) × P x) (λ x h. (omega (arith, h.0), h.1)) found each
-    , (λ x below p. elim (cases_eq x n) [
-        | inl same ↦ absurd (never (subst P same p))
-        | inr other ↦ whole x (omega arith) p
-      ])
-    )
+ListsAll-same P found n (once, each, whole) never = (
+  once,
+  All-weaker (λ x. (x < n) × P x) (λ x. (x < n + 1) × P x) (λ x h. (omega (arith, h.0), h.1)) found each,
+  (λ x below p. elim (cases_eq x n) [
+    | inl same ↦ absurd (never (subst P same p))
+    | inr other ↦ whole x (omega arith) p
+  ]),
+)
 
 pub ListsAll-none : (P : ℕ → Type 0) → ListsAll [] 0 P
 unfolding IsDistinct
@@ -50,22 +50,22 @@ pub fewer_free : (state : State) (named : Option ℕ) (count n : ℕ) → Counts
     → (count < n → FewerThan n (IsFreeBesides state named)) × (FewerThan n (IsFreeBesides state named) → count < n)
 fewer_free state named count n (found, (once, each, whole), many) =
     let decided = fewer_than (IsFreeBesides state named) found n once
-        (All-weaker (λ x. (x < length state.frames) × IsFreeBesides state named x) (IsFreeBesides state named) (λ x h. h.1) found each)
-        (λ x p. some_passes (nat_eq x) found x (whole x p.0.0 p) (eq-eqb x x refl)) in
+    (All-weaker (λ x. (x < length state.frames) × IsFreeBesides state named x) (IsFreeBesides state named) (λ x h. h.1) found each)
+    (λ x p. some_passes (nat_eq x) found x (whole x p.0.0 p) (eq-eqb x x refl)) in
     ((λ short. decided.0 (omega (arith, many))), (λ fewer. let short : length found < n = decided.1 fewer in omega (arith, many)))
 
 -- where none is named, these are the free frames
 pub free_besides_none : (state : State) (numbers : List ℕ) → (All (IsFreeBesides state None) numbers → All (IsFree state) numbers) × (All (IsFree state) numbers → All (IsFreeBesides state None) numbers)
-free_besides_none state numbers =
-    ( All-weaker (IsFreeBesides state None) (IsFree state) (λ x h. h.0) numbers
-    , All-weaker (IsFree state) (IsFreeBesides state None) (λ x h. (h, tt)) numbers
-    )
+free_besides_none state numbers = (
+  All-weaker (IsFreeBesides state None) (IsFree state) (λ x h. h.0) numbers,
+  All-weaker (IsFree state) (IsFreeBesides state None) (λ x h. (h, tt)) numbers,
+)
 
 pub fewer_besides_none : (state : State) (n : ℕ) → (FewerThan n (IsFreeBesides state None) → FewerThan n (IsFree state)) × (FewerThan n (IsFree state) → FewerThan n (IsFreeBesides state None))
-fewer_besides_none state n =
-    ( (λ fewer numbers once each. fewer numbers once ((free_besides_none state numbers).1 each))
-    , (λ fewer numbers once each. fewer numbers once ((free_besides_none state numbers).0 each))
-    )
+fewer_besides_none state n = (
+  (λ fewer numbers once each. fewer numbers once ((free_besides_none state numbers).1 each)),
+  (λ fewer numbers once each. fewer numbers once ((free_besides_none state numbers).0 each)),
+)
 
 -- counting one more number
 pub CountsAll-none : (P : ℕ → Type 0) → CountsAll 0 0 P

@@ -1,17 +1,20 @@
 -- The sentences of the headline, over every run.
-use Rattle.std.proofs.Common.{◌≡◌, ◌≢◌, ℕ, suc, zero, ◌+◌, ◌-◌, ◌<◌, ◌≤◌, ◌⊎◌, inl, inr, List, [], ◌∷◌, length, take, drop, slice_range, Option, None, Some, slice_get, slice_set, refl, sym, ap, ◌∙◌, subst, arith}
+use Rattle.std.proofs.Common.{◌≡◌, ◌≢◌, ℕ, suc, zero, ◌+◌, ◌<◌, ◌≤◌, ◌⊎◌, inl, inr, List, [], ◌∷◌, length, slice_range, Option, None, Some, slice_get, slice_set, refl, sym, ap, ◌∙◌, subst, arith}
 use Rattle.std.specs.Option.{option_map_or}
 use Rattle.std.proofs.lemmas.Bool.{cases_eq}
+use Rattle.iom_base.specs.declared.access.AccessKind.{AccessKind}
 use Rattle.iom_base.specs.declared.access.AccessKind.TheVariants as kinds
 use Rattle.iom_base.specs.declared.cause.Cause.{Cause}
 use Rattle.iom_ledger.specs.declared.entry.Entry.{Entry}
 use Rattle.iom_ledger.specs.declared.entry.Entry.TheVariants as entries
 use Rattle.iom_ledger.specs.History.{History, May, Pair, Holds}
 use Rattle.iom_ledger.specs.History as ledger
+use Rattle.iom_ledger.specs.declared.refusal.Refusal.TheVariants.{NoSuchDevice}
+use Rattle.iom_machine.specs.declared.choice.Choice.{Choice}
 use Rattle.iom_machine.specs.declared.event.Event.{Event}
 use Rattle.iom_machine.specs.declared.event.Event.TheVariants as events
 use Rattle.iom_machine.specs.declared.outcome.Outcome.{Outcome}
-use Rattle.iom_machine.specs.declared.outcome.Outcome.TheVariants.{Done, Refused, Ticket, Confirmed, NoneConfirmed, Fetched, Accepted, Busy, BadSpan, Fault, Read, Wrote, NothingInFlight}
+use Rattle.iom_machine.specs.declared.outcome.Outcome.TheVariants.{Refused, Accepted, Busy, BadSpan, Fault, Read, Wrote, NothingInFlight}
 use Rattle.iom_machine.specs.declared.state.Access.{Access}
 use Rattle.iom_machine.specs.declared.state.Attachment.{Attachment}
 use Rattle.iom_machine.specs.declared.state.Attachment.TheVariants.{Detached, Attached, Quarantined, Leaving}
@@ -24,12 +27,12 @@ use Rattle.iom_machine.specs.Frames.{bytes_of, stored, written}
 use Rattle.iom_machine.specs.Devices.{device_of, IsPlugged, EachInFlightMay}
 use Rattle.iom_machine.specs.Tickets.{confirmed_from}
 use Rattle.iom_machine.specs.Requests.{offset_of, IsWithinPage, IsBusy, HoldsFor, MayAccept, MayFault, MayAnswer, answered, with_accepted}
-use Rattle.iom_machine.specs.Machine.{Requests, Makes, Step, Run}
+use Rattle.iom_machine.specs.Machine.{Requests, Makes, Step, Run, with_oldest_made}
 use Rattle.iom_machine.specs.Headline.{IsReached, byte_at, IsOldest, IsOutside, AreNamedBytes, TouchesItsOwn, AsksFor, IsOneStage, GrantsFrame, NoneGrants, TouchesFrame}
 use Rattle.iom_machine.proofs.ReachLemmas.{NamesFrame, reach_before}
 use Rattle.iom_machine.proofs.ByteLemmas.{slice_get-set_same, slice_get-set_other, slice_get-written_inside, slice_get-written_outside, slice_get-range, length-range}
 use Rattle.iom_machine.proofs.InFlightLemmas.{match_cases, some_case, All-at, AllInFlight-of, found_device}
-use Rattle.iom_machine.proofs.SoundLemmas.{IsSound, IsWhole, AreWholeFrames, Change, change-step, sound_if_reached}
+use Rattle.iom_machine.proofs.SoundLemmas.{IsSound, IsWhole, Change, change-step, sound_if_reached}
 
 pub in_flight_may : (state : State) → IsReached state → EachInFlightMay state
 in_flight_may state reached = (sound_if_reached state reached).reaches
@@ -39,9 +42,9 @@ named_in : (frame : Frame) (made : InFlight) (bytes : List ℕ) → length frame
     → bytes ≡ slice_range frame.bytes (offset_of made.access) (offset_of made.access + made.access.len)
     → (length bytes ≡ made.access.len) × ((k : ℕ) → k < made.access.len → slice_get bytes k ≡ slice_get frame.bytes (offset_of made.access + k))
 named_in frame made bytes long within same =
-    let fits : offset_of made.access + made.access.len ≤ length frame.bytes = subst (λ n. offset_of made.access + made.access.len ≤ n) (sym long) within.1 in
-    ( ap (λ (l : List ℕ). length l) same ∙ length-range frame.bytes (offset_of made.access) made.access.len fits
-    , (λ k below. ap (λ (l : List ℕ). slice_get l k) same ∙ slice_get-range frame.bytes (offset_of made.access) made.access.len k fits below)
+    let fits : offset_of made.access + made.access.len ≤ length frame.bytes = subst (λ n. offset_of made.access + made.access.len ≤ n) (sym long) within.1 in (
+      ap (λ (l : List ℕ). length l) same ∙ length-range frame.bytes (offset_of made.access) made.access.len fits,
+      (λ k below. ap (λ (l : List ℕ). slice_get l k) same ∙ slice_get-range frame.bytes (offset_of made.access) made.access.len k fits below),
     )
 
 -- the bytes of a frame that is there
@@ -49,7 +52,7 @@ bytes_there : (frames : List Frame) (number : ℕ) (frame : Frame) → slice_get
 bytes_there frames number frame at = ap (λ (found : Option Frame). option_map_or (λ (f : Frame). f.bytes) found []) at
 
 -- a number below the length has an element
-element_at : {X : Type 0} (xs : List X) (k : ℕ) → k < length xs → (x : X) × (slice_get xs k ≡ Some x)
+pub element_at : {X : Type 0} (xs : List X) (k : ℕ) → k < length xs → (x : X) × (slice_get xs k ≡ Some x)
 element_at [] k below = absurd (omega arith)
 element_at (x ∷ xs) zero below = (x, refl)
 element_at (x ∷ xs) (suc k) below = let rest = element_at xs k (omega arith) in (rest.0, rest.1)
@@ -64,11 +67,11 @@ frame_there state sound id made may =
 -- the facts of the access that a commit makes
 made_facts : (state : State) → IsSound state → (id : ℕ) (device : Device) (made : InFlight) → device_of state id ≡ Some device → slice_get device.in_flight 0 ≡ Some made
     → IsWhole id made × May state.history device.id made.frame made.access.kind
-made_facts state sound id device made at first =
-    ( All-at (λ flying. IsWhole device.id flying) device.in_flight 0 made (AllInFlight-of IsWhole state.devices id device at sound.whole) first
-    , All-at (λ flying. May state.history device.id flying.frame flying.access.kind) device.in_flight 0 made
-        (AllInFlight-of (λ i flying. May state.history i flying.frame flying.access.kind) state.devices id device at sound.reaches) first
-    )
+made_facts state sound id device made at first = (
+  All-at (λ flying. IsWhole device.id flying) device.in_flight 0 made (AllInFlight-of IsWhole state.devices id device at sound.whole) first,
+  All-at (λ flying. May state.history device.id flying.frame flying.access.kind) device.in_flight 0 made
+      (AllInFlight-of (λ i flying. May state.history i flying.frame flying.access.kind) state.devices id device at sound.reaches) first,
+)
 
 -- the bytes of a frame after a store into it
 bytes_stored : (frames : List Frame) (number : ℕ) (frame : Frame) (offset : ℕ) (bytes : List ℕ) → slice_get frames number ≡ Some frame
@@ -92,14 +95,15 @@ bytes_elsewhere frames number other offset bytes differ = by (slice_get frames n
 stores_its_own : (frames : List Frame) (made : InFlight) (frame : Frame) → slice_get frames made.frame ≡ Some frame → length frame.bytes ≡ 4096 → IsWithinPage made.access
     → length made.access.bytes ≡ made.access.len
     → AreNamedBytes (stored frames made.frame (offset_of made.access) made.access.bytes) made made.access.bytes
-      × ((number offset : ℕ) → IsOutside made number offset → byte_at (stored frames made.frame (offset_of made.access) made.access.bytes) number offset ≡ byte_at frames number offset)
-stores_its_own frames made frame at long within named =
-    ( ( named
-      , (λ k below. sym (ap (λ (l : List ℕ). slice_get l (offset_of made.access + k)) (bytes_stored frames made.frame frame (offset_of made.access) made.access.bytes at)
-          ∙ slice_get-written_inside frame.bytes (offset_of made.access) made.access.bytes k fits (subst (λ n. k < n) (sym named) below)))
-      )
-    , (λ number offset out. by number offset (cases_eq number made.frame) out)
-    )
+    × ((number offset : ℕ) → IsOutside made number offset → byte_at (stored frames made.frame (offset_of made.access) made.access.bytes) number offset ≡ byte_at frames number offset)
+stores_its_own frames made frame at long within named = (
+  (
+    named,
+    (λ k below. sym (ap (λ (l : List ℕ). slice_get l (offset_of made.access + k)) (bytes_stored frames made.frame frame (offset_of made.access) made.access.bytes at)
+        ∙ slice_get-written_inside frame.bytes (offset_of made.access) made.access.bytes k fits (subst (λ n. k < n) (sym named) below))),
+  ),
+  (λ number offset out. by number offset (cases_eq number made.frame) out),
+)
   where
     fits : offset_of made.access + length made.access.bytes ≤ length frame.bytes
     fits = subst (λ n. offset_of made.access + n ≤ length frame.bytes) (sym named) (subst (λ n. offset_of made.access + made.access.len ≤ n) (sym long) within.1)
@@ -133,12 +137,12 @@ touches-makes old new id (Read bytes) sound device at makes =
     let there = frame_there old sound device.id made facts.1 in
     let own : device.id ≡ id = (found_device old.devices id device at).1 in
     let named = named_in there.0 made bytes.items there.2 facts.0.0
-        (found.2.2 ∙ ap (λ (l : List ℕ). slice_range l (offset_of made.access) (offset_of made.access + made.access.len)) (bytes_there old.frames made.frame there.0 there.1)) in
-    ( made
-    , (device, at, found.1)
-    , subst (λ i. May old.history i made.frame kinds.Read) own found.2.1
-    , (named.0, (λ k below. named.1 k below ∙ sym (ap (λ (l : List ℕ). slice_get l (offset_of made.access + k)) (bytes_there old.frames made.frame there.0 there.1))))
-    , ap (λ (s : State). s.frames) found.2.3
+    (found.2.2 ∙ ap (λ (l : List ℕ). slice_range l (offset_of made.access) (offset_of made.access + made.access.len)) (bytes_there old.frames made.frame there.0 there.1)) in (
+      made,
+      (device, at, found.1),
+      subst (λ i. May old.history i made.frame kinds.Read) own found.2.1,
+      (named.0, (λ k below. named.1 k below ∙ sym (ap (λ (l : List ℕ). slice_get l (offset_of made.access + k)) (bytes_there old.frames made.frame there.0 there.1)))),
+      ap (λ (s : State). s.frames) found.2.3,
     )
 touches-makes old new id (Wrote len) sound device at makes =
     let found = some_case (slice_get device.in_flight 0) _ makes in
@@ -147,13 +151,13 @@ touches-makes old new id (Wrote len) sound device at makes =
     let there = frame_there old sound device.id made facts.1 in
     let own : device.id ≡ id = (found_device old.devices id device at).1 in
     let stores = stores_its_own old.frames made there.0 there.1 there.2 facts.0.0 (facts.0.1 found.2.0) in
-    let frames_now : new.frames ≡ stored old.frames made.frame (offset_of made.access) made.access.bytes = ap (λ (s : State). s.frames) found.2.3 in
-    ( made
-    , (device, at, found.1)
-    , subst (λ i. May old.history i made.frame kinds.Write) own found.2.1
-    , found.2.2
-    , subst (λ fs. AreNamedBytes fs made made.access.bytes) (sym frames_now) stores.0
-    , (λ frame offset out. ap (λ (fs : List Frame). byte_at fs frame offset) frames_now ∙ stores.1 frame offset out)
+    let frames_now : new.frames ≡ stored old.frames made.frame (offset_of made.access) made.access.bytes = ap (λ (s : State). s.frames) found.2.3 in (
+      made,
+      (device, at, found.1),
+      subst (λ i. May old.history i made.frame kinds.Write) own found.2.1,
+      found.2.2,
+      subst (λ fs. AreNamedBytes fs made made.access.bytes) (sym frames_now) stores.0,
+      (λ frame offset out. ap (λ (fs : List Frame). byte_at fs frame offset) frames_now ∙ stores.1 frame offset out),
     )
 touches-makes old new id NothingInFlight sound device at makes = ap (λ (s : State). s.frames) makes.1
 touches-makes old new id _ sound device at makes = absurd makes
@@ -192,10 +196,10 @@ answered_where_held chosen old new frame device access BadSpan answer next one w
 answered_where_held chosen old new frame device access Busy answer next one within room held = absurd (room answer.1)
 answered_where_held chosen old new frame device access (Fault cause) answer next one within room held =
     absurd (no_fault_where_held device old device.id access frame cause one held answer.1)
-answered_where_held chosen old new frame device access (Accepted number) answer next one within room held =
-    ( ap (λ n. Accepted n) answer.2
-    , next ∙ ap (λ f. with_accepted old device access f) (accepted_where_held device.attachment old device.id access frame chosen held answer.1)
-    )
+answered_where_held chosen old new frame device access (Accepted number) answer next one within room held = (
+  ap (λ n. Accepted n) answer.2,
+  next ∙ ap (λ f. with_accepted old device access f) (accepted_where_held device.attachment old device.id access frame chosen held answer.1),
+)
 answered_where_held chosen old new frame device access _ answer next one within room held = absurd answer
 
 asked_where_held : (chosen : ℕ) (old new : State) (id frame : ℕ) (device : Device) (access : Access) (outcome : Outcome)
@@ -260,3 +264,37 @@ pub untouched : (old new : State) (event : Event) (outcome : Outcome) (frame : �
 untouched old new (events.Commit id) (Read bytes) frame sound free (made, oldest, on) = made_may old new id frame (Read bytes) made sound oldest on free
 untouched old new (events.Commit id) (Wrote len) frame sound free (made, oldest, on) = made_may old new id frame (Wrote len) made sound oldest on free
 untouched old new _ _ frame sound free touches = absurd touches
+
+-- the oldest access of a device can be made, where there is one
+makes_of : (state : State) → IsSound state → (id : ℕ) (device : Device) → device_of state id ≡ Some device → (outcome : Outcome) × (new : State) × Makes state device outcome new
+makes_of state sound id device at = by device.in_flight refl
+  where
+    of_kind : (made : InFlight) (kind : AccessKind) → made.access.kind ≡ kind → slice_get device.in_flight 0 ≡ Some made → May state.history device.id made.frame made.access.kind
+        → (outcome : Outcome) × (new : State) × Makes state device outcome new
+    of_kind made kinds.Read same first may = (
+      Read (record { items = slice_range (bytes_of state.frames made.frame) (offset_of made.access) (offset_of made.access + made.access.len) }),
+      with_oldest_made state device,
+      rw first (same, subst (May state.history device.id made.frame) same may, refl, refl),
+    )
+    of_kind made kinds.Write same first may = (
+      Wrote made.access.len,
+      record (with_oldest_made state device) { frames = stored state.frames made.frame (offset_of made.access) made.access.bytes },
+      rw first (same, subst (May state.history device.id made.frame) same may, refl, refl),
+    )
+
+    by : (in_flight : List InFlight) → device.in_flight ≡ in_flight → (outcome : Outcome) × (new : State) × Makes state device outcome new
+    by [] none = (NothingInFlight, state, (none, refl))
+    by (made ∷ rest) some =
+        let first : slice_get device.in_flight 0 ≡ Some made = ap (λ (l : List InFlight). slice_get l 0) some in
+        of_kind made made.access.kind refl first (made_facts state sound id device made at first).1
+
+pub commits_are_answered : (state : State) (id : ℕ) → IsReached state → (outcome : Outcome) × (new : State) × Step state (events.Commit id) outcome new
+commits_are_answered state id reached = by (device_of state id) refl
+  where
+    none_chosen : Choice
+    none_chosen = record { taken = []; frame = 0 }
+
+    by : (found : Option Device) → device_of state id ≡ found → (outcome : Outcome) × (new : State) × Step state (events.Commit id) outcome new
+    by None absent = (Refused NoSuchDevice, state, (none_chosen, rw absent (refl, refl)))
+    by (Some device) there =
+        let made = makes_of state (sound_if_reached state reached) id device there in (made.0, made.1, (none_chosen, rw there made.2))

@@ -1,7 +1,8 @@
 -- What a step keeps of each access in flight.
-use Rattle.std.proofs.Common.{◌≡◌, ℕ, ◌+◌, ◌==◌, ◌⊎◌, inl, inr, Bool, true, false, cond, List, [], ◌∷◌, ◌++◌, drop, find, All, Contains, Option, None, Some, MatchOption, IsSomeAnd, if◌then◌else◌, slice_get, refl, sym, ap, subst, arith}
+use Rattle.std.proofs.Common.{◌≡◌, ℕ, ◌==◌, ◌⊎◌, inl, inr, Bool, true, false, cond, List, [], ◌∷◌, ◌-◌, length, take, drop, find, All, Contains, Option, None, Some, MatchOption, IsSomeAnd, if◌then◌else◌, slice_get, refl, sym, ap, subst, arith}
 use Rattle.std.specs.Prelude.{⊤}
 use Rattle.std.proofs.lemmas.Bool.{eqb-true}
+use Rattle.std.proofs.lemmas.Grind.{common_steps}
 use Rattle.std.proofs.lemmas.List.Elements.{All-push, All-nil, All-weaker, All-contains, All-cons, All-tail, All-head}
 use Rattle.std.proofs.lemmas.Option.{get_or_from_slice_get, slice_get_within}
 use Rattle.iom_ledger.specs.History.{History, May}
@@ -16,7 +17,7 @@ use Rattle.iom_machine.specs.declared.state.Device.{Device}
 use Rattle.iom_machine.specs.declared.state.InFlight.{InFlight}
 use Rattle.iom_machine.specs.declared.state.Mode.TheVariants.{First, Second, Both}
 use Rattle.iom_machine.specs.declared.state.State.{State}
-use Rattle.iom_machine.specs.Devices.{device_of, replaced_device, with_device}
+use Rattle.iom_machine.specs.Devices.{device_of, replaced_device}
 use Rattle.iom_machine.specs.Requests.{read_of, write_of, page_of, IsWithinPage, MayAccept, MayAnswer, answered}
 use Rattle.iom_machine.specs.Machine.{Requests, Makes, Commits, Step}
 use Rattle.iom_machine.specs.Headline.{AsksFor, IsAccepted}
@@ -106,8 +107,8 @@ in_flight-answer : (P : ℕ → InFlight → Type 0) (chosen : ℕ) (old new : S
 in_flight-answer P chosen old new id device access (Accepted number) at (forwarded, accepts, next) same enters all =
     let own : device.id ≡ id = (found_device old.devices id device at).1 in
     let its : P device.id (record { access = access; frame = chosen }) =
-        subst (λ i. P i (record { access = access; frame = chosen })) (sym own)
-        (enters tt forwarded.0 (subst (λ i. May old.history i chosen access.kind) own (accepted_reach device.attachment old device.id access chosen accepts))) in
+    subst (λ i. P i (record { access = access; frame = chosen })) (sym own)
+    (enters tt forwarded.0 (subst (λ i. May old.history i chosen access.kind) own (accepted_reach device.attachment old device.id access chosen accepts))) in
     subst (λ (s : State). AllInFlight P s.devices) (sym same)
     (AllInFlight-with P old.devices device.id _ all (All-push (P device.id) device.in_flight _ (AllInFlight-of P old.devices id device at all) its))
 in_flight-answer P chosen old new id device access BadSpan at answer same enters all = subst (λ (s : State). AllInFlight P s.devices) (sym same) all
@@ -181,3 +182,17 @@ in_flight-step P old new (events.Write id address bytes) outcome (choice, step) 
     in_flight-requests P choice.frame old new id (write_of address bytes) outcome step
     (λ accepts within may. enters id _ (accepted_if (events.Write id address bytes) outcome id (write_of address bytes) (refl, refl) accepts) within may) all
 in_flight-step P old new (events.Commit id) outcome (choice, step) enters all = in_flight-commits P old new id outcome step all
+
+-- all elements are so where the first one is, and the later ones are
+pub All-from_parts : {X : Type 0} (P : X → Type 0) (xs : List X) (x : X) → slice_get xs 0 ≡ Some x → P x → All P (drop 1 xs) → All P xs
+All-from_parts P [] x at here rest = cc
+All-from_parts P (y ∷ ys) x at here rest = let same : y ≡ x = cc in All-cons P y ys (subst P (sym same) here) rest
+
+-- the same, with the later ones as a slice pattern has them
+pub All-by_parts : {X : Type 0} (P : X → Type 0) (xs : List X) (x : X) → slice_get xs 0 ≡ Some x
+    → (P x → All P (take (length xs - 1) (drop 1 xs)) → All P xs) × (All P xs → All P (take (length xs - 1) (drop 1 xs)))
+All-by_parts P xs x at =
+    let rest : take (length xs - 1) (drop 1 xs) ≡ drop 1 xs = grind (arith, common_steps) in (
+      (λ here later. All-from_parts P xs x at here (subst (All P) rest later)),
+      (λ all. subst (All P) (sym rest) (All-rest P xs all)),
+    )

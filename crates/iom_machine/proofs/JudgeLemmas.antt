@@ -1,5 +1,5 @@
 -- The judge's look-ups in a history say what the definitions do.
-use Rattle.std.proofs.Common.{◌≡◌, ℕ, ◌⊎◌, inl, inr, Bool, true, false, not, ◌==◌, ◌&&◌, ◌||◌, List, [], ◌∷◌, ◌++◌, filter, cond, Contains, Option, None, Some, is_some, if◌then◌else◌, refl, sym, ap, ◌∙◌, subst, arith, IsTrue, ◌↔◌}
+use Rattle.std.proofs.Common.{◌≡◌, ℕ, ◌⊎◌, inl, inr, Bool, true, false, not, ◌==◌, ◌&&◌, ◌||◌, List, [], ◌∷◌, filter, cond, Contains, Option, None, Some, if◌then◌else◌, refl, sym, ap, ◌∙◌, subst, arith}
 use Rattle.std.specs.List.{list_any}
 use Rattle.std.specs.Option.{option_map_or}
 use Rattle.std.proofs.lemmas.Bool.{false≢true, eqb-true, eq-eqb, and_parts, and_from, or_left, or_right}
@@ -77,9 +77,15 @@ pub LingersFor-from : (h : History) (id page : ℕ) (kind : AccessKind) (frame :
 LingersFor-from h id page kind frame e =
     let found = passing_element (is_waiting h frame kind) (released_at h id page) e in
     let parts = and_parts (not (confirms h found.0.0)) (serves frame kind found.0.1) found.2 in
-    let s = served frame kind found.0.1 parts.1 in
-    (found.0.1.1, (found.0.0, subst (λ (p : Pair). Contains (filter (λ r. not (confirms h r.0)) (released_at h id page)) (found.0.0, p)) s.0
-        (contains_filter (λ r. not (confirms h r.0)) (released_at h id page) found.0 found.1 parts.0)), s.1)
+    let s = served frame kind found.0.1 parts.1 in (
+      found.0.1.1,
+      (
+        found.0.0,
+        subst (λ (p : Pair). Contains (filter (λ r. not (confirms h r.0)) (released_at h id page)) (found.0.0, p)) s.0
+            (contains_filter (λ r. not (confirms h r.0)) (released_at h id page) found.0 found.1 parts.0),
+      ),
+      s.1,
+    )
 
 pub LingersFor-test : (h : History) (id page : ℕ) (kind : AccessKind) (frame : ℕ) → LingersFor h id page kind frame → lingers_for h h id page kind frame ≡ true
 LingersFor-test h id page kind frame (rights, (ticket, c), allowed) =
@@ -231,12 +237,12 @@ out_of_reach_test h frame = ((λ none device kind may. false≢true (ap not (sym
 -- fewer than n frames are free exactly where the list of them is shorter
 pub fewer_than : (IsOfSort : ℕ → Type 0) (all : List ℕ) (n : ℕ) → IsDistinct nat_eq all → All IsOfSort all → ((x : ℕ) → IsOfSort x → is_member nat_eq all x ≡ true)
     → ((length all < n → FewerThan n IsOfSort) × (FewerThan n IsOfSort → length all < n))
-fewer_than IsOfSort all n distinct each whole =
-    ( (λ short numbers once sorted.
-        let most : length numbers ≤ length all = length-le_from_is_member nat_eq_equiv numbers all once
-            (λ q m. whole q (let found = passing_element (nat_eq q) numbers m in subst IsOfSort (sym (eqb-true q found.0 found.2)) (All-contains IsOfSort numbers found.0 sorted found.1))) in omega arith)
-    , (λ fewer. fewer all distinct each)
-    )
+fewer_than IsOfSort all n distinct each whole = (
+  (λ short numbers once sorted.
+      let most : length numbers ≤ length all = length-le_from_is_member nat_eq_equiv numbers all once
+      (λ q m. whole q (let found = passing_element (nat_eq q) numbers m in subst IsOfSort (sym (eqb-true q found.0 found.2)) (All-contains IsOfSort numbers found.0 sorted found.1))) in omega arith),
+  (λ fewer. fewer all distinct each),
+)
 
 -- a filter keeps something exactly where something passes
 pub some_kept : {X : Type 0} (p : X → Bool) (xs : List X) → not (length (filter p xs) == 0) ≡ list_any p xs

@@ -5,3 +5,6 @@ pub mod SoundLemmas
 pub mod HeadlineLemmas
 pub mod JudgeLemmas
 pub mod FrameLemmas
+pub mod StepLemmas
+pub mod CallLemmas
+pub mod VerdictLemmas

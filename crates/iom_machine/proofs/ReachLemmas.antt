@@ -1,10 +1,9 @@
 -- How one more entry changes what a device may reach.
-use Rattle.std.proofs.Common.{◌≡◌, ℕ, ◌⊎◌, inl, inr, Bool, true, false, not, ◌==◌, ◌&&◌, ◌||◌, List, [], ◌∷◌, ◌++◌, filter, cond, Contains, Option, None, Some, is_some, if◌then◌else◌, refl, sym, ap, ◌∙◌, subst, arith}
+use Rattle.std.proofs.Common.{◌≡◌, ℕ, ◌⊎◌, inl, inr, Bool, true, false, not, ◌==◌, ◌&&◌, ◌||◌, List, [], ◌∷◌, filter, cond, Contains, Option, None, Some, if◌then◌else◌, refl, sym, ap, ◌∙◌, subst, arith}
 use Rattle.std.proofs.lemmas.Bool.{false≢true, eqb-true, and_parts}
 use Rattle.std.proofs.lemmas.List.Elements.{Contains-push, Contains-push_cases, Contains-append_cases, Contains-append_left, Contains-append_right}
 use Rattle.iom_base.specs.declared.access.AccessKind.{AccessKind}
 use Rattle.iom_base.specs.declared.rights.Rights.{Rights}
-use Rattle.iom_base.specs.Rights.{allows}
 use Rattle.iom_ledger.specs.declared.entry.Entry.{Entry}
 use Rattle.iom_ledger.specs.declared.entry.Entry.TheVariants.{Granted, Released, AllReleased, Confirmed}
 use Rattle.iom_ledger.specs.History.{History, Pair, is_about, granted_by, held_at, released_by, released_at, confirms, Holds, Lingers, May}
@@ -112,9 +111,9 @@ pub reach_before : (entry : Entry) (h : History) (device frame : ℕ) (kind : Ac
     → NamesFrame entry frame ⊎ May h device frame kind
 reach_before entry h device frame kind (page, rights, reaches, allowed) = elim reaches [
   | inl holds ↦ elim (holds_before entry h device page frame rights holds) [
-      | inl named ↦ inl named
-      | inr held ↦ inr (page, rights, inl held, allowed)
-    ]
+    | inl named ↦ inl named
+    | inr held ↦ inr (page, rights, inl held, allowed)
+  ]
   | inr lingers ↦ inr (page, rights, lingers_before entry h device page (frame, rights) lingers, allowed)
 ]
 
@@ -143,6 +142,9 @@ reach_after_release h d a ticket fresh device frame kind (page, rights, reaches,
     by false e (inl holds) = inl (rw e holds)
     by false e (inr lingers) = inr (rw e lingers)
     by true e (inl holds) = inr (ticket, rw (e, holds, fresh) (contains_head (ticket, (frame, rights)) _))
-    by true e (inr lingers) = inr (lingers.0, rw e (contains_filter (λ r. not (confirms h r.0)) _ (lingers.0, (frame, rights))
-        (Contains-append_right _ (released_at h device page) (lingers.0, (frame, rights)) (contains_from_filter _ (released_at h device page) (lingers.0, (frame, rights)) lingers.1).0)
-        (contains_from_filter _ (released_at h device page) (lingers.0, (frame, rights)) lingers.1).1))
+    by true e (inr lingers) = inr (
+      lingers.0,
+      rw e (contains_filter (λ r. not (confirms h r.0)) _ (lingers.0, (frame, rights))
+          (Contains-append_right _ (released_at h device page) (lingers.0, (frame, rights)) (contains_from_filter _ (released_at h device page) (lingers.0, (frame, rights)) lingers.1).0)
+          (contains_from_filter _ (released_at h device page) (lingers.0, (frame, rights)) lingers.1).1),
+    )

@@ -1,10 +1,10 @@
 -- What is true of every state that is reached.
-use Rattle.std.proofs.Common.{◌≡◌, ◌≢◌, ℕ, suc, zero, ◌+◌, ◌-◌, ◌<◌, ◌≤◌, ◌==◌, ◌⊎◌, inl, inr, Bool, true, false, not, ◌||◌, List, [], ◌∷◌, ◌++◌, length, All, Option, None, Some, is_some, if◌then◌else◌, slice_get, slice_set, nat_le, replicate, refl, sym, ap, ◌∙◌, subst, arith}
+use Rattle.std.proofs.Common.{◌≡◌, ℕ, suc, zero, ◌+◌, ◌-◌, ◌<◌, ◌≤◌, ◌==◌, ◌⊎◌, inl, inr, Bool, true, false, ◌||◌, List, [], ◌∷◌, length, All, Option, None, Some, is_some, if◌then◌else◌, slice_get, slice_set, nat_le, replicate, refl, sym, ap, ◌∙◌, subst, arith}
 use Rattle.std.proofs.lemmas.Bool.{eqb-true, or_parts}
 use Rattle.std.proofs.lemmas.Bool.Decides.{nat_tests}
 use Rattle.std.proofs.lemmas.Grind.{common_steps}
 use Rattle.std.proofs.lemmas.List.{length-replicate}
-use Rattle.std.proofs.lemmas.List.Elements.{All-nil, All-weaker, All-set, All-replicate}
+use Rattle.std.proofs.lemmas.List.Elements.{All-nil, All-set, All-replicate}
 use Rattle.std.specs.Option.{option_map_or}
 use Rattle.iom_base.specs.declared.access.AccessKind.{AccessKind}
 use Rattle.iom_base.specs.declared.access.AccessKind.TheVariants as kinds
@@ -16,7 +16,7 @@ use Rattle.iom_ledger.specs.History.{History, May, Pair, held_at, confirms}
 use Rattle.iom_machine.specs.declared.event.Event.{Event}
 use Rattle.iom_machine.specs.declared.event.Event.TheVariants as events
 use Rattle.iom_machine.specs.declared.outcome.Outcome.{Outcome}
-use Rattle.iom_machine.specs.declared.outcome.Outcome.TheVariants.{Done, Refused, Ticket, Confirmed, NoneConfirmed, Fetched, Accepted, Busy, BadSpan, Fault, Read, Wrote, NothingInFlight}
+use Rattle.iom_machine.specs.declared.outcome.Outcome.TheVariants.{Done, Refused, Ticket, Confirmed, NoneConfirmed, Fetched, Accepted, Read, Wrote, NothingInFlight}
 use Rattle.iom_machine.specs.declared.state.Access.{Access}
 use Rattle.iom_machine.specs.declared.state.Device.{Device}
 use Rattle.iom_machine.specs.declared.state.Frame.{Frame}
@@ -28,7 +28,7 @@ use Rattle.iom_machine.specs.Frames.{with_frame, reserved_for, stored, written}
 use Rattle.iom_machine.specs.Devices.{device_of, EachInFlightMay}
 use Rattle.iom_machine.specs.Tickets.{confirmed_from}
 use Rattle.iom_machine.specs.Refusals.{NoneApplies, first_that_applies, grant_reasons, is_held, is_lingering}
-use Rattle.iom_machine.specs.Requests.{read_of, write_of, offset_of, IsWithinPage, MayAnswer, answered}
+use Rattle.iom_machine.specs.Requests.{read_of, write_of, offset_of, IsWithinPage, answered}
 use Rattle.iom_machine.specs.Machine.{Requests, Makes, Commits, Step, Run, opening, empty_frame}
 use Rattle.iom_machine.specs.Headline.{GrantsFrame, AsksFor, IsAccepted, WasAccepted, IsReached, IsReachedBy}
 use Rattle.iom_machine.proofs.ReachLemmas.{NamesFrame, reach_before, reach_after_grant, reach_after_release}
@@ -203,7 +203,7 @@ reaches-change event outcome old new (Change.grants id page frame rights granted
 reaches-change event outcome old new (Change.releases id page extended next) given all =
     subst (λ h. AllInFlight (StillMay h) new.devices) (sym extended)
     (AllInFlight-weaker (StillMay old.history) _ (λ d flying may. reach_after_release old.history id page new.tickets
-        (ap (confirms old.history) next ∙ fresh_ticket old.history old.tickets given) d flying.frame flying.access.kind may) new.devices all)
+    (ap (confirms old.history) next ∙ fresh_ticket old.history old.tickets given) d flying.frame flying.access.kind may) new.devices all)
 reaches-change event outcome old new (Change.confirms_some first n most extended tickets reaches) given all = reaches
 
 -- confirmed tickets were given
@@ -318,7 +318,7 @@ whole-stored : KeptByWrites (IsWhole 0) AreWholeFrames
 whole-stored frames made whole write all = All-with_frame (λ (f : Frame). length f.bytes ≡ 4096) frames made.frame
     (λ frame. record frame { bytes = written frame.bytes (offset_of made.access) made.access.bytes })
     (λ frame long. length-written frame.bytes (offset_of made.access) made.access.bytes
-        (subst (λ n. offset_of made.access + n ≤ length frame.bytes) (sym (whole.1 write)) (subst (λ n. offset_of made.access + made.access.len ≤ n) (sym long) whole.0.1)) ∙ long) all
+    (subst (λ n. offset_of made.access + n ≤ length frame.bytes) (sym (whole.1 write)) (subst (λ n. offset_of made.access + made.access.len ≤ n) (sym long) whole.0.1)) ∙ long) all
 
 length-with_frame : (frames : List Frame) (number : ℕ) (change : Frame → Frame) → length (with_frame frames number change) ≡ length frames
 length-with_frame frames number change = by (slice_get frames number)
@@ -326,6 +326,12 @@ length-with_frame frames number change = by (slice_get frames number)
     by : (found : Option Frame) → length (option_map_or (λ frame. slice_set frames number (change frame)) found frames) ≡ length frames
     by None = refl
     by (Some frame) = grind (arith, common_steps)
+
+pub length-reserved_for : (owner : Owner) (numbers : List ℕ) (frames : List Frame) → length (reserved_for owner numbers frames) ≡ length frames
+length-reserved_for owner [] frames = refl
+length-reserved_for owner (number ∷ numbers) frames =
+    length-reserved_for owner numbers (with_frame frames number (λ frame. record frame { owner = Some owner }))
+    ∙ length-with_frame frames number (λ frame. record frame { owner = Some owner })
 
 all_so : {X : Type 0} (xs : List X) → All (λ x. Unit {0}) xs
 all_so xs k d below = tt
@@ -392,7 +398,7 @@ accepted-run : (P : ℕ → InFlight → Type 0) (old new : State) (events : Lis
 accepted-run P old new [] [] run all = AllInFlight-weaker P (λ id flying. P id flying ⊎ ⊥) (λ id flying its. inl its) new.devices (subst (λ (s : State). AllInFlight P s.devices) (sym run) all)
 accepted-run P old new (event ∷ events) (outcome ∷ outcomes) (mid, step, run) all =
     let entered = in_flight-step (λ id flying. P id flying ⊎ IsAccepted event outcome id flying.access) old mid event outcome step
-        (λ id flying accepted within may. inr accepted) (AllInFlight-weaker P (λ id flying. P id flying ⊎ IsAccepted event outcome id flying.access) (λ id flying its. inl its) old.devices all) in
+    (λ id flying accepted within may. inr accepted) (AllInFlight-weaker P (λ id flying. P id flying ⊎ IsAccepted event outcome id flying.access) (λ id flying its. inl its) old.devices all) in
     AllInFlight-weaker (λ id flying. (P id flying ⊎ IsAccepted event outcome id flying.access) ⊎ WasAccepted events outcomes id flying.access)
     (λ id flying. P id flying ⊎ WasAccepted (event ∷ events) (outcome ∷ outcomes) id flying.access) (λ id flying found. by id flying found) new.devices
     (accepted-run (λ id flying. P id flying ⊎ IsAccepted event outcome id flying.access) mid new events outcomes run entered)

@@ -126,3 +126,8 @@ abbrev pub AccessesInFlightWereAccepted : Type 0
 AccessesInFlightWereAccepted =
     (state : State) (events : List Event) (outcomes : List Outcome) → IsReachedBy events outcomes state
     → All (λ device. All (λ flying. WasAccepted events outcomes device.id flying.access) device.in_flight) state.devices
+
+-- A commit is always answered: what is in flight is made, and nothing is kept back.
+abbrev pub CommitsAreAnswered : Type 0
+CommitsAreAnswered =
+    (state : State) (id : ℕ) → IsReached state → (outcome : Outcome) × (new : State) × Step state (events.Commit id) outcome new

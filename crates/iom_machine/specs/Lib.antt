@@ -6,3 +6,4 @@ pub mod Requests
 pub mod Machine
 pub mod Headline
 pub mod Judging
+pub mod Verdicts

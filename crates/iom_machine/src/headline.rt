@@ -1,4 +1,4 @@
-ghost use Rattle.iom_machine.specs.Headline.{MadeAccessesTouchTheirOwn, HeldPagesAreAccepted, FreeFramesAreNotTouched, AccessesInFlightMay, AccessesInFlightWereAccepted};
+ghost use Rattle.iom_machine.specs.Headline.{MadeAccessesTouchTheirOwn, HeldPagesAreAccepted, FreeFramesAreNotTouched, AccessesInFlightMay, AccessesInFlightWereAccepted, CommitsAreAnswered};
 
 /// What every run from power-on has.
 ///
@@ -6,12 +6,13 @@ ghost use Rattle.iom_machine.specs.Headline.{MadeAccessesTouchTheirOwn, HeldPage
 /// in a frame that the history then shows held by that device with that right, or released by it so
 /// and unconfirmed; a raw, one-stage device's access to a page it so holds is accepted on that very
 /// frame; and a frame shown free is touched by no device until granted again. Every access in flight
-/// was asked for by its device and accepted, keeps its bytes, and may still reach its frame.
+/// was asked for by its device and accepted, keeps its bytes, may still reach its frame, and
+/// can be made.
 pub fn reclaim_theorem()
     ensures made { MadeAccessesTouchTheirOwn }
     ensures accepted { HeldPagesAreAccepted }
     ensures free { FreeFramesAreNotTouched }
     ensures in_flight { AccessesInFlightMay }
     ensures asked { AccessesInFlightWereAccepted }
-{
-}
+    ensures answered { CommitsAreAnswered }
+{}

@@ -7,16 +7,26 @@
 #![tactic(auto)]
 
 mod choice;
+mod decide;
 mod event;
 mod headline;
-mod judge;
+mod line;
 mod outcome;
 mod sequence;
+mod sink;
+mod start;
 mod state;
 
 pub use choice::Choice;
+pub use decide::{judge, judge_run, lawful_runs_have_choices};
 pub use event::Event;
 pub use headline::reclaim_theorem;
+pub use line::{Line, Verdict};
 pub use outcome::{CommandName, Fetched, Outcome, Trace};
 pub use sequence::Sequence;
+pub use sink::Sink;
+pub use start::power_on;
 pub use state::{Access, Attachment, Device, DeviceKind, Frame, InFlight, Mode, Owner, State};
+
+#[cfg(test)]
+mod tests;

@@ -27,6 +27,15 @@ impl<T> Sequence<T> {
         }
     }
 
+    /// The empty list, with room for so many values.
+    pub fn with_capacity(alloc: Global, capacity: usize) -> Result<Self, AllocError>
+        ensures { IfOk result (λ values. values ≡ []) }
+    {
+        Ok(Sequence {
+            items: Vec::with_capacity(alloc, capacity)?,
+        })
+    }
+
     pub fn as_slice(&self) -> &[T]
         ensures { result.now ≡ self.now }
     {
@@ -42,5 +51,22 @@ impl<T: Drop> Sequence<T> {
     {
         self.items.push(value)?;
         Ok(())
+    }
+
+    /// Puts the value before all others. Where memory is refused the list stays as it was.
+    pub(crate) fn push_front(&mut self, value: T) -> Result<(), AllocError>
+        ensures ok { OnOk result (self.new ≡ value ∷ self.old) }
+        ensures err { OnErr result (self.new ≡ self.old) }
+    {
+        self.items.insert(0, value)?;
+        Ok(())
+    }
+
+    /// Takes the first value.
+    pub(crate) fn pop_front(&mut self) -> T
+        requires { 0 < length self.old }
+        ensures { self.old ≡ result ∷ self.new }
+    {
+        self.items.remove(0)
     }
 }

@@ -2,7 +2,7 @@
 use Rattle.std.specs.Prelude.{◌≡◌, ◌≢◌, ℕ, ◌-◌, ◌<◌, ◌≤◌, Bool, false, List, ◌++◌, replicate, Option, None, Some, is_some, slice_get}
 use Rattle.std.specs.Option.{option_map_or}
 use Rattle.iom_ledger.specs.declared.ledger.Ledger.{Ledger}
-use Rattle.iom_ledger.specs.Shown.{IsUnnamed}
+use Rattle.iom_ledger.specs.Shown.{IsFreeIn}
 use Rattle.iom_table_frames.specs.declared.table_frames.Owner.{Owner}
 use Rattle.iom_table_frames.specs.declared.table_frames.Owner.TheVariants.{System}
 
@@ -18,7 +18,7 @@ is_reserved marks frame = option_map_or (λ mark. is_some mark) (slice_get marks
 pub record IsFreeBesides (marks : List (Option Owner)) (ledger : Ledger) (named : Option ℕ) (frame : ℕ) : Type 0 where
   pub other : named ≢ Some frame
   pub unmarked : is_reserved marks frame ≡ false
-  pub unnamed : IsUnnamed ledger frame
+  pub ungranted : IsFreeIn ledger frame
 
 -- none is, from the first number on and below the limit
 abbrev pub NoneIsFree : List (Option Owner) → Ledger → Option ℕ → ℕ → ℕ → Type 0

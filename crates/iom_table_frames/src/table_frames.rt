@@ -2,7 +2,7 @@ ghost use Rattle.std.specs.Prelude.{◌≡◌, ◌≢◌, ◌+◌, ◌-◌, ◌<
 ghost use Rattle.iom_base.specs.declared.access.AccessKind.{AccessKind};
 ghost use Rattle.iom_phys_mem.specs.Words.{zeroed};
 ghost use Rattle.iom_ledger.specs.History.{History};
-ghost use Rattle.iom_ledger.specs.Shown.{Agrees, IsUnnamed};
+ghost use Rattle.iom_ledger.specs.Shown.{Agrees, IsFreeIn};
 ghost use Rattle.iom_table_frames.specs.Marks.{is_reserved, opening_marks, IsFreeBesides, NoneIsFree, IsHighestFree};
 ghost use Rattle.iom_table_frames.specs.declared.table_frames.Owner.TheVariants as owner;
 

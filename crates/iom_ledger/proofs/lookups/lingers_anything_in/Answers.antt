@@ -1,4 +1,4 @@
-use Rattle.std.proofs.Common.{◌≡◌, Some, nat_eq, is_some, refl, sym, ap, ◌∙◌, subst}
+use Rattle.std.proofs.Common.{nat_eq, is_some, sym, ap, ◌∙◌}
 use Rattle.std.specs.Option.{option_and_then}
 use Rattle.indexmap.specs.IndexMap.{get}
 use Rattle.iom_ledger.proofs.RowLemmas.{found_row, list_any-lookup}
@@ -6,11 +6,10 @@ use Rattle.iom_ledger.proofs.lookups.lingers_anything_in.Goals as goal
 
 pub returns-in-Some : goal.returns-in-Some
 returns-in-Some c =
-    let device = c.in-Some.ensures.value in
-    (
+    let device = c.in-Some.ensures.value in (
       (λ some.
-        let (page, row, at, passes) = found_row (λ row. is_some row.ticket) c.in-Some.pages.now.entries c.some_lingers.ensures.unique (sym c.some_lingers.ensures.any ∙ some) in
-        (page, row, ap (option_and_then (λ pages. get nat_eq pages page)) (sym device) ∙ at, passes)),
+          let (page, row, at, passes) = found_row (λ row. is_some row.ticket) c.in-Some.pages.now.entries c.some_lingers.ensures.unique (sym c.some_lingers.ensures.any ∙ some) in
+          (page, row, ap (option_and_then (λ pages. get nat_eq pages page)) (sym device) ∙ at, passes)),
       (λ (page, row, at, passes).
-        c.some_lingers.ensures.any ∙ list_any-lookup (λ row. is_some row.ticket) page c.in-Some.pages.now.entries row (ap (option_and_then (λ pages. get nat_eq pages page)) device ∙ at) passes),
+          c.some_lingers.ensures.any ∙ list_any-lookup (λ row. is_some row.ticket) page c.in-Some.pages.now.entries row (ap (option_and_then (λ pages. get nat_eq pages page)) device ∙ at) passes),
     )

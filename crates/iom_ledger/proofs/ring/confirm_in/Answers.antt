@@ -1,6 +1,5 @@
-use Rattle.std.proofs.Common.{◌≡◌, ◌+◌, ◌<◌, ◌++◌, ◌∷◌, ◌∙◌, length, take, drop, get_or, filter, None, arith, rules}
+use Rattle.std.proofs.Common.{◌+◌, ◌<◌, ◌++◌, ◌∙◌, length, take, drop, get_or, filter, None, arith}
 use Rattle.iom_ledger.specs.declared.row.Pending.{Pending}
-use Rattle.iom_ledger.specs.Rows.{row_at}
 use Rattle.iom_ledger.proofs.PendingLemmas.{is_other, split_at, rows_more, items_more}
 use Rattle.iom_ledger.proofs.ring.confirm_in.Goals as goal
 

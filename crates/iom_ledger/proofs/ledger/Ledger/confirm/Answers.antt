@@ -1,8 +1,9 @@
 use Rattle.std.proofs.Common.{◌∙◌, ap, map}
 use Rattle.iom_ledger.specs.Rows.{row_at, held_of, released_of, is_named, ticket_of}
-use Rattle.iom_ledger.specs.Changes.{Confirms}
+use Rattle.iom_ledger.specs.Shown.{held_in, released_in, waiting_in}
 use Rattle.iom_ledger.proofs.PendingLemmas.{AllNamed-confirmed}
 use Rattle.iom_ledger.proofs.AgreementLemmas.{Agrees-confirmed, AllGranted-confirmed, held_of-kept, released_of-kept, tickets-filter}
+use Rattle.iom_ledger.proofs.UnknownTickets.{IsUnchanged-confirmed}
 use Rattle.iom_ledger.proofs.ledger.Ledger.confirm.Goals as goal
 
 pub invariant_of-self : goal.invariant_of-self
@@ -13,6 +14,7 @@ invariant_of-self c = record {
 }
 
 pub returns-clause-confirmed : goal.returns-clause-confirmed
+unfolding held_in released_in waiting_in
 returns-clause-confirmed c = record {
   held = λ d a. ap held_of (c.confirm_in.ensures.rows d a) ∙ held_of-kept (row_at c.args.self.now.devices d a) c.args.ticket;
   lingering = λ d a. ap released_of (c.confirm_in.ensures.rows d a) ∙ released_of-kept (row_at c.args.self.now.devices d a) c.args.ticket;
@@ -21,3 +23,6 @@ returns-clause-confirmed c = record {
 
 pub returns-clause-agrees : goal.returns-clause-agrees
 returns-clause-agrees c = Agrees-confirmed c.args.self.now _ c.args.ticket (returns-clause-confirmed c)
+
+pub returns-clause-unknown : goal.returns-clause-unknown
+returns-clause-unknown c absent = IsUnchanged-confirmed c.args.self.now _ c.args.ticket c.args.self.now.named c.confirm_in.ensures.rows c.confirm_in.ensures.items absent

@@ -8,7 +8,7 @@ returns c = (
   (λ free. record {
     other = λ same. false≢true (sym c.if-eq.false ∙ c.eq.ensures ∙ ap (λ (o : Option ℕ). option_eq eqb o (Some c.args.frame)) same ∙ eq-eqb c.args.frame c.args.frame refl);
     unmarked = search rules;
-    unnamed = c.is_free.ensures.shown.0 free;
+    ungranted = c.is_free.ensures.shown.0 free;
   }),
-  (λ free. c.is_free.ensures.shown.1 free.unnamed),
+  (λ free. c.is_free.ensures.shown.1 free.ungranted),
 )

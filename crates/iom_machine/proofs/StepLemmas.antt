@@ -1,0 +1,56 @@
+-- A step that the judge decides, with the next state shown.
+use Rattle.std.proofs.Common.{◌≡◌, ◌↔◌, ℕ, List, Option, None, Some, Result, Ok, Err, IfOk, slice_get, sym, ap, subst, ◌∙◌}
+use Rattle.std.specs.declared.alloc.AllocError.{AllocError}
+use Rattle.iom_ledger.specs.declared.refusal.Refusal.TheVariants.{NoSuchDevice}
+use Rattle.iom_machine.specs.declared.outcome.Outcome.{Outcome}
+use Rattle.iom_machine.specs.declared.outcome.Outcome.TheVariants.{Refused}
+use Rattle.iom_machine.specs.declared.state.Device.{Device}
+use Rattle.iom_machine.specs.declared.state.State.{State}
+use Rattle.iom_machine.specs.Devices.{device_of}
+use Rattle.iom_machine.specs.Judging.{IsPlaceOf}
+use Rattle.iom_machine.specs.Machine.{Acts}
+use Rattle.iom_machine.proofs.InFlightLemmas.{found_device}
+
+-- some state is the only one
+pub only_state : (next new : State) → ◌≡◌ {A = Option State} (Some next) (Some new) → next ≡ new
+only_state next new same = cc
+
+pub some_state : (next new : State) → next ≡ new → ◌≡◌ {A = Option State} (Some next) (Some new)
+some_state next new same = ap (λ (s : State). Some s) same
+
+pub no_state : (new : State) → ◌≡◌ {A = Option State} None (Some new) → ⊥
+no_state new same = cc
+
+-- a fact, and that the next state is this one
+pub lawful : (P : Type 0) (next final : State) → P → next ≡ final → (new : State) → (◌≡◌ {A = Option State} (Some next) (Some new)) ↔ (P × (new ≡ final))
+lawful P next final fact is new =
+    ((λ same. (fact, sym (only_state next new same) ∙ is)), (λ both. some_state next new (is ∙ sym both.1)))
+
+pub unlawful : (P : Type 0) (final : State) → ¬ P → (new : State) → (◌≡◌ {A = Option State} None (Some new)) ↔ (P × (new ≡ final))
+unlawful P final never new = ((λ same. absurd (no_state new same)), (λ both. absurd (never both.0)))
+
+-- what a plugged device's act leaves, and one's that isn't there
+pub acts_there : (next : Option State) (Q : Device → State → Type 0) (old : State) (id : ℕ) (outcome : Outcome) (device : Device) → device_of old id ≡ Some device
+    → ((new : State) → (next ≡ Some new) ↔ Q device new) → (new : State) → (next ≡ Some new) ↔ Acts (λ d. Q d new) old id outcome new
+acts_there next Q old id outcome device there decides new = rw there (decides new)
+
+pub acts_absent : (next : Option State) (Q : Device → State → Type 0) (old : State) (id : ℕ) (outcome : Outcome) → device_of old id ≡ None
+    → ((new : State) → (next ≡ Some new) ↔ ((outcome ≡ Refused NoSuchDevice) × (new ≡ old))) → (new : State) → (next ≡ Some new) ↔ Acts (λ d. Q d new) old id outcome new
+acts_absent next Q old id outcome absent decides new = rw absent (decides new)
+
+-- the device at the place of an id has that place itself
+pub own_place : (devices : List Device) (id place : ℕ) (device : Device) → IsPlaceOf devices id place → slice_get devices place ≡ Some device → IsPlaceOf devices device.id place
+own_place devices id place device is_place at =
+    let own = (found_device devices id device (is_place.1 ∙ at)).1 in subst (λ i. IsPlaceOf devices i place) (sym own) is_place
+
+-- the same, whatever memory did
+pub acts_if_ok : (result : Result (Option State) AllocError) (Q : Device → State → Type 0) (old : State) (id : ℕ) (outcome : Outcome) (device : Device) → device_of old id ≡ Some device
+    → IfOk result (λ next. (new : State) → (next ≡ Some new) ↔ Q device new) → IfOk result (λ next. (new : State) → (next ≡ Some new) ↔ Acts (λ d. Q d new) old id outcome new)
+acts_if_ok (Ok next) Q old id outcome device there decides = acts_there next Q old id outcome device there decides
+acts_if_ok (Err e) Q old id outcome device there decides = decides
+
+-- what is so for each device at the place is so for the one that is there
+pub at_device : (result : Result (Option State) AllocError) (A B : Device → Type 0) (R : Option State → Device → Type 0) (device : Device) → A device → B device
+    → IfOk result (λ next. (d : Device) → A d → B d → R next d) → IfOk result (λ next. R next device)
+at_device (Ok next) A B R device a b decides = decides device a b
+at_device (Err e) A B R device a b decides = decides

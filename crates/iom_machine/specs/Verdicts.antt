@@ -1,0 +1,44 @@
+-- What the judge finds of a list of lines.
+use Rattle.std.specs.Prelude.{◌≡◌, ◌↔◌, ℕ, zero, suc, List, [], ◌∷◌, map}
+use Rattle.iom_machine.specs.declared.choice.Choice.{Choice}
+use Rattle.iom_machine.specs.declared.event.Event.{Event}
+use Rattle.iom_machine.specs.declared.line.Line.{Line}
+use Rattle.iom_machine.specs.declared.line.Verdict.{Verdict}
+use Rattle.iom_machine.specs.declared.line.Verdict.TheVariants.{Lawful, Unlawful}
+use Rattle.iom_machine.specs.declared.outcome.Outcome.{Outcome}
+use Rattle.iom_machine.specs.declared.state.State.{State}
+use Rattle.iom_machine.specs.Machine.{ChosenStep, Step, Run}
+
+-- the line may come in the state, and leave the other
+abbrev pub LineStep : State → Line → State → Type 0
+LineStep old line new = ChosenStep line.choice old line.event line.outcome new
+
+-- the lines may come one after another, and leave the state
+abbrev pub LinesRun : State → List Line → State → Type 0
+LinesRun old [] new = new ≡ old
+LinesRun old (line ∷ lines) new = (mid : State) × LineStep old line mid × LinesRun mid lines new
+
+-- the first so many lines may come one after another, and then the next one may not
+abbrev pub StopsAt : ℕ → State → List Line → Type 0
+StopsAt k old [] = ⊥
+StopsAt zero old (line ∷ lines) = (new : State) → ¬ LineStep old line new
+StopsAt (suc k) old (line ∷ lines) = (mid : State) × LineStep old line mid × StopsAt k mid lines
+
+-- the verdict is true of the lines, and the only one that is
+abbrev pub IsVerdict : State → List Line → Verdict → Type 0
+IsVerdict old lines verdict =
+    ((new : State) → (verdict ≡ Lawful new) ↔ LinesRun old lines new)
+    × ((k : ℕ) → (verdict ≡ Unlawful k) ↔ StopsAt k old lines)
+
+-- Each lawful step is one that some choice explains.
+abbrev pub StepsAreChosen : Type 0
+StepsAreChosen =
+    (old new : State) (event : Event) (outcome : Outcome)
+    → Step old event outcome new ↔ ((choice : Choice) × ChosenStep choice old event outcome new)
+
+-- Each run is one of some lines, with those events and outcomes.
+abbrev pub RunsAreChosen : Type 0
+RunsAreChosen =
+    (old new : State) (events : List Event) (outcomes : List Outcome)
+    → Run old events outcomes new
+    ↔ ((lines : List Line) × (map (λ line. line.event) lines ≡ events) × (map (λ line. line.outcome) lines ≡ outcomes) × LinesRun old lines new)

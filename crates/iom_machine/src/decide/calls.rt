@@ -1,0 +1,231 @@
+// The driver's calls.
+ghost use Rattle.std.specs.Prelude.{◌≡◌, ◌↔◌, ◌^◌, ◌≤◌, IfOk, IsTrue, Some, length};
+ghost use Rattle.iom_machine.specs.declared.state.State.{State};
+ghost use Rattle.iom_machine.specs.Refusals.{MayRefusePlug, MayRefuseAttach, MayRefuseGrant, MayRefuseRelease};
+ghost use Rattle.iom_machine.specs.Machine.{IsGrantable, Plugs, Attaches, Grants, Releases, Fetches};
+
+use crate::decide::devices::{place_of, set_attachment};
+use crate::decide::frames::{are_fewer_free, are_free_besides, reserve};
+use crate::decide::reasons::{
+    attach_refusal, grant_refusal, plug_refusal, refuses, release_refusal,
+};
+use crate::outcome::Outcome;
+use crate::sequence::Sequence;
+use crate::state::{Attachment, Device, DeviceKind, Mode, Owner, State};
+use iom_base::{DeviceId, Rights};
+use iom_ledger::{Entry, Refusal};
+use std::alloc::{AllocError, Global};
+
+fn may_refuse_plug(why: Refusal) -> bool
+    ensures { IsTrue result ↔ MayRefusePlug why }
+{
+    matches!(why, Refusal::Memory)
+}
+
+fn may_refuse_attach(state: &State, mode: Mode, why: Refusal) -> bool
+    ensures { IsTrue result ↔ MayRefuseAttach state.now mode why }
+{
+    match why {
+        Refusal::NoFrames => match mode {
+            Mode::First => are_fewer_free(state, None, 3),
+            Mode::Second => false,
+            Mode::Both => false,
+        },
+        Refusal::Memory => true,
+        _ => false,
+    }
+}
+
+fn may_refuse_grant(state: &State, frame: u64, why: Refusal) -> bool
+    ensures { IsTrue result ↔ MayRefuseGrant state.now frame why }
+{
+    match why {
+        Refusal::NoFrames => are_fewer_free(state, Some(frame), 2),
+        Refusal::Memory => true,
+        _ => false,
+    }
+}
+
+fn may_refuse_release(why: Refusal) -> bool
+    ensures { IsTrue result ↔ MayRefuseRelease why }
+{
+    matches!(why, Refusal::QueueFull | Refusal::NumbersUsedUp)
+}
+
+fn is_grantable(rights: Rights) -> bool
+    ensures { IsTrue result ↔ IsGrantable rights }
+{
+    rights == Rights::R || rights == Rights::RW
+}
+
+/// The state after a plug, where it may come so.
+pub(crate) fn judge_plug(
+    alloc: Global,
+    state: State,
+    id: DeviceId,
+    kind: DeviceKind,
+    outcome: &Outcome,
+) -> Result<Option<State>, AllocError>
+    ensures { IfOk result (λ next. (new : State) → (next ≡ Some new) ↔ Plugs state id kind outcome.now new) }
+{
+    let first = plug_refusal(&state, id);
+    match outcome {
+        Outcome::Done => {
+            if first.is_some() {
+                return Ok(None);
+            }
+            let mut next = state;
+            next.devices.push(Device {
+                id,
+                kind,
+                attachment: Attachment::Detached,
+                accepted: 0,
+                in_flight: Sequence::new(alloc),
+            })?;
+            Ok(Some(next))
+        }
+        Outcome::Refused(why) => {
+            if refuses(first, may_refuse_plug(*why), *why) {
+                Ok(Some(state))
+            } else {
+                Ok(None)
+            }
+        }
+        _ => Ok(None),
+    }
+}
+
+/// The state after an attach, where it may come so, and these frames become tables.
+pub(crate) fn judge_attach(
+    state: State,
+    id: DeviceId,
+    mode: Mode,
+    ats: bool,
+    outcome: &Outcome,
+    taken: &[u32],
+) -> Option<State>
+    ensures { (new : State) → (result ≡ Some new) ↔ Attaches taken.now state id mode ats outcome.now new }
+{
+    let first = attach_refusal(&state, id, ats);
+    match outcome {
+        Outcome::Done => {
+            if first.is_some() {
+                return None;
+            }
+            if !are_free_besides(&state, None, taken) {
+                return None;
+            }
+            match place_of(state.devices.as_slice(), id) {
+                None => None,
+                Some(place) => {
+                    let mut next = state;
+                    set_attachment(&mut next.devices, place, Attachment::Attached { mode, ats });
+                    reserve(&mut next.frames, taken, Owner::OneDevice(id));
+                    Some(next)
+                }
+            }
+        }
+        Outcome::Refused(why) => {
+            let may_come = may_refuse_attach(&state, mode, *why);
+            if refuses(first, may_come, *why) {
+                Some(state)
+            } else {
+                None
+            }
+        }
+        _ => None,
+    }
+}
+
+/// The state after a grant, where it may come so, and these frames become tables.
+pub(crate) fn judge_grant(
+    state: State,
+    id: DeviceId,
+    page: u64,
+    frame: u64,
+    rights: Rights,
+    outcome: &Outcome,
+    taken: &[u32],
+) -> Result<Option<State>, AllocError>
+    requires { length state.frames ≤ 2 ^ 32 }
+    ensures { IfOk result (λ next. (new : State) → (next ≡ Some new) ↔ Grants taken.now state id page frame rights outcome.now new) }
+{
+    let first = grant_refusal(&state, id, page, frame);
+    match outcome {
+        Outcome::Done => {
+            if first.is_some() {
+                return Ok(None);
+            }
+            if !is_grantable(rights) {
+                return Ok(None);
+            }
+            if !are_free_besides(&state, Some(frame), taken) {
+                return Ok(None);
+            }
+            let mut next = state;
+            let number = frame as u32;
+            next.history.push_front(Entry::Granted {
+                device: id,
+                page,
+                frame: number,
+                rights,
+            })?;
+            reserve(&mut next.frames, taken, Owner::OneDevice(id));
+            Ok(Some(next))
+        }
+        Outcome::Refused(why) => {
+            let may_come = may_refuse_grant(&state, frame, *why);
+            if refuses(first, may_come, *why) {
+                Ok(Some(state))
+            } else {
+                Ok(None)
+            }
+        }
+        _ => Ok(None),
+    }
+}
+
+/// The state after a release, where it may come so.
+pub(crate) fn judge_release(
+    state: State,
+    id: DeviceId,
+    page: u64,
+    outcome: &Outcome,
+) -> Result<Option<State>, AllocError>
+    ensures { IfOk result (λ next. (new : State) → (next ≡ Some new) ↔ Releases state id page outcome.now new) }
+{
+    let first = release_refusal(&state, id, page);
+    match outcome {
+        Outcome::Ticket(ticket) => {
+            if first.is_some() || u64::from(*ticket) != u64::from(state.tickets) + 1 {
+                return Ok(None);
+            }
+            let mut next = state;
+            next.history.push_front(Entry::Released {
+                device: id,
+                page,
+                ticket: *ticket,
+            })?;
+            next.tickets = *ticket;
+            Ok(Some(next))
+        }
+        Outcome::Refused(why) => {
+            if refuses(first, may_refuse_release(*why), *why) {
+                Ok(Some(state))
+            } else {
+                Ok(None)
+            }
+        }
+        _ => Ok(None),
+    }
+}
+
+/// The state after a fetch, where it may come so.
+pub(crate) fn judge_fetch(state: State, outcome: &Outcome) -> Option<State>
+    ensures { (new : State) → (result ≡ Some new) ↔ Fetches state outcome.now new }
+{
+    match outcome {
+        Outcome::Fetched(_) => Some(state),
+        _ => None,
+    }
+}

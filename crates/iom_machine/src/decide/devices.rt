@@ -1,0 +1,86 @@
+// Where a device stands, and how it changes.
+ghost use Rattle.std.specs.Prelude.{◌≡◌, ◌<◌, ◌==◌, [], ◌∷◌, ◌++◌, length, find, slice_get, slice_set, MatchOption, OnOk, Some, None, drop};
+ghost use Rattle.std.specs.Option.{option_copied};
+ghost use Rattle.iom_machine.specs.Judging.{IsPlaceOf};
+ghost use Rattle.iom_machine.specs.declared.state.Device.{Device};
+
+use crate::sequence::Sequence;
+use crate::state::{Access, Attachment, Device, InFlight};
+use iom_base::DeviceId;
+use std::alloc::AllocError;
+
+/// The plugged device with this id.
+pub(crate) fn device_with(devices: &[Device], id: DeviceId) -> Option<&Device>
+    ensures { option_copied result ≡ find (λ device. device.id == id) devices.now }
+{
+    devices.iter().find(|device| device.id == id)
+}
+
+/// The place of the device with this id.
+pub(crate) fn place_of(devices: &[Device], id: DeviceId) -> Option<usize>
+    ensures { MatchOption result (find (λ device. device.id == id) devices.now ≡ None) (IsPlaceOf devices.now id) }
+{
+    match devices {
+        [] => None,
+        [device, others @ ..] => {
+            if device.id == id {
+                Some(0)
+            } else {
+                match place_of(others, id) {
+                    None => None,
+                    Some(place) => Some(place + 1),
+                }
+            }
+        }
+    }
+}
+
+/// One more access of the device is in flight, its so-many-eth.
+pub(crate) fn accept(
+    devices: &mut Sequence<Device>,
+    place: usize,
+    number: u64,
+    access: Access,
+    frame: u32,
+) -> Result<(), AllocError>
+    requires { place < length devices.old }
+    ensures { OnOk result ((device : Device) → slice_get devices.old place ≡ Some device
+        → devices.new ≡ slice_set devices.old place (record device { accepted = number; in_flight = device.in_flight ++ record { access = access; frame = frame } ∷ [] })) }
+{
+    let device = &mut devices.items[place];
+    device.in_flight.push(InFlight { access, frame })?;
+    device.accepted = number;
+    Ok(())
+}
+
+/// The device is so attached.
+pub(crate) fn set_attachment(devices: &mut Sequence<Device>, place: usize, attachment: Attachment)
+    requires { place < length devices.old }
+    ensures { (device : Device) → slice_get devices.old place ≡ Some device
+        → devices.new ≡ slice_set devices.old place (record device { attachment = attachment }) }
+{
+    let device = &mut devices.items[place];
+    device.attachment = attachment;
+}
+
+/// Takes the oldest access of the device, which is in flight no more.
+pub(crate) fn take_oldest(devices: &mut Sequence<Device>, place: usize) -> InFlight
+    requires { (place < length devices.old) × ((device : Device) → slice_get devices.old place ≡ Some device → 0 < length device.in_flight) }
+    ensures { (device : Device) → slice_get devices.old place ≡ Some device
+        → (slice_get device.in_flight 0 ≡ Some result) × (devices.new ≡ slice_set devices.old place (record device { in_flight = drop 1 device.in_flight })) }
+{
+    let device = &mut devices.items[place];
+    device.in_flight.pop_front()
+}
+
+/// The oldest access of the device is in flight no more.
+pub(crate) fn drop_oldest(devices: &mut Sequence<Device>, place: usize)
+    requires { place < length devices.old }
+    ensures { (device : Device) → slice_get devices.old place ≡ Some device
+        → devices.new ≡ slice_set devices.old place (record device { in_flight = drop 1 device.in_flight }) }
+{
+    let device = &mut devices.items[place];
+    if !device.in_flight.items.is_empty() {
+        device.in_flight.items.remove(0);
+    }
+}

@@ -1,0 +1,145 @@
+// Decides the machine: a plain and slow program, whose contract is the definition.
+ghost use Rattle.std.specs.Prelude.{◌≡◌, ◌↔◌, ◌^◌, ◌≤◌, Some, IfOk, IfSome, length};
+ghost use Rattle.iom_machine.specs.declared.state.State.{State};
+ghost use Rattle.iom_machine.specs.Requests.{read_of, write_of};
+ghost use Rattle.iom_machine.specs.Machine.{ChosenStep};
+ghost use Rattle.iom_machine.specs.Verdicts.{IsVerdict, StepsAreChosen, RunsAreChosen};
+
+mod calls;
+mod commits;
+pub(crate) mod devices;
+pub(crate) mod frames;
+pub(crate) mod history;
+mod polls;
+pub(crate) mod reasons;
+pub(crate) mod requests;
+
+use crate::choice::Choice;
+use crate::decide::calls::{judge_attach, judge_fetch, judge_grant, judge_plug, judge_release};
+use crate::decide::commits::judge_commit;
+use crate::decide::polls::judge_poll;
+use crate::decide::requests::judge_request;
+use crate::event::Event;
+use crate::line::{Line, Verdict};
+use crate::outcome::Outcome;
+use crate::sequence::Sequence;
+use crate::state::{Access, DeviceKind, Mode, State};
+use iom_base::AccessKind;
+use std::alloc::{AllocError, Global};
+
+/// The access that a read asks for.
+fn read_asked(alloc: Global, address: u64, len: u64) -> Access
+    ensures { result ≡ read_of address len }
+{
+    Access {
+        address,
+        len,
+        kind: AccessKind::Read,
+        bytes: Sequence::new(alloc),
+    }
+}
+
+/// The access that a write of these bytes asks for.
+fn write_asked(alloc: Global, address: u64, bytes: &[u8]) -> Result<Access, AllocError>
+    ensures { IfOk result (λ access. access ≡ write_of address bytes.now) }
+{
+    let mut items = Vec::new(alloc);
+    items.extend_from_slice(bytes)?;
+    Ok(Access {
+        address,
+        len: bytes.len() as u64,
+        kind: AccessKind::Write,
+        bytes: Sequence { items },
+    })
+}
+
+/// The state after the event, where it may come so.
+fn decide(
+    alloc: Global,
+    state: State,
+    event: &Event,
+    outcome: &Outcome,
+    choice: &Choice,
+) -> Result<Option<State>, AllocError>
+    requires { length state.frames ≤ 2 ^ 32 }
+    ensures { IfOk result (λ next. (new : State) → (next ≡ Some new) ↔ ChosenStep choice.now state event.now outcome.now new) }
+{
+    let taken = choice.taken.as_slice();
+    match event {
+        Event::PlugRaw { device } => judge_plug(alloc, state, *device, DeviceKind::Raw, outcome),
+        Event::AttachFirst { device } => {
+            Ok(judge_attach(state, *device, Mode::First, false, outcome, taken))
+        }
+        Event::Grant {
+            device,
+            page,
+            frame,
+            rights,
+        } => judge_grant(state, *device, *page, *frame, *rights, outcome, taken),
+        Event::Release { device, page } => judge_release(state, *device, *page, outcome),
+        Event::Fetch => Ok(judge_fetch(state, outcome)),
+        Event::Poll => judge_poll(state, outcome),
+        Event::Read {
+            device,
+            address,
+            len,
+        } => {
+            let access = read_asked(alloc, *address, *len);
+            judge_request(state, *device, access, outcome, choice.frame)
+        }
+        Event::Write {
+            device,
+            address,
+            bytes,
+        } => {
+            let access = write_asked(alloc, *address, bytes.as_slice())?;
+            judge_request(state, *device, access, outcome, choice.frame)
+        }
+        Event::Commit { device } => judge_commit(alloc, state, *device, outcome),
+    }
+}
+
+/// Whether the event may have this outcome where what the outcome doesn't show was chosen so: the
+/// state that it then leaves, or `None` where it may not.
+///
+/// A machine has at most 2^32 frames, since a frame's number is a `u32`.
+pub fn judge(
+    alloc: Global,
+    state: State,
+    event: &Event,
+    outcome: &Outcome,
+    choice: &Choice,
+) -> Result<Option<State>, AllocError>
+    requires { length state.frames ≤ 2 ^ 32 }
+    ensures decides { IfOk result (λ next. (new : State) → (next ≡ Some new) ↔ ChosenStep choice.now state event.now outcome.now new) }
+    ensures same_size { IfOk result (λ next. IfSome next (λ new. length new.frames ≡ length state.frames)) }
+{
+    decide(alloc, state, event, outcome, choice)
+}
+
+/// Whether the lines are a run from the state: the state that it leaves, or the first line, counted
+/// from 0, that may not come.
+pub fn judge_run(alloc: Global, state: State, lines: &[Line]) -> Result<Verdict, AllocError>
+    requires { length state.frames ≤ 2 ^ 32 }
+    ensures { IfOk result (λ verdict. IsVerdict state lines.now verdict) }
+{
+    match lines {
+        [] => Ok(Verdict::Lawful(state)),
+        [line, later @ ..] => {
+            match judge(alloc, state, &line.event, &line.outcome, &line.choice)? {
+                None => Ok(Verdict::Unlawful { line: 0 }),
+                Some(next) => match judge_run(alloc, next, later)? {
+                    Verdict::Lawful(last) => Ok(Verdict::Lawful(last)),
+                    Verdict::Unlawful { line } => Ok(Verdict::Unlawful { line: line + 1 }),
+                },
+            }
+        }
+    }
+}
+
+/// Every lawful step is one that some choice explains, and every run one that some choices do: so
+/// there are lines which the judge finds lawful.
+pub fn lawful_runs_have_choices()
+    ensures steps { StepsAreChosen }
+    ensures runs { RunsAreChosen }
+{}

@@ -1,0 +1,92 @@
+// Which tickets a poll may confirm.
+ghost use Rattle.std.specs.Prelude.{◌≡◌, ◌↔◌, ◌-◌, ◌≤◌, suc, IfOk, OnOk, IsTrue, Some, All};
+ghost use Rattle.iom_ledger.specs.History.{May};
+ghost use Rattle.iom_machine.specs.Tickets.{confirmed_from};
+ghost use Rattle.iom_machine.specs.Judging.{DeviceMay, AreNextTickets};
+ghost use Rattle.iom_machine.specs.Machine.{Polls};
+
+use crate::decide::history::{last_ticket_confirmed, may};
+use crate::outcome::Outcome;
+use crate::sequence::Sequence;
+use crate::state::{Device, InFlight, State};
+use iom_base::DeviceId;
+use iom_ledger::Entry;
+use std::alloc::AllocError;
+
+/// Whether each of the accesses of the device may reach its frame.
+fn each_may(history: &[Entry], id: DeviceId, in_flight: &[InFlight]) -> bool
+    ensures { IsTrue result ↔ All (λ flying. May history.now id flying.frame flying.access.kind) in_flight.now }
+{
+    match in_flight {
+        [] => true,
+        [flying, later @ ..] => {
+            if !may(history, id, u64::from(flying.frame), flying.access.kind) {
+                return false;
+            }
+            each_may(history, id, later)
+        }
+    }
+}
+
+/// Whether each access in flight of these devices may reach its frame.
+fn all_may(history: &[Entry], devices: &[Device]) -> bool
+    ensures { IsTrue result ↔ All (DeviceMay history.now) devices.now }
+{
+    match devices {
+        [] => true,
+        [device, others @ ..] => {
+            if !each_may(history, device.id, device.in_flight.as_slice()) {
+                return false;
+            }
+            all_may(history, others)
+        }
+    }
+}
+
+/// Confirms the tickets from the first to the last, one after another.
+fn confirm(history: &mut Sequence<Entry>, first: u32, last: u32) -> Result<(), AllocError>
+    requires { first ≤ last }
+    ensures { OnOk result (history.new ≡ confirmed_from first (suc (last - first)) history.old) }
+{
+    for ticket in u64::from(first)..u64::from(last) + 1 {
+        history.push_front(Entry::Confirmed {
+            ticket: ticket as u32,
+        })?;
+    }
+    Ok(())
+}
+
+/// Whether these are the oldest tickets that wait, or some of them.
+fn are_next_tickets(state: &State, first: u32, last: u32) -> bool
+    ensures { IsTrue result ↔ AreNextTickets state.now first last }
+{
+    if u64::from(first) != u64::from(last_ticket_confirmed(state.history.as_slice())) + 1 {
+        return false;
+    }
+    if first > last {
+        return false;
+    }
+    last <= state.tickets
+}
+
+/// The state after a poll, where it may come so.
+pub(crate) fn judge_poll(state: State, outcome: &Outcome) -> Result<Option<State>, AllocError>
+    ensures { IfOk result (λ next. (new : State) → (next ≡ Some new) ↔ Polls state outcome.now new) }
+{
+    match outcome {
+        Outcome::Confirmed { first, last } => {
+            if !are_next_tickets(&state, *first, *last) {
+                return Ok(None);
+            }
+            let mut next = state;
+            confirm(&mut next.history, *first, *last)?;
+            if all_may(next.history.as_slice(), next.devices.as_slice()) {
+                Ok(Some(next))
+            } else {
+                Ok(None)
+            }
+        }
+        Outcome::NoneConfirmed => Ok(Some(state)),
+        _ => Ok(None),
+    }
+}

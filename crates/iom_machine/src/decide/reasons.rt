@@ -1,0 +1,188 @@
+// The first refusal that applies.
+ghost use Rattle.std.specs.Prelude.{◌≡◌, ◌↔◌, ◌<◌, ◌≤◌, ◌∷◌, [], ◌||◌, ◌-◌, not, nat_le, IsTrue, MatchOption, OnSome, find, ◌==◌};
+ghost use Rattle.std.specs.Option.{option_map_or};
+ghost use Rattle.iom_machine.specs.declared.state.Attachment.TheVariants.{Detached};
+ghost use Rattle.iom_machine.specs.Tickets.{pending_tickets};
+ghost use Rattle.iom_machine.specs.Refusals.{first_that_applies, plug_reasons, attach_reasons, grant_reasons, release_reasons, is_plugged, attachment_of, is_detached, is_leaving, is_quarantined, has_cache, is_trusted, id_limit, is_too_wide, is_held, is_lingering};
+
+use crate::decide::devices::device_with;
+use crate::decide::frames::has_owner;
+use crate::decide::history::{last_ticket_confirmed, lingers_at, pair_held};
+use crate::state::{Attachment, DeviceKind, State};
+use iom_base::DeviceId;
+use iom_ledger::Refusal;
+
+fn plugged(state: &State, id: DeviceId) -> bool
+    ensures { result ≡ is_plugged state.now id }
+{
+    device_with(state.devices.as_slice(), id).is_some()
+}
+
+/// How the device is attached; detached, where there is none.
+fn attachment(state: &State, id: DeviceId) -> Attachment
+    ensures { result ≡ attachment_of state.now id }
+{
+    match device_with(state.devices.as_slice(), id) {
+        None => Attachment::Detached,
+        Some(device) => device.attachment,
+    }
+}
+
+fn detached(attachment: Attachment) -> bool
+    ensures { result ≡ is_detached attachment }
+{
+    matches!(attachment, Attachment::Detached)
+}
+
+fn leaving(attachment: Attachment) -> bool
+    ensures { result ≡ is_leaving attachment }
+{
+    matches!(attachment, Attachment::Leaving { .. })
+}
+
+fn quarantined(attachment: Attachment) -> bool
+    ensures { result ≡ is_quarantined attachment }
+{
+    matches!(attachment, Attachment::Quarantined { .. })
+}
+
+fn caches(kind: DeviceKind) -> bool
+    ensures { result ≡ has_cache kind }
+{
+    match kind {
+        DeviceKind::Raw => false,
+        DeviceKind::Ats => true,
+        DeviceKind::Block => false,
+        DeviceKind::CachedBlock => true,
+    }
+}
+
+/// Whether the device has a cache of translations.
+fn trusted(state: &State, id: DeviceId) -> bool
+    ensures { result ≡ is_trusted state.now id }
+{
+    match device_with(state.devices.as_slice(), id) {
+        None => false,
+        Some(device) => caches(device.kind),
+    }
+}
+
+/// Whether the device directory can't name the id.
+pub(crate) fn too_wide(state: &State, id: DeviceId) -> bool
+    ensures { result ≡ is_too_wide state.now id }
+{
+    id >= first_id_above(state.levels)
+}
+
+fn first_id_above(levels: u8) -> u32
+    ensures { result ≡ id_limit levels }
+{
+    if levels == 1 {
+        1 << 7
+    } else if levels == 2 {
+        1 << 16
+    } else {
+        1 << 24
+    }
+}
+
+/// How many tickets wait.
+fn pending(state: &State) -> u32
+    ensures { result ≡ pending_tickets state.now }
+{
+    state
+        .tickets
+        .saturating_sub(last_ticket_confirmed(state.history.as_slice()))
+}
+
+fn held(state: &State, id: DeviceId, page: u64) -> bool
+    ensures { result ≡ is_held state.now id page }
+{
+    pair_held(state.history.as_slice(), id, page).is_some()
+}
+
+fn lingering(state: &State, id: DeviceId, page: u64) -> bool
+    ensures { result ≡ is_lingering state.now id page }
+{
+    lingers_at(state.history.as_slice(), id, page)
+}
+
+pub(crate) fn plug_refusal(state: &State, id: DeviceId) -> Option<Refusal>
+    ensures { result ≡ first_that_applies (plug_reasons state.now id) }
+{
+    if plugged(state, id) {
+        Some(Refusal::AlreadyPlugged)
+    } else if state.devices.as_slice().len() >= 16 {
+        Some(Refusal::TooManyDevices)
+    } else {
+        None
+    }
+}
+
+pub(crate) fn attach_refusal(state: &State, id: DeviceId, ats: bool) -> Option<Refusal>
+    ensures { result ≡ first_that_applies (attach_reasons state.now id ats) }
+{
+    if !plugged(state, id) {
+        Some(Refusal::NoSuchDevice)
+    } else if !detached(attachment(state, id)) {
+        Some(Refusal::AlreadyAttached)
+    } else if too_wide(state, id) {
+        Some(Refusal::IdTooWide)
+    } else if ats && !trusted(state, id) {
+        Some(Refusal::NotTrusted)
+    } else {
+        None
+    }
+}
+
+pub(crate) fn grant_refusal(state: &State, id: DeviceId, page: u64, frame: u64) -> Option<Refusal>
+    ensures { result ≡ first_that_applies (grant_reasons state.now id page frame) }
+{
+    let attachment = attachment(state, id);
+    if !plugged(state, id) {
+        Some(Refusal::NoSuchDevice)
+    } else if detached(attachment) || leaving(attachment) {
+        Some(Refusal::NotAttached)
+    } else if quarantined(attachment) {
+        Some(Refusal::Quarantined)
+    } else if frame >= state.frames.as_slice().len() as u64 {
+        Some(Refusal::FrameOutOfRange)
+    } else if has_owner(state.frames.as_slice(), frame) {
+        Some(Refusal::FrameReserved)
+    } else if page >= 1 << 26 {
+        Some(Refusal::IovaOutOfRange)
+    } else if held(state, id, page) || lingering(state, id, page) {
+        Some(Refusal::IovaBusy)
+    } else {
+        None
+    }
+}
+
+pub(crate) fn release_refusal(state: &State, id: DeviceId, page: u64) -> Option<Refusal>
+    ensures { result ≡ first_that_applies (release_reasons state.now id page) }
+{
+    let attachment = attachment(state, id);
+    if !plugged(state, id) {
+        Some(Refusal::NoSuchDevice)
+    } else if detached(attachment) || leaving(attachment) {
+        Some(Refusal::NotAttached)
+    } else if quarantined(attachment) {
+        Some(Refusal::Quarantined)
+    } else if !held(state, id, page) {
+        Some(Refusal::NotGranted)
+    } else if pending(state) >= 256 {
+        Some(Refusal::TooManyPending)
+    } else {
+        None
+    }
+}
+
+/// Whether the refusal is the first that applied, or, where none did, one that may come all the same.
+pub(crate) fn refuses(first: Option<Refusal>, may_come: bool, why: Refusal) -> bool
+    ensures { IsTrue result ↔ MatchOption first (IsTrue may_come) (λ it. why ≡ it) }
+{
+    match first {
+        None => may_come,
+        Some(it) => why == it,
+    }
+}

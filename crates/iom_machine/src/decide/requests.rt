@@ -1,0 +1,278 @@
+// What a device's request may be answered.
+ghost use Rattle.std.specs.Prelude.{◌≡◌, ◌↔◌, ◌+◌, ◌<◌, IfOk, IsTrue, Some, slice_get, length};
+ghost use Rattle.iom_ledger.specs.declared.refusal.Refusal.TheVariants.{NoSuchDevice};
+ghost use Rattle.iom_machine.specs.declared.outcome.Outcome.TheVariants.{Refused};
+ghost use Rattle.iom_machine.specs.declared.state.Device.{Device};
+ghost use Rattle.iom_machine.specs.declared.state.State.{State};
+ghost use Rattle.iom_machine.specs.Requests.{IsWithinPage, IsBusy, IsForwarded, HoldsFor, HoldsNoneFor, LingersFor, MayAccept, MayFault, MayAcceptInOneStage, MayAnswer, answered};
+ghost use Rattle.iom_machine.specs.Machine.{Requests};
+ghost use Rattle.iom_machine.specs.Judging.{IsPlaceOf};
+
+use crate::decide::devices::{accept, place_of};
+use crate::decide::history::{is_held_for, lingers_in, pair_held};
+use crate::decide::reasons::too_wide;
+use crate::outcome::Outcome;
+use crate::state::{Access, Attachment, Device, Mode, State};
+use iom_base::{Cause, DeviceId, Span};
+use iom_ledger::{Entry, Refusal};
+use std::alloc::AllocError;
+
+fn is_within_page(access: &Access) -> bool
+    ensures { IsTrue result ↔ IsWithinPage access.now }
+{
+    Span::new(access.address, access.len).is_some()
+}
+
+fn is_busy(device: &Device) -> bool
+    ensures { IsTrue result ↔ IsBusy device.now }
+{
+    device.in_flight.as_slice().len() >= 8
+}
+
+/// Whether the request comes before the IOMMU.
+fn is_forwarded(device: &Device, access: &Access) -> bool
+    ensures { IsTrue result ↔ IsForwarded device.now access.now }
+{
+    if !is_within_page(access) {
+        return false;
+    }
+    !is_busy(device)
+}
+
+/// Whether the device holds the frame where the access is to, with a right that allows it.
+fn holds(history: &[Entry], id: DeviceId, access: &Access, frame: u32) -> bool
+    ensures { IsTrue result ↔ HoldsFor history.now id access.now frame }
+{
+    is_held_for(
+        history,
+        id,
+        access.address / 4096,
+        access.kind,
+        u64::from(frame),
+    )
+}
+
+/// Whether the frame lingers there, with such a right.
+fn lingers(history: &[Entry], id: DeviceId, access: &Access, frame: u32) -> bool
+    ensures { IsTrue result ↔ LingersFor history.now id access.now frame }
+{
+    lingers_in(
+        history,
+        history,
+        id,
+        access.address / 4096,
+        access.kind,
+        u64::from(frame),
+    )
+}
+
+/// Whether the device holds nothing there with such a right.
+fn holds_none(history: &[Entry], id: DeviceId, access: &Access) -> bool
+    ensures { IsTrue result ↔ HoldsNoneFor history.now id access.now }
+{
+    match pair_held(history, id, access.address / 4096) {
+        None => true,
+        Some(pair) => !pair.1.allows(access.kind),
+    }
+}
+
+fn accepts_in_one_stage(history: &[Entry], id: DeviceId, access: &Access, frame: u32) -> bool
+    ensures { IsTrue result ↔ MayAcceptInOneStage history.now id access.now frame }
+{
+    holds(history, id, access, frame)
+        || holds_none(history, id, access) && lingers(history, id, access, frame)
+}
+
+fn is_same_cause(cause: Cause, fault: Cause) -> bool
+    ensures { IsTrue result ↔ (cause ≡ fault) }
+{
+    cause == fault
+}
+
+fn faults_in_one_stage(
+    history: &[Entry],
+    id: DeviceId,
+    access: &Access,
+    cause: Cause,
+    fault: Cause,
+) -> bool
+    ensures { IsTrue result ↔ (HoldsNoneFor history.now id access.now × (cause ≡ fault)) }
+{
+    if !is_same_cause(cause, fault) {
+        return false;
+    }
+    holds_none(history, id, access)
+}
+
+/// Whether the IOMMU may accept the access, on the frame.
+fn may_accept(
+    attachment: Attachment,
+    state: &State,
+    id: DeviceId,
+    access: &Access,
+    frame: u32,
+) -> bool
+    ensures { IsTrue result ↔ MayAccept attachment state.now id access.now frame }
+{
+    match attachment {
+        Attachment::Detached => false,
+        Attachment::Attached { mode, .. } => match mode {
+            Mode::First => accepts_in_one_stage(state.history.as_slice(), id, access, frame),
+            Mode::Second => accepts_in_one_stage(state.history.as_slice(), id, access, frame),
+            Mode::Both => false,
+        },
+        Attachment::Quarantined { .. } => false,
+        Attachment::Leaving { .. } => false,
+    }
+}
+
+/// Whether the IOMMU may refuse the access, with the cause.
+fn may_fault(
+    attachment: Attachment,
+    state: &State,
+    id: DeviceId,
+    access: &Access,
+    cause: Cause,
+) -> bool
+    ensures { IsTrue result ↔ MayFault attachment state.now id access.now cause }
+{
+    let history = state.history.as_slice();
+    match attachment {
+        Attachment::Detached => {
+            cause
+                == if too_wide(state, id) {
+                    Cause::TransactionTypeDisallowed
+                } else {
+                    Cause::DirectoryEntryNotValid
+                }
+        }
+        Attachment::Attached { mode, .. } => match mode {
+            Mode::First => faults_in_one_stage(
+                history,
+                id,
+                access,
+                cause,
+                Cause::page_fault(access.kind),
+            ),
+            Mode::Second => {
+                faults_in_one_stage(
+                    history,
+                    id,
+                    access,
+                    cause,
+                    Cause::guest_page_fault(access.kind),
+                )
+            }
+            Mode::Both => false,
+        },
+        Attachment::Quarantined { .. } => false,
+        Attachment::Leaving { .. } => false,
+    }
+}
+
+fn answers_busy(device: &Device, access: &Access) -> bool
+    ensures { IsTrue result ↔ (IsWithinPage access.now × IsBusy device.now) }
+{
+    if !is_within_page(access) {
+        return false;
+    }
+    is_busy(device)
+}
+
+fn accepts(state: &State, device: &Device, access: &Access, frame: u32, number: u64) -> bool
+    ensures { IsTrue result ↔ (IsForwarded device.now access.now × MayAccept device.now.attachment state.now device.now.id access.now frame × (number ≡ device.now.accepted + 1)) }
+{
+    if !is_forwarded(device, access) {
+        return false;
+    }
+    if u128::from(number) != u128::from(device.accepted) + 1 {
+        return false;
+    }
+    may_accept(device.attachment, state, device.id, access, frame)
+}
+
+fn faults(state: &State, device: &Device, access: &Access, cause: Cause) -> bool
+    ensures { IsTrue result ↔ (IsForwarded device.now access.now × MayFault device.now.attachment state.now device.now.id access.now cause) }
+{
+    if !is_forwarded(device, access) {
+        return false;
+    }
+    may_fault(device.attachment, state, device.id, access, cause)
+}
+
+/// Whether a plugged device's request may be answered so.
+fn may_answer(
+    state: &State,
+    device: &Device,
+    access: &Access,
+    frame: u32,
+    outcome: &Outcome,
+) -> bool
+    ensures { IsTrue result ↔ MayAnswer state.now device.now access.now frame outcome.now }
+{
+    match outcome {
+        Outcome::BadSpan => !is_within_page(access),
+        Outcome::Busy => answers_busy(device, access),
+        Outcome::Accepted(number) => accepts(state, device, access, frame, *number),
+        Outcome::Fault(cause) => faults(state, device, access, *cause),
+        _ => false,
+    }
+}
+
+/// The state after the answer.
+fn after_answer(
+    state: State,
+    place: usize,
+    access: Access,
+    frame: u32,
+    outcome: &Outcome,
+) -> Result<State, AllocError>
+    requires { place < length state.devices }
+    ensures { IfOk result (λ new. (device : Device) → IsPlaceOf state.devices device.id place → slice_get state.devices place ≡ Some device
+        → MayAnswer state device access frame outcome.now → new ≡ answered state device access frame outcome.now) }
+{
+    let mut next = state;
+    if let Outcome::Accepted(number) = outcome {
+        accept(&mut next.devices, place, *number, access, frame)?;
+    }
+    Ok(next)
+}
+
+/// Whether a device that isn't plugged in is answered so.
+pub(crate) fn answers_absent(outcome: &Outcome) -> bool
+    ensures { IsTrue result ↔ (outcome.now ≡ Refused NoSuchDevice) }
+{
+    match outcome {
+        Outcome::Refused(why) => *why == Refusal::NoSuchDevice,
+        _ => false,
+    }
+}
+
+/// The state after a request, where it may be answered so, on this frame.
+pub(crate) fn judge_request(
+    state: State,
+    id: DeviceId,
+    access: Access,
+    outcome: &Outcome,
+    frame: u32,
+) -> Result<Option<State>, AllocError>
+    ensures { IfOk result (λ next. (new : State) → (next ≡ Some new) ↔ Requests frame state id access outcome.now new) }
+{
+    match place_of(state.devices.as_slice(), id) {
+        None => {
+            if answers_absent(outcome) {
+                Ok(Some(state))
+            } else {
+                Ok(None)
+            }
+        }
+        Some(place) => {
+            let device = &state.devices.as_slice()[place];
+            if !may_answer(&state, device, &access, frame, outcome) {
+                return Ok(None);
+            }
+            let next = after_answer(state, place, access, frame, outcome)?;
+            Ok(Some(next))
+        }
+    }
+}

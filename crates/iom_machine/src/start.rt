@@ -1,0 +1,41 @@
+ghost use Rattle.std.specs.Prelude.{◌≡◌, ◌≤◌, IfOk, length, replicate};
+ghost use Rattle.iom_machine.specs.Machine.{opening, empty_frame};
+
+use crate::decide::frames::reserve;
+use crate::sequence::Sequence;
+use crate::state::{Frame, Owner, State};
+use std::alloc::{AllocError, Global};
+
+/// A frame of zeros that belongs to nobody.
+fn new_frame(alloc: Global) -> Result<Frame, AllocError>
+    ensures { IfOk result (λ frame. frame ≡ empty_frame) }
+{
+    let items = vec![in alloc; 0u8; 4096]?;
+    Ok(Frame {
+        owner: None,
+        bytes: Sequence { items },
+    })
+}
+
+/// The state at power-on, with so many frames and levels of the device directory: nothing is granted
+/// or plugged in, all bytes are zero, and the last four frames are the system's.
+pub fn power_on(alloc: Global, frames: u32, levels: u8) -> Result<State, AllocError>
+    requires { 4 ≤ frames }
+    ensures value { IfOk result (λ state. state ≡ opening frames levels) }
+    ensures size { IfOk result (λ state. length state.frames ≡ frames) }
+{
+    let mut items = Vec::new(alloc);
+    for _number in 0..frames {
+        items.push(new_frame(alloc)?)?;
+    }
+    let mut all = Sequence { items };
+    let last_four = [frames - 4, frames - 3, frames - 2, frames - 1];
+    reserve(&mut all, &last_four, Owner::System);
+    Ok(State {
+        levels,
+        frames: all,
+        history: Sequence::new(alloc),
+        tickets: 0,
+        devices: Sequence::new(alloc),
+    })
+}

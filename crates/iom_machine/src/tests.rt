@@ -1,0 +1,440 @@
+use super::*;
+use arrayvec::ArrayVec;
+use iom_base::{Cause, DeviceId, Rights};
+use iom_ledger::Refusal;
+use std::alloc::Global;
+use std::test::Fail;
+
+/// An event as the tests write it, with the frames that the driver takes for its tables.
+#[derive(Clone, Copy)]
+enum Does<'a> {
+    Plug(DeviceId),
+    Attach(DeviceId, &'a [u32]),
+    Grant(DeviceId, u64, u64, Rights, &'a [u32]),
+    Release(DeviceId, u64),
+    Fetch,
+    Poll,
+    Read(DeviceId, u64, u64),
+    Write(DeviceId, u64, &'a [u8]),
+    Commit(DeviceId),
+}
+
+/// An outcome as the tests write it; of an acceptance also the frame.
+#[derive(Clone, Copy)]
+enum Comes<'a> {
+    Done,
+    Refused(Refusal),
+    Ticket(u32),
+    Confirmed(u32, u32),
+    NoneConfirmed,
+    Fetched(Fetched),
+    Accepted(u64, u32),
+    Busy,
+    BadSpan,
+    Fault(Cause),
+    Read(&'a [u8]),
+    Wrote(u64),
+    Nothing,
+}
+
+fn bytes_of(alloc: Global, bytes: &[u8]) -> Result<Sequence<u8>, Fail> {
+    let mut made = Sequence::new(alloc);
+    for byte in bytes {
+        made.push(*byte)?;
+    }
+    Ok(made)
+}
+
+fn numbers_of(alloc: Global, numbers: &[u32]) -> Result<Sequence<u32>, Fail> {
+    let mut made = Sequence::new(alloc);
+    for number in numbers {
+        made.push(*number)?;
+    }
+    Ok(made)
+}
+
+fn event_of(alloc: Global, does: Does) -> Result<Event, Fail> {
+    Ok(match does {
+        Does::Plug(device) => Event::PlugRaw { device },
+        Does::Attach(device, _) => Event::AttachFirst { device },
+        Does::Grant(device, page, frame, rights, _) => Event::Grant {
+            device,
+            page,
+            frame,
+            rights,
+        },
+        Does::Release(device, page) => Event::Release { device, page },
+        Does::Fetch => Event::Fetch,
+        Does::Poll => Event::Poll,
+        Does::Read(device, address, len) => Event::Read {
+            device,
+            address,
+            len,
+        },
+        Does::Write(device, address, bytes) => Event::Write {
+            device,
+            address,
+            bytes: bytes_of(alloc, bytes)?,
+        },
+        Does::Commit(device) => Event::Commit { device },
+    })
+}
+
+fn outcome_of(comes: Comes) -> Outcome {
+    match comes {
+        Comes::Done => Outcome::Done,
+        Comes::Refused(why) => Outcome::Refused(why),
+        Comes::Ticket(ticket) => Outcome::Ticket(ticket),
+        Comes::Confirmed(first, last) => Outcome::Confirmed { first, last },
+        Comes::NoneConfirmed => Outcome::NoneConfirmed,
+        Comes::Fetched(fetched) => Outcome::Fetched(fetched),
+        Comes::Accepted(number, _) => Outcome::Accepted(number),
+        Comes::Busy => Outcome::Busy,
+        Comes::BadSpan => Outcome::BadSpan,
+        Comes::Fault(cause) => Outcome::Fault(cause),
+        Comes::Read(bytes) => {
+            let mut made = ArrayVec::new();
+            if made.try_extend_from_slice(bytes).is_err() {
+                return Outcome::Done;
+            }
+            Outcome::Read(made)
+        }
+        Comes::Wrote(len) => Outcome::Wrote(len),
+        Comes::Nothing => Outcome::NothingInFlight,
+    }
+}
+
+fn line_of(alloc: Global, does: Does, comes: Comes) -> Result<Line, Fail> {
+    let taken: &[u32] = match does {
+        Does::Attach(_, taken) => taken,
+        Does::Grant(_, _, _, _, taken) => taken,
+        _ => &[],
+    };
+    let frame = match comes {
+        Comes::Accepted(_, frame) => frame,
+        _ => 0,
+    };
+    Ok(Line {
+        event: event_of(alloc, does)?,
+        outcome: outcome_of(comes),
+        choice: Choice {
+            taken: numbers_of(alloc, taken)?,
+            frame,
+        },
+    })
+}
+
+/// The first of the lines that may not come, in a world of 64 frames and one directory level.
+fn judged(alloc: Global, lines: &[Line]) -> Result<Option<usize>, Fail> {
+    match judge_run(alloc, power_on(alloc, 64, 1)?, lines)? {
+        Verdict::Lawful(_) => Ok(None),
+        Verdict::Unlawful { line } => Ok(Some(line)),
+    }
+}
+
+fn first_unlawful(alloc: Global, lines: &[(Does, Comes)]) -> Result<Option<usize>, Fail> {
+    let mut made = Vec::new(alloc);
+    for (does, comes) in lines {
+        made.push(line_of(alloc, *does, *comes)?)?;
+    }
+    judged(alloc, &made)
+}
+
+/// The row `first-path`.
+const FIRST_PATH: [(Does, Comes); 11] = [
+    (Does::Plug(1), Comes::Done),
+    (Does::Attach(1, &[59]), Comes::Done),
+    (Does::Grant(1, 3, 5, Rights::RW, &[58, 57]), Comes::Done),
+    (Does::Read(1, 0x3ffc, 4), Comes::Accepted(1, 5)),
+    (Does::Read(1, 0x3ffc, 5), Comes::BadSpan),
+    (Does::Commit(1), Comes::Read(&[0, 0, 0, 0])),
+    (Does::Release(1, 3), Comes::Ticket(1)),
+    (
+        Does::Fetch,
+        Comes::Fetched(Fetched::Did(CommandName::IotinvalVma)),
+    ),
+    (
+        Does::Fetch,
+        Comes::Fetched(Fetched::Did(CommandName::IofenceC)),
+    ),
+    (Does::Poll, Comes::Confirmed(1, 1)),
+    (Does::Read(1, 0x3ffc, 4), Comes::Fault(Cause::ReadPageFault)),
+];
+
+/// The row `busy`.
+const BUSY: [(Does, Comes); 12] = [
+    (Does::Plug(1), Comes::Done),
+    (Does::Attach(1, &[59]), Comes::Done),
+    (Does::Grant(1, 3, 5, Rights::RW, &[58, 57]), Comes::Done),
+    (Does::Read(1, 0x3000, 1), Comes::Accepted(1, 5)),
+    (Does::Read(1, 0x3000, 1), Comes::Accepted(2, 5)),
+    (Does::Read(1, 0x3000, 1), Comes::Accepted(3, 5)),
+    (Does::Read(1, 0x3000, 1), Comes::Accepted(4, 5)),
+    (Does::Read(1, 0x3000, 1), Comes::Accepted(5, 5)),
+    (Does::Read(1, 0x3000, 1), Comes::Accepted(6, 5)),
+    (Does::Read(1, 0x3000, 1), Comes::Accepted(7, 5)),
+    (Does::Read(1, 0x3000, 1), Comes::Accepted(8, 5)),
+    (Does::Read(1, 0x3000, 1), Comes::Busy),
+];
+
+/// The row `grant-boundaries`.
+const GRANT_BOUNDARIES: [(Does, Comes); 11] = [
+    (Does::Plug(1), Comes::Done),
+    (Does::Attach(1, &[59]), Comes::Done),
+    (Does::Grant(1, 3, 5, Rights::RW, &[58, 57]), Comes::Done),
+    (
+        Does::Grant(1, 67108863, 5, Rights::R, &[56, 55]),
+        Comes::Done,
+    ),
+    (
+        Does::Grant(1, 67108864, 5, Rights::R, &[]),
+        Comes::Refused(Refusal::IovaOutOfRange),
+    ),
+    (
+        Does::Grant(1, 4, 60, Rights::R, &[]),
+        Comes::Refused(Refusal::FrameReserved),
+    ),
+    (
+        Does::Grant(1, 4, 64, Rights::R, &[]),
+        Comes::Refused(Refusal::FrameOutOfRange),
+    ),
+    (
+        Does::Grant(1, 3, 6, Rights::R, &[]),
+        Comes::Refused(Refusal::IovaBusy),
+    ),
+    (Does::Read(1, 0x3ffffff000, 1), Comes::Accepted(1, 5)),
+    (
+        Does::Write(1, 0x3ffffff000, &[0]),
+        Comes::Fault(Cause::WritePageFault),
+    ),
+    (
+        Does::Read(1, 0x4000000000, 1),
+        Comes::Fault(Cause::ReadPageFault),
+    ),
+];
+
+/// The requests and commits of the row `stale-but-lawful`; and the same page once more, refused,
+/// which is lawful too.
+const STALE_BUT_LAWFUL: [(Does, Comes); 9] = [
+    (Does::Plug(1), Comes::Done),
+    (Does::Attach(1, &[59]), Comes::Done),
+    (Does::Grant(1, 3, 5, Rights::RW, &[58, 57]), Comes::Done),
+    (Does::Read(1, 0x3000, 1), Comes::Accepted(1, 5)),
+    (Does::Commit(1), Comes::Read(&[0])),
+    (Does::Release(1, 3), Comes::Ticket(1)),
+    (Does::Read(1, 0x3000, 1), Comes::Accepted(2, 5)),
+    (Does::Read(1, 0x3000, 1), Comes::Fault(Cause::ReadPageFault)),
+    (Does::Poll, Comes::NoneConfirmed),
+];
+
+#[test]
+fn the_worked_rows_are_lawful(rt: HostRuntime) -> Result<(), Fail> {
+    let alloc = rt.alloc();
+    assert_eq!(rt; first_unlawful(alloc, &[])?, None);
+    assert_eq!(rt; first_unlawful(alloc, &FIRST_PATH)?, None);
+    assert_eq!(rt; first_unlawful(alloc, &BUSY)?, None);
+    assert_eq!(rt; first_unlawful(alloc, &GRANT_BOUNDARIES)?, None);
+    assert_eq!(rt; first_unlawful(alloc, &STALE_BUT_LAWFUL)?, None);
+    Ok(())
+}
+
+/// A lawful run, whose lines are changed below.
+const BASE: [(Does, Comes); 17] = [
+    (Does::Plug(1), Comes::Done),
+    (Does::Attach(1, &[59]), Comes::Done),
+    (Does::Grant(1, 3, 5, Rights::RW, &[58, 57]), Comes::Done),
+    (Does::Read(1, 0x3ffc, 4), Comes::Accepted(1, 5)),
+    (Does::Read(1, 0x3ffc, 5), Comes::BadSpan),
+    (Does::Commit(1), Comes::Read(&[0, 0, 0, 0])),
+    (Does::Write(1, 0x3000, &[7, 8]), Comes::Accepted(2, 5)),
+    (Does::Commit(1), Comes::Wrote(2)),
+    (Does::Release(1, 3), Comes::Ticket(1)),
+    (Does::Read(1, 0x3000, 2), Comes::Accepted(3, 5)),
+    (Does::Poll, Comes::NoneConfirmed),
+    (Does::Commit(1), Comes::Read(&[7, 8])),
+    (Does::Fetch, Comes::Fetched(Fetched::Empty)),
+    (Does::Poll, Comes::Confirmed(1, 1)),
+    (Does::Read(1, 0x3000, 2), Comes::Fault(Cause::ReadPageFault)),
+    (Does::Commit(1), Comes::Nothing),
+    (Does::Read(2, 0, 1), Comes::Refused(Refusal::NoSuchDevice)),
+];
+
+/// A line of that run, and what it is changed to, which may not come there.
+const CHANGED_CALLS: [(usize, Does, Comes); 18] = [
+    // refused without a reason
+    (0, Does::Plug(1), Comes::Refused(Refusal::TooManyDevices)),
+    // plugged in twice
+    (1, Does::Plug(1), Comes::Done),
+    // a refusal out of order
+    (
+        1,
+        Does::Attach(2, &[]),
+        Comes::Refused(Refusal::NotAttached),
+    ),
+    // a table in a reserved frame
+    (1, Does::Attach(1, &[60]), Comes::Done),
+    // plenty of free frames
+    (1, Does::Attach(1, &[]), Comes::Refused(Refusal::NoFrames)),
+    // attached twice
+    (2, Does::Attach(1, &[]), Comes::Done),
+    // a grant to a device that isn't attached
+    (1, Does::Grant(1, 3, 5, Rights::RW, &[]), Comes::Done),
+    // a reserved frame granted
+    (2, Does::Grant(1, 3, 59, Rights::RW, &[]), Comes::Done),
+    // the page is judged before the frame
+    (
+        2,
+        Does::Grant(1, 67108864, 60, Rights::RW, &[]),
+        Comes::Refused(Refusal::IovaOutOfRange),
+    ),
+    // the granted frame becomes a table
+    (2, Does::Grant(1, 3, 5, Rights::RW, &[5]), Comes::Done),
+    // plenty of free frames
+    (
+        2,
+        Does::Grant(1, 3, 5, Rights::RW, &[]),
+        Comes::Refused(Refusal::NoFrames),
+    ),
+    // a granted frame becomes a table
+    (3, Does::Grant(1, 4, 6, Rights::RW, &[5]), Comes::Done),
+    // a held page
+    (3, Does::Grant(1, 3, 6, Rights::R, &[]), Comes::Done),
+    // a lingering page
+    (9, Does::Grant(1, 3, 6, Rights::R, &[]), Comes::Done),
+    // a page that isn't held
+    (8, Does::Release(1, 4), Comes::Ticket(1)),
+    // another ticket than the next
+    (8, Does::Release(1, 3), Comes::Ticket(2)),
+    // few tickets wait
+    (
+        8,
+        Does::Release(1, 3),
+        Comes::Refused(Refusal::TooManyPending),
+    ),
+    // a fetch that answers as a poll
+    (12, Does::Fetch, Comes::NoneConfirmed),
+];
+
+const CHANGED_REQUESTS: [(usize, Does, Comes); 10] = [
+    // a held page faults
+    (
+        3,
+        Does::Read(1, 0x3ffc, 4),
+        Comes::Fault(Cause::ReadPageFault),
+    ),
+    // another frame
+    (3, Does::Read(1, 0x3ffc, 4), Comes::Accepted(1, 6)),
+    // another number
+    (3, Does::Read(1, 0x3ffc, 4), Comes::Accepted(2, 5)),
+    // a page that isn't held
+    (3, Does::Read(1, 0x4ffc, 4), Comes::Accepted(1, 5)),
+    // eight aren't in flight
+    (3, Does::Read(1, 0x3ffc, 4), Comes::Busy),
+    // a bad span comes first
+    (
+        4,
+        Does::Read(1, 0x4ffc, 5),
+        Comes::Fault(Cause::ReadPageFault),
+    ),
+    // the fault of a read
+    (
+        3,
+        Does::Write(1, 0x4000, &[1]),
+        Comes::Fault(Cause::ReadPageFault),
+    ),
+    // a page that is released and confirmed
+    (14, Does::Read(1, 0x3000, 2), Comes::Accepted(4, 5)),
+    // a device that isn't attached has no context
+    (
+        1,
+        Does::Read(1, 0x3000, 2),
+        Comes::Fault(Cause::TransactionTypeDisallowed),
+    ),
+    // a device that isn't plugged in
+    (
+        16,
+        Does::Read(2, 0, 1),
+        Comes::Fault(Cause::DirectoryEntryNotValid),
+    ),
+];
+
+const CHANGED_COMMITS_AND_POLLS: [(usize, Does, Comes); 10] = [
+    // a byte more
+    (5, Does::Commit(1), Comes::Read(&[0, 0, 0, 0, 0])),
+    // another byte
+    (5, Does::Commit(1), Comes::Read(&[0, 0, 0, 1])),
+    // something is in flight
+    (5, Does::Commit(1), Comes::Nothing),
+    // a byte more
+    (7, Does::Commit(1), Comes::Wrote(3)),
+    // a write gives no bytes
+    (7, Does::Commit(1), Comes::Read(&[7, 8])),
+    // the bytes of another frame
+    (11, Does::Commit(1), Comes::Read(&[0, 0])),
+    // nothing is in flight
+    (15, Does::Commit(1), Comes::Read(&[7, 8])),
+    // an access under the ticket is in flight
+    (10, Does::Poll, Comes::Confirmed(1, 1)),
+    // a ticket that wasn't given
+    (13, Does::Poll, Comes::Confirmed(1, 2)),
+    // not the oldest ticket
+    (13, Does::Poll, Comes::Confirmed(0, 1)),
+];
+
+/// The first line that may not come where this line of the lawful run is changed.
+fn first_unlawful_of(
+    alloc: Global,
+    place: usize,
+    does: Does,
+    comes: Comes,
+) -> Result<Option<usize>, Fail> {
+    let mut made = Vec::new(alloc);
+    for (number, (base_does, base_comes)) in BASE.iter().enumerate() {
+        if number < place {
+            made.push(line_of(alloc, *base_does, *base_comes)?)?;
+        }
+    }
+    made.push(line_of(alloc, does, comes)?)?;
+    judged(alloc, &made)
+}
+
+#[test]
+fn changed_lines_are_refused(rt: HostRuntime) -> Result<(), Fail> {
+    assert_eq!(rt; first_unlawful(rt.alloc(), &BASE)?, None);
+    for (place, does, comes) in CHANGED_CALLS {
+        assert_eq!(rt;
+            first_unlawful_of(rt.alloc(), place, does, comes)?,
+            Some(place)
+        );
+    }
+    for (place, does, comes) in CHANGED_REQUESTS {
+        assert_eq!(rt;
+            first_unlawful_of(rt.alloc(), place, does, comes)?,
+            Some(place)
+        );
+    }
+    for (place, does, comes) in CHANGED_COMMITS_AND_POLLS {
+        assert_eq!(rt;
+            first_unlawful_of(rt.alloc(), place, does, comes)?,
+            Some(place)
+        );
+    }
+    Ok(())
+}
+
+/// The judge of one line, and the laws, which do nothing when they run.
+#[test]
+fn one_step_is_judged(rt: HostRuntime) -> Result<(), Fail> {
+    let line = line_of(rt.alloc(), Does::Plug(1), Comes::Done)?;
+    let next = judge(
+        rt.alloc(),
+        power_on(rt.alloc(), 64, 1)?,
+        &line.event,
+        &line.outcome,
+        &line.choice,
+    )?;
+    assert_eq!(rt; next.map(|state| state.devices.as_slice().len()), Some(1));
+    reclaim_theorem();
+    lawful_runs_have_choices();
+    Ok(())
+}

@@ -1,5 +1,0 @@
-#![tactic(auto)]
-
-mod commands;
-
-pub use commands::Commands;
