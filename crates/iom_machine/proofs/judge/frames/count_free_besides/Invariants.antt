@@ -1,6 +1,0 @@
-use Rattle.std.proofs.Common.{◌≤◌}
-use Rattle.iom_machine.specs.Judging.{CountsAll, IsFreeBesides}
-use Rattle.iom_machine.proofs.judge.frames.count_free_besides.Given as goal
-
-abbrev pub invariant-loop-number : goal.invariant-loop-number
-invariant-loop-number l = CountsAll l.count l.number (IsFreeBesides l.state l.named) × (l.count ≤ l.number)
