@@ -1,0 +1,15 @@
+pub mod ReadsLemmas
+pub mod CutLemmas
+pub mod HexLemmas
+pub mod DecimalLemmas
+pub mod WordLemmas
+pub mod HexBytesLemmas
+pub mod FieldLemmas
+pub mod EventLemmas
+pub mod LineLemmas
+pub mod SayLemmas
+pub mod ScriptLemmas
+pub mod SameLemmas
+pub mod MeaningLemmas
+pub mod LimitLemmas
+pub mod LegalLemmas

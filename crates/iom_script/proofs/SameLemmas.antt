@@ -1,0 +1,152 @@
+-- A text says one thing.
+use Rattle.std.proofs.Common.{◌≡◌, ℕ, ◌^◌, ◌<◌, inl, inr, List, [], ◌∷◌, ◌++◌, length, drop, Option, None, Some, codes, ap, sym, subst, refl, ◌∙◌, arith}
+use Rattle.std.specs.Str.Parse.{AllDigits, digits_value}
+use Rattle.std.proofs.lemmas.Str.Parse.{IsNumeralModel, numerals_by_value, tells_digits}
+use Rattle.std.proofs.lemmas.Fmt.{digits_value-decimal}
+use Rattle.std.proofs.lemmas.List.{append_cancel_left, append_cancel_right}
+use Rattle.iom_machine.specs.declared.event.Event.{Event}
+use Rattle.iom_machine.specs.declared.event.Event.TheVariants.{PlugRaw, AttachFirst, Grant, Release, Fetch, Poll, Read, Write, Commit}
+use Rattle.iom_script.specs.declared.script.WorldSize.{WorldSize}
+use Rattle.iom_script.specs.declared.script.Script.{Script}
+use Rattle.iom_script.specs.Digits.{hex_digits}
+use Rattle.iom_script.specs.Words.{◌␣◌, IsDevice, IsNumber, IsAddress, IsRight, IsHex}
+use Rattle.iom_script.specs.Grammar.{IsEventLine, IsWorldLine, SayEvents, Says}
+use Rattle.iom_script.proofs.CutLemmas.{cut_is_one}
+use Rattle.iom_script.proofs.HexLemmas.{same_hex, length_hex}
+use Rattle.iom_script.proofs.HexBytesLemmas.{same_hex_of}
+use Rattle.iom_script.proofs.DecimalLemmas.{number_without_space}
+use Rattle.iom_script.proofs.WordLemmas.{device_without_space, address_without_space}
+use Rattle.iom_script.proofs.FieldLemmas.{HasNoSpace, Followed}
+use Rattle.iom_script.proofs.EventLemmas.{IsWord, byte_of_first, device_event, device_from, PlugRawWords, attach_event, attach_from, AttachFirstWords, grant_event, grant_from, GrantWords, release_event, release_from, ReleaseWords, read_event, read_from, ReadWords, write_event, write_from, WriteWords, commit_event, commit_from}
+
+-- the text says one value
+abbrev SaysOne : {X : Type 0} → (List ℕ → X → Type 0) → Type 0
+SaysOne {X} Says = (text : List ℕ) (x y : X) → Says text x → Says text y → x ≡ y
+
+device_same : SaysOne IsDevice
+device_same text x y p q = same_hex 6 x y p.0 q.0 (sym p.1 ∙ q.1)
+
+own : IsNumeralModel (AllDigits 10) (digits_value 10)
+own = numerals_by_value (AllDigits 10) tells_digits
+
+number_same : SaysOne IsNumber
+number_same text x y p q = sym (digits_value-decimal own x p.0) ∙ ap (digits_value 10) (sym p.1 ∙ q.1) ∙ digits_value-decimal own y q.0
+
+address_same : SaysOne IsAddress
+address_same text x y p q =
+    let count : p.0 ≡ q.0 = omega (arith, ap length p.4, ap length q.4, length_hex p.0 x, length_hex q.0 y) in
+    let digits : hex_digits p.0 x ≡ hex_digits q.0 y = ap (drop 2) (sym p.4 ∙ q.4) in
+    same_hex p.0 x y p.3 (subst (λ k. y < 16 ^ k) (sym count) q.3) (digits ∙ ap (λ k. hex_digits k y) (sym count))
+
+right_same : SaysOne IsRight
+right_same text x y (inl a) (inl b) = a.1 ∙ sym b.1
+right_same text x y (inl a) (inr b) = absurd (omega (arith, ap length (sym a.0 ∙ b.0)))
+right_same text x y (inr a) (inl b) = absurd (omega (arith, ap length (sym a.0 ∙ b.0)))
+right_same text x y (inr a) (inr b) = a.1 ∙ sym b.1
+
+hex_same : SaysOne IsHex
+hex_same text x y p q = same_hex_of x y p.2 q.2 (sym p.3 ∙ q.3)
+
+nothing_same : (word : List ℕ) → SaysOne (IsWord word)
+nothing_same word text x y p q = refl
+
+-- words one after another
+followed_same : {B : Type 0} (Says : List ℕ → ℕ → Type 0) (More : List ℕ → B → Type 0) → HasNoSpace Says → SaysOne Says → SaysOne More → SaysOne (Followed Says More)
+followed_same {B} Says More spaceless one more_one text a b p q =
+    let same = cut_is_one 32 p.1.0 q.1.0 p.0 q.0 (spaceless p.1.0 a.0 p.1.1) (spaceless q.1.0 b.0 q.1.1) (sym p.1.2 ∙ q.1.2) in
+    let value = one q.1.0 a.0 b.0 (subst (λ w. Says w a.0) same.0 p.1.1) q.1.1 in
+    let more = more_one q.0 a.1 b.1 (subst (λ t. More t a.1) same.1 p.2) q.2 in
+    ap (λ (v : ℕ). let r : ℕ × B = (v, a.1) in r) value ∙ ap (λ (m : B). let r : ℕ × B = (b.0, m) in r) more
+
+-- events of one line with the same first word
+event_by_words : {V : Type 0} (f : V → Event) (R : V → Type 0) (a b : Event) → ((v w : V) → R v → R w → v ≡ w)
+    → (v : V) × R v × (f v ≡ a) → (w : V) × R w × (f w ≡ b) → a ≡ b
+event_by_words {V} f R a b one p q = sym p.2 ∙ ap f (one p.0 q.0 p.1 q.1) ∙ q.2
+
+fetch_same : (b : Event) → IsEventLine (codes "fetch") b → Fetch ≡ b
+fetch_same Fetch q = refl
+fetch_same b q = absurd (omega (arith, byte_of_first 0 (codes "fetch") b (omega arith) q))
+
+poll_same : (b : Event) → IsEventLine (codes "poll") b → Poll ≡ b
+poll_same Poll q = refl
+poll_same b q = absurd (omega (arith, byte_of_first 0 (codes "poll") b (omega arith) q))
+
+-- a line says one event
+pub event_same : (line : List ℕ) (a b : Event) → IsEventLine line a → IsEventLine line b → a ≡ b
+event_same line (PlugRaw device) b p q =
+    let text = p.0 ␣ codes "raw" in
+    event_by_words device_event (PlugRawWords text) (PlugRaw device) b (followed_same IsDevice (IsWord (codes "raw")) device_without_space device_same (nothing_same (codes "raw")) text)
+    (device_from text (PlugRaw device) (p.0, p.1, refl)) (device_from text b (subst (λ l. IsEventLine l b) p.2 q))
+event_same line (AttachFirst device) b p q =
+    let text = p.0 ␣ codes "first" in
+    event_by_words attach_event (AttachFirstWords text) (AttachFirst device) b (followed_same IsDevice (IsWord (codes "first")) device_without_space device_same (nothing_same (codes "first")) text)
+    (attach_from text (AttachFirst device) (p.0, p.1, refl)) (attach_from text b (subst (λ l. IsEventLine l b) p.2 q))
+event_same line (Grant device page frame rights) b p q =
+    let text = p.0 ␣ p.1 ␣ p.2 ␣ p.3 in
+    event_by_words grant_event (GrantWords text) (Grant device page frame rights) b
+    (followed_same IsDevice (Followed IsNumber (Followed IsNumber IsRight)) device_without_space device_same
+    (followed_same IsNumber (Followed IsNumber IsRight) number_without_space number_same (followed_same IsNumber IsRight number_without_space number_same right_same)) text)
+    (grant_from text (Grant device page frame rights) (p.0, p.1, p.2, p.3, p.4, p.5, p.6, p.7, refl)) (grant_from text b (subst (λ l. IsEventLine l b) p.8 q))
+event_same line (Release device page) b p q =
+    let text = p.0 ␣ p.1 in
+    event_by_words release_event (ReleaseWords text) (Release device page) b (followed_same IsDevice IsNumber device_without_space device_same number_same text)
+    (release_from text (Release device page) (p.0, p.1, p.2, p.3, refl)) (release_from text b (subst (λ l. IsEventLine l b) p.4 q))
+event_same line Fetch b p q = fetch_same b (subst (λ l. IsEventLine l b) p q)
+event_same line Poll b p q = poll_same b (subst (λ l. IsEventLine l b) p q)
+event_same line (Read device address len) b p q =
+    let text = p.0 ␣ p.1 ␣ p.2 in
+    event_by_words read_event (ReadWords text) (Read device address len) b
+    (followed_same IsDevice (Followed IsAddress IsNumber) device_without_space device_same (followed_same IsAddress IsNumber address_without_space address_same number_same) text)
+    (read_from text (Read device address len) (p.0, p.1, p.2, p.3, p.4, p.5, refl)) (read_from text b (subst (λ l. IsEventLine l b) p.6 q))
+event_same line (Write device address bytes) b p q =
+    let text = p.0 ␣ p.1 ␣ p.2 in
+    event_by_words write_event (WriteWords text) (Write device address bytes) b
+    (followed_same IsDevice (Followed IsAddress IsHex) device_without_space device_same (followed_same IsAddress IsHex address_without_space address_same hex_same) text)
+    (write_from text (Write device address bytes) (p.0, p.1, p.2, p.3, p.4, p.5, refl)) (write_from text b (subst (λ l. IsEventLine l b) p.6 q))
+event_same line (Commit device) b p q =
+    event_by_words commit_event (IsDevice p.0) (Commit device) b (device_same p.0)
+    (commit_from p.0 (Commit device) (p.0, p.1, refl)) (commit_from p.0 b (subst (λ l. IsEventLine l b) p.2 q))
+
+-- a line says one world
+world_same : (line : List ℕ) (s t : WorldSize) → IsWorldLine line s → IsWorldLine line t → s ≡ t
+world_same line s t p q =
+    let text = append_cancel_right p.0 q.0 (32 ∷ codes "1") (append_cancel_left (codes "world ") (p.0 ␣ codes "1") (q.0 ␣ codes "1") (sym p.5 ∙ q.5)) in
+    let frames = number_same q.0 s.frames t.frames (subst (λ f. IsNumber f s.frames) text p.1) q.1 in
+    ap (λ (f : ℕ). let w : WorldSize = record { frames = f; levels = s.levels } in w) frames
+    ∙ ap (λ (l : ℕ). let w : WorldSize = record { frames = t.frames; levels = l } in w) (p.4 ∙ sym q.4)
+
+-- lines say one list of events
+events_same : (lines : List (List ℕ)) (xs ys : List Event) → SayEvents lines xs → SayEvents lines ys → xs ≡ ys
+events_same [] [] [] p q = refl
+events_same [] [] (y ∷ ys) p q = absurd q
+events_same [] (x ∷ xs) ys p q = absurd p
+events_same (l ∷ ls) [] ys p q = absurd p
+events_same (l ∷ ls) (x ∷ xs) [] p q = absurd q
+events_same (l ∷ ls) (x ∷ xs) (y ∷ ys) p q =
+    ap (λ e. e ∷ xs) (event_same l x y p.0 q.0) ∙ ap (λ es. y ∷ es) (events_same ls xs ys p.1 q.1)
+
+-- two scripts with the same parts
+same_script : (s t : Script) → s.world ≡ t.world → s.events ≡ t.events → s ≡ t
+same_script s t world events =
+    ap (λ (w : Option WorldSize). let a : Script = record { world = w; events = s.events } in a) world
+    ∙ ap (λ (es : List Event). let a : Script = record { world = t.world; events = es } in a) events
+
+-- lines say one script
+pub says_same : (lines : List (List ℕ)) (s t : Script) → Says lines s → Says lines t → s ≡ t
+says_same [] s t p q = same_script s t (p.0 ∙ sym q.0) (p.1 ∙ sym q.1)
+says_same (l ∷ ls) s t p q =
+    same_script s t (p.1 ∙ ap Some (world_same l p.0 q.0 p.2 q.2) ∙ sym q.1) (events_same ls s.events t.events p.3 q.3)
+
+-- a front of lines that say events says some
+events_front : (xs ys : List (List ℕ)) (events : List Event) → SayEvents (xs ++ ys) events → (front : List Event) × SayEvents xs front
+events_front [] ys events say = ([], tt)
+events_front (x ∷ xs) ys [] say = absurd say
+events_front (x ∷ xs) ys (e ∷ es) say = let more = events_front xs ys es say.1 in (e ∷ more.0, (say.0, more.1))
+
+-- a front of lines that say a script says one
+pub says_front : (xs ys : List (List ℕ)) (script : Script) → Says (xs ++ ys) script → (front : Script) × Says xs front
+says_front [] ys script say = let nothing : Script = record { world = None; events = [] } in (nothing, (refl, refl))
+says_front (x ∷ xs) ys script say =
+    let events = events_front xs ys script.events say.3 in
+    let front : Script = record { world = Some say.0; events = events.0 } in
+    (front, (say.0, refl, say.2, events.1))

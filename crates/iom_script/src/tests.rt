@@ -1,0 +1,198 @@
+use super::*;
+use arrayvec::ArrayVec;
+use iom_base::{Cause, Rights};
+use iom_ledger::Refusal;
+use iom_machine::{CommandName, Event, Fetched, Outcome};
+use std::test::Fail;
+
+/// The line number at which the bytes are refused, or 0 where they are a script.
+fn bad_line(rt: &HostRuntime, bytes: &[u8]) -> u64 {
+    match parse(rt.alloc(), bytes) {
+        Ok(_) => 0,
+        Err(ScriptFault::Line(number)) => number,
+        Err(ScriptFault::Memory) => u64::MAX,
+    }
+}
+
+/// The bytes, as often as that.
+fn many(
+    alloc: std::alloc::Global,
+    front: &[u8],
+    piece: &[u8],
+    count: usize,
+) -> Result<Vec<u8>, Fail> {
+    let mut bytes = Vec::from_slice(alloc, front)?;
+    for _ in 0..count {
+        bytes.extend_from_slice(piece)?;
+    }
+    Ok(bytes)
+}
+
+#[test]
+fn lines_tell_outcomes(rt: HostRuntime) -> Result<(), Fail> {
+    let mut out = LineBuffer::new(rt.alloc())?;
+    assert!(rt; out.has_room());
+    let mut bytes = ArrayVec::<u8, 4096>::new();
+    bytes.try_push(0)?;
+    bytes.try_push(0xaf)?;
+    out.append_line(&Outcome::Done);
+    out.append_line(&Outcome::Refused(Refusal::TooManyPending));
+    out.append_line(&Outcome::Ticket(1));
+    out.append_line(&Outcome::Confirmed {
+        first: 1,
+        last: 256,
+    });
+    out.append_line(&Outcome::NoneConfirmed);
+    out.append_line(&Outcome::Fetched(Fetched::Did(CommandName::IotinvalVma)));
+    out.append_line(&Outcome::Fetched(Fetched::Did(CommandName::IofenceC)));
+    out.append_line(&Outcome::Fetched(Fetched::Empty));
+    out.append_line(&Outcome::Accepted(1));
+    out.append_line(&Outcome::Busy);
+    out.append_line(&Outcome::BadSpan);
+    out.append_line(&Outcome::Fault(Cause::ReadPageFault));
+    out.append_line(&Outcome::Read(bytes));
+    out.append_line(&Outcome::Wrote(4096));
+    out.append_line(&Outcome::NothingInFlight);
+    let lines =
+        b"ok\nrefused 12 TooManyPending\nticket 1\nconfirmed 1-256\nconfirmed -\ndid iotinval.vma\ndid iofence.c\nempty\naccepted 1\nbusy\nbadspan\nfault 13\nread 00af\nwrote 4096\nnone\n";
+    assert!(rt; out.as_slice() == lines.as_slice());
+    out.clear();
+    assert!(rt; out.as_slice().is_empty());
+    Ok(())
+}
+
+#[test]
+fn a_buffer_has_room_until_it_is_nearly_full(rt: HostRuntime) -> Result<(), Fail> {
+    let mut out = LineBuffer::new(rt.alloc())?;
+    let mut count = 0usize;
+    for _line in 0..2000 {
+        if out.has_room() {
+            out.append_line(&Outcome::Accepted(u64::MAX));
+            count = count.wrapping_add(1);
+        }
+    }
+    // 30 bytes each: the first line that might not have fitted came after 57,338 bytes.
+    assert_eq!(rt; count, 1912usize);
+    Ok(())
+}
+
+#[test]
+fn an_empty_script_says_nothing(rt: HostRuntime) -> Result<(), Fail> {
+    let script = parse(rt.alloc(), b"")?;
+    assert!(rt; script.world.is_none());
+    let script = parse(rt.alloc(), b"\n# world 64 1\0\r\xff\n#\n")?;
+    assert!(rt; script.world.is_none());
+    assert!(rt; script.events.as_slice().is_empty());
+    Ok(())
+}
+
+const FIRST_PATH: &[u8] =
+    b"world 64 1\ndevice 000001 raw\nattach 000001 first\ngrant 000001 3 5 rw\nread 000001 0x3ffc 4\nread 000001 0x3ffc 5\ncommit 000001\nrelease 000001 3\nfetch\nfetch\npoll\nread 000001 0x3ffc 4\n";
+
+#[test]
+fn the_first_path_is_read(rt: HostRuntime) -> Result<(), Fail> {
+    let script = parse(rt.alloc(), FIRST_PATH)?;
+    let events = script.events.as_slice();
+    assert_eq!(rt; events.len(), 11usize);
+    match events.get(2) {
+        Some(
+            Event::Grant {
+                device: 1,
+                page: 3,
+                frame: 5,
+                rights,
+            },
+        ) => assert!(rt; *rights == Rights::RW),
+        _ => return Err(Fail::new("another grant")),
+    }
+    match events.get(10) {
+        Some(
+            Event::Read {
+                device: 1,
+                address: 0x3ffc,
+                len: 4,
+            },
+        ) => Ok(()),
+        _ => Err(Fail::new("another read")),
+    }
+}
+
+const BOUNDARIES: &[u8] =
+    b"world 4096 1\n\n# grants\ngrant ffffff 18446744073709551615 0 r\nwrite 00000a 0x0000003ffffff000 00f1\n";
+
+#[test]
+fn boundaries_are_read(rt: HostRuntime) -> Result<(), Fail> {
+    let script = parse(rt.alloc(), BOUNDARIES)?;
+    match script.events.as_slice().first() {
+        Some(
+            Event::Grant {
+                device: 0xffffff,
+                page: u64::MAX,
+                frame: 0,
+                rights,
+            },
+        ) => assert!(rt; *rights == Rights::R),
+        _ => return Err(Fail::new("another grant")),
+    }
+    match script.events.as_slice().get(1) {
+        Some(
+            Event::Write {
+                device: 10,
+                address: 0x3ffffff000,
+                bytes,
+            },
+        ) => assert!(rt; bytes.as_slice() == [0u8, 0xf1].as_slice()),
+        _ => return Err(Fail::new("another write")),
+    }
+    Ok(())
+}
+
+/// Scripts that are refused at their first line, with a bar between.
+const BAD_FIRST: &[u8] =
+    b"fetch\n|world 63 1\n|world 4097 1\n|world 64 2\n|world 64 0\n|world 064 1\n|world 64 01\n|world  64 1\n| world 64 1\n|world 64 1 \n|world\t64 1\n|world 64 1\r\n|world 64 1\0\n|World 64 1\n|world 64\n|world\n|world 64 1|# no line feed| \n";
+
+#[test]
+fn bad_first_lines_are_named(rt: HostRuntime) {
+    for script in BAD_FIRST.split(|byte| *byte == b'|') {
+        assert_eq!(rt; bad_line(&rt, script), 1u64);
+    }
+}
+
+/// Scripts that are refused at their second line.
+const BAD_SECOND: &[u8] =
+    b"world 64 1\nfetch 1\n|world 64 1\nfetch|world 64 1\nworld 64 1\n|world 64 1\nfetch\r\n|world 64 1\nfetch \n|world 64 1\n fetch\n|world 64 1\nFetch\n|world 64 1\nfetc\n|world 64 1\npoll 1\n|world 64 1\ndevice 000001 ats\n|world 64 1\ndevice 00001 raw\n|world 64 1\ndevice 0000001 raw\n|world 64 1\ndevice 00000A raw\n|world 64 1\ndevice 00000g raw\n|world 64 1\ndevice 000001 raw raw\n|world 64 1\nattach 000001 second\n|world 64 1\ngrant 000001 03 5 rw\n|world 64 1\ngrant 000001 3 5 w\n|world 64 1\ngrant 000001 3 5 rwx\n|world 64 1\ngrant 000001 18446744073709551616 5 rw\n|world 64 1\ngrant 000001 99999999999999999999999 5 rw\n|world 64 1\ngrant 000001 +3 5 rw\n|world 64 1\nrelease 000001 \n|world 64 1\nrelease 000001\n|world 64 1\nread 000001 3ffc 4\n|world 64 1\nread 000001 0x 4\n|world 64 1\nread 000001 0x00000000000000001 4\n|world 64 1\nwrite 000001 0x0 \n|world 64 1\nwrite 000001 0x0 000\n|world 64 1\nwrite 000001 0x0 0G\n|world 64 1\ncommit \xc3\xa9\n";
+
+#[test]
+fn bad_second_lines_are_named(rt: HostRuntime) {
+    for script in BAD_SECOND.split(|byte| *byte == b'|') {
+        assert_eq!(rt; bad_line(&rt, script), 2u64);
+    }
+}
+
+#[test]
+fn long_lines_are_judged(rt: HostRuntime) -> Result<(), Fail> {
+    let mut bytes = many(rt.alloc(), b"world 64 1\nwrite 000001 0x0 ", b"5a", 4096)?;
+    bytes.push(b'\n')?;
+    assert_eq!(rt; bad_line(&rt, &bytes), 0u64);
+    let mut bytes = many(rt.alloc(), b"world 64 1\nwrite 000001 0x0 ", b"5a", 4097)?;
+    bytes.push(b'\n')?;
+    assert_eq!(rt; bad_line(&rt, &bytes), 2u64);
+    let mut bytes = many(rt.alloc(), b"#", b"a", 1048574)?;
+    bytes.push(b'\n')?;
+    assert_eq!(rt; bad_line(&rt, &bytes), 0u64);
+    bytes.push(b'\n')?;
+    assert_eq!(rt; bad_line(&rt, &bytes), 2u64);
+    let mut bytes = many(rt.alloc(), b"#", b"a", 1048575)?;
+    bytes.push(b'\n')?;
+    assert_eq!(rt; bad_line(&rt, &bytes), 1u64);
+    Ok(())
+}
+
+#[test]
+fn a_refused_allocation_is_told(rt: HostRuntime) {
+    match parse(rt.alloc(), b"world 64 1\nwrite 000001 0x0 00\nfetch\n") {
+        Ok(script) => assert_eq!(rt; script.events.as_slice().len(), 2usize),
+        Err(ScriptFault::Memory) => {}
+        Err(ScriptFault::Line(_)) => assert!(rt; false),
+    }
+}

@@ -1,0 +1,180 @@
+-- The tables of a device that gets a page: what it may be mapped with, and what they are then.
+use Rattle.std.proofs.Common.{◌≡◌, ◌/◌, ◌^◌, ◌<◌, ◌≤◌, ◌==◌, ◌&&◌, ◌⊎◌, inl, inr, ◌∙◌, ℕ, true, false, List, [], ◌∷◌, length, Option, Some, None, option_map, is_some, slice_get, get_or, refl, sym, ap, subst, arith, All, Contains, if◌then◌else◌}
+use Rattle.std.specs.Prelude.{◌↔◌}
+use Rattle.std.specs.Option.{option_map_or}
+use Rattle.std.proofs.lemmas.Bool.{eq-eqb}
+use Rattle.std.proofs.lemmas.Bool.Decides.{eqb_tells}
+use Rattle.iom_base.specs.declared.rights.Rights.{Rights}
+use Rattle.iom_ledger.specs.declared.ledger.Ledger.{Ledger}
+use Rattle.iom_ledger.specs.Changes as changes
+use Rattle.iom_ledger.specs.Shown.{held_in}
+use Rattle.iom_stage_walk.specs.Entries.{Entries, entries, slot}
+use Rattle.iom_stage_walk.specs.Paths.{path_of}
+use Rattle.iom_stage_walk.specs.declared.entry.Entry.{Entry}
+use Rattle.iom_stage_walk.specs.declared.entry.Entry.TheVariants.{Outside, Faulty, Pointer, Leaf}
+use Rattle.iom_stage_walk.proofs.Alike.{Alike, same_entry}
+use Rattle.iom_page_table.specs.declared.leaf.PageLeaf.{PageLeaf}
+use Rattle.iom_page_table.specs.Leaves.{leaf_of}
+use Rattle.iom_page_table.specs.Sv39.{IsRoot, HasTable, ChangesLeaf, KeepsOutside, missing_for}
+use Rattle.iom_page_table.specs.Trees.{sv39, IsFrameOf, AreFresh, missing_under, missing_here}
+use Rattle.iom_page_table.proofs.Pages.{path_shaped}
+use Rattle.iom_page_table.proofs.Stays.{stays}
+use Rattle.iom_page_table.proofs.Trees.{AlikeOn, alike_in}
+use Rattle.iom_table_frames.specs.declared.table_frames.Owner.{Owner}
+use Rattle.iom_table_frames.specs.declared.table_frames.Owner.TheVariants.{OneDevice}
+use Rattle.iom_table_frames.specs.Marks.{IsFreeBesides, is_reserved}
+use Rattle.iom_world.specs.declared.device.Device.{Device}
+use Rattle.iom_world.specs.Admission.{IsRootOf, AreChosen, marked_for, cleared}
+use Rattle.iom_world.specs.Tables.{AreTablesOf, HaveTables, leaf_for}
+use Rattle.iom_world.proofs.AttachLemmas.{unmarked}
+use Rattle.iom_world.proofs.GrantLemmas.{one_device, here_or_there}
+use Rattle.iom_world.proofs.MarkLemmas.{NotAmong, not_among, among_contained, among_get, mark_stays, bytes_stay, marked_still, marked_among, zero_among}
+use Rattle.iom_world.proofs.TableLemmas.{tables_stay}
+
+-- as many tables are missing on a path whose entries are alike
+missing_at : (old new : Entries) (x : Entry) (below : List ℕ) → ((next : ℕ) → x ≡ Pointer next → missing_under new next below ≡ missing_under old next below)
+    → missing_here x below (λ next. missing_under new next below) ≡ missing_here x below (λ next. missing_under old next below)
+missing_at old new Outside below go = refl
+missing_at old new Faulty below go = refl
+missing_at old new (Pointer next) below go = go next refl
+missing_at old new (Leaf base rights) below go = refl
+
+missing_alike : (old new : Entries) (table : ℕ) (is : List ℕ) → Alike old new table is → missing_under new table is ≡ missing_under old table is
+missing_alike old new table [] alike = refl
+missing_alike old new table (i ∷ below) alike =
+    ap (λ x. missing_here x below (λ next. missing_under new next below)) alike.0
+    ∙ missing_at old new (old (slot table i)) below (λ next at. missing_alike old new next below (alike.1 next at))
+
+pub missing_stays : (old new : List (List ℕ)) (root page : ℕ) → ((f : ℕ) → IsFrameOf sv39 (entries old) root f → slice_get new f ≡ slice_get old f) → missing_for new root page ≡ missing_for old root page
+missing_stays old new root page same =
+    let on : AlikeOn sv39 (entries old) (entries new) root = λ p i s at. same_entry old new s (same (s / 512) (p, i, s, at, refl)) in
+    missing_alike (entries old) (entries new) root (path_of sv39 page) (alike_in sv39 (entries old) (entries new) root (path_of sv39 page) on (path_shaped page) (path_of sv39 page) [] root refl refl)
+
+-- a page lacks at most the two tables below the root
+here_low : (x : Entry) (below : List ℕ) (follow : ℕ → ℕ) → ((next : ℕ) → follow next ≤ length below) → missing_here x below follow ≤ length below
+here_low Outside below follow low = omega arith
+here_low Faulty below follow low = omega arith
+here_low (Pointer next) below follow low = low next
+here_low (Leaf base rights) below follow low = omega arith
+
+missing_low : (e : Entries) (t i : ℕ) (below : List ℕ) → missing_under e t (i ∷ below) ≤ length below
+missing_low e t i [] = here_low (e (slot t i)) [] (λ next. 0) (λ next. omega arith)
+missing_low e t i (j ∷ below) = here_low (e (slot t i)) (j ∷ below) (λ next. missing_under e next (j ∷ below)) (λ next. omega (arith, missing_low e next j below))
+
+pub missing_two : (memory : List (List ℕ)) (root page : ℕ) → missing_for memory root page ≤ 2
+missing_two memory root page = missing_low (entries memory) root _ (_ ∷ _ ∷ [])
+
+-- a frame that is free for a table is none of a device's tables
+not_a_table : (memory : List (List ℕ)) (marks : List (Option Owner)) (ledger : Ledger) (id root f : ℕ) → AreTablesOf memory marks ledger id root → is_reserved marks f ≡ false → IsFrameOf sv39 (entries memory) root f → ⊥
+not_a_table memory marks ledger id root f tables free at =
+    contra (sym (ap (λ (o : Option (Option Owner)). option_map_or (λ m. is_some m) o false) (tables.own f at)) ∙ free)
+  where
+    contra : true ≡ false → ⊥
+    contra e = cc
+
+-- the tables' frames keep their bytes while free frames are cleared
+table_bytes : (memory : List (List ℕ)) (marks : List (Option Owner)) (ledger : Ledger) (id root named : ℕ) (chosen : List ℕ) → AreTablesOf memory marks ledger id root
+    → All (λ f. IsFreeBesides marks ledger (Some named) f) chosen → (f : ℕ) → IsFrameOf sv39 (entries memory) root f → slice_get (cleared chosen memory) f ≡ slice_get memory f
+table_bytes memory marks ledger id root named chosen tables free f at =
+    bytes_stay f chosen memory (not_among (λ t. IsFreeBesides marks ledger (Some named) t) f chosen free (λ is_free. not_a_table memory marks ledger id root f tables is_free.unmarked at))
+
+-- what a map of the page asks, once the free frames are cleared
+pub record MayBeMapped (memory : List (List ℕ)) (root page : ℕ) (chosen : List ℕ) : Type 0 where
+  pub tree : IsRoot memory root
+  pub free : leaf_of 3 memory root page ≡ None
+  pub count : length chosen ≡ missing_for memory root page
+  pub fresh : AreFresh sv39 memory root chosen
+
+pub may_be_mapped : (memory : List (List ℕ)) (marks : List (Option Owner)) (ledger : Ledger) (id root page named count : ℕ) (chosen : List ℕ) → AreTablesOf memory marks ledger id root
+    → page < 2 ^ 26 → held_in ledger id page ≡ None → count ≡ missing_for memory root page → AreChosen memory marks ledger named count chosen → MayBeMapped (cleared chosen memory) root page chosen
+may_be_mapped memory marks ledger id root page named count chosen tables low none counted chose =
+    let same = table_bytes memory marks ledger id root named chosen tables chose.free in
+    let stay = stays memory (cleared chosen memory) root tables.tree same in
+    record {
+      tree = stay.tree;
+      free = stay.leaves page ∙ tables.leaves page (omega arith) ∙ ap (option_map leaf_for) none;
+      count = chose.many ∙ counted ∙ sym (missing_stays memory (cleared chosen memory) root page same);
+      fresh = record {
+        zero = λ k d lt. zero_among chosen memory chose.inside (get_or chosen k d) (among_get chosen k d lt);
+        outside = λ k d lt at. not_a_table memory marks ledger id root (get_or chosen k d) tables (chose.free k d lt).unmarked ((stay.tables (get_or chosen k d)).0 at);
+        distinct = chose.distinct;
+      };
+    }
+
+-- the map of a page, in frames that were free
+pub record IsMapped (memory memory' : List (List ℕ)) (root page : ℕ) (mapping : PageLeaf) (chosen : List ℕ) : Type 0 where
+  pub tree : IsRoot memory' root
+  pub tables : (f : ℕ) → HasTable memory' root f ↔ (HasTable memory root f ⊎ Contains chosen f)
+  pub leaf : ChangesLeaf memory memory' root page (Some mapping)
+  pub outside : KeepsOutside memory memory' root
+  pub size : length memory' ≡ length memory
+
+-- each frame of the mapped tables is the device's
+mapped_own : (memory memory' : List (List ℕ)) (marks : List (Option Owner)) (ledger : Ledger) (id root page named count : ℕ) (leaf : PageLeaf) (chosen : List ℕ) → length marks ≡ length memory → AreTablesOf memory marks ledger id root
+    → AreChosen memory marks ledger named count chosen → IsMapped (cleared chosen memory) memory' root page leaf chosen → (f : ℕ) → HasTable memory' root f → slice_get (marked_for id chosen marks) f ≡ Some (Some (OneDevice id))
+mapped_own memory memory' marks ledger id root page named count leaf chosen long tables chose mapped f at = by ((mapped.tables f).0 at)
+  where
+    by : HasTable (cleared chosen memory) root f ⊎ Contains chosen f → slice_get (marked_for id chosen marks) f ≡ Some (Some (OneDevice id))
+    by (inl was) = marked_still id f chosen marks (tables.own f (((stays memory (cleared chosen memory) root tables.tree (table_bytes memory marks ledger id root named chosen tables chose.free)).tables f).0 was))
+    by (inr new) = marked_among id f chosen marks (λ k d lt. subst (λ n. get_or chosen k d < n) (sym long) (chose.inside k d lt)) (among_contained f chosen new)
+
+-- a frame that is another's, or nobody's, keeps its bytes
+pub mapped_others : (memory memory' : List (List ℕ)) (marks : List (Option Owner)) (ledger : Ledger) (id root page named count n : ℕ) (leaf : PageLeaf) (chosen : List ℕ) → length marks ≡ length memory → AreTablesOf memory marks ledger id root
+    → AreChosen memory marks ledger named count chosen → IsMapped (cleared chosen memory) memory' root page leaf chosen
+    → (slice_get (marked_for id chosen marks) n ≡ Some (Some (OneDevice id)) → ⊥) → slice_get memory' n ≡ slice_get (cleared chosen memory) n
+mapped_others memory memory' marks ledger id root page named count n leaf chosen long tables chose mapped differs =
+    mapped.outside n (λ at. differs (mapped_own memory memory' marks ledger id root page named count leaf chosen long tables chose mapped n at))
+
+pub tables_granted : (memory memory' : List (List ℕ)) (marks : List (Option Owner)) (old new : Ledger) (devices : List Device) (id root page frame count : ℕ) (rights : Rights) (chosen : List ℕ)
+    → length marks ≡ length memory → HaveTables memory marks old devices → ((j k : ℕ) (one other : Device) → slice_get devices j ≡ Some one → slice_get devices k ≡ Some other → one.id ≡ other.id → j ≡ k)
+    → IsRootOf devices id root → page < 2 ^ 26 → changes.Grants old new id page (frame, rights) → AreChosen memory marks old frame count chosen
+    → IsMapped (cleared chosen memory) memory' root page (record { frame = frame; rights = rights }) chosen → HaveTables memory' (marked_for id chosen marks) new devices
+tables_granted memory memory' marks old new devices id root page frame count rights chosen long tables own is_root low granted chose mapped k device r at is =
+    elim (eqb_tells device.id id) [
+      | inl same ↦
+          let rooted = one_device devices id root k device own is_root at same.1 in
+          let roots : ◌≡◌ {A = Option ℕ} (Some root) (Some r) = sym rooted ∙ is in
+          let one : root ≡ r = cc in
+          subst (λ i. AreTablesOf memory' (marked_for id chosen marks) new i r) (sym same.1) (subst (λ q. AreTablesOf memory' (marked_for id chosen marks) new id q) one own_tables)
+      | inr other ↦ tables_stay memory memory' marks (marked_for id chosen marks) old new device.id r (tables k device r at is)
+          (λ n mark. (kept n other.1 mark, mark_kept n mark))
+          (λ p. elim (here_or_there id page device.id p (frame, rights) (held_in old device.id p) (held_in new device.id p) (granted.held device.id p)) [ inl now ↦ absurd (other.1 (sym now.0)) | inr still ↦ still.1 ])
+    ]
+  where
+    before : AreTablesOf memory marks old id root
+    before = subst (λ i. AreTablesOf memory marks old i root) is_root.3 (tables is_root.0 is_root.1 root is_root.2 is_root.4)
+
+    leaf_by : (p : ℕ) → leaf_of 3 (cleared chosen memory) root p ≡ option_map leaf_for (held_in old id p)
+        → (if p == page then Some (record { frame = frame; rights = rights }) else leaf_of 3 (cleared chosen memory) root p) ≡ option_map leaf_for (held_in new id p)
+    leaf_by p was = elim (eqb_tells p page) [
+      | inl e ↦
+          let chosen_pair : (if (id == id) && (page == p) then Some (frame, rights) else held_in old id p) ≡ Some (frame, rights) = rw (eq-eqb id id refl, eq-eqb page p (sym e.1)) refl in
+          let now : held_in new id p ≡ Some (frame, rights) = granted.held id p ∙ chosen_pair in
+          rw e.0 (sym (ap (option_map leaf_for) now))
+      | inr ne ↦ rw ne.0 (was ∙ sym (ap (option_map leaf_for) (elim (here_or_there id page id p (frame, rights) (held_in old id p) (held_in new id p) (granted.held id p)) [ inl now ↦ absurd (ne.1 (sym now.1)) | inr still ↦ still.1 ])))
+    ]
+
+    own_tables : AreTablesOf memory' (marked_for id chosen marks) new id root
+    own_tables =
+        let stay = stays memory (cleared chosen memory) root before.tree (table_bytes memory marks old id root frame chosen before chose.free) in
+        record {
+          tree = mapped.tree;
+          own = mapped_own memory memory' marks old id root page frame count (record { frame = frame; rights = rights }) chosen long before chose mapped;
+          leaves = λ p below. mapped.leaf p below ∙ leaf_by p (stay.leaves p ∙ before.leaves p below);
+        }
+
+    not_chosen : (n i : ℕ) → slice_get marks n ≡ Some (Some (OneDevice i)) → NotAmong n chosen
+    not_chosen n i mark = not_among (λ t. (t < length memory) × IsFreeBesides marks old (Some frame) t) n chosen (λ k d lt. (chose.inside k d lt, chose.free k d lt))
+        (λ is_free. contra (sym mark ∙ unmarked marks n (subst (λ m. n < m) (sym long) is_free.0) is_free.1.unmarked))
+      where
+        contra : ◌≡◌ {A = Option (Option Owner)} (Some (Some (OneDevice i))) (Some None) → ⊥
+        contra e = cc
+
+    mark_kept : (n : ℕ) {i : ℕ} → slice_get marks n ≡ Some (Some (OneDevice i)) → slice_get (marked_for id chosen marks) n ≡ slice_get marks n
+    mark_kept n {i} mark = mark_stays id n chosen marks (not_chosen n i mark)
+
+    kept : (n : ℕ) {i : ℕ} → (i ≡ id → ⊥) → slice_get marks n ≡ Some (Some (OneDevice i)) → slice_get memory' n ≡ slice_get memory n
+    kept n {i} differs mark =
+        mapped_others memory memory' marks old id root page frame count n (record { frame = frame; rights = rights }) chosen long before chose mapped
+        (λ now. let both : ◌≡◌ {A = Option (Option Owner)} (Some (Some (OneDevice i))) (Some (Some (OneDevice id))) = sym mark ∙ sym (mark_kept n mark) ∙ now in differs cc)
+        ∙ bytes_stay n chosen memory (not_chosen n i mark)

@@ -1,0 +1,45 @@
+-- Looking a device up by its id, in the world and in the ledger machine.
+use Rattle.std.proofs.Common.{suc, zero, ◌≡◌, ◌≢◌, ◌==◌, ◌∙◌, ℕ, false, List, [], ◌∷◌, find, Option, Some, None, slice_set, refl, ap, inl, inr, arith}
+use Rattle.std.proofs.lemmas.Bool.Decides.{eqb_tells}
+use Rattle.std.proofs.lemmas.Bool.{eq-eqb}
+use Rattle.iom_machine.specs.Devices.{replaced_device}
+use Rattle.iom_machine.specs.declared.state.Device as machine
+use Rattle.iom_world.specs.declared.device.Device.{Device}
+use Rattle.iom_world.specs.Devices.{shown_device, shown_devices}
+use Rattle.iom_world.specs.Places.{IsAbsent, IsPlaceOf}
+
+-- two different numbers don't compare equal
+pub differs : (a b : ℕ) → a ≢ b → (a == b) ≡ false
+differs a b ne = elim (eqb_tells a b) [ inl e ↦ absurd (ne e.1) | inr n ↦ n.0 ]
+
+-- the device of the machine with this id
+abbrev pub shown_of : List Device → ℕ → Option machine.Device
+shown_of devices id = find (λ device. device.id == id) (shown_devices devices)
+
+-- an id that no device has finds none
+pub absent_shown : (devices : List Device) (id : ℕ) → IsAbsent devices id → shown_of devices id ≡ None
+absent_shown [] id absent = refl
+absent_shown (device ∷ others) id absent =
+    rw (differs device.id id (absent 0 device refl)) (absent_shown others id (λ k other at. absent (suc k) other at))
+
+-- the device that stands in the place of its id is found
+pub place_shown : (devices : List Device) (id place : ℕ) (p : IsPlaceOf devices id place) → shown_of devices id ≡ Some (shown_device p.0)
+place_shown [] id place p = cc
+place_shown (device ∷ others) id zero p =
+    let same : device ≡ p.0 = cc in
+    let own : device.id ≡ id = ap (λ (d : Device). d.id) same ∙ p.2 in
+    rw (eq-eqb device.id id own) (ap (λ (d : Device). Some (shown_device d)) same)
+place_shown (device ∷ others) id (suc place) p =
+    rw (differs device.id id (p.3 0 device (omega arith) refl))
+    (place_shown others id place (p.0, p.1, p.2, (λ k other lt at. p.3 (suc k) other (omega arith) at)))
+
+-- a device that is changed in its place is replaced in the machine
+pub place_replaced : (devices : List Device) (id place : ℕ) (now : Device) → IsPlaceOf devices id place
+    → replaced_device (shown_devices devices) id (shown_device now) ≡ shown_devices (slice_set devices place now)
+place_replaced [] id place now p = cc
+place_replaced (device ∷ others) id zero now p =
+    let own : device.id ≡ id = ap (λ (d : Device). d.id) (let same : device ≡ p.0 = cc in same) ∙ p.2 in
+    rw (eq-eqb device.id id own) refl
+place_replaced (device ∷ others) id (suc place) now p =
+    rw (differs device.id id (p.3 0 device (omega arith) refl))
+    (ap (λ ds. shown_device device ∷ ds) (place_replaced others id place now (p.0, p.1, p.2, (λ k other lt at. p.3 (suc k) other (omega arith) at))))

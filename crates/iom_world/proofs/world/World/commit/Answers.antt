@@ -1,0 +1,40 @@
+use Rattle.std.proofs.Common.{◌∙◌, slice_get, option_map, ap, arith}
+use Rattle.iom_base.specs.declared.access.AccessKind.TheVariants.{Read, Write}
+use Rattle.iom_world.proofs.CommitLemmas.{commits_nothing, oldest_at}
+use Rattle.iom_inflight.specs.Flights.{described}
+use Rattle.iom_world.specs.declared.device.Device.{Device}
+use Rattle.iom_world.proofs.ListLemmas.{get_within}
+use Rattle.iom_world.proofs.ReplaceLemmas.{same_item}
+use Rattle.iom_world.proofs.RequestLemmas.{acts_absent}
+use Rattle.iom_world.proofs.world.World.commit.Goals as goal
+
+pub returns-in_default-clause-step : goal.returns-in_default-clause-step
+returns-in_default-clause-step c = λ state shows.
+    (state, acts_absent _ state c.args.self.now.devices.items c.args.id shows.devices c.in_default.ensures, shows)
+
+pub index-requires : goal.index-requires
+index-requires c = let below = get_within c.args.self.now.devices.items c.in-Some.place c.in-Some.ensures.0 c.in-Some.ensures.1 in omega arith
+
+pub returns-in_default-oldest-clause-step : goal.returns-in_default-oldest-clause-step
+returns-in_default-oldest-clause-step c = λ state shows.
+    let place = c.in-Some.ensures in
+    let here = same_item c.args.self.now.devices.items c.in-Some.place c.index.result.now place.0 c.index.ensures place.1 in (
+      state,
+      commits_nothing state c.args.self.now.devices.items c.args.id c.in-Some.place place shows.devices
+          (c.in_default-oldest.ensures ∙ ap (λ (d : Device). option_map described (slice_get d.in_flight 0)) here),
+      shows,
+    )
+
+pub commit_read-requires : goal.commit_read-requires
+commit_read-requires c =
+    let place = c.in-Some.ensures in
+    let here = same_item c.args.self.now.devices.items c.in-Some.place c.index.result.now place.0 c.index.ensures place.1 in
+    oldest_at c.args.self.now.devices.items c.in-Some.place place.0 c.in-Some-oldest.access Read place.1
+    (c.in-Some-oldest.ensures ∙ ap (λ (d : Device). option_map described (slice_get d.in_flight 0)) here) c.in-Read.is
+
+pub commit_write-requires : goal.commit_write-requires
+commit_write-requires c =
+    let place = c.in-Some.ensures in
+    let here = same_item c.args.self.now.devices.items c.in-Some.place c.index.result.now place.0 c.index.ensures place.1 in
+    oldest_at c.args.self.now.devices.items c.in-Some.place place.0 c.in-Some-oldest.access Write place.1
+    (c.in-Some-oldest.ensures ∙ ap (λ (d : Device). option_map described (slice_get d.in_flight 0)) here) c.in-Write.is

@@ -1,0 +1,23 @@
+use Rattle.iom_world.proofs.RunLemmas.{sound_counted, below_counted}
+use Rattle.iom_world.proofs.world.World.step.Goals as goal
+
+pub invariant_of-self : goal.invariant_of-self
+invariant_of-self c = let world = c.args.self.now in record {
+  sound = sound_counted world.memory world.marks world.ledger world.devices.items world.commands world.events world.sound;
+  tables = world.tables;
+}
+
+pub answer-requires-clause-count : goal.answer-requires-clause-count
+answer-requires-clause-count c = let world = c.args.self.now in
+    below_counted world.ledger _ world.events world.devices.items world.sound.each
+
+pub returns-clause-step : goal.returns-clause-step
+returns-clause-step c = λ state shows. c.answer.ensures.step state record {
+  ledger = shows.ledger;
+  frames = shows.frames;
+  devices = shows.devices;
+  given = shows.given;
+  confirmed = shows.confirmed;
+  none_later = shows.none_later;
+  levels = shows.levels;
+}

@@ -1,0 +1,52 @@
+-- What a call of the driver has found out when it wasn't refused.
+use Rattle.std.specs.Prelude.{◌≡◌, ◌≢◌, ℕ, ◌^◌, ◌<◌, false, List, [], ◌∷◌, length, All, AllPairs, Contains, nat_eq, Option, None, Some, slice_get, slice_set}
+use Rattle.std.specs.List.{IsDistinct}
+use Rattle.iom_ledger.specs.declared.ledger.Ledger.{Ledger}
+use Rattle.iom_ledger.specs.Shown.{held_in, lingering_in}
+use Rattle.iom_phys_mem.specs.Words.{zeroed}
+use Rattle.iom_table_frames.specs.declared.table_frames.Owner.{Owner}
+use Rattle.iom_table_frames.specs.declared.table_frames.Owner.TheVariants.{OneDevice}
+use Rattle.iom_table_frames.specs.Marks.{is_reserved, IsFreeBesides}
+use Rattle.iom_world.specs.declared.device.Device.{Device}
+
+-- the device with this id is attached, and its root is this frame
+abbrev pub IsRootOf : List Device → ℕ → ℕ → Type 0
+IsRootOf devices id root = (place : ℕ) × (device : Device) × (slice_get devices place ≡ Some device) × (device.id ≡ id) × (device.root ≡ Some root)
+
+-- the frame may be granted at the page: it is of the memory, which has less than 2^32 frames, and not reserved, and at the page nothing is held and nothing lingers
+pub record MayBeGranted (memory : List (List ℕ)) (marks : List (Option Owner)) (ledger : Ledger) (id page frame : ℕ) : Type 0 where
+  pub inside : frame < length memory
+  pub small : frame < 2 ^ 32
+  pub unreserved : is_reserved marks frame ≡ false
+  pub page_low : page < 2 ^ 26
+  pub not_held : held_in ledger id page ≡ None
+  pub not_lingering : lingering_in ledger id page ≡ None
+
+-- each free frame above this one is chosen
+abbrev pub AreHigherChosen : List (List ℕ) → List (Option Owner) → Ledger → ℕ → List ℕ → ℕ → Type 0
+AreHigherChosen memory marks ledger named chosen frame =
+    (higher : ℕ) → frame < higher → higher < length memory → IsFreeBesides marks ledger (Some named) higher → Contains chosen higher
+
+-- the frames are so many, all free, none the named one, and no two the same; and no free frame above them is passed over
+pub record AreChosen (memory : List (List ℕ)) (marks : List (Option Owner)) (ledger : Ledger) (named count : ℕ) (chosen : List ℕ) : Type 0 where
+  pub many : length chosen ≡ count
+  pub inside : All (λ frame. frame < length memory) chosen
+  pub free : All (λ frame. IsFreeBesides marks ledger (Some named) frame) chosen
+  pub distinct : AllPairs (λ one other. one ≢ other) chosen
+  pub highest : All (AreHigherChosen memory marks ledger named chosen) chosen
+
+-- fewer frames than so many are free besides the named one
+abbrev pub TooFewAreFree : List (List ℕ) → List (Option Owner) → Ledger → ℕ → ℕ → Type 0
+TooFewAreFree memory marks ledger named count =
+    (numbers : List ℕ) → IsDistinct nat_eq numbers
+    → All (λ frame. (frame < length memory) × IsFreeBesides marks ledger (Some named) frame) numbers → length numbers < count
+
+-- the marks, where the frames are the device's
+abbrev pub marked_for : ℕ → List ℕ → List (Option Owner) → List (Option Owner)
+marked_for id [] marks = marks
+marked_for id (frame ∷ frames) marks = marked_for id frames (slice_set marks frame (Some (OneDevice id)))
+
+-- the memory, where the frames are zero
+abbrev pub cleared : List ℕ → List (List ℕ) → List (List ℕ)
+cleared [] memory = memory
+cleared (frame ∷ frames) memory = cleared frames (slice_set memory frame zeroed)

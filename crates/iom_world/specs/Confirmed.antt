@@ -1,0 +1,28 @@
+-- What a ledger shows once some tickets in a row are confirmed.
+use Rattle.std.specs.Prelude.{◌≡◌, ℕ, ◌+◌, nat_le, nat_lt, Bool, not, ◌&&◌, filter, Option, None, Some, if◌then◌else◌}
+use Rattle.iom_ledger.specs.declared.ledger.Ledger.{Ledger}
+use Rattle.iom_ledger.specs.History.{Pair}
+use Rattle.iom_ledger.specs.Shown.{held_in, released_in, waiting_in}
+use Rattle.iom_machine.specs.declared.outcome.Outcome.{Outcome}
+use Rattle.iom_machine.specs.declared.outcome.Outcome.TheVariants.{Confirmed, NoneConfirmed}
+use Rattle.iom_world.specs.Queue.{Queue}
+
+-- whether the ticket is one of so many from the first on
+abbrev pub is_among : ℕ → ℕ → ℕ → Bool
+is_among first n ticket = nat_le first ticket && nat_lt ticket (first + n)
+
+-- what lingers, unless it was released under one of the tickets
+abbrev pub unless_among : ℕ → ℕ → Option (ℕ × Pair) → Option (ℕ × Pair)
+unless_among first n None = None
+unless_among first n (Some released) = if is_among first n released.0 then None else Some released
+
+-- what lingered under one of the tickets is gone, they wait no more, and nothing else changes
+pub record ConfirmsFrom (old new : Ledger) (first n : ℕ) : Type 0 where
+  pub held : (d a : ℕ) → held_in new d a ≡ held_in old d a
+  pub lingering : (d a : ℕ) → released_in new d a ≡ unless_among first n (released_in old d a)
+  pub waiting : waiting_in new ≡ filter (λ ticket. not (is_among first n ticket)) (waiting_in old)
+
+-- what a poll answers: the tickets whose fences are done and that aren't confirmed, if there is one
+abbrev pub polled_from : Queue → Outcome
+polled_from queue =
+    if nat_lt queue.confirmed queue.completed then Confirmed (queue.confirmed + 1) queue.completed else NoneConfirmed

@@ -1,0 +1,39 @@
+-- What the ledger machine sees of the world's devices.
+use Rattle.std.specs.Prelude.{ℕ, ◌==◌, false, List, map, position, Option, None, Some}
+use Rattle.iom_inflight.specs.Flights.{Flight}
+use Rattle.iom_machine.specs.declared.state.Attachment.{Attachment}
+use Rattle.iom_machine.specs.declared.state.Attachment.TheVariants.{Detached, Attached}
+use Rattle.iom_machine.specs.declared.state.Mode.TheVariants.{First}
+use Rattle.iom_machine.specs.declared.state.InFlight.{InFlight}
+use Rattle.iom_machine.specs.declared.state.Device as machine
+use Rattle.iom_world.specs.declared.device.Device.{Device}
+
+-- an access in flight
+abbrev pub shown_flight : Flight → InFlight
+shown_flight flight = record {
+  access = record { address = flight.address; len = flight.len; kind = flight.kind; bytes = flight.bytes };
+  frame = flight.frame;
+}
+
+-- a device with a root is attached in its first stage, without ATS
+abbrev pub shown_attachment : Option ℕ → Attachment
+shown_attachment None = Detached
+shown_attachment (Some root) = Attached First false
+
+-- a device
+abbrev pub shown_device : Device → machine.Device
+shown_device device = record {
+  id = device.id;
+  kind = device.kind;
+  attachment = shown_attachment device.root;
+  accepted = device.accepted;
+  in_flight = map shown_flight device.in_flight;
+}
+
+-- the devices, in the order of plugging
+abbrev pub shown_devices : List Device → List machine.Device
+shown_devices devices = map shown_device devices
+
+-- where the device with this id is
+abbrev pub place_of : List Device → ℕ → Option ℕ
+place_of devices id = position (λ device. device.id == id) devices

@@ -1,0 +1,67 @@
+-- What stays true between the parts of a world, whatever happens: facts over values, without the bytes of tables.
+use Rattle.std.specs.Prelude.{◌≡◌, ℕ, zero, suc, ◌+◌, ◌/◌, ◌^◌, ◌<◌, ◌≤◌, ◌==◌, nat_lt, Bool, true, false, ◌&&◌, ◌||◌, List, [], ◌∷◌, Option, None, Some, slice_get}
+use Rattle.std.specs.Option.{option_map_or}
+use Rattle.iom_base.specs.declared.access.AccessKind.{AccessKind}
+use Rattle.iom_base.specs.declared.rights.Rights.{Rights}
+use Rattle.iom_base.specs.Rights.{allows}
+use Rattle.iom_base.specs.Spans.{FitsInPage}
+use Rattle.iom_ledger.specs.declared.ledger.Ledger.{Ledger}
+use Rattle.iom_ledger.specs.History.{Pair}
+use Rattle.iom_ledger.specs.Shown.{held_in, lingering_in, released_in}
+use Rattle.iom_inflight.specs.Flights.{Flight}
+use Rattle.iom_table_frames.specs.declared.table_frames.Owner.{Owner}
+use Rattle.iom_world.specs.declared.device.Device.{Device}
+
+-- a pair that is granted at a page: the page is one that tables map, and the frame is of the memory and isn't reserved
+pub record IsGrant (marks : List (Option Owner)) (page frame : ℕ) : Type 0 where
+  pub page_low : page < 2 ^ 26
+  pub unreserved : slice_get marks frame ≡ Some None
+
+-- what is held or lingers is so
+pub record AreGrants (marks : List (Option Owner)) (ledger : Ledger) : Type 0 where
+  pub held : (device page frame : ℕ) (rights : Rights) → held_in ledger device page ≡ Some (frame, rights) → IsGrant marks page frame
+  pub lingering : (device page frame : ℕ) (rights : Rights) → lingering_in ledger device page ≡ Some (frame, rights) → IsGrant marks page frame
+
+-- whether the pair is on the frame, with a right that allows the kind
+abbrev pub serves : ℕ → AccessKind → Pair → Bool
+serves frame kind pair = (pair.0 == frame) && allows pair.1 kind
+
+-- whether the pair was released under a ticket whose fence isn't done
+abbrev pub serves_still : ℕ → ℕ → AccessKind → ℕ × Pair → Bool
+serves_still completed frame kind released = nat_lt completed released.0 && serves frame kind released.1
+
+-- the page of an access in flight is held on its frame, or was released so under a ticket whose fence isn't done
+pub record IsCovered (ledger : Ledger) (completed device : ℕ) (flight : Flight) : Type 0 where
+  pub covered : (option_map_or (serves flight.frame flight.kind) (held_in ledger device (flight.address / 4096)) false
+      || option_map_or (serves_still completed flight.frame flight.kind) (released_in ledger device (flight.address / 4096)) false) ≡ true
+  pub within : FitsInPage flight.address flight.len
+
+-- each access in flight is covered
+abbrev pub AllCovered : Ledger → ℕ → ℕ → List Flight → Type 0
+AllCovered ledger completed device flights =
+    (k : ℕ) (flight : Flight) → slice_get flights k ≡ Some flight → IsCovered ledger completed device flight
+
+-- the tickets after the first number, so many
+abbrev pub tickets_after : ℕ → ℕ → List ℕ
+tickets_after first zero = []
+tickets_after first (suc n) = (first + 1) ∷ tickets_after (first + 1) n
+
+-- a device: nothing is held where it has no root, its accesses are covered, and no more were accepted than events came
+pub record IsDevice (ledger : Ledger) (completed events : ℕ) (device : Device) : Type 0 where
+  pub detached : device.root ≡ None → (page : ℕ) → held_in ledger device.id page ≡ None
+  pub covered : AllCovered ledger completed device.id device.in_flight
+  pub counted : device.accepted ≤ events
+
+-- each device is one, and no two have the same id
+abbrev pub AreDevices : Ledger → ℕ → ℕ → List Device → Type 0
+AreDevices ledger completed events devices =
+    (k : ℕ) (device : Device) → slice_get devices k ≡ Some device → IsDevice ledger completed events device
+
+abbrev pub HaveOwnIds : List Device → Type 0
+HaveOwnIds devices =
+    (j k : ℕ) (one other : Device) → slice_get devices j ≡ Some one → slice_get devices k ≡ Some other → one.id ≡ other.id → j ≡ k
+
+-- only plugged devices hold anything: what is held is held by a device that is there
+abbrev pub HoldersArePlugged : Ledger → List Device → Type 0
+HoldersArePlugged ledger devices =
+    (id page : ℕ) → ((k : ℕ) (device : Device) → slice_get devices k ≡ Some device → device.id ≡ id → ⊥) → held_in ledger id page ≡ None

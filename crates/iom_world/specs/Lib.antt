@@ -1,0 +1,17 @@
+pub mod Queue
+pub mod Fences
+pub mod Devices
+pub mod Frames
+pub mod Facts
+pub mod Sound
+pub mod Tables
+pub mod TablesAreFacts
+pub mod Places
+pub mod Held
+pub mod Admission
+pub mod Shows
+pub mod Confirmed
+pub mod Replies
+pub mod Oldest
+pub mod Runs
+pub mod Start

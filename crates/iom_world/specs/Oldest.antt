@@ -1,0 +1,18 @@
+-- The oldest access of a device in flight, which is made next.
+use Rattle.std.specs.Prelude.{◌≡◌, ℕ, List, [], ◌∷◌, Some, slice_get}
+use Rattle.iom_base.specs.declared.access.AccessKind.{AccessKind}
+use Rattle.iom_base.specs.declared.access.AccessKind.TheVariants.{Write}
+use Rattle.iom_inflight.specs.declared.in_flight.Accepted.{Accepted}
+use Rattle.iom_inflight.specs.Flights.{Flight, described}
+use Rattle.iom_world.specs.declared.device.Device.{Device}
+
+-- the oldest access is a write of so many bytes
+abbrev pub OldestWritesSoMany : List Flight → ℕ → Type 0
+OldestWritesSoMany [] len = ⊥
+OldestWritesSoMany (flight ∷ later) len = (flight.kind ≡ Write) × (flight.len ≡ len)
+
+-- the device that stands here has this access, of this kind, as its oldest in flight
+abbrev pub IsOldestAt : List Device → ℕ → Accepted → AccessKind → Type 0
+IsOldestAt devices place access kind =
+    (device : Device) × (flight : Flight) × (slice_get devices place ≡ Some device) × (slice_get device.in_flight 0 ≡ Some flight)
+    × (access ≡ described flight) × (flight.kind ≡ kind)

@@ -1,0 +1,26 @@
+//! The world: memory, the driver's part, the IOMMU's part and the devices, as one value that takes a
+//! list of events and answers each with one outcome.
+//!
+//! Page tables stand in memory and are walked for every request (RISC-V Privileged Architecture,
+//! "Sv39"); commands and fences are those of the RISC-V IOMMU Architecture Specification, section 3.1.
+//! The layer above may rely on [`World::run`] being a run of the ledger machine, whatever the events
+//! are, and so on the sentences of the reclaim theorem.
+#![tactic(auto)]
+
+mod commands;
+mod device;
+mod driver;
+mod plugging;
+mod polling;
+mod requests;
+mod run;
+mod start;
+mod tables;
+mod world;
+
+pub use world::World;
+
+#[cfg(test)]
+mod drawn_tests;
+#[cfg(test)]
+mod tests;

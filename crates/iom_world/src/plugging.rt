@@ -1,0 +1,58 @@
+// Where devices are, and how one is plugged in.
+ghost use Rattle.std.specs.Prelude.{◌≡◌, MatchOption};
+ghost use Rattle.iom_machine.specs.declared.state.State.{State};
+ghost use Rattle.iom_machine.specs.Machine.{Plugs};
+ghost use Rattle.iom_world.specs.Places.{IsAbsent, IsPlaceOf};
+ghost use Rattle.iom_world.specs.Shows.{Shows};
+
+use crate::device::Device;
+use crate::world::World;
+use iom_base::DeviceId;
+use iom_inflight::InFlight;
+use iom_ledger::Refusal;
+use iom_machine::{DeviceKind, Outcome};
+
+/// How many devices may be plugged in.
+const MAX_DEVICES: usize = 16;
+
+impl World {
+    /// Where the device with this id is.
+    pub(crate) fn place_of(&self, id: DeviceId) -> Option<usize>
+        ensures { MatchOption result (IsAbsent self.now.devices.items id) (IsPlaceOf self.now.devices.items id) }
+    {
+        for k in 0..self.devices.len() {
+            let device = &self.devices[k];
+            if device.id == id {
+                return Some(k);
+            }
+        }
+        None
+    }
+
+    /// A device is plugged in, detached and with nothing in flight.
+    pub(crate) fn plug(&mut self, id: DeviceId, kind: DeviceKind) -> Outcome
+        ensures step { (state : State) → Shows self.old state → (next : State) × Plugs state id kind result next × Shows self.new next }
+        ensures events { self.new.events ≡ self.old.events }
+    {
+        if self.place_of(id).is_some() {
+            return Outcome::Refused(Refusal::AlreadyPlugged);
+        }
+        if self.devices.len() >= MAX_DEVICES {
+            return Outcome::Refused(Refusal::TooManyDevices);
+        }
+        let Ok(in_flight) = InFlight::new(*self.devices.allocator()) else {
+            return Outcome::Refused(Refusal::Memory);
+        };
+        let device = Device {
+            id,
+            kind,
+            root: None,
+            accepted: 0,
+            in_flight,
+        };
+        match self.devices.push(device) {
+            Ok(()) => Outcome::Done,
+            Err(_) => Outcome::Refused(Refusal::Memory),
+        }
+    }
+}

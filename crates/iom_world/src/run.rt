@@ -1,0 +1,85 @@
+// Events, one after another, and what comes of them.
+ghost use Rattle.std.specs.Prelude.{◌≡◌, ℕ, ◌+◌, ◌<◌, ◌≤◌, ◌^◌, List, length, All, OnOk, OnErr};
+ghost use Rattle.iom_machine.specs.declared.outcome.Outcome.{Outcome};
+ghost use Rattle.iom_machine.specs.declared.state.State.{State};
+ghost use Rattle.iom_machine.specs.Headline.{IsReachedBy};
+ghost use Rattle.iom_machine.specs.Machine.{IsEvent, Step, opening};
+ghost use Rattle.iom_world.specs.Places.{CountsBelow};
+ghost use Rattle.iom_world.specs.Runs.{TakesAll, RunsTo, FailsAfter};
+ghost use Rattle.iom_world.specs.Shows.{Shows};
+
+use crate::world::World;
+use iom_machine::{DeviceKind, Event, Outcome, Sink};
+
+impl World {
+    /// What comes of the event, which is counted already.
+    fn answer(&mut self, event: &Event) -> Outcome
+        requires event { IsEvent event.now }
+        requires count { CountsBelow self.old.devices.items self.old.events }
+        ensures step { (state : State) → Shows self.old state → (next : State) × Step state event.now result next × Shows self.new next }
+        ensures events { self.new.events ≡ self.old.events }
+    {
+        match event {
+            Event::PlugRaw { device } => self.plug(*device, DeviceKind::Raw),
+            Event::AttachFirst { device } => self.attach(*device),
+            Event::Grant {
+                device,
+                page,
+                frame,
+                rights,
+            } => self.grant(*device, *page, *frame, *rights),
+            Event::Release { device, page } => self.release(*device, *page),
+            Event::Fetch => self.fetch(),
+            Event::Poll => self.poll(),
+            Event::Read {
+                device,
+                address,
+                len,
+            } => self.read(*device, *address, *len),
+            Event::Write {
+                device,
+                address,
+                bytes,
+            } => self.write(*device, *address, bytes.as_slice()),
+            Event::Commit { device } => self.commit(*device),
+        }
+    }
+
+    /// One event, and what comes of it: a lawful step of the ledger machine from every state that the
+    /// world shows. Each event is counted, whatever comes of it.
+    pub fn step(&mut self, event: &Event) -> Outcome
+        requires event { IsEvent event.now }
+        requires count { self.old.events + 1 < 2 ^ 64 }
+        ensures step { (state : State) → Shows self.old state → (next : State) × Step state event.now result next × Shows self.new next }
+        ensures events { self.new.events ≡ self.old.events + 1 }
+    {
+        self.events += 1;
+        self.answer(event)
+    }
+
+    /// The events, one after another: the sink takes the outcome of each, and the run stops at the first
+    /// that it fails at. The outcomes are those of a run of the ledger machine over the events, from every
+    /// state that the world shows.
+    pub fn run<S: Sink>(&mut self, events: &[Event], sink: &mut S) -> Result<(), S::Fault>
+        requires events { All IsEvent events.now }
+        requires count { self.old.events + length events.now < 2 ^ 64 }
+        ensures ran { (state : State) → Shows self.old state → OnOk result (RunsTo S.takes state events.now sink.old sink.new self.new) }
+        ensures failed { (state : State) → Shows self.old state → OnErr result (FailsAfter S.takes S.fails state events.now sink.old sink.new self.new) }
+        ensures counted { OnOk result (self.new.events ≡ self.old.events + length events.now) }
+        ensures counted_at_most { OnErr result (self.new.events ≤ self.old.events + length events.now) }
+        ensures reclaim { (frames levels : ℕ) → Shows self.old (opening frames levels) → OnOk result ((outcomes : List Outcome) × (next : State) × IsReachedBy events.now outcomes next × TakesAll S.takes sink.old outcomes sink.new × Shows self.new next) }
+    {
+        for event in events {
+            let outcome = self.step(event);
+            sink.put(&outcome)?;
+        }
+        Ok(())
+    }
+
+    /// How many events there were since power-on.
+    pub fn events(&self) -> u64
+        ensures { result ≡ self.now.events }
+    {
+        self.events
+    }
+}
