@@ -1,0 +1,51 @@
+// What a command line says.
+ghost use Rattle.std.specs.Prelude.{◌≡◌};
+
+use crate::faults::ArgsFault;
+use clap::error::ErrorKind;
+use clap::{Arg, ArgAction, Command};
+use std::alloc::Global;
+
+/// What a command line says.
+#[derive(Debug, Drop)]
+pub struct Args<'a> {
+    /// The file that the script is in. None where it is on standard input.
+    pub file: Option<&'a str>,
+}
+
+/// Whether the word can name a file: it isn't empty, and doesn't begin with `-`.
+fn is_file(word: &str) -> bool {
+    !word.is_empty() && !word.starts_with('-')
+}
+
+/// Whether the words are a lawful command line: none, or a file.
+fn is_lawful(words: &[&str]) -> bool {
+    match words {
+        [] => true,
+        [file] => is_file(file),
+        _ => false,
+    }
+}
+
+/// What the words after the program's name say: nothing, or a file.
+pub fn read_words<'a>(alloc: Global, words: &'a [&'a str]) -> Result<Args<'a>, ArgsFault> {
+    if !is_lawful(words) {
+        return Err(ArgsFault::Bad);
+    }
+    let file = Arg::new(alloc, "file").action(ArgAction::Set);
+    let command = Command::new(alloc, "iommu-run")
+        .no_binary_name(true)
+        .disable_help_flag(true)
+        .disable_version_flag(true)
+        .arg(file)
+        .map_err(|_| ArgsFault::Memory)?;
+    match command.try_get_matches_from(words) {
+        Ok(matches) => Ok(Args {
+            file: matches.get_str("file"),
+        }),
+        Err(fault) => match fault.kind() {
+            ErrorKind::OutOfMemory => Err(ArgsFault::Memory),
+            _ => Err(ArgsFault::Bad),
+        },
+    }
+}
