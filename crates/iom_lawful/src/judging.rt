@@ -1,0 +1,99 @@
+ghost use Rattle.std.specs.Prelude.{◌≡◌, ◌+◌, ◌<◌, ◌≤◌, ◌^◌, IfSome, IfOk, length};
+ghost use Rattle.iom_machine.specs.Machine.{opening};
+ghost use Rattle.iom_script.specs.Grammar.{IsWorldSize};
+ghost use Rattle.iom_lawful.specs.Outputs.{IsRunFrom, IsOutputOf};
+
+use crate::driver::Driver;
+use crate::outcomes::{read_outcomes, without_prefix};
+use iom_machine::{Event, Outcome, State, judge, power_on};
+use iom_script::{LineBuffer, Script, WorldSize};
+use std::alloc::{AllocError, Global};
+use std::fmt;
+
+/// What the judge finds of an output, whose lines count from 1.
+#[derive(Clone, Copy, PartialEq, Eq, Debug)]
+pub(crate) enum Found {
+    /// The lines are those of a run.
+    Lawful,
+    /// Those before this line are, after which it may not come.
+    Unlawful { line: u64 },
+    /// Those before this line are; it tells no outcome, or there are fewer lines than events, or more.
+    Unread { line: u64 },
+}
+
+impl fmt::Display for Found {
+    fn fmt<W: fmt::Write>(&self, f: &mut fmt::Formatter<W>) -> fmt::Result {
+        match *self {
+            Found::Lawful => f.write_str("lawful"),
+            Found::Unlawful { line } => write!(f, "unlawful at line {line}"),
+            Found::Unread { line } => write!(f, "not read at line {line}"),
+        }
+    }
+}
+
+/// The state at power-on of a world of this size.
+fn opening_of(alloc: Global, size: WorldSize) -> Result<State, AllocError>
+    requires { IsWorldSize size }
+    ensures value { IfOk result (λ state. state ≡ opening size.frames size.levels) }
+    ensures frames { IfOk result (λ state. length state.frames ≤ 2 ^ 32) }
+{
+    power_on(alloc, size.frames as u32, size.levels as u8)
+}
+
+/// What the judge finds where these outcomes come of the events, one after another. The first is that of this line.
+fn judge_lines(
+    alloc: Global,
+    driver: &mut Driver,
+    state: State,
+    events: &[Event],
+    outcomes: &[Outcome],
+    line: u64,
+) -> Result<Found, AllocError>
+    requires size { length state.frames ≤ 2 ^ 32 }
+    requires lines { line + length events.now < 2 ^ 64 }
+    // What is found lawful is lawful.
+    ensures { IfOk result (λ found. found ≡ Found.Lawful → IsRunFrom state events.now outcomes.now) }
+{
+    match (events.split_first(), outcomes.split_first()) {
+        (None, None) => Ok(Found::Lawful),
+        (Some((event, later_events)), Some((outcome, later_outcomes))) => {
+            let choice = driver.choose(alloc, &state, event, outcome)?;
+            match judge(alloc, state, event, outcome, &choice)? {
+                None => Ok(Found::Unlawful { line }),
+                Some(next) => {
+                    judge_lines(alloc, driver, next, later_events, later_outcomes, line + 1)
+                }
+            }
+        }
+        _ => Ok(Found::Unread { line }),
+    }
+}
+
+/// What the judge finds of an output of the script.
+pub(crate) fn judge_output(
+    alloc: Global,
+    printed: &mut LineBuffer,
+    script: &Script,
+    output: &str,
+) -> Result<Found, AllocError>
+    requires { IfSome script.now.world IsWorldSize }
+    // An output that is found lawful has the lines of a run.
+    ensures { IfOk result (λ found. found ≡ Found.Lawful → IsOutputOf script.now output.now) }
+{
+    let Some(size) = script.world else {
+        return Ok(Found::Unread { line: 1 });
+    };
+    let Some(text) = without_prefix(output.as_bytes(), b"ok\n") else {
+        return Ok(Found::Unlawful { line: 1 });
+    };
+    let (outcomes, rest) = read_outcomes(alloc, printed, output, text)?;
+    let opening = opening_of(alloc, size)?;
+    let mut driver = Driver::new(alloc);
+    let events = script.events.as_slice();
+    match judge_lines(alloc, &mut driver, opening, events, &outcomes, 2)? {
+        Found::Lawful if !rest.is_empty() => Ok(Found::Unread {
+            line: events.len() as u64 + 2,
+        }),
+        found => Ok(found),
+    }
+}

@@ -1,0 +1,75 @@
+//! Holds the judge of the ledger machine against runs that another checker judged, one that shares no code with
+//! this repository, and prints what the judge finds of each.
+//!
+//! `data/index.tsv` has an output a line: its file, the script that it came of, `lawful` or `unlawful at line N`,
+//! and the line that was changed to make it unlawful, if one was. Its first line names the columns. Lines of an
+//! output count from 1, and the first is that of `world`. A judge that decides the machine exactly refuses an
+//! output at its first unlawful line: never before the changed one, and never after the checker's.
+#![tactic(auto)]
+
+mod driver;
+mod index;
+mod judging;
+mod outcomes;
+#[cfg(test)]
+mod tests;
+
+use crate::index::{Row, Wanted};
+use crate::judging::{Found, judge_output};
+use anyhow::Context;
+use iom_script::LineBuffer;
+use std::fs;
+
+/// How the outputs went.
+#[derive(Clone, Copy)]
+struct Tally {
+    lawful: u32,
+    unlawful: u32,
+    earlier: u32,
+    differed: u32,
+}
+
+impl Tally {
+    fn count(&mut self, wanted: Wanted, found: Found) {
+        let counter = match (wanted, found) {
+            (Wanted::Lawful, Found::Lawful) => &mut self.lawful,
+            (Wanted::Unlawful { line, .. }, Found::Unlawful { line: at }) if at == line => {
+                &mut self.unlawful
+            }
+            (Wanted::Unlawful { line, changed }, Found::Unlawful { line: at })
+                if changed <= at && at < line => { &mut self.earlier }
+            _ => &mut self.differed,
+        };
+        *counter = counter.saturating_add(1);
+    }
+}
+
+/// What the judge finds of the output.
+fn judge_row(rt: &HostRuntime, printed: &mut LineBuffer, row: Row<'_>) -> anyhow::Result<Found> {
+    let script = fs::read(rt, row.script)?;
+    let script = iom_script::parse(rt.alloc(), &script).context(format_args!("{}", row.script))?;
+    let output = fs::read_to_string(rt, row.output)?;
+    Ok(judge_output(rt.alloc(), printed, &script, output.as_str())?)
+}
+
+fn main(rt: HostRuntime) -> anyhow::Result<()> {
+    let index = fs::read_to_string(&rt, "index.tsv")?;
+    let mut printed = LineBuffer::new(rt.alloc())?;
+    let mut tally = Tally {
+        lawful: 0,
+        unlawful: 0,
+        earlier: 0,
+        differed: 0,
+    };
+    for line in index.as_str().lines().skip(1) {
+        let row = Row::parse(line).context("index.tsv")?;
+        let found = judge_row(&rt, &mut printed, row)?;
+        println!(rt; "{}: {found}; the checker: {}", row.output, row.wanted)?;
+        tally.count(row.wanted, found);
+    }
+    println!(rt;
+        "{} lawful, {} unlawful at the checker's line, {} at an earlier one, {} differ",
+        tally.lawful, tally.unlawful, tally.earlier, tally.differed
+    )?;
+    Ok(())
+}

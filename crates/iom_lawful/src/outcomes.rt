@@ -1,0 +1,167 @@
+ghost use Rattle.std.specs.Prelude.{◌≡◌, ◌++◌, IfSome, IfOk};
+ghost use Rattle.iom_script.specs.Lines.{lines_of};
+
+use arrayvec::ArrayVec;
+use iom_base::Cause;
+use iom_ledger::Refusal;
+use iom_machine::{CommandName, Fetched, Outcome};
+use iom_script::LineBuffer;
+use std::alloc::{AllocError, Global};
+
+const REFUSALS: [Refusal; 23] = [
+    Refusal::NoSuchDevice,
+    Refusal::AlreadyAttached,
+    Refusal::NotAttached,
+    Refusal::NotTrusted,
+    Refusal::FrameOutOfRange,
+    Refusal::FrameReserved,
+    Refusal::IovaOutOfRange,
+    Refusal::IovaBusy,
+    Refusal::NotGranted,
+    Refusal::NoFrames,
+    Refusal::QueueFull,
+    Refusal::TooManyPending,
+    Refusal::Quarantined,
+    Refusal::NumbersUsedUp,
+    Refusal::Memory,
+    Refusal::StillGranted,
+    Refusal::IdTooWide,
+    Refusal::TooManyDevices,
+    Refusal::NotStarted,
+    Refusal::AlreadyPlugged,
+    Refusal::WrongKind,
+    Refusal::BadMedium,
+    Refusal::BadQueue,
+];
+
+const CAUSES: [Cause; 11] = [
+    Cause::ReadAccessFault,
+    Cause::WriteAccessFault,
+    Cause::ReadPageFault,
+    Cause::WritePageFault,
+    Cause::ReadGuestPageFault,
+    Cause::WriteGuestPageFault,
+    Cause::AllInboundDisallowed,
+    Cause::DirectoryLoadFault,
+    Cause::DirectoryEntryNotValid,
+    Cause::DirectoryEntryMisconfigured,
+    Cause::TransactionTypeDisallowed,
+];
+
+/// The refusal that `N NAME` says.
+fn refusal_of(text: &str) -> Option<Refusal> {
+    let (_, name) = text.split_once(' ')?;
+    for refusal in REFUSALS {
+        if refusal.name() == name {
+            return Some(refusal);
+        }
+    }
+    None
+}
+
+/// The cause with the number.
+fn cause_of(text: &str) -> Option<Cause> {
+    let code = text.parse::<u16>().ok()?;
+    for cause in CAUSES {
+        if cause.code() == code {
+            return Some(cause);
+        }
+    }
+    None
+}
+
+/// The tickets that `A-B` or `-` says are confirmed.
+fn confirmed_of(text: &str) -> Option<Outcome> {
+    if text == "-" {
+        return Some(Outcome::NoneConfirmed);
+    }
+    let (first, last) = text.split_once('-')?;
+    Some(Outcome::Confirmed {
+        first: first.parse().ok()?,
+        last: last.parse().ok()?,
+    })
+}
+
+fn command_of(text: &str) -> Option<CommandName> {
+    match text {
+        "iotinval.vma" => Some(CommandName::IotinvalVma),
+        "iotinval.gvma" => Some(CommandName::IotinvalGvma),
+        "iofence.c" => Some(CommandName::IofenceC),
+        "iodir.inval_ddt" => Some(CommandName::IodirInvalDdt),
+        "ats.inval" => Some(CommandName::AtsInval),
+        _ => None,
+    }
+}
+
+/// The bytes that two hexadecimal digits each say.
+fn bytes_of(text: &str) -> Option<ArrayVec<u8, 4096>> {
+    let mut bytes = ArrayVec::new();
+    for digits in text.as_bytes().chunks(2) {
+        let digits = std::str::from_utf8(digits).ok()?;
+        bytes.try_push(u8::from_str_radix(digits, 16).ok()?).ok()?;
+    }
+    Some(bytes)
+}
+
+/// An outcome that the line may tell. Whether it does is seen by printing it.
+fn outcome_of(line: &str) -> Option<Outcome> {
+    let (word, rest) = line.split_once(' ').unwrap_or((line, ""));
+    match word {
+        "ok" => Some(Outcome::Done),
+        "refused" => refusal_of(rest).map(Outcome::Refused),
+        "ticket" => rest.parse().ok().map(Outcome::Ticket),
+        "confirmed" => confirmed_of(rest),
+        "did" => command_of(rest).map(|name| Outcome::Fetched(Fetched::Did(name))),
+        "waiting" => Some(Outcome::Fetched(Fetched::Waiting)),
+        "empty" => Some(Outcome::Fetched(Fetched::Empty)),
+        "stopped" => Some(Outcome::Fetched(Fetched::Stopped)),
+        "accepted" => rest.parse().ok().map(Outcome::Accepted),
+        "busy" => Some(Outcome::Busy),
+        "badspan" => Some(Outcome::BadSpan),
+        "fault" => cause_of(rest).map(Outcome::Fault),
+        "read" => bytes_of(rest).map(Outcome::Read),
+        "wrote" => rest.parse().ok().map(Outcome::Wrote),
+        "none" => Some(Outcome::NothingInFlight),
+        _ => None,
+    }
+}
+
+/// What follows the prefix, where the text begins with it.
+pub(crate) fn without_prefix<'a>(text: &'a [u8], prefix: &[u8]) -> Option<&'a [u8]>
+    ensures { IfSome result (λ rest. text.now ≡ prefix.now ++ rest.now) }
+{
+    if text.len() < prefix.len() {
+        return None;
+    }
+    let (first, rest) = text.split_at(prefix.len());
+    if first == prefix { Some(rest) } else { None }
+}
+
+/// The outcomes that the lines of an output tell, up to the first line that tells none; and the text from that line
+/// on. What precedes the text is the output's first line.
+///
+/// Each line is read, and then printed anew.
+pub(crate) fn read_outcomes<'a>(
+    alloc: Global,
+    printed: &mut LineBuffer,
+    output: &str,
+    text: &'a [u8],
+) -> Result<(Vec<Outcome>, &'a [u8]), AllocError>
+    ensures { IfOk result (λ found. text.now ≡ lines_of found.0.items ++ found.1.now) }
+{
+    let mut outcomes = Vec::new(alloc);
+    let mut rest = text;
+    for line in output.lines().skip(1) {
+        let Some(outcome) = outcome_of(line) else {
+            break;
+        };
+        printed.clear();
+        printed.append_line(&outcome);
+        let Some(after) = without_prefix(rest, printed.as_slice()) else {
+            break;
+        };
+        outcomes.push(outcome)?;
+        rest = after;
+    }
+    Ok((outcomes, rest))
+}
