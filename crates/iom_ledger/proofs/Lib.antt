@@ -1,4 +1,5 @@
 pub mod RowLemmas
 pub mod PendingLemmas
+pub mod CountLemmas
 pub mod AgreementLemmas
 pub mod UnknownTickets

@@ -1,15 +1,15 @@
 -- What is left of the rows once some of the releases under a ticket are confirmed.
 use Rattle.std.proofs.Common.{◌≡◌, ◌+◌, ◌<◌, ℕ, Bool, true, false, not, ◌==◌, ◌||◌, ◌++◌, List, [], ◌∷◌, length, take, drop, get_or, filter, Option, None, Some, if◌then◌else◌, refl, sym, ap, ◌∙◌, subst, append_assoc, drop-cons, add-one}
 use Rattle.std.specs.List.{list_any}
-use Rattle.std.proofs.lemmas.Bool.{eqb-true, and_parts, false≢true}
+use Rattle.std.proofs.lemmas.Bool.{eqb-true, and_parts, or_left, or_right, false≢true}
 use Rattle.std.proofs.lemmas.List.{take_more}
 use Rattle.std.proofs.lemmas.List.Elements.{filter-append}
-use Rattle.std.proofs.lemmas.List.Folds.{list_any_more}
+use Rattle.std.proofs.lemmas.List.Folds.{list_any_more, list_any-append}
 use Rattle.std.proofs.lemmas.Map.Views.{any-filter_same}
 use Rattle.iom_base.specs.declared.rights.Rights.{Rights}
 use Rattle.iom_ledger.specs.declared.row.Row.{Row}
 use Rattle.iom_ledger.specs.declared.row.Pending.{Pending}
-use Rattle.iom_ledger.specs.Rows.{Devices, row_at, kept, waits_for, names, ticket_of, is_named, AllNamed, DropsRows}
+use Rattle.iom_ledger.specs.Rows.{Devices, row_at, kept, released, ticket_after, waits_for, names, ticket_of, is_named, AllNamed, DropsRows}
 
 -- whether one of the releases is of this page, under the ticket
 abbrev pub any_names : List Pending → ℕ → ℕ → ℕ → Bool
@@ -110,3 +110,19 @@ pub AllNamed-confirmed : (old new : Devices) (s : List Pending) (ticket : ℕ) �
     → AllNamed new (filter (is_other ticket) s)
 AllNamed-confirmed old new s ticket named drops d a =
     ap (λ row. is_named (filter (is_other ticket) s) d a (ticket_of row)) (drops d a) ∙ stays_named s d a ticket (row_at old d a) (named d a)
+
+-- whoever named a row still does when there is one release more
+named_more : (s : List Pending) (p : Pending) (d a : ℕ) (t : Option ℕ) → is_named s d a t ≡ true → is_named (s ++ p ∷ []) d a t ≡ true
+named_more s p d a None named = refl
+named_more s p d a (Some t) named = list_any-append (λ release. names release d a t) s (p ∷ []) ∙ or_left _ _ named
+
+-- a release names what it releases
+pub named_released : (s : List Pending) (p : Pending) (d a : ℕ) (b : Bool) (row : Option Row) → (b ≡ true → names p d a p.ticket ≡ true)
+    → is_named s d a (ticket_of row) ≡ true → is_named (s ++ p ∷ []) d a (ticket_of (if b then released row p.ticket else row)) ≡ true
+named_released s p d a false row own named = named_more s p d a (ticket_of row) named
+named_released s p d a true None own named = refl
+named_released s p d a true (Some row) own named = by row.ticket named
+  where
+    by : (t : Option ℕ) → is_named s d a t ≡ true → is_named (s ++ p ∷ []) d a (ticket_after t p.ticket) ≡ true
+    by None named = list_any-append (λ release. names release d a p.ticket) s (p ∷ []) ∙ or_right _ _ (or_left _ _ (own refl))
+    by (Some t) named = named_more s p d a (Some t) named

@@ -1,25 +1,46 @@
--- Rows after a `retain`, and rows that a search over the entries finds.
-use Rattle.std.proofs.Common.{◌≡◌, ℕ, length, Bool, true, false, cond, not, List, [], ◌∷◌, Option, None, Some, nat_eq, refl, sym, ap, ◌∙◌, if◌then◌else◌}
+-- Rows that wait for a ticket, and rows that a search over the entries finds.
+use Rattle.std.proofs.Common.{◌≡◌, ◌==◌, ℕ, suc, zero, length, slice_get, Bool, true, false, cond, List, [], ◌∷◌, Option, None, Some, nat_eq, refl, sym, ap, ◌∙◌, subst, arith, if◌then◌else◌}
 use Rattle.std.specs.Cmp.{nat_eq_equiv}
 use Rattle.std.specs.List.{list_any, IsDistinct}
 use Rattle.std.specs.Map.{lookup, keys_of}
-use Rattle.std.specs.Option.{option_and_then}
-use Rattle.std.proofs.lemmas.Bool.{or_left, or_right, or_parts, false≢true}
+use Rattle.std.specs.Option.{option_and_then, option_map_or}
+use Rattle.std.proofs.lemmas.Bool.{eqb-true, or_left, or_right}
 use Rattle.std.proofs.lemmas.List.Folds.{Any-from_list_any}
-use Rattle.std.proofs.lemmas.Map.Entries.{lookup_from_place, option_filter}
+use Rattle.std.proofs.lemmas.Map.Entries.{lookup_from_place}
 use Rattle.std.proofs.lemmas.Option.{slice_get_read}
 use Rattle.indexmap.specs.IndexMap.{get}
 use Rattle.iom_ledger.specs.declared.row.Row.{Row}
-use Rattle.iom_ledger.specs.Rows.{Pages, kept, waits_for}
+use Rattle.iom_ledger.specs.Rows.{Devices, Pages, row_at, entries_of, kept, waits_for, DropsSome, NoneWaitsFrom}
 
--- the row that passes the filter of a confirmation
-pub option_filter-waits : (o : Option Row) (ticket : ℕ) → option_filter (λ row. not (waits_for row.ticket ticket)) o ≡ kept o ticket
-option_filter-waits None ticket = refl
-option_filter-waits (Some row) ticket = by (waits_for row.ticket ticket)
+-- where no entry waits for the ticket, no row does
+kept_entry : (es : List (ℕ × Row)) (ticket page : ℕ) → ((k : ℕ) (e : ℕ × Row) → slice_get es k ≡ Some e → waits_for e.1.ticket ticket ≡ false)
+    → kept (lookup (nat_eq page) es) ticket ≡ lookup (nat_eq page) es
+kept_entry [] ticket page none = refl
+kept_entry (e ∷ es) ticket page none = by (nat_eq page e.0) (kept_entry es ticket page (λ k d at. none (suc k) d at))
   where
-    by : (b : Bool) → cond (not b) (Some row) None ≡ (if b then None else Some row)
-    by true = refl
-    by false = refl
+    by : (b : Bool) → kept (lookup (nat_eq page) es) ticket ≡ lookup (nat_eq page) es
+        → kept (cond b (Some e.1) (lookup (nat_eq page) es)) ticket ≡ cond b (Some e.1) (lookup (nat_eq page) es)
+    by true rest = rw (none zero e refl) refl
+    by false rest = rest
+
+kept_row : (devices : Devices) (device page ticket : ℕ) → NoneWaitsFrom (entries_of devices device) 0 ticket
+    → kept (row_at devices device page) ticket ≡ row_at devices device page
+kept_row devices device page ticket none = by (get nat_eq devices device) none
+  where
+    by : (found : Option Pages) → NoneWaitsFrom (option_map_or (λ pages. pages.entries) found []) 0 ticket
+        → kept (option_and_then (λ pages. get nat_eq pages page) found) ticket ≡ option_and_then (λ pages. get nat_eq pages page) found
+    by None none = refl
+    by (Some pages) none = kept_entry pages.entries ticket page (λ k e at. none k e (omega arith) at)
+
+-- once no row of the device waits for the ticket, each that did is dropped
+pub all_dropped_of : (old now : Devices) (device ticket : ℕ) → DropsSome old now device ticket → NoneWaitsFrom (entries_of now device) 0 ticket
+    → (d a : ℕ) → row_at now d a ≡ (if device == d then kept (row_at old d a) ticket else row_at old d a)
+all_dropped_of old now device ticket some none d a = by (device == d) refl (some d a)
+  where
+    by : (b : Bool) → (device == d) ≡ b → (if b then kept (row_at now d a) ticket else row_at now d a) ≡ (if b then kept (row_at old d a) ticket else row_at old d a)
+        → row_at now d a ≡ (if b then kept (row_at old d a) ticket else row_at old d a)
+    by true e same = sym (subst (λ x. kept (row_at now x a) ticket ≡ row_at now x a) (eqb-true device d e) (kept_row now device a ticket none)) ∙ same
+    by false e same = same
 
 -- a row that the pages have is among the entries
 pub list_any-lookup : (test : Row → Bool) (page : ℕ) (es : List (ℕ × Row)) (row : Row) → lookup (nat_eq page) es ≡ Some row → test row ≡ true → list_any (λ e. test e.1) es ≡ true
@@ -37,19 +58,3 @@ pub found_row : (test : Row → Bool) (es : List (ℕ × Row)) → IsDistinct na
 found_row test es pages any =
     let (k, e, below, at, passes) = Any-from_list_any (λ e. test e.1) es any in
     (e.0, e.1, lookup_from_place nat_eq_equiv es k e.0 e.1 pages (slice_get_read es (length es) k e refl below (sym at)), passes)
-
--- whether the device has a row that passes the test
-abbrev pub has_row : (Row → Bool) → ℕ × Pages → Bool
-has_row test device = list_any (λ e. test e.1) device.1.entries
-
--- where no device has a row that passes the test, there is none
-pub no_row : (test : Row → Bool) (device page : ℕ) (row : Row) → test row ≡ true → (es : List (ℕ × Pages)) → list_any (has_row test) es ≡ false
-    → option_and_then (λ pages. get nat_eq pages page) (lookup (nat_eq device) es) ≡ Some row → ⊥
-no_row test device page row passes [] none at = let h : None ≡ Some row = at in absurd (cc)
-no_row test device page row passes (e ∷ es) none at = here (nat_eq device e.0) at (or_parts _ _ none) (no_row test device page row passes es)
-  where
-    here : (b : Bool) → option_and_then (λ pages. get nat_eq pages page) (cond b (Some e.1) (lookup (nat_eq device) es)) ≡ Some row
-        → (has_row test e ≡ false) × (list_any (has_row test) es ≡ false)
-        → (list_any (has_row test) es ≡ false → option_and_then (λ pages. get nat_eq pages page) (lookup (nat_eq device) es) ≡ Some row → ⊥) → ⊥
-    here true found parts later = false≢true (sym parts.0 ∙ list_any-lookup test page e.1.entries row found passes)
-    here false found parts later = later parts.1 found

@@ -2,5 +2,6 @@ pub mod History
 pub mod Refusals
 pub mod Unconfirmed
 pub mod Rows
+pub mod Counts
 pub mod Shown
 pub mod Changes

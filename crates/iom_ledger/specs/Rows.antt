@@ -1,7 +1,7 @@
 -- What a ledger keeps: for each device its pages, each with a row, and the releases that aren't confirmed.
-use Rattle.std.specs.Prelude.{◌≡◌, ℕ, Bool, true, false, ◌==◌, ◌&&◌, ◌||◌, List, Option, None, Some, nat_eq, if◌then◌else◌}
+use Rattle.std.specs.Prelude.{◌≡◌, ◌≤◌, ℕ, Bool, true, false, ◌==◌, ◌&&◌, ◌||◌, List, [], Option, None, Some, nat_eq, slice_get, if◌then◌else◌}
 use Rattle.std.specs.List.{list_any}
-use Rattle.std.specs.Option.{option_and_then, option_map}
+use Rattle.std.specs.Option.{option_and_then, option_map, option_map_or}
 use Rattle.std.specs.declared.hash.FoldHasher.{FoldHasher}
 use Rattle.std.specs.declared.hash.BuildHasherDefault.{BuildHasherDefault}
 use Rattle.indexmap.specs.IndexMap.{IndexMap, get}
@@ -88,6 +88,33 @@ ReleasesRows old new device ticket =
 -- the rows that wait for the ticket go, and each other stays
 abbrev pub DropsRows : Devices → Devices → ℕ → Type 0
 DropsRows old new ticket = (d a : ℕ) → row_at new d a ≡ kept (row_at old d a) ticket
+
+-- the page had this row, which waits for the ticket, and has none now; each other page keeps its row
+pub record TakesRow (old new : Pages) (page : ℕ) (row : Row) (ticket : ℕ) : Type 0 where
+  pub had : get nat_eq old page ≡ Some row
+  pub waits : waits_for row.ticket ticket ≡ true
+  pub pages : (a : ℕ) → get nat_eq new a ≡ (if page == a then None else get nat_eq old a)
+
+-- the page of the device had this row, which waits for the ticket, and has none now; each other page keeps its row
+pub record TakesRowOf (old new : Devices) (device page : ℕ) (row : Row) (ticket : ℕ) : Type 0 where
+  pub had : row_at old device page ≡ Some row
+  pub waits : waits_for row.ticket ticket ≡ true
+  pub rows : (d a : ℕ) → row_at new d a ≡ (if (device == d) && (page == a) then None else row_at old d a)
+
+-- some rows of the device that wait for the ticket may go, and each other stays
+abbrev pub DropsSome : Devices → Devices → ℕ → ℕ → Type 0
+DropsSome old new device ticket =
+    (d a : ℕ) → (if device == d then kept (row_at new d a) ticket else row_at new d a)
+    ≡ (if device == d then kept (row_at old d a) ticket else row_at old d a)
+
+-- the rows of a device, each with its page, in the order in which they are kept
+abbrev pub entries_of : Devices → ℕ → List (ℕ × Row)
+entries_of devices device = option_map_or (λ pages. pages.entries) (get nat_eq devices device) []
+
+-- from this index on no row waits for the ticket
+abbrev pub NoneWaitsFrom : List (ℕ × Row) → ℕ → ℕ → Type 0
+NoneWaitsFrom entries first ticket =
+    (k : ℕ) (entry : ℕ × Row) → first ≤ k → slice_get entries k ≡ Some entry → waits_for entry.1.ticket ticket ≡ false
 
 -- each row stays
 abbrev pub KeepsRows : Devices → Devices → Type 0

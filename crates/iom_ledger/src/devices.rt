@@ -1,10 +1,10 @@
 //! The rows of all devices.
-ghost use Rattle.std.specs.Prelude.{◌≡◌, ◌↔◌, ℕ, true, not, ◌==◌, Some, nat_eq, IsTrue, OnOk, OnErr, is_none, is_some, if◌then◌else◌};
-ghost use Rattle.std.specs.List.{list_any};
-ghost use Rattle.indexmap.specs.IndexMap.{IsUnique, get};
-ghost use Rattle.iom_ledger.specs.declared.row.Row.{Row};
-ghost use Rattle.iom_ledger.specs.Rows.{row_at, ticket_of, SetsRow, ReleasesRow, ReleasesRows, DropsNamed, KeepsRows, SomeRowNames, released, released_row, waits_for, kept};
+ghost use Rattle.std.specs.Prelude.{◌≡◌, ◌+◌, ℕ, None, true, ◌==◌, ◌&&◌, nat_eq, OnOk, OnErr, IfSome, IfNone, if◌then◌else◌};
+ghost use Rattle.indexmap.specs.IndexMap.{get};
+ghost use Rattle.iom_ledger.specs.Counts.{AreCounted};
+ghost use Rattle.iom_ledger.specs.Rows.{row_at, entries_of, SetsRow, ReleasesRow, ReleasesRows, TakesRow, TakesRowOf, DropsSome, DropsNamed, NoneWaitsFrom, KeepsRows, released, released_row, kept};
 
+use crate::counts::RowCounts;
 use crate::row::{Pending, Row};
 use indexmap::IndexMap;
 use iom_base::DeviceId;
@@ -37,33 +37,36 @@ fn release_rows(pages: &mut Pages, ticket: u32)
     );
 }
 
-/// Drops each row that waits for the ticket.
-fn drop_waiting(pages: &mut Pages, ticket: u32)
-    ensures { (page : ℕ) → get nat_eq pages.new page ≡ kept (get nat_eq pages.old page) ticket }
+/// Drops the row at the index of the pages, if it waits for the ticket. The last row takes its place.
+fn take_waiting_row(pages: &mut Pages, index: usize, ticket: u32) -> Option<(u64, Row)>
+    ensures taken { IfSome result (λ entry. TakesRow pages.old pages.new entry.0 entry.1 ticket) }
+    ensures kept { IfNone result ((page : ℕ) → get nat_eq pages.new page ≡ get nat_eq pages.old page) }
+    ensures looked { NoneWaitsFrom pages.old.entries (index + 1) ticket → NoneWaitsFrom pages.new.entries index ticket }
 {
-    if pages.len() == 0 {
-        return;
+    let (_page, row) = pages.get_index(index)?;
+    if row.waits_for(ticket) {
+        pages.swap_remove_index(index)
+    } else {
+        None
     }
-    pages.retain(
-        |_page: &u64, row: &mut Row| -> bool
-            ensures { (result ≡ not (waits_for row.old.ticket ticket)) × (row.new ≡ row.old) }
-        { !row.waits_for(ticket) },
-    );
 }
 
 /// Drops the row of the page, if it waits for the ticket.
-fn drop_waiting_at(pages: &mut Pages, page: u64, ticket: u32)
-    ensures { (a : ℕ) → get nat_eq pages.new a ≡ (if page == a then kept (get nat_eq pages.old a) ticket else get nat_eq pages.old a) }
+fn take_waiting_row_at(pages: &mut Pages, page: u64, ticket: u32) -> Option<Row>
+    ensures taken { IfSome result (λ row. TakesRow pages.old pages.new page row ticket) }
+    ensures kept { IfNone result ((a : ℕ) → get nat_eq pages.new a ≡ get nat_eq pages.old a) }
+    ensures stays { IfNone result (kept (get nat_eq pages.old page) ticket ≡ get nat_eq pages.old page) }
 {
-    if let Some(row) = pages.get(&page).copied() {
-        if row.waits_for(ticket) {
-            pages.swap_remove(&page);
-        }
+    let row = pages.get(&page).copied()?;
+    if row.waits_for(ticket) {
+        pages.swap_remove(&page)
+    } else {
+        None
     }
 }
 
 /// Gives the page of the device a row. Only new memory can be refused.
-pub(crate) fn grant_in(
+fn set_row_in(
     devices: &mut Devices,
     device: DeviceId,
     page: u64,
@@ -82,6 +85,27 @@ pub(crate) fn grant_in(
             devices.insert(device, pages)?;
         }
     }
+    Ok(())
+}
+
+/// Gives the page of the device its first row, and counts it. Only new memory can be refused, and it is
+/// asked for before anything changes.
+pub(crate) fn grant_in(
+    devices: &mut Devices,
+    counts: &mut RowCounts,
+    device: DeviceId,
+    page: u64,
+    row: Row,
+) -> Result<(), AllocError>
+    requires absent { row_at devices.old device page ≡ None }
+    requires counted { AreCounted devices.old counts.old }
+    ensures counted { AreCounted devices.new counts.new }
+    ensures ok { OnOk result (SetsRow devices.old devices.new device page row) }
+    ensures err { OnErr result (KeepsRows devices.old devices.new) }
+{
+    counts.make_room(row.frame)?;
+    set_row_in(devices, device, page, row)?;
+    counts.raise(row.frame);
     Ok(())
 }
 
@@ -105,14 +129,84 @@ pub(crate) fn release_all_in(devices: &mut Devices, device: DeviceId, ticket: u3
     }
 }
 
-/// Drops the rows that the release names and that wait for its ticket.
-pub(crate) fn drop_named_in(devices: &mut Devices, release: Pending)
-    ensures { DropsNamed devices.old devices.new release release.ticket }
+/// Drops the row at the index of the device's pages, if it waits for the ticket.
+fn take_in(devices: &mut Devices, device: DeviceId, index: usize, ticket: u32) -> Option<(u64, Row)>
+    ensures taken { IfSome result (λ entry. TakesRowOf devices.old devices.new device entry.0 entry.1 ticket) }
+    ensures kept { IfNone result (KeepsRows devices.old devices.new) }
+    ensures looked { NoneWaitsFrom (entries_of devices.old device) (index + 1) ticket → NoneWaitsFrom (entries_of devices.new device) index ticket }
 {
-    if let Some(pages) = devices.get_mut(&release.device) {
-        match release.page {
-            None => drop_waiting(pages, release.ticket),
-            Some(page) => drop_waiting_at(pages, page, release.ticket),
-        }
+    let pages = devices.get_mut(&device)?;
+    take_waiting_row(pages, index, ticket)
+}
+
+/// Drops the row of the page of the device, if it waits for the ticket.
+fn take_at_in(devices: &mut Devices, device: DeviceId, page: u64, ticket: u32) -> Option<Row>
+    ensures taken { IfSome result (λ row. TakesRowOf devices.old devices.new device page row ticket) }
+    ensures kept { IfNone result (KeepsRows devices.old devices.new) }
+    ensures stays { IfNone result (kept (row_at devices.old device page) ticket ≡ row_at devices.old device page) }
+{
+    let pages = devices.get_mut(&device)?;
+    take_waiting_row_at(pages, page, ticket)
+}
+
+/// Drops the row at the index of the device's pages, if it waits for the ticket.
+fn drop_waiting_row(
+    devices: &mut Devices,
+    counts: &mut RowCounts,
+    device: DeviceId,
+    index: usize,
+    ticket: u32,
+)
+    requires { AreCounted devices.old counts.old }
+    ensures counted { AreCounted devices.new counts.new }
+    ensures rows { DropsSome devices.old devices.new device ticket }
+    ensures looked { NoneWaitsFrom (entries_of devices.old device) (index + 1) ticket → NoneWaitsFrom (entries_of devices.new device) index ticket }
+{
+    if let Some((_page, row)) = take_in(devices, device, index, ticket) {
+        counts.lower(row.frame);
+    }
+}
+
+/// Drops each row of the device that waits for the ticket.
+fn drop_waiting(devices: &mut Devices, counts: &mut RowCounts, device: DeviceId, ticket: u32)
+    requires { AreCounted devices.old counts.old }
+    ensures counted { AreCounted devices.new counts.new }
+    ensures rows { (d a : ℕ) → row_at devices.new d a ≡ (if device == d then kept (row_at devices.old d a) ticket else row_at devices.old d a) }
+{
+    let rows = match devices.get(&device) {
+        None => 0,
+        Some(pages) => pages.len(),
+    };
+    for index in (0..rows).rev() {
+        drop_waiting_row(devices, counts, device, index, ticket);
+    }
+}
+
+/// Drops the row of the page of the device, if it waits for the ticket.
+fn drop_waiting_at(
+    devices: &mut Devices,
+    counts: &mut RowCounts,
+    device: DeviceId,
+    page: u64,
+    ticket: u32,
+)
+    requires { AreCounted devices.old counts.old }
+    ensures counted { AreCounted devices.new counts.new }
+    ensures rows { (d a : ℕ) → row_at devices.new d a ≡ (if (device == d) && (page == a) then kept (row_at devices.old d a) ticket else row_at devices.old d a) }
+{
+    if let Some(row) = take_at_in(devices, device, page, ticket) {
+        counts.lower(row.frame);
+    }
+}
+
+/// Drops the rows that the release names and that wait for its ticket.
+pub(crate) fn drop_named_in(devices: &mut Devices, counts: &mut RowCounts, release: Pending)
+    requires { AreCounted devices.old counts.old }
+    ensures counted { AreCounted devices.new counts.new }
+    ensures rows { DropsNamed devices.old devices.new release release.ticket }
+{
+    match release.page {
+        None => drop_waiting(devices, counts, release.device, release.ticket),
+        Some(page) => drop_waiting_at(devices, counts, release.device, page, release.ticket),
     }
 }

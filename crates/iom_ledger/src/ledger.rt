@@ -2,10 +2,12 @@
 
 ghost use Rattle.std.specs.Prelude.{◌≡◌};
 ghost use Rattle.iom_ledger.specs.declared.ledger.TheConstants.{MAX_WAITING};
+ghost use Rattle.iom_ledger.specs.Counts.{AreCounted};
 ghost use Rattle.iom_ledger.specs.Rows.{AllGranted, AllNamed};
 
+use crate::counts::RowCounts;
 use crate::devices::{Devices, grant_in, release_all_in, release_in, row_in};
-use crate::lookups::{holds_anything_in, is_free_in, lingers_anything_in};
+use crate::lookups::{holds_anything_in, lingers_anything_in};
 use crate::ring::{Ring, confirm_in, note};
 use crate::row::{Pending, Row};
 use circular_buffer::HeapCircularBuffer;
@@ -22,9 +24,11 @@ pub const MAX_WAITING: usize = 256;
 #[derive(Drop)]
 pub struct Ledger {
     devices: Devices,
+    counts: RowCounts,
     pending: Ring,
     ghost granted: { AllGranted devices },
     ghost named: { AllNamed devices pending.items },
+    ghost counted: { AreCounted devices counts },
     ghost room: { pending.capacity ≡ MAX_WAITING },
 }
 
@@ -36,12 +40,14 @@ impl Ledger {
     ghost use Rattle.iom_ledger.specs.Shown.{Agrees, IsFreeIn, IsGrantable, held_in, released_in, lingering_in, waiting_in};
     ghost use Rattle.iom_ledger.specs.Changes.{IsUnchanged, Grants, Releases, ReleasesAll, Confirms};
 
-    /// A ledger of no grants. Makes the room of [`MAX_WAITING`] tickets, so that no release takes memory.
-    pub fn new(alloc: Global) -> Result<Ledger, AllocError>
+    /// A ledger of no grants. Makes the room of [`MAX_WAITING`] tickets, so that no release takes memory,
+    /// and of a count for each of so many frames. A grant of a frame beyond makes more.
+    pub fn new(alloc: Global, frames: u32) -> Result<Ledger, AllocError>
         ensures { IfOk result (λ ledger. Agrees ledger []) }
     {
         Ok(Ledger {
             devices: IndexMap::new(alloc),
+            counts: RowCounts::new(alloc, frames)?,
             pending: HeapCircularBuffer::with_capacity(alloc, MAX_WAITING)?,
         })
     }
@@ -80,12 +86,12 @@ impl Ledger {
         row_in(&self.devices, device, page).is_none()
     }
 
-    /// Whether no device holds or lingers on the frame, so that none may reach it.
+    /// Whether no device holds or lingers on the frame, so that none may reach it. Looks at one count.
     pub fn is_free(&self, frame: u32) -> bool
         ensures shown { IsTrue result ↔ IsFreeIn self.now frame }
         ensures free { (h : History) → Agrees self.now h → IsTrue result ↔ IsFree h frame }
     {
-        is_free_in(&self.devices, frame)
+        self.counts.count(frame) == 0
     }
 
     /// Whether the device holds some page.
@@ -136,7 +142,7 @@ impl Ledger {
             rights,
             ticket: None,
         };
-        grant_in(&mut self.devices, device, page, row)
+        grant_in(&mut self.devices, &mut self.counts, device, page, row)
     }
 
     /// Releases what the device holds at the page, under a ticket that isn't confirmed yet. Takes no
@@ -179,6 +185,11 @@ impl Ledger {
         ensures confirmed { Confirms self.old self.new ticket }
         ensures unknown { ¬ Contains (waiting_in self.old) ticket → IsUnchanged self.old self.new }
     {
-        confirm_in(&mut self.devices, &mut self.pending, ticket);
+        confirm_in(
+            &mut self.devices,
+            &mut self.counts,
+            &mut self.pending,
+            ticket,
+        );
     }
 }

@@ -10,6 +10,7 @@
 //! (`specs/Shown.antt`).
 #![tactic(auto)]
 
+mod counts;
 mod devices;
 mod entry;
 mod ledger;

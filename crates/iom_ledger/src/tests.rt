@@ -152,7 +152,7 @@ fn confirmed(ticket: u32) -> Entry {
 
 #[test]
 fn each_lookup_answers_what_the_history_says(rt: HostRuntime) -> Result<(), Fail> {
-    let mut ledger = Ledger::new(rt.alloc())?;
+    let mut ledger = Ledger::new(rt.alloc(), 8)?;
     let first = answers(rt.alloc(), &ledger)?;
     assert_eq!(rt; first.as_str(), "- - - free 5 6 7 holds lingers waiting 0");
     // Each entry, with what the history leaves then, worked out by hand.
@@ -213,14 +213,49 @@ fn each_lookup_answers_what_the_history_says(rt: HostRuntime) -> Result<(), Fail
     Ok(())
 }
 
+/// Two devices hold the frame, one of them at two pages: it is free once the last ticket is confirmed.
+#[test]
+fn a_frame_of_two_devices_is_free_after_the_last_confirmation(rt: HostRuntime) -> Result<(), Fail> {
+    // The counts grow beyond the four frames.
+    let mut ledger = Ledger::new(rt.alloc(), 4)?;
+    assert!(rt; ledger.is_free(5));
+    let walk = [
+        (granted(1, 3, 5, Rights::RW), false),
+        (granted(1, 4, 5, Rights::R), false),
+        (released(1, 3, 1), false),
+        (confirmed(1), false),
+        (released(1, 4, 2), false),
+        (confirmed(2), true),
+        (granted(1, 3, 5, Rights::RW), false),
+        (granted(2, 4, 5, Rights::R), false),
+        (released(1, 3, 3), false),
+        (confirmed(3), false),
+        (granted(1, 7, 5, Rights::R), false),
+        (granted(1, 8, 6, Rights::R), false),
+        (released(1, 7, 4), false),
+        (all_released(1, 5), false),
+        (all_released(2, 6), false),
+        (confirmed(6), false),
+        (confirmed(5), false),
+        (confirmed(4), true),
+    ];
+    for (entry, is_free) in walk {
+        bring_about(&mut ledger, entry)?;
+        assert_eq!(rt; ledger.is_free(5), is_free);
+    }
+    assert!(rt; ledger.is_free(6));
+    assert!(rt; ledger.is_free(u32::MAX));
+    Ok(())
+}
+
 #[test]
 fn a_refused_call_changes_nothing_and_succeeds_at_once_when_repeated(
     rt: HostRuntime,
 ) -> Result<(), Fail> {
-    let made = Ledger::new(rt.alloc());
+    let made = Ledger::new(rt.alloc(), 2);
     let mut ledger = match made {
         Ok(ledger) => ledger,
-        Err(_) => Ledger::new(rt.alloc())?,
+        Err(_) => Ledger::new(rt.alloc(), 2)?,
     };
     for device in 1..4 {
         for page in 0..20 {

@@ -8,7 +8,7 @@ use std::test::Fail;
 #[test]
 fn the_highest_free_frame_is_taken(rt: HostRuntime) -> Result<(), Fail> {
     let mut memory = Memory::new(rt.alloc(), 64).map_err(|_| std::alloc::AllocError)?;
-    let mut ledger = Ledger::new(rt.alloc())?;
+    let mut ledger = Ledger::new(rt.alloc(), 64)?;
     let mut tables = TableFrames::new(rt.alloc(), 64)?;
     assert!(rt; !tables.is_reserved(59));
     assert!(rt; tables.is_reserved(60));

@@ -29,7 +29,7 @@ impl World {
         ensures count { IfOk result (λ world. world.events ≡ 0) }
     {
         let marks = TableFrames::new(alloc, frames)?;
-        let ledger = Ledger::new(alloc)?;
+        let ledger = Ledger::new(alloc, frames)?;
         let devices = Vec::with_capacity(alloc, ROOM)?;
         let commands = Commands::new(alloc)?;
         Ok(World {

@@ -1,16 +1,11 @@
-use Rattle.std.proofs.Common.{rules, ◌≡◌, not, filter, nat_eq, ◌∙◌, ap}
-use Rattle.std.specs.Cmp.{nat_eq_equiv}
-use Rattle.std.specs.Map.{lookup}
-use Rattle.std.proofs.lemmas.Map.Entries.{lookup-filter-values}
-use Rattle.indexmap.proofs.CallerLemmas.{filter-RetainsPairs}
-use Rattle.iom_ledger.specs.Rows.{waits_for}
-use Rattle.iom_ledger.proofs.RowLemmas.{option_filter-waits}
+use Rattle.std.proofs.Common.{ℕ, ◌≡◌, arith, subst}
+use Rattle.iom_ledger.specs.Rows.{entries_of, NoneWaitsFrom}
+use Rattle.iom_ledger.proofs.RowLemmas.{all_dropped_of}
 use Rattle.iom_ledger.proofs.devices.drop_waiting.Goals as goal
 
-pub returns : goal.returns
-returns c page =
-    let entries : c.retain.new.self.entries ≡ filter (λ e. not (waits_for e.1.ticket c.args.ticket)) c.args.pages.now.entries =
-    filter-RetainsPairs _ _ _ (λ k v b w g call. search rules) _ _ c.retain.ensures.filtered in
-    ap (lookup (nat_eq page)) entries
-    ∙ lookup-filter-values nat_eq_equiv (λ row. not (waits_for row.ticket c.args.ticket)) page c.args.pages.now.entries c.len.ensures.unique
-    ∙ option_filter-waits (lookup (nat_eq page) c.args.pages.now.entries) c.args.ticket
+pub returns-clause-rows : goal.returns-clause-rows
+returns-clause-rows c =
+    let now = c.loop-index.devices in
+    let first : c.loop-index.index ≡ 0 = omega arith in
+    all_dropped_of c.args.devices.now now c.args.device c.args.ticket c.loop-index.invariant.rows
+    (subst (λ (n : ℕ). NoneWaitsFrom (entries_of now c.args.device) n c.args.ticket) first c.loop-index.invariant.looked)

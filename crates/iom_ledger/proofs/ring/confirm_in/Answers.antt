@@ -15,5 +15,6 @@ loop-n-preserved c =
       rows = λ d a. rows_more s n none d a c.args.ticket _ _ _ within (c.loop-n.invariant.rows d a) (c.turn.ensures.rows (get_or s n none) rest oldest d a);
       items = c.turn.ensures.items (get_or s n none) rest oldest ∙ items_more c.args.ticket n s none within;
       capacity = c.turn.ensures.capacity ∙ c.loop-n.invariant.capacity;
+      counted = c.turn.ensures.counted;
       room = c.turn.ensures.room;
     }

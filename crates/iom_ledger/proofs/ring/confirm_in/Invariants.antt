@@ -1,4 +1,5 @@
 use Rattle.std.proofs.Common.{◌≡◌, ◌≤◌, ◌++◌, ℕ, length, take, drop, filter}
+use Rattle.iom_ledger.specs.Counts.{AreCounted}
 use Rattle.iom_ledger.specs.Rows.{row_at}
 use Rattle.iom_ledger.proofs.PendingLemmas.{any_names, dropped, is_other}
 use Rattle.iom_ledger.proofs.ring.confirm_in.Given as goal
@@ -10,5 +11,6 @@ invariant-loop-n l =
       rows : (d a : ℕ) → row_at l.devices d a ≡ dropped (any_names (take l.n l.fn.pending.items) d a l.ticket) (row_at l.fn.devices d a) l.ticket;
       items : l.pending.items ≡ drop l.n l.fn.pending.items ++ filter (is_other l.ticket) (take l.n l.fn.pending.items);
       capacity : l.pending.capacity ≡ l.fn.pending.capacity;
+      counted : AreCounted l.devices l.counts;
       room : length l.pending.items ≤ l.pending.capacity;
     }

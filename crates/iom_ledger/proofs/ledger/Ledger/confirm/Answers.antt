@@ -10,6 +10,7 @@ pub invariant_of-self : goal.invariant_of-self
 invariant_of-self c = record {
   granted = AllGranted-confirmed c.args.self.now.devices c.confirm_in.new.devices c.args.ticket c.args.self.now.granted c.confirm_in.ensures.rows;
   named = λ d a. ap (λ s. is_named s d a (ticket_of (row_at c.confirm_in.new.devices d a))) c.confirm_in.ensures.items ∙ AllNamed-confirmed c.args.self.now.devices c.confirm_in.new.devices c.args.self.now.pending.items c.args.ticket c.args.self.now.named c.confirm_in.ensures.rows d a;
+  counted = c.confirm_in.ensures.counted;
   room = c.confirm_in.ensures.capacity ∙ c.args.self.now.room;
 }
 

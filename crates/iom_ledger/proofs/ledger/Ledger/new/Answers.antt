@@ -1,0 +1,14 @@
+use Rattle.std.proofs.Common.{ℕ, List, nat_eq, ap, ◌∙◌}
+use Rattle.std.specs.Map.{lookup}
+use Rattle.std.specs.Option.{option_and_then}
+use Rattle.indexmap.specs.IndexMap.{get}
+use Rattle.iom_ledger.specs.Counts.{count_of}
+use Rattle.iom_ledger.specs.Rows.{Pages}
+use Rattle.iom_ledger.proofs.CountLemmas.{AreCounted-none, count_of-replicate}
+use Rattle.iom_ledger.proofs.ledger.Ledger.new.Goals as goal
+
+pub invariant_of-result-clause-counted : goal.invariant_of-result-clause-counted
+invariant_of-result-clause-counted c =
+    AreCounted-none c.new.result c.in_ok-new.field-0
+    (λ d a. ap (λ (es : List (ℕ × Pages)). option_and_then (λ pages. get nat_eq pages a) (lookup (nat_eq d) es)) c.new.ensures.empty)
+    (λ f. ap (λ counts. count_of counts f) c.in_ok-new.ensures ∙ count_of-replicate c.args.frames f)
