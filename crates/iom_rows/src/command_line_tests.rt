@@ -7,7 +7,8 @@ fn lawful_command_lines(rt: HostRuntime) -> Result<(), Fail> {
     let none = read_words(rt.alloc(), &[])?;
     assert!(rt; none.file.is_none());
     for name in ["script.iommu", "a b", "a-b", "/"] {
-        let args = read_words(rt.alloc(), &[name])?;
+        let words = [name];
+        let args = read_words(rt.alloc(), &words)?;
         assert_eq!(rt; args.file, Some(name));
     }
     Ok(())
@@ -26,7 +27,10 @@ fn bad_command_lines(rt: HostRuntime) -> Result<(), Fail> {
         &["--", "a"],
     ];
     for words in lines {
-        assert!(rt; matches!(read_words(rt.alloc(), words), Err(ArgsFault::Bad)), "{words:?}");
+        assert!(rt;
+            matches!(read_words(rt.alloc(), words), Err(ArgsFault::Bad)),
+            "{words:?}"
+        );
     }
     Ok(())
 }

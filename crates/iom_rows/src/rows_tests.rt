@@ -48,7 +48,7 @@ fn first_path(rt: HostRuntime) -> Result<(), Fail> {
         fault 13\n";
     let (result, printed) = ran(rt.alloc(), script);
     assert!(rt; result.is_ok());
-    assert_eq!(rt; printed.as_slice(), wanted);
+    assert_eq!(rt; printed.as_slice(), wanted.as_slice());
     Ok(())
 }
 
@@ -81,7 +81,7 @@ fn grant_boundaries(rt: HostRuntime) -> Result<(), Fail> {
         fault 13\n";
     let (result, printed) = ran(rt.alloc(), script);
     assert!(rt; result.is_ok());
-    assert_eq!(rt; printed.as_slice(), wanted);
+    assert_eq!(rt; printed.as_slice(), wanted.as_slice());
     Ok(())
 }
 
@@ -116,7 +116,7 @@ fn busy(rt: HostRuntime) -> Result<(), Fail> {
         busy\n";
     let (result, printed) = ran(rt.alloc(), script);
     assert!(rt; result.is_ok());
-    assert_eq!(rt; printed.as_slice(), wanted);
+    assert_eq!(rt; printed.as_slice(), wanted.as_slice());
     Ok(())
 }
 
