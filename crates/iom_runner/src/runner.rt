@@ -60,6 +60,31 @@ fn tell_events<W: Write>(
     lines.write_out()
 }
 
+/// The same, to the writer, by way of the buffer.
+fn tell_run<W: Write>(
+    world: &mut World,
+    events: &[Event],
+    buffer: LineBuffer,
+    writer: &mut W,
+) -> Result<(), RunFault>
+    requires events { All IsEvent events.now }
+    requires count { world.old.events + length events.now < 2 ^ 64 }
+    requires empty { buffer ≡ [] }
+    ensures told { (frames levels : ℕ) → Shows world.old (opening frames levels) → OnOk result ((text : List ℕ) × TellsRun (opening frames levels) events.now text × Appends (W.contents writer.old) (W.contents writer.new) text) }
+    ensures front { (frames levels : ℕ) → Shows world.old (opening frames levels) → OnErr result ((text : List ℕ) × TellsRun (opening frames levels) events.now text × AppendsFront (W.contents writer.old) (W.contents writer.new) text) }
+    ensures fault { IfErr result (λ fault. fault ≡ RunFault.Writing) }
+{
+    let mut lines = LineWriter::new(buffer, writer);
+    let told = tell_events(world, events, &mut lines);
+    let LineWriter { buffer: _, writer } = lines;
+    // No effect at run time: from this use the proof reads what the writer holds.
+    let _ = &*writer;
+    match told {
+        Ok(()) => Ok(()),
+        Err(WriteFault) => Err(RunFault::Writing),
+    }
+}
+
 /// Writes the lines of the script.
 fn tell<W: Write>(alloc: Global, script: &Script, writer: &mut W) -> Result<(), RunFault>
     requires events { All IsEvent script.now.events }
@@ -73,13 +98,7 @@ fn tell<W: Write>(alloc: Global, script: &Script, writer: &mut W) -> Result<(), 
     };
     let mut world = world_of(alloc, size)?;
     let buffer = LineBuffer::new(alloc).map_err(|_| RunFault::Memory)?;
-    let mut lines = LineWriter::new(buffer, writer);
-    let told = tell_events(&mut world, script.events.as_slice(), &mut lines);
-    let LineWriter {
-        buffer: _,
-        writer: _,
-    } = lines;
-    told.map_err(|_| RunFault::Writing)
+    tell_run(&mut world, script.events.as_slice(), buffer, writer)
 }
 
 /// Reads a script, runs its events in a world at power-on, and writes a line for the world and one for
