@@ -1,6 +1,8 @@
 -- The text of a script, and what a fault says of it.
-use Rattle.std.proofs.Common.{◌≡◌, ◌<◌, ◌⊎◌, ℕ, inl, inr, List, [], take, All, Option, None, Some, MatchOption, IfSome, refl, sym, ap, subst, subst₂}
-use Rattle.std.specs.Io.KnownBytes.{Appends}
+use Rattle.std.proofs.Common.{◌≡◌, ◌<◌, ◌∙◌, ◌⊎◌, ℕ, inl, inr, List, [], take, All, Option, None, Some, MatchOption, IfSome, Result, Err, refl, sym, ap, subst, subst₂}
+use Rattle.std.proofs.KnownBytes.{Keeps-refl}
+use Rattle.std.proofs.lemmas.Option.{IfSome_then}
+use Rattle.std.specs.Io.KnownBytes.{Appends, Keeps}
 use Rattle.iom_machine.specs.declared.event.Event.{Event}
 use Rattle.iom_machine.specs.Machine.{IsEvent}
 use Rattle.iom_script.specs.declared.script.Script.{Script}
@@ -50,7 +52,7 @@ whole_script None bytes limit script big read is = tt
 whole_script (Some input) bytes limit script big read is = front_script input limit script big (subst (λ b. IsScript b script) read is)
 
 -- of bytes with a bad line the fault names that line, or it is one of memory
-pub refused_bytes : (known : Option (List ℕ)) (bytes : List ℕ) (limit : ℕ) (fault : RunFault) → 1048576 < limit → IfSome known (λ input. bytes ≡ take limit input) → Explains bytes fault
+refused_bytes : (known : Option (List ℕ)) (bytes : List ℕ) (limit : ℕ) (fault : RunFault) → 1048576 < limit → IfSome known (λ input. bytes ≡ take limit input) → Explains bytes fault
     → IfSome known (λ input. (number : ℕ) → IsFirstBadLine input number → (fault ≡ faults.Script number) ⊎ (fault ≡ faults.Memory))
 refused_bytes None bytes limit fault big read explains = tt
 refused_bytes (Some input) bytes limit (faults.Script named) big read explains =
@@ -59,11 +61,29 @@ refused_bytes (Some input) bytes limit faults.Memory big read explains = λ numb
 refused_bytes (Some input) bytes limit faults.Reading big read explains = absurd explains
 refused_bytes (Some input) bytes limit faults.Writing big read explains = absurd explains
 
--- a line that is named is the first bad one
-pub named_bytes : (known : Option (List ℕ)) (bytes : List ℕ) (limit number : ℕ) → 1048576 < limit → IfSome known (λ input. bytes ≡ take limit input) → Explains bytes (faults.Script number)
+-- the same, where nothing is written
+pub refused_as : {T : Type 0} (known written : Option (List ℕ)) (bytes : List ℕ) (limit : ℕ) (result : Result T RunFault) (fault : RunFault) → 1048576 < limit
+    → IfSome known (λ input. bytes ≡ take limit input) → Explains bytes fault → result ≡ Err fault
+    → IfSome known (λ input. (number : ℕ) → IsFirstBadLine input number
+    → Keeps written written × ((result ≡ Err (faults.Script number)) ⊎ (result ≡ Err faults.Reading) ⊎ (result ≡ Err faults.Memory)))
+refused_as known written bytes limit result fault big read explains is =
+    IfSome_then known (refused_bytes known bytes limit fault big read explains) (λ input its number bad. (
+      Keeps-refl written,
+      elim (its number bad) [ inl named ↦ inl (is ∙ ap (λ f. Err f) named) | inr memory ↦ inr (inr (is ∙ ap (λ f. Err f) memory)) ],
+    ))
+
+named_bytes : (known : Option (List ℕ)) (bytes : List ℕ) (limit number : ℕ) → 1048576 < limit → IfSome known (λ input. bytes ≡ take limit input) → Explains bytes (faults.Script number)
     → IfSome known (λ input. IsFirstBadLine input number)
 named_bytes None bytes limit number big read explains = tt
 named_bytes (Some input) bytes limit number big read explains = front_fault input limit number big (subst (λ b. IsFirstBadLine b number) read explains)
+
+-- a line that is named is the first bad one
+pub named_as : {T : Type 0} (known written : Option (List ℕ)) (bytes : List ℕ) (limit : ℕ) (result : Result T RunFault) (fault : RunFault) → 1048576 < limit
+    → IfSome known (λ input. bytes ≡ take limit input) → Explains bytes fault → result ≡ Err fault
+    → (number : ℕ) → result ≡ Err (faults.Script number) → IfSome known (λ input. IsFirstBadLine input number) × Keeps written written
+named_as known written bytes limit result fault big read explains is number named =
+    let same : fault ≡ faults.Script number = cc in
+    (named_bytes known bytes limit number big read (subst (Explains bytes) same explains), Keeps-refl written)
 
 -- bytes that are a script have no bad line
 pub no_bad_line : (P : ℕ → Type 0) (known : Option (List ℕ)) (script : Script) → IfSome known (λ input. IsScript input script)
