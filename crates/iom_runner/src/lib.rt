@@ -13,12 +13,12 @@
 mod arguments;
 mod faults;
 mod reading;
-mod run;
+mod runner;
 mod writing;
 
 pub use arguments::{Args, read_words};
 pub use faults::{ArgsFault, RunFault, args_status, exit_status};
-pub use run::run;
+pub use runner::run;
 
 #[cfg(test)]
 mod tests;

@@ -1,14 +1,282 @@
+ghost use Rattle.std.specs.Prelude.{Some};
+
 use super::*;
+use std::alloc::Global;
+use std::io::{self, ErrorKind, Read, Write};
 use std::test::Fail;
+
+/// A reader that gives at most so many bytes a call, is interrupted at every other call, and fails once
+/// its calls are used up.
+#[derive(Drop)]
+struct Slow<'a> {
+    rest: &'a [u8],
+    at_once: usize,
+    interrupted: bool,
+    calls: usize,
+}
+
+impl Slow<'_> {
+    fn new(bytes: &[u8], at_once: usize, calls: usize) -> Slow<'_> {
+        Slow {
+            rest: bytes,
+            at_once,
+            interrupted: false,
+            calls,
+        }
+    }
+}
+
+impl Read for Slow<'_> {
+    ghost remaining = { λ r. Some r.rest.now };
+
+    fn read(&mut self, buf: &mut [u8]) -> io::Result<usize> {
+        if self.calls == 0 {
+            return Err(io::Error::from(ErrorKind::Other));
+        }
+        self.calls -= 1;
+        self.interrupted = !self.interrupted;
+        if self.interrupted {
+            return Err(io::Error::from(ErrorKind::Interrupted));
+        }
+        let count = self.rest.len().min(buf.len()).min(self.at_once.max(1));
+        let (front, back) = self.rest.split_at(count);
+        buf[..count].copy_from_slice(front);
+        self.rest = back;
+        Ok(count)
+    }
+}
+
+/// A writer that takes at most so many bytes a call, is interrupted at every other call, and fails, or
+/// takes nothing, once its room is used up.
+#[derive(Drop)]
+struct Stingy {
+    got: Vec<u8>,
+    at_once: usize,
+    room: usize,
+    interrupted: bool,
+    takes_nothing: bool,
+}
+
+impl Stingy {
+    fn new(alloc: Global, at_once: usize, room: usize) -> Stingy {
+        Stingy {
+            got: Vec::new(alloc),
+            at_once,
+            room,
+            interrupted: false,
+            takes_nothing: false,
+        }
+    }
+}
+
+impl Write for Stingy {
+    ghost contents = { λ w. Some w.got.items };
+
+    fn write(&mut self, buf: &[u8]) -> io::Result<usize> {
+        self.interrupted = !self.interrupted;
+        if self.interrupted {
+            return Err(io::Error::from(ErrorKind::Interrupted));
+        }
+        if self.room == 0 && self.takes_nothing {
+            return Ok(0);
+        }
+        if self.room == 0 {
+            return Err(io::Error::from(ErrorKind::Other));
+        }
+        let count = buf.len().min(self.at_once).min(self.room);
+        self.got.extend_from_slice(&buf[..count])?;
+        self.room -= count;
+        Ok(count)
+    }
+
+    fn flush(&mut self) -> io::Result<()> {
+        Ok(())
+    }
+}
+
+/// The status of a run: 0, or that of its fault.
+fn status(done: Result<(), RunFault>) -> u8 {
+    match done {
+        Ok(()) => 0,
+        Err(fault) => exit_status(&fault),
+    }
+}
+
+/// The bytes, as often as that, after a beginning.
+fn many(alloc: Global, front: &[u8], piece: &[u8], count: usize) -> Result<Vec<u8>, Fail> {
+    let mut bytes = Vec::from_slice(alloc, front)?;
+    for _ in 0..count {
+        bytes.extend_from_slice(piece)?;
+    }
+    Ok(bytes)
+}
 
 const FIRST_PATH: &[u8] =
     b"world 64 1\ndevice 000001 raw\nattach 000001 first\ngrant 000001 3 5 rw\nread 000001 0x3ffc 4\nread 000001 0x3ffc 5\ncommit 000001\nrelease 000001 3\nfetch\nfetch\npoll\nread 000001 0x3ffc 4\n";
 
-const FIRST_PATH_LINES: &[u8] = b"";
+const FIRST_PATH_LINES: &[u8] =
+    b"ok\nok\nok\nok\naccepted 1\nbadspan\nread 00000000\nticket 1\ndid iotinval.vma\ndid iofence.c\nconfirmed 1-1\nfault 13\n";
 
 #[test]
 fn the_first_path_is_told(rt: HostRuntime) -> Result<(), Fail> {
     let mut out = Vec::new(rt.alloc());
     run(rt.alloc(), &mut FIRST_PATH, &mut out)?;
+    assert_eq!(rt; out.as_slice(), FIRST_PATH_LINES);
+    Ok(())
+}
+
+#[test]
+fn short_reads_and_writes_are_continued(rt: HostRuntime) -> Result<(), Fail> {
+    for at_once in 1..9usize {
+        let mut input = Slow::new(FIRST_PATH, at_once, usize::MAX);
+        let mut out = Stingy::new(rt.alloc(), at_once, usize::MAX);
+        run(rt.alloc(), &mut input, &mut out)?;
+        assert_eq!(rt; out.got.as_slice(), FIRST_PATH_LINES);
+    }
+    Ok(())
+}
+
+#[test]
+fn a_failing_read_writes_nothing(rt: HostRuntime) -> Result<(), Fail> {
+    for calls in 0..9usize {
+        let mut input = Slow::new(FIRST_PATH, 30, calls);
+        let mut out = Stingy::new(rt.alloc(), 7, usize::MAX);
+        match run(rt.alloc(), &mut input, &mut out) {
+            Err(RunFault::Reading) => {}
+            _ => return Err(Fail::new("no fault of reading")),
+        }
+        assert!(rt; out.got.is_empty());
+    }
+    Ok(())
+}
+
+#[test]
+fn a_failing_write_leaves_a_beginning(rt: HostRuntime) -> Result<(), Fail> {
+    for room in 0..FIRST_PATH_LINES.len() {
+        let mut out = Stingy::new(rt.alloc(), 10, room);
+        match run(rt.alloc(), &mut FIRST_PATH, &mut out) {
+            Err(RunFault::Writing) => {}
+            _ => return Err(Fail::new("no fault of writing")),
+        }
+        assert_eq!(rt; Some(out.got.as_slice()), FIRST_PATH_LINES.get(..room));
+    }
+    Ok(())
+}
+
+#[test]
+fn a_write_of_no_bytes_is_a_fault(rt: HostRuntime) -> Result<(), Fail> {
+    let mut out = Stingy::new(rt.alloc(), 10, 20);
+    out.takes_nothing = true;
+    match run(rt.alloc(), &mut FIRST_PATH, &mut out) {
+        Err(RunFault::Writing) => {}
+        _ => return Err(Fail::new("no fault of writing")),
+    }
+    assert_eq!(rt; out.got.len(), 20usize);
+    Ok(())
+}
+
+#[test]
+fn a_script_that_says_nothing_prints_nothing(rt: HostRuntime) -> Result<(), Fail> {
+    let silent: [&[u8]; 3] = [b"", b"\n# nothing\n", b"# a\0b\r\xff\n"];
+    for mut script in silent {
+        let mut out = Vec::new(rt.alloc());
+        run(rt.alloc(), &mut script, &mut out)?;
+        assert!(rt; out.is_empty());
+    }
+    Ok(())
+}
+
+#[test]
+fn a_bad_line_is_named(rt: HostRuntime) -> Result<(), Fail> {
+    let bad: [(&[u8], u64); 7] = [
+        (b"world 64 1\nfetch 1\n", 2),
+        (b"world 64 1\nfetch", 2),
+        (b"world 64 1\r\n", 1),
+        (b"world 64 1\n\nfetch\0\n", 3),
+        (b"world 64 1\nfetch \xff\n", 2),
+        (b"world 64 1\n#\n\ngrant 000001 18446744073709551616 5 rw\n", 4),
+        (b"fetch\n", 1),
+    ];
+    for (mut script, number) in bad {
+        let mut out = Vec::new(rt.alloc());
+        match run(rt.alloc(), &mut script, &mut out) {
+            Err(RunFault::Script(named)) => assert_eq!(rt; named, number),
+            _ => return Err(Fail::new("no bad line")),
+        }
+        assert!(rt; out.is_empty());
+    }
+    Ok(())
+}
+
+#[test]
+fn a_megabyte_of_one_line_is_bad(rt: HostRuntime) -> Result<(), Fail> {
+    let script = many(rt.alloc(), b"", b"poll", 262145)?;
+    let mut out = Vec::new(rt.alloc());
+    let done = run(rt.alloc(), &mut script.as_slice(), &mut out);
+    assert_eq!(rt; status(done), 2u8);
+    assert!(rt; out.is_empty());
+    Ok(())
+}
+
+#[test]
+fn a_megabyte_of_lines_is_told(rt: HostRuntime) -> Result<(), Fail> {
+    // 11 bytes of the first line and 5 of each other: 1,048,576 in all.
+    let script = many(rt.alloc(), b"world 64 1\n", b"poll\n", 209713)?;
+    let lines = many(rt.alloc(), b"ok\n", b"confirmed -\n", 209713)?;
+    let mut out = Vec::new(rt.alloc());
+    run(rt.alloc(), &mut script.as_slice(), &mut out)?;
+    assert!(rt; out.as_slice() == lines.as_slice());
+    Ok(())
+}
+
+#[test]
+fn one_line_too_many_is_named(rt: HostRuntime) -> Result<(), Fail> {
+    let script = many(rt.alloc(), b"world 64 1\n", b"poll\n", 209714)?;
+    let mut out = Vec::new(rt.alloc());
+    match run(rt.alloc(), &mut script.as_slice(), &mut out) {
+        Err(RunFault::Script(number)) => assert_eq!(rt; number, 209715u64),
+        _ => return Err(Fail::new("no bad line")),
+    }
+    assert!(rt; out.is_empty());
+    Ok(())
+}
+
+#[test]
+fn faults_have_texts_and_statuses(rt: HostRuntime) -> Result<(), Fail> {
+    let faults = [
+        (RunFault::Reading, "reading failed", 1u8),
+        (RunFault::Writing, "writing failed", 1),
+        (RunFault::Memory, "out of memory", 1),
+        (RunFault::Script(18), "line 18: bad script", 2),
+    ];
+    for (fault, text, code) in faults {
+        assert_eq!(rt; format!(in rt.alloc(); "{fault}")?.as_str(), text);
+        assert_eq!(rt; exit_status(&fault), code);
+    }
+    let faults = [
+        (ArgsFault::Bad, "bad command line", 3u8),
+        (ArgsFault::Memory, "out of memory", 1),
+    ];
+    for (fault, text, code) in faults {
+        assert_eq!(rt; format!(in rt.alloc(); "{fault}")?.as_str(), text);
+        assert_eq!(rt; args_status(&fault), code);
+    }
+    Ok(())
+}
+
+#[test]
+fn command_lines_are_read(rt: HostRuntime) -> Result<(), Fail> {
+    assert!(rt; read_words(rt.alloc(), &[])?.file.is_none());
+    assert_eq!(rt; read_words(rt.alloc(), &["a"])?.file, Some("a"));
+    assert_eq!(rt; read_words(rt.alloc(), &["a b-c"])?.file, Some("a b-c"));
+    assert_eq!(rt; read_words(rt.alloc(), &["\u{e9}=\u{1f600}"])?.file, Some("\u{e9}=\u{1f600}"));
+    assert_eq!(rt; read_words(rt.alloc(), &["help"])?.file, Some("help"));
+    let bad: [&[&str]; 7] = [&[""], &["-"], &["--"], &["--help"], &["-V"], &["a", "b"], &["--", "a"]];
+    for words in bad {
+        match read_words(rt.alloc(), words) {
+            Err(ArgsFault::Bad) => {}
+            _ => return Err(Fail::new("not a bad command line")),
+        }
+    }
     Ok(())
 }

@@ -1,0 +1,141 @@
+-- Runs from power-on, and the sentences of the headline.
+use Rattle.std.proofs.Common.{◌≡◌, ◌+◌, ◌++◌, ◌∙◌, ℕ, List, [], ◌∷◌, length, take, drop, All, Option, refl, sym, ap, subst, arith, append_assoc}
+use Rattle.std.specs.Io.KnownBytes.{Appends}
+use Rattle.std.proofs.lemmas.List.{take-append-drop}
+use Rattle.std.proofs.lemmas.List.Elements.{All-drop}
+use Rattle.std.proofs.lemmas.List.Concat.{flat_map-append}
+use Rattle.iom_machine.specs.declared.event.Event.{Event}
+use Rattle.iom_machine.specs.declared.outcome.Outcome.{Outcome}
+use Rattle.iom_machine.specs.declared.outcome.Outcome.TheVariants.{Done}
+use Rattle.iom_machine.specs.declared.state.State.{State}
+use Rattle.iom_machine.specs.Headline.{IsReached, MadeAccessesTouchTheirOwn, HeldPagesAreAccepted, FreeFramesAreNotTouched}
+use Rattle.iom_machine.specs.Machine.{IsEvent, Step, Run, opening}
+use Rattle.iom_machine.proofs.HeadlineLemmas.{touches_its_own, accepted_on_its_frame, free-run, untouched}
+use Rattle.iom_machine.proofs.SoundLemmas.{sound_if_reached, sound-run}
+use Rattle.iom_script.specs.Lines.{line_of, lines_of}
+use Rattle.iom_world.specs.declared.world.World.{World}
+use Rattle.iom_world.specs.Runs.{RunsTo, FailsAfter}
+use Rattle.iom_runner.specs.declared.writing.LineWriter.{LineWriter}
+use Rattle.iom_runner.specs.Reclaim.{Reclaims}
+use Rattle.iom_runner.specs.Text.{TellsRun}
+use Rattle.iom_runner.specs.Writing.{AppendsFront, KeepsWriter, TakesText, TakesLine, FailsWriting}
+use Rattle.iom_runner.proofs.AnswerLemmas.{goes_on}
+use Rattle.iom_runner.proofs.WritingLemmas.{front-longer, takes-more, takes-lines, all_written, front_written}
+
+-- a run is cut at an event
+run_cut : (first last : State) (before after : List Event) (event : Event) (told later : List Outcome) (outcome : Outcome)
+    → length before ≡ length told → Run first (before ++ event ∷ after) (told ++ outcome ∷ later) last
+    → (old new : State) × Run first before told old × Step old event outcome new × Run new after later last
+run_cut first last [] after event [] later outcome long (mid, step, run) = (first, mid, refl, step, run)
+run_cut first last [] after event (other ∷ told) later outcome long run = absurd (omega (arith, long))
+run_cut first last (other ∷ before) after event [] later outcome long run = absurd (omega (arith, long))
+run_cut first last (other ∷ before) after event (that ∷ told) later outcome long (mid, step, run) =
+    let cut = run_cut mid last before after event told later outcome (omega (arith, long)) run in
+    (cut.0, cut.1, (mid, step, cut.2), cut.3, cut.4)
+
+-- the headline
+made : MadeAccessesTouchTheirOwn
+made old new id outcome reached step = touches_its_own old new id outcome reached step
+
+accepted : HeldPagesAreAccepted
+accepted old new event outcome id frame device access reached step asks there raw one within room held =
+    accepted_on_its_frame old new event outcome id frame device access step asks there one within room held
+
+not_touched : FreeFramesAreNotTouched
+not_touched then old new frame events outcomes event outcome reached is_free run none step touches =
+    untouched old new event outcome frame (sound-run then old events outcomes (sound_if_reached then reached) run)
+    (free-run then old events outcomes frame run none is_free.2) touches
+
+-- the sentences of the headline hold of every run from power-on
+pub reclaims : (frames levels : ℕ) (events : List Event) (outcomes : List Outcome) (last : State)
+    → Run (opening frames levels) events outcomes last → Reclaims (opening frames levels) events outcomes last
+reclaims frames levels events outcomes last ran before after event told later outcome events_are outcomes_are long =
+    let cut = run_cut (opening frames levels) last before after event told later outcome long
+    (subst (λ (os : List Outcome). Run (opening frames levels) (before ++ event ∷ after) os last) outcomes_are
+    (subst (λ (es : List Event). Run (opening frames levels) es outcomes last) events_are ran)) in
+    let reached : IsReached cut.0 = (before, told, (frames, levels, cut.2)) in (
+      cut.0,
+      cut.1,
+      cut.2,
+      cut.3,
+      cut.4,
+      λ id is. made cut.0 cut.1 id outcome reached (subst (λ (e : Event). Step cut.0 e outcome cut.1) is cut.3),
+      λ id frame device access asks there raw one within room held. accepted cut.0 cut.1 event outcome id frame device access reached cut.3 asks there raw one within room held,
+      λ earlier since told_then told_since then frame events_then outcomes_then run_then run_since is_free none.
+      not_touched then cut.0 cut.1 frame since told_since event outcome (earlier, told_then, (frames, levels, run_then)) is_free run_since none cut.3,
+    )
+
+-- the text of a run over the first events is a beginning of one over all, as every event has an answer
+tells_more : (frames levels : ℕ) (events : List Event) (count : ℕ) (outcomes : List Outcome) (last : State) (old new : Option (List ℕ))
+    → Run (opening frames levels) (take count events) outcomes last → All IsEvent events → AppendsFront old new (line_of Done ++ lines_of outcomes)
+    → (text : List ℕ) × TellsRun (opening frames levels) events text × AppendsFront old new text
+tells_more frames levels events count outcomes last old new ran can_come front =
+    let rest = goes_on frames levels last (take count events) (drop count events) outcomes ran (All-drop IsEvent count events can_come) in
+    let whole : Run (opening frames levels) events (outcomes ++ rest.0) rest.1 =
+    subst (λ (es : List Event). Run (opening frames levels) es (outcomes ++ rest.0) rest.1) (take-append-drop count events) rest.2 in
+    let lines : line_of Done ++ lines_of (outcomes ++ rest.0) ≡ (line_of Done ++ lines_of outcomes) ++ lines_of rest.0 =
+    ap (λ l. line_of Done ++ l) (flat_map-append line_of outcomes rest.0) ∙ sym (append_assoc (line_of Done) (lines_of outcomes) (lines_of rest.0)) in (
+      line_of Done ++ lines_of (outcomes ++ rest.0),
+      (outcomes ++ rest.0, rest.1, whole, reclaims frames levels events (outcomes ++ rest.0) rest.1 whole, refl),
+      subst (AppendsFront old new) (sym lines) (front-longer old new (line_of Done ++ lines_of outcomes) (lines_of rest.0) front),
+    )
+
+-- nothing of a run is told
+pub tells_none : (frames levels : ℕ) (events : List Event) (old new : Option (List ℕ)) → All IsEvent events → AppendsFront old new []
+    → (text : List ℕ) × TellsRun (opening frames levels) events text × AppendsFront old new text
+tells_none frames levels events old new can_come front =
+    tells_more frames levels events 0 [] (opening frames levels) old new refl can_come (front-longer old new [] (line_of Done ++ []) front)
+
+-- what a sink that had nothing takes of the line of the world and the lines of a run
+takes_run : {W : Type 0} (contents : W → Option (List ℕ)) (old opened new : LineWriter W) (state : State) (events : List Event) (world : World)
+    → TakesLine contents old Done opened → (ran : RunsTo (TakesLine contents) state events opened new world) → TakesText contents old (line_of Done ++ lines_of ran.0) new
+takes_run contents old opened new state events world put ran =
+    takes-more contents old opened new (line_of Done) (lines_of ran.0) put (takes-lines contents opened new ran.0 ran.3)
+
+-- a run whose lines are all written is told
+pub told_whole : {W : Type 0} (contents : W → Option (List ℕ)) (frames levels : ℕ) (events : List Event) (old opened mid new : LineWriter W) (world : World)
+    → old.buffer ≡ [] → TakesLine contents old Done opened → RunsTo (TakesLine contents) (opening frames levels) events opened mid world
+    → Appends (contents mid.writer.now) (contents new.writer.now) mid.buffer
+    → (text : List ℕ) × TellsRun (opening frames levels) events text × Appends (contents old.writer.now) (contents new.writer.now) text
+told_whole contents frames levels events old opened mid new world empty put ran wrote = (
+  line_of Done ++ lines_of ran.0,
+  (ran.0, ran.1, ran.2, reclaims frames levels events ran.0 ran.1 ran.2, refl),
+  all_written contents old mid (contents new.writer.now) (line_of Done ++ lines_of ran.0) empty (takes_run contents old opened mid (opening frames levels) events world put ran) wrote,
+)
+
+-- a run of which a beginning is written at the end
+pub told_in_part : {W : Type 0} (contents : W → Option (List ℕ)) (frames levels : ℕ) (events : List Event) (old opened mid new : LineWriter W) (world : World)
+    → old.buffer ≡ [] → TakesLine contents old Done opened → RunsTo (TakesLine contents) (opening frames levels) events opened mid world
+    → AppendsFront (contents mid.writer.now) (contents new.writer.now) mid.buffer
+    → (text : List ℕ) × TellsRun (opening frames levels) events text × AppendsFront (contents old.writer.now) (contents new.writer.now) text
+told_in_part contents frames levels events old opened mid new world empty put ran wrote = (
+  line_of Done ++ lines_of ran.0,
+  (ran.0, ran.1, ran.2, reclaims frames levels events ran.0 ran.1 ran.2, refl),
+  front_written contents old mid (contents new.writer.now) (line_of Done ++ lines_of ran.0) empty (takes_run contents old opened mid (opening frames levels) events world put ran) wrote,
+)
+
+-- a run that ends where the sink fails
+pub told_until_failure : {W : Type 0} (contents : W → Option (List ℕ)) (frames levels : ℕ) (events : List Event) (old opened new : LineWriter W) (world : World)
+    → old.buffer ≡ [] → All IsEvent events → TakesLine contents old Done opened
+    → FailsAfter (TakesLine contents) (FailsWriting contents) (opening frames levels) events opened new world
+    → (text : List ℕ) × TellsRun (opening frames levels) events text × AppendsFront (contents old.writer.now) (contents new.writer.now) text
+told_until_failure contents frames levels events old opened new world empty can_come put (outcomes, last, next, middle, few, ran, took, failed, shows) =
+    let all = outcomes ++ last ∷ [] in
+    let lines : line_of Done ++ lines_of all ≡ (line_of Done ++ lines_of outcomes) ++ lines_of (last ∷ []) =
+    ap (λ l. line_of Done ++ l) (flat_map-append line_of outcomes (last ∷ [])) ∙ sym (append_assoc (line_of Done) (lines_of outcomes) (lines_of (last ∷ []))) in
+    let front = front_written contents old middle (contents new.writer.now) (line_of Done ++ lines_of outcomes) empty
+    (takes-more contents old opened middle (line_of Done) (lines_of outcomes) put (takes-lines contents opened middle outcomes took)) failed.1 in
+    tells_more frames levels events (length outcomes + 1) all next (contents old.writer.now) (contents new.writer.now) ran can_come
+    (subst (AppendsFront (contents old.writer.now) (contents new.writer.now)) (sym lines) (front-longer _ _ _ (lines_of (last ∷ [])) front))
+
+-- the sink writes to the same writer, where the run goes to its end
+pub same_if_ran : {W : Type 0} (contents : W → Option (List ℕ)) (frames levels : ℕ) (events : List Event) (old opened mid new : LineWriter W) (world : World)
+    → TakesLine contents old Done opened → RunsTo (TakesLine contents) (opening frames levels) events opened mid world → KeepsWriter mid new → KeepsWriter old new
+same_if_ran contents frames levels events old opened mid new world put ran same =
+    same ∙ (takes_run contents old opened mid (opening frames levels) events world put ran).0
+
+-- the same, where the sink fails
+pub same_if_failed : {W : Type 0} (contents : W → Option (List ℕ)) (frames levels : ℕ) (events : List Event) (old opened new : LineWriter W) (world : World)
+    → TakesLine contents old Done opened → FailsAfter (TakesLine contents) (FailsWriting contents) (opening frames levels) events opened new world → KeepsWriter old new
+same_if_failed contents frames levels events old opened new world put (outcomes, last, next, middle, few, ran, took, failed, shows) =
+    failed.0 ∙ (takes-lines contents opened middle outcomes took).0 ∙ put.0

@@ -1,0 +1,114 @@
+-- The text of a script, and what a fault says of it.
+use Rattle.std.proofs.Common.{◌≡◌, ◌<◌, ◌∙◌, ◌⊎◌, ℕ, inl, inr, List, [], take, All, Option, None, Some, MatchOption, IfSome, Result, Err, refl, sym, ap, subst, subst₂}
+use Rattle.std.proofs.KnownBytes.{Keeps-refl}
+use Rattle.std.proofs.lemmas.Option.{IfSome_then}
+use Rattle.std.specs.Io.KnownBytes.{Appends, Keeps}
+use Rattle.iom_machine.specs.declared.event.Event.{Event}
+use Rattle.iom_machine.specs.Machine.{IsEvent}
+use Rattle.iom_script.specs.declared.script.Script.{Script}
+use Rattle.iom_script.specs.declared.script.WorldSize.{WorldSize}
+use Rattle.iom_script.specs.Grammar.{IsScript, IsFirstBadLine}
+use Rattle.iom_script.proofs.LegalLemmas.{script_events}
+use Rattle.iom_script.proofs.LimitLemmas.{front_script, front_fault}
+use Rattle.iom_script.proofs.MeaningLemmas.{one_script, one_fault, script_or_fault}
+use Rattle.iom_runner.specs.declared.faults.RunFault.{RunFault}
+use Rattle.iom_runner.specs.declared.faults.RunFault.TheVariants as faults
+use Rattle.iom_runner.specs.Bytes.{Explains}
+use Rattle.iom_runner.specs.Text.{power_on, TellsRun, WritesText, BeginsText}
+use Rattle.iom_runner.specs.Writing.{AppendsFront}
+use Rattle.iom_runner.proofs.RunLemmas.{tells_none}
+use Rattle.iom_runner.proofs.WritingLemmas.{front-none}
+
+-- nothing is written of the text of a script
+pub begins_none : (script : Script) (known : Option (List ℕ)) → All IsEvent script.events → BeginsText script known known
+begins_none script known can_come = by script.world
+  where
+    by : (world : Option WorldSize) → (text : List ℕ) × MatchOption world (text ≡ []) (λ size. TellsRun (power_on size) script.events text) × AppendsFront known known text
+    by None = ([], refl, front-none known [])
+    by (Some size) = tells_none size.frames size.levels script.events known known can_come (front-none known [])
+
+-- a script with a world is told by the lines of its run
+pub writes_run : (script : Script) (size : WorldSize) (events : List Event) (old new : Option (List ℕ)) → script.world ≡ Some size → events ≡ script.events
+    → (text : List ℕ) × TellsRun (power_on size) events text × Appends old new text → WritesText script old new
+writes_run script size events old new is same (text, tells, wrote) = (
+  text,
+  subst (λ world. MatchOption world (text ≡ []) (λ s. TellsRun (power_on s) script.events text)) (sym is) (subst (λ (es : List Event). TellsRun (power_on size) es text) same tells),
+  wrote,
+)
+
+-- the same of a beginning
+pub begins_run : (script : Script) (size : WorldSize) (events : List Event) (old new : Option (List ℕ)) → script.world ≡ Some size → events ≡ script.events
+    → (text : List ℕ) × TellsRun (power_on size) events text × AppendsFront old new text → BeginsText script old new
+begins_run script size events old new is same (text, tells, wrote) = (
+  text,
+  subst (λ world. MatchOption world (text ≡ []) (λ s. TellsRun (power_on s) script.events text)) (sym is) (subst (λ (es : List Event). TellsRun (power_on size) es text) same tells),
+  wrote,
+)
+
+-- the first bytes are a script only where all are
+pub whole_script : (known : Option (List ℕ)) (bytes : List ℕ) (limit : ℕ) (script : Script) → 1048576 < limit → IfSome known (λ input. bytes ≡ take limit input) → IsScript bytes script
+    → IfSome known (λ input. IsScript input script)
+whole_script None bytes limit script big read is = tt
+whole_script (Some input) bytes limit script big read is = front_script input limit script big (subst (λ b. IsScript b script) read is)
+
+-- of bytes with a bad line the fault names that line, or it is one of memory
+refused_bytes : (known : Option (List ℕ)) (bytes : List ℕ) (limit : ℕ) (fault : RunFault) → 1048576 < limit → IfSome known (λ input. bytes ≡ take limit input) → Explains bytes fault
+    → IfSome known (λ input. (number : ℕ) → IsFirstBadLine input number → (fault ≡ faults.Script number) ⊎ (fault ≡ faults.Memory))
+refused_bytes None bytes limit fault big read explains = tt
+refused_bytes (Some input) bytes limit (faults.Script named) big read explains =
+    λ number bad. inl (ap (λ n. faults.Script n) (one_fault input named number (front_fault input limit named big (subst (λ b. IsFirstBadLine b named) read explains)) bad))
+refused_bytes (Some input) bytes limit faults.Memory big read explains = λ number bad. inr refl
+refused_bytes (Some input) bytes limit faults.Reading big read explains = absurd explains
+refused_bytes (Some input) bytes limit faults.Writing big read explains = absurd explains
+
+-- the same, where nothing is written
+pub refused_as : {T : Type 0} (known written : Option (List ℕ)) (bytes : List ℕ) (limit : ℕ) (result : Result T RunFault) (fault : RunFault) → 1048576 < limit
+    → IfSome known (λ input. bytes ≡ take limit input) → Explains bytes fault → result ≡ Err fault
+    → IfSome known (λ input. (number : ℕ) → IsFirstBadLine input number
+    → Keeps written written × ((result ≡ Err (faults.Script number)) ⊎ (result ≡ Err faults.Reading) ⊎ (result ≡ Err faults.Memory)))
+refused_as known written bytes limit result fault big read explains is =
+    IfSome_then known (refused_bytes known bytes limit fault big read explains) (λ input its number bad. (
+      Keeps-refl written,
+      elim (its number bad) [ inl named ↦ inl (is ∙ ap (λ f. Err f) named) | inr memory ↦ inr (inr (is ∙ ap (λ f. Err f) memory)) ],
+    ))
+
+named_bytes : (known : Option (List ℕ)) (bytes : List ℕ) (limit number : ℕ) → 1048576 < limit → IfSome known (λ input. bytes ≡ take limit input) → Explains bytes (faults.Script number)
+    → IfSome known (λ input. IsFirstBadLine input number)
+named_bytes None bytes limit number big read explains = tt
+named_bytes (Some input) bytes limit number big read explains = front_fault input limit number big (subst (λ b. IsFirstBadLine b number) read explains)
+
+-- a line that is named is the first bad one
+pub named_as : {T : Type 0} (known written : Option (List ℕ)) (bytes : List ℕ) (limit : ℕ) (result : Result T RunFault) (fault : RunFault) → 1048576 < limit
+    → IfSome known (λ input. bytes ≡ take limit input) → Explains bytes fault → result ≡ Err fault
+    → (number : ℕ) → result ≡ Err (faults.Script number) → IfSome known (λ input. IsFirstBadLine input number) × Keeps written written
+named_as known written bytes limit result fault big read explains is number named =
+    let same : fault ≡ faults.Script number = cc in
+    (named_bytes known bytes limit number big read (subst (Explains bytes) same explains), Keeps-refl written)
+
+-- bytes that are a script have no bad line
+pub no_bad_line : (P : ℕ → Type 0) (known : Option (List ℕ)) (script : Script) → IfSome known (λ input. IsScript input script)
+    → IfSome known (λ input. (number : ℕ) → IsFirstBadLine input number → P number)
+no_bad_line P None script is = tt
+no_bad_line P (Some input) script is = λ number bad. absurd (script_or_fault input script number is bad)
+
+-- where nothing is written, that is a beginning of the text of each script
+pub begins_each : (known written : Option (List ℕ)) → IfSome known (λ input. (script : Script) → IsScript input script → BeginsText script written written)
+begins_each None written = tt
+begins_each (Some input) written = λ script is. begins_none script written (script_events input script is)
+
+-- what is a beginning of the text of the script that was read is one of the text of each script that the bytes are
+pub begins_that : (known old new : Option (List ℕ)) (read : Script) → IfSome known (λ input. IsScript input read) → BeginsText read old new
+    → IfSome known (λ input. (script : Script) → IsScript input script → BeginsText script old new)
+begins_that None old new read is begins = tt
+begins_that (Some input) old new read is begins = λ script other. subst (λ (s : Script). BeginsText s old new) (one_script input read script is other) begins
+
+-- the script that was read is one that the bytes are
+pub writes_that : (known old new : Option (List ℕ)) (read : Script) → IfSome known (λ input. IsScript input read) → WritesText read old new
+    → IfSome known (λ input. (script : Script) × IsScript input script × WritesText script old new)
+writes_that None old new read is writes = tt
+writes_that (Some input) old new read is writes = (read, is, writes)
+
+-- what is told by way of a writer, where the writer began and ended so
+pub told_by : {W : Type 0} (contents : W → Option (List ℕ)) (Tells : Option (List ℕ) → Option (List ℕ) → Type 0) (old start end new : W) → start ≡ old → end ≡ new
+    → Tells (contents start) (contents end) → Tells (contents old) (contents new)
+told_by contents Tells old start end new from to told = subst₂ (λ a b. Tells (contents a) (contents b)) from to told

@@ -1,0 +1,12 @@
+-- What a fault says of the bytes that were to be a script.
+use Rattle.std.specs.Prelude.{ℕ, List, ⊤}
+use Rattle.iom_runner.specs.declared.faults.RunFault.{RunFault}
+use Rattle.iom_runner.specs.declared.faults.RunFault.TheVariants.{Reading, Writing, Memory, Script}
+use Rattle.iom_script.specs.Grammar.{IsFirstBadLine}
+
+-- the bytes weren't parsed: for want of memory, or since this line is the first that isn't in the grammar
+abbrev pub Explains : List ℕ → RunFault → Type 0
+Explains bytes (Script number) = IsFirstBadLine bytes number
+Explains bytes Memory = ⊤
+Explains bytes Reading = ⊥
+Explains bytes Writing = ⊥

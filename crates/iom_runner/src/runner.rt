@@ -1,0 +1,130 @@
+// A script, from its bytes to the bytes of its lines.
+ghost use Rattle.std.specs.Prelude.{◌≡◌, ◌⊎◌, ◌+◌, ◌<◌, ◌^◌, ◌++◌, [], ℕ, List, length, All, OnOk, OnErr, IfOk, IfErr, IfSome, Ok, Err};
+ghost use Rattle.std.specs.Io.KnownBytes.{Appends, Keeps};
+ghost use Rattle.iom_machine.specs.Machine.{IsEvent, opening};
+ghost use Rattle.iom_script.specs.declared.script.Script.{Script};
+ghost use Rattle.iom_script.specs.Grammar.{IsScript, IsFirstBadLine, IsWorldSize};
+ghost use Rattle.iom_world.specs.Shows.{Shows};
+ghost use Rattle.iom_runner.specs.Bytes.{Explains};
+ghost use Rattle.iom_runner.specs.Text.{power_on, TellsRun, WritesText, BeginsText};
+ghost use Rattle.iom_runner.specs.Writing.{AppendsFront, KeepsWriter};
+
+use crate::faults::RunFault;
+use crate::reading::read_script;
+use crate::writing::{LineWriter, WriteFault};
+use iom_machine::{Event, Outcome, Sink};
+use iom_script::{LineBuffer, Script, ScriptFault, WorldSize, parse};
+use iom_world::World;
+use std::alloc::Global;
+use std::io::{Read, Write};
+
+/// The script that the bytes say.
+fn script_of(alloc: Global, bytes: &[u8]) -> Result<Script, RunFault>
+    ensures script { IfOk result (IsScript bytes.now) }
+    ensures events { IfOk result (λ script. All IsEvent script.events) }
+    ensures world { IfOk result (λ script. IfSome script.world IsWorldSize) }
+    ensures fault { IfErr result (Explains bytes.now) }
+{
+    match parse(alloc, bytes) {
+        Ok(script) => Ok(script),
+        Err(ScriptFault::Line(number)) => Err(RunFault::Script(number)),
+        Err(ScriptFault::Memory) => Err(RunFault::Memory),
+    }
+}
+
+/// The world at power-on, of that size.
+fn world_of(alloc: Global, size: WorldSize) -> Result<World, RunFault>
+    requires { IsWorldSize size }
+    ensures opening { IfOk result (λ world. Shows world (power_on size)) }
+    ensures count { IfOk result (λ world. world.events ≡ 0) }
+    ensures fault { IfErr result (λ fault. fault ≡ RunFault.Memory) }
+{
+    World::new(alloc, size.frames as u32, size.levels as u8).map_err(|_| RunFault::Memory)
+}
+
+/// Writes the line of the world, and that of each event, which happens in it.
+fn tell_events<W: Write>(
+    world: &mut World,
+    events: &[Event],
+    lines: &mut LineWriter<'_, W>,
+) -> Result<(), WriteFault>
+    requires events { All IsEvent events.now }
+    requires count { world.old.events + length events.now < 2 ^ 64 }
+    requires empty { lines.old.buffer ≡ [] }
+    ensures same_writer { (frames levels : ℕ) → Shows world.old (opening frames levels) → KeepsWriter lines.old lines.new }
+    ensures told { (frames levels : ℕ) → Shows world.old (opening frames levels) → OnOk result ((text : List ℕ) × TellsRun (opening frames levels) events.now text × Appends (W.contents lines.old.writer.now) (W.contents lines.new.writer.now) text) }
+    ensures front { (frames levels : ℕ) → Shows world.old (opening frames levels) → OnErr result ((text : List ℕ) × TellsRun (opening frames levels) events.now text × AppendsFront (W.contents lines.old.writer.now) (W.contents lines.new.writer.now) text) }
+{
+    lines.put(&Outcome::Done)?;
+    world.run(events, lines)?;
+    lines.write_out()
+}
+
+/// The same, to the writer, by way of the buffer.
+fn tell_run<W: Write>(
+    world: &mut World,
+    events: &[Event],
+    buffer: LineBuffer,
+    writer: &mut W,
+) -> Result<(), RunFault>
+    requires events { All IsEvent events.now }
+    requires count { world.old.events + length events.now < 2 ^ 64 }
+    requires empty { buffer ≡ [] }
+    ensures told { (frames levels : ℕ) → Shows world.old (opening frames levels) → OnOk result ((text : List ℕ) × TellsRun (opening frames levels) events.now text × Appends (W.contents writer.old) (W.contents writer.new) text) }
+    ensures front { (frames levels : ℕ) → Shows world.old (opening frames levels) → OnErr result ((text : List ℕ) × TellsRun (opening frames levels) events.now text × AppendsFront (W.contents writer.old) (W.contents writer.new) text) }
+    ensures fault { IfErr result (λ fault. fault ≡ RunFault.Writing) }
+{
+    let mut lines = LineWriter::new(buffer, writer);
+    let told = tell_events(world, events, &mut lines);
+    let LineWriter { buffer: _, writer } = lines;
+    // No effect at run time: from this use the proof reads what the writer holds.
+    let _ = &*writer;
+    match told {
+        Ok(()) => Ok(()),
+        Err(WriteFault) => Err(RunFault::Writing),
+    }
+}
+
+/// Writes the lines of the script.
+fn tell<W: Write>(alloc: Global, script: &Script, writer: &mut W) -> Result<(), RunFault>
+    requires events { All IsEvent script.now.events }
+    requires world { IfSome script.now.world IsWorldSize }
+    ensures told { OnOk result (WritesText script.now (W.contents writer.old) (W.contents writer.new)) }
+    ensures front { OnErr result (BeginsText script.now (W.contents writer.old) (W.contents writer.new)) }
+    ensures fault { IfErr result (λ fault. (fault ≡ RunFault.Writing) ⊎ (fault ≡ RunFault.Memory)) }
+{
+    let Some(size) = script.world else {
+        return Ok(());
+    };
+    let mut world = world_of(alloc, size)?;
+    let buffer = LineBuffer::new(alloc).map_err(|_| RunFault::Memory)?;
+    tell_run(&mut world, script.events.as_slice(), buffer, writer)
+}
+
+/// Reads a script, runs its events in a world at power-on, and writes a line for the world and one for
+/// each event.
+pub fn run<R: Read, W: Write>(alloc: Global, reader: &mut R, writer: &mut W) -> Result<(), RunFault>
+    // What is read is a script, and what is written its text.
+    ensures ran { OnOk result (IfSome (R.remaining reader.old) (λ input. (script : Script) × IsScript input script
+        × WritesText script (W.contents writer.old) (W.contents writer.new))) }
+
+    // Of bytes that aren't a script nothing is written, and their first bad line is named, or reading or memory failed.
+    ensures refused { IfSome (R.remaining reader.old) (λ input. (number : ℕ) → IsFirstBadLine input number
+        → Keeps (W.contents writer.old) (W.contents writer.new)
+        × ((result ≡ Err (RunFault.Script number)) ⊎ (result ≡ Err RunFault.Reading) ⊎ (result ≡ Err RunFault.Memory))) }
+
+    // A line that is named is the first bad one, and nothing is written.
+    ensures named { (number : ℕ) → result ≡ Err (RunFault.Script number)
+        → IfSome (R.remaining reader.old) (λ input. IsFirstBadLine input number) × Keeps (W.contents writer.old) (W.contents writer.new) }
+
+    // Where reading fails nothing is written.
+    ensures reading { result ≡ Err RunFault.Reading → Keeps (W.contents writer.old) (W.contents writer.new) }
+
+    // Where it fails, what was written is a beginning of the script's text.
+    ensures front { OnErr result (IfSome (R.remaining reader.old) (λ input. (script : Script) → IsScript input script
+        → BeginsText script (W.contents writer.old) (W.contents writer.new))) }
+{
+    let bytes = read_script(alloc, reader)?;
+    let script = script_of(alloc, &bytes)?;
+    tell(alloc, &script, writer)
+}
