@@ -62,6 +62,7 @@ impl InFlight {
     }
 
     /// The oldest, which is made next.
+    #[tactic(auto, using(crate::proofs::FlightLemmas::oldest_of))]
     pub fn oldest(&self) -> Option<Accepted>
         ensures { result ≡ option_map described (slice_get self.now 0) }
     {
@@ -104,7 +105,7 @@ impl InFlight {
         requires { OldestIsRead self.old }
         ensures { self.new ≡ drop 1 self.old }
     {
-        self.waiting.pop_front();
+        let _made = self.waiting.pop_front();
     }
 
     /// The oldest is a write: its bytes come out, and it is no more in flight.

@@ -143,6 +143,27 @@ impl Driver {
         Ok(usize::from(upper) + usize::from(lower))
     }
 
+    /// How many tables it takes that this comes of the event, and which frame is passed over.
+    fn tables_wanted(
+        &mut self,
+        event: &Event,
+        outcome: &Outcome,
+    ) -> Result<(usize, Option<u64>), AllocError> {
+        match (event, outcome) {
+            (Event::AttachFirst { .. }, Outcome::Done) => Ok((1, None)),
+            (
+                Event::Grant {
+                    device,
+                    page,
+                    frame,
+                    ..
+                },
+                Outcome::Done,
+            ) => Ok((self.add_tables(*device, *page)?, Some(*frame))),
+            _ => Ok((0, None)),
+        }
+    }
+
     /// What the driver and the IOMMU choose where this comes of the event.
     pub(crate) fn choose(
         &mut self,
@@ -152,41 +173,24 @@ impl Driver {
         outcome: &Outcome,
     ) -> Result<Choice, AllocError> {
         let reaches = reaches_of(alloc, state.history.as_slice())?;
-        let mut choice = Choice {
-            taken: Sequence::new(alloc),
-            frame: 0,
+        let (count, named) = self.tables_wanted(event, outcome)?;
+        let taken = highest_free(alloc, state, &reaches, named, count)?;
+        let frame = match event {
+            Event::Read {
+                device,
+                address,
+                ..
+            } => frame_at(&reaches, *device, *address / 4096),
+            Event::Write {
+                device,
+                address,
+                ..
+            } => frame_at(&reaches, *device, *address / 4096),
+            _ => None,
         };
-        match (event, outcome) {
-            (Event::AttachFirst { .. }, Outcome::Done) => {
-                choice.taken = highest_free(alloc, state, &reaches, None, 1)?;
-            }
-            (
-                Event::Grant {
-                    device,
-                    page,
-                    frame,
-                    ..
-                },
-                Outcome::Done,
-            ) => {
-                let count = self.add_tables(*device, *page)?;
-                choice.taken = highest_free(alloc, state, &reaches, Some(*frame), count)?;
-            }
-            (
-                Event::Read {
-                    device,
-                    address,
-                    ..
-                }
-                | Event::Write {
-                    device,
-                    address,
-                    ..
-                },
-                Outcome::Accepted(_),
-            ) => choice.frame = frame_at(&reaches, *device, *address / 4096).unwrap_or(0),
-            _ => {}
-        }
-        Ok(choice)
+        Ok(Choice {
+            taken,
+            frame: frame.unwrap_or(0),
+        })
     }
 }

@@ -1,8 +1,10 @@
 use super::*;
+use crate::outcomes::read_outcomes;
+use std::alloc::Global;
 use std::test::Fail;
 
 #[test]
-fn a_row_of_the_index_is_read(rt: HostRuntime) -> Result<(), Fail> {
+fn rows_of_the_index_are_read(rt: HostRuntime) -> Result<(), Fail> {
     match Row::parse("b.out\ta.script\tunlawful at line 12\t9") {
         Some(row) => {
             assert!(rt; row.output == "b.out" && row.script == "a.script");
@@ -14,7 +16,96 @@ fn a_row_of_the_index_is_read(rt: HostRuntime) -> Result<(), Fail> {
                 }
             );
         }
-        None => return Err(Fail::new("no row")),
+        None => return Err(Fail::new("not read")),
+    }
+    assert!(rt; Row::parse("b.out\ta.script\tlawful\t-").is_some());
+    assert!(rt; Row::parse("b.out\ta.script\tlawful\t9").is_none());
+    assert!(rt; Row::parse("b.out\ta.script\tunlawful\t9").is_none());
+    assert!(rt; Row::parse("b.out\ta.script").is_none());
+    Ok(())
+}
+
+/// How many lines of the output are read, its first one not counted.
+fn lines_read(alloc: Global, output: &str) -> Result<usize, Fail> {
+    let mut printed = LineBuffer::new(alloc)?;
+    let text = output.strip_prefix("ok\n").unwrap_or(output);
+    let (outcomes, _rest) = read_outcomes(alloc, &mut printed, output, text.as_bytes())?;
+    Ok(outcomes.len())
+}
+
+/// Each form of a line.
+const LINES: &str =
+    "ok\nok\nrefused 12 TooManyPending\nticket 4294967295\nconfirmed 1-256\nconfirmed -\ndid iotinval.vma\ndid iotinval.gvma\ndid iofence.c\ndid iodir.inval_ddt\ndid ats.inval\nwaiting\nempty\nstopped\naccepted 18446744073709551615\nbusy\nbadspan\nfault 260\nread 00af\nwrote 4096\nnone\n";
+
+/// Lines that tell no outcome.
+const NO_LINES: [&str; 20] = [
+    "",
+    "Ok",
+    "ok ",
+    "ok 1",
+    "refused 3 NoSuchDevice",
+    "refused NoSuchDevice",
+    "refused 24 Other",
+    "ticket",
+    "ticket 01",
+    "ticket +1",
+    "ticket 4294967296",
+    "confirmed 1",
+    "confirmed 1-",
+    "did nothing",
+    "fault 14",
+    "fault  13",
+    "read 0",
+    "read AF",
+    "read +1",
+    "none\r",
+];
+
+#[test]
+fn each_form_of_a_line_is_read_and_no_other(rt: HostRuntime) -> Result<(), Fail> {
+    assert_eq!(rt; lines_read(rt.alloc(), LINES)?, 20);
+    for line in NO_LINES {
+        let output = format!(in rt.alloc(); "ok\n{line}\n")?;
+        assert_eq!(rt; lines_read(rt.alloc(), output.as_str())?, 0, "at {line}");
+    }
+    // the last line has no line feed
+    assert_eq!(rt; lines_read(rt.alloc(), "ok\nok\nbusy")?, 1);
+    Ok(())
+}
+
+const SCRIPT: &[u8] =
+    b"world 64 1\ndevice 000001 raw\nattach 000001 first\ngrant 000001 3 5 rw\nread 000001 0x3ffc 4\n";
+
+/// Outputs of that script, each with what is found of it.
+const OUTPUTS: [(&str, Found); 7] = [
+    ("ok\nok\nok\nok\naccepted 1\n", Found::Lawful),
+    (
+        "busy\nok\nok\nok\naccepted 1\n",
+        Found::Unlawful { line: 1 },
+    ),
+    ("ok\nok\nok\nok\nfault 13\n", Found::Unlawful { line: 5 }),
+    (
+        "ok\nok\nok\nrefused 10 NoFrames\naccepted 1\n",
+        Found::Unlawful { line: 4 },
+    ),
+    ("ok\nok\nok\nOK\naccepted 1\n", Found::Unread { line: 4 }),
+    ("ok\nok\nok\nok\n", Found::Unread { line: 5 }),
+    (
+        "ok\nok\nok\nok\naccepted 1\nok\n",
+        Found::Unread { line: 6 },
+    ),
+];
+
+#[test]
+fn outputs_are_judged(rt: HostRuntime) -> Result<(), Fail> {
+    let script = iom_script::parse(rt.alloc(), SCRIPT)?;
+    let mut printed = LineBuffer::new(rt.alloc())?;
+    for (output, found) in OUTPUTS {
+        assert_eq!(rt;
+            judge_output(rt.alloc(), &mut printed, &script, output)?,
+            found,
+            "at {output}"
+        );
     }
     Ok(())
 }

@@ -150,13 +150,9 @@ fn confirmed(ticket: u32) -> Entry {
     Entry::Confirmed { ticket }
 }
 
-#[test]
-fn each_lookup_answers_what_the_history_says(rt: HostRuntime) -> Result<(), Fail> {
-    let mut ledger = Ledger::new(rt.alloc(), 8)?;
-    let first = answers(rt.alloc(), &ledger)?;
-    assert_eq!(rt; first.as_str(), "- - - free 5 6 7 holds lingers waiting 0");
-    // Each entry, with what the history leaves then, worked out by hand.
-    let walk = [
+/// Entries, each with what the history leaves then, worked out by hand.
+fn first_entries<'a>() -> [(Entry, &'a str); 7] {
+    [
         (
             granted(1, 16, 5, Rights::RW),
             "5rw - - free 6 7 holds 1 lingers waiting 0",
@@ -182,6 +178,12 @@ fn each_lookup_answers_what_the_history_says(rt: HostRuntime) -> Result<(), Fail
             "(5rw) 6r (5r) free 7 holds 1 lingers 1 2 waiting 2",
         ),
         (confirmed(1), "- 6r (5r) free 7 holds 1 lingers 2 waiting 1"),
+    ]
+}
+
+/// The entries after those.
+fn later_entries<'a>() -> [(Entry, &'a str); 7] {
+    [
         (
             granted(1, 16, 7, Rights::RW),
             "7rw 6r (5r) free holds 1 lingers 2 waiting 1",
@@ -204,11 +206,15 @@ fn each_lookup_answers_what_the_history_says(rt: HostRuntime) -> Result<(), Fail
             granted(2, 16, 6, Rights::RW),
             "- - 6rw free 5 7 holds 2 lingers waiting 0",
         ),
-    ];
-    for (entry, expected) in walk {
-        bring_about(&mut ledger, entry)?;
-        let line = answers(rt.alloc(), &ledger)?;
-        assert_eq!(rt; line.as_str(), expected);
+    ]
+}
+
+/// Brings the entries about, and looks everything up after each.
+fn follow(rt: &HostRuntime, ledger: &mut Ledger, entries: &[(Entry, &str)]) -> Result<(), Fail> {
+    for (entry, expected) in entries {
+        bring_about(ledger, *entry)?;
+        let line = answers(rt.alloc(), ledger)?;
+        assert_eq!(rt; line.as_str(), *expected);
     }
     Ok(())
 }
@@ -246,6 +252,15 @@ fn a_frame_of_two_devices_is_free_after_the_last_confirmation(rt: HostRuntime) -
     assert!(rt; ledger.is_free(6));
     assert!(rt; ledger.is_free(u32::MAX));
     Ok(())
+}
+
+#[test]
+fn each_lookup_answers_what_the_history_says(rt: HostRuntime) -> Result<(), Fail> {
+    let mut ledger = Ledger::new(rt.alloc(), 8)?;
+    let first = answers(rt.alloc(), &ledger)?;
+    assert_eq!(rt; first.as_str(), "- - - free 5 6 7 holds lingers waiting 0");
+    follow(&rt, &mut ledger, &first_entries())?;
+    follow(&rt, &mut ledger, &later_entries())
 }
 
 #[test]

@@ -230,6 +230,7 @@ const STALE_BUT_LAWFUL: [(Does, Comes); 9] = [
 #[test]
 fn the_worked_rows_are_lawful(rt: HostRuntime) -> Result<(), Fail> {
     let alloc = rt.alloc();
+    // `empty-script` and the lawful part of `script-fault` have no event
     assert_eq!(rt; first_unlawful(alloc, &[])?, None);
     assert_eq!(rt; first_unlawful(alloc, &FIRST_PATH)?, None);
     assert_eq!(rt; first_unlawful(alloc, &BUSY)?, None);
@@ -260,17 +261,25 @@ const BASE: [(Does, Comes); 17] = [
 ];
 
 /// A line of that run, and what it is changed to, which may not come there.
-const CHANGED_CALLS: [(usize, Does, Comes); 18] = [
+const CHANGED_CALLS: [(usize, Does, Comes); 20] = [
     // refused without a reason
     (0, Does::Plug(1), Comes::Refused(Refusal::TooManyDevices)),
     // plugged in twice
     (1, Does::Plug(1), Comes::Done),
-    // a refusal out of order
+    // another refusal than the one that applies
     (
         1,
         Does::Attach(2, &[]),
         Comes::Refused(Refusal::NotAttached),
     ),
+    // a device that isn't plugged in comes before an id that is too wide
+    (
+        1,
+        Does::Attach(200, &[]),
+        Comes::Refused(Refusal::IdTooWide),
+    ),
+    // a device that isn't attached comes before a page that isn't held
+    (1, Does::Release(1, 3), Comes::Refused(Refusal::NotGranted)),
     // a table in a reserved frame
     (1, Does::Attach(1, &[60]), Comes::Done),
     // plenty of free frames
@@ -281,7 +290,7 @@ const CHANGED_CALLS: [(usize, Does, Comes); 18] = [
     (1, Does::Grant(1, 3, 5, Rights::RW, &[]), Comes::Done),
     // a reserved frame granted
     (2, Does::Grant(1, 3, 59, Rights::RW, &[]), Comes::Done),
-    // the page is judged before the frame
+    // a reserved frame comes before a page that is out of range
     (
         2,
         Does::Grant(1, 67108864, 60, Rights::RW, &[]),
@@ -358,7 +367,7 @@ const CHANGED_REQUESTS: [(usize, Does, Comes); 10] = [
     ),
 ];
 
-const CHANGED_COMMITS_AND_POLLS: [(usize, Does, Comes); 10] = [
+const CHANGED_COMMITS_AND_POLLS: [(usize, Does, Comes); 11] = [
     // a byte more
     (5, Does::Commit(1), Comes::Read(&[0, 0, 0, 0, 0])),
     // another byte
@@ -369,6 +378,8 @@ const CHANGED_COMMITS_AND_POLLS: [(usize, Does, Comes); 10] = [
     (7, Does::Commit(1), Comes::Wrote(3)),
     // a write gives no bytes
     (7, Does::Commit(1), Comes::Read(&[7, 8])),
+    // a byte less
+    (11, Does::Commit(1), Comes::Read(&[7])),
     // the bytes of another frame
     (11, Does::Commit(1), Comes::Read(&[0, 0])),
     // nothing is in flight
@@ -390,11 +401,12 @@ fn first_unlawful_of(
 ) -> Result<Option<usize>, Fail> {
     let mut made = Vec::new(alloc);
     for (number, (base_does, base_comes)) in BASE.iter().enumerate() {
-        if number < place {
+        if number == place {
+            made.push(line_of(alloc, does, comes)?)?;
+        } else {
             made.push(line_of(alloc, *base_does, *base_comes)?)?;
         }
     }
-    made.push(line_of(alloc, does, comes)?)?;
     judged(alloc, &made)
 }
 

@@ -25,14 +25,22 @@ fn empty(rt: &(impl Abort + AllocGlobal)) -> Memory
 }
 
 // Maps the page, its tables in the highest spare frames, those below `top`; gives what is spare then.
-fn map_page(rt: &impl Abort, memory: &mut Memory, top: u32, page: u64, leaf: PageLeaf) -> u32
+fn map_page(
+    rt: &impl Abort,
+    memory: &mut Memory,
+    top: u32,
+    page: u64,
+    frame: u32,
+    rights: Rights,
+) -> u32
     requires page { page < 2 ^ 26 }
-    requires rights { (leaf.rights ≡ r) ⊎ (leaf.rights ≡ rw) }
+    requires rights { (rights ≡ r) ⊎ (rights ≡ rw) }
     requires tree { IsRoot memory.old 59 }
     requires spare { (f : ℕ) → f < top → (slice_get memory.old f ≡ Some zeroed) × (HasTable memory.old 59 f → ⊥) }
     ensures tree { IsRoot memory.new 59 }
     ensures spare { (f : ℕ) → f < result → (slice_get memory.new f ≡ Some zeroed) × (HasTable memory.new 59 f → ⊥) }
 {
+    let leaf = PageLeaf { frame, rights };
     assert!(rt; !is_mapped(memory, ROOT, page));
     let lacking = missing(memory, ROOT, page);
     assert!(rt; 2 <= top);
@@ -70,16 +78,7 @@ fn fault(cause: Cause) -> Result<Walked, WalkFault> {
 #[test]
 fn a_page_has_the_bytes_of_a_dump(rt: HostRuntime) {
     let mut memory = empty(&rt);
-    let top = map_page(
-        &rt,
-        &mut memory,
-        59,
-        3,
-        PageLeaf {
-            frame: 5,
-            rights: Rights::RW,
-        },
-    );
+    let top = map_page(&rt, &mut memory, 59, 3, 5, Rights::RW);
     assert_eq!(rt; top, 57);
     assert_eq!(rt; memory.load_u64(0x3_b000), Some(0xe801));
     assert_eq!(rt; memory.load_u64(0x3_a000), Some(0xe401));
@@ -103,48 +102,12 @@ fn a_page_has_the_bytes_of_a_dump(rt: HostRuntime) {
 #[test]
 fn pages_share_tables(rt: HostRuntime) {
     let mut memory = empty(&rt);
-    let top = map_page(
-        &rt,
-        &mut memory,
-        59,
-        3,
-        PageLeaf {
-            frame: 5,
-            rights: Rights::RW,
-        },
-    );
-    let top = map_page(
-        &rt,
-        &mut memory,
-        top,
-        4,
-        PageLeaf {
-            frame: 6,
-            rights: Rights::R,
-        },
-    );
+    let top = map_page(&rt, &mut memory, 59, 3, 5, Rights::RW);
+    let top = map_page(&rt, &mut memory, top, 4, 6, Rights::R);
     assert_eq!(rt; top, 57);
-    let top = map_page(
-        &rt,
-        &mut memory,
-        top,
-        515,
-        PageLeaf {
-            frame: 7,
-            rights: Rights::R,
-        },
-    );
+    let top = map_page(&rt, &mut memory, top, 515, 7, Rights::R);
     assert_eq!(rt; top, 56);
-    let top = map_page(
-        &rt,
-        &mut memory,
-        top,
-        262_147,
-        PageLeaf {
-            frame: 8,
-            rights: Rights::RW,
-        },
-    );
+    let top = map_page(&rt, &mut memory, top, 262_147, 8, Rights::RW);
     assert_eq!(rt; top, 54);
     unmap(&mut memory, ROOT, 4);
     unmap(&mut memory, ROOT, 5);
@@ -173,26 +136,8 @@ fn pages_share_tables(rt: HostRuntime) {
 #[test]
 fn the_first_and_the_last_page_are_mapped(rt: HostRuntime) {
     let mut memory = empty(&rt);
-    let top = map_page(
-        &rt,
-        &mut memory,
-        59,
-        0,
-        PageLeaf {
-            frame: 5,
-            rights: Rights::RW,
-        },
-    );
-    let top = map_page(
-        &rt,
-        &mut memory,
-        top,
-        67_108_863,
-        PageLeaf {
-            frame: 5,
-            rights: Rights::R,
-        },
-    );
+    let top = map_page(&rt, &mut memory, 59, 0, 5, Rights::RW);
+    let top = map_page(&rt, &mut memory, top, 67_108_863, 5, Rights::R);
     assert_eq!(rt; top, 55);
     assert_eq!(rt;
         walk_first(&memory, 59, 0, AccessKind::Write),

@@ -9,6 +9,22 @@ use iom_machine::{Choice, Event, Outcome, Sequence, judge, power_on};
 use std::alloc::{AllocError, Global};
 use std::test::Fail;
 
+/// A write of so many bytes, the numbers from 0 on.
+fn write(alloc: Global, device: DeviceId, address: u64, len: u64) -> Result<Event, AllocError>
+    requires { len < 256 }
+    ensures { IfOk result (λ event. IsEvent event) }
+{
+    let mut bytes = Sequence::new(alloc);
+    for number in 0..len {
+        bytes.push(number as u8)?;
+    }
+    Ok(Event::Write {
+        device,
+        address,
+        bytes,
+    })
+}
+
 /// Numbers that look random: a linear congruential generator.
 #[derive(Drop)]
 struct Draw {
@@ -59,17 +75,7 @@ impl Draw {
                 address,
                 len,
             }),
-            9 => {
-                let mut bytes = Sequence::new(alloc);
-                for number in 0..len {
-                    bytes.push(number as u8)?;
-                }
-                Ok(Event::Write {
-                    device,
-                    address,
-                    bytes,
-                })
-            }
+            9 => write(alloc, device, address, len),
             _ => Ok(Event::Commit { device }),
         }
     }
