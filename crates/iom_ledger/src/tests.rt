@@ -1,6 +1,7 @@
 use super::*;
 use iom_base::{DeviceId, Rights};
 use std::alloc::{AllocError, Global};
+use std::process::Abort;
 use std::test::Fail;
 
 /// The line of each refusal, in the order of their numbers.
@@ -210,7 +211,11 @@ fn later_entries<'a>() -> [(Entry, &'a str); 7] {
 }
 
 /// Brings the entries about, and looks everything up after each.
-fn follow(rt: &HostRuntime, ledger: &mut Ledger, entries: &[(Entry, &str)]) -> Result<(), Fail> {
+fn follow(
+    rt: &(impl Abort + AllocGlobal),
+    ledger: &mut Ledger,
+    entries: &[(Entry, &str)],
+) -> Result<(), Fail> {
     for (entry, expected) in entries {
         bring_about(ledger, *entry)?;
         let line = answers(rt.alloc(), ledger)?;
