@@ -13,6 +13,7 @@ use crate::row::{Pending, Row};
 use circular_buffer::HeapCircularBuffer;
 use indexmap::IndexMap;
 use iom_base::{DeviceId, Rights};
+use iom_frame_set::FrameSet;
 use std::alloc::{AllocError, Global};
 
 /// The most tickets that wait at a time.
@@ -33,6 +34,7 @@ pub struct Ledger {
 }
 
 impl Ledger {
+    ghost use Rattle.iom_frame_set.specs.Sets.{has};
     ghost use Rattle.std.specs.Prelude.{◌↔◌, ◌<◌, ◌≤◌, ℕ, List, [], ◌∷◌, Contains, length, false, not, IsTrue, IsSome, IfOk, OnOk, OnErr, Some, None};
     ghost use Rattle.iom_ledger.specs.declared.entry.Entry.TheVariants.{Granted, Released, AllReleased, Confirmed};
     ghost use Rattle.iom_ledger.specs.History.{History, Pair, confirms, held_at, lingering_at, Holds, Lingers, IsFree};
@@ -92,6 +94,13 @@ impl Ledger {
         ensures free { (h : History) → Agrees self.now h → IsTrue result ↔ IsFree h frame }
     {
         self.counts.count(frame) == 0
+    }
+
+    /// The frames that some device holds or lingers on.
+    pub fn named_frames(&self) -> &FrameSet
+        ensures { (frame : ℕ) → (has result.now frame ≡ false) ↔ IsFreeIn self.now frame }
+    {
+        self.counts.named()
     }
 
     /// Whether the device holds some page.

@@ -1,6 +1,7 @@
 -- Marks of reserved frames, and free frames.
-use Rattle.std.specs.Prelude.{◌≡◌, ◌≢◌, ℕ, ◌-◌, ◌<◌, ◌≤◌, Bool, false, List, ◌++◌, replicate, Option, None, Some, is_some, slice_get}
+use Rattle.std.specs.Prelude.{◌≡◌, ◌≢◌, ℕ, ◌-◌, ◌<◌, ◌≤◌, Bool, false, List, ◌++◌, length, replicate, Option, None, Some, is_some, slice_get}
 use Rattle.std.specs.Option.{option_map_or}
+use Rattle.iom_frame_set.specs.Sets.{has, room}
 use Rattle.iom_ledger.specs.declared.ledger.Ledger.{Ledger}
 use Rattle.iom_ledger.specs.Shown.{IsFreeIn}
 use Rattle.iom_table_frames.specs.declared.table_frames.Owner.{Owner}
@@ -30,3 +31,8 @@ pub record IsHighestFree (marks : List (Option Owner)) (ledger : Ledger) (named 
   pub below : frame < limit
   pub free : IsFreeBesides marks ledger named frame
   pub highest : (higher : ℕ) → frame < higher → higher < limit → ¬ IsFreeBesides marks ledger named higher
+
+-- the set has the frames that are reserved, and room for each that has a mark
+pub record IsReservedSet (marks : List (Option Owner)) (reserved : List ℕ) : Type 0 where
+  pub has_reserved : (frame : ℕ) → has reserved frame ≡ is_reserved marks frame
+  pub roomy : length marks ≤ room reserved

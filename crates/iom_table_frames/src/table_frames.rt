@@ -3,10 +3,11 @@ ghost use Rattle.iom_base.specs.declared.access.AccessKind.{AccessKind};
 ghost use Rattle.iom_phys_mem.specs.Words.{zeroed};
 ghost use Rattle.iom_ledger.specs.History.{History};
 ghost use Rattle.iom_ledger.specs.Shown.{Agrees, IsFreeIn};
-ghost use Rattle.iom_table_frames.specs.Marks.{is_reserved, opening_marks, IsFreeBesides, NoneIsFree, IsHighestFree};
+ghost use Rattle.iom_table_frames.specs.Marks.{is_reserved, opening_marks, NoneIsFree, IsHighestFree};
 ghost use Rattle.iom_table_frames.specs.declared.table_frames.Owner.TheVariants as owner;
 
 use iom_base::DeviceId;
+use iom_frame_set::FrameSet;
 use iom_ledger::Ledger;
 use iom_phys_mem::{Bytes, Memory};
 use std::alloc::{AllocError, Global};
@@ -25,6 +26,7 @@ pub enum Owner {
 #[derive(Drop)]
 pub struct TableFrames {
     marks: Vec<Option<Owner>>,
+    reserved: FrameSet,
 }
 
 impl Model for TableFrames {
@@ -34,6 +36,10 @@ impl Model for TableFrames {
     ghost Value = { List (Option Owner) };
 
     ghost view = { λ t. t.marks.items };
+
+    ghost use Rattle.iom_table_frames.specs.Marks.{IsReservedSet};
+
+    ghost invariant = { λ t. IsReservedSet t.marks.items t.reserved };
 }
 
 impl TableFrames {
@@ -43,13 +49,16 @@ impl TableFrames {
         ensures { IfOk result (λ marks. marks ≡ opening_marks frames) }
     {
         let mut marks = Vec::with_capacity(alloc, frames as usize)?;
+        let mut reserved = FrameSet::new(alloc);
+        reserved.make_room(frames)?;
         for free in 0..frames - 4 {
             marks.push(None)?;
         }
         for fixed in 0..4u32 {
             marks.push(Some(Owner::System))?;
+            reserved.insert(frames - 4 + fixed);
         }
-        Ok(TableFrames { marks })
+        Ok(TableFrames { marks, reserved })
     }
 
     /// Whether the frame is reserved; false outside memory.
@@ -62,30 +71,15 @@ impl TableFrames {
         }
     }
 
-    fn is_free_besides(&self, ledger: &Ledger, named: Option<u32>, frame: u32) -> bool
-        ensures { IsTrue result ↔ IsFreeBesides self.now ledger.now named frame }
-    {
-        if named == Some(frame) {
-            return false;
-        }
-        if self.is_reserved(frame) {
-            return false;
-        }
-        ledger.is_free(frame)
-    }
-
     /// The highest free frame below the limit, which isn't the named one: free is what is neither
-    /// reserved nor held, nor released and not confirmed, by any device. Each frame is looked at once.
+    /// reserved nor held, nor released and not confirmed, by any device. Looks at two words for 64 frames,
+    /// whatever is granted.
     pub fn highest_free(&self, ledger: &Ledger, limit: u32, named: Option<u32>) -> Option<u32>
         requires { limit ≤ length self.now }
         ensures { MatchOption result (NoneIsFree self.now ledger.now named 0 limit) (IsHighestFree self.now ledger.now named limit) }
     {
-        for frame in (0..limit).rev() {
-            if self.is_free_besides(ledger, named, frame) {
-                return Some(frame);
-            }
-        }
-        None
+        self.reserved
+            .highest_outside(ledger.named_frames(), limit, named)
     }
 
     /// Reserves the frame for the device's tables, and makes its bytes zero.
@@ -96,6 +90,7 @@ impl TableFrames {
         ensures zero { memory.new ≡ slice_set memory.old frame zeroed }
     {
         self.marks[frame as usize] = Some(Owner::OneDevice(device));
+        self.reserved.insert(frame);
         if let Some(bytes) = memory.frame_mut(frame) {
             *bytes = [0; 4096];
         }
