@@ -62,7 +62,7 @@ reclaims frames levels events outcomes last ran before after event told later ou
       λ id is. made cut.0 cut.1 id outcome reached (subst (λ (e : Event). Step cut.0 e outcome cut.1) is cut.3),
       λ id frame device access asks there raw one within room held. accepted cut.0 cut.1 event outcome id frame device access reached cut.3 asks there raw one within room held,
       λ earlier since told_then told_since then frame events_then outcomes_then run_then run_since is_free none.
-      not_touched then cut.0 cut.1 frame since told_since event outcome (earlier, told_then, (frames, levels, run_then)) is_free run_since none cut.3,
+          not_touched then cut.0 cut.1 frame since told_since event outcome (earlier, told_then, (frames, levels, run_then)) is_free run_since none cut.3,
     )
 
 -- the text of a run over the first events is a beginning of one over all, as every event has an answer

@@ -39,7 +39,7 @@ takes-more contents old mid new text more (same, written, wrote, is) (same_later
   written ++ written_later,
   Appends-trans _ _ _ written written_later wrote wrote_later,
   sym (append_assoc old.buffer text more) ∙ ap (λ l. l ++ more) is ∙ append_assoc written mid.buffer more ∙ ap (λ l. written ++ l) is_later
-  ∙ sym (append_assoc written written_later new.buffer),
+      ∙ sym (append_assoc written written_later new.buffer),
 )
 
 -- a sink takes the lines of outcomes
@@ -75,7 +75,7 @@ writes_some old mid new bytes written rest count wrote is more =
       written ++ take count rest,
       Appends-trans old mid new written (take count rest) wrote more,
       is ∙ ap (λ l. written ++ l) (sym (take-append-drop count rest) ∙ ap (λ l. take count rest ++ l) (sym left))
-      ∙ sym (append_assoc written (take count rest) (take (length rest - count) (drop count rest))),
+          ∙ sym (append_assoc written (take count rest) (take (length rest - count) (drop count rest))),
     )
 
 -- none is

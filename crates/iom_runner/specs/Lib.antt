@@ -3,3 +3,4 @@ pub mod Writing
 pub mod Reclaim
 pub mod Text
 pub mod Bytes
+pub mod CommandLine

@@ -40,6 +40,6 @@ Reclaims first events outcomes last =
     (before after : List Event) (event : Event) (told later : List Outcome) (outcome : Outcome)
     → events ≡ before ++ event ∷ after → outcomes ≡ told ++ outcome ∷ later → length before ≡ length told
     → (old new : State) × Run first before told old × Step old event outcome new × Run new after later last
-      × MadeAccessTouchesItsOwn old event outcome new
-      × HeldPageIsAccepted old event outcome new
-      × FreeFrameIsNotTouched first before told old event outcome
+    × MadeAccessTouchesItsOwn old event outcome new
+    × HeldPageIsAccepted old event outcome new
+    × FreeFrameIsNotTouched first before told old event outcome

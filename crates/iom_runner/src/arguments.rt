@@ -1,5 +1,6 @@
 // What a command line says.
-ghost use Rattle.std.specs.Prelude.{◌≡◌};
+ghost use Rattle.std.specs.Prelude.{◌≡◌, ◌≢◌, true, map, IsOk, Err};
+ghost use Rattle.iom_runner.specs.CommandLine.{is_file, is_command_line};
 
 use crate::faults::ArgsFault;
 use clap::error::ErrorKind;
@@ -14,12 +15,19 @@ pub struct Args<'a> {
 }
 
 /// Whether the word can name a file: it isn't empty, and doesn't begin with `-`.
-fn is_file(word: &str) -> bool {
-    !word.is_empty() && !word.starts_with('-')
+fn is_file(word: &str) -> bool
+    ensures { result ≡ is_file word.now }
+{
+    match word.as_bytes() {
+        [] => false,
+        [first, ..] => *first != b'-',
+    }
 }
 
 /// Whether the words are a lawful command line: none, or a file.
-fn is_lawful(words: &[&str]) -> bool {
+fn is_lawful(words: &[&str]) -> bool
+    ensures { result ≡ is_command_line (map (λ word. word.now) words.now) }
+{
     match words {
         [] => true,
         [file] => is_file(file),
@@ -28,7 +36,11 @@ fn is_lawful(words: &[&str]) -> bool {
 }
 
 /// What the words after the program's name say: nothing, or a file.
-pub fn read_words<'a>(alloc: Global, words: &'a [&'a str]) -> Result<Args<'a>, ArgsFault> {
+pub fn read_words<'a>(alloc: Global, words: &'a [&'a str]) -> Result<Args<'a>, ArgsFault>
+    // Only a lawful command line is read, and any other is a bad one.
+    ensures lawful { IsOk result → is_command_line (map (λ word. word.now) words.entry.now) ≡ true }
+    ensures unlawful { is_command_line (map (λ word. word.now) words.entry.now) ≢ true → result ≡ Err ArgsFault.Bad }
+{
     if !is_lawful(words) {
         return Err(ArgsFault::Bad);
     }

@@ -194,7 +194,10 @@ fn a_bad_line_is_named(rt: HostRuntime) -> Result<(), Fail> {
         (b"world 64 1\r\n", 1),
         (b"world 64 1\n\nfetch\0\n", 3),
         (b"world 64 1\nfetch \xff\n", 2),
-        (b"world 64 1\n#\n\ngrant 000001 18446744073709551616 5 rw\n", 4),
+        (
+            b"world 64 1\n#\n\ngrant 000001 18446744073709551616 5 rw\n",
+            4,
+        ),
         (b"fetch\n", 1),
     ];
     for (mut script, number) in bad {
@@ -269,9 +272,20 @@ fn command_lines_are_read(rt: HostRuntime) -> Result<(), Fail> {
     assert!(rt; read_words(rt.alloc(), &[])?.file.is_none());
     assert_eq!(rt; read_words(rt.alloc(), &["a"])?.file, Some("a"));
     assert_eq!(rt; read_words(rt.alloc(), &["a b-c"])?.file, Some("a b-c"));
-    assert_eq!(rt; read_words(rt.alloc(), &["\u{e9}=\u{1f600}"])?.file, Some("\u{e9}=\u{1f600}"));
+    assert_eq!(rt;
+        read_words(rt.alloc(), &["\u{e9}=\u{1f600}"])?.file,
+        Some("\u{e9}=\u{1f600}")
+    );
     assert_eq!(rt; read_words(rt.alloc(), &["help"])?.file, Some("help"));
-    let bad: [&[&str]; 7] = [&[""], &["-"], &["--"], &["--help"], &["-V"], &["a", "b"], &["--", "a"]];
+    let bad: [&[&str]; 7] = [
+        &[""],
+        &["-"],
+        &["--"],
+        &["--help"],
+        &["-V"],
+        &["a", "b"],
+        &["--", "a"],
+    ];
     for words in bad {
         match read_words(rt.alloc(), words) {
             Err(ArgsFault::Bad) => {}
