@@ -19,6 +19,7 @@ use crate::judging::{Found, judge_output};
 use anyhow::Context;
 use iom_script::LineBuffer;
 use std::fs;
+use std::rt::Files;
 
 /// How the outputs went.
 #[derive(Clone, Copy)]
@@ -45,7 +46,11 @@ impl Tally {
 }
 
 /// What the judge finds of the output.
-fn judge_row(rt: &HostRuntime, printed: &mut LineBuffer, row: Row<'_>) -> anyhow::Result<Found> {
+fn judge_row(
+    rt: &(impl Files + AllocGlobal),
+    printed: &mut LineBuffer,
+    row: Row<'_>,
+) -> anyhow::Result<Found> {
     let script = fs::read(rt, row.script)?;
     let script = iom_script::parse(rt.alloc(), &script).context(format_args!("{}", row.script))?;
     let output = fs::read_to_string(rt, row.output)?;
