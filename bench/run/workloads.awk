@@ -1,0 +1,52 @@
+# Writes a script just below the limit of 1,048,576 bytes to NAME.script, and to NAME.lines what it must
+# print, which follows from the pattern. Called as: awk -v name=hot -f workloads.awk
+function say(line, told) {
+    size += length(line) + 1
+    if (size > 1048576) exit
+    print line > (name ".script")
+    print told > (name ".lines")
+}
+
+function granted(pages, frames, p) {
+    for (p = 0; p < pages; p++) say("grant 000001 " p " " 4 + p % frames " rw", "ok")
+}
+
+# One read and its commit, of eight bytes at a place of the page that changes from read to read.
+function read_page(page, i) {
+    say(sprintf("read 000001 0x%x 8", 4096 * page + 8 * (i * 181 % 512)), "accepted " i)
+    say("commit 000001", "read 0000000000000000")
+}
+
+function started(frames) {
+    say("world " frames " 1", "ok")
+    say("device 000001 raw", "ok")
+    say("attach 000001 first", "ok")
+}
+
+BEGIN {
+    # 64 pages of one device, read again and again.
+    if (name == "hot") { started(128); granted(64, 64); for (i = 1; ; i++) read_page(i * 29 % 64, i) }
+
+    # 2,048 pages, no two reads of one page close together.
+    if (name == "miss") { started(512); granted(2048, 500); for (i = 1; ; i++) read_page(i * 577 % 2048, i) }
+
+    # A page granted, released and waited for, each time another.
+    if (name == "churn") {
+        started(64)
+        say("grant 000001 0 4 rw", "ok")
+        for (i = 1; ; i++) {
+            page = 1 + 37 * i % 500
+            say("grant 000001 " page " " 4 + i % 40 " rw", "ok")
+            say("release 000001 " page, "ticket " i)
+            say("fetch", "did iotinval.vma")
+            say("fetch", "did iofence.c")
+            say("poll", "confirmed " i "-" i)
+        }
+    }
+
+    # Nothing to do.
+    if (name == "polls") {
+        say("world 64 1", "ok")
+        for (;;) { say("poll", "confirmed -"); say("fetch", "empty") }
+    }
+}
