@@ -1,5 +1,13 @@
 use super::*;
+use std::alloc::AllocError;
 use std::test::Fail;
+
+/// Makes room for the frame, and puts it into the set.
+fn put(set: &mut FrameSet, frame: u32) -> Result<(), AllocError> {
+    set.make_room(frame)?;
+    set.insert(frame);
+    Ok(())
+}
 
 #[test]
 fn the_highest_frame_outside_two_sets_is_found(rt: HostRuntime) -> Result<(), Fail> {
@@ -11,14 +19,9 @@ fn the_highest_frame_outside_two_sets_is_found(rt: HostRuntime) -> Result<(), Fa
         first.highest_outside(&second, u32::MAX, None),
         Some(u32::MAX - 1)
     );
-    first.make_room(199)?;
-    second.make_room(199)?;
-    for frame in 64..200 {
-        if frame % 2 == 0 {
-            first.insert(frame);
-        } else {
-            second.insert(frame);
-        }
+    for pair in 32..100 {
+        put(&mut first, 2 * pair)?;
+        put(&mut second, 2 * pair + 1)?;
     }
     assert_eq!(rt; first.highest_outside(&second, 200, None), Some(63));
     assert_eq!(rt; first.highest_outside(&second, 200, Some(63)), Some(62));
