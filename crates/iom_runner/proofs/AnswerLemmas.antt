@@ -1,5 +1,5 @@
 -- Every event has an answer, in every state that is reached: so each run goes on to the end of the events.
-use Rattle.std.proofs.Common.{◌≡◌, ◌≢◌, ◌+◌, ◌%◌, ◌≤◌, ◌<◌, ◌++◌, ◌∙◌, ◌⊎◌, ℕ, inl, inr, Bool, true, false, List, [], ◌∷◌, length, take, drop, All, Option, Some, None, MatchOption, unwrap_or, if◌then◌else◌, refl, sym, ap, subst, arith}
+use Rattle.std.proofs.Common.{◌≡◌, ◌≢◌, ◌+◌, ◌%◌, ◌≤◌, ◌++◌, ◌∙◌, ℕ, inl, inr, Bool, true, false, List, [], ◌∷◌, length, All, Option, Some, None, MatchOption, unwrap_or, if◌then◌else◌, refl, sym, ap, subst, arith}
 use Rattle.std.proofs.lemmas.Bool.{cases_lt}
 use Rattle.std.proofs.lemmas.List.Elements.{All-nil, All-tail, All-head}
 use Rattle.iom_base.specs.declared.cause.Cause.{Cause}
@@ -11,7 +11,6 @@ use Rattle.iom_ledger.specs.declared.entry.Entry.TheVariants as entry
 use Rattle.iom_ledger.specs.declared.refusal.Refusal.{Refusal}
 use Rattle.iom_ledger.specs.declared.refusal.Refusal.TheVariants.{NoSuchDevice}
 use Rattle.iom_ledger.specs.History.{Pair, held_at}
-use Rattle.iom_machine.specs.declared.choice.Choice.{Choice}
 use Rattle.iom_machine.specs.declared.event.Event.{Event}
 use Rattle.iom_machine.specs.declared.event.Event.TheVariants as events
 use Rattle.iom_machine.specs.declared.outcome.Fetched.TheVariants.{Empty}
@@ -29,7 +28,7 @@ use Rattle.iom_machine.specs.Headline.{IsReached}
 use Rattle.iom_machine.specs.Machine.{IsEvent, Step, Requests, Run, opening, plugged_device}
 use Rattle.iom_machine.specs.declared.state.DeviceKind.TheVariants.{Raw}
 use Rattle.iom_machine.specs.Refusals.{first_that_applies, IsRefusedBy, MayRefusePlug, MayRefuseAttach, MayRefuseGrant, MayRefuseRelease, plug_reasons, attach_reasons, grant_reasons, release_reasons, is_too_wide}
-use Rattle.iom_machine.specs.Requests.{read_of, write_of, page_of, IsWithinPage, IsBusy, HoldsFor, HoldsNoneFor, MayAccept, MayFault, MayAnswer, IsForwarded, answered}
+use Rattle.iom_machine.specs.Requests.{read_of, write_of, page_of, HoldsFor, HoldsNoneFor, MayAccept, MayFault, MayAnswer, IsForwarded, answered}
 use Rattle.iom_machine.proofs.HeadlineLemmas.{commits_are_answered}
 use Rattle.iom_world.proofs.RunLemmas.{no_choice, frame_chosen, run_more}
 use Rattle.iom_runner.proofs.AttachmentLemmas.{IsFirstOrNone, AreFirstOrNone, found_first, first_or_none-step}

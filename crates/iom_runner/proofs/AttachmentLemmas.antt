@@ -1,7 +1,7 @@
 -- How devices are attached in every state that is reached.
-use Rattle.std.proofs.Common.{◌≡◌, ℕ, ◌==◌, inl, inr, Bool, true, false, List, [], ◌∷◌, ◌++◌, drop, All, find, Some, None, if◌then◌else◌, slice_get, refl, sym, ap, subst}
+use Rattle.std.proofs.Common.{◌≡◌, ℕ, ◌==◌, inl, inr, Bool, true, false, List, [], ◌∷◌, All, Some, if◌then◌else◌, slice_get, sym, ap, subst}
 use Rattle.std.specs.Prelude.{⊤}
-use Rattle.std.proofs.lemmas.List.Elements.{All-push, All-nil, All-cons, All-tail, All-head, All-contains}
+use Rattle.std.proofs.lemmas.List.Elements.{All-push, All-cons, All-tail, All-head, All-contains}
 use Rattle.iom_machine.specs.declared.event.Event.{Event}
 use Rattle.iom_machine.specs.declared.event.Event.TheVariants as events
 use Rattle.iom_machine.specs.declared.outcome.Outcome.{Outcome}

@@ -4,3 +4,4 @@ pub mod AttachmentLemmas
 pub mod AnswerLemmas
 pub mod RunLemmas
 pub mod TextLemmas
+pub mod CommandLineLemmas

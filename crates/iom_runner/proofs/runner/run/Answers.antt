@@ -1,8 +1,6 @@
-use Rattle.std.proofs.Common.{◌≡◌, ◌⊎◌, ◌∙◌, ap, lit<, Err, IfSome, take}
+use Rattle.std.proofs.Common.{◌∙◌, ap, lit<, Err}
 use Rattle.std.proofs.lemmas.Option.{IfSome_then}
 use Rattle.std.proofs.lemmas.Result.{err_from_is_err_and, on_ok_weaker, on_err_weaker}
-use Rattle.std.specs.Io.KnownBytes.{Keeps}
-use Rattle.iom_runner.specs.declared.faults.RunFault.TheVariants as faults
 use Rattle.iom_runner.proofs.TextLemmas.{whole_script, refused_as, named_as, no_bad_line, begins_each, begins_that, writes_that}
 use Rattle.iom_runner.proofs.WritingLemmas.{at_err}
 use Rattle.iom_runner.proofs.runner.run.Goals as goal
