@@ -29,12 +29,12 @@ frame_chosen frame = record { taken = []; frame = frame }
 abbrev pub frames_taken : List ℕ → Choice
 frames_taken taken = record { taken = taken; frame = 0 }
 
--- a step at what the event is
-pub stepped : (world : World) (state : State) (event case : Event) (outcome : Outcome) → event ≡ case
+-- a step at what the event is, and with what is told of it
+pub stepped : (world : World) (state : State) (event case : Event) (outcome told : Outcome) → event ≡ case → told ≡ outcome
     → (choice : Choice) (next : State) → ChosenStep choice state case outcome next → Shows world next
-    → (next : State) × Step state event outcome next × Shows world next
-stepped world state event case outcome is choice next step shows =
-    (next, (choice, subst (λ (e : Event). ChosenStep choice state e outcome next) (sym is) step), shows)
+    → (next : State) × Step state event told next × Shows world next
+stepped world state event case outcome told is tells choice next step shows =
+    (next, (choice, rw tells (subst (λ (e : Event). ChosenStep choice state e outcome next) (sym is) step)), shows)
 
 -- what is sound stays so where one more event is counted
 pub sound_counted : (memory : List (List ℕ)) (marks : List (Option Owner)) (ledger : Ledger) (devices : List Device) (queue : Queue) (events : ℕ)

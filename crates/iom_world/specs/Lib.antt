@@ -9,6 +9,7 @@ pub mod TablesAreFacts
 pub mod Places
 pub mod Held
 pub mod Admission
+pub mod Answers
 pub mod Shows
 pub mod Confirmed
 pub mod Replies

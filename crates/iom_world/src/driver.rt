@@ -8,14 +8,15 @@ ghost use Rattle.iom_machine.specs.declared.state.State.{State};
 ghost use Rattle.iom_machine.specs.declared.state.Mode.TheVariants.{First};
 ghost use Rattle.iom_machine.specs.Machine.{Attaches, Grants, Releases};
 ghost use Rattle.iom_machine.specs.Refusals.{first_that_applies, attachment_reasons, grant_reasons, release_reasons, NoneApplies};
+ghost use Rattle.iom_world.specs.Answers.{outcome_of};
 ghost use Rattle.iom_world.specs.Admission.{IsRootOf, MayBeGranted, AreChosen, TooFewAreFree, marked_for, cleared};
 ghost use Rattle.iom_world.specs.Shows.{Shows};
 
+use crate::answer::Answer;
 use crate::world::World;
 use arrayvec::ArrayVec;
 use iom_base::{DeviceId, Rights};
 use iom_ledger::Refusal;
-use iom_machine::Outcome;
 use iom_page_table::{PageLeaf, map, missing, unmap};
 use iom_phys_mem::{Bytes, Memory};
 use iom_table_frames::TableFrames;
@@ -37,27 +38,27 @@ fn reserve_all(marks: &mut TableFrames, memory: &mut Memory, frames: &[u32], dev
 
 impl World {
     /// The device is attached in its first stage: its root takes the highest free frame.
-    pub(crate) fn attach(&mut self, id: DeviceId) -> Outcome
-        ensures step { (state : State) → Shows self.old state → (taken : List ℕ) × (next : State) × Attaches taken state id First false result next × Shows self.new next }
+    pub(crate) fn attach(&mut self, id: DeviceId) -> Answer
+        ensures step { (state : State) → Shows self.old state → (taken : List ℕ) × (next : State) × Attaches taken state id First false (outcome_of result) next × Shows self.new next }
         ensures events { self.new.events ≡ self.old.events }
     {
         let Some(place) = self.place_of(id) else {
-            return Outcome::Refused(Refusal::NoSuchDevice);
+            return Answer::Refused(Refusal::NoSuchDevice);
         };
         if self.devices[place].root.is_some() {
-            return Outcome::Refused(Refusal::AlreadyAttached);
+            return Answer::Refused(Refusal::AlreadyAttached);
         }
         if self.is_too_wide(id) {
-            return Outcome::Refused(Refusal::IdTooWide);
+            return Answer::Refused(Refusal::IdTooWide);
         }
         let frames = self.memory.frames();
         let Some(root) = self.marks.highest_free(&self.ledger, frames, None) else {
-            return Outcome::Refused(Refusal::NoFrames);
+            return Answer::Refused(Refusal::NoFrames);
         };
         self.marks.reserve(&mut self.memory, root, id);
         let device = &mut self.devices[place];
         device.root = Some(root);
-        Outcome::Done
+        Answer::Done
     }
 
     /// The root of the attached device, or why it has none.
@@ -120,56 +121,56 @@ impl World {
 
     /// The device gets the frame at the page: missing tables take the highest free frames, from the
     /// root down, and the page's leaf is written.
-    pub(crate) fn grant(&mut self, id: DeviceId, page: u64, frame: u64, rights: Rights) -> Outcome
+    pub(crate) fn grant(&mut self, id: DeviceId, page: u64, frame: u64, rights: Rights) -> Answer
         requires { IsGrantable rights }
-        ensures step { (state : State) → Shows self.old state → (taken : List ℕ) × (next : State) × Grants taken state id page frame rights result next × Shows self.new next }
+        ensures step { (state : State) → Shows self.old state → (taken : List ℕ) × (next : State) × Grants taken state id page frame rights (outcome_of result) next × Shows self.new next }
         ensures events { self.new.events ≡ self.old.events }
     {
         let root = match self.admit_grant(id, page, frame) {
             Ok(root) => root,
-            Err(why) => return Outcome::Refused(why),
+            Err(why) => return Answer::Refused(why),
         };
         let frame = frame as u32;
         let lacking = missing(&self.memory, root, page);
         let Some(tables) = self.choose_tables(lacking, frame) else {
-            return Outcome::Refused(Refusal::NoFrames);
+            return Answer::Refused(Refusal::NoFrames);
         };
         if self.ledger.grant(id, page, frame, rights).is_err() {
-            return Outcome::Refused(Refusal::Memory);
+            return Answer::Refused(Refusal::Memory);
         }
         reserve_all(&mut self.marks, &mut self.memory, tables.as_slice(), id);
         let leaf = PageLeaf { frame, rights };
         map(&mut self.memory, root, page, leaf, tables.as_slice());
-        Outcome::Done
+        Answer::Done
     }
 
     /// What the device holds at the page is released: the leaf is cleared, and the commands of the
     /// release and its ticket wait.
-    pub(crate) fn release(&mut self, id: DeviceId, page: u64) -> Outcome
-        ensures step { (state : State) → Shows self.old state → (next : State) × Releases state id page result next × Shows self.new next }
-        ensures full { (state : State) → Shows self.old state → result ≡ outcome.Refused QueueFull → 255 < length self.old.commands.waiting + 2 }
-        ensures used_up { (state : State) → Shows self.old state → result ≡ outcome.Refused NumbersUsedUp → 4294967295 ≤ self.old.commands.given }
+    pub(crate) fn release(&mut self, id: DeviceId, page: u64) -> Answer
+        ensures step { (state : State) → Shows self.old state → (next : State) × Releases state id page (outcome_of result) next × Shows self.new next }
+        ensures full { (state : State) → Shows self.old state → outcome_of result ≡ outcome.Refused QueueFull → 255 < length self.old.commands.waiting + 2 }
+        ensures used_up { (state : State) → Shows self.old state → outcome_of result ≡ outcome.Refused NumbersUsedUp → 4294967295 ≤ self.old.commands.given }
         ensures events { self.new.events ≡ self.old.events }
     {
         let root = match self.root_of(id) {
             Ok(root) => root,
-            Err(why) => return Outcome::Refused(why),
+            Err(why) => return Answer::Refused(why),
         };
         if self.ledger.holds(id, page).is_none() {
-            return Outcome::Refused(Refusal::NotGranted);
+            return Answer::Refused(Refusal::NotGranted);
         }
         if self.commands.are_all_pending() {
-            return Outcome::Refused(Refusal::TooManyPending);
+            return Answer::Refused(Refusal::TooManyPending);
         }
         if self.commands.is_full() {
-            return Outcome::Refused(Refusal::QueueFull);
+            return Answer::Refused(Refusal::QueueFull);
         }
         if self.commands.are_numbers_used_up() {
-            return Outcome::Refused(Refusal::NumbersUsedUp);
+            return Answer::Refused(Refusal::NumbersUsedUp);
         }
         let ticket = self.commands.release();
         self.ledger.release(id, page, ticket);
         unmap(&mut self.memory, root, page);
-        Outcome::Ticket(ticket)
+        Answer::Ticket(ticket)
     }
 }

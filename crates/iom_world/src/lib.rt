@@ -7,9 +7,11 @@
 //! are, and so on the sentences of the reclaim theorem.
 #![tactic(auto)]
 
+mod answer;
 mod commands;
 mod device;
 mod driver;
+mod places;
 mod plugging;
 mod polling;
 mod requests;

@@ -2,15 +2,17 @@
 ghost use Rattle.std.specs.Prelude.{◌≡◌, MatchOption};
 ghost use Rattle.iom_machine.specs.declared.state.State.{State};
 ghost use Rattle.iom_machine.specs.Machine.{Plugs};
+ghost use Rattle.iom_world.specs.Answers.{outcome_of};
 ghost use Rattle.iom_world.specs.Places.{IsAbsent, IsPlaceOf};
 ghost use Rattle.iom_world.specs.Shows.{Shows};
 
+use crate::answer::Answer;
 use crate::device::Device;
 use crate::world::World;
 use iom_base::DeviceId;
 use iom_inflight::InFlight;
 use iom_ledger::Refusal;
-use iom_machine::{DeviceKind, Outcome};
+use iom_machine::DeviceKind;
 
 /// How many devices may be plugged in.
 const MAX_DEVICES: usize = 16;
@@ -30,18 +32,18 @@ impl World {
     }
 
     /// A device is plugged in, detached and with nothing in flight.
-    pub(crate) fn plug(&mut self, id: DeviceId, kind: DeviceKind) -> Outcome
-        ensures step { (state : State) → Shows self.old state → (next : State) × Plugs state id kind result next × Shows self.new next }
+    pub(crate) fn plug(&mut self, id: DeviceId, kind: DeviceKind) -> Answer
+        ensures step { (state : State) → Shows self.old state → (next : State) × Plugs state id kind (outcome_of result) next × Shows self.new next }
         ensures events { self.new.events ≡ self.old.events }
     {
         if self.place_of(id).is_some() {
-            return Outcome::Refused(Refusal::AlreadyPlugged);
+            return Answer::Refused(Refusal::AlreadyPlugged);
         }
         if self.devices.len() >= MAX_DEVICES {
-            return Outcome::Refused(Refusal::TooManyDevices);
+            return Answer::Refused(Refusal::TooManyDevices);
         }
         let Ok(in_flight) = InFlight::new(*self.devices.allocator()) else {
-            return Outcome::Refused(Refusal::Memory);
+            return Answer::Refused(Refusal::Memory);
         };
         let device = Device {
             id,
@@ -51,8 +53,8 @@ impl World {
             in_flight,
         };
         match self.devices.push(device) {
-            Ok(()) => Outcome::Done,
-            Err(_) => Outcome::Refused(Refusal::Memory),
+            Ok(()) => Answer::Done,
+            Err(_) => Answer::Refused(Refusal::Memory),
         }
     }
 }

@@ -7,14 +7,15 @@ ghost use Rattle.iom_machine.specs.declared.outcome.Fetched.{Fetched};
 ghost use Rattle.iom_machine.specs.declared.outcome.Outcome.TheVariants as outcome;
 ghost use Rattle.iom_machine.specs.Machine.{Fetches, Polls};
 ghost use Rattle.iom_machine.specs.Tickets.{confirmed_from};
+ghost use Rattle.iom_world.specs.Answers.{outcome_of};
 ghost use Rattle.iom_world.specs.Confirmed.{ConfirmsFrom, polled_from};
 ghost use Rattle.iom_world.specs.Places.{SomeInFlight};
 ghost use Rattle.iom_world.specs.Queue.{AfterFetch};
 ghost use Rattle.iom_world.specs.Shows.{Shows};
 
+use crate::answer::Answer;
 use crate::world::World;
 use iom_ledger::Ledger;
-use iom_machine::Outcome;
 
 /// Confirms the tickets from the first to the last, one after another.
 fn confirm_tickets(ledger: &mut Ledger, first: u32, last: u32)
@@ -42,28 +43,28 @@ impl World {
     }
 
     /// The IOMMU takes its next command.
-    pub(crate) fn fetch(&mut self) -> Outcome
-        ensures step { (state : State) → Shows self.old state → (next : State) × Fetches state result next × Shows self.new next }
-        ensures fetched { (in_flight : Bool) → (IsTrue in_flight ↔ SomeInFlight self.old.devices.items) → (fetched : Fetched) × (result ≡ outcome.Fetched fetched) × AfterFetch self.old.commands in_flight fetched self.new.commands }
+    pub(crate) fn fetch(&mut self) -> Answer
+        ensures step { (state : State) → Shows self.old state → (next : State) × Fetches state (outcome_of result) next × Shows self.new next }
+        ensures fetched { (in_flight : Bool) → (IsTrue in_flight ↔ SomeInFlight self.old.devices.items) → (fetched : Fetched) × (outcome_of result ≡ outcome.Fetched fetched) × AfterFetch self.old.commands in_flight fetched self.new.commands }
         ensures events { self.new.events ≡ self.old.events }
     {
         let in_flight = self.is_any_in_flight();
-        Outcome::Fetched(self.commands.fetch(in_flight))
+        Answer::Fetched(self.commands.fetch(in_flight))
     }
 
     /// The driver learns which tickets' fences are done, and forgets what waited for them. What it
     /// answers is all of them, from the oldest on.
-    pub(crate) fn poll(&mut self) -> Outcome
-        ensures step { (state : State) → Shows self.old state → (next : State) × Polls state result next × Shows self.new next }
-        ensures polled { result ≡ polled_from self.old.commands }
+    pub(crate) fn poll(&mut self) -> Answer
+        ensures step { (state : State) → Shows self.old state → (next : State) × Polls state (outcome_of result) next × Shows self.new next }
+        ensures polled { outcome_of result ≡ polled_from self.old.commands }
         ensures commands { self.new.commands ≡ record self.old.commands { confirmed = self.old.commands.completed } }
         ensures events { self.new.events ≡ self.old.events }
     {
         match self.commands.poll() {
-            None => Outcome::NoneConfirmed,
+            None => Answer::NoneConfirmed,
             Some((first, last)) => {
                 confirm_tickets(&mut self.ledger, first, last);
-                Outcome::Confirmed { first, last }
+                Answer::Confirmed { first, last }
             }
         }
     }

@@ -8,15 +8,16 @@ ghost use Rattle.iom_machine.specs.Machine.{Requests, Commits};
 ghost use Rattle.iom_machine.specs.Refusals.{id_limit};
 ghost use Rattle.iom_machine.specs.Requests.{read_of, write_of};
 ghost use Rattle.iom_world.specs.declared.device.Device.{Device};
+ghost use Rattle.iom_world.specs.Answers.{outcome_of};
 ghost use Rattle.iom_world.specs.Oldest.{OldestWritesSoMany, IsOldestAt};
 ghost use Rattle.iom_world.specs.Places.{CountsBelow, IsPlaceOf};
 ghost use Rattle.iom_world.specs.Replies.{IsReply};
 ghost use Rattle.iom_world.specs.Shows.{Shows};
 
+use crate::answer::{Answer, tell_read};
 use crate::device::Device;
 use crate::world::World;
-use arrayvec::ArrayVec;
-use iom_base::{AccessKind, Cause, DeviceId, FRAME_SIZE, Span};
+use iom_base::{AccessKind, Cause, DeviceId, Span};
 use iom_inflight::{Accepted, MAX_IN_FLIGHT};
 use iom_ledger::Refusal;
 use iom_machine::Outcome;
@@ -89,19 +90,6 @@ impl Device {
     }
 }
 
-/// So many bytes of the frame from the offset on.
-fn copied(frame: &[u8], offset: usize, len: usize) -> ArrayVec<u8, FRAME_SIZE>
-    requires within { offset + len ≤ length frame.now }
-    requires room { len ≤ 4096 }
-    ensures { result.items ≡ slice_range frame.now offset (offset + len) }
-{
-    let mut bytes = ArrayVec::new();
-    bytes
-        .try_extend_from_slice(&frame[offset..offset + len])
-        .unwrap();
-    bytes
-}
-
 impl World {
     /// Whether the device directory can't name the id: by its levels it names ids of 7, 16 or 24 bits
     /// (IOMMU specification, section 2.1, "Device-Directory-Table (DDT)").
@@ -144,89 +132,89 @@ impl World {
     /// A device asks for a read of so many bytes at the address. `Accepted`, with the access's number
     /// among the device's, where it is in flight now; else nothing changes: `Refused(NoSuchDevice)`,
     /// `BadSpan`, `Busy`, or `Fault` with its cause.
-    pub(crate) fn read(&mut self, id: DeviceId, address: u64, len: u64) -> Outcome
+    pub(crate) fn read(&mut self, id: DeviceId, address: u64, len: u64) -> Answer
         requires { CountsBelow self.old.devices.items self.old.events }
-        ensures step { (state : State) → Shows self.old state → (frame : ℕ) × (next : State) × Requests frame state id (read_of address len) result next × Shows self.new next }
+        ensures step { (state : State) → Shows self.old state → (frame : ℕ) × (next : State) × Requests frame state id (read_of address len) (outcome_of result) next × Shows self.new next }
         ensures events { self.new.events ≡ self.old.events }
     {
         let Some(place) = self.place_of(id) else {
-            return Outcome::Refused(Refusal::NoSuchDevice);
+            return Answer::Refused(Refusal::NoSuchDevice);
         };
         match self.reply(place, address, len, AccessKind::Read) {
             Reply::Accept(frame) => {
                 prove!(self.devices[place].accepted < self.events);
                 let number = self.devices[place].accept_read(address, len as u16, frame);
-                Outcome::Accepted(number)
+                Answer::Accepted(number)
             }
-            Reply::Busy => Outcome::Busy,
-            Reply::BadSpan => Outcome::BadSpan,
-            Reply::Fault(cause) => Outcome::Fault(cause),
+            Reply::Busy => Answer::Busy,
+            Reply::BadSpan => Answer::BadSpan,
+            Reply::Fault(cause) => Answer::Fault(cause),
         }
     }
 
     /// A device asks for a write of the bytes at the address. It is answered as a read is; the bytes are
     /// kept until it is made.
-    pub(crate) fn write(&mut self, id: DeviceId, address: u64, bytes: &[u8]) -> Outcome
+    pub(crate) fn write(&mut self, id: DeviceId, address: u64, bytes: &[u8]) -> Answer
         requires { CountsBelow self.old.devices.items self.old.events }
-        ensures step { (state : State) → Shows self.old state → (frame : ℕ) × (next : State) × Requests frame state id (write_of address bytes.now) result next × Shows self.new next }
+        ensures step { (state : State) → Shows self.old state → (frame : ℕ) × (next : State) × Requests frame state id (write_of address bytes.now) (outcome_of result) next × Shows self.new next }
         ensures events { self.new.events ≡ self.old.events }
     {
         let Some(place) = self.place_of(id) else {
-            return Outcome::Refused(Refusal::NoSuchDevice);
+            return Answer::Refused(Refusal::NoSuchDevice);
         };
         match self.reply(place, address, bytes.len() as u64, AccessKind::Write) {
             Reply::Accept(frame) => {
                 prove!(self.devices[place].accepted < self.events);
                 let number = self.devices[place].accept_write(address, bytes, frame);
-                Outcome::Accepted(number)
+                Answer::Accepted(number)
             }
-            Reply::Busy => Outcome::Busy,
-            Reply::BadSpan => Outcome::BadSpan,
-            Reply::Fault(cause) => Outcome::Fault(cause),
+            Reply::Busy => Answer::Busy,
+            Reply::BadSpan => Answer::BadSpan,
+            Reply::Fault(cause) => Answer::Fault(cause),
         }
     }
 
-    /// The oldest access of the device that stands here, a read, is made.
-    fn commit_read(&mut self, place: usize, access: Accepted) -> Outcome
+    /// The oldest access of the device that stands here, a read, is made: the place tells the bytes.
+    fn commit_read(&mut self, place: usize, access: Accepted, told: &mut Outcome)
         requires { IsOldestAt self.old.devices.items place access Read }
-        ensures step { (state : State) (id : ℕ) → Shows self.old state → IsPlaceOf self.old.devices.items id place → (next : State) × Commits state id result next × Shows self.new next }
+        ensures step { (state : State) (id : ℕ) → Shows self.old state → IsPlaceOf self.old.devices.items id place → (next : State) × Commits state id told.new next × Shows self.new next }
         ensures events { self.new.events ≡ self.old.events }
     {
         let offset = (access.address % 4096) as usize;
         let frame = self.memory.frame(access.frame).unwrap();
-        let bytes = copied(frame, offset, usize::from(access.len));
+        let bytes = &frame[offset..offset + usize::from(access.len)];
+        tell_read(bytes, told);
         self.devices[place].take_read();
-        Outcome::Read(bytes)
     }
 
     /// The oldest access of the device that stands here, a write, is made.
-    fn commit_write(&mut self, place: usize, access: Accepted) -> Outcome
+    fn commit_write(&mut self, place: usize, access: Accepted) -> Answer
         requires { IsOldestAt self.old.devices.items place access Write }
-        ensures step { (state : State) (id : ℕ) → Shows self.old state → IsPlaceOf self.old.devices.items id place → (next : State) × Commits state id result next × Shows self.new next }
+        ensures step { (state : State) (id : ℕ) → Shows self.old state → IsPlaceOf self.old.devices.items id place → (next : State) × Commits state id (outcome_of result) next × Shows self.new next }
         ensures events { self.new.events ≡ self.old.events }
     {
         let offset = (access.address % 4096) as usize;
         let frame = self.memory.frame_mut(access.frame).unwrap();
         self.devices[place].take_write(frame, offset, usize::from(access.len));
-        Outcome::Wrote(u64::from(access.len))
+        Answer::Wrote(u64::from(access.len))
     }
 
-    /// The oldest access of a device in flight is made, on the frame that it was translated to: `Read`,
-    /// with the bytes, or `Wrote`, with how many were stored. Nothing changes where nothing of the device
-    /// is in flight, or no device has the id.
-    pub(crate) fn commit(&mut self, id: DeviceId) -> Outcome
-        ensures step { (state : State) → Shows self.old state → (next : State) × Commits state id result next × Shows self.new next }
+    /// The oldest access of a device in flight is made, on the frame that it was translated to. What comes
+    /// of it is told in the place: `Read`, with the bytes, or `Wrote`, with how many were stored. Nothing
+    /// changes where nothing of the device is in flight, or no device has the id.
+    pub(crate) fn commit(&mut self, id: DeviceId, told: &mut Outcome)
+        ensures step { (state : State) → Shows self.old state → (next : State) × Commits state id told.new next × Shows self.new next }
         ensures events { self.new.events ≡ self.old.events }
     {
         let Some(place) = self.place_of(id) else {
-            return Outcome::Refused(Refusal::NoSuchDevice);
+            return Answer::Refused(Refusal::NoSuchDevice).tell(told);
         };
         let Some(access) = self.devices[place].in_flight.oldest() else {
-            return Outcome::NothingInFlight;
+            return Answer::NothingInFlight.tell(told);
         };
         match access.kind {
-            AccessKind::Read => self.commit_read(place, access),
-            AccessKind::Write => self.commit_write(place, access),
+            AccessKind::Read => self.commit_read(place, access, told),
+            AccessKind::Write => self.commit_write(place, access).tell(told),
         }
     }
 }

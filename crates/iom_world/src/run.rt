@@ -8,41 +8,53 @@ ghost use Rattle.iom_world.specs.Places.{CountsBelow};
 ghost use Rattle.iom_world.specs.Runs.{TakesAll, RunsTo, FailsAfter};
 ghost use Rattle.iom_world.specs.Shows.{Shows};
 
+use crate::places::Places;
 use crate::world::World;
 use iom_machine::{DeviceKind, Event, Outcome, Sink};
 
 impl World {
-    /// What comes of the event, which is counted already.
-    fn answer(&mut self, event: &Event) -> Outcome
+    /// What comes of the event, which is counted already, is told in the place.
+    fn answer(&mut self, event: &Event, told: &mut Outcome)
         requires event { IsEvent event.now }
         requires count { CountsBelow self.old.devices.items self.old.events }
-        ensures step { (state : State) → Shows self.old state → (next : State) × Step state event.now result next × Shows self.new next }
+        ensures step { (state : State) → Shows self.old state → (next : State) × Step state event.now told.new next × Shows self.new next }
         ensures events { self.new.events ≡ self.old.events }
     {
         match event {
-            Event::PlugRaw { device } => self.plug(*device, DeviceKind::Raw),
-            Event::AttachFirst { device } => self.attach(*device),
+            Event::PlugRaw { device } => self.plug(*device, DeviceKind::Raw).tell(told),
+            Event::AttachFirst { device } => self.attach(*device).tell(told),
             Event::Grant {
                 device,
                 page,
                 frame,
                 rights,
-            } => self.grant(*device, *page, *frame, *rights),
-            Event::Release { device, page } => self.release(*device, *page),
-            Event::Fetch => self.fetch(),
-            Event::Poll => self.poll(),
+            } => self.grant(*device, *page, *frame, *rights).tell(told),
+            Event::Release { device, page } => self.release(*device, *page).tell(told),
+            Event::Fetch => self.fetch().tell(told),
+            Event::Poll => self.poll().tell(told),
             Event::Read {
                 device,
                 address,
                 len,
-            } => self.read(*device, *address, *len),
+            } => self.read(*device, *address, *len).tell(told),
             Event::Write {
                 device,
                 address,
                 bytes,
-            } => self.write(*device, *address, bytes.as_slice()),
-            Event::Commit { device } => self.commit(*device),
+            } => self.write(*device, *address, bytes.as_slice()).tell(told),
+            Event::Commit { device } => self.commit(*device, told),
         }
+    }
+
+    /// One event is counted, and what comes of it is told in the place.
+    fn take(&mut self, event: &Event, told: &mut Outcome)
+        requires event { IsEvent event.now }
+        requires count { self.old.events + 1 < 2 ^ 64 }
+        ensures step { (state : State) → Shows self.old state → (next : State) × Step state event.now told.new next × Shows self.new next }
+        ensures events { self.new.events ≡ self.old.events + 1 }
+    {
+        self.events += 1;
+        self.answer(event, told);
     }
 
     /// One event, and what comes of it: a lawful step of the ledger machine from every state that the
@@ -53,8 +65,9 @@ impl World {
         ensures step { (state : State) → Shows self.old state → (next : State) × Step state event.now result next × Shows self.new next }
         ensures events { self.new.events ≡ self.old.events + 1 }
     {
-        self.events += 1;
-        self.answer(event)
+        let mut told = Outcome::Done;
+        self.take(event, &mut told);
+        told
     }
 
     /// The events, one after another: the sink takes the outcome of each, and the run stops at the first
@@ -69,9 +82,11 @@ impl World {
         ensures counted_at_most { OnErr result (self.new.events ≤ self.old.events + length events.now) }
         ensures reclaim { (frames levels : ℕ) → Shows self.old (opening frames levels) → OnOk result ((outcomes : List Outcome) × (next : State) × IsReachedBy events.now outcomes next × TakesAll S.takes sink.old outcomes sink.new × Shows self.new next) }
     {
+        let mut places = Places::new();
         for event in events {
-            let outcome = self.step(event);
-            sink.put(&outcome)?;
+            let told = places.of(event);
+            self.take(event, told);
+            sink.put(told)?;
         }
         Ok(())
     }

@@ -10,7 +10,7 @@ use Rattle.iom_world.proofs.world.World.commit.Goals as goal
 
 pub returns-in_default-clause-step : goal.returns-in_default-clause-step
 returns-in_default-clause-step c = λ state shows.
-    (state, acts_absent _ state c.args.self.now.devices.items c.args.id shows.devices c.in_default.ensures, shows)
+    (state, rw c.tell.ensures (acts_absent _ state c.args.self.now.devices.items c.args.id shows.devices c.in_default.ensures), shows)
 
 pub index-requires : goal.index-requires
 index-requires c = let below = get_within c.args.self.now.devices.items c.in-Some.place c.in-Some.ensures.0 c.in-Some.ensures.1 in omega arith
@@ -20,8 +20,8 @@ returns-in_default-oldest-clause-step c = λ state shows.
     let place = c.in-Some.ensures in
     let here = same_item c.args.self.now.devices.items c.in-Some.place c.index.result.now place.0 c.index.ensures place.1 in (
       state,
-      commits_nothing state c.args.self.now.devices.items c.args.id c.in-Some.place place shows.devices
-          (c.in_default-oldest.ensures ∙ ap (λ (d : Device). option_map described (slice_get d.in_flight 0)) here),
+      rw c.tell-in_default-oldest.ensures (commits_nothing state c.args.self.now.devices.items c.args.id c.in-Some.place place shows.devices
+      (c.in_default-oldest.ensures ∙ ap (λ (d : Device). option_map described (slice_get d.in_flight 0)) here)),
       shows,
     )
 
@@ -38,3 +38,8 @@ commit_write-requires c =
     let here = same_item c.args.self.now.devices.items c.in-Some.place c.index.result.now place.0 c.index.ensures place.1 in
     oldest_at c.args.self.now.devices.items c.in-Some.place place.0 c.in-Some-oldest.access Write place.1
     (c.in-Some-oldest.ensures ∙ ap (λ (d : Device). option_map described (slice_get d.in_flight 0)) here) c.in-Write.is
+
+pub returns-in-Write-clause-step : goal.returns-in-Write-clause-step
+returns-in-Write-clause-step c = λ state shows.
+    let step = c.commit_write.ensures.step state c.args.id shows c.in-Some.ensures in
+    (step.0, rw c.tell-in-Write.ensures step.1, step.2)

@@ -16,15 +16,15 @@ unwrap-frame-requires c =
     let made = may_be_made world.memory world.marks world.ledger world.devices.items world.commands world.events c.args.place c.requires.0 c.requires.1 world.sound c.requires.2 c.requires.3 in
     some_by_map (λ (f : Bor (List ℕ)). f.now) c.frame.result made.bytes (c.frame.ensures ∙ ap (λ (a : Accepted). slice_get world.memory a.frame) c.requires.4 ∙ made.there)
 
-pub copied-bytes-requires-clause-within : goal.copied-bytes-requires-clause-within
-copied-bytes-requires-clause-within c =
+pub slice_bounds-bytes-end : goal.slice_bounds-bytes-end
+slice_bounds-bytes-end c =
     let world = c.args.self.now in
     let made = may_be_made world.memory world.marks world.ledger world.devices.items world.commands world.events c.args.place c.requires.0 c.requires.1 world.sound c.requires.2 c.requires.3 in
     let w = made.within in
     omega (arith, ap (λ (a : Accepted). a.address % 4096) c.requires.4, ap (λ (a : Accepted). a.len) c.requires.4, w)
 
-pub copied-bytes-requires-clause-room : goal.copied-bytes-requires-clause-room
-copied-bytes-requires-clause-room c =
+pub tell_read-requires : goal.tell_read-requires
+tell_read-requires c =
     let world = c.args.self.now in
     let made = may_be_made world.memory world.marks world.ledger world.devices.items world.commands world.events c.args.place c.requires.0 c.requires.1 world.sound c.requires.2 c.requires.3 in
     let l = ap (λ (a : Accepted). a.len) c.requires.4 in
@@ -55,13 +55,13 @@ returns-clause-step c = λ state id shows is.
     let oldest = subst (λ (d : Device). slice_get d.in_flight 0 ≡ Some c.requires.1) same c.requires.3 in
     let at = ap (λ (a : Accepted). slice_get world.memory a.frame) (sym c.requires.4)
     ∙ sym c.frame.ensures ∙ ap (λ (o : Option (Bor (List ℕ))). option_map (λ (f : Bor (List ℕ)). f.now) o) c.unwrap-frame.ensures in
-    let items = c.copied-bytes.ensures
+    let items = c.tell_read.ensures.2
     ∙ ap (λ (l : ℕ). slice_range c.unwrap-frame.result.now (c.args.access.address % 4096) (c.args.access.address % 4096 + l)) c.from.ensures
     ∙ ap (λ (a : Accepted). slice_range c.unwrap-frame.result.now (a.address % 4096) (a.address % 4096 + a.len)) c.requires.4 in
     let now = c.take_read.ensures ∙ ap without_oldest (same_item world.devices.items c.args.place c.index_mut.result.now is.0 c.index_mut.ensures.value is.1) in (
       with_oldest_made state (shown_device is.0),
-      commits_read state world.ledger world.memory world.marks world.devices.items world.commands world.events id c.args.place c.requires.1 world.sound shows.ledger shows.frames shows.devices is oldest
-          c.unwrap-frame.result.now c.copied-bytes.result c.requires.5 at items,
+      rw c.tell_read.ensures.1 (commits_read state world.ledger world.memory world.marks world.devices.items world.commands world.events id c.args.place c.requires.1 world.sound shows.ledger shows.frames shows.devices is oldest
+      c.unwrap-frame.result.now c.tell_read.ensures.0 c.requires.5 at items),
       record {
         ledger = shows.ledger;
         frames = shows.frames;

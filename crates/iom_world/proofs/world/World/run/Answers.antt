@@ -8,18 +8,18 @@ pub loop-event-preserved : goal.loop-event-preserved
 loop-event-preserved g c = record {
   ran = λ state shows.
       let so_far = c.loop-event.invariant.ran state shows in
-      let next = c.step-outcome.ensures.step so_far.1 so_far.4 in
-      goes_on g.S.Sink.takes state next.0 c.args.events.now c.loop-event.event-index c.event-item.result c.step-outcome.result _ _ _ _ _
+      let next = c.take.ensures.step so_far.1 so_far.4 in
+      goes_on g.S.Sink.takes state next.0 c.args.events.now c.loop-event.event-index c.event-item.result c.take.new.told _ _ _ _ _
       so_far c.event-item.is c.loop-event-test.true next.1 next.2 c.in_ok-put.ensures.taken;
-  counted = omega (arith, c.step-outcome.ensures.events, c.loop-event.invariant.counted);
+  counted = omega (arith, c.take.ensures.events, c.loop-event.invariant.counted);
 }
 
 pub returns-in_err-put-clause-failed : goal.returns-in_err-put-clause-failed
 returns-in_err-put-clause-failed g c = λ state shows.
     let so_far = c.loop-event.invariant.ran state shows in
-    let next = c.step-outcome.ensures.step so_far.1 so_far.4 in
+    let next = c.take.ensures.step so_far.1 so_far.4 in
     let fault = err_from_is_err_and c.from_residual.result c.from_residual.ensures.1 in
-    rw fault.1 (ends_at g.S.Sink.takes g.S.Sink.fails state next.0 c.args.events.now c.loop-event.event-index c.event-item.result c.step-outcome.result _ _ _ _ _
+    rw fault.1 (ends_at g.S.Sink.takes g.S.Sink.fails state next.0 c.args.events.now c.loop-event.event-index c.event-item.result c.take.new.told _ _ _ _ _
     so_far c.event-item.is c.loop-event-test.true next.1 next.2 c.in_err-put.ensures.failed)
 
 pub returns-clause-reclaim : goal.returns-clause-reclaim

@@ -1,5 +1,5 @@
 use Rattle.iom_world.proofs.RunLemmas.{sound_counted, below_counted}
-use Rattle.iom_world.proofs.world.World.step.Goals as goal
+use Rattle.iom_world.proofs.world.World.take.Goals as goal
 
 pub invariant_of-self : goal.invariant_of-self
 invariant_of-self c = let world = c.args.self.now in record {

@@ -1,0 +1,41 @@
+//! Where the outcomes of a run are told.
+use iom_machine::{Event, Outcome};
+
+/// A place for the outcome of each kind of event, so that what a place held before is most often of the
+/// same kind as what is told there next.
+#[derive(Drop)]
+pub(crate) struct Places {
+    driver: Outcome,
+    released: Outcome,
+    fetched: Outcome,
+    polled: Outcome,
+    requested: Outcome,
+    made: Outcome,
+}
+
+impl Places {
+    pub(crate) fn new() -> Places {
+        Places {
+            driver: Outcome::Done,
+            released: Outcome::Done,
+            fetched: Outcome::Done,
+            polled: Outcome::Done,
+            requested: Outcome::Done,
+            made: Outcome::Done,
+        }
+    }
+
+    /// The place for the outcome of the event.
+    pub(crate) fn of(&mut self, event: &Event) -> &mut Outcome {
+        match event {
+            Event::PlugRaw { .. } | Event::AttachFirst { .. } | Event::Grant { .. } => {
+                &mut self.driver
+            }
+            Event::Release { .. } => &mut self.released,
+            Event::Fetch => &mut self.fetched,
+            Event::Poll => &mut self.polled,
+            Event::Read { .. } | Event::Write { .. } => &mut self.requested,
+            Event::Commit { .. } => &mut self.made,
+        }
+    }
+}
