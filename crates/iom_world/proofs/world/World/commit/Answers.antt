@@ -21,7 +21,7 @@ returns-in_default-oldest-clause-step c = λ state shows.
     let here = same_item c.args.self.now.devices.items c.in-Some.place c.index.result.now place.0 c.index.ensures place.1 in (
       state,
       rw c.tell-in_default-oldest.ensures (commits_nothing state c.args.self.now.devices.items c.args.id c.in-Some.place place shows.devices
-      (c.in_default-oldest.ensures ∙ ap (λ (d : Device). option_map described (slice_get d.in_flight 0)) here)),
+          (c.in_default-oldest.ensures ∙ ap (λ (d : Device). option_map described (slice_get d.in_flight 0)) here)),
       shows,
     )
 

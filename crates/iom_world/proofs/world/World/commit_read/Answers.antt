@@ -61,7 +61,7 @@ returns-clause-step c = λ state id shows is.
     let now = c.take_read.ensures ∙ ap without_oldest (same_item world.devices.items c.args.place c.index_mut.result.now is.0 c.index_mut.ensures.value is.1) in (
       with_oldest_made state (shown_device is.0),
       rw c.tell_read.ensures.1 (commits_read state world.ledger world.memory world.marks world.devices.items world.commands world.events id c.args.place c.requires.1 world.sound shows.ledger shows.frames shows.devices is oldest
-      c.unwrap-frame.result.now c.tell_read.ensures.0 c.requires.5 at items),
+          c.unwrap-frame.result.now c.tell_read.ensures.0 c.requires.5 at items),
       record {
         ledger = shows.ledger;
         frames = shows.frames;
