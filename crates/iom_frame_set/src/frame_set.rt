@@ -80,8 +80,10 @@ impl FrameSet {
         if let Some(frame) = self.frames.highest_in_word(limit / BITS, limit % BITS) {
             return Some(frame);
         }
-        let index = self.filled.highest_below(limit / BITS)?;
-        self.frames.highest_in_word(index, BITS)
+        match self.filled.highest_below(limit / BITS) {
+            None => None,
+            Some(index) => self.frames.highest_in_word(index, BITS),
+        }
     }
 
     /// The highest frame below the limit that isn't the named one. Looks at the limit's own word, and else
@@ -89,11 +91,9 @@ impl FrameSet {
     pub fn highest_below(&self, limit: u32, named: Option<u32>) -> Option<u32>
         ensures { MatchOption result (NoneIsMember self.now named limit) (IsHighestMember self.now named limit) }
     {
-        let highest = self.highest(limit)?;
-        if named == Some(highest) {
-            self.highest(highest)
-        } else {
-            Some(highest)
+        match self.highest(limit) {
+            Some(highest) if named == Some(highest) => self.highest(highest),
+            found => found,
         }
     }
 }

@@ -1,5 +1,5 @@
 //! Sets of numbers, a bit for each in words of 64.
-ghost use Rattle.std.specs.Prelude.{◌≡◌, ◌↔◌, ◌⊎◌, ◌+◌, ◌*◌, ◌/◌, ◌^◌, ◌<◌, ◌≤◌, ℕ, OnOk, MatchOption, length, slice_index};
+ghost use Rattle.std.specs.Prelude.{◌≡◌, ◌↔◌, ◌⊎◌, ◌+◌, ◌*◌, ◌/◌, ◌^◌, ◌<◌, ◌≤◌, ℕ, OnOk, IfNone, MatchOption, length, slice_index};
 ghost use Rattle.std.specs.Int.{bit_at};
 ghost use Rattle.iom_frame_set.specs.Sets.{has, room, IsEmpty, Inserts, Removes, KeepsOthers, NoneIsIn, IsHighestIn};
 
@@ -93,10 +93,13 @@ impl NumberSet {
     pub(crate) fn highest_in_word(&self, index: u32, places: u32) -> Option<u32>
         requires within { places ≤ 64 }
         requires fits { 64 * index + places < 2 ^ 32 }
-        ensures { MatchOption result (NoneIsIn self.now (64 * index) (64 * index + places)) (IsHighestIn self.now (64 * index) (64 * index + places)) }
+        ensures found { MatchOption result (NoneIsIn self.now (64 * index) (64 * index + places)) (IsHighestIn self.now (64 * index) (64 * index + places)) }
+        ensures whole { places ≡ 64 → IfNone result (slice_index self.now index ≡ 0) }
     {
-        let bit = highest_bit(self.word(index) & ones_below(places))?;
-        Some(index * BITS + bit)
+        match highest_bit(self.word(index) & ones_below(places)) {
+            None => None,
+            Some(bit) => Some(index * BITS + bit),
+        }
     }
 
     /// The highest number below the limit. Looks at words from the limit's down to the one that has it.

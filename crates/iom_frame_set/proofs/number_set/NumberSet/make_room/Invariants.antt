@@ -1,11 +1,11 @@
-use Rattle.std.proofs.Common.{◌≤◌, length}
-use Rattle.iom_frame_set.specs.Sets.{room, HasSame}
-use Rattle.iom_frame_set.proofs.frame_set.FrameSet.make_room.Given as goal
+use Rattle.std.proofs.Common.{◌≡◌, ◌≤◌, ◌⊎◌, ◌/◌, ◌+◌, ℕ, length, slice_index}
+use Rattle.iom_frame_set.proofs.number_set.NumberSet.make_room.Given as goal
 
--- the list is as long as the counter says, and the same frames are in the set
+-- the list is as long as the counter says, and each word is as it was
 abbrev pub invariant-loop-counted : goal.invariant-loop-counted
 invariant-loop-counted l = record {
-  long : l.counted ≤ length l.self-inside.words.items;
-  grows : room l.fn.self ≤ room l.self-inside.words.items;
-  same : HasSame l.fn.self l.self-inside.words.items;
+  long : length l.self-inside.words.items ≡ l.counted;
+  grows : length l.fn.self ≤ length l.self-inside.words.items;
+  no_further : (length l.self-inside.words.items ≤ length l.fn.self) ⊎ (length l.self-inside.words.items ≤ l.number / 64 + 1);
+  same : (i : ℕ) → slice_index l.self-inside.words.items i ≡ slice_index l.fn.self i;
 }
