@@ -1,4 +1,4 @@
-#![tactic(auto, unfolding(crate::specs::Shown::held_in, crate::specs::Shown::released_in, crate::specs::Shown::waiting_in))]
+#![tactic(auto, unfolding(crate::specs::Shown::held_in, crate::specs::Shown::released_in, crate::specs::Shown::waiting_in, crate::specs::Shown::is_pooled))]
 
 ghost use Rattle.std.specs.Prelude.{◌≡◌};
 ghost use Rattle.iom_ledger.specs.declared.ledger.TheConstants.{MAX_WAITING};
