@@ -1,11 +1,11 @@
 -- Bits of one word.
-use Rattle.std.proofs.Common.{◌≡◌, ◌≢◌, ◌↔◌, ◌⊎◌, inl, inr, ℕ, suc, ◌+◌, ◌-◌, ◌*◌, ◌^◌, ◌%◌, ◌<◌, ◌≤◌, min, bit_and, refl, sym, ap, ◌∙◌, subst, arith, w64}
+use Rattle.std.proofs.Common.{◌≡◌, ◌↔◌, ◌⊎◌, inl, inr, ℕ, suc, ◌+◌, ◌-◌, ◌*◌, ◌^◌, ◌%◌, ◌<◌, ◌≤◌, min, bit_and, sym, ap, ◌∙◌, subst, arith}
 use Rattle.std.proofs.Math.Nat.{pow-succ'}
-use Rattle.std.specs.Int.{bit_at, bit_not}
+use Rattle.std.specs.Int.{bit_at}
 use Rattle.std.specs.Int.Count.{count_leading_zeros}
 use Rattle.std.proofs.lemmas.Bool.{cases_lt}
 use Rattle.std.proofs.lemmas.Nat.{one_shl, leading_top}
-use Rattle.std.proofs.lemmas.Nat.Bits.{bit_at_and, bit_at_not, bit_at-lt, bit_at_ones, bit_at_ones_above, bit_at_above, bit_at_cat_high}
+use Rattle.std.proofs.lemmas.Nat.Bits.{bit_at_and, bit_at-lt, bit_at_ones, bit_at_ones_above, bit_at_above, bit_at_cat_high}
 use Rattle.iom_frame_set.specs.Sets.{IsHighestBit}
 
 -- the bits of 2 ^ place - 1
@@ -15,16 +15,6 @@ ones_are_below place k within = rw (one_shl place 64 within) (by (cases_lt k pla
     by : (k < place) ⊎ (place ≤ k) → (bit_at (2 ^ place - 1) k ≡ 1) ↔ (k < place)
     by (inl below) = (λ _. below, λ _. bit_at_ones place k below)
     by (inr above) = let none = bit_at_ones_above place k above in (λ one. absurd (omega (arith, sym none ∙ one)), λ below. absurd (omega arith))
-
--- a bit that two words lack
-lacked : (m x y : ℕ) → m ≡ min (1 - x) (1 - y) → x < 2 → y < 2 → (m ≡ 1) ↔ ((x ≡ 0) × (y ≡ 0))
-lacked m x y is small short = (λ one. (omega arith, omega arith), λ none. let a : x ≡ 0 = none.0 in let b : y ≡ 0 = none.1 in omega arith)
-
-pub bit_of_neither : (a b k : ℕ) → a < 2 ^ 64 → b < 2 ^ 64 → k < 64 → (bit_at (bit_and (bit_not w64 a) (bit_not w64 b)) k ≡ 1) ↔ ((bit_at a k ≡ 0) × (bit_at b k ≡ 0))
-bit_of_neither a b k fits fits_too within =
-    lacked (bit_at (bit_and (bit_not w64 a) (bit_not w64 b)) k) (bit_at a k) (bit_at b k)
-    (bit_at_and (bit_not w64 a) (bit_not w64 b) k ∙ ap (λ x. min x (bit_at (bit_not w64 b) k)) (bit_at_not w64 a k fits within) ∙ ap (λ y. min (1 - bit_at a k) y) (bit_at_not w64 b k fits_too within))
-    (bit_at-lt a k) (bit_at-lt b k)
 
 -- a bit that two words have
 had : (m x y : ℕ) → m ≡ min x y → x < 2 → y < 2 → (m ≡ 1) ↔ ((x ≡ 1) × (y ≡ 1))

@@ -1,5 +1,5 @@
--- Sets of frames as words of 64 bits.
-use Rattle.std.specs.Prelude.{◌≡◌, ◌≢◌, ℕ, ◌*◌, ◌/◌, ◌%◌, ◌<◌, ◌≤◌, Bool, true, false, ◌==◌, List, length, Option, Some, slice_index, if◌then◌else◌}
+-- Sets of numbers as words of 64 bits.
+use Rattle.std.specs.Prelude.{◌≡◌, ◌≢◌, ℕ, ◌*◌, ◌/◌, ◌%◌, ◌<◌, ◌≤◌, Bool, true, false, not, ◌==◌, List, length, Option, Some, slice_index, if◌then◌else◌}
 use Rattle.std.specs.Int.{bit_at}
 
 -- whether the frame is in the set: its bit is set
@@ -26,27 +26,40 @@ Inserts old new frame = (f : ℕ) → has new f ≡ (if frame == f then true els
 abbrev pub Removes : List ℕ → List ℕ → ℕ → Type 0
 Removes old new frame = (f : ℕ) → has new f ≡ (if frame == f then false else has old f)
 
--- the frame is below the limit and in neither set
-pub record IsInNeither (first second : List ℕ) (limit frame : ℕ) : Type 0 where
-  pub below : frame < limit
-  pub not_first : has first frame ≡ false
-  pub not_second : has second frame ≡ false
-
--- the frame is in neither set, and isn't the one that is named, if one is
-pub record IsOutside (first second : List ℕ) (named : Option ℕ) (frame : ℕ) : Type 0 where
+-- the frame is in the set, and isn't the one that is named, if one is
+pub record IsMember (words : List ℕ) (named : Option ℕ) (frame : ℕ) : Type 0 where
   pub other : named ≢ Some frame
-  pub not_first : has first frame ≡ false
-  pub not_second : has second frame ≡ false
+  pub inside : has words frame ≡ true
 
--- no frame is, from the first number on and below the limit
-abbrev pub NoneIsOutside : List ℕ → List ℕ → Option ℕ → ℕ → ℕ → Type 0
-NoneIsOutside first second named from limit = (frame : ℕ) → from ≤ frame → frame < limit → ¬ IsOutside first second named frame
+-- no frame below the limit is
+abbrev pub NoneIsMember : List ℕ → Option ℕ → ℕ → Type 0
+NoneIsMember words named limit = (frame : ℕ) → frame < limit → ¬ IsMember words named frame
 
 -- this frame is, below the limit, and none above it
-pub record IsHighestOutside (first second : List ℕ) (named : Option ℕ) (limit frame : ℕ) : Type 0 where
+pub record IsHighestMember (words : List ℕ) (named : Option ℕ) (limit frame : ℕ) : Type 0 where
   pub below : frame < limit
-  pub outside : IsOutside first second named frame
-  pub highest : (higher : ℕ) → frame < higher → higher < limit → ¬ IsOutside first second named higher
+  pub member : IsMember words named frame
+  pub highest : (higher : ℕ) → frame < higher → higher < limit → ¬ IsMember words named higher
+
+-- no number from the first one on and below the limit is in the set
+abbrev pub NoneIsIn : List ℕ → ℕ → ℕ → Type 0
+NoneIsIn words from limit = (n : ℕ) → from ≤ n → n < limit → has words n ≡ false
+
+-- this number is, and none above it
+pub record IsHighestIn (words : List ℕ) (from limit number : ℕ) : Type 0 where
+  pub not_before : from ≤ number
+  pub below : number < limit
+  pub inside : has words number ≡ true
+  pub highest : (higher : ℕ) → number < higher → higher < limit → has words higher ≡ false
+
+-- each word is as it was, but perhaps the one at the index
+abbrev pub KeepsOthers : List ℕ → List ℕ → ℕ → Type 0
+KeepsOthers old new index = (i : ℕ) → i ≢ index → slice_index new i ≡ slice_index old i
+
+-- the other set has the numbers of the words that aren't 0, and room for the number of each word
+pub record IsSummary (words filled : List ℕ) : Type 0 where
+  pub has_filled : (i : ℕ) → has filled i ≡ not (slice_index words i == 0)
+  pub roomy : length words ≤ room filled
 
 -- the bit at this place is set, and none above it
 pub record IsHighestBit (word place : ℕ) : Type 0 where

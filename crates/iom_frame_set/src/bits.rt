@@ -14,13 +14,6 @@ pub(crate) fn ones_below(place: u32) -> u64
     }
 }
 
-/// The bits that neither word has.
-pub(crate) fn in_neither(first: u64, second: u64) -> u64
-    ensures { (k : ℕ) → k < 64 → (bit_at result k ≡ 1) ↔ ((bit_at first k ≡ 0) × (bit_at second k ≡ 0)) }
-{
-    !first & !second
-}
-
 /// The word with the bit at the place set.
 pub(crate) fn with_bit(word: u64, place: u32) -> u64
     requires { place < 64 }

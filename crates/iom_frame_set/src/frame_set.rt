@@ -1,18 +1,15 @@
-ghost use Rattle.std.specs.Prelude.{◌≡◌, ◌↔◌, ◌+◌, ◌*◌, ◌<◌, ◌≤◌, ℕ, IfOk, OnOk, MatchOption, length, slice_index};
-ghost use Rattle.std.specs.Int.{bit_at};
-ghost use Rattle.iom_frame_set.specs.Sets.{has, room, IsEmpty, HasSame, Inserts, Removes, IsInNeither, IsOutside, NoneIsOutside, IsHighestOutside};
+ghost use Rattle.std.specs.Prelude.{◌≡◌, ◌<◌, ◌≤◌, OnOk, MatchOption};
+ghost use Rattle.iom_frame_set.specs.Sets.{has, room, IsEmpty, HasSame, Inserts, Removes, NoneIsIn, IsHighestIn, NoneIsMember, IsHighestMember};
 
-use crate::bits::{highest_bit, in_neither, ones_below, with_bit, without_bit};
+use crate::number_set::{BITS, NumberSet};
 use std::alloc::{AllocError, Global};
 use std::marker::Model;
 
-/// The bits of a word.
-const BITS: u32 = 64;
-
-/// A set of frames.
+/// A set of frames, and the numbers of its words that aren't 0.
 #[derive(Drop)]
 pub struct FrameSet {
-    words: Vec<u64>,
+    frames: NumberSet,
+    filled: NumberSet,
 }
 
 impl Model for FrameSet {
@@ -20,7 +17,11 @@ impl Model for FrameSet {
 
     ghost Value = { List ℕ };
 
-    ghost view = { λ s. s.words.items };
+    ghost view = { λ s. s.frames };
+
+    ghost use Rattle.iom_frame_set.specs.Sets.{IsSummary};
+
+    ghost invariant = { λ s. IsSummary s.frames s.filled };
 }
 
 impl FrameSet {
@@ -29,7 +30,8 @@ impl FrameSet {
         ensures { IsEmpty result }
     {
         FrameSet {
-            words: Vec::new(alloc),
+            frames: NumberSet::new(alloc),
+            filled: NumberSet::new(alloc),
         }
     }
 
@@ -39,10 +41,8 @@ impl FrameSet {
         ensures grows { room self.old ≤ room self.new }
         ensures same { HasSame self.old self.new }
     {
-        for counted in self.words.len()..(frame / BITS) as usize + 1 {
-            self.words.push(0)?;
-        }
-        Ok(())
+        self.filled.make_room(frame / BITS)?;
+        self.frames.make_room(frame)
     }
 
     /// Puts the frame into the set.
@@ -51,8 +51,8 @@ impl FrameSet {
         ensures inserted { Inserts self.old self.new frame }
         ensures room { room self.new ≡ room self.old }
     {
-        let index = (frame / BITS) as usize;
-        self.words[index] = with_bit(self.words[index], frame % BITS);
+        self.frames.insert(frame);
+        self.filled.insert(frame / BITS);
     }
 
     /// Takes the frame out of the set, if it is there.
@@ -60,53 +60,40 @@ impl FrameSet {
         ensures removed { Removes self.old self.new frame }
         ensures room { room self.new ≡ room self.old }
     {
-        let index = (frame / BITS) as usize;
-        if index < self.words.len() {
-            self.words[index] = without_bit(self.words[index], frame % BITS);
+        self.frames.remove(frame);
+        if self.frames.word(frame / BITS) == 0 {
+            self.filled.remove(frame / BITS);
         }
     }
 
-    /// The bits of the frames from 64 times the index on.
-    fn word(&self, index: u32) -> u64
-        ensures { result ≡ slice_index self.now index }
+    /// Whether the frame is in the set; false beyond its room.
+    pub fn contains(&self, frame: u32) -> bool
+        ensures { result ≡ has self.now frame }
     {
-        match self.words.get(index as usize) {
-            None => 0,
-            Some(word) => *word,
+        self.frames.contains(frame)
+    }
+
+    /// The highest frame below the limit.
+    fn highest(&self, limit: u32) -> Option<u32>
+        ensures { MatchOption result (NoneIsIn self.now 0 limit) (IsHighestIn self.now 0 limit) }
+    {
+        if let Some(frame) = self.frames.highest_in_word(limit / BITS, limit % BITS) {
+            return Some(frame);
+        }
+        match self.filled.highest_below(limit / BITS) {
+            None => None,
+            Some(index) => self.frames.highest_in_word(index, BITS),
         }
     }
 
-    /// The bits of this word's frames below the limit that are in neither set.
-    fn in_neither_below(&self, other: &FrameSet, index: u32, limit: u32) -> u64
-        requires { 64 * index ≤ limit }
-        ensures { (k : ℕ) → k < 64 → (bit_at result k ≡ 1) ↔ IsInNeither self.now other.now limit (64 * index + k) }
+    /// The highest frame below the limit that isn't the named one. Looks at the limit's own word, and else
+    /// finds the word by those that say which words aren't 0: one of them stands for 4,096 frames.
+    pub fn highest_below(&self, limit: u32, named: Option<u32>) -> Option<u32>
+        ensures { MatchOption result (NoneIsMember self.now named limit) (IsHighestMember self.now named limit) }
     {
-        let neither = in_neither(self.word(index), other.word(index));
-        neither & ones_below(limit - index * BITS)
-    }
-
-    /// The same, but for the named frame.
-    fn outside_in(&self, other: &FrameSet, index: u32, limit: u32, named: Option<u32>) -> u64
-        requires { 64 * index ≤ limit }
-        ensures { (k : ℕ) → k < 64 → (bit_at result k ≡ 1) ↔ ((64 * index + k < limit) × IsOutside self.now other.now named (64 * index + k)) }
-    {
-        let neither = self.in_neither_below(other, index, limit);
-        match named {
-            Some(frame) if frame / BITS == index => without_bit(neither, frame % BITS),
-            _ => neither,
+        match self.highest(limit) {
+            Some(highest) if named == Some(highest) => self.highest(highest),
+            found => found,
         }
-    }
-
-    /// The highest frame below the limit that is in neither set and isn't the named one. Looks at one word
-    /// of each for 64 frames.
-    pub fn highest_outside(&self, other: &FrameSet, limit: u32, named: Option<u32>) -> Option<u32>
-        ensures { MatchOption result (NoneIsOutside self.now other.now named 0 limit) (IsHighestOutside self.now other.now named limit) }
-    {
-        for index in (0..limit / BITS + 1).rev() {
-            if let Some(bit) = highest_bit(self.outside_in(other, index, limit, named)) {
-                return Some(index * BITS + bit);
-            }
-        }
-        None
     }
 }

@@ -10,26 +10,44 @@ fn put(set: &mut FrameSet, frame: u32) -> Result<(), AllocError> {
 }
 
 #[test]
-fn the_highest_frame_outside_two_sets_is_found(rt: HostRuntime) -> Result<(), Fail> {
-    let mut first = FrameSet::new(rt.alloc());
-    let mut second = FrameSet::new(rt.alloc());
-    assert_eq!(rt; first.highest_outside(&second, 4096, None), Some(4095));
-    assert_eq!(rt; first.highest_outside(&second, 0, None), None);
-    assert_eq!(rt;
-        first.highest_outside(&second, u32::MAX, None),
-        Some(u32::MAX - 1)
-    );
-    for pair in 32..100 {
-        put(&mut first, 2 * pair)?;
-        put(&mut second, 2 * pair + 1)?;
+fn the_highest_frame_below_a_limit_is_found(rt: HostRuntime) -> Result<(), Fail> {
+    let mut set = FrameSet::new(rt.alloc());
+    assert_eq!(rt; set.highest_below(4096, None), None);
+    put(&mut set, 5000)?;
+    for frame in [3, 63, 64, 130] {
+        put(&mut set, frame)?;
     }
-    assert_eq!(rt; first.highest_outside(&second, 200, None), Some(63));
-    assert_eq!(rt; first.highest_outside(&second, 200, Some(63)), Some(62));
-    first.remove(128);
-    assert_eq!(rt; first.highest_outside(&second, 200, None), Some(128));
-    assert_eq!(rt; first.highest_outside(&second, 129, Some(63)), Some(128));
-    assert_eq!(rt; first.highest_outside(&second, 128, None), Some(63));
-    first.remove(5000);
-    assert_eq!(rt; first.highest_outside(&second, 200, Some(128)), Some(63));
+    assert_eq!(rt; set.highest_below(u32::MAX, None), Some(5000));
+    assert_eq!(rt; set.highest_below(u32::MAX, Some(5000)), Some(130));
+    assert_eq!(rt; set.highest_below(5000, None), Some(130));
+    assert_eq!(rt; set.highest_below(5000, Some(64)), Some(130));
+    assert_eq!(rt; set.highest_below(130, None), Some(64));
+    assert_eq!(rt; set.highest_below(130, Some(64)), Some(63));
+    assert_eq!(rt; set.highest_below(64, Some(63)), Some(3));
+    assert_eq!(rt; set.highest_below(63, None), Some(3));
+    assert_eq!(rt; set.highest_below(4, Some(3)), None);
+    assert_eq!(rt; set.highest_below(3, None), None);
+    assert_eq!(rt; set.highest_below(0, None), None);
+    Ok(())
+}
+
+#[test]
+fn a_frame_that_is_taken_out_is_found_no_more(rt: HostRuntime) -> Result<(), Fail> {
+    let mut set = FrameSet::new(rt.alloc());
+    put(&mut set, 200)?;
+    put(&mut set, 201)?;
+    put(&mut set, 70)?;
+    assert!(rt; set.contains(201));
+    set.remove(201);
+    assert!(rt; !set.contains(201));
+    assert_eq!(rt; set.highest_below(4096, None), Some(200));
+    set.remove(200);
+    set.remove(9000);
+    assert!(rt; !set.contains(9000));
+    assert_eq!(rt; set.highest_below(4096, None), Some(70));
+    set.remove(70);
+    assert_eq!(rt; set.highest_below(4096, None), None);
+    put(&mut set, 201)?;
+    assert_eq!(rt; set.highest_below(4096, None), Some(201));
     Ok(())
 }

@@ -1,5 +1,5 @@
 -- How many rows name each frame.
-use Rattle.std.specs.Prelude.{◌≡◌, ℕ, ◌-◌, ◌+◌, ◌≤◌, Bool, false, not, ◌==◌, ◌&&◌, List, [], ◌∷◌, length, ⊤, Option, None, Some, slice_index, if◌then◌else◌}
+use Rattle.std.specs.Prelude.{◌≡◌, ℕ, ◌-◌, ◌+◌, ◌<◌, Bool, true, false, ◌==◌, ◌&&◌, List, [], ◌∷◌, length, ⊤, Option, None, Some, slice_index, if◌then◌else◌}
 use Rattle.std.specs.List.{list_any}
 use Rattle.iom_frame_set.specs.Sets.{has, room}
 use Rattle.iom_ledger.specs.declared.row.Row.{Row}
@@ -49,11 +49,7 @@ RaisesCount old new frame = (f : ℕ) → count_of new f ≡ (if frame == f then
 abbrev pub LowersCount : List ℕ → List ℕ → ℕ → Type 0
 LowersCount old new frame = (f : ℕ) → count_of new f ≡ (if frame == f then count_of old f - 1 else count_of old f)
 
--- the set has the frames whose counts aren't 0
-abbrev pub HasNamed : List ℕ → List ℕ → Type 0
-HasNamed counts named = (f : ℕ) → has named f ≡ not (count_of counts f == 0)
-
--- it is the set of named frames, with room for each frame that is counted
-pub record IsNamedSet (counts named : List ℕ) : Type 0 where
-  pub has_named : HasNamed counts named
-  pub roomy : length counts ≤ room named
+-- the set has the frames of the pool whose counts are 0, and room for each frame of the pool
+pub record IsFreeSet (counts pool free : List ℕ) : Type 0 where
+  pub has_free : (f : ℕ) → has free f ≡ (has pool f && (count_of counts f == 0))
+  pub roomy : (f : ℕ) → has pool f ≡ true → f < room free

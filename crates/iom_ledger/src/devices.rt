@@ -98,8 +98,9 @@ pub(crate) fn grant_in(
     row: Row,
 ) -> Result<(), AllocError>
     requires absent { row_at devices.old device page ≡ None }
-    requires counted { AreCounted devices.old counts.old }
-    ensures counted { AreCounted devices.new counts.new }
+    requires counted { AreCounted devices.old counts.old.counts.items }
+    ensures counted { AreCounted devices.new counts.new.counts.items }
+    ensures pool { counts.new.pool ≡ counts.old.pool }
     ensures ok { OnOk result (SetsRow devices.old devices.new device page row) }
     ensures err { OnErr result (KeepsRows devices.old devices.new) }
 {
@@ -157,8 +158,9 @@ fn drop_waiting_row(
     index: usize,
     ticket: u32,
 )
-    requires { AreCounted devices.old counts.old }
-    ensures counted { AreCounted devices.new counts.new }
+    requires { AreCounted devices.old counts.old.counts.items }
+    ensures counted { AreCounted devices.new counts.new.counts.items }
+    ensures pool { counts.new.pool ≡ counts.old.pool }
     ensures rows { DropsSome devices.old devices.new device ticket }
     ensures looked { NoneWaitsFrom (entries_of devices.old device) (index + 1) ticket → NoneWaitsFrom (entries_of devices.new device) index ticket }
 {
@@ -169,8 +171,9 @@ fn drop_waiting_row(
 
 /// Drops each row of the device that waits for the ticket.
 fn drop_waiting(devices: &mut Devices, counts: &mut RowCounts, device: DeviceId, ticket: u32)
-    requires { AreCounted devices.old counts.old }
-    ensures counted { AreCounted devices.new counts.new }
+    requires { AreCounted devices.old counts.old.counts.items }
+    ensures counted { AreCounted devices.new counts.new.counts.items }
+    ensures pool { counts.new.pool ≡ counts.old.pool }
     ensures rows { (d a : ℕ) → row_at devices.new d a ≡ (if device == d then kept (row_at devices.old d a) ticket else row_at devices.old d a) }
 {
     let rows = match devices.get(&device) {
@@ -190,8 +193,9 @@ fn drop_waiting_at(
     page: u64,
     ticket: u32,
 )
-    requires { AreCounted devices.old counts.old }
-    ensures counted { AreCounted devices.new counts.new }
+    requires { AreCounted devices.old counts.old.counts.items }
+    ensures counted { AreCounted devices.new counts.new.counts.items }
+    ensures pool { counts.new.pool ≡ counts.old.pool }
     ensures rows { (d a : ℕ) → row_at devices.new d a ≡ (if (device == d) && (page == a) then kept (row_at devices.old d a) ticket else row_at devices.old d a) }
 {
     if let Some(row) = take_at_in(devices, device, page, ticket) {
@@ -201,8 +205,9 @@ fn drop_waiting_at(
 
 /// Drops the rows that the release names and that wait for its ticket.
 pub(crate) fn drop_named_in(devices: &mut Devices, counts: &mut RowCounts, release: Pending)
-    requires { AreCounted devices.old counts.old }
-    ensures counted { AreCounted devices.new counts.new }
+    requires { AreCounted devices.old counts.old.counts.items }
+    ensures counted { AreCounted devices.new counts.new.counts.items }
+    ensures pool { counts.new.pool ≡ counts.old.pool }
     ensures rows { DropsNamed devices.old devices.new release release.ticket }
 {
     match release.page {

@@ -1,4 +1,4 @@
-#![tactic(auto, unfolding(crate::specs::Shown::held_in, crate::specs::Shown::released_in, crate::specs::Shown::waiting_in))]
+#![tactic(auto, unfolding(crate::specs::Shown::held_in, crate::specs::Shown::released_in, crate::specs::Shown::waiting_in, crate::specs::Shown::is_pooled))]
 
 ghost use Rattle.std.specs.Prelude.{◌≡◌};
 ghost use Rattle.iom_ledger.specs.declared.ledger.TheConstants.{MAX_WAITING};
@@ -13,7 +13,6 @@ use crate::row::{Pending, Row};
 use circular_buffer::HeapCircularBuffer;
 use indexmap::IndexMap;
 use iom_base::{DeviceId, Rights};
-use iom_frame_set::FrameSet;
 use std::alloc::{AllocError, Global};
 
 /// The most tickets that wait at a time.
@@ -29,23 +28,24 @@ pub struct Ledger {
     pending: Ring,
     ghost granted: { AllGranted devices },
     ghost named: { AllNamed devices pending.items },
-    ghost counted: { AreCounted devices counts },
+    ghost counted: { AreCounted devices counts.counts.items },
     ghost room: { pending.capacity ≡ MAX_WAITING },
 }
 
 impl Ledger {
-    ghost use Rattle.iom_frame_set.specs.Sets.{has};
-    ghost use Rattle.std.specs.Prelude.{◌↔◌, ◌<◌, ◌≤◌, ℕ, List, [], ◌∷◌, Contains, length, false, not, IsTrue, IsSome, IfOk, OnOk, OnErr, Some, None};
+    ghost use Rattle.std.specs.Prelude.{◌↔◌, ◌<◌, ◌≤◌, ℕ, List, [], ◌∷◌, Contains, length, nat_lt, false, not, IsTrue, IsSome, IfOk, OnOk, OnErr, MatchOption, Some, None};
     ghost use Rattle.iom_ledger.specs.declared.entry.Entry.TheVariants.{Granted, Released, AllReleased, Confirmed};
     ghost use Rattle.iom_ledger.specs.History.{History, Pair, confirms, held_at, lingering_at, Holds, Lingers, IsFree};
     ghost use Rattle.iom_ledger.specs.Unconfirmed.{unconfirmed};
-    ghost use Rattle.iom_ledger.specs.Shown.{Agrees, IsFreeIn, IsGrantable, held_in, released_in, lingering_in, waiting_in};
-    ghost use Rattle.iom_ledger.specs.Changes.{IsUnchanged, Grants, Releases, ReleasesAll, Confirms};
+    ghost use Rattle.iom_ledger.specs.Shown.{Agrees, IsFreeIn, IsGrantable, NoneIsOffered, IsHighestOffered, held_in, released_in, lingering_in, waiting_in, is_pooled};
+    ghost use Rattle.iom_ledger.specs.Changes.{IsUnchanged, Grants, Releases, ReleasesAll, Confirms, Reserves};
 
-    /// A ledger of no grants. Makes the room of [`MAX_WAITING`] tickets, so that no release takes memory,
-    /// and of a count for each of so many frames. A grant of a frame beyond makes more.
+    /// A ledger of no grants, whose pool is all of so many frames. Makes the room of [`MAX_WAITING`]
+    /// tickets, so that no release takes memory, and of a count for each of the frames. A grant of a frame
+    /// beyond makes more.
     pub fn new(alloc: Global, frames: u32) -> Result<Ledger, AllocError>
-        ensures { IfOk result (λ ledger. Agrees ledger []) }
+        ensures agrees { IfOk result (λ ledger. Agrees ledger []) }
+        ensures pool { IfOk result (λ ledger. (f : ℕ) → is_pooled ledger f ≡ nat_lt f frames) }
     {
         Ok(Ledger {
             devices: IndexMap::new(alloc),
@@ -96,11 +96,12 @@ impl Ledger {
         self.counts.count(frame) == 0
     }
 
-    /// The frames that some device holds or lingers on.
-    pub fn named_frames(&self) -> &FrameSet
-        ensures { (frame : ℕ) → (has result.now frame ≡ false) ↔ IsFreeIn self.now frame }
+    /// The highest frame below the limit, but not the named one, that is in the pool and that no device
+    /// holds or lingers on. Looks at no row and no count.
+    pub fn highest_free(&self, limit: u32, named: Option<u32>) -> Option<u32>
+        ensures { MatchOption result (NoneIsOffered self.now named limit) (IsHighestOffered self.now named limit) }
     {
-        self.counts.named()
+        self.counts.highest_free(limit, named)
     }
 
     /// Whether the device holds some page.
@@ -200,5 +201,14 @@ impl Ledger {
             &mut self.pending,
             ticket,
         );
+    }
+
+    /// Takes the frame out of the pool, so that it is never offered. Nothing else changes, and no memory is
+    /// taken.
+    pub fn reserve(&mut self, frame: u32)
+        ensures reserved { Reserves self.old self.new frame }
+        ensures agrees { (h : History) → Agrees self.old h → Agrees self.new h }
+    {
+        self.counts.reserve(frame);
     }
 }

@@ -8,6 +8,10 @@
 //! stores. The layers above may rely on each call carrying agreement with a history on to the history
 //! with the call's entry, and on each look-up answering what every such history says
 //! (`specs/Shown.antt`).
+//!
+//! Beside the rows it counts how many of them name each frame, so that whether a frame is free is one
+//! look at a count. The frames of memory that aren't reserved are its *pool*; of those it keeps the set of
+//! the free ones, so that the highest free frame is found without a look at rows or counts.
 #![tactic(auto)]
 
 mod counts;

@@ -24,9 +24,10 @@ pub(crate) fn note(pending: &mut Ring, release: Pending)
 /// Takes the oldest release: where it is under the ticket, the rows that wait for it are dropped, and
 /// else it goes to the end.
 fn turn(devices: &mut Devices, counts: &mut RowCounts, pending: &mut Ring, ticket: u32)
-    requires counted { AreCounted devices.old counts.old }
+    requires counted { AreCounted devices.old counts.old.counts.items }
     requires room { length pending.old.items ≤ pending.old.capacity }
-    ensures counted { AreCounted devices.new counts.new }
+    ensures counted { AreCounted devices.new counts.new.counts.items }
+    ensures pool { counts.new.pool ≡ counts.old.pool }
     ensures rows { (release : Pending) (rest : List Pending) → pending.old.items ≡ release ∷ rest → DropsNamed devices.old devices.new release ticket }
     ensures items { (release : Pending) (rest : List Pending) → pending.old.items ≡ release ∷ rest → pending.new.items ≡ rest ++ filter (λ p. not (ticket == p.ticket)) (release ∷ []) }
     ensures capacity { pending.new.capacity ≡ pending.old.capacity }
@@ -48,9 +49,10 @@ pub(crate) fn confirm_in(
     pending: &mut Ring,
     ticket: u32,
 )
-    requires counted { AreCounted devices.old counts.old }
+    requires counted { AreCounted devices.old counts.old.counts.items }
     requires named { AllNamed devices.old pending.old.items }
-    ensures counted { AreCounted devices.new counts.new }
+    ensures counted { AreCounted devices.new counts.new.counts.items }
+    ensures pool { counts.new.pool ≡ counts.old.pool }
     ensures rows { DropsRows devices.old devices.new ticket }
     ensures items { pending.new.items ≡ filter (λ release. not (ticket == release.ticket)) pending.old.items }
     ensures capacity { pending.new.capacity ≡ pending.old.capacity }

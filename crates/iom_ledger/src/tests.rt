@@ -293,3 +293,32 @@ fn a_refused_call_changes_nothing_and_succeeds_at_once_when_repeated(
     }
     Ok(())
 }
+
+/// Of six frames 5 is reserved, 4 and 2 are granted: what is offered comes and goes with the rows.
+#[test]
+fn the_highest_free_frame_of_the_pool_is_found(rt: HostRuntime) -> Result<(), Fail> {
+    let mut ledger = Ledger::new(rt.alloc(), 6)?;
+    assert_eq!(rt; ledger.highest_free(u32::MAX, None), Some(5));
+    ledger.reserve(5);
+    assert!(rt; ledger.is_free(5));
+    let walk = [
+        (granted(1, 3, 4, Rights::RW), Some(3)),
+        (granted(2, 3, 4, Rights::R), Some(3)),
+        (granted(1, 4, 2, Rights::R), Some(3)),
+        (granted(1, 5, 5, Rights::R), Some(3)),
+        (granted(1, 6, 9, Rights::R), Some(3)),
+        (released(1, 3, 1), Some(3)),
+        (confirmed(1), Some(3)),
+        (all_released(2, 2), Some(3)),
+        (confirmed(2), Some(4)),
+        (all_released(1, 3), Some(4)),
+        (confirmed(3), Some(4)),
+    ];
+    for (entry, highest) in walk {
+        bring_about(&mut ledger, entry)?;
+        assert_eq!(rt; ledger.highest_free(64, None), highest);
+    }
+    assert_eq!(rt; ledger.highest_free(4, Some(3)), Some(2));
+    assert_eq!(rt; ledger.highest_free(1, Some(0)), None);
+    Ok(())
+}

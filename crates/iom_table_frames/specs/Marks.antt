@@ -1,9 +1,8 @@
 -- Marks of reserved frames, and free frames.
-use Rattle.std.specs.Prelude.{◌≡◌, ◌≢◌, ℕ, ◌-◌, ◌<◌, ◌≤◌, Bool, false, List, ◌++◌, length, replicate, Option, None, Some, is_some, slice_get}
+use Rattle.std.specs.Prelude.{◌≡◌, ◌≢◌, ℕ, ◌-◌, ◌<◌, ◌≤◌, Bool, false, List, ◌++◌, replicate, Option, None, Some, is_some, is_none, slice_get}
 use Rattle.std.specs.Option.{option_map_or}
-use Rattle.iom_frame_set.specs.Sets.{has, room}
 use Rattle.iom_ledger.specs.declared.ledger.Ledger.{Ledger}
-use Rattle.iom_ledger.specs.Shown.{IsFreeIn}
+use Rattle.iom_ledger.specs.Shown.{IsFreeIn, is_pooled}
 use Rattle.iom_table_frames.specs.declared.table_frames.Owner.{Owner}
 use Rattle.iom_table_frames.specs.declared.table_frames.Owner.TheVariants.{System}
 
@@ -14,6 +13,14 @@ opening_marks frames = replicate (frames - 4) None ++ replicate 4 (Some System)
 -- whether the frame is reserved; one outside memory isn't
 abbrev pub is_reserved : List (Option Owner) → ℕ → Bool
 is_reserved marks frame = option_map_or (λ mark. is_some mark) (slice_get marks frame) false
+
+-- whether it is a frame of memory that isn't reserved
+abbrev pub is_unreserved : List (Option Owner) → ℕ → Bool
+is_unreserved marks frame = option_map_or (λ mark. is_none mark) (slice_get marks frame) false
+
+-- the frames that aren't reserved are those of the ledger's pool
+abbrev pub OffersUnreserved : List (Option Owner) → Ledger → Type 0
+OffersUnreserved marks ledger = (f : ℕ) → is_pooled ledger f ≡ is_unreserved marks f
 
 -- the frame is free for a table that isn't to be the named one: not reserved, and no device holds or lingers on it
 pub record IsFreeBesides (marks : List (Option Owner)) (ledger : Ledger) (named : Option ℕ) (frame : ℕ) : Type 0 where
@@ -31,8 +38,3 @@ pub record IsHighestFree (marks : List (Option Owner)) (ledger : Ledger) (named 
   pub below : frame < limit
   pub free : IsFreeBesides marks ledger named frame
   pub highest : (higher : ℕ) → frame < higher → higher < limit → ¬ IsFreeBesides marks ledger named higher
-
--- the set has the frames that are reserved, and room for each that has a mark
-pub record IsReservedSet (marks : List (Option Owner)) (reserved : List ℕ) : Type 0 where
-  pub has_reserved : (frame : ℕ) → has reserved frame ≡ is_reserved marks frame
-  pub roomy : length marks ≤ room reserved

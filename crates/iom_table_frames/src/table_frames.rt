@@ -1,13 +1,12 @@
-ghost use Rattle.std.specs.Prelude.{◌≡◌, ◌≢◌, ◌+◌, ◌-◌, ◌<◌, ◌≤◌, ℕ, [], ◌∷◌, ◌++◌, length, replicate, IfOk, None, Some, slice_set, MatchOption, ◌↔◌, IsTrue};
-ghost use Rattle.iom_base.specs.declared.access.AccessKind.{AccessKind};
+ghost use Rattle.std.specs.Prelude.{◌≡◌, ◌+◌, ◌-◌, ◌<◌, ◌≤◌, ℕ, nat_lt, length, replicate, IfOk, None, Some, slice_set, MatchOption};
 ghost use Rattle.iom_phys_mem.specs.Words.{zeroed};
 ghost use Rattle.iom_ledger.specs.History.{History};
-ghost use Rattle.iom_ledger.specs.Shown.{Agrees, IsFreeIn};
-ghost use Rattle.iom_table_frames.specs.Marks.{is_reserved, opening_marks, NoneIsFree, IsHighestFree};
+ghost use Rattle.iom_ledger.specs.Shown.{Agrees, is_pooled};
+ghost use Rattle.iom_ledger.specs.Changes.{ShowsSame, Reserves};
+ghost use Rattle.iom_table_frames.specs.Marks.{is_reserved, opening_marks, OffersUnreserved, NoneIsFree, IsHighestFree};
 ghost use Rattle.iom_table_frames.specs.declared.table_frames.Owner.TheVariants as owner;
 
 use iom_base::DeviceId;
-use iom_frame_set::FrameSet;
 use iom_ledger::Ledger;
 use iom_phys_mem::{Bytes, Memory};
 use std::alloc::{AllocError, Global};
@@ -26,7 +25,6 @@ pub enum Owner {
 #[derive(Drop)]
 pub struct TableFrames {
     marks: Vec<Option<Owner>>,
-    reserved: FrameSet,
 }
 
 impl Model for TableFrames {
@@ -36,29 +34,28 @@ impl Model for TableFrames {
     ghost Value = { List (Option Owner) };
 
     ghost view = { λ t. t.marks.items };
-
-    ghost use Rattle.iom_table_frames.specs.Marks.{IsReservedSet};
-
-    ghost invariant = { λ t. IsReservedSet t.marks.items t.reserved };
 }
 
 impl TableFrames {
-    /// The marks of so many frames: the last four are the system's. Takes all its memory here.
-    pub fn new(alloc: Global, frames: u32) -> Result<TableFrames, AllocError>
-        requires { 4 ≤ frames }
-        ensures { IfOk result (λ marks. marks ≡ opening_marks frames) }
+    /// The marks of so many frames: the last four are the system's, and leave the ledger's pool. Takes all
+    /// its memory here. Where that is refused, the ledger shows the same.
+    pub fn new(alloc: Global, frames: u32, ledger: &mut Ledger) -> Result<TableFrames, AllocError>
+        requires fixed { 4 ≤ frames }
+        requires pool { (f : ℕ) → is_pooled ledger.old f ≡ nat_lt f frames }
+        ensures marks { IfOk result (λ marks. marks ≡ opening_marks frames) }
+        ensures offers { IfOk result (λ marks. OffersUnreserved marks ledger.new) }
+        ensures shows { ShowsSame ledger.old ledger.new }
+        ensures agrees { (h : History) → Agrees ledger.old h → Agrees ledger.new h }
     {
         let mut marks = Vec::with_capacity(alloc, frames as usize)?;
-        let mut reserved = FrameSet::new(alloc);
-        reserved.make_room(frames)?;
-        for free in 0..frames - 4 {
+        for free in 0..frames {
             marks.push(None)?;
         }
         for fixed in 0..4u32 {
-            marks.push(Some(Owner::System))?;
-            reserved.insert(frames - 4 + fixed);
+            marks[(frames - 4 + fixed) as usize] = Some(Owner::System);
+            ledger.reserve(frames - 4 + fixed);
         }
-        Ok(TableFrames { marks, reserved })
+        Ok(TableFrames { marks })
     }
 
     /// Whether the frame is reserved; false outside memory.
@@ -72,25 +69,33 @@ impl TableFrames {
     }
 
     /// The highest free frame below the limit, which isn't the named one: free is what is neither
-    /// reserved nor held, nor released and not confirmed, by any device. Looks at two words for 64 frames,
-    /// whatever is granted.
+    /// reserved nor held, nor released and not confirmed, by any device.
     pub fn highest_free(&self, ledger: &Ledger, limit: u32, named: Option<u32>) -> Option<u32>
-        requires { limit ≤ length self.now }
+        requires limit { limit ≤ length self.now }
+        requires offers { OffersUnreserved self.now ledger.now }
         ensures { MatchOption result (NoneIsFree self.now ledger.now named 0 limit) (IsHighestFree self.now ledger.now named limit) }
     {
-        self.reserved
-            .highest_outside(ledger.named_frames(), limit, named)
+        ledger.highest_free(limit, named)
     }
 
-    /// Reserves the frame for the device's tables, and makes its bytes zero.
-    pub fn reserve(&mut self, memory: &mut Memory, frame: u32, device: DeviceId)
+    /// Reserves the frame for the device's tables, so that it leaves the ledger's pool, and makes its bytes
+    /// zero.
+    pub fn reserve(
+        &mut self,
+        memory: &mut Memory,
+        ledger: &mut Ledger,
+        frame: u32,
+        device: DeviceId,
+    )
         requires marked { frame < length self.old }
         requires inside { frame < length memory.old }
         ensures mark { self.new ≡ slice_set self.old frame (Some (owner.OneDevice device)) }
         ensures zero { memory.new ≡ slice_set memory.old frame zeroed }
+        ensures ledger { Reserves ledger.old ledger.new frame }
+        ensures agrees { (h : History) → Agrees ledger.old h → Agrees ledger.new h }
     {
         self.marks[frame as usize] = Some(Owner::OneDevice(device));
-        self.reserved.insert(frame);
+        ledger.reserve(frame);
         if let Some(bytes) = memory.frame_mut(frame) {
             *bytes = [0; 4096];
         }

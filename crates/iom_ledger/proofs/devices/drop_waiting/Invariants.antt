@@ -1,3 +1,4 @@
+use Rattle.std.proofs.Common.{◌≡◌}
 use Rattle.iom_ledger.specs.Counts.{AreCounted}
 use Rattle.iom_ledger.specs.Rows.{entries_of, DropsSome, NoneWaitsFrom}
 use Rattle.iom_ledger.proofs.devices.drop_waiting.Given as goal
@@ -5,7 +6,8 @@ use Rattle.iom_ledger.proofs.devices.drop_waiting.Given as goal
 -- from the index on no row waits
 abbrev pub invariant-loop-index : goal.invariant-loop-index
 invariant-loop-index l = record {
-  counted : AreCounted l.devices l.counts;
+  counted : AreCounted l.devices l.counts.counts.items;
+  pool : l.counts.pool ≡ l.fn.counts.pool;
   rows : DropsSome l.fn.devices l.devices l.device l.ticket;
   looked : NoneWaitsFrom (entries_of l.devices l.device) l.index l.ticket;
 }

@@ -16,5 +16,6 @@ loop-n-preserved c =
       items = c.turn.ensures.items (get_or s n none) rest oldest ∙ items_more c.args.ticket n s none within;
       capacity = c.turn.ensures.capacity ∙ c.loop-n.invariant.capacity;
       counted = c.turn.ensures.counted;
+      pool = c.turn.ensures.pool ∙ c.loop-n.invariant.pool;
       room = c.turn.ensures.room;
     }

@@ -11,6 +11,7 @@ invariant-loop-n l =
       rows : (d a : ℕ) → row_at l.devices d a ≡ dropped (any_names (take l.n l.fn.pending.items) d a l.ticket) (row_at l.fn.devices d a) l.ticket;
       items : l.pending.items ≡ drop l.n l.fn.pending.items ++ filter (is_other l.ticket) (take l.n l.fn.pending.items);
       capacity : l.pending.capacity ≡ l.fn.pending.capacity;
-      counted : AreCounted l.devices l.counts;
+      counted : AreCounted l.devices l.counts.counts.items;
+      pool : l.counts.pool ≡ l.fn.counts.pool;
       room : length l.pending.items ≤ l.pending.capacity;
     }

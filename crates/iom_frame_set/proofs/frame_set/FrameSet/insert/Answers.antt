@@ -1,14 +1,6 @@
-use Rattle.std.proofs.Common.{◌≡◌, ◌==◌, length, true, if◌then◌else◌, ap, ◌∙◌, arith}
-use Rattle.std.specs.Int.{bit_at}
-use Rattle.std.proofs.lemmas.List.{get_or_read}
-use Rattle.iom_frame_set.specs.Sets.{has}
-use Rattle.iom_frame_set.proofs.SetLemmas.{Inserts-written}
+use Rattle.iom_frame_set.proofs.SetLemmas.{IsSummary-inserted}
 use Rattle.iom_frame_set.proofs.frame_set.FrameSet.insert.Goals as goal
 
-pub returns-clause-inserted : goal.returns-clause-inserted
-returns-clause-inserted c f =
-    let words = c.self.inside.words.items in
-    let long : length words ≡ length c.args.self.now = ap length c.self.view_is in
-    let read = get_or_read words _ _ (omega arith) c.index.ensures 0 in
-    Inserts-written words c.args.frame c.with_bit.result (omega arith) c.with_bit.ensures.set (λ k other. c.with_bit.ensures.others k other ∙ ap (λ word. bit_at word k) read) f
-    ∙ ap (λ ws. if c.args.frame == f then true else has ws f) c.self.view_is
+pub invariant_of-self : goal.invariant_of-self
+invariant_of-self c =
+    IsSummary-inserted c.self.inside.frames c.insert.new.self c.self.inside.filled c.insert-2.new.self c.args.frame c.insert.ensures.inserted c.insert.ensures.others c.insert.ensures.length c.insert-2.ensures.inserted c.insert-2.ensures.length c.self.invariant

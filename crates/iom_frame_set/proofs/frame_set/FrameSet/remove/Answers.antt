@@ -1,19 +1,7 @@
-use Rattle.std.proofs.Common.{◌≡◌, ◌==◌, length, false, if◌then◌else◌, ap, ◌∙◌, arith}
-use Rattle.std.specs.Int.{bit_at}
-use Rattle.std.proofs.lemmas.List.{get_or_read}
-use Rattle.iom_frame_set.specs.Sets.{has}
-use Rattle.iom_frame_set.proofs.SetLemmas.{Removes-written, Removes-beyond}
+use Rattle.std.proofs.Common.{arith}
+use Rattle.iom_frame_set.proofs.SetLemmas.{IsSummary-left}
 use Rattle.iom_frame_set.proofs.frame_set.FrameSet.remove.Goals as goal
 
-pub returns-then-index-len-clause-removed : goal.returns-then-index-len-clause-removed
-returns-then-index-len-clause-removed c f =
-    let words = c.self.inside.words.items in
-    let long : length words ≡ length c.args.self.now = ap length c.self.view_is in
-    let read = get_or_read words _ _ (omega (arith, c.len.ensures, c.if-index-len.true)) c.index.ensures 0 in
-    Removes-written words c.args.frame c.without_bit.result (omega (arith, c.len.ensures, c.if-index-len.true)) c.without_bit.ensures.clear (λ k within other. c.without_bit.ensures.others k within other ∙ ap (λ word. bit_at word k) read) f
-    ∙ ap (λ ws. if c.args.frame == f then false else has ws f) c.self.view_is
-
-pub returns-else-index-len-clause-removed : goal.returns-else-index-len-clause-removed
-returns-else-index-len-clause-removed c f =
-    let long : length c.self.inside.words.items ≡ length c.args.self.now = ap length c.self.view_is in
-    Removes-beyond c.args.self.now c.args.frame (omega (arith, c.len.ensures, c.if-index-len.false)) f
+pub invariant_of-self-else-word-eq0 : goal.invariant_of-self-else-word-eq0
+invariant_of-self-else-word-eq0 c =
+    IsSummary-left c.self.inside.frames c.remove.new.self c.self.inside.filled c.args.frame c.word.result c.remove.ensures.removed c.remove.ensures.others c.remove.ensures.length (omega arith) c.word.ensures c.if-word-eq0.false c.self.invariant

@@ -9,10 +9,10 @@ use Rattle.iom_ledger.proofs.CountLemmas.{no_row_from_count, count_from_no_row}
 use Rattle.iom_ledger.proofs.ledger.Ledger.is_free.Goals as goal
 
 -- the count is 0 exactly where no row names the frame
-counts_none : (ledger : Ledger) (frame count : ℕ) → count ≡ count_of ledger.counts frame → ((count == 0) ≡ true) ↔ (SomeRowNames ledger.devices frame → ⊥)
+counts_none : (ledger : Ledger) (frame count : ℕ) → count ≡ count_of ledger.counts.counts.items frame → ((count == 0) ≡ true) ↔ (SomeRowNames ledger.devices frame → ⊥)
 counts_none ledger frame count is = (
-  (λ zero. no_row_from_count ledger.devices ledger.counts frame ledger.counted (sym is ∙ eqb-true count 0 zero)),
-  (λ none. eq-eqb count 0 (is ∙ count_from_no_row ledger.devices ledger.counts frame ledger.counted none)),
+  (λ zero. no_row_from_count ledger.devices ledger.counts.counts.items frame ledger.counted (sym is ∙ eqb-true count 0 zero)),
+  (λ none. eq-eqb count 0 (is ∙ count_from_no_row ledger.devices ledger.counts.counts.items frame ledger.counted none)),
 )
 
 pub returns-clause-shown : goal.returns-clause-shown

@@ -10,7 +10,7 @@ use Rattle.iom_ledger.proofs.ledger.Ledger.release_all.Goals as goal
 pub invariant_of-self-clause-counted : goal.invariant_of-self-clause-counted
 invariant_of-self-clause-counted c =
     let old = c.args.self.now in
-    AreCounted-kept old.devices c.release_all_in.new.devices old.counts old.counts
+    AreCounted-kept old.devices c.release_all_in.new.devices old.counts.counts.items old.counts.counts.items
     (λ d a f. ap (λ row. names_frame row f) (c.release_all_in.ensures d a) ∙ names-released (c.args.device == d) (row_at old.devices d a) c.args.ticket f) (λ f. refl) old.counted
 
 pub invariant_of-self-clause-named : goal.invariant_of-self-clause-named
