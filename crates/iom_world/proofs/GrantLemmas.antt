@@ -20,9 +20,24 @@ use Rattle.iom_world.proofs.AttachLemmas.{unmarked}
 use Rattle.iom_world.proofs.MarkLemmas.{not_among, mark_stays, length-marked_for}
 use Rattle.iom_world.proofs.TableLemmas.{tables_stay}
 
--- a grant that was refused leaves what the ledger shows, and so all that holds of it
+-- what a ledger shows, after a refused grant and after a frame was reserved
 
-grants_unchanged : (marks : List (Option Owner)) (old new : Ledger) → changes.IsUnchanged old new → AreGrants marks old → AreGrants marks new
+pub shown_unchanged : (old new : Ledger) → changes.IsUnchanged old new → changes.ShowsSame old new
+shown_unchanged old new same = record { held = same.held; lingering = same.lingering; waiting = same.waiting }
+
+pub shown_reserved : (old new : Ledger) (frame : ℕ) → changes.Reserves old new frame → changes.ShowsSame old new
+shown_reserved old new frame reserved = record { held = reserved.held; lingering = reserved.lingering; waiting = reserved.waiting }
+
+pub shown_twice : (old mid new : Ledger) → changes.ShowsSame old mid → changes.ShowsSame mid new → changes.ShowsSame old new
+shown_twice old mid new first second = record {
+  held = λ d a. second.held d a ∙ first.held d a;
+  lingering = λ d a. second.lingering d a ∙ first.lingering d a;
+  waiting = second.waiting ∙ first.waiting;
+}
+
+-- all that holds of what a ledger shows holds where another shows the same
+
+grants_unchanged : (marks : List (Option Owner)) (old new : Ledger) → changes.ShowsSame old new → AreGrants marks old → AreGrants marks new
 grants_unchanged marks old new same grants = record {
   held = λ device page frame rights held. grants.held device page frame rights (sym (same.held device page) ∙ held);
   lingering = λ device page frame rights lingers.
@@ -38,7 +53,7 @@ covered_same old new completed id flight held released covered = record {
   within = covered.within;
 }
 
-pub sound_unchanged : (memory : List (List ℕ)) (marks : List (Option Owner)) (old new : Ledger) (devices : List Device) (queue : Queue) (events : ℕ) → changes.IsUnchanged old new
+pub sound_unchanged : (memory : List (List ℕ)) (marks : List (Option Owner)) (old new : Ledger) (devices : List Device) (queue : Queue) (events : ℕ) → changes.ShowsSame old new
     → IsSound memory marks old devices queue events → IsSound memory marks new devices queue events
 sound_unchanged memory marks old new devices queue events same sound = record {
   marked = sound.marked;
@@ -54,7 +69,7 @@ sound_unchanged memory marks old new devices queue events same sound = record {
   few = sound.few;
 }
 
-pub tables_unchanged : (memory : List (List ℕ)) (marks : List (Option Owner)) (old new : Ledger) (devices : List Device) → changes.IsUnchanged old new
+pub tables_unchanged : (memory : List (List ℕ)) (marks : List (Option Owner)) (old new : Ledger) (devices : List Device) → changes.ShowsSame old new
     → HaveTables memory marks old devices → HaveTables memory marks new devices
 tables_unchanged memory marks old new devices same tables k device root at rooted =
     tables_stay memory memory marks marks old new device.id root (tables k device root at rooted) (λ n own. (refl, refl)) (λ page. same.held device.id page)

@@ -2,12 +2,15 @@
 ghost use Rattle.std.specs.Prelude.{◌≡◌, ◌+◌, ◌≤◌, ◌<◌, ℕ, List, IfOk, IfErr, IfSome, IfNone, OnOk, Some, length, All, Bool, false};
 ghost use Rattle.iom_ledger.specs.declared.refusal.Refusal.{Refusal};
 ghost use Rattle.iom_ledger.specs.declared.refusal.Refusal.TheVariants.{QueueFull, NumbersUsedUp};
-ghost use Rattle.iom_ledger.specs.Shown.{IsGrantable};
+ghost use Rattle.iom_ledger.specs.Changes.{ShowsSame};
+ghost use Rattle.iom_ledger.specs.History.{History};
+ghost use Rattle.iom_ledger.specs.Shown.{Agrees, IsGrantable};
 ghost use Rattle.iom_machine.specs.declared.outcome.Outcome.TheVariants as outcome;
 ghost use Rattle.iom_machine.specs.declared.state.State.{State};
 ghost use Rattle.iom_machine.specs.declared.state.Mode.TheVariants.{First};
 ghost use Rattle.iom_machine.specs.Machine.{Attaches, Grants, Releases};
 ghost use Rattle.iom_machine.specs.Refusals.{first_that_applies, attachment_reasons, grant_reasons, release_reasons, NoneApplies};
+ghost use Rattle.iom_table_frames.specs.Marks.{OffersUnreserved};
 ghost use Rattle.iom_world.specs.Answers.{outcome_of};
 ghost use Rattle.iom_world.specs.Admission.{IsRootOf, MayBeGranted, AreChosen, TooFewAreFree, marked_for, cleared};
 ghost use Rattle.iom_world.specs.Shows.{Shows};
@@ -16,7 +19,7 @@ use crate::answer::Answer;
 use crate::world::World;
 use arrayvec::ArrayVec;
 use iom_base::{DeviceId, Rights};
-use iom_ledger::Refusal;
+use iom_ledger::{Ledger, Refusal};
 use iom_page_table::{PageLeaf, map, missing, unmap};
 use iom_phys_mem::{Bytes, Memory};
 use iom_table_frames::TableFrames;
@@ -25,14 +28,23 @@ use iom_table_frames::TableFrames;
 const PAGE_LIMIT: u64 = 1 << 26;
 
 /// Reserves the frames for the device's tables, and makes them zero.
-fn reserve_all(marks: &mut TableFrames, memory: &mut Memory, frames: &[u32], device: DeviceId)
+fn reserve_all(
+    marks: &mut TableFrames,
+    memory: &mut Memory,
+    ledger: &mut Ledger,
+    frames: &[u32],
+    device: DeviceId,
+)
     requires marked { All (λ frame. frame < length marks.old) frames.now }
     requires inside { All (λ frame. frame < length memory.old) frames.now }
     ensures marks { marks.new ≡ marked_for device frames.now marks.old }
     ensures memory { memory.new ≡ cleared frames.now memory.old }
+    ensures shows { ShowsSame ledger.old ledger.new }
+    ensures agrees { (h : History) → Agrees ledger.old h → Agrees ledger.new h }
+    ensures offered { OffersUnreserved marks.old ledger.old → OffersUnreserved marks.new ledger.new }
 {
     for frame in frames {
-        marks.reserve(memory, *frame, device);
+        marks.reserve(memory, ledger, *frame, device);
     }
 }
 
@@ -55,7 +67,7 @@ impl World {
         let Some(root) = self.marks.highest_free(&self.ledger, frames, None) else {
             return Answer::Refused(Refusal::NoFrames);
         };
-        self.marks.reserve(&mut self.memory, root, id);
+        self.marks.reserve(&mut self.memory, &mut self.ledger, root, id);
         let device = &mut self.devices[place];
         device.root = Some(root);
         Answer::Done
@@ -138,7 +150,7 @@ impl World {
         if self.ledger.grant(id, page, frame, rights).is_err() {
             return Answer::Refused(Refusal::Memory);
         }
-        reserve_all(&mut self.marks, &mut self.memory, tables.as_slice(), id);
+        reserve_all(&mut self.marks, &mut self.memory, &mut self.ledger, tables.as_slice(), id);
         let leaf = PageLeaf { frame, rights };
         map(&mut self.memory, root, page, leaf, tables.as_slice());
         Answer::Done

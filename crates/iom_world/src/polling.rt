@@ -1,5 +1,6 @@
 // What the IOMMU does with the driver's commands, and what the driver learns of it.
 ghost use Rattle.std.specs.Prelude.{◌≡◌, ◌↔◌, ℕ, suc, Bool, IsTrue, ◌<◌, ◌≤◌, ◌+◌, ◌-◌};
+ghost use Rattle.iom_ledger.specs.Changes.{SamePool};
 ghost use Rattle.iom_ledger.specs.History.{History};
 ghost use Rattle.iom_ledger.specs.Shown.{Agrees};
 ghost use Rattle.iom_machine.specs.declared.state.State.{State};
@@ -22,6 +23,7 @@ fn confirm_tickets(ledger: &mut Ledger, first: u32, last: u32)
     requires { first ≤ last }
     ensures agrees { (h : History) → Agrees ledger.old h → Agrees ledger.new (confirmed_from first (suc (last - first)) h) }
     ensures confirmed { ConfirmsFrom ledger.old ledger.new first (suc (last - first)) }
+    ensures pool { SamePool ledger.old ledger.new }
 {
     for ticket in first..=last {
         ledger.confirm(ticket);

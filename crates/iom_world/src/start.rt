@@ -28,8 +28,8 @@ impl World {
         ensures opening { IfOk result (λ world. Shows world (opening frames levels)) }
         ensures count { IfOk result (λ world. world.events ≡ 0) }
     {
-        let marks = TableFrames::new(alloc, frames)?;
-        let ledger = Ledger::new(alloc, frames)?;
+        let mut ledger = Ledger::new(alloc, frames)?;
+        let marks = TableFrames::new(alloc, frames, &mut ledger)?;
         let devices = Vec::with_capacity(alloc, ROOM)?;
         let commands = Commands::new(alloc)?;
         Ok(World {

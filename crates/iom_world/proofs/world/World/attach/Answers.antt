@@ -22,6 +22,8 @@ use Rattle.iom_table_frames.specs.Marks.{NoneIsFree, IsHighestFree}
 use Rattle.iom_world.proofs.FreeLemmas.{free_in_machine, free_in_world}
 use Rattle.iom_world.specs.declared.device.Device.{Device}
 use Rattle.iom_world.specs.Places.{IsPlaceOf}
+use Rattle.iom_table_frames.proofs.MarkLemmas.{OffersUnreserved-reserved}
+use Rattle.iom_world.proofs.GrantLemmas.{shown_reserved, sound_unchanged, tables_unchanged}
 use Rattle.iom_world.proofs.AttachLemmas.{sound_attached, tables_attached, rooted, unmarked, none_free}
 use Rattle.iom_world.proofs.ListLemmas.{get_within, read_is, get_set_same, get_set_other}
 use Rattle.iom_world.proofs.ReasonLemmas.{attach_absent, attach_again, attach_wide, attach_may}
@@ -130,11 +132,15 @@ invariant_of-self-2 c =
     let own : device.id ≡ c.args.id = ap (λ (d : Device). d.id) same_device ∙ place.2 in
     let mark : c.reserve.new.self ≡ slice_set world.marks root (Some (OneDevice device.id)) = c.reserve.ensures.mark ∙ ap (λ i. slice_set world.marks root (Some (OneDevice i))) (sym own) in
     let none : (page : ℕ) → held_in world.ledger device.id page ≡ None = (world.sound.each c.in-Some.place device at).detached (ap (λ (d : Device). d.root) same_device ∙ detached) in
+    let shown = shown_reserved world.ledger c.reserve.new.ledger root c.reserve.ensures.ledger in
     rw (mark, c.reserve.ensures.zero) record {
-      sound = sound_attached world.memory (slice_set world.memory root zeroed) world.marks world.ledger world.devices.items world.commands world.events c.in-Some.place root device (OneDevice device.id)
-          world.sound at found.free.ungranted (length-set world.memory root zeroed);
-      tables = tables_attached world.memory (slice_set world.memory root zeroed) world.marks world.ledger world.devices.items c.in-Some.place root device
-          world.tables at marked (unmarked world.marks root marked found.free.unmarked) (λ n other. get_set_other world.memory root n zeroed other) (get_set_same world.memory root zeroed inside) none;
+      sound = sound_unchanged _ _ world.ledger c.reserve.new.ledger _ world.commands world.events shown
+          (sound_attached world.memory (slice_set world.memory root zeroed) world.marks world.ledger world.devices.items world.commands world.events c.in-Some.place root device (OneDevice device.id)
+          world.sound at found.free.ungranted (length-set world.memory root zeroed));
+      tables = tables_unchanged _ _ world.ledger c.reserve.new.ledger _ shown
+          (tables_attached world.memory (slice_set world.memory root zeroed) world.marks world.ledger world.devices.items c.in-Some.place root device
+          world.tables at marked (unmarked world.marks root marked found.free.unmarked) (λ n other. get_set_other world.memory root n zeroed other) (get_set_same world.memory root zeroed inside) none);
+      offered = OffersUnreserved-reserved world.marks (OneDevice device.id) world.ledger c.reserve.new.ledger root marked c.reserve.ensures.ledger world.offered;
     }
 
 pub returns-clause-step : goal.returns-clause-step
@@ -164,7 +170,7 @@ returns-clause-step c = λ state shows.
             (device_of state c.args.id) (shown_device place.0) shown refl,
       ),
       record {
-        ledger = shows.ledger;
+        ledger = c.reserve.ensures.agrees state.history shows.ledger;
         frames = rw (c.reserve.ensures.mark, c.reserve.ensures.zero) frames;
         devices = ap (λ (ds : List machine.Device). replaced_device ds place.0.id (shown_device (rooted place.0 root))) shows.devices
             ∙ ap (λ i. replaced_device (shown_devices world.devices.items) i (shown_device (rooted place.0 root))) place.2

@@ -46,6 +46,7 @@ invariant_of-self c =
     record {
       sound = sound_made world.memory world.marks world.ledger world.devices.items world.commands world.events c.args.place c.requires.0 c.take_read.new.self world.sound c.requires.2 is;
       tables = tables_made world.memory world.marks world.ledger world.devices.items c.args.place c.requires.0 c.take_read.new.self world.tables c.requires.2 is;
+      offered = world.offered;
     }
 
 pub returns-clause-step : goal.returns-clause-step

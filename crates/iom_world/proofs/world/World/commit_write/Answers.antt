@@ -46,6 +46,7 @@ invariant_of-self c =
           (sound_made world.memory world.marks world.ledger world.devices.items world.commands world.events c.args.place c.requires.0 c.take_write.new.self world.sound c.requires.2 is);
       tables = tables_stored world.memory world.marks world.ledger (slice_set world.devices.items c.args.place c.take_write.new.self) c.args.access.frame c.take_write.new.frame
           (tables_made world.memory world.marks world.ledger world.devices.items c.args.place c.requires.0 c.take_write.new.self world.tables c.requires.2 is) free;
+      offered = world.offered;
     }
 
 pub returns-clause-step : goal.returns-clause-step

@@ -9,10 +9,11 @@ use Rattle.iom_machine.specs.Refusals.{grant_reasons, MayRefuseGrant}
 use Rattle.iom_page_table.specs.declared.leaf.PageLeaf.{PageLeaf}
 use Rattle.iom_table_frames.specs.declared.table_frames.Owner.{Owner}
 use Rattle.iom_table_frames.specs.declared.table_frames.Owner.TheVariants.{OneDevice}
+use Rattle.iom_table_frames.specs.Marks.{OffersUnreserved}
 use Rattle.iom_world.specs.Admission.{marked_for, cleared}
 use Rattle.iom_world.proofs.FrameLemmas.{shows_kept}
 use Rattle.iom_world.proofs.FreeLemmas.{free_in_machine, free_in_world}
-use Rattle.iom_world.proofs.GrantLemmas.{sound_unchanged, tables_unchanged, sound_granted}
+use Rattle.iom_world.proofs.GrantLemmas.{shown_unchanged, sound_unchanged, tables_unchanged, sound_granted}
 use Rattle.iom_world.proofs.GrantTables.{missing_two, may_be_mapped, IsMapped, mapped_others, tables_granted}
 use Rattle.iom_world.proofs.MarkLemmas.{length-cleared, shows_all_reserved}
 use Rattle.iom_world.proofs.RefusalLemmas.{refused_else}
@@ -58,9 +59,11 @@ pub invariant_of-self : goal.invariant_of-self
 invariant_of-self c =
     let world = c.args.self.now in
     let same = err_then c.grant.result (sym c.is_err.ensures.value ∙ c.if-is_err.true) c.grant.ensures.refused in
+    let shown = shown_unchanged world.ledger c.grant.new.self same in
     record {
-      sound = sound_unchanged world.memory world.marks world.ledger c.grant.new.self world.devices.items world.commands world.events same world.sound;
-      tables = tables_unchanged world.memory world.marks world.ledger c.grant.new.self world.devices.items same world.tables;
+      sound = sound_unchanged world.memory world.marks world.ledger c.grant.new.self world.devices.items world.commands world.events shown world.sound;
+      tables = tables_unchanged world.memory world.marks world.ledger c.grant.new.self world.devices.items shown world.tables;
+      offered = λ f. same.pool f ∙ world.offered f;
     }
 
 pub map-requires-clause-tree : goal.map-requires-clause-tree
@@ -115,10 +118,14 @@ invariant_of-self-2 c =
     let root = c.in-Ok.ensures.root in
     let chose = c.in-Some.ensures.chosen in
     rw (c.reserve_all.ensures.marks, c.as_slice.ensures.value) record {
-      sound = sound_granted world.memory c.map.new.memory world.marks world.ledger c.grant.new.self world.devices.items world.commands world.events c.args.id c.args.page c.args.frame c.in-Ok.root c.args.rights tables
-          world.sound (mapped.size ∙ length-cleared tables world.memory) granted root.1 root.0 chose.free;
-      tables = tables_granted world.memory c.map.new.memory world.marks world.ledger c.grant.new.self world.devices.items c.args.id c.in-Ok.root c.args.page c.args.frame c.missing-lacking.result c.args.rights tables
-          world.sound.marked world.tables world.sound.own_ids root.0 root.1.page_low granted chose mapped;
+      sound = sound_unchanged c.map.new.memory (marked_for c.args.id tables world.marks) c.grant.new.self c.reserve_all.new.ledger world.devices.items world.commands world.events c.reserve_all.ensures.shows
+          (sound_granted world.memory c.map.new.memory world.marks world.ledger c.grant.new.self world.devices.items world.commands world.events c.args.id c.args.page c.args.frame c.in-Ok.root c.args.rights tables
+          world.sound (mapped.size ∙ length-cleared tables world.memory) granted root.1 root.0 chose.free);
+      tables = tables_unchanged c.map.new.memory (marked_for c.args.id tables world.marks) c.grant.new.self c.reserve_all.new.ledger world.devices.items c.reserve_all.ensures.shows
+          (tables_granted world.memory c.map.new.memory world.marks world.ledger c.grant.new.self world.devices.items c.args.id c.in-Ok.root c.args.page c.args.frame c.missing-lacking.result c.args.rights tables
+          world.sound.marked world.tables world.sound.own_ids root.0 root.1.page_low granted chose mapped);
+      offered = subst (λ marks. OffersUnreserved marks c.reserve_all.new.ledger) (c.reserve_all.ensures.marks ∙ ap (λ ts. marked_for c.args.id ts world.marks) c.as_slice.ensures.value)
+          (c.reserve_all.ensures.offered (λ f. granted.pool f ∙ world.offered f));
     }
 
 pub returns-clause-step : goal.returns-clause-step
@@ -154,7 +161,7 @@ returns-clause-step c = λ state shows.
       record state { history = entry.Granted c.args.id c.args.page c.args.frame c.args.rights ∷ state.history; frames = reserved_for (machine.OneDevice c.args.id) tables state.frames },
       (c.in-Ok.ensures.admitted state shows, c.requires, taken, refl),
       record {
-        ledger = agrees state.history shows.ledger;
+        ledger = c.reserve_all.ensures.agrees _ (agrees state.history shows.ledger);
         frames = rw (c.reserve_all.ensures.marks, c.as_slice.ensures.value) frames;
         devices = shows.devices;
         given = shows.given;

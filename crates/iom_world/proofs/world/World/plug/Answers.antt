@@ -40,6 +40,7 @@ invariant_of-self c =
       tables = by_test (λ (devices : List Device). HaveTables world.memory world.marks world.ledger devices) _ _ _ _ c.push.ensures.items
           (tables_plugged world.memory world.marks world.ledger world.devices.items _ c.args.id world.tables record { own = refl; detached = refl; idle = c.in-Ok.ensures; none = refl })
           world.tables;
+      offered = world.offered;
     }
 
 pub returns-clause-step : goal.returns-clause-step

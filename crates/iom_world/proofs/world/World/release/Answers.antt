@@ -114,6 +114,7 @@ invariant_of-self c =
           world.sound released (omega arith) (omega arith) c.unmap.ensures.size);
       tables = tables_released world.memory c.unmap.new.memory world.marks world.ledger c.release.new.self world.devices.items c.args.id c.in-Ok.root c.args.page c.release-ticket.result
           world.tables world.sound.own_ids c.in-Ok.ensures.root unmapped c.release.ensures.released;
+      offered = λ f. c.release.ensures.released.pool f ∙ world.offered f;
     }
 
 pub returns-clause-step : goal.returns-clause-step

@@ -5,6 +5,7 @@ pub invariant_of-self : goal.invariant_of-self
 invariant_of-self c = let world = c.args.self.now in record {
   sound = sound_counted world.memory world.marks world.ledger world.devices.items world.commands world.events world.sound;
   tables = world.tables;
+  offered = world.offered;
 }
 
 pub answer-requires-clause-count : goal.answer-requires-clause-count

@@ -51,6 +51,7 @@ invariant_of-self c =
       sound = sound_accepted world.memory world.marks world.ledger world.devices.items world.commands world.events c.in-Some.place device flight c.accept_write-number.new.self
           world.sound at is reply.0.0 reply.1 (c.requires c.in-Some.place device at);
       tables = tables_accepted world.memory world.marks world.ledger world.devices.items c.in-Some.place device flight c.accept_write-number.new.self world.tables at is;
+      offered = world.offered;
     }
 
 pub returns-in-Accept-clause-step : goal.returns-in-Accept-clause-step
