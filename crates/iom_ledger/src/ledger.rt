@@ -33,11 +33,13 @@ pub struct Ledger {
 }
 
 impl Ledger {
-    ghost use Rattle.std.specs.Prelude.{◌↔◌, ◌<◌, ◌≤◌, ℕ, List, [], ◌∷◌, Contains, length, nat_lt, false, not, IsTrue, IsSome, IfOk, OnOk, OnErr, MatchOption, Some, None};
+    ghost use Rattle.std.specs.Prelude.{◌↔◌, ◌<◌, ◌≤◌, ℕ, List, [], ◌∷◌, Contains, length, nat_lt, false, not};
+    ghost use Rattle.std.specs.Prelude.{IsTrue, IsSome, IfOk, OnOk, OnErr, MatchOption, Some, None};
     ghost use Rattle.iom_ledger.specs.declared.entry.Entry.TheVariants.{Granted, Released, AllReleased, Confirmed};
     ghost use Rattle.iom_ledger.specs.History.{History, Pair, confirms, held_at, lingering_at, Holds, Lingers, IsFree};
     ghost use Rattle.iom_ledger.specs.Unconfirmed.{unconfirmed};
-    ghost use Rattle.iom_ledger.specs.Shown.{Agrees, IsFreeIn, IsGrantable, NoneIsOffered, IsHighestOffered, held_in, released_in, lingering_in, waiting_in, is_pooled};
+    ghost use Rattle.iom_ledger.specs.Shown.{Agrees, IsFreeIn, IsGrantable, NoneIsOffered, IsHighestOffered};
+    ghost use Rattle.iom_ledger.specs.Shown.{held_in, released_in, lingering_in, waiting_in, is_pooled};
     ghost use Rattle.iom_ledger.specs.Changes.{IsUnchanged, Grants, Releases, ReleasesAll, Confirms, Reserves};
 
     /// A ledger of no grants, whose pool is all of so many frames. Makes the room of [`MAX_WAITING`]

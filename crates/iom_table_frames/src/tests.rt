@@ -9,12 +9,12 @@ use std::test::Fail;
 fn the_highest_free_frame_is_taken(rt: HostRuntime) -> Result<(), Fail> {
     let mut memory = Memory::new(rt.alloc(), 64).map_err(|_| std::alloc::AllocError)?;
     let mut ledger = Ledger::new(rt.alloc(), 64)?;
-    let mut tables = TableFrames::new(rt.alloc(), 64)?;
+    let mut tables = TableFrames::new(rt.alloc(), 64, &mut ledger)?;
     assert!(rt; !tables.is_reserved(59));
     assert!(rt; tables.is_reserved(60));
     assert!(rt; tables.is_reserved(63));
     assert!(rt; !tables.is_reserved(64));
-    if ledger.holds(1, 3).is_none() && ledger.lingers(1, 3).is_none() {
+    if ledger.is_vacant(1, 3) {
         ledger.grant(1, 3, 59, Rights::R)?;
     }
     assert_eq!(rt; tables.highest_free(&ledger, 64, None), Some(58));
@@ -22,9 +22,10 @@ fn the_highest_free_frame_is_taken(rt: HostRuntime) -> Result<(), Fail> {
     assert_eq!(rt; tables.highest_free(&ledger, 1, Some(0)), None);
     if memory.frames() == 64 {
         let _ = memory.store_u64(58 * 4096, 7);
-        tables.reserve(&mut memory, 58, 1);
+        tables.reserve(&mut memory, &mut ledger, 58, 1);
     }
     assert!(rt; tables.is_reserved(58));
     assert_eq!(rt; memory.load_u64(58 * 4096), Some(0));
+    assert_eq!(rt; ledger.highest_free(64, None), Some(57));
     Ok(())
 }
