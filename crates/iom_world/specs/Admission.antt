@@ -3,10 +3,11 @@ use Rattle.std.specs.Prelude.{◌≡◌, ◌≢◌, ℕ, ◌^◌, ◌<◌, false
 use Rattle.std.specs.List.{IsDistinct}
 use Rattle.iom_ledger.specs.declared.ledger.Ledger.{Ledger}
 use Rattle.iom_ledger.specs.Shown.{held_in, lingering_in}
+use Rattle.iom_page_table.specs.Sv39.{missing_for}
 use Rattle.iom_phys_mem.specs.Words.{zeroed}
 use Rattle.iom_table_frames.specs.declared.table_frames.Owner.{Owner}
 use Rattle.iom_table_frames.specs.declared.table_frames.Owner.TheVariants.{OneDevice}
-use Rattle.iom_table_frames.specs.Marks.{is_reserved, IsFreeBesides}
+use Rattle.iom_table_frames.specs.Marks.{is_reserved, IsFreeBesides, IsHighestFree}
 use Rattle.iom_world.specs.declared.device.Device.{Device}
 
 -- the device with this id is attached, and its root is this frame
@@ -50,3 +51,19 @@ marked_for id (frame ∷ frames) marks = marked_for id frames (slice_set marks f
 abbrev pub cleared : List ℕ → List (List ℕ) → List (List ℕ)
 cleared [] memory = memory
 cleared (frame ∷ frames) memory = cleared frames (slice_set memory frame zeroed)
+
+-- the highest free frame becomes the root of the device
+abbrev pub TakesHighest : List (List ℕ) → List (Option Owner) → Ledger → ℕ → List (Option Owner) → Type 0
+TakesHighest memory marks ledger id new =
+    (root : ℕ) × IsHighestFree marks ledger None (length memory) root × (new ≡ slice_set marks root (Some (OneDevice id)))
+
+-- the page lacks more tables than there are free frames besides the one that is to be granted
+abbrev pub LacksTables : List (List ℕ) → List (Option Owner) → Ledger → List Device → ℕ → ℕ → ℕ → Type 0
+LacksTables memory marks ledger devices id page frame =
+    (root : ℕ) × IsRootOf devices id root × TooFewAreFree memory marks ledger frame (missing_for memory root page)
+
+-- the tables that the page lacks take the highest free frames besides the one that is granted, and they are the device's
+abbrev pub TakesTables : List (List ℕ) → List (Option Owner) → Ledger → List Device → ℕ → ℕ → ℕ → List (Option Owner) → Type 0
+TakesTables memory marks ledger devices id page frame new =
+    (root : ℕ) × (tables : List ℕ) × IsRootOf devices id root
+    × AreChosen memory marks ledger frame (missing_for memory root page) tables × (new ≡ marked_for id tables marks)

@@ -14,5 +14,6 @@ pub mod Shows
 pub mod Confirmed
 pub mod Replies
 pub mod Oldest
+pub mod Unseen
 pub mod Runs
 pub mod Start

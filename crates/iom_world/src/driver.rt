@@ -1,7 +1,8 @@
 // The calls of the driver: a device is attached, and gets and gives back frames.
-ghost use Rattle.std.specs.Prelude.{◌≡◌, ◌+◌, ◌≤◌, ◌<◌, ℕ, List, IfOk, IfErr, IfSome, IfNone, OnOk, Some, length, All, Bool, false};
+ghost use Rattle.std.specs.Prelude.{◌≡◌, ◌≢◌, ◌⊎◌, ◌+◌, ◌≤◌, ◌<◌, ℕ, List, IfOk, IfErr, IfSome, IfNone, OnOk, Some, length, All, Bool, false};
 ghost use Rattle.iom_ledger.specs.declared.refusal.Refusal.{Refusal};
-ghost use Rattle.iom_ledger.specs.declared.refusal.Refusal.TheVariants.{QueueFull, NumbersUsedUp};
+ghost use Rattle.iom_ledger.specs.declared.refusal.Refusal.TheVariants.{NoFrames, NoSuchDevice, NotAttached, QueueFull, NumbersUsedUp};
+ghost use Rattle.iom_ledger.specs.declared.refusal.Refusal.TheVariants as refusal;
 ghost use Rattle.iom_ledger.specs.Changes.{ShowsSame};
 ghost use Rattle.iom_ledger.specs.History.{History};
 ghost use Rattle.iom_ledger.specs.Shown.{Agrees, IsGrantable};
@@ -10,10 +11,13 @@ ghost use Rattle.iom_machine.specs.declared.state.State.{State};
 ghost use Rattle.iom_machine.specs.declared.state.Mode.TheVariants.{First};
 ghost use Rattle.iom_machine.specs.Machine.{Attaches, Grants, Releases};
 ghost use Rattle.iom_machine.specs.Refusals.{first_that_applies, attachment_reasons, grant_reasons, release_reasons, NoneApplies};
-ghost use Rattle.iom_table_frames.specs.Marks.{OffersUnreserved};
+ghost use Rattle.iom_table_frames.specs.Marks.{OffersUnreserved, NoneIsFree};
 ghost use Rattle.iom_world.specs.Answers.{outcome_of};
-ghost use Rattle.iom_world.specs.Admission.{IsRootOf, MayBeGranted, AreChosen, TooFewAreFree, marked_for, cleared};
+ghost use Rattle.iom_world.specs.declared.answer.Answer.TheVariants as answer;
+ghost use Rattle.iom_world.specs.Admission.{IsRootOf, TakesHighest, LacksTables, TakesTables, MayBeGranted, AreChosen, TooFewAreFree, marked_for, cleared};
+ghost use Rattle.iom_world.specs.Queue.{with_release};
 ghost use Rattle.iom_world.specs.Shows.{Shows};
+ghost use Rattle.iom_world.specs.Unseen.{SameIfRefused};
 
 use crate::answer::Answer;
 use crate::world::World;
@@ -52,6 +56,11 @@ impl World {
     /// The device is attached in its first stage: its root takes the highest free frame.
     pub(crate) fn attach(&mut self, id: DeviceId) -> Answer
         ensures step { (state : State) → Shows self.old state → (taken : List ℕ) × (next : State) × Attaches taken state id First false (outcome_of result) next × Shows self.new next }
+        ensures refused { SameIfRefused (outcome_of result) self.old self.new }
+        ensures commands { self.new.commands ≡ self.old.commands }
+        ensures no_frames { result ≡ answer.Refused NoFrames → NoneIsFree self.old.marks self.old.ledger None 0 (length self.old.memory) }
+        ensures memory { result ≢ answer.Refused refusal.Memory }
+        ensures root { result ≡ answer.Done → TakesHighest self.old.memory self.old.marks self.old.ledger id self.new.marks }
         ensures events { self.new.events ≡ self.old.events }
     {
         let Some(place) = self.place_of(id) else {
@@ -77,6 +86,7 @@ impl World {
     fn root_of(&self, id: DeviceId) -> Result<u32, Refusal>
         ensures attached { (state : State) → Shows self.now state → OnOk result ((later : List (Bool × Refusal)) → first_that_applies (attachment_reasons state id later) ≡ first_that_applies later) }
         ensures root { IfOk result (λ root. IsRootOf self.now.devices.items id root) }
+        ensures named { IfErr result (λ why. (why ≡ NoSuchDevice) ⊎ (why ≡ NotAttached)) }
         ensures refused { (state : State) → Shows self.now state → IfErr result (λ why. (later : List (Bool × Refusal)) → first_that_applies (attachment_reasons state id later) ≡ Some why) }
     {
         let Some(place) = self.place_of(id) else {
@@ -90,6 +100,7 @@ impl World {
 
     /// The root of the device, where the frame may be granted to it at the page, or why it may not.
     fn admit_grant(&self, id: DeviceId, page: u64, frame: u64) -> Result<u32, Refusal>
+        ensures named { IfErr result (λ why. why ≢ NoFrames) }
         ensures admitted { (state : State) → Shows self.now state → OnOk result (NoneApplies (grant_reasons state id page frame)) }
         ensures root { IfOk result (λ root. IsRootOf self.now.devices.items id root × MayBeGranted self.now.memory self.now.marks self.now.ledger id page frame) }
         ensures refused { (state : State) → Shows self.now state → IfErr result (λ why. first_that_applies (grant_reasons state id page frame) ≡ Some why) }
@@ -136,6 +147,10 @@ impl World {
     pub(crate) fn grant(&mut self, id: DeviceId, page: u64, frame: u64, rights: Rights) -> Answer
         requires { IsGrantable rights }
         ensures step { (state : State) → Shows self.old state → (taken : List ℕ) × (next : State) × Grants taken state id page frame rights (outcome_of result) next × Shows self.new next }
+        ensures refused { SameIfRefused (outcome_of result) self.old self.new }
+        ensures commands { self.new.commands ≡ self.old.commands }
+        ensures no_frames { result ≡ answer.Refused NoFrames → LacksTables self.old.memory self.old.marks self.old.ledger self.old.devices.items id page frame }
+        ensures tables { result ≡ answer.Done → TakesTables self.old.memory self.old.marks self.old.ledger self.old.devices.items id page frame self.new.marks }
         ensures events { self.new.events ≡ self.old.events }
     {
         let root = match self.admit_grant(id, page, frame) {
@@ -160,8 +175,10 @@ impl World {
     /// release and its ticket wait.
     pub(crate) fn release(&mut self, id: DeviceId, page: u64) -> Answer
         ensures step { (state : State) → Shows self.old state → (next : State) × Releases state id page (outcome_of result) next × Shows self.new next }
-        ensures full { (state : State) → Shows self.old state → outcome_of result ≡ outcome.Refused QueueFull → 255 < length self.old.commands.waiting + 2 }
-        ensures used_up { (state : State) → Shows self.old state → outcome_of result ≡ outcome.Refused NumbersUsedUp → 4294967295 ≤ self.old.commands.given }
+        ensures full { outcome_of result ≡ outcome.Refused QueueFull → 255 < length self.old.commands.waiting + 2 }
+        ensures used_up { outcome_of result ≡ outcome.Refused NumbersUsedUp → (length self.old.commands.waiting + 2 ≤ 255) × (4294967295 ≤ self.old.commands.given) }
+        ensures ticket { (ticket : ℕ) → outcome_of result ≡ outcome.Ticket ticket → (ticket ≡ self.old.commands.given + 1) × (self.new.commands ≡ with_release self.old.commands) }
+        ensures refused { SameIfRefused (outcome_of result) self.old self.new }
         ensures events { self.new.events ≡ self.old.events }
     {
         let root = match self.root_of(id) {

@@ -5,6 +5,7 @@ ghost use Rattle.iom_machine.specs.Machine.{Plugs};
 ghost use Rattle.iom_world.specs.Answers.{outcome_of};
 ghost use Rattle.iom_world.specs.Places.{IsAbsent, IsPlaceOf};
 ghost use Rattle.iom_world.specs.Shows.{Shows};
+ghost use Rattle.iom_world.specs.Unseen.{SameIfRefused};
 
 use crate::answer::Answer;
 use crate::device::Device;
@@ -34,6 +35,8 @@ impl World {
     /// A device is plugged in, detached and with nothing in flight.
     pub(crate) fn plug(&mut self, id: DeviceId, kind: DeviceKind) -> Answer
         ensures step { (state : State) → Shows self.old state → (next : State) × Plugs state id kind (outcome_of result) next × Shows self.new next }
+        ensures refused { SameIfRefused (outcome_of result) self.old self.new }
+        ensures commands { self.new.commands ≡ self.old.commands }
         ensures events { self.new.events ≡ self.old.events }
     {
         if self.place_of(id).is_some() {

@@ -13,6 +13,7 @@ ghost use Rattle.iom_world.specs.Confirmed.{ConfirmsFrom, polled_from};
 ghost use Rattle.iom_world.specs.Places.{SomeInFlight};
 ghost use Rattle.iom_world.specs.Queue.{AfterFetch};
 ghost use Rattle.iom_world.specs.Shows.{Shows};
+ghost use Rattle.iom_world.specs.Unseen.{SameIfRefused};
 
 use crate::answer::Answer;
 use crate::world::World;
@@ -48,6 +49,7 @@ impl World {
     pub(crate) fn fetch(&mut self) -> Answer
         ensures step { (state : State) → Shows self.old state → (next : State) × Fetches state (outcome_of result) next × Shows self.new next }
         ensures fetched { (in_flight : Bool) → (IsTrue in_flight ↔ SomeInFlight self.old.devices.items) → (fetched : Fetched) × (outcome_of result ≡ outcome.Fetched fetched) × AfterFetch self.old.commands in_flight fetched self.new.commands }
+        ensures refused { SameIfRefused (outcome_of result) self.old self.new }
         ensures events { self.new.events ≡ self.old.events }
     {
         let in_flight = self.is_any_in_flight();
@@ -60,6 +62,7 @@ impl World {
         ensures step { (state : State) → Shows self.old state → (next : State) × Polls state (outcome_of result) next × Shows self.new next }
         ensures polled { outcome_of result ≡ polled_from self.old.commands }
         ensures commands { self.new.commands ≡ record self.old.commands { confirmed = self.old.commands.completed } }
+        ensures refused { SameIfRefused (outcome_of result) self.old self.new }
         ensures events { self.new.events ≡ self.old.events }
     {
         match self.commands.poll() {

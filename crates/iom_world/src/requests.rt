@@ -1,5 +1,5 @@
 // What a device asks of memory, and its making.
-ghost use Rattle.std.specs.Prelude.{◌≡◌, ℕ, ◌+◌, ◌<◌, ◌≤◌, ◌^◌, [], ◌∷◌, ◌++◌, nat_le, length, drop, IsSomeAnd, Some, slice_get, slice_range};
+ghost use Rattle.std.specs.Prelude.{◌≡◌, ℕ, ◌+◌, ◌<◌, ◌≤◌, ◌^◌, List, [], ◌∷◌, ◌++◌, nat_le, length, drop, IsSomeAnd, Some, slice_get, slice_range};
 ghost use Rattle.iom_base.specs.declared.access.AccessKind.TheVariants.{Read, Write};
 ghost use Rattle.iom_inflight.specs.Flights.{read_flight, write_flight, OldestIsRead};
 ghost use Rattle.iom_machine.specs.declared.state.State.{State};
@@ -8,11 +8,13 @@ ghost use Rattle.iom_machine.specs.Machine.{Requests, Commits};
 ghost use Rattle.iom_machine.specs.Refusals.{id_limit};
 ghost use Rattle.iom_machine.specs.Requests.{read_of, write_of};
 ghost use Rattle.iom_world.specs.declared.device.Device.{Device};
-ghost use Rattle.iom_world.specs.Answers.{outcome_of};
+ghost use Rattle.iom_world.specs.Answers.{outcome_of, GivesBytes};
+ghost use Rattle.iom_world.specs.declared.answer.Answer.TheVariants as answer;
 ghost use Rattle.iom_world.specs.Oldest.{OldestWritesSoMany, IsOldestAt};
 ghost use Rattle.iom_world.specs.Places.{CountsBelow, IsPlaceOf};
 ghost use Rattle.iom_world.specs.Replies.{IsReply};
 ghost use Rattle.iom_world.specs.Shows.{Shows};
+ghost use Rattle.iom_world.specs.Unseen.{SameIfRefused};
 
 use crate::answer::{Answer, tell_read};
 use crate::device::Device;
@@ -135,6 +137,8 @@ impl World {
     pub(crate) fn read(&mut self, id: DeviceId, address: u64, len: u64) -> Answer
         requires { CountsBelow self.old.devices.items self.old.events }
         ensures step { (state : State) → Shows self.old state → (frame : ℕ) × (next : State) × Requests frame state id (read_of address len) (outcome_of result) next × Shows self.new next }
+        ensures refused { SameIfRefused (outcome_of result) self.old self.new }
+        ensures commands { self.new.commands ≡ self.old.commands }
         ensures events { self.new.events ≡ self.old.events }
     {
         let Some(place) = self.place_of(id) else {
@@ -157,6 +161,8 @@ impl World {
     pub(crate) fn write(&mut self, id: DeviceId, address: u64, bytes: &[u8]) -> Answer
         requires { CountsBelow self.old.devices.items self.old.events }
         ensures step { (state : State) → Shows self.old state → (frame : ℕ) × (next : State) × Requests frame state id (write_of address bytes.now) (outcome_of result) next × Shows self.new next }
+        ensures refused { SameIfRefused (outcome_of result) self.old self.new }
+        ensures commands { self.new.commands ≡ self.old.commands }
         ensures events { self.new.events ≡ self.old.events }
     {
         let Some(place) = self.place_of(id) else {
@@ -178,6 +184,8 @@ impl World {
     fn commit_read(&mut self, place: usize, access: Accepted, told: &mut Outcome)
         requires { IsOldestAt self.old.devices.items place access Read }
         ensures step { (state : State) (id : ℕ) → Shows self.old state → IsPlaceOf self.old.devices.items id place → (next : State) × Commits state id told.new next × Shows self.new next }
+        ensures given { (bytes : List ℕ) × GivesBytes told.new bytes }
+        ensures commands { self.new.commands ≡ self.old.commands }
         ensures events { self.new.events ≡ self.old.events }
     {
         let offset = (access.address % 4096) as usize;
@@ -191,6 +199,8 @@ impl World {
     fn commit_write(&mut self, place: usize, access: Accepted) -> Answer
         requires { IsOldestAt self.old.devices.items place access Write }
         ensures step { (state : State) (id : ℕ) → Shows self.old state → IsPlaceOf self.old.devices.items id place → (next : State) × Commits state id (outcome_of result) next × Shows self.new next }
+        ensures wrote { (len : ℕ) × (result ≡ answer.Wrote len) }
+        ensures commands { self.new.commands ≡ self.old.commands }
         ensures events { self.new.events ≡ self.old.events }
     {
         let offset = (access.address % 4096) as usize;
@@ -204,6 +214,8 @@ impl World {
     /// changes where nothing of the device is in flight, or no device has the id.
     pub(crate) fn commit(&mut self, id: DeviceId, told: &mut Outcome)
         ensures step { (state : State) → Shows self.old state → (next : State) × Commits state id told.new next × Shows self.new next }
+        ensures refused { SameIfRefused told.new self.old self.new }
+        ensures commands { self.new.commands ≡ self.old.commands }
         ensures events { self.new.events ≡ self.old.events }
     {
         let Some(place) = self.place_of(id) else {

@@ -1,12 +1,13 @@
 // Events, one after another, and what comes of them.
-ghost use Rattle.std.specs.Prelude.{◌≡◌, ℕ, ◌+◌, ◌<◌, ◌≤◌, ◌^◌, List, length, All, OnOk, OnErr};
+ghost use Rattle.std.specs.Prelude.{◌≡◌, ◌↔◌, ℕ, Bool, IsTrue, ◌+◌, ◌<◌, ◌≤◌, ◌^◌, List, length, All, OnOk, OnErr};
 ghost use Rattle.iom_machine.specs.declared.outcome.Outcome.{Outcome};
 ghost use Rattle.iom_machine.specs.declared.state.State.{State};
 ghost use Rattle.iom_machine.specs.Headline.{IsReachedBy};
 ghost use Rattle.iom_machine.specs.Machine.{IsEvent, Step, opening};
-ghost use Rattle.iom_world.specs.Places.{CountsBelow};
+ghost use Rattle.iom_world.specs.Places.{CountsBelow, SomeInFlight};
 ghost use Rattle.iom_world.specs.Runs.{TakesAll, RunsTo, FailsAfter};
 ghost use Rattle.iom_world.specs.Shows.{Shows};
+ghost use Rattle.iom_world.specs.Unseen.{AfterEvent, SameIfRefused};
 
 use crate::places::Places;
 use crate::world::World;
@@ -18,6 +19,8 @@ impl World {
         requires event { IsEvent event.now }
         requires count { CountsBelow self.old.devices.items self.old.events }
         ensures step { (state : State) → Shows self.old state → (next : State) × Step state event.now told.new next × Shows self.new next }
+        ensures queue { (in_flight : Bool) → (IsTrue in_flight ↔ SomeInFlight self.old.devices.items) → AfterEvent event.now in_flight self.old.commands told.new self.new.commands }
+        ensures refused { SameIfRefused told.new self.old self.new }
         ensures events { self.new.events ≡ self.old.events }
     {
         match event {
@@ -51,6 +54,8 @@ impl World {
         requires event { IsEvent event.now }
         requires count { self.old.events + 1 < 2 ^ 64 }
         ensures step { (state : State) → Shows self.old state → (next : State) × Step state event.now told.new next × Shows self.new next }
+        ensures queue { (in_flight : Bool) → (IsTrue in_flight ↔ SomeInFlight self.old.devices.items) → AfterEvent event.now in_flight self.old.commands told.new self.new.commands }
+        ensures refused { SameIfRefused told.new self.old self.new }
         ensures events { self.new.events ≡ self.old.events + 1 }
     {
         self.events += 1;
@@ -63,6 +68,8 @@ impl World {
         requires event { IsEvent event.now }
         requires count { self.old.events + 1 < 2 ^ 64 }
         ensures step { (state : State) → Shows self.old state → (next : State) × Step state event.now result next × Shows self.new next }
+        ensures queue { (in_flight : Bool) → (IsTrue in_flight ↔ SomeInFlight self.old.devices.items) → AfterEvent event.now in_flight self.old.commands result self.new.commands }
+        ensures refused { SameIfRefused result self.old self.new }
         ensures events { self.new.events ≡ self.old.events + 1 }
     {
         let mut told = Outcome::Done;

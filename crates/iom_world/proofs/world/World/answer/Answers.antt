@@ -1,4 +1,4 @@
-use Rattle.std.proofs.Common.{ℕ, List, refl, subst}
+use Rattle.std.proofs.Common.{ℕ, List, ◌∙◌, refl, sym, subst}
 use Rattle.iom_machine.specs.Machine.{Requests}
 use Rattle.iom_machine.specs.Requests.{write_of}
 use Rattle.iom_world.specs.Answers.{outcome_of}
@@ -51,3 +51,59 @@ pub returns-in-Commit-clause-step : goal.returns-in-Commit-clause-step
 returns-in-Commit-clause-step c = λ state shows.
     let step = c.commit.ensures.step state shows in
     stepped _ state _ _ _ _ c.in-Commit.is refl no_choice step.0 step.1 step.2
+
+pub returns-in-PlugRaw-clause-queue : goal.returns-in-PlugRaw-clause-queue
+returns-in-PlugRaw-clause-queue c = λ in_flight is. rw c.in-PlugRaw.is c.plug.ensures.commands
+
+pub returns-in-PlugRaw-clause-refused : goal.returns-in-PlugRaw-clause-refused
+returns-in-PlugRaw-clause-refused c = λ why same. c.plug.ensures.refused why (sym c.tell.ensures ∙ same)
+
+pub returns-in-AttachFirst-clause-queue : goal.returns-in-AttachFirst-clause-queue
+returns-in-AttachFirst-clause-queue c = λ in_flight is. rw c.in-AttachFirst.is c.attach.ensures.commands
+
+pub returns-in-AttachFirst-clause-refused : goal.returns-in-AttachFirst-clause-refused
+returns-in-AttachFirst-clause-refused c = λ why same. c.attach.ensures.refused why (sym c.tell-in-AttachFirst.ensures ∙ same)
+
+pub returns-in-Grant-clause-queue : goal.returns-in-Grant-clause-queue
+returns-in-Grant-clause-queue c = λ in_flight is. rw c.in-Grant.is c.grant.ensures.commands
+
+pub returns-in-Grant-clause-refused : goal.returns-in-Grant-clause-refused
+returns-in-Grant-clause-refused c = λ why same. c.grant.ensures.refused why (sym c.tell-in-Grant.ensures ∙ same)
+
+pub returns-in-Read-clause-queue : goal.returns-in-Read-clause-queue
+returns-in-Read-clause-queue c = λ in_flight is. rw c.in-Read.is c.read.ensures.commands
+
+pub returns-in-Read-clause-refused : goal.returns-in-Read-clause-refused
+returns-in-Read-clause-refused c = λ why same. c.read.ensures.refused why (sym c.tell-in-Read.ensures ∙ same)
+
+pub returns-in-Write-clause-queue : goal.returns-in-Write-clause-queue
+returns-in-Write-clause-queue c = λ in_flight is. rw c.in-Write.is c.write.ensures.commands
+
+pub returns-in-Write-clause-refused : goal.returns-in-Write-clause-refused
+returns-in-Write-clause-refused c = λ why same. c.write.ensures.refused why (sym c.tell-in-Write.ensures ∙ same)
+
+pub returns-in-Release-clause-refused : goal.returns-in-Release-clause-refused
+returns-in-Release-clause-refused c = λ why same. c.release.ensures.refused why (sym c.tell-in-Release.ensures ∙ same)
+
+pub returns-in-Fetch-clause-refused : goal.returns-in-Fetch-clause-refused
+returns-in-Fetch-clause-refused c = λ why same. c.fetch.ensures.refused why (sym c.tell-in-Fetch.ensures ∙ same)
+
+pub returns-in-Poll-clause-refused : goal.returns-in-Poll-clause-refused
+returns-in-Poll-clause-refused c = λ why same. c.poll.ensures.refused why (sym c.tell-in-Poll.ensures ∙ same)
+
+pub returns-in-Commit-clause-queue : goal.returns-in-Commit-clause-queue
+returns-in-Commit-clause-queue c = λ in_flight is. rw c.in-Commit.is c.commit.ensures.commands
+
+pub returns-in-Release-clause-queue : goal.returns-in-Release-clause-queue
+returns-in-Release-clause-queue c = λ in_flight is. rw (c.in-Release.is, c.tell-in-Release.ensures) record {
+  ticket = c.release.ensures.ticket;
+  full = c.release.ensures.full;
+  used_up = c.release.ensures.used_up;
+  refused = λ why same. (c.release.ensures.refused why same).commands;
+}
+
+pub returns-in-Fetch-clause-queue : goal.returns-in-Fetch-clause-queue
+returns-in-Fetch-clause-queue c = λ in_flight is. rw (c.in-Fetch.is, c.tell-in-Fetch.ensures) (c.fetch.ensures.fetched in_flight is)
+
+pub returns-in-Poll-clause-queue : goal.returns-in-Poll-clause-queue
+returns-in-Poll-clause-queue c = λ in_flight is. rw (c.in-Poll.is, c.tell-in-Poll.ensures) (c.poll.ensures.polled, c.poll.ensures.commands)

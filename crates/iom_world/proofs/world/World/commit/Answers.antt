@@ -1,5 +1,10 @@
-use Rattle.std.proofs.Common.{◌∙◌, slice_get, option_map, ap, arith}
+use Rattle.std.proofs.Common.{◌≡◌, ℕ, ◌∙◌, slice_get, option_map, ap, arith}
+use Rattle.arrayvec.specs.ArrayVec.{ArrayVec}
 use Rattle.iom_base.specs.declared.access.AccessKind.TheVariants.{Read, Write}
+use Rattle.iom_ledger.specs.declared.refusal.Refusal.{Refusal}
+use Rattle.iom_machine.specs.declared.outcome.Outcome.{Outcome}
+use Rattle.iom_machine.specs.declared.outcome.Outcome.TheVariants as outcome
+use Rattle.iom_world.specs.Answers.{outcome_of}
 use Rattle.iom_world.proofs.CommitLemmas.{commits_nothing, oldest_at}
 use Rattle.iom_inflight.specs.Flights.{described}
 use Rattle.iom_world.specs.declared.device.Device.{Device}
@@ -43,3 +48,15 @@ pub returns-in-Write-clause-step : goal.returns-in-Write-clause-step
 returns-in-Write-clause-step c = λ state shows.
     let step = c.commit_write.ensures.step state c.args.id shows c.in-Some.ensures in
     (step.0, rw c.tell-in-Write.ensures step.1, step.2)
+
+not_a_read : (told : Outcome) (held : ArrayVec ℕ) (why : Refusal) → told ≡ outcome.Read held → told ≡ outcome.Refused why → ⊥
+not_a_read told held why is other = cc
+
+not_a_write : (told : Outcome) (len : ℕ) (why : Refusal) → told ≡ outcome.Wrote len → told ≡ outcome.Refused why → ⊥
+not_a_write told len why is other = cc
+
+pub returns-in-Read-clause-refused : goal.returns-in-Read-clause-refused
+returns-in-Read-clause-refused c = λ why same. absurd (not_a_read _ _ why c.commit_read.ensures.given.1.1 same)
+
+pub returns-in-Write-clause-refused : goal.returns-in-Write-clause-refused
+returns-in-Write-clause-refused c = λ why same. absurd (not_a_write _ _ why (c.tell-in-Write.ensures ∙ ap outcome_of c.commit_write.ensures.wrote.1) same)

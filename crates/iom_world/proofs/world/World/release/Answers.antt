@@ -1,4 +1,4 @@
-use Rattle.std.proofs.Common.{◌≡◌, ◌≤◌, ◌<◌, ◌+◌, ◌-◌, ◌∙◌, [], ◌∷◌, ℕ, List, None, length, true, is_some, refl, sym, ap, arith}
+use Rattle.std.proofs.Common.{◌≡◌, inl, inr, ◌≤◌, ◌<◌, ◌+◌, ◌-◌, ◌∙◌, [], ◌∷◌, ℕ, List, None, length, true, is_some, refl, sym, ap, arith}
 use Rattle.iom_ledger.specs.declared.entry.Entry.TheVariants as entry
 use Rattle.iom_ledger.specs.declared.refusal.Refusal.TheVariants.{NotGranted, TooManyPending, QueueFull, NumbersUsedUp}
 use Rattle.iom_ledger.specs.Shown.{held_in, waiting_in}
@@ -6,7 +6,7 @@ use Rattle.iom_machine.specs.Refusals.{release_reasons, MayRefuseRelease}
 use Rattle.iom_world.specs.Queue.{Queue}
 use Rattle.iom_world.proofs.FrameLemmas.{shows_kept}
 use Rattle.iom_world.proofs.RefusalLemmas.{refused_first, refused_else}
-use Rattle.iom_world.proofs.ReleaseLemmas.{refused_for_attachment, pair_there, none_there, below_limit, later_reasons, not_granted, too_many_pending, may_release, length-tickets_after, sound_released}
+use Rattle.iom_world.proofs.ReleaseLemmas.{pair_there, none_there, below_limit, later_reasons, not_granted, too_many_pending, may_release, length-tickets_after, sound_released}
 use Rattle.iom_world.proofs.ReleaseTables.{IsUnmapped, tables_of_root, tables_released, unmarked_kept}
 use Rattle.iom_world.proofs.world.World.release.Goals as goal
 
@@ -15,14 +15,10 @@ returns-in-Err-clause-step c = λ state shows.
     (state, (refused_first (release_reasons state c.args.id c.args.page) MayRefuseRelease c.in-Err.why (c.in-Err.ensures.refused state shows (later_reasons state c.args.id c.args.page)), refl), shows)
 
 pub returns-in-Err-clause-full : goal.returns-in-Err-clause-full
-returns-in-Err-clause-full c = λ state shows same.
-    let why : c.in-Err.why ≡ QueueFull = cc in
-    absurd ((refused_for_attachment _ _ _ c.in-Err.why (c.in-Err.ensures.refused state shows [])).0 why)
+returns-in-Err-clause-full c = λ same. elim c.in-Err.ensures.named [ inl absent ↦ cc | inr detached ↦ cc ]
 
 pub returns-in-Err-clause-used_up : goal.returns-in-Err-clause-used_up
-returns-in-Err-clause-used_up c = λ state shows same.
-    let why : c.in-Err.why ≡ NumbersUsedUp = cc in
-    absurd ((refused_for_attachment _ _ _ c.in-Err.why (c.in-Err.ensures.refused state shows [])).1 why)
+returns-in-Err-clause-used_up c = λ same. elim c.in-Err.ensures.named [ inl absent ↦ cc | inr detached ↦ cc ]
 
 pub returns-then-is_none-clause-step : goal.returns-then-is_none-clause-step
 returns-then-is_none-clause-step c = λ state shows.

@@ -22,3 +22,13 @@ returns-clause-step c = λ state shows. c.answer.ensures.step state record {
   none_later = shows.none_later;
   levels = shows.levels;
 }
+
+pub returns-clause-refused : goal.returns-clause-refused
+returns-clause-refused c = λ why refused. let same = c.answer.ensures.refused why refused in record {
+  memory = same.memory;
+  marks = same.marks;
+  ledger = same.ledger;
+  devices = same.devices;
+  commands = same.commands;
+  levels = same.levels;
+}

@@ -1,0 +1,42 @@
+-- What a step does to the parts of a world that the ledger machine doesn't see, and that a refusal changes none.
+use Rattle.std.specs.Prelude.{◌≡◌, ℕ, ◌+◌, ◌<◌, ◌≤◌, Bool, List, length}
+use Rattle.iom_ledger.specs.Changes.{IsUnchanged}
+use Rattle.iom_ledger.specs.declared.refusal.Refusal.{Refusal}
+use Rattle.iom_ledger.specs.declared.refusal.Refusal.TheVariants.{QueueFull, NumbersUsedUp}
+use Rattle.iom_machine.specs.declared.event.Event.{Event}
+use Rattle.iom_machine.specs.declared.event.Event.TheVariants as events
+use Rattle.iom_machine.specs.declared.outcome.Fetched.{Fetched}
+use Rattle.iom_machine.specs.declared.outcome.Outcome.{Outcome}
+use Rattle.iom_machine.specs.declared.outcome.Outcome.TheVariants as outcome
+use Rattle.iom_world.specs.declared.world.World.{World}
+use Rattle.iom_world.specs.Confirmed.{polled_from}
+use Rattle.iom_world.specs.Queue.{Queue, with_release, AfterFetch}
+
+-- a release that is answered so: its ticket is the next, and its commands are appended; a full queue is told only where there is no room for them, used-up numbers only where there is room and no number; and a refusal leaves the commands
+pub record AfterRelease (old : Queue) (told : Outcome) (new : Queue) : Type 0 where
+  pub ticket : (ticket : ℕ) → told ≡ outcome.Ticket ticket → (ticket ≡ old.given + 1) × (new ≡ with_release old)
+  pub full : told ≡ outcome.Refused QueueFull → 255 < length old.waiting + 2
+  pub used_up : told ≡ outcome.Refused NumbersUsedUp → (length old.waiting + 2 ≤ 255) × (4294967295 ≤ old.given)
+  pub refused : (why : Refusal) → told ≡ outcome.Refused why → new ≡ old
+
+-- a fetch takes the first command, a poll tells all tickets whose fences are done, a release appends its commands, and nothing else changes the commands
+abbrev pub AfterEvent : Event → Bool → Queue → Outcome → Queue → Type 0
+AfterEvent (events.Release device page) in_flight old told new = AfterRelease old told new
+AfterEvent events.Fetch in_flight old told new =
+    (fetched : Fetched) × (told ≡ outcome.Fetched fetched) × AfterFetch old in_flight fetched new
+AfterEvent events.Poll in_flight old told new =
+    (told ≡ polled_from old) × (new ≡ record old { confirmed = old.completed })
+AfterEvent _ in_flight old told new = new ≡ old
+
+-- all is the same but the count of events, and what room the ledger has
+pub record IsSame (old new : World) : Type 0 where
+  pub memory : new.memory ≡ old.memory
+  pub marks : new.marks ≡ old.marks
+  pub ledger : IsUnchanged old.ledger new.ledger
+  pub devices : new.devices.items ≡ old.devices.items
+  pub commands : new.commands ≡ old.commands
+  pub levels : new.levels ≡ old.levels
+
+-- a refusal changes nothing
+abbrev pub SameIfRefused : Outcome → World → World → Type 0
+SameIfRefused told old new = (why : Refusal) → told ≡ outcome.Refused why → IsSame old new
