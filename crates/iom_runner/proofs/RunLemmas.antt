@@ -115,11 +115,11 @@ told_in_part contents frames levels events old opened mid new world empty put ra
 )
 
 -- a run that ends where the sink fails
-pub told_until_failure : {W : Type 0} (contents : W → Option (List ℕ)) (frames levels : ℕ) (events : List Event) (old opened new : LineWriter W) (world : World)
+pub told_until_failure : {W : Type 0} (contents : W → Option (List ℕ)) (counted frames levels : ℕ) (events : List Event) (old opened new : LineWriter W) (world : World)
     → old.buffer ≡ [] → All IsEvent events → TakesLine contents old Done opened
-    → FailsAfter (TakesLine contents) (FailsWriting contents) (opening frames levels) events opened new world
+    → FailsAfter (TakesLine contents) (FailsWriting contents) (opening frames levels) events opened new counted world
     → (text : List ℕ) × TellsRun (opening frames levels) events text × AppendsFront (contents old.writer.now) (contents new.writer.now) text
-told_until_failure contents frames levels events old opened new world empty can_come put (outcomes, last, next, middle, few, ran, took, failed, shows) =
+told_until_failure contents counted frames levels events old opened new world empty can_come put (outcomes, last, next, middle, few, ran, took, failed, shows, count) =
     let all = outcomes ++ last ∷ [] in
     let lines : line_of Done ++ lines_of all ≡ (line_of Done ++ lines_of outcomes) ++ lines_of (last ∷ []) =
     ap (λ l. line_of Done ++ l) (flat_map-append line_of outcomes (last ∷ [])) ∙ sym (append_assoc (line_of Done) (lines_of outcomes) (lines_of (last ∷ []))) in
@@ -135,7 +135,7 @@ same_if_ran contents frames levels events old opened mid new world put ran same 
     same ∙ (takes_run contents old opened mid (opening frames levels) events world put ran).0
 
 -- the same, where the sink fails
-pub same_if_failed : {W : Type 0} (contents : W → Option (List ℕ)) (frames levels : ℕ) (events : List Event) (old opened new : LineWriter W) (world : World)
-    → TakesLine contents old Done opened → FailsAfter (TakesLine contents) (FailsWriting contents) (opening frames levels) events opened new world → KeepsWriter old new
-same_if_failed contents frames levels events old opened new world put (outcomes, last, next, middle, few, ran, took, failed, shows) =
+pub same_if_failed : {W : Type 0} (contents : W → Option (List ℕ)) (counted frames levels : ℕ) (events : List Event) (old opened new : LineWriter W) (world : World)
+    → TakesLine contents old Done opened → FailsAfter (TakesLine contents) (FailsWriting contents) (opening frames levels) events opened new counted world → KeepsWriter old new
+same_if_failed contents counted frames levels events old opened new world put (outcomes, last, next, middle, few, ran, took, failed, shows, count) =
     failed.0 ∙ (takes-lines contents opened middle outcomes took).0 ∙ put.0

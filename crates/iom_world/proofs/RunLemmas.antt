@@ -100,12 +100,12 @@ goes_on takes state next events i event outcome before mid after old new so_far 
 )
 
 -- the sink fails at the outcome of the next event
-pub ends_at : {S : Type 0} (takes fails : S → Outcome → S → Type 0) (state next : State) (events : List Event) (i : ℕ) (event : Event) (outcome : Outcome) (before mid after : S) (old new : World)
+pub ends_at : {S : Type 0} (takes fails : S → Outcome → S → Type 0) (state next : State) (events : List Event) (i : ℕ) (event : Event) (outcome : Outcome) (before mid after : S) (counted : ℕ) (old new : World)
     → (so_far : RunsTo takes state (take i events) before mid old)
-    → event ≡ get_or events i event → i < length events
+    → event ≡ get_or events i event → i < length events → new.events ≡ counted + i + 1
     → Step so_far.1 event outcome next → Shows new next → fails mid outcome after
-    → FailsAfter takes fails state events before after new
-ends_at takes fails state next events i event outcome before mid after old new so_far is lt step shows failed =
+    → FailsAfter takes fails state events before after counted new
+ends_at takes fails state next events i event outcome before mid after counted old new so_far is lt count step shows failed =
     let long : length so_far.0 ≡ i = run_length state so_far.1 (take i events) so_far.0 so_far.2 ∙ length-take-le i events (omega arith) in (
       so_far.0,
       outcome,
@@ -118,6 +118,7 @@ ends_at takes fails state next events i event outcome before mid after old new s
       so_far.3,
       failed,
       shows,
+      count ∙ ap (λ n. counted + n + 1) (sym long),
     )
 
 -- a run over all the events that there are is one over the events

@@ -1,5 +1,5 @@
 -- What a run of the world over a list of events gives, where the outcomes go to a sink.
-use Rattle.std.specs.Prelude.{◌≡◌, ◌+◌, ◌<◌, List, [], ◌∷◌, ◌++◌, length, take}
+use Rattle.std.specs.Prelude.{◌≡◌, ℕ, ◌+◌, ◌<◌, List, [], ◌∷◌, ◌++◌, length, take}
 use Rattle.iom_machine.specs.declared.event.Event.{Event}
 use Rattle.iom_machine.specs.declared.outcome.Outcome.{Outcome}
 use Rattle.iom_machine.specs.declared.state.State.{State}
@@ -19,10 +19,11 @@ RunsTo takes state events before after world =
     (outcomes : List Outcome) × (next : State)
     × Run state events outcomes next × TakesAll takes before outcomes after × Shows world next
 
--- a run over the events up to one at whose outcome the sink failed, having taken each outcome before: the world shows the state after that event
-abbrev pub FailsAfter : {S : Type 0} → (S → Outcome → S → Type 0) → (S → Outcome → S → Type 0) → State → List Event → S → S → World → Type 0
-FailsAfter takes fails state events before after world =
+-- a run over the events up to one at whose outcome the sink failed, having taken each outcome before: the world shows the state after that event, and has counted it with those before
+abbrev pub FailsAfter : {S : Type 0} → (S → Outcome → S → Type 0) → (S → Outcome → S → Type 0) → State → List Event → S → S → ℕ → World → Type 0
+FailsAfter takes fails state events before after counted world =
     (outcomes : List Outcome) × (last : Outcome) × (next : State) × (middle : _)
     × (length outcomes < length events)
     × Run state (take (length outcomes + 1) events) (outcomes ++ last ∷ []) next
     × TakesAll takes before outcomes middle × fails middle last after × Shows world next
+    × (world.events ≡ counted + length outcomes + 1)

@@ -84,7 +84,7 @@ impl World {
         requires events { All IsEvent events.now }
         requires count { self.old.events + length events.now < 2 ^ 64 }
         ensures ran { (state : State) → Shows self.old state → OnOk result (RunsTo S.takes state events.now sink.old sink.new self.new) }
-        ensures failed { (state : State) → Shows self.old state → OnErr result (FailsAfter S.takes S.fails state events.now sink.old sink.new self.new) }
+        ensures failed { (state : State) → Shows self.old state → OnErr result (FailsAfter S.takes S.fails state events.now sink.old sink.new self.old.events self.new) }
         ensures counted { OnOk result (self.new.events ≡ self.old.events + length events.now) }
         ensures counted_at_most { OnErr result (self.new.events ≤ self.old.events + length events.now) }
         ensures reclaim { (frames levels : ℕ) → Shows self.old (opening frames levels) → OnOk result ((outcomes : List Outcome) × (next : State) × IsReachedBy events.now outcomes next × TakesAll S.takes sink.old outcomes sink.new × Shows self.new next) }

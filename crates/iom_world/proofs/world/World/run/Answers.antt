@@ -19,8 +19,8 @@ returns-in_err-put-clause-failed g c = λ state shows.
     let so_far = c.loop-event.invariant.ran state shows in
     let next = c.take.ensures.step so_far.1 so_far.4 in
     let fault = err_from_is_err_and c.from_residual.result c.from_residual.ensures.1 in
-    rw fault.1 (ends_at g.S.Sink.takes g.S.Sink.fails state next.0 c.args.events.now c.loop-event.event-index c.event-item.result c.take.new.told _ _ _ _ _
-    so_far c.event-item.is c.loop-event-test.true next.1 next.2 c.in_err-put.ensures.failed)
+    rw fault.1 (ends_at g.S.Sink.takes g.S.Sink.fails state next.0 c.args.events.now c.loop-event.event-index c.event-item.result c.take.new.told _ _ _ c.args.self.now.events _ _
+    so_far c.event-item.is c.loop-event-test.true (omega (arith, c.take.ensures.events, c.loop-event.invariant.counted)) next.1 next.2 c.in_err-put.ensures.failed)
 
 pub returns-clause-reclaim : goal.returns-clause-reclaim
 returns-clause-reclaim g c = λ frames levels shows.
