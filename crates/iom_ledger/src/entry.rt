@@ -21,7 +21,7 @@ pub enum Entry {
         device: DeviceId,
         ticket: u32,
     },
-    /// The ticket is confirmed: what was released under it is reached no more.
+    /// The ticket is confirmed: what was released under it lingers no more.
     Confirmed {
         ticket: u32,
     },

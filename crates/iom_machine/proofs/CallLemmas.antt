@@ -4,6 +4,7 @@ use Rattle.iom_base.specs.declared.rights.Rights.{Rights}
 use Rattle.iom_ledger.specs.declared.entry.Entry.TheVariants as entries
 use Rattle.iom_ledger.specs.declared.refusal.Refusal.{Refusal}
 use Rattle.iom_ledger.specs.History.{History}
+use Rattle.iom_ledger.specs.Shown.{IsGrantable}
 use Rattle.iom_machine.specs.declared.outcome.Outcome.TheVariants.{Done, Confirmed}
 use Rattle.iom_machine.specs.declared.state.Attachment.TheVariants.{Attached}
 use Rattle.iom_machine.specs.declared.state.Device.{Device}
@@ -11,12 +12,12 @@ use Rattle.iom_machine.specs.declared.state.Frame.{Frame}
 use Rattle.iom_machine.specs.declared.state.Mode.{Mode}
 use Rattle.iom_machine.specs.declared.state.Owner.TheVariants.{OneDevice}
 use Rattle.iom_machine.specs.declared.state.State.{State}
-use Rattle.iom_machine.specs.Frames.{reserved_for}
-use Rattle.iom_machine.specs.Devices.{device_of, with_device, EachInFlightMay}
-use Rattle.iom_machine.specs.Tickets.{confirmed_from, with_confirmed}
+use Rattle.iom_machine.specs.Frames.{IsFreeBesides, reserved_for}
+use Rattle.iom_machine.specs.Devices.{device_of, with_device, DeviceMay, EachInFlightMay}
+use Rattle.iom_machine.specs.Tickets.{AreNextTickets, confirmed_from, with_confirmed}
 use Rattle.iom_machine.specs.Refusals.{NoneApplies, attach_reasons, grant_reasons}
-use Rattle.iom_machine.specs.Judging.{IsPlaceOf, IsFreeBesides, AreNextTickets, DeviceMay}
-use Rattle.iom_machine.specs.Machine.{IsGrantable, Attaches, Grants, Polls}
+use Rattle.iom_machine.specs.Judging.{IsPlaceOf}
+use Rattle.iom_machine.specs.Machine.{Attaches, Grants, Polls}
 use Rattle.iom_machine.proofs.FrameLemmas.{free_besides_none}
 use Rattle.iom_machine.proofs.StepLemmas.{only_state, some_state, no_state, own_place}
 
@@ -66,13 +67,13 @@ pub confirmed_as : (old : State) (first last : ℕ) (history : History) → AreN
 confirmed_as old first last history tickets extended may new =
     let next : State = record { levels = old.levels; frames = old.frames; history = history; tickets = old.tickets; devices = old.devices } in
     let is : next ≡ with_confirmed old first last = rw extended refl in (
-      (λ same. (tickets.0, tickets.1, tickets.2, sym (only_state next new same) ∙ is, subst EachInFlightMay (only_state next new same) may)),
-      (λ step. some_state next new (is ∙ sym step.3)),
+      (λ same. (tickets, sym (only_state next new same) ∙ is, subst EachInFlightMay (only_state next new same) may)),
+      (λ step. some_state next new (is ∙ sym step.1)),
     )
 
 pub not_confirmed_as : (old : State) (first last : ℕ) (history : History) → history ≡ confirmed_from first (suc (last - first)) old.history → ¬ All (DeviceMay history) old.devices
     → (new : State) → (◌≡◌ {A = Option State} None (Some new)) ↔ Polls old (Confirmed first last) new
 not_confirmed_as old first last history extended never new = (
   (λ same. absurd (no_state new same)),
-  (λ step. absurd (never (subst (λ h. All (DeviceMay h) old.devices) (sym extended) (subst EachInFlightMay step.3 step.4)))),
+  (λ step. absurd (never (subst (λ h. All (DeviceMay h) old.devices) (sym extended) (subst EachInFlightMay step.1 step.2)))),
 )

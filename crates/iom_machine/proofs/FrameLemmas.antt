@@ -5,9 +5,9 @@ use Rattle.std.specs.List.{IsDistinct, list_any}
 use Rattle.std.proofs.lemmas.Bool.{cases_eq, eqb-true, eq-eqb}
 use Rattle.std.proofs.lemmas.List.Elements.{All-nil, All-push, All-weaker, All-contains, Contains-push, Contains-append_left}
 use Rattle.std.proofs.lemmas.Map.Keys.{IsDistinct-push}
-use Rattle.iom_machine.specs.Judging.{ListsAll, CountsAll, IsFreeBesides}
+use Rattle.iom_machine.specs.Judging.{ListsAll, CountsAll}
 use Rattle.iom_machine.proofs.JudgeLemmas.{passing_element, some_passes, fewer_than}
-use Rattle.iom_machine.specs.Frames.{IsFree, FewerThan}
+use Rattle.iom_machine.specs.Frames.{IsFree, FewerThan, IsFreeBesides}
 use Rattle.iom_machine.specs.declared.state.State.{State}
 
 -- a number above all of a list is none of it

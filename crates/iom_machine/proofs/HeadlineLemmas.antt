@@ -137,12 +137,12 @@ touches-makes old new id (Read bytes) sound device at makes =
     let there = frame_there old sound device.id made facts.1 in
     let own : device.id ≡ id = (found_device old.devices id device at).1 in
     let named = named_in there.0 made bytes.items there.2 facts.0.0
-    (found.2.2 ∙ ap (λ (l : List ℕ). slice_range l (offset_of made.access) (offset_of made.access + made.access.len)) (bytes_there old.frames made.frame there.0 there.1)) in (
+    (found.2.0.2 ∙ ap (λ (l : List ℕ). slice_range l (offset_of made.access) (offset_of made.access + made.access.len)) (bytes_there old.frames made.frame there.0 there.1)) in (
       made,
       (device, at, found.1),
-      subst (λ i. May old.history i made.frame kinds.Read) own found.2.1,
+      subst (λ i. May old.history i made.frame kinds.Read) own found.2.0.1,
       (named.0, (λ k below. named.1 k below ∙ sym (ap (λ (l : List ℕ). slice_get l (offset_of made.access + k)) (bytes_there old.frames made.frame there.0 there.1)))),
-      ap (λ (s : State). s.frames) found.2.3,
+      ap (λ (s : State). s.frames) found.2.1,
     )
 touches-makes old new id (Wrote len) sound device at makes =
     let found = some_case (slice_get device.in_flight 0) _ makes in
@@ -150,12 +150,12 @@ touches-makes old new id (Wrote len) sound device at makes =
     let facts = made_facts old sound id device made at found.1 in
     let there = frame_there old sound device.id made facts.1 in
     let own : device.id ≡ id = (found_device old.devices id device at).1 in
-    let stores = stores_its_own old.frames made there.0 there.1 there.2 facts.0.0 (facts.0.1 found.2.0) in
-    let frames_now : new.frames ≡ stored old.frames made.frame (offset_of made.access) made.access.bytes = ap (λ (s : State). s.frames) found.2.3 in (
+    let stores = stores_its_own old.frames made there.0 there.1 there.2 facts.0.0 (facts.0.1 found.2.0.0) in
+    let frames_now : new.frames ≡ stored old.frames made.frame (offset_of made.access) made.access.bytes = ap (λ (s : State). s.frames) found.2.1 in (
       made,
       (device, at, found.1),
-      subst (λ i. May old.history i made.frame kinds.Write) own found.2.1,
-      found.2.2,
+      subst (λ i. May old.history i made.frame kinds.Write) own found.2.0.1,
+      found.2.0.2,
       subst (λ fs. AreNamedBytes fs made made.access.bytes) (sym frames_now) stores.0,
       (λ frame offset out. ap (λ (fs : List Frame). byte_at fs frame offset) frames_now ∙ stores.1 frame offset out),
     )
@@ -274,12 +274,12 @@ makes_of state sound id device at = by device.in_flight refl
     of_kind made kinds.Read same first may = (
       Read (record { items = slice_range (bytes_of state.frames made.frame) (offset_of made.access) (offset_of made.access + made.access.len) }),
       with_oldest_made state device,
-      rw first (same, subst (May state.history device.id made.frame) same may, refl, refl),
+      rw first ((same, subst (May state.history device.id made.frame) same may, refl), refl),
     )
     of_kind made kinds.Write same first may = (
       Wrote made.access.len,
       record (with_oldest_made state device) { frames = stored state.frames made.frame (offset_of made.access) made.access.bytes },
-      rw first (same, subst (May state.history device.id made.frame) same may, refl, refl),
+      rw first ((same, subst (May state.history device.id made.frame) same may, refl), refl),
     )
 
     by : (in_flight : List InFlight) → device.in_flight ≡ in_flight → (outcome : Outcome) × (new : State) × Makes state device outcome new

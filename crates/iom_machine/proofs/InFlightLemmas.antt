@@ -134,10 +134,10 @@ in_flight-makes : (P : ℕ → InFlight → Type 0) (old new : State) (id : ℕ)
     → AllInFlight P old.devices → AllInFlight P new.devices
 in_flight-makes P old new id device (Read bytes) at makes all =
     let made = some_case (slice_get device.in_flight 0) _ makes in
-    subst (λ (s : State). AllInFlight P s.devices) (sym made.2.3) (in_flight-made P old id device at all)
+    subst (λ (s : State). AllInFlight P s.devices) (sym made.2.1) (in_flight-made P old id device at all)
 in_flight-makes P old new id device (Wrote len) at makes all =
     let made = some_case (slice_get device.in_flight 0) _ makes in
-    subst (λ (s : State). AllInFlight P s.devices) (sym made.2.3) (in_flight-made P old id device at all)
+    subst (λ (s : State). AllInFlight P s.devices) (sym made.2.1) (in_flight-made P old id device at all)
 in_flight-makes P old new id device NothingInFlight at makes all = subst (λ (s : State). AllInFlight P s.devices) (sym makes.1) all
 in_flight-makes P old new id device _ at makes all = absurd makes
 
@@ -172,7 +172,7 @@ in_flight-step P old new (events.Release id page) (Refused why) (choice, step) e
 in_flight-step P old new (events.Release id page) _ (choice, step) enters all = absurd step
 in_flight-step P old new events.Fetch (Fetched result) (choice, step) enters all = devices_stay P old new (ap (λ (s : State). s.devices) step) all
 in_flight-step P old new events.Fetch _ (choice, step) enters all = absurd step
-in_flight-step P old new events.Poll (Confirmed first last) (choice, step) enters all = devices_stay P old new (ap (λ (s : State). s.devices) step.3) all
+in_flight-step P old new events.Poll (Confirmed first last) (choice, step) enters all = devices_stay P old new (ap (λ (s : State). s.devices) step.1) all
 in_flight-step P old new events.Poll NoneConfirmed (choice, step) enters all = devices_stay P old new (ap (λ (s : State). s.devices) step) all
 in_flight-step P old new events.Poll _ (choice, step) enters all = absurd step
 in_flight-step P old new (events.Read id address len) outcome (choice, step) enters all =

@@ -3,6 +3,7 @@ pub mod ByteLemmas
 pub mod InFlightLemmas
 pub mod SoundLemmas
 pub mod HeadlineLemmas
+pub mod ReclaimLemmas
 pub mod JudgeLemmas
 pub mod FrameLemmas
 pub mod StepLemmas

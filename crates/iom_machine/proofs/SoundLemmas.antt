@@ -151,8 +151,8 @@ same_ledger-commits old new id outcome step = elim (match_cases (device_of old i
 ]
   where
     by : (device : Device) (outcome : Outcome) → Makes old device outcome new → SameLedger old new
-    by device (Read bytes) makes = let made = some_case (slice_get device.in_flight 0) _ makes in (ap (λ (s : State). s.history) made.2.3, ap (λ (s : State). s.tickets) made.2.3)
-    by device (Wrote len) makes = let made = some_case (slice_get device.in_flight 0) _ makes in (ap (λ (s : State). s.history) made.2.3, ap (λ (s : State). s.tickets) made.2.3)
+    by device (Read bytes) makes = let made = some_case (slice_get device.in_flight 0) _ makes in (ap (λ (s : State). s.history) made.2.1, ap (λ (s : State). s.tickets) made.2.1)
+    by device (Wrote len) makes = let made = some_case (slice_get device.in_flight 0) _ makes in (ap (λ (s : State). s.history) made.2.1, ap (λ (s : State). s.tickets) made.2.1)
     by device NothingInFlight makes = all_same old new makes.1
     by device _ makes = absurd makes
 
@@ -186,8 +186,8 @@ change-step old new (events.Release id page) _ (choice, step) = absurd step
 change-step old new events.Fetch (Fetched result) (choice, step) = unchanged _ _ old new step
 change-step old new events.Fetch _ (choice, step) = absurd step
 change-step old new events.Poll (Confirmed first last) (choice, step) =
-    let upward : first ≤ last = step.1 in let most : last ≤ old.tickets = step.2 in
-    Change.confirms_some first (suc (last - first)) (omega arith) (ap (λ (s : State). s.history) step.3) (ap (λ (s : State). s.tickets) step.3) step.4
+    let upward : first ≤ last = step.0.1 in let most : last ≤ old.tickets = step.0.2 in
+    Change.confirms_some first (suc (last - first)) (omega arith) (ap (λ (s : State). s.history) step.1) (ap (λ (s : State). s.tickets) step.1) step.2
 change-step old new events.Poll NoneConfirmed (choice, step) = unchanged _ _ old new step
 change-step old new events.Poll _ (choice, step) = absurd step
 change-step old new (events.Read id address len) outcome (choice, step) = Change.ledger_stays (same_ledger-requests choice.frame old new id (read_of address len) outcome step)
@@ -278,11 +278,11 @@ frames-commits W P written old new id outcome all step its = elim (match_cases (
     stay same = subst (λ (s : State). P s.frames) (sym same) its
 
     by : (device : Device) → device_of old id ≡ Some device → (outcome : Outcome) → Makes old device outcome new → P new.frames
-    by device at (Read bytes) makes = let made = some_case (slice_get device.in_flight 0) _ makes in subst (λ (s : State). P s.frames) (sym made.2.3) its
+    by device at (Read bytes) makes = let made = some_case (slice_get device.in_flight 0) _ makes in subst (λ (s : State). P s.frames) (sym made.2.1) its
     by device at (Wrote len) makes =
         let made = some_case (slice_get device.in_flight 0) _ makes in
         let fact = All-at W device.in_flight 0 made.0 (AllInFlight-of (λ id flying. W flying) old.devices id device at all) made.1 in
-        subst (λ (s : State). P s.frames) (sym made.2.3) (written old.frames made.0 fact made.2.0 its)
+        subst (λ (s : State). P s.frames) (sym made.2.1) (written old.frames made.0 fact made.2.0.0 its)
     by device at NothingInFlight makes = stay makes.1
     by device at _ makes = absurd makes
 
@@ -306,7 +306,7 @@ frames-step W P owned written old new (events.Release id page) (Refused why) all
 frames-step W P owned written old new (events.Release id page) _ all (choice, step) its = absurd step
 frames-step W P owned written old new events.Fetch (Fetched result) all (choice, step) its = subst P (sym (ap (λ (s : State). s.frames) step)) its
 frames-step W P owned written old new events.Fetch _ all (choice, step) its = absurd step
-frames-step W P owned written old new events.Poll (Confirmed first last) all (choice, step) its = subst P (sym (ap (λ (s : State). s.frames) step.3)) its
+frames-step W P owned written old new events.Poll (Confirmed first last) all (choice, step) its = subst P (sym (ap (λ (s : State). s.frames) step.1)) its
 frames-step W P owned written old new events.Poll NoneConfirmed all (choice, step) its = subst P (sym (ap (λ (s : State). s.frames) step)) its
 frames-step W P owned written old new events.Poll _ all (choice, step) its = absurd step
 frames-step W P owned written old new (events.Read id address len) outcome all (choice, step) its = subst P (sym (same_frames-requests choice.frame old new id (read_of address len) outcome step)) its

@@ -1,6 +1,6 @@
 -- The plugged devices, and what they have in flight.
 use Rattle.std.specs.Prelude.{◌≡◌, ℕ, ◌==◌, List, [], ◌∷◌, find, All, Option, Some, if◌then◌else◌}
-use Rattle.iom_ledger.specs.History.{May}
+use Rattle.iom_ledger.specs.History.{History, May}
 use Rattle.iom_machine.specs.declared.state.Device.{Device}
 use Rattle.iom_machine.specs.declared.state.State.{State}
 
@@ -22,7 +22,10 @@ replaced_device (device ∷ others) id now =
 abbrev pub with_device : State → Device → State
 with_device state now = record state { devices = replaced_device state.devices now.id now }
 
+-- each access in flight of the device may still reach its frame
+abbrev pub DeviceMay : History → Device → Type 0
+DeviceMay history device = All (λ flying. May history device.id flying.frame flying.access.kind) device.in_flight
+
 -- each access in flight may still reach its frame
 abbrev pub EachInFlightMay : State → Type 0
-EachInFlightMay state =
-    All (λ device. All (λ flying. May state.history device.id flying.frame flying.access.kind) device.in_flight) state.devices
+EachInFlightMay state = All (DeviceMay state.history) state.devices

@@ -1,5 +1,5 @@
 -- Frames of memory: which are reserved, which are free, what they hold, and how they change.
-use Rattle.std.specs.Prelude.{◌≡◌, ℕ, ◌+◌, ◌<◌, Bool, false, List, [], ◌∷◌, ◌++◌, take, drop, length, All, Some, is_some, slice_get, slice_set, nat_eq}
+use Rattle.std.specs.Prelude.{◌≡◌, ◌≢◌, ℕ, ◌+◌, ◌<◌, Bool, false, List, [], ◌∷◌, ◌++◌, take, drop, length, All, Option, Some, MatchOption, is_some, slice_get, slice_set, nat_eq, ⊤}
 use Rattle.std.specs.List.{IsDistinct}
 use Rattle.std.specs.Option.{option_map_or}
 use Rattle.iom_ledger.specs.History as ledger
@@ -15,6 +15,10 @@ is_reserved frames number = option_map_or (λ frame. is_some frame.owner) (slice
 abbrev pub IsFree : State → ℕ → Type 0
 IsFree state number =
     (number < length state.frames) × (is_reserved state.frames number ≡ false) × ledger.IsFree state.history number
+
+-- the frame is free, and isn't the one that is named, if one is
+abbrev pub IsFreeBesides : State → Option ℕ → ℕ → Type 0
+IsFreeBesides state named number = IsFree state number × MatchOption named ⊤ (λ it. number ≢ it)
 
 -- fewer than n numbers are of this sort: each list of such numbers without repetition is shorter
 abbrev pub FewerThan : ℕ → (ℕ → Type 0) → Type 0

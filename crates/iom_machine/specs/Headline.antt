@@ -69,7 +69,7 @@ abbrev pub IsAccepted : Event → Outcome → ℕ → Access → Type 0
 IsAccepted event (Accepted number) id access = AsksFor event id access
 IsAccepted event _ id access = ⊥
 
--- one of the events did
+-- one of the events asked for the access, and was accepted
 abbrev pub WasAccepted : List Event → List Outcome → ℕ → Access → Type 0
 WasAccepted (event ∷ events) (outcome ∷ outcomes) id access =
     IsAccepted event outcome id access ⊎ WasAccepted events outcomes id access
@@ -84,7 +84,7 @@ abbrev pub GrantsFrame : Event → Outcome → ℕ → Type 0
 GrantsFrame (events.Grant id page named rights) Done frame = named ≡ frame
 GrantsFrame _ _ frame = ⊥
 
--- none of the events does
+-- no event grants the frame
 abbrev pub NoneGrants : List Event → List Outcome → ℕ → Type 0
 NoneGrants (event ∷ events) (outcome ∷ outcomes) frame = (¬ GrantsFrame event outcome frame) × NoneGrants events outcomes frame
 NoneGrants _ _ frame = ⊤
@@ -95,27 +95,41 @@ TouchesFrame old (events.Commit id) (Read bytes) frame = (made : InFlight) × Is
 TouchesFrame old (events.Commit id) (Wrote len) frame = (made : InFlight) × IsOldest old id made × (made.frame ≡ frame)
 TouchesFrame old _ _ frame = ⊥
 
--- Every access made touches exactly its named bytes, in a frame that the history then shows held by that device with that right, or released by it so and unconfirmed.
-abbrev pub MadeAccessesTouchTheirOwn : Type 0
-MadeAccessesTouchTheirOwn =
-    (old new : State) (id : ℕ) (outcome : Outcome)
-    → IsReached old → Step old (events.Commit id) outcome new → TouchesItsOwn old id outcome new
+-- An access that is made touches exactly its named bytes, in a frame that the history then shows held by that device with that right,
+-- or released by it so and unconfirmed.
+abbrev pub MadeAccessTouchesItsOwn : State → Event → Outcome → State → Type 0
+MadeAccessTouchesItsOwn old event outcome new = (id : ℕ) → event ≡ events.Commit id → TouchesItsOwn old id outcome new
 
--- A raw device that is attached in one stage has each access to a page that it so holds accepted, on that very frame.
-abbrev pub HeldPagesAreAccepted : Type 0
-HeldPagesAreAccepted =
-    (old new : State) (event : Event) (outcome : Outcome) (id frame : ℕ) (device : Device) (access : Access)
-    → IsReached old → Step old event outcome new → AsksFor event id access
-    → IsPlugged old id device → device.kind ≡ Raw → IsOneStage device
+-- A raw device that is attached in one stage has an access to a page that it so holds accepted, on that very frame.
+abbrev pub HeldPageIsAccepted : State → Event → Outcome → State → Type 0
+HeldPageIsAccepted old event outcome new =
+    (id frame : ℕ) (device : Device) (access : Access)
+    → AsksFor event id access → IsPlugged old id device → device.kind ≡ Raw → IsOneStage device
     → IsWithinPage access → ¬ IsBusy device → HoldsFor old.history id access frame
     → (outcome ≡ Accepted (device.accepted + 1)) × (new ≡ with_accepted old device access frame)
+
+-- No frame is touched that was free at the earlier state, and wasn't granted since.
+abbrev pub FreeFrameIsNotTouched : State → List Event → List Outcome → State → Event → Outcome → Type 0
+FreeFrameIsNotTouched free since told old event outcome =
+    (frame : ℕ) → IsFree free frame → Run free since told old → NoneGrants since told frame → ¬ TouchesFrame old event outcome frame
+
+-- Every access made touches its own.
+abbrev pub MadeAccessesTouchTheirOwn : Type 0
+MadeAccessesTouchTheirOwn =
+    (old new : State) (event : Event) (outcome : Outcome)
+    → IsReached old → Step old event outcome new → MadeAccessTouchesItsOwn old event outcome new
+
+-- Every access to a held page is accepted.
+abbrev pub HeldPagesAreAccepted : Type 0
+HeldPagesAreAccepted =
+    (old new : State) (event : Event) (outcome : Outcome)
+    → IsReached old → Step old event outcome new → HeldPageIsAccepted old event outcome new
 
 -- A frame that is free is touched by no device until it is granted again.
 abbrev pub FreeFramesAreNotTouched : Type 0
 FreeFramesAreNotTouched =
-    (free old new : State) (frame : ℕ) (events : List Event) (outcomes : List Outcome) (event : Event) (outcome : Outcome)
-    → IsReached free → IsFree free frame → Run free events outcomes old → NoneGrants events outcomes frame
-    → Step old event outcome new → ¬ TouchesFrame old event outcome frame
+    (free old new : State) (since : List Event) (told : List Outcome) (event : Event) (outcome : Outcome)
+    → IsReached free → Step old event outcome new → FreeFrameIsNotTouched free since told old event outcome
 
 -- Every access in flight may still reach its frame.
 abbrev pub AccessesInFlightMay : Type 0

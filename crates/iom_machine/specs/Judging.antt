@@ -1,19 +1,15 @@
 -- What the judge looks for in a history, in the devices and in the frames.
-use Rattle.std.specs.Prelude.{nat_eq, All, Contains, ◌≡◌, ◌≢◌, ◌+◌, ◌<◌, ◌≤◌, length, find, slice_get, slice_set, slice_range, ℕ, Bool, false, not, ◌==◌, ◌&&◌, ◌||◌, List, [], ◌∷◌, Option, MatchOption, ⊤}
+-- For the judge's own functions alone; no public contract cites these.
+use Rattle.std.specs.Prelude.{nat_eq, All, Contains, ◌≡◌, ◌<◌, length, find, slice_get, slice_set, ℕ, Bool, false, not, ◌==◌, ◌&&◌, ◌||◌, List, [], ◌∷◌}
 use Rattle.std.specs.List.{list_any, IsDistinct}
 use Rattle.std.specs.Option.{option_map_or}
 use Rattle.iom_base.specs.declared.access.AccessKind.{AccessKind}
-use Rattle.iom_base.specs.declared.access.AccessKind.TheVariants.{Read, Write}
+use Rattle.iom_base.specs.declared.access.AccessKind.TheVariants.{Read}
 use Rattle.iom_base.specs.Rights.{allows}
 use Rattle.iom_ledger.specs.declared.entry.Entry.TheVariants.{Granted, Released, AllReleased, Confirmed}
-use Rattle.iom_ledger.specs.History.{History, Pair, held_at, released_at, confirms, May}
+use Rattle.iom_ledger.specs.History.{History, Pair, held_at, released_at, confirms}
 use Rattle.iom_machine.specs.declared.state.Device.{Device}
-use Rattle.iom_machine.specs.declared.state.InFlight.{InFlight}
-use Rattle.iom_machine.specs.declared.state.State.{State}
 use Rattle.iom_machine.specs.Devices.{replaced_device}
-use Rattle.iom_machine.specs.Tickets.{last_confirmed}
-use Rattle.iom_machine.specs.Frames.{IsFree, bytes_of}
-use Rattle.iom_machine.specs.Requests.{offset_of}
 
 -- whether the pair is on the frame, with a right that allows the kind
 abbrev pub serves : ℕ → AccessKind → Pair → Bool
@@ -54,10 +50,6 @@ IsPlaceOf devices id place =
     (place < length devices) × (find (λ device. device.id == id) devices ≡ slice_get devices place)
     × ((now : Device) → replaced_device devices id now ≡ slice_set devices place now)
 
--- the frame is free, and isn't the one that is named, if one is
-abbrev pub IsFreeBesides : State → Option ℕ → ℕ → Type 0
-IsFreeBesides state named number = IsFree state number × MatchOption named ⊤ (λ it. number ≢ it)
-
 -- the list has each number below n of this sort, once, and no others
 abbrev pub ListsAll : List ℕ → ℕ → (ℕ → Type 0) → Type 0
 ListsAll found n IsOfSort =
@@ -67,23 +59,3 @@ ListsAll found n IsOfSort =
 -- so many numbers below n are of this sort
 abbrev pub CountsAll : ℕ → ℕ → (ℕ → Type 0) → Type 0
 CountsAll count n IsOfSort = (found : List ℕ) × ListsAll found n IsOfSort × (length found ≡ count)
-
--- each access in flight of the device may still reach its frame
-abbrev pub DeviceMay : History → Device → Type 0
-DeviceMay history device = All (λ flying. May history device.id flying.frame flying.access.kind) device.in_flight
-
--- the tickets from the first to the last are the oldest that wait, or some of them
-abbrev pub AreNextTickets : State → ℕ → ℕ → Type 0
-AreNextTickets state first last =
-    (first ≡ last_confirmed state.history + 1) × (first ≤ last) × (last ≤ state.tickets)
-
--- the access is a read that its device may make, and gives these bytes
-abbrev pub GivesBytes : State → ℕ → InFlight → List ℕ → Type 0
-GivesBytes state id made bytes =
-    (made.access.kind ≡ Read) × May state.history id made.frame Read
-    × (bytes ≡ slice_range (bytes_of state.frames made.frame) (offset_of made.access) (offset_of made.access + made.access.len))
-
--- the access is a write of so many bytes that its device may make
-abbrev pub MakesWrite : State → ℕ → InFlight → ℕ → Type 0
-MakesWrite state id made len =
-    (made.access.kind ≡ Write) × May state.history id made.frame Write × (len ≡ made.access.len)

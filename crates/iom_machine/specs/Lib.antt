@@ -5,5 +5,6 @@ pub mod Refusals
 pub mod Requests
 pub mod Machine
 pub mod Headline
+pub mod Reclaim
 pub mod Judging
 pub mod Verdicts

@@ -1,11 +1,11 @@
 -- The ledger machine: what may come of each event, and the state after it.
-use Rattle.std.specs.Prelude.{◌≡◌, ◌≢◌, ℕ, ◌+◌, ◌-◌, ◌≤◌, ◌⊎◌, Bool, false, List, [], ◌∷◌, ◌++◌, All, None, MatchOption, IsSomeAnd, slice_get, slice_range, drop, replicate, ⊤}
+use Rattle.std.specs.Prelude.{◌≡◌, ℕ, ◌+◌, ◌-◌, Bool, false, List, [], ◌∷◌, ◌++◌, All, None, Some, MatchOption, IsSomeAnd, slice_get, slice_range, drop, replicate, ⊤}
 use Rattle.iom_base.specs.declared.access.AccessKind.TheVariants as kinds
 use Rattle.iom_base.specs.declared.rights.Rights.{Rights}
-use Rattle.iom_base.specs.Rights.{r, rw}
 use Rattle.iom_ledger.specs.declared.entry.Entry.TheVariants as entry
 use Rattle.iom_ledger.specs.declared.refusal.Refusal.TheVariants.{NoSuchDevice}
 use Rattle.iom_ledger.specs.History.{May}
+use Rattle.iom_ledger.specs.Shown.{IsGrantable}
 use Rattle.iom_machine.specs.declared.choice.Choice.{Choice}
 use Rattle.iom_machine.specs.declared.event.Event.{Event}
 use Rattle.iom_machine.specs.declared.event.Event.TheVariants as events
@@ -17,19 +17,16 @@ use Rattle.iom_machine.specs.declared.state.Device.{Device}
 use Rattle.iom_machine.specs.declared.state.DeviceKind.{DeviceKind}
 use Rattle.iom_machine.specs.declared.state.DeviceKind.TheVariants.{Raw}
 use Rattle.iom_machine.specs.declared.state.Frame.{Frame}
+use Rattle.iom_machine.specs.declared.state.InFlight.{InFlight}
 use Rattle.iom_machine.specs.declared.state.Mode.{Mode}
 use Rattle.iom_machine.specs.declared.state.Mode.TheVariants.{First}
 use Rattle.iom_machine.specs.declared.state.Owner.TheVariants.{System, OneDevice}
 use Rattle.iom_machine.specs.declared.state.State.{State}
-use Rattle.iom_machine.specs.Frames.{IsFree, reserved_for, bytes_of, stored}
+use Rattle.iom_machine.specs.Frames.{IsFree, IsFreeBesides, reserved_for, bytes_of, stored}
 use Rattle.iom_machine.specs.Devices.{device_of, with_device, EachInFlightMay}
-use Rattle.iom_machine.specs.Tickets.{last_confirmed, with_confirmed}
+use Rattle.iom_machine.specs.Tickets.{AreNextTickets, with_confirmed}
 use Rattle.iom_machine.specs.Refusals.{NoneApplies, IsRefusedBy, MayRefusePlug, MayRefuseAttach, MayRefuseGrant, MayRefuseRelease, plug_reasons, attach_reasons, grant_reasons, release_reasons}
 use Rattle.iom_machine.specs.Requests.{read_of, write_of, offset_of, MayAnswer, answered}
-
--- the right is one of the two that are granted
-abbrev pub IsGrantable : Rights → Type 0
-IsGrantable rights = (rights ≡ r) ⊎ (rights ≡ rw)
 
 -- the event can come: a right that is to be granted is R or RW
 abbrev pub IsEvent : Event → Type 0
@@ -64,7 +61,7 @@ Attaches taken old id mode ats _ new = ⊥
 abbrev pub Grants : List ℕ → State → ℕ → ℕ → ℕ → Rights → Outcome → State → Type 0
 Grants taken old id page frame rights Done new =
     NoneApplies (grant_reasons old id page frame) × IsGrantable rights
-    × All (λ number. IsFree old number × (number ≢ frame)) taken
+    × All (IsFreeBesides old (Some frame)) taken
     × (new ≡ record old {
       history = entry.Granted id page frame rights ∷ old.history;
       frames = reserved_for (OneDevice id) taken old.frames;
@@ -90,8 +87,7 @@ Fetches old _ new = ⊥
 -- Some of the oldest tickets that wait are confirmed, such that each access in flight may still reach its frame; or none is.
 abbrev pub Polls : State → Outcome → State → Type 0
 Polls old (Confirmed first last) new =
-    (first ≡ last_confirmed old.history + 1) × (first ≤ last) × (last ≤ old.tickets)
-    × (new ≡ with_confirmed old first last) × EachInFlightMay new
+    AreNextTickets old first last × (new ≡ with_confirmed old first last) × EachInFlightMay new
 Polls old NoneConfirmed new = new ≡ old
 Polls old _ new = ⊥
 
@@ -109,16 +105,23 @@ Requests frame old id access outcome new = Acts (λ device.
 abbrev pub with_oldest_made : State → Device → State
 with_oldest_made state device = with_device state (record device { in_flight = drop 1 device.in_flight })
 
+-- the access is a read that its device may make, and gives these bytes
+abbrev pub GivesBytes : State → ℕ → InFlight → List ℕ → Type 0
+GivesBytes state id made bytes =
+    (made.access.kind ≡ kinds.Read) × May state.history id made.frame kinds.Read
+    × (bytes ≡ slice_range (bytes_of state.frames made.frame) (offset_of made.access) (offset_of made.access + made.access.len))
+
+-- the access is a write of so many bytes that its device may make
+abbrev pub MakesWrite : State → ℕ → InFlight → ℕ → Type 0
+MakesWrite state id made len =
+    (made.access.kind ≡ kinds.Write) × May state.history id made.frame kinds.Write × (len ≡ made.access.len)
+
 -- The oldest access of a plugged device in flight is made, on its frame, which the device may still reach.
 abbrev pub Makes : State → Device → Outcome → State → Type 0
 Makes old device (Read bytes) new = IsSomeAnd (slice_get device.in_flight 0) (λ made.
-    (made.access.kind ≡ kinds.Read) × May old.history device.id made.frame kinds.Read
-    × (bytes.items ≡ slice_range (bytes_of old.frames made.frame) (offset_of made.access) (offset_of made.access + made.access.len))
-    × (new ≡ with_oldest_made old device))
+    GivesBytes old device.id made bytes.items × (new ≡ with_oldest_made old device))
 Makes old device (Wrote len) new = IsSomeAnd (slice_get device.in_flight 0) (λ made.
-    (made.access.kind ≡ kinds.Write) × May old.history device.id made.frame kinds.Write
-    × (len ≡ made.access.len)
-    × (new ≡ record (with_oldest_made old device) {
+    MakesWrite old device.id made len × (new ≡ record (with_oldest_made old device) {
       frames = stored old.frames made.frame (offset_of made.access) made.access.bytes;
     }))
 Makes old device NothingInFlight new = (device.in_flight ≡ []) × (new ≡ old)
@@ -143,13 +146,6 @@ ChosenStep choice old (events.Commit id) outcome new = Commits old id outcome ne
 -- The event may have this outcome, and leave this state.
 abbrev pub Step : State → Event → Outcome → State → Type 0
 Step old event outcome new = (choice : Choice) × ChosenStep choice old event outcome new
-
--- These events may have these outcomes, one after another, and leave this state, where it is chosen so.
-abbrev pub ChosenRun : List Choice → State → List Event → List Outcome → State → Type 0
-ChosenRun [] old [] [] new = new ≡ old
-ChosenRun (choice ∷ choices) old (event ∷ events) (outcome ∷ outcomes) new =
-    (mid : State) × ChosenStep choice old event outcome mid × ChosenRun choices mid events outcomes new
-ChosenRun _ old _ _ new = ⊥
 
 -- These events may have these outcomes, one after another, and leave this state.
 abbrev pub Run : State → List Event → List Outcome → State → Type 0

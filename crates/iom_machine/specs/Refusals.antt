@@ -1,5 +1,5 @@
 -- Why a call of the driver is refused: the first reason that applies, in the order of its list.
-use Rattle.std.specs.Prelude.{◌≡◌, ◌≢◌, ℕ, ◌^◌, Bool, true, false, not, ◌==◌, ◌&&◌, ◌||◌, nat_le, List, [], ◌∷◌, length, Option, None, Some, is_some, MatchOption, if◌then◌else◌, ⊤}
+use Rattle.std.specs.Prelude.{◌≡◌, ℕ, ◌^◌, Bool, true, false, not, ◌==◌, ◌&&◌, ◌||◌, nat_le, List, [], ◌∷◌, length, Option, None, Some, is_some, MatchOption, if◌then◌else◌, ⊤}
 use Rattle.std.specs.Option.{option_map_or}
 use Rattle.iom_ledger.specs.declared.refusal.Refusal.{Refusal}
 use Rattle.iom_ledger.specs.declared.refusal.Refusal.TheVariants.{NoSuchDevice, AlreadyAttached, NotAttached, NotTrusted, FrameOutOfRange, FrameReserved, IovaOutOfRange, IovaBusy, NotGranted, NoFrames, QueueFull, TooManyPending, NumbersUsedUp, Memory, IdTooWide, TooManyDevices, AlreadyPlugged}
@@ -12,7 +12,7 @@ use Rattle.iom_machine.specs.declared.state.Mode.TheVariants.{First, Second, Bot
 use Rattle.iom_machine.specs.declared.state.Attachment.{Attachment}
 use Rattle.iom_machine.specs.declared.state.Attachment.TheVariants.{Detached, Quarantined, Leaving}
 use Rattle.iom_machine.specs.declared.state.State.{State}
-use Rattle.iom_machine.specs.Frames.{is_reserved, IsFree, FewerThan}
+use Rattle.iom_machine.specs.Frames.{is_reserved, IsFree, IsFreeBesides, FewerThan}
 use Rattle.iom_machine.specs.Devices.{device_of}
 use Rattle.iom_machine.specs.Tickets.{pending_tickets}
 
@@ -119,12 +119,15 @@ release_reasons state id page = attachment_reasons state id (
     ∷ (nat_le 256 (pending_tickets state), TooManyPending)
     ∷ [])
 
+-- What follows comes after the reasons: a call is refused so only where none of them applies. Where two of these may come, either may.
+
 -- a plug may find no memory for the device
 abbrev pub MayRefusePlug : Refusal → Type 0
 MayRefusePlug Memory = ⊤
 MayRefusePlug _ = ⊥
 
--- an attach in the mode may find too few free frames; in the first stage it takes at most three, for two pages of the device directory and a root
+-- An attach in the mode may find too few free frames. In the first stage it takes at most three, for two pages of the device directory and a root.
+-- No step leads to the second or both stages yet, so nothing is said of them.
 abbrev pub MayLackFrames : State → Mode → Type 0
 MayLackFrames state First = FewerThan 3 (IsFree state)
 MayLackFrames state Second = ⊥
@@ -138,7 +141,7 @@ MayRefuseAttach state mode _ = ⊥
 
 -- a grant may find too few free frames for its tables, which are at most two besides the frame that it names; or no memory
 abbrev pub MayRefuseGrant : State → ℕ → Refusal → Type 0
-MayRefuseGrant state frame NoFrames = FewerThan 2 (λ number. IsFree state number × (number ≢ frame))
+MayRefuseGrant state frame NoFrames = FewerThan 2 (IsFreeBesides state (Some frame))
 MayRefuseGrant state frame Memory = ⊤
 MayRefuseGrant state frame _ = ⊥
 

@@ -68,7 +68,8 @@ abbrev pub MayFaultInOneStage : (AccessKind → Cause) → History → ℕ → A
 MayFaultInOneStage fault_of history id access cause =
     HoldsNoneFor history id access × (cause ≡ fault_of access.kind)
 
--- the IOMMU may accept the access, on the frame
+-- The IOMMU may accept the access, on the frame.
+-- No step leads to both stages, quarantine or leaving yet, so nothing is said of them.
 abbrev pub MayAccept : Attachment → State → ℕ → Access → ℕ → Type 0
 MayAccept Detached state id access frame = ⊥
 MayAccept (Attached First ats) state id access frame = MayAcceptInOneStage state.history id access frame
@@ -77,7 +78,8 @@ MayAccept (Attached Both ats) state id access frame = ⊥
 MayAccept (Quarantined ticket mode ats) state id access frame = ⊥
 MayAccept (Leaving ticket mode ats) state id access frame = ⊥
 
--- the IOMMU may refuse the access, with the cause
+-- The IOMMU may refuse the access, with the cause.
+-- No step leads to both stages, quarantine or leaving yet, so nothing is said of them.
 abbrev pub MayFault : Attachment → State → ℕ → Access → Cause → Type 0
 MayFault Detached state id access cause =
     cause ≡ (if is_too_wide state id then TransactionTypeDisallowed else DirectoryEntryNotValid)

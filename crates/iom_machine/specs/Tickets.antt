@@ -1,5 +1,5 @@
 -- Tickets: they count from 1, and are confirmed in that order.
-use Rattle.std.specs.Prelude.{ℕ, zero, suc, ◌+◌, ◌-◌, ◌∷◌, []}
+use Rattle.std.specs.Prelude.{◌≡◌, ◌≤◌, ℕ, zero, suc, ◌+◌, ◌-◌, ◌∷◌, []}
 use Rattle.iom_ledger.specs.declared.entry.Entry.TheVariants.{Granted, Released, AllReleased, Confirmed}
 use Rattle.iom_ledger.specs.History.{History}
 use Rattle.iom_machine.specs.declared.state.State.{State}
@@ -15,6 +15,11 @@ last_confirmed (AllReleased d ticket ∷ before) = last_confirmed before
 -- how many tickets wait
 abbrev pub pending_tickets : State → ℕ
 pending_tickets state = state.tickets - last_confirmed state.history
+
+-- the tickets from the first to the last are the oldest that wait, or some of them
+abbrev pub AreNextTickets : State → ℕ → ℕ → Type 0
+AreNextTickets state first last =
+    (first ≡ last_confirmed state.history + 1) × (first ≤ last) × (last ≤ state.tickets)
 
 -- the history, where so many tickets from the first on are confirmed, one after another
 abbrev pub confirmed_from : ℕ → ℕ → History → History

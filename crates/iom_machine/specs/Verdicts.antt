@@ -1,13 +1,12 @@
 -- What the judge finds of a list of lines.
 use Rattle.std.specs.Prelude.{◌≡◌, ◌↔◌, ℕ, zero, suc, List, [], ◌∷◌, map}
-use Rattle.iom_machine.specs.declared.choice.Choice.{Choice}
 use Rattle.iom_machine.specs.declared.event.Event.{Event}
 use Rattle.iom_machine.specs.declared.line.Line.{Line}
 use Rattle.iom_machine.specs.declared.line.Verdict.{Verdict}
 use Rattle.iom_machine.specs.declared.line.Verdict.TheVariants.{Lawful, Unlawful}
 use Rattle.iom_machine.specs.declared.outcome.Outcome.{Outcome}
 use Rattle.iom_machine.specs.declared.state.State.{State}
-use Rattle.iom_machine.specs.Machine.{ChosenStep, Step, Run}
+use Rattle.iom_machine.specs.Machine.{ChosenStep, Run}
 
 -- the line may come in the state, and leave the other
 abbrev pub LineStep : State → Line → State → Type 0
@@ -29,12 +28,6 @@ abbrev pub IsVerdict : State → List Line → Verdict → Type 0
 IsVerdict old lines verdict =
     ((new : State) → (verdict ≡ Lawful new) ↔ LinesRun old lines new)
     × ((k : ℕ) → (verdict ≡ Unlawful k) ↔ StopsAt k old lines)
-
--- Each lawful step is one that some choice explains.
-abbrev pub StepsAreChosen : Type 0
-StepsAreChosen =
-    (old new : State) (event : Event) (outcome : Outcome)
-    → Step old event outcome new ↔ ((choice : Choice) × ChosenStep choice old event outcome new)
 
 -- Each run is one of some lines, with those events and outcomes.
 abbrev pub RunsAreChosen : Type 0

@@ -32,14 +32,14 @@ pub enum Outcome {
     Done,
     /// The call did nothing, and says why.
     Refused(Refusal),
-    /// What was released is free once this ticket is confirmed.
+    /// Under this ticket the page was released: it lingers until the ticket is confirmed.
     Ticket(u32),
     /// The tickets from the first to the last are confirmed now.
     Confirmed { first: u32, last: u32 },
     /// No ticket is confirmed now.
     NoneConfirmed,
     Fetched(Fetched),
-    /// The access is accepted, as the device's so-many-eth, counted from 1.
+    /// The access is accepted; the number counts the device's accepted accesses from 1.
     Accepted(u64),
     /// Eight accesses of the device are in flight.
     Busy,

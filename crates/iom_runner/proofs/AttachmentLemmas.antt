@@ -68,10 +68,10 @@ after_request chosen old new id access outcome step all = elim (match_cases (dev
 after_making : (old new : State) (id : ℕ) (device : Device) (outcome : Outcome) → device_of old id ≡ Some device → Makes old device outcome new → AreFirstOrNone old.devices → AreFirstOrNone new.devices
 after_making old new id device (Read bytes) at makes all =
     let made = some_case (slice_get device.in_flight 0) _ makes in
-    subst (λ (s : State). AreFirstOrNone s.devices) (sym made.2.3) (replaced old.devices device.id _ all (found_first old id device at all))
+    subst (λ (s : State). AreFirstOrNone s.devices) (sym made.2.1) (replaced old.devices device.id _ all (found_first old id device at all))
 after_making old new id device (Wrote len) at makes all =
     let made = some_case (slice_get device.in_flight 0) _ makes in
-    subst (λ (s : State). AreFirstOrNone s.devices) (sym made.2.3) (replaced old.devices device.id _ all (found_first old id device at all))
+    subst (λ (s : State). AreFirstOrNone s.devices) (sym made.2.1) (replaced old.devices device.id _ all (found_first old id device at all))
 after_making old new id device NothingInFlight at makes all = stay old new (ap (λ (s : State). s.devices) makes.1) all
 after_making old new id device _ at makes all = absurd makes
 
@@ -100,7 +100,7 @@ first_or_none-step old new (events.Release id page) (Refused why) (choice, step)
 first_or_none-step old new (events.Release id page) _ (choice, step) all = absurd step
 first_or_none-step old new events.Fetch (Fetched result) (choice, step) all = stay old new (ap (λ (s : State). s.devices) step) all
 first_or_none-step old new events.Fetch _ (choice, step) all = absurd step
-first_or_none-step old new events.Poll (Confirmed first last) (choice, step) all = stay old new (ap (λ (s : State). s.devices) step.3) all
+first_or_none-step old new events.Poll (Confirmed first last) (choice, step) all = stay old new (ap (λ (s : State). s.devices) step.1) all
 first_or_none-step old new events.Poll NoneConfirmed (choice, step) all = stay old new (ap (λ (s : State). s.devices) step) all
 first_or_none-step old new events.Poll _ (choice, step) all = absurd step
 first_or_none-step old new (events.Read id address len) outcome (choice, step) all = after_request choice.frame old new id (read_of address len) outcome step all

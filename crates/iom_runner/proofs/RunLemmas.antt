@@ -8,62 +8,16 @@ use Rattle.iom_machine.specs.declared.event.Event.{Event}
 use Rattle.iom_machine.specs.declared.outcome.Outcome.{Outcome}
 use Rattle.iom_machine.specs.declared.outcome.Outcome.TheVariants.{Done}
 use Rattle.iom_machine.specs.declared.state.State.{State}
-use Rattle.iom_machine.specs.Headline.{IsReached, MadeAccessesTouchTheirOwn, HeldPagesAreAccepted, FreeFramesAreNotTouched}
-use Rattle.iom_machine.specs.Machine.{IsEvent, Step, Run, opening}
-use Rattle.iom_machine.proofs.HeadlineLemmas.{touches_its_own, accepted_on_its_frame, free-run, untouched}
-use Rattle.iom_machine.proofs.SoundLemmas.{sound_if_reached, sound-run}
+use Rattle.iom_machine.specs.Machine.{IsEvent, Run, opening}
+use Rattle.iom_machine.proofs.ReclaimLemmas.{reclaims}
 use Rattle.iom_script.specs.Lines.{line_of, lines_of}
 use Rattle.iom_world.specs.declared.world.World.{World}
 use Rattle.iom_world.specs.Runs.{RunsTo, FailsAfter}
 use Rattle.iom_runner.specs.declared.writing.LineWriter.{LineWriter}
-use Rattle.iom_runner.specs.Reclaim.{Reclaims}
 use Rattle.iom_runner.specs.Text.{TellsRun}
 use Rattle.iom_runner.specs.Writing.{AppendsFront, KeepsWriter, TakesText, TakesLine, FailsWriting}
 use Rattle.iom_runner.proofs.AnswerLemmas.{goes_on}
 use Rattle.iom_runner.proofs.WritingLemmas.{front-longer, takes-more, takes-lines, all_written, front_written}
-
--- a run is cut at an event
-run_cut : (first last : State) (before after : List Event) (event : Event) (told later : List Outcome) (outcome : Outcome)
-    → length before ≡ length told → Run first (before ++ event ∷ after) (told ++ outcome ∷ later) last
-    → (old new : State) × Run first before told old × Step old event outcome new × Run new after later last
-run_cut first last [] after event [] later outcome long (mid, step, run) = (first, mid, refl, step, run)
-run_cut first last [] after event (other ∷ told) later outcome long run = absurd (omega (arith, long))
-run_cut first last (other ∷ before) after event [] later outcome long run = absurd (omega (arith, long))
-run_cut first last (other ∷ before) after event (that ∷ told) later outcome long (mid, step, run) =
-    let cut = run_cut mid last before after event told later outcome (omega (arith, long)) run in
-    (cut.0, cut.1, (mid, step, cut.2), cut.3, cut.4)
-
--- the headline
-made : MadeAccessesTouchTheirOwn
-made old new id outcome reached step = touches_its_own old new id outcome reached step
-
-accepted : HeldPagesAreAccepted
-accepted old new event outcome id frame device access reached step asks there raw one within room held =
-    accepted_on_its_frame old new event outcome id frame device access step asks there one within room held
-
-not_touched : FreeFramesAreNotTouched
-not_touched then old new frame events outcomes event outcome reached is_free run none step touches =
-    untouched old new event outcome frame (sound-run then old events outcomes (sound_if_reached then reached) run)
-    (free-run then old events outcomes frame run none is_free.2) touches
-
--- the sentences of the headline hold of every run from power-on
-pub reclaims : (frames levels : ℕ) (events : List Event) (outcomes : List Outcome) (last : State)
-    → Run (opening frames levels) events outcomes last → Reclaims (opening frames levels) events outcomes last
-reclaims frames levels events outcomes last ran before after event told later outcome events_are outcomes_are long =
-    let cut = run_cut (opening frames levels) last before after event told later outcome long
-    (subst (λ (os : List Outcome). Run (opening frames levels) (before ++ event ∷ after) os last) outcomes_are
-    (subst (λ (es : List Event). Run (opening frames levels) es outcomes last) events_are ran)) in
-    let reached : IsReached cut.0 = (before, told, (frames, levels, cut.2)) in (
-      cut.0,
-      cut.1,
-      cut.2,
-      cut.3,
-      cut.4,
-      λ id is. made cut.0 cut.1 id outcome reached (subst (λ (e : Event). Step cut.0 e outcome cut.1) is cut.3),
-      λ id frame device access asks there raw one within room held. accepted cut.0 cut.1 event outcome id frame device access reached cut.3 asks there raw one within room held,
-      λ earlier since told_then told_since then frame events_then outcomes_then run_then run_since is_free none.
-          not_touched then cut.0 cut.1 frame since told_since event outcome (earlier, told_then, (frames, levels, run_then)) is_free run_since none cut.3,
-    )
 
 -- the text of a run over the first events is a beginning of one over all, as every event has an answer
 tells_more : (frames levels : ℕ) (events : List Event) (count : ℕ) (outcomes : List Outcome) (last : State) (old new : Option (List ℕ))

@@ -1,6 +1,5 @@
 pub mod Statuses
 pub mod Writing
-pub mod Reclaim
 pub mod Text
 pub mod Bytes
 pub mod CommandLine

@@ -6,10 +6,10 @@ use Rattle.iom_machine.specs.declared.outcome.Outcome.{Outcome}
 use Rattle.iom_machine.specs.declared.outcome.Outcome.TheVariants.{Done}
 use Rattle.iom_machine.specs.declared.state.State.{State}
 use Rattle.iom_machine.specs.Machine.{Run, opening}
+use Rattle.iom_machine.specs.Reclaim.{Reclaims}
 use Rattle.iom_script.specs.declared.script.Script.{Script}
 use Rattle.iom_script.specs.declared.script.WorldSize.{WorldSize}
 use Rattle.iom_script.specs.Lines.{line_of, lines_of}
-use Rattle.iom_runner.specs.Reclaim.{Reclaims}
 use Rattle.iom_runner.specs.Writing.{AppendsFront}
 
 -- the state at power-on

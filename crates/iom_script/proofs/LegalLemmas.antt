@@ -4,9 +4,10 @@ use Rattle.std.specs.Prelude.{IfSome, All, ⊤}
 use Rattle.std.specs.List.{AllByRecursion}
 use Rattle.std.proofs.lemmas.List.Elements.{All-cons}
 use Rattle.iom_base.specs.declared.rights.Rights.{Rights}
+use Rattle.iom_ledger.specs.Shown.{IsGrantable}
 use Rattle.iom_machine.specs.declared.event.Event.{Event}
 use Rattle.iom_machine.specs.declared.event.Event.TheVariants.{PlugRaw, AttachFirst, Grant, Release, Fetch, Poll, Read, Write, Commit}
-use Rattle.iom_machine.specs.Machine.{IsEvent, IsGrantable}
+use Rattle.iom_machine.specs.Machine.{IsEvent}
 use Rattle.iom_script.specs.declared.script.Script.{Script}
 use Rattle.iom_script.specs.Words.{IsRight}
 use Rattle.iom_script.specs.Grammar.{IsEventLine, SayEvents, Says, IsScript, spoken, IsWorldSize}

@@ -242,9 +242,11 @@ module _ (state : State) (ledger : Ledger) (memory : List (List ℕ)) (marks : L
   commits_read bytes result kind there items =
       acts_at (λ (device : machine.Device). Makes state device (Read result) (with_oldest_made state (shown_device is.0))) state devices id place (Read result) (with_oldest_made state (shown_device is.0)) shown is
       (rw (shown_oldest is.0.in_flight flight oldest) (
-        kind,
-        subst (λ k. May state.history is.0.id flight.frame k) kind may_reach,
-        items ∙ ap (λ (b : List ℕ). slice_range b (flight.address % 4096) (flight.address % 4096 + flight.len)) (sym (made_bytes bytes there)),
+        (
+          kind,
+          subst (λ k. May state.history is.0.id flight.frame k) kind may_reach,
+          items ∙ ap (λ (b : List ℕ). slice_range b (flight.address % 4096) (flight.address % 4096 + flight.len)) (sym (made_bytes bytes there)),
+        ),
         refl,
       ))
 
@@ -254,7 +256,7 @@ module _ (state : State) (ledger : Ledger) (memory : List (List ℕ)) (marks : L
       acts_at (λ (device : machine.Device). Makes state device (Wrote len) (record (with_oldest_made state (shown_device is.0)) { frames = stored state.frames flight.frame (flight.address % 4096) flight.bytes }))
       state devices id place (Wrote len) (record (with_oldest_made state (shown_device is.0)) { frames = stored state.frames flight.frame (flight.address % 4096) flight.bytes }) shown is
       (rw (shown_oldest is.0.in_flight flight oldest)
-      (kind, subst (λ k. May state.history is.0.id flight.frame k) kind may_reach, long, refl))
+      ((kind, subst (λ k. May state.history is.0.id flight.frame k) kind may_reach, long), refl))
 
 -- the access that stands first in flight is the oldest
 pub oldest_at : (devices : List Device) (place : ℕ) (device : Device) (access : Accepted) (kind : AccessKind) → slice_get devices place ≡ Some device

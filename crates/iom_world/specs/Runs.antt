@@ -4,6 +4,7 @@ use Rattle.iom_machine.specs.declared.event.Event.{Event}
 use Rattle.iom_machine.specs.declared.outcome.Outcome.{Outcome}
 use Rattle.iom_machine.specs.declared.state.State.{State}
 use Rattle.iom_machine.specs.Machine.{Run}
+use Rattle.iom_machine.specs.Reclaim.{Reclaims}
 use Rattle.iom_world.specs.declared.world.World.{World}
 use Rattle.iom_world.specs.Shows.{Shows}
 
@@ -18,6 +19,13 @@ abbrev pub RunsTo : {S : Type 0} → (S → Outcome → S → Type 0) → State 
 RunsTo takes state events before after world =
     (outcomes : List Outcome) × (next : State)
     × Run state events outcomes next × TakesAll takes before outcomes after × Shows world next
+
+-- the same, where of each event of the run the sentences of the headline hold
+abbrev pub ReclaimsFrom : {S : Type 0} → (S → Outcome → S → Type 0) → State → List Event → S → S → World → Type 0
+ReclaimsFrom takes state events before after world =
+    (outcomes : List Outcome) × (next : State)
+    × Run state events outcomes next × Reclaims state events outcomes next
+    × TakesAll takes before outcomes after × Shows world next
 
 -- a run over the events up to one at whose outcome the sink failed, having taken each outcome before: the world shows the state after that event, and has counted it with those before
 abbrev pub FailsAfter : {S : Type 0} → (S → Outcome → S → Type 0) → (S → Outcome → S → Type 0) → State → List Event → S → S → ℕ → World → Type 0

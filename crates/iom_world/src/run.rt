@@ -1,11 +1,9 @@
 // Events, one after another, and what comes of them.
-ghost use Rattle.std.specs.Prelude.{◌≡◌, ◌↔◌, ℕ, Bool, IsTrue, ◌+◌, ◌<◌, ◌≤◌, ◌^◌, List, length, All, OnOk, OnErr};
-ghost use Rattle.iom_machine.specs.declared.outcome.Outcome.{Outcome};
+ghost use Rattle.std.specs.Prelude.{◌≡◌, ◌↔◌, ℕ, Bool, IsTrue, ◌+◌, ◌<◌, ◌≤◌, ◌^◌, length, All, OnOk, OnErr};
 ghost use Rattle.iom_machine.specs.declared.state.State.{State};
-ghost use Rattle.iom_machine.specs.Headline.{IsReachedBy};
 ghost use Rattle.iom_machine.specs.Machine.{IsEvent, Step, opening};
 ghost use Rattle.iom_world.specs.Places.{CountsBelow, SomeInFlight};
-ghost use Rattle.iom_world.specs.Runs.{TakesAll, RunsTo, FailsAfter};
+ghost use Rattle.iom_world.specs.Runs.{RunsTo, ReclaimsFrom, FailsAfter};
 ghost use Rattle.iom_world.specs.Shows.{Shows};
 ghost use Rattle.iom_world.specs.Unseen.{AfterEvent, SameIfRefused};
 
@@ -87,7 +85,7 @@ impl World {
         ensures failed { (state : State) → Shows self.old state → OnErr result (FailsAfter S.takes S.fails state events.now sink.old sink.new self.old.events self.new) }
         ensures counted { OnOk result (self.new.events ≡ self.old.events + length events.now) }
         ensures counted_at_most { OnErr result (self.new.events ≤ self.old.events + length events.now) }
-        ensures reclaim { (frames levels : ℕ) → Shows self.old (opening frames levels) → OnOk result ((outcomes : List Outcome) × (next : State) × IsReachedBy events.now outcomes next × TakesAll S.takes sink.old outcomes sink.new × Shows self.new next) }
+        ensures reclaim { (frames levels : ℕ) → Shows self.old (opening frames levels) → OnOk result (ReclaimsFrom S.takes (opening frames levels) events.now sink.old sink.new self.new) }
     {
         let mut places = Places::new();
         for event in events {

@@ -1,8 +1,9 @@
 // The driver's calls.
 ghost use Rattle.std.specs.Prelude.{◌≡◌, ◌↔◌, ◌^◌, ◌≤◌, IfOk, IsTrue, Some, length};
+ghost use Rattle.iom_ledger.specs.Shown.{IsGrantable};
 ghost use Rattle.iom_machine.specs.declared.state.State.{State};
 ghost use Rattle.iom_machine.specs.Refusals.{MayRefusePlug, MayRefuseAttach, MayRefuseGrant, MayRefuseRelease};
-ghost use Rattle.iom_machine.specs.Machine.{IsGrantable, Plugs, Attaches, Grants, Releases, Fetches};
+ghost use Rattle.iom_machine.specs.Machine.{Plugs, Attaches, Grants, Releases, Fetches};
 
 use crate::decide::devices::{place_of, set_attachment};
 use crate::decide::frames::{are_fewer_free, are_free_besides, reserve};

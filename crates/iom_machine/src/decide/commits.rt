@@ -6,8 +6,8 @@ ghost use Rattle.iom_machine.specs.declared.state.InFlight.{InFlight};
 ghost use Rattle.iom_machine.specs.declared.state.State.{State};
 ghost use Rattle.iom_machine.specs.Frames.{bytes_of, written, stored};
 ghost use Rattle.iom_machine.specs.Requests.{offset_of};
-ghost use Rattle.iom_machine.specs.Judging.{GivesBytes, MakesWrite, IsPlaceOf};
-ghost use Rattle.iom_machine.specs.Machine.{Makes, Commits};
+ghost use Rattle.iom_machine.specs.Judging.{IsPlaceOf};
+ghost use Rattle.iom_machine.specs.Machine.{GivesBytes, MakesWrite, Makes, Commits};
 
 use crate::decide::devices::{drop_oldest, place_of, take_oldest};
 use crate::decide::history::may;

@@ -1,8 +1,8 @@
 // Which frames are free, and how frames become reserved.
 ghost use Rattle.std.specs.Prelude.{◌≡◌, ◌≢◌, ◌↔◌, ◌<◌, Some, false, IsTrue, All, length};
 ghost use Rattle.iom_ledger.specs.History as ledger;
-ghost use Rattle.iom_machine.specs.Frames.{FewerThan, is_reserved, IsFree, with_frame, reserved_for};
-ghost use Rattle.iom_machine.specs.Judging.{IsFreeBesides, CountsAll};
+ghost use Rattle.iom_machine.specs.Frames.{FewerThan, is_reserved, IsFree, IsFreeBesides, with_frame, reserved_for};
+ghost use Rattle.iom_machine.specs.Judging.{CountsAll};
 
 use crate::decide::history::is_out_of_reach;
 use crate::sequence::Sequence;

@@ -3,7 +3,7 @@ ghost use Rattle.std.specs.Prelude.{◌≡◌, ◌↔◌, ◌^◌, ◌≤◌, So
 ghost use Rattle.iom_machine.specs.declared.state.State.{State};
 ghost use Rattle.iom_machine.specs.Requests.{read_of, write_of};
 ghost use Rattle.iom_machine.specs.Machine.{ChosenStep};
-ghost use Rattle.iom_machine.specs.Verdicts.{IsVerdict, StepsAreChosen, RunsAreChosen};
+ghost use Rattle.iom_machine.specs.Verdicts.{IsVerdict, RunsAreChosen};
 
 mod calls;
 mod commits;
@@ -137,9 +137,8 @@ pub fn judge_run(alloc: Global, state: State, lines: &[Line]) -> Result<Verdict,
     }
 }
 
-/// Every lawful step is one that some choice explains, and every run one that some choices do: so
+/// Every run is one of some lines, with those events and outcomes, which some choices complete: so
 /// there are lines which the judge finds lawful.
 pub fn lawful_runs_have_choices()
-    ensures steps { StepsAreChosen }
-    ensures runs { RunsAreChosen }
+    ensures { RunsAreChosen }
 {}

@@ -1,8 +1,8 @@
 // Which tickets a poll may confirm.
 ghost use Rattle.std.specs.Prelude.{◌≡◌, ◌↔◌, ◌-◌, ◌≤◌, suc, IfOk, OnOk, IsTrue, Some, All};
 ghost use Rattle.iom_ledger.specs.History.{May};
-ghost use Rattle.iom_machine.specs.Tickets.{confirmed_from};
-ghost use Rattle.iom_machine.specs.Judging.{DeviceMay, AreNextTickets};
+ghost use Rattle.iom_machine.specs.Devices.{DeviceMay};
+ghost use Rattle.iom_machine.specs.Tickets.{AreNextTickets, confirmed_from};
 ghost use Rattle.iom_machine.specs.Machine.{Polls};
 
 use crate::decide::history::{last_ticket_confirmed, may};

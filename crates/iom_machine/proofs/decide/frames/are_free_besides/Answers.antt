@@ -2,7 +2,7 @@ use Rattle.std.proofs.Common.{◌≡◌, ◌∙◌, take, sym, subst, arith, All
 use Rattle.std.proofs.lemmas.Bool.{false≢true}
 use Rattle.std.proofs.lemmas.Grind.{common_steps}
 use Rattle.std.proofs.lemmas.List.Elements.{All-more}
-use Rattle.iom_machine.specs.Judging.{IsFreeBesides}
+use Rattle.iom_machine.specs.Frames.{IsFreeBesides}
 use Rattle.iom_machine.proofs.decide.frames.are_free_besides.Goals as goal
 
 pub loop-number-preserved : goal.loop-number-preserved

@@ -1,5 +1,5 @@
 use Rattle.std.proofs.Common.{All, take}
-use Rattle.iom_machine.specs.Judging.{IsFreeBesides}
+use Rattle.iom_machine.specs.Frames.{IsFreeBesides}
 use Rattle.iom_machine.proofs.decide.frames.are_free_besides.Given as goal
 
 abbrev pub invariant-loop-number : goal.invariant-loop-number

@@ -1,7 +1,8 @@
 use Rattle.std.proofs.Common.{◌≡◌, ◌∙◌, length, List, ap, sym, subst, arith}
 use Rattle.std.proofs.lemmas.Bool.{false≢true}
 use Rattle.iom_machine.specs.declared.state.Frame.{Frame}
-use Rattle.iom_machine.specs.Judging.{CountsAll, IsFreeBesides}
+use Rattle.iom_machine.specs.Frames.{IsFreeBesides}
+use Rattle.iom_machine.specs.Judging.{CountsAll}
 use Rattle.iom_machine.proofs.FrameLemmas.{CountsAll-none, CountsAll-more, CountsAll-same}
 use Rattle.iom_machine.proofs.decide.frames.count_free_besides.Goals as goal
 use Rattle.iom_machine.proofs.decide.frames.count_free_besides.Goals.{then-is_free_besides, else-is_free_besides}

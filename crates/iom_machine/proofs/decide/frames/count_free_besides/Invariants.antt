@@ -1,5 +1,6 @@
 use Rattle.std.proofs.Common.{◌≤◌}
-use Rattle.iom_machine.specs.Judging.{CountsAll, IsFreeBesides}
+use Rattle.iom_machine.specs.Frames.{IsFreeBesides}
+use Rattle.iom_machine.specs.Judging.{CountsAll}
 use Rattle.iom_machine.proofs.decide.frames.count_free_besides.Given as goal
 
 abbrev pub invariant-loop-number : goal.invariant-loop-number

@@ -1,7 +1,7 @@
 use Rattle.std.proofs.Common.{◌≡◌, ◌∙◌, ◌<◌, Some, slice_get, length, refl, sym, arith}
 use Rattle.std.proofs.lemmas.Bool.{false≢true}
 use Rattle.std.proofs.lemmas.Option.{slice_get_read}
-use Rattle.iom_machine.specs.Judging.{DeviceMay}
+use Rattle.iom_machine.specs.Devices.{DeviceMay}
 use Rattle.iom_machine.proofs.InFlightLemmas.{All-at, All-by_parts}
 use Rattle.iom_machine.proofs.decide.polls.+all_may.Goals as goal
 

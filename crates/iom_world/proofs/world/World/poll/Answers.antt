@@ -39,9 +39,11 @@ returns-in-Some-clause-step c = λ state shows.
     let confirmed : c.poll.new.self.confirmed ≡ last = ap (λ (q : Queue). q.confirmed) changed in (
       with_confirmed state first last,
       (
-        poll.next ∙ ap (λ n. n + 1) (sym shows.confirmed),
-        omega (arith, poll.next, poll.some),
-        omega (arith, shows.given, poll.given),
+        (
+          poll.next ∙ ap (λ n. n + 1) (sym shows.confirmed),
+          omega (arith, poll.next, poll.some),
+          omega (arith, shows.given, poll.given),
+        ),
         refl,
         subst (λ (devices : List machine.Device). All (λ (device : machine.Device). All (λ (flying : InFlight). May (confirmed_from first (suc (last - first)) state.history) device.id flying.frame flying.access.kind) device.in_flight) devices)
             (sym shows.devices) (each_may c.confirm_tickets.new.ledger _ world.commands.completed world.events world.devices.items agrees each),

@@ -1,6 +1,7 @@
 use Rattle.std.proofs.Common.{arith}
 use Rattle.std.proofs.lemmas.Result.{err_from_is_err_and}
 use Rattle.iom_machine.specs.Machine.{opening}
+use Rattle.iom_machine.proofs.ReclaimLemmas.{reclaims}
 use Rattle.iom_world.proofs.RunLemmas.{goes_on, ends_at, whole}
 use Rattle.iom_world.proofs.world.World.run.Goals as goal
 
@@ -25,4 +26,4 @@ returns-in_err-put-clause-failed g c = λ state shows.
 pub returns-clause-reclaim : goal.returns-clause-reclaim
 returns-clause-reclaim g c = λ frames levels shows.
     let ran = whole g.S.Sink.takes (opening frames levels) c.args.events.now c.loop-event.event-index _ _ _ (c.loop-event.invariant.ran (opening frames levels) shows) (omega (arith, c.loop-event-test.false)) in
-    (ran.0, ran.1, (frames, levels, ran.2), ran.3, ran.4)
+    (ran.0, ran.1, ran.2, reclaims frames levels c.args.events.now ran.0 ran.1 ran.2, ran.3, ran.4)
