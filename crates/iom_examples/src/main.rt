@@ -9,12 +9,13 @@ use std::alloc::Global;
 use std::fs;
 
 /// The examples, in the order in which they are best read.
-const NAMES: [&str; 5] = [
+const NAMES: [&str; 6] = [
     "first-path",
     "stale-read",
     "draining",
     "busy",
     "double-grant",
+    "no-frames",
 ];
 
 /// The number of the first line that differs, counted from 1; None where the texts are the same.
