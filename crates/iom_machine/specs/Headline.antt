@@ -113,13 +113,13 @@ abbrev pub FreeFrameIsNotTouched : State → List Event → List Outcome → Sta
 FreeFrameIsNotTouched free since told old event outcome =
     (frame : ℕ) → IsFree free frame → Run free since told old → NoneGrants since told frame → ¬ TouchesFrame old event outcome frame
 
--- Every access made touches its own.
+-- After any events from power-on an access that is made touches its own.
 abbrev pub MadeAccessesTouchTheirOwn : Type 0
 MadeAccessesTouchTheirOwn =
     (old new : State) (event : Event) (outcome : Outcome)
     → IsReached old → Step old event outcome new → MadeAccessTouchesItsOwn old event outcome new
 
--- Every access to a held page is accepted.
+-- After any events from power-on an access to a page that is so held is accepted.
 abbrev pub HeldPagesAreAccepted : Type 0
 HeldPagesAreAccepted =
     (old new : State) (event : Event) (outcome : Outcome)
