@@ -14,7 +14,8 @@ use Rattle.iom_machine.specs.Headline.{TouchesItsOwn, AsksFor, IsOneStage, NoneG
 use Rattle.iom_machine.specs.Machine.{Step, Run}
 use Rattle.iom_machine.specs.Requests.{IsWithinPage, IsBusy, HoldsFor, with_accepted}
 
--- An access that is made touches exactly its named bytes, in a frame that the history then shows held by that device with that right, or released by it so and unconfirmed.
+-- An access that is made touches exactly its named bytes, in a frame that the history then shows held by that device with that right,
+-- or released by it so and unconfirmed.
 abbrev pub MadeAccessTouchesItsOwn : State → Event → Outcome → State → Type 0
 MadeAccessTouchesItsOwn old event outcome new = (id : ℕ) → event ≡ events.Commit id → TouchesItsOwn old id outcome new
 
@@ -34,7 +35,8 @@ FreeFrameIsNotTouched first events outcomes old event outcome =
     → Run first earlier told free → Run free since told_since old
     → IsFree free frame → NoneGrants since told_since frame → ¬ TouchesFrame old event outcome frame
 
--- Of each event of a run: the state before it, to which the earlier events lead, and the state after it, from which the later ones lead to the last, are such that an access that is made touches its own, a held page is accepted, and no free frame is touched.
+-- Of each event of a run: the state before it, to which the earlier events lead, and the state after it, from which the later ones lead to the last,
+-- are such that an access that is made touches its own, a held page is accepted, and no free frame is touched.
 abbrev pub Reclaims : State → List Event → List Outcome → State → Type 0
 Reclaims first events outcomes last =
     (before after : List Event) (event : Event) (told later : List Outcome) (outcome : Outcome)
