@@ -23,6 +23,14 @@ TellsRun first events text =
     × Run first events outcomes last × Reclaims first events outcomes last
     × (text ≡ line_of Done ++ lines_of outcomes)
 
+-- known contents grow by a text of a run over the events
+abbrev pub WritesRun : State → List Event → Option (List ℕ) → Option (List ℕ) → Type 0
+WritesRun first events old new = (text : List ℕ) × TellsRun first events text × Appends old new text
+
+-- known contents grow by a beginning of a text of a run over the events
+abbrev pub BeginsRun : State → List Event → Option (List ℕ) → Option (List ℕ) → Type 0
+BeginsRun first events old new = (text : List ℕ) × TellsRun first events text × AppendsFront old new text
+
 -- The text of a script: nothing where it says nothing; else that of a run of its events from power-on.
 abbrev pub IsTextOf : Script → List ℕ → Type 0
 IsTextOf script text = MatchOption script.world (text ≡ []) (λ size. TellsRun (power_on size) script.events text)

@@ -1,7 +1,9 @@
 // What keeps a script from being run, and the status that the program then ends with.
 ghost use Rattle.std.specs.Prelude.{◌≡◌};
+ghost use Rattle.iom_runner.specs.Bytes.{run_fault_of};
 ghost use Rattle.iom_runner.specs.Statuses.{status_of, args_status_of};
 
+use iom_script::ScriptFault;
 use thiserror::Error;
 
 /// Why a script isn't run to its end.
@@ -18,6 +20,17 @@ pub enum RunFault {
     /// This line, counted from 1, is the first that isn't in the grammar.
     #[error("line {0}: bad script")]
     Script(u64),
+}
+
+impl From<ScriptFault> for RunFault {
+    ghost from_gives = { λ fault run. run ≡ run_fault_of fault };
+
+    fn from(fault: ScriptFault) -> RunFault {
+        match fault {
+            ScriptFault::Line(number) => RunFault::Script(number),
+            ScriptFault::Memory => RunFault::Memory,
+        }
+    }
 }
 
 /// Why a command line can't be read.

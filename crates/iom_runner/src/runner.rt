@@ -1,19 +1,19 @@
 // A script, from its bytes to the bytes of its lines.
-ghost use Rattle.std.specs.Prelude.{◌≡◌, ◌⊎◌, ◌+◌, ◌<◌, ◌^◌, ◌++◌, [], ℕ, List, length, All, OnOk, OnErr, IfOk, IfErr, IfSome, Ok, Err};
-ghost use Rattle.std.specs.Io.KnownBytes.{Appends, Keeps};
+ghost use Rattle.std.specs.Prelude.{◌≡◌, ◌⊎◌, ◌+◌, ◌<◌, ◌^◌, [], ℕ, length, All, OnOk, OnErr, IfOk, IfErr, IfSome, Ok, Err, None};
+ghost use Rattle.std.specs.Io.KnownBytes.{Keeps};
 ghost use Rattle.iom_machine.specs.Machine.{IsEvent, opening};
 ghost use Rattle.iom_script.specs.declared.script.Script.{Script};
 ghost use Rattle.iom_script.specs.Grammar.{IsScript, IsFirstBadLine, IsWorldSize};
 ghost use Rattle.iom_world.specs.Shows.{Shows};
 ghost use Rattle.iom_runner.specs.Bytes.{Explains};
-ghost use Rattle.iom_runner.specs.Text.{power_on, TellsRun, WritesText, BeginsText};
-ghost use Rattle.iom_runner.specs.Writing.{AppendsFront, KeepsWriter};
+ghost use Rattle.iom_runner.specs.Text.{power_on, WritesRun, BeginsRun, WritesText, BeginsText};
+ghost use Rattle.iom_runner.specs.Writing.{KeepsWriter};
 
 use crate::faults::RunFault;
 use crate::reading::read_script;
 use crate::writing::{LineWriter, WriteFault};
 use iom_machine::{Event, Outcome, Sink};
-use iom_script::{LineBuffer, Script, ScriptFault, WorldSize, parse};
+use iom_script::{LineBuffer, Script, WorldSize, parse};
 use iom_world::World;
 use std::alloc::Global;
 use std::io::{Read, Write};
@@ -25,11 +25,7 @@ fn script_of(alloc: Global, bytes: &[u8]) -> Result<Script, RunFault>
     ensures world { IfOk result (λ script. IfSome script.world IsWorldSize) }
     ensures fault { IfErr result (Explains bytes.now) }
 {
-    match parse(alloc, bytes) {
-        Ok(script) => Ok(script),
-        Err(ScriptFault::Line(number)) => Err(RunFault::Script(number)),
-        Err(ScriptFault::Memory) => Err(RunFault::Memory),
-    }
+    Ok(parse(alloc, bytes)?)
 }
 
 /// The world at power-on, of that size.
@@ -52,8 +48,10 @@ fn tell_events<W: Write>(
     requires count { world.old.events + length events.now < 2 ^ 64 }
     requires empty { lines.old.buffer ≡ [] }
     ensures same_writer { (frames levels : ℕ) → Shows world.old (opening frames levels) → KeepsWriter lines.old lines.new }
-    ensures told { (frames levels : ℕ) → Shows world.old (opening frames levels) → OnOk result ((text : List ℕ) × TellsRun (opening frames levels) events.now text × Appends (W.contents lines.old.writer.now) (W.contents lines.new.writer.now) text) }
-    ensures front { (frames levels : ℕ) → Shows world.old (opening frames levels) → OnErr result ((text : List ℕ) × TellsRun (opening frames levels) events.now text × AppendsFront (W.contents lines.old.writer.now) (W.contents lines.new.writer.now) text) }
+    ensures told { (frames levels : ℕ) → Shows world.old (opening frames levels)
+        → OnOk result (WritesRun (opening frames levels) events.now (W.contents lines.old.writer.now) (W.contents lines.new.writer.now)) }
+    ensures front { (frames levels : ℕ) → Shows world.old (opening frames levels)
+        → OnErr result (BeginsRun (opening frames levels) events.now (W.contents lines.old.writer.now) (W.contents lines.new.writer.now)) }
 {
     lines.put(&Outcome::Done)?;
     world.run(events, lines)?;
@@ -70,8 +68,10 @@ fn tell_run<W: Write>(
     requires events { All IsEvent events.now }
     requires count { world.old.events + length events.now < 2 ^ 64 }
     requires empty { buffer ≡ [] }
-    ensures told { (frames levels : ℕ) → Shows world.old (opening frames levels) → OnOk result ((text : List ℕ) × TellsRun (opening frames levels) events.now text × Appends (W.contents writer.old) (W.contents writer.new) text) }
-    ensures front { (frames levels : ℕ) → Shows world.old (opening frames levels) → OnErr result ((text : List ℕ) × TellsRun (opening frames levels) events.now text × AppendsFront (W.contents writer.old) (W.contents writer.new) text) }
+    ensures told { (frames levels : ℕ) → Shows world.old (opening frames levels)
+        → OnOk result (WritesRun (opening frames levels) events.now (W.contents writer.old) (W.contents writer.new)) }
+    ensures front { (frames levels : ℕ) → Shows world.old (opening frames levels)
+        → OnErr result (BeginsRun (opening frames levels) events.now (W.contents writer.old) (W.contents writer.new)) }
     ensures fault { IfErr result (λ fault. fault ≡ RunFault.Writing) }
 {
     let mut lines = LineWriter::new(buffer, writer);
@@ -89,6 +89,7 @@ fn tell_run<W: Write>(
 fn tell<W: Write>(alloc: Global, script: &Script, writer: &mut W) -> Result<(), RunFault>
     requires events { All IsEvent script.now.events }
     requires world { IfSome script.now.world IsWorldSize }
+    ensures silent { script.now.world ≡ None → result ≡ Ok tt }
     ensures told { OnOk result (WritesText script.now (W.contents writer.old) (W.contents writer.new)) }
     ensures front { OnErr result (BeginsText script.now (W.contents writer.old) (W.contents writer.new)) }
     ensures fault { IfErr result (λ fault. (fault ≡ RunFault.Writing) ⊎ (fault ≡ RunFault.Memory)) }

@@ -1,7 +1,6 @@
 -- What each script has: events that can come, and a world of a size that there is.
-use Rattle.std.proofs.Common.{◌≡◌, ℕ, arith, List, [], ◌∷◌, inl, inr, None, Some, sym, subst}
-use Rattle.std.specs.Prelude.{IfSome, All, ⊤}
-use Rattle.std.specs.List.{AllByRecursion}
+use Rattle.std.proofs.Common.{ℕ, arith, List, [], ◌∷◌, inl, inr, sym, subst}
+use Rattle.std.specs.Prelude.{IfSome, All}
 use Rattle.std.proofs.lemmas.List.Elements.{All-cons}
 use Rattle.iom_base.specs.declared.rights.Rights.{Rights}
 use Rattle.iom_ledger.specs.Shown.{IsGrantable}

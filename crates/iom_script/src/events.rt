@@ -1,4 +1,4 @@
-ghost use Rattle.std.specs.Prelude.{◌≡◌, ◌∷◌, ◌++◌, codes, IfOk};
+ghost use Rattle.std.specs.Prelude.{◌≡◌, ◌≤◌, ◌↔◌, ◌∷◌, ◌++◌, codes, IfOk, IsTrue};
 ghost use Rattle.iom_script.specs.Words.{Reads, IsWithout, ◌␣◌};
 ghost use Rattle.iom_script.specs.Keywords.{spelling};
 ghost use Rattle.iom_script.specs.Grammar.{IsEventLine, IsWorldLine};
@@ -161,6 +161,13 @@ pub(crate) fn event_of(alloc: Global, line: &[u8]) -> Result<Option<Event>, Allo
     }
 }
 
+/// Whether a world can have so many frames.
+fn is_frame_count(frames: u64) -> bool
+    ensures { IsTrue result ↔ ((64 ≤ frames) × (frames ≤ 4096)) }
+{
+    (64..=4096).contains(&frames)
+}
+
 /// The size of the world that a line says.
 pub(crate) fn world_of(line: &[u8]) -> Option<WorldSize>
     ensures { Reads result (IsWorldLine line.now) }
@@ -170,7 +177,7 @@ pub(crate) fn world_of(line: &[u8]) -> Option<WorldSize>
         return None;
     }
     let (frames, levels) = number_and(rest)?;
-    if levels != b"1".as_slice() || frames < 64 || frames > 4096 {
+    if levels != b"1".as_slice() || !is_frame_count(frames) {
         return None;
     }
     Some(WorldSize { frames, levels: 1 })
