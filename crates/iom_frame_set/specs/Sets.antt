@@ -35,7 +35,7 @@ pub record IsMember (words : List ℕ) (named : Option ℕ) (frame : ℕ) : Type
 abbrev pub NoneIsMember : List ℕ → Option ℕ → ℕ → Type 0
 NoneIsMember words named limit = (frame : ℕ) → frame < limit → ¬ IsMember words named frame
 
--- this frame is, below the limit, and none above it
+-- this frame below the limit is a member besides the named one, and none above it is
 pub record IsHighestMember (words : List ℕ) (named : Option ℕ) (limit frame : ℕ) : Type 0 where
   pub below : frame < limit
   pub member : IsMember words named frame
@@ -45,7 +45,7 @@ pub record IsHighestMember (words : List ℕ) (named : Option ℕ) (limit frame 
 abbrev pub NoneIsIn : List ℕ → ℕ → ℕ → Type 0
 NoneIsIn words from limit = (n : ℕ) → from ≤ n → n < limit → has words n ≡ false
 
--- this number is, and none above it
+-- this number from the first one on and below the limit is in the set, and none above it is
 pub record IsHighestIn (words : List ℕ) (from limit number : ℕ) : Type 0 where
   pub not_before : from ≤ number
   pub below : number < limit

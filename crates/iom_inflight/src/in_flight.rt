@@ -69,7 +69,7 @@ impl InFlight {
         self.waiting.front().copied()
     }
 
-    /// Takes a read of so many bytes at the address, on the frame. Takes no memory.
+    /// Accepts a read of so many bytes at the address, on the frame. Takes no memory.
     pub fn accept_read(&mut self, address: u64, len: u16, frame: u32)
         requires room { length self.old < 8 }
         requires len { len ≤ 4096 }
@@ -84,7 +84,7 @@ impl InFlight {
         self.waiting.push_back(access);
     }
 
-    /// Takes a write of the bytes at the address, on the frame. Takes no memory.
+    /// Accepts a write of the bytes at the address, on the frame. Takes no memory.
     pub fn accept_write(&mut self, address: u64, bytes: &[u8], frame: u32)
         requires room { length self.old < 8 }
         requires len { length bytes.now ≤ 4096 }

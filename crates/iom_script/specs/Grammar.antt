@@ -73,14 +73,14 @@ pub record MakeScript (lines : List (List ℕ)) (script : Script) : Type 0 where
 abbrev pub IsScript : List ℕ → Script → Type 0
 IsScript bytes script = (lines : List (List ℕ)) × MakeScript lines script × (bytes ≡ bytes_of lines)
 
--- The bytes aren't in the grammar, and this is the first line that isn't, counted from 1: the lines before it make a script,
--- bytes follow them, and with the line that begins there, if it ends at all, they make none.
+-- The lines make a script, bytes follow them, and with the line that begins there, if it ends at all, they make none.
 pub record BreaksAfter (bytes : List ℕ) (lines : List (List ℕ)) (rest : List ℕ) : Type 0 where
   pub before : (script : Script) × MakeScript lines script
   pub place : bytes ≡ bytes_of lines ++ rest
   pub more : 0 < length rest
   pub bad : (line after : List ℕ) (script : Script) → rest ≡ line ++ 10 ∷ after → ¬ MakeScript (lines ++ line ∷ []) script
 
+-- The bytes aren't in the grammar, and this is the first line that isn't, counted from 1.
 abbrev pub IsFirstBadLine : List ℕ → ℕ → Type 0
 IsFirstBadLine bytes number =
     (lines : List (List ℕ)) × (rest : List ℕ) × BreaksAfter bytes lines rest × (number ≡ length lines + 1)

@@ -28,12 +28,12 @@ pub record IsFreeBesides (marks : List (Option Owner)) (ledger : Ledger) (named 
   pub unmarked : is_reserved marks frame ≡ false
   pub ungranted : IsFreeIn ledger frame
 
--- none is, from the first number on and below the limit
+-- no frame from the first number on and below the limit is free besides the named one
 abbrev pub NoneIsFree : List (Option Owner) → Ledger → Option ℕ → ℕ → ℕ → Type 0
 NoneIsFree marks ledger named first limit =
     (frame : ℕ) → first ≤ frame → frame < limit → ¬ IsFreeBesides marks ledger named frame
 
--- this one is, below the limit, and none is above it
+-- this frame below the limit is free besides the named one, and none above it is
 pub record IsHighestFree (marks : List (Option Owner)) (ledger : Ledger) (named : Option ℕ) (limit frame : ℕ) : Type 0 where
   pub below : frame < limit
   pub free : IsFreeBesides marks ledger named frame

@@ -52,11 +52,12 @@ pub record IsDevice (ledger : Ledger) (completed events : ℕ) (device : Device)
   pub covered : AllCovered ledger completed device.id device.in_flight
   pub counted : device.accepted ≤ events
 
--- each device is one, and no two have the same id
+-- each device is so
 abbrev pub AreDevices : Ledger → ℕ → ℕ → List Device → Type 0
 AreDevices ledger completed events devices =
     (k : ℕ) (device : Device) → slice_get devices k ≡ Some device → IsDevice ledger completed events device
 
+-- no two devices have the same id
 abbrev pub HaveOwnIds : List Device → Type 0
 HaveOwnIds devices =
     (j k : ℕ) (one other : Device) → slice_get devices j ≡ Some one → slice_get devices k ≡ Some other → one.id ≡ other.id → j ≡ k

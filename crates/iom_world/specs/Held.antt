@@ -11,6 +11,6 @@ abbrev pub IsHeldFor : Ledger → ℕ → ℕ → AccessKind → ℕ → Type 0
 IsHeldFor ledger device page kind frame =
     (rights : Rights) × (held_in ledger device page ≡ Some (frame, rights)) × (allows rights kind ≡ true)
 
--- it holds none so
+-- the device holds no frame there with such a right
 abbrev pub NoneIsHeldFor : Ledger → ℕ → ℕ → AccessKind → Type 0
 NoneIsHeldFor ledger device page kind = (frame : ℕ) → ¬ IsHeldFor ledger device page kind frame

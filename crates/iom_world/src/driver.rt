@@ -28,7 +28,7 @@ use iom_page_table::{PageLeaf, map, missing, unmap};
 use iom_phys_mem::{Bytes, Memory};
 use iom_table_frames::TableFrames;
 
-/// The pages that a grant may name are below this number: a device's addresses have 38 bits.
+/// The pages that a grant may name are below this number: a device's addresses are the lower half of Sv39's.
 const PAGE_LIMIT: u64 = 1 << 26;
 
 /// Reserves the frames for the device's tables, and makes them zero.
@@ -76,7 +76,8 @@ impl World {
         let Some(root) = self.marks.highest_free(&self.ledger, frames, None) else {
             return Answer::Refused(Refusal::NoFrames);
         };
-        self.marks.reserve(&mut self.memory, &mut self.ledger, root, id);
+        self.marks
+            .reserve(&mut self.memory, &mut self.ledger, root, id);
         let device = &mut self.devices[place];
         device.root = Some(root);
         Answer::Done
@@ -165,7 +166,13 @@ impl World {
         if self.ledger.grant(id, page, frame, rights).is_err() {
             return Answer::Refused(Refusal::Memory);
         }
-        reserve_all(&mut self.marks, &mut self.memory, &mut self.ledger, tables.as_slice(), id);
+        reserve_all(
+            &mut self.marks,
+            &mut self.memory,
+            &mut self.ledger,
+            tables.as_slice(),
+            id,
+        );
         let leaf = PageLeaf { frame, rights };
         map(&mut self.memory, root, page, leaf, tables.as_slice());
         Answer::Done

@@ -9,6 +9,7 @@
 
 mod answer;
 mod commands;
+mod commits;
 mod device;
 mod driver;
 mod places;

@@ -51,6 +51,7 @@ impl World {
     pub fn new(alloc: Global, frames: u32, levels: u8) -> Result<World, MemError>
         ensures opening { IfOk result (λ world. Shows world (opening frames levels)) }
         ensures count { IfOk result (λ world. world.events ≡ 0) }
+        ensures size { IfOk result (λ world. IsMemorySize frames × IsLevels levels) }
         ensures bad_size { (IsErrOf result BadSize) ↔ ¬ (IsMemorySize frames × IsLevels levels) }
     {
         if levels < 1 || levels > MAX_LEVELS {

@@ -35,7 +35,7 @@ pub(crate) fn place_of(devices: &[Device], id: DeviceId) -> Option<usize>
     }
 }
 
-/// One more access of the device is in flight, its so-many-eth.
+/// One more access of the device is in flight, and is counted among those that were accepted.
 pub(crate) fn accept(
     devices: &mut Sequence<Device>,
     place: usize,

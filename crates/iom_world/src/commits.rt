@@ -1,0 +1,95 @@
+// What becomes of an access in flight: it is made, on the frame that it was translated to.
+ghost use Rattle.std.specs.Prelude.{◌≡◌, ℕ, ◌+◌, ◌≤◌, List, length, drop, IsSomeAnd, Some, slice_get};
+ghost use Rattle.iom_base.specs.declared.access.AccessKind.TheVariants.{Read, Write};
+ghost use Rattle.iom_inflight.specs.Flights.{OldestIsRead};
+ghost use Rattle.iom_machine.specs.declared.state.State.{State};
+ghost use Rattle.iom_machine.specs.Frames.{written};
+ghost use Rattle.iom_machine.specs.Machine.{Commits};
+ghost use Rattle.iom_world.specs.declared.device.Device.{Device};
+ghost use Rattle.iom_world.specs.Answers.{outcome_of, GivesBytes};
+ghost use Rattle.iom_world.specs.declared.answer.Answer.TheVariants as answer;
+ghost use Rattle.iom_world.specs.Oldest.{OldestWritesSoMany, IsOldestAt};
+ghost use Rattle.iom_world.specs.Places.{IsPlaceOf};
+ghost use Rattle.iom_world.specs.Shows.{Shows};
+ghost use Rattle.iom_world.specs.Unseen.{SameIfRefused};
+
+use crate::answer::{Answer, tell_read};
+use crate::device::Device;
+use crate::world::World;
+use iom_base::{AccessKind, DeviceId};
+use iom_inflight::Accepted;
+use iom_ledger::Refusal;
+use iom_machine::Outcome;
+
+impl Device {
+    /// The oldest access is a read: it is made, and no more in flight.
+    fn take_read(&mut self)
+        requires { OldestIsRead self.old.in_flight }
+        ensures { self.new ≡ record self.old { in_flight = drop 1 self.old.in_flight } }
+    {
+        self.in_flight.take_read();
+    }
+
+    /// The oldest access is a write of so many bytes: they are stored in the frame from the offset on, and
+    /// it is no more in flight.
+    fn take_write(&mut self, frame: &mut [u8], offset: usize, len: usize)
+        requires write { OldestWritesSoMany self.old.in_flight len }
+        requires within { offset + len ≤ length frame.old }
+        ensures stored { IsSomeAnd (slice_get self.old.in_flight 0) (λ flight. frame.new ≡ written frame.old offset flight.bytes) }
+        ensures after { self.new ≡ record self.old { in_flight = drop 1 self.old.in_flight } }
+    {
+        self.in_flight.take_write(&mut frame[offset..offset + len]);
+    }
+}
+
+impl World {
+    /// The oldest access of the device that stands here, a read, is made: the place tells the bytes.
+    fn commit_read(&mut self, place: usize, access: Accepted, told: &mut Outcome)
+        requires { IsOldestAt self.old.devices.items place access Read }
+        ensures step { (state : State) (id : ℕ) → Shows self.old state → IsPlaceOf self.old.devices.items id place → (next : State) × Commits state id told.new next × Shows self.new next }
+        ensures given { (bytes : List ℕ) × GivesBytes told.new bytes }
+        ensures commands { self.new.commands ≡ self.old.commands }
+        ensures events { self.new.events ≡ self.old.events }
+    {
+        let offset = (access.address % 4096) as usize;
+        let frame = self.memory.frame(access.frame).unwrap();
+        let bytes = &frame[offset..offset + usize::from(access.len)];
+        tell_read(bytes, told);
+        self.devices[place].take_read();
+    }
+
+    /// The oldest access of the device that stands here, a write, is made.
+    fn commit_write(&mut self, place: usize, access: Accepted) -> Answer
+        requires { IsOldestAt self.old.devices.items place access Write }
+        ensures step { (state : State) (id : ℕ) → Shows self.old state → IsPlaceOf self.old.devices.items id place → (next : State) × Commits state id (outcome_of result) next × Shows self.new next }
+        ensures wrote { (len : ℕ) × (result ≡ answer.Wrote len) }
+        ensures commands { self.new.commands ≡ self.old.commands }
+        ensures events { self.new.events ≡ self.old.events }
+    {
+        let offset = (access.address % 4096) as usize;
+        let frame = self.memory.frame_mut(access.frame).unwrap();
+        self.devices[place].take_write(frame, offset, usize::from(access.len));
+        Answer::Wrote(u64::from(access.len))
+    }
+
+    /// The oldest access of a device in flight is made, on the frame that it was translated to. What comes
+    /// of it is told in the place: `Read`, with the bytes, or `Wrote`, with how many were stored. Nothing
+    /// changes where nothing of the device is in flight, or no device has the id.
+    pub(crate) fn commit(&mut self, id: DeviceId, told: &mut Outcome)
+        ensures step { (state : State) → Shows self.old state → (next : State) × Commits state id told.new next × Shows self.new next }
+        ensures refused { SameIfRefused told.new self.old self.new }
+        ensures commands { self.new.commands ≡ self.old.commands }
+        ensures events { self.new.events ≡ self.old.events }
+    {
+        let Some(place) = self.place_of(id) else {
+            return Answer::Refused(Refusal::NoSuchDevice).tell(told);
+        };
+        let Some(access) = self.devices[place].in_flight.oldest() else {
+            return Answer::NothingInFlight.tell(told);
+        };
+        match access.kind {
+            AccessKind::Read => self.commit_read(place, access, told),
+            AccessKind::Write => self.commit_write(place, access).tell(told),
+        }
+    }
+}
