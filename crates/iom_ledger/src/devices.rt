@@ -2,7 +2,8 @@
 ghost use Rattle.std.specs.Prelude.{◌≡◌, ◌+◌, ℕ, None, true, ◌==◌, ◌&&◌, nat_eq, OnOk, OnErr, IfSome, IfNone, if◌then◌else◌};
 ghost use Rattle.indexmap.specs.IndexMap.{get};
 ghost use Rattle.iom_ledger.specs.Counts.{AreCounted};
-ghost use Rattle.iom_ledger.specs.Rows.{row_at, entries_of, SetsRow, ReleasesRow, ReleasesRows, TakesRow, TakesRowOf, DropsSome, DropsNamed, NoneWaitsFrom, KeepsRows, released, released_row, kept};
+ghost use Rattle.iom_ledger.specs.Rows.{row_at, entries_of, SetsRow, ReleasesRow, ReleasesRows, TakesRow, TakesRowOf, DropsSome};
+ghost use Rattle.iom_ledger.specs.Rows.{DropsNamed, NoneWaitsFrom, KeepsRows, released, released_row, kept};
 
 use crate::counts::RowCounts;
 use crate::row::{Pending, Row};
@@ -196,7 +197,8 @@ fn drop_waiting_at(
     requires { AreCounted devices.old counts.old.counts.items }
     ensures counted { AreCounted devices.new counts.new.counts.items }
     ensures pool { counts.new.pool ≡ counts.old.pool }
-    ensures rows { (d a : ℕ) → row_at devices.new d a ≡ (if (device == d) && (page == a) then kept (row_at devices.old d a) ticket else row_at devices.old d a) }
+    ensures rows { (d a : ℕ)
+        → row_at devices.new d a ≡ (if (device == d) && (page == a) then kept (row_at devices.old d a) ticket else row_at devices.old d a) }
 {
     if let Some(row) = take_at_in(devices, device, page, ticket) {
         counts.lower(row.frame);

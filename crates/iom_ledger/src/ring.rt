@@ -29,7 +29,8 @@ fn turn(devices: &mut Devices, counts: &mut RowCounts, pending: &mut Ring, ticke
     ensures counted { AreCounted devices.new counts.new.counts.items }
     ensures pool { counts.new.pool ≡ counts.old.pool }
     ensures rows { (release : Pending) (rest : List Pending) → pending.old.items ≡ release ∷ rest → DropsNamed devices.old devices.new release ticket }
-    ensures items { (release : Pending) (rest : List Pending) → pending.old.items ≡ release ∷ rest → pending.new.items ≡ rest ++ filter (λ p. not (ticket == p.ticket)) (release ∷ []) }
+    ensures items { (release : Pending) (rest : List Pending) → pending.old.items ≡ release ∷ rest
+        → pending.new.items ≡ rest ++ filter (λ p. not (ticket == p.ticket)) (release ∷ []) }
     ensures capacity { pending.new.capacity ≡ pending.old.capacity }
     ensures room { length pending.new.items ≤ pending.new.capacity }
 {

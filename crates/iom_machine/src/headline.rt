@@ -1,4 +1,5 @@
-ghost use Rattle.iom_machine.specs.Headline.{MadeAccessesTouchTheirOwn, HeldPagesAreAccepted, FreeFramesAreNotTouched, AccessesInFlightMay, AccessesInFlightWereAccepted, CommitsAreAnswered};
+ghost use Rattle.iom_machine.specs.Headline.{MadeAccessesTouchTheirOwn, HeldPagesAreAccepted, FreeFramesAreNotTouched};
+ghost use Rattle.iom_machine.specs.Headline.{AccessesInFlightMay, AccessesInFlightWereAccepted, CommitsAreAnswered};
 
 /// What every run from power-on has.
 ///

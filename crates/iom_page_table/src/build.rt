@@ -1,5 +1,6 @@
 // Entries written, and the tables under a path.
-ghost use Rattle.std.specs.Prelude.{◌≡◌, ◌≢◌, ◌⊎◌, ℕ, ◌+◌, ◌*◌, ◌/◌, ◌<◌, ◌≤◌, ◌^◌, List, [], ◌∷◌, ◌++◌, length, slice_get, slice_index, EachIndex, Some, IfSome, IfNone};
+ghost use Rattle.std.specs.Prelude.{◌≡◌, ◌≢◌, ◌⊎◌, ℕ, ◌+◌, ◌*◌, ◌/◌, ◌<◌, ◌≤◌, ◌^◌, List, [], ◌∷◌, ◌++◌, length, slice_get};
+ghost use Rattle.std.specs.Prelude.{slice_index, EachIndex, Some, IfSome, IfNone};
 ghost use Rattle.iom_base.specs.Rights.{r, rw};
 ghost use Rattle.iom_phys_mem.specs.Words.{word_at, byte_at};
 ghost use Rattle.iom_stage_walk.specs.Entries.{entries, entry_of, slot};

@@ -1,8 +1,10 @@
-ghost use Rattle.std.specs.Prelude.{◌≡◌, ◌≢◌, ◌↔◌, ℕ, ◌+◌, ◌*◌, ◌/◌, ◌%◌, ◌^◌, ◌<◌, ◌≤◌, ◌⊎◌, IsTrue, IfOk, IfErr, Ok, Err, length, slice_index, EachIndex, true, false};
+ghost use Rattle.std.specs.Prelude.{◌≡◌, ◌≢◌, ◌↔◌, ℕ, ◌+◌, ◌*◌, ◌/◌, ◌%◌, ◌^◌, ◌<◌, ◌≤◌, ◌⊎◌, IsTrue, IfOk, IfErr, Ok, Err, length};
+ghost use Rattle.std.specs.Prelude.{slice_index, EachIndex, true, false};
 ghost use Rattle.iom_base.specs.Causes.{page_fault_of};
 ghost use Rattle.iom_base.specs.Rights.{allows};
 ghost use Rattle.iom_stage_walk.specs.Entries.{Entries, IsBounded, entries, slot};
-ghost use Rattle.iom_stage_walk.specs.Paths.{span, page_in, IsLawfulLeaf, IsUnlawfulLeaf, Reaches, Stops, StopsAt, path_of, first_widths, IsCanonical, ReachesFirst, StopsFirst};
+ghost use Rattle.iom_stage_walk.specs.Paths.{span, page_in, IsLawfulLeaf, IsUnlawfulLeaf, Reaches, Stops, StopsAt, path_of};
+ghost use Rattle.iom_stage_walk.specs.Paths.{first_widths, IsCanonical, ReachesFirst, StopsFirst};
 ghost use Rattle.iom_stage_walk.specs.declared.walked.Walked.{Walked};
 ghost use Rattle.iom_stage_walk.specs.declared.walked.WalkFault.{WalkFault};
 

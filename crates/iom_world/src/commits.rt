@@ -46,7 +46,8 @@ impl World {
     /// The oldest access of the device that stands here, a read, is made: the place tells the bytes.
     fn commit_read(&mut self, place: usize, access: Accepted, told: &mut Outcome)
         requires { IsOldestAt self.old.devices.items place access Read }
-        ensures step { (state : State) (id : ℕ) → Shows self.old state → IsPlaceOf self.old.devices.items id place → (next : State) × Commits state id told.new next × Shows self.new next }
+        ensures step { (state : State) (id : ℕ) → Shows self.old state → IsPlaceOf self.old.devices.items id place → (next : State)
+            × Commits state id told.new next × Shows self.new next }
         ensures given { (bytes : List ℕ) × GivesBytes told.new bytes }
         ensures commands { self.new.commands ≡ self.old.commands }
         ensures events { self.new.events ≡ self.old.events }
@@ -61,7 +62,8 @@ impl World {
     /// The oldest access of the device that stands here, a write, is made.
     fn commit_write(&mut self, place: usize, access: Accepted) -> Answer
         requires { IsOldestAt self.old.devices.items place access Write }
-        ensures step { (state : State) (id : ℕ) → Shows self.old state → IsPlaceOf self.old.devices.items id place → (next : State) × Commits state id (outcome_of result) next × Shows self.new next }
+        ensures step { (state : State) (id : ℕ) → Shows self.old state → IsPlaceOf self.old.devices.items id place → (next : State)
+            × Commits state id (outcome_of result) next × Shows self.new next }
         ensures wrote { (len : ℕ) × (result ≡ answer.Wrote len) }
         ensures commands { self.new.commands ≡ self.old.commands }
         ensures events { self.new.events ≡ self.old.events }

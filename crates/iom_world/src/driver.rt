@@ -55,7 +55,8 @@ fn reserve_all(
 impl World {
     /// The device is attached in its first stage: its root takes the highest free frame.
     pub(crate) fn attach(&mut self, id: DeviceId) -> Answer
-        ensures step { (state : State) → Shows self.old state → (taken : List ℕ) × (next : State) × Attaches taken state id First false (outcome_of result) next × Shows self.new next }
+        ensures step { (state : State) → Shows self.old state → (taken : List ℕ) × (next : State)
+            × Attaches taken state id First false (outcome_of result) next × Shows self.new next }
         ensures refused { SameIfRefused (outcome_of result) self.old self.new }
         ensures commands { self.new.commands ≡ self.old.commands }
         ensures no_frames { result ≡ answer.Refused NoFrames → NoneIsFree self.old.marks self.old.ledger None 0 (length self.old.memory) }
@@ -85,10 +86,12 @@ impl World {
 
     /// The root of the attached device, or why it has none.
     fn root_of(&self, id: DeviceId) -> Result<u32, Refusal>
-        ensures attached { (state : State) → Shows self.now state → OnOk result ((later : List (Bool × Refusal)) → first_that_applies (attachment_reasons state id later) ≡ first_that_applies later) }
+        ensures attached { (state : State) → Shows self.now state
+            → OnOk result ((later : List (Bool × Refusal)) → first_that_applies (attachment_reasons state id later) ≡ first_that_applies later) }
         ensures root { IfOk result (λ root. IsRootOf self.now.devices.items id root) }
         ensures named { IfErr result (λ why. (why ≡ NoSuchDevice) ⊎ (why ≡ NotAttached)) }
-        ensures refused { (state : State) → Shows self.now state → IfErr result (λ why. (later : List (Bool × Refusal)) → first_that_applies (attachment_reasons state id later) ≡ Some why) }
+        ensures refused { (state : State) → Shows self.now state
+            → IfErr result (λ why. (later : List (Bool × Refusal)) → first_that_applies (attachment_reasons state id later) ≡ Some why) }
     {
         let Some(place) = self.place_of(id) else {
             return Err(Refusal::NoSuchDevice);
@@ -103,7 +106,8 @@ impl World {
     fn admit_grant(&self, id: DeviceId, page: u64, frame: u64) -> Result<u32, Refusal>
         ensures named { IfErr result (λ why. why ≢ NoFrames) }
         ensures admitted { (state : State) → Shows self.now state → OnOk result (NoneApplies (grant_reasons state id page frame)) }
-        ensures root { IfOk result (λ root. IsRootOf self.now.devices.items id root × MayBeGranted self.now.memory self.now.marks self.now.ledger id page frame) }
+        ensures root { IfOk result (λ root. IsRootOf self.now.devices.items id root
+            × MayBeGranted self.now.memory self.now.marks self.now.ledger id page frame) }
         ensures refused { (state : State) → Shows self.now state → IfErr result (λ why. first_that_applies (grant_reasons state id page frame) ≡ Some why) }
     {
         let root = self.root_of(id)?;
@@ -147,7 +151,8 @@ impl World {
     /// root down, and the page's leaf is written.
     pub(crate) fn grant(&mut self, id: DeviceId, page: u64, frame: u64, rights: Rights) -> Answer
         requires { IsGrantable rights }
-        ensures step { (state : State) → Shows self.old state → (taken : List ℕ) × (next : State) × Grants taken state id page frame rights (outcome_of result) next × Shows self.new next }
+        ensures step { (state : State) → Shows self.old state → (taken : List ℕ) × (next : State)
+            × Grants taken state id page frame rights (outcome_of result) next × Shows self.new next }
         ensures refused { SameIfRefused (outcome_of result) self.old self.new }
         ensures commands { self.new.commands ≡ self.old.commands }
         ensures no_frames { result ≡ answer.Refused NoFrames → LacksTables self.old.memory self.old.marks self.old.ledger self.old.devices.items id page frame }
@@ -183,8 +188,10 @@ impl World {
     pub(crate) fn release(&mut self, id: DeviceId, page: u64) -> Answer
         ensures step { (state : State) → Shows self.old state → (next : State) × Releases state id page (outcome_of result) next × Shows self.new next }
         ensures full { outcome_of result ≡ outcome.Refused QueueFull → 255 < length self.old.commands.waiting + 2 }
-        ensures used_up { outcome_of result ≡ outcome.Refused NumbersUsedUp → (length self.old.commands.waiting + 2 ≤ 255) × (4294967295 ≤ self.old.commands.given) }
-        ensures ticket { (ticket : ℕ) → outcome_of result ≡ outcome.Ticket ticket → (ticket ≡ self.old.commands.given + 1) × (self.new.commands ≡ with_release self.old.commands) }
+        ensures used_up { outcome_of result ≡ outcome.Refused NumbersUsedUp → (length self.old.commands.waiting + 2 ≤ 255)
+            × (4294967295 ≤ self.old.commands.given) }
+        ensures ticket { (ticket : ℕ) → outcome_of result ≡ outcome.Ticket ticket → (ticket ≡ self.old.commands.given + 1)
+            × (self.new.commands ≡ with_release self.old.commands) }
         ensures refused { SameIfRefused (outcome_of result) self.old self.new }
         ensures events { self.new.events ≡ self.old.events }
     {

@@ -4,7 +4,8 @@
 //! Page tables stand in memory and are walked for every request (RISC-V Privileged Architecture,
 //! "Sv39"); commands and fences are those of the RISC-V IOMMU Architecture Specification, section 3.1.
 //! The layer above may rely on [`World::run`] being a run of the ledger machine, whatever the events
-//! are, and so on the sentences of the reclaim theorem.
+//! are, and so on the sentences of the reclaim theorem; and on [`World::step`] for what that
+//! machine doesn't see: what each event does to the commands, and that a refusal changes nothing.
 #![tactic(auto)]
 
 mod answer;

@@ -48,7 +48,8 @@ impl World {
     /// The IOMMU takes its next command.
     pub(crate) fn fetch(&mut self) -> Answer
         ensures step { (state : State) → Shows self.old state → (next : State) × Fetches state (outcome_of result) next × Shows self.new next }
-        ensures fetched { (in_flight : Bool) → (IsTrue in_flight ↔ SomeInFlight self.old.devices.items) → (fetched : Fetched) × (outcome_of result ≡ outcome.Fetched fetched) × AfterFetch self.old.commands in_flight fetched self.new.commands }
+        ensures fetched { (in_flight : Bool) → (IsTrue in_flight ↔ SomeInFlight self.old.devices.items) → (fetched : Fetched)
+            × (outcome_of result ≡ outcome.Fetched fetched) × AfterFetch self.old.commands in_flight fetched self.new.commands }
         ensures refused { SameIfRefused (outcome_of result) self.old self.new }
         ensures events { self.new.events ≡ self.old.events }
     {

@@ -89,7 +89,8 @@ impl World {
     /// "Process to translate an IOVA"); what the walk of its tables finds.
     fn reply(&self, place: usize, address: u64, len: u64, kind: AccessKind) -> Reply
         requires { place < length self.now.devices.items }
-        ensures { (device : Device) → slice_get self.now.devices.items place ≡ Some device → IsReply self.now.ledger self.now.levels device address len kind result }
+        ensures { (device : Device) → slice_get self.now.devices.items place ≡ Some device
+            → IsReply self.now.ledger self.now.levels device address len kind result }
     {
         if Span::new(address, len).is_none() {
             return Reply::BadSpan;
@@ -113,7 +114,8 @@ impl World {
     /// `BadSpan`, `Busy`, or `Fault` with its cause.
     pub(crate) fn read(&mut self, id: DeviceId, address: u64, len: u64) -> Answer
         requires { CountsBelow self.old.devices.items self.old.events }
-        ensures step { (state : State) → Shows self.old state → (frame : ℕ) × (next : State) × Requests frame state id (read_of address len) (outcome_of result) next × Shows self.new next }
+        ensures step { (state : State) → Shows self.old state → (frame : ℕ) × (next : State)
+            × Requests frame state id (read_of address len) (outcome_of result) next × Shows self.new next }
         ensures refused { SameIfRefused (outcome_of result) self.old self.new }
         ensures commands { self.new.commands ≡ self.old.commands }
         ensures events { self.new.events ≡ self.old.events }
@@ -137,7 +139,8 @@ impl World {
     /// kept until it is made.
     pub(crate) fn write(&mut self, id: DeviceId, address: u64, bytes: &[u8]) -> Answer
         requires { CountsBelow self.old.devices.items self.old.events }
-        ensures step { (state : State) → Shows self.old state → (frame : ℕ) × (next : State) × Requests frame state id (write_of address bytes.now) (outcome_of result) next × Shows self.new next }
+        ensures step { (state : State) → Shows self.old state → (frame : ℕ) × (next : State)
+            × Requests frame state id (write_of address bytes.now) (outcome_of result) next × Shows self.new next }
         ensures refused { SameIfRefused (outcome_of result) self.old self.new }
         ensures commands { self.new.commands ≡ self.old.commands }
         ensures events { self.new.events ≡ self.old.events }

@@ -17,7 +17,8 @@ impl World {
         requires event { IsEvent event.now }
         requires count { CountsBelow self.old.devices.items self.old.events }
         ensures step { (state : State) → Shows self.old state → (next : State) × Step state event.now told.new next × Shows self.new next }
-        ensures queue { (in_flight : Bool) → (IsTrue in_flight ↔ SomeInFlight self.old.devices.items) → AfterEvent event.now in_flight self.old.commands told.new self.new.commands }
+        ensures queue { (in_flight : Bool) → (IsTrue in_flight ↔ SomeInFlight self.old.devices.items)
+            → AfterEvent event.now in_flight self.old.commands told.new self.new.commands }
         ensures refused { SameIfRefused told.new self.old self.new }
         ensures events { self.new.events ≡ self.old.events }
     {
@@ -52,7 +53,8 @@ impl World {
         requires event { IsEvent event.now }
         requires count { self.old.events + 1 < 2 ^ 64 }
         ensures step { (state : State) → Shows self.old state → (next : State) × Step state event.now told.new next × Shows self.new next }
-        ensures queue { (in_flight : Bool) → (IsTrue in_flight ↔ SomeInFlight self.old.devices.items) → AfterEvent event.now in_flight self.old.commands told.new self.new.commands }
+        ensures queue { (in_flight : Bool) → (IsTrue in_flight ↔ SomeInFlight self.old.devices.items)
+            → AfterEvent event.now in_flight self.old.commands told.new self.new.commands }
         ensures refused { SameIfRefused told.new self.old self.new }
         ensures events { self.new.events ≡ self.old.events + 1 }
     {
@@ -66,7 +68,8 @@ impl World {
         requires event { IsEvent event.now }
         requires count { self.old.events + 1 < 2 ^ 64 }
         ensures step { (state : State) → Shows self.old state → (next : State) × Step state event.now result next × Shows self.new next }
-        ensures queue { (in_flight : Bool) → (IsTrue in_flight ↔ SomeInFlight self.old.devices.items) → AfterEvent event.now in_flight self.old.commands result self.new.commands }
+        ensures queue { (in_flight : Bool) → (IsTrue in_flight ↔ SomeInFlight self.old.devices.items)
+            → AfterEvent event.now in_flight self.old.commands result self.new.commands }
         ensures refused { SameIfRefused result self.old self.new }
         ensures events { self.new.events ≡ self.old.events + 1 }
     {
@@ -82,10 +85,12 @@ impl World {
         requires events { All IsEvent events.now }
         requires count { self.old.events + length events.now < 2 ^ 64 }
         ensures ran { (state : State) → Shows self.old state → OnOk result (RunsTo S.takes state events.now sink.old sink.new self.new) }
-        ensures failed { (state : State) → Shows self.old state → OnErr result (FailsAfter S.takes S.fails state events.now sink.old sink.new self.old.events self.new) }
+        ensures failed { (state : State) → Shows self.old state
+            → OnErr result (FailsAfter S.takes S.fails state events.now sink.old sink.new self.old.events self.new) }
         ensures counted { OnOk result (self.new.events ≡ self.old.events + length events.now) }
         ensures counted_at_most { OnErr result (self.new.events ≤ self.old.events + length events.now) }
-        ensures reclaim { (frames levels : ℕ) → Shows self.old (opening frames levels) → OnOk result (ReclaimsFrom S.takes (opening frames levels) events.now sink.old sink.new self.new) }
+        ensures reclaim { (frames levels : ℕ) → Shows self.old (opening frames levels)
+            → OnOk result (ReclaimsFrom S.takes (opening frames levels) events.now sink.old sink.new self.new) }
     {
         let mut places = Places::new();
         for event in events {

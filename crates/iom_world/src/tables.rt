@@ -21,8 +21,10 @@ impl World {
         kind: AccessKind,
     ) -> Result<u32, Cause>
         requires { IsRootAt self.now.devices.items place root }
-        ensures held { (device : Device) → slice_get self.now.devices.items place ≡ Some device → IfOk result (λ frame. IsHeldFor self.now.ledger device.id (address / 4096) kind frame) }
-        ensures not_held { (device : Device) → slice_get self.now.devices.items place ≡ Some device → IfErr result (λ cause. (cause ≡ page_fault_of kind) × NoneIsHeldFor self.now.ledger device.id (address / 4096) kind) }
+        ensures held { (device : Device) → slice_get self.now.devices.items place ≡ Some device
+            → IfOk result (λ frame. IsHeldFor self.now.ledger device.id (address / 4096) kind frame) }
+        ensures not_held { (device : Device) → slice_get self.now.devices.items place ≡ Some device
+            → IfErr result (λ cause. (cause ≡ page_fault_of kind) × NoneIsHeldFor self.now.ledger device.id (address / 4096) kind) }
     {
         walk_reaches_leaf();
         walk_faults_else();

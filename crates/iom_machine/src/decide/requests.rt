@@ -4,7 +4,8 @@ ghost use Rattle.iom_ledger.specs.declared.refusal.Refusal.TheVariants.{NoSuchDe
 ghost use Rattle.iom_machine.specs.declared.outcome.Outcome.TheVariants.{Refused};
 ghost use Rattle.iom_machine.specs.declared.state.Device.{Device};
 ghost use Rattle.iom_machine.specs.declared.state.State.{State};
-ghost use Rattle.iom_machine.specs.Requests.{IsWithinPage, IsBusy, IsForwarded, HoldsFor, HoldsNoneFor, LingersFor, MayAccept, MayFault, MayAcceptInOneStage, MayAnswer, answered};
+ghost use Rattle.iom_machine.specs.Requests.{IsWithinPage, IsBusy, IsForwarded, HoldsFor, HoldsNoneFor, LingersFor, MayAccept};
+ghost use Rattle.iom_machine.specs.Requests.{MayFault, MayAcceptInOneStage, MayAnswer, answered};
 ghost use Rattle.iom_machine.specs.Machine.{Requests};
 ghost use Rattle.iom_machine.specs.Judging.{IsPlaceOf};
 
@@ -180,7 +181,8 @@ fn answers_busy(device: &Device, access: &Access) -> bool
 }
 
 fn accepts(state: &State, device: &Device, access: &Access, frame: u32, number: u64) -> bool
-    ensures { IsTrue result ↔ (IsForwarded device.now access.now × MayAccept device.now.attachment state.now device.now.id access.now frame × (number ≡ device.now.accepted + 1)) }
+    ensures { IsTrue result ↔ (IsForwarded device.now access.now × MayAccept device.now.attachment state.now device.now.id access.now frame
+        × (number ≡ device.now.accepted + 1)) }
 {
     if !is_forwarded(device, access) {
         return false;
