@@ -1,21 +1,29 @@
 // Lines on their way out: gathered in a buffer, and written to a writer.
-ghost use Rattle.std.specs.Prelude.{◌≡◌, [], OnOk, OnErr};
+ghost use Rattle.std.specs.Prelude.{◌≡◌, ◌≢◌, [], OnOk, OnErr, IfErr};
+ghost use Rattle.std.specs.IoError.{error_kind};
 ghost use Rattle.std.specs.Io.KnownBytes.{Appends};
 ghost use Rattle.iom_runner.specs.Writing.{AppendsFront, KeepsWriter, TakesLine, FailsWriting};
 
 use iom_machine::{Outcome, Sink};
 use iom_script::LineBuffer;
-use std::io::{ErrorKind, Write};
+use std::io::{self, ErrorKind, Write};
 
 /// A writer failed, or took nothing.
 #[derive(Debug, Drop)]
 pub(crate) struct WriteFault;
 
+impl From<io::Error> for WriteFault {
+    fn from(_error: io::Error) -> WriteFault {
+        WriteFault
+    }
+}
+
 /// Writes all the bytes, in as many calls as that takes. A write that is interrupted is tried again; one
 /// of no bytes is a fault. At a fault a beginning of the bytes was written.
-pub(crate) fn write_all<W: Write>(writer: &mut W, bytes: &[u8]) -> Result<(), WriteFault>
+pub(crate) fn write_all<W: Write>(writer: &mut W, bytes: &[u8]) -> io::Result<()>
     ensures all { OnOk result (Appends (W.contents writer.old) (W.contents writer.new) bytes.now) }
     ensures front { OnErr result (AppendsFront (W.contents writer.old) (W.contents writer.new) bytes.now) }
+    ensures retried { IfErr result (λ error. error_kind error ≢ ErrorKind.Interrupted) }
 {
     let mut rest = bytes;
     for _ in 0..u64::MAX {
@@ -23,16 +31,16 @@ pub(crate) fn write_all<W: Write>(writer: &mut W, bytes: &[u8]) -> Result<(), Wr
             return Ok(());
         }
         match writer.write(rest) {
-            Ok(0) => return Err(WriteFault),
+            Ok(0) => return Err(io::Error::from(ErrorKind::WriteZero)),
             Ok(count) => rest = &rest[count..],
             Err(error) => {
                 if error.kind() != ErrorKind::Interrupted {
-                    return Err(WriteFault);
+                    return Err(error);
                 }
             }
         }
     }
-    Err(WriteFault)
+    Err(io::Error::from(ErrorKind::Other))
 }
 
 /// A sink that puts the line of each outcome into a buffer, and writes the buffer out when it is nearly
