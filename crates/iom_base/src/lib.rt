@@ -1,5 +1,5 @@
-//! The words that every crate of the model speaks: devices, kinds of access, rights, causes of a
-//! fault, and the span of an access within its page.
+//! The words that every crate of the model speaks: devices, kinds of access, rights, owners of
+//! frames, causes of a fault, and the span of an access within its page.
 //!
 //! Causes have the numbers of the RISC-V IOMMU Architecture Specification, section 3.2
 //! ("Fault/Event-Queue"), pages are those of the RISC-V Privileged Architecture's base page size. The
@@ -9,11 +9,13 @@
 
 mod access;
 mod cause;
+mod owner;
 mod rights;
 mod span;
 
 pub use access::{AccessKind, DeviceId};
 pub use cause::Cause;
+pub use owner::Owner;
 pub use rights::Rights;
 pub use span::{FRAME_SIZE, Span};
 

@@ -10,7 +10,7 @@ use Rattle.iom_machine.specs.declared.state.Attachment.TheVariants.{Attached}
 use Rattle.iom_machine.specs.declared.state.Device.{Device}
 use Rattle.iom_machine.specs.declared.state.Frame.{Frame}
 use Rattle.iom_machine.specs.declared.state.Mode.{Mode}
-use Rattle.iom_machine.specs.declared.state.Owner.TheVariants.{OneDevice}
+use Rattle.iom_base.specs.declared.owner.Owner.TheVariants.{OneDevice}
 use Rattle.iom_machine.specs.declared.state.State.{State}
 use Rattle.iom_machine.specs.Frames.{IsFreeBesides, reserved_for}
 use Rattle.iom_machine.specs.Devices.{device_of, with_device, DeviceMay, EachInFlightMay}

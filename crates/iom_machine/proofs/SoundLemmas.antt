@@ -21,8 +21,8 @@ use Rattle.iom_machine.specs.declared.state.Access.{Access}
 use Rattle.iom_machine.specs.declared.state.Device.{Device}
 use Rattle.iom_machine.specs.declared.state.Frame.{Frame}
 use Rattle.iom_machine.specs.declared.state.InFlight.{InFlight}
-use Rattle.iom_machine.specs.declared.state.Owner.{Owner}
-use Rattle.iom_machine.specs.declared.state.Owner.TheVariants.{System, OneDevice}
+use Rattle.iom_base.specs.declared.owner.Owner.{Owner}
+use Rattle.iom_base.specs.declared.owner.Owner.TheVariants.{System, OneDevice}
 use Rattle.iom_machine.specs.declared.state.State.{State}
 use Rattle.iom_machine.specs.Frames.{with_frame, reserved_for, stored, written}
 use Rattle.iom_machine.specs.Devices.{device_of, EachInFlightMay}

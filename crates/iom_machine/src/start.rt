@@ -3,7 +3,8 @@ ghost use Rattle.iom_machine.specs.Machine.{opening, empty_frame};
 
 use crate::decide::frames::reserve;
 use crate::sequence::Sequence;
-use crate::state::{Frame, Owner, State};
+use crate::state::{Frame, State};
+use iom_base::Owner;
 use std::alloc::{AllocError, Global};
 
 /// A frame of zeros that belongs to nobody.

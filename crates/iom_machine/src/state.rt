@@ -1,5 +1,5 @@
 use crate::sequence::Sequence;
-use iom_base::{AccessKind, DeviceId};
+use iom_base::{AccessKind, DeviceId, Owner};
 use iom_ledger::Entry;
 
 /// What a device is, and so which requests it can make.
@@ -33,13 +33,6 @@ pub enum Attachment {
     Quarantined { ticket: u32, mode: Mode, ats: bool },
     /// Detached once the ticket is confirmed. How it was attached before stays known.
     Leaving { ticket: u32, mode: Mode, ats: bool },
-}
-
-/// Whose a reserved frame is.
-#[derive(Clone, Copy, PartialEq, Eq, Debug)]
-pub enum Owner {
-    System,
-    OneDevice(DeviceId),
 }
 
 /// A frame of memory. Where it has an owner it is reserved, and its bytes mean nothing.

@@ -5,8 +5,8 @@ use Rattle.std.proofs.lemmas.List.{set-append_right, length-replicate, replicate
 use Rattle.iom_ledger.specs.declared.ledger.Ledger.{Ledger}
 use Rattle.iom_ledger.specs.Shown.{IsOffered, NoneIsOffered, IsHighestOffered, is_pooled}
 use Rattle.iom_ledger.specs.Changes.{Reserves}
-use Rattle.iom_table_frames.specs.declared.table_frames.Owner.{Owner}
-use Rattle.iom_table_frames.specs.declared.table_frames.Owner.TheVariants.{System}
+use Rattle.iom_base.specs.declared.owner.Owner.{Owner}
+use Rattle.iom_base.specs.declared.owner.Owner.TheVariants.{System}
 use Rattle.iom_table_frames.specs.Marks.{is_reserved, is_unreserved, OffersUnreserved, IsFreeBesides, NoneIsFree, IsHighestFree}
 
 -- numbers that are one higher are equal alike

@@ -11,7 +11,7 @@
 
 mod table_frames;
 
-pub use table_frames::{Owner, TableFrames};
+pub use table_frames::TableFrames;
 
 #[cfg(test)]
 mod tests;

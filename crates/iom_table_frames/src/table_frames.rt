@@ -4,22 +4,13 @@ ghost use Rattle.iom_ledger.specs.History.{History};
 ghost use Rattle.iom_ledger.specs.Shown.{Agrees, is_pooled};
 ghost use Rattle.iom_ledger.specs.Changes.{ShowsSame, Reserves};
 ghost use Rattle.iom_table_frames.specs.Marks.{is_reserved, opening_marks, OffersUnreserved, NoneIsFree, IsHighestFree};
-ghost use Rattle.iom_table_frames.specs.declared.table_frames.Owner.TheVariants as owner;
+ghost use Rattle.iom_base.specs.declared.owner.Owner.TheVariants as owner;
 
-use iom_base::DeviceId;
+use iom_base::{DeviceId, Owner};
 use iom_ledger::Ledger;
 use iom_phys_mem::{Bytes, Memory};
 use std::alloc::{AllocError, Global};
 use std::marker::Model;
-
-/// Whose a reserved frame is.
-#[derive(Clone, Copy, PartialEq, Eq, Debug)]
-pub enum Owner {
-    /// A queue, or a page of the device directory.
-    System,
-    /// A table of one device.
-    OneDevice(DeviceId),
-}
 
 /// The mark of each frame: its owner, where it is reserved.
 #[derive(Drop)]
@@ -29,7 +20,7 @@ pub struct TableFrames {
 
 impl Model for TableFrames {
     ghost use Rattle.std.specs.Prelude.{List, Option};
-    ghost use Rattle.iom_table_frames.specs.declared.table_frames.Owner.{Owner};
+    ghost use Rattle.iom_base.specs.declared.owner.Owner.{Owner};
 
     ghost Value = { List (Option Owner) };
 

@@ -8,8 +8,8 @@ use Rattle.iom_phys_mem.specs.Words.{zeroed}
 use Rattle.iom_page_table.proofs.Stays.{root_tree, zeroed_frames, zeroed_leaves}
 use Rattle.iom_page_table.proofs.Words.{zero_entry}
 use Rattle.iom_stage_walk.specs.Entries.{entries}
-use Rattle.iom_table_frames.specs.declared.table_frames.Owner.{Owner}
-use Rattle.iom_table_frames.specs.declared.table_frames.Owner.TheVariants.{OneDevice}
+use Rattle.iom_base.specs.declared.owner.Owner.{Owner}
+use Rattle.iom_base.specs.declared.owner.Owner.TheVariants.{OneDevice}
 use Rattle.iom_table_frames.specs.Marks as marks
 use Rattle.iom_world.specs.declared.device.Device.{Device}
 use Rattle.iom_world.specs.Facts.{AreGrants, IsDevice}

@@ -5,7 +5,7 @@ use Rattle.std.proofs.lemmas.Bool.{eq-eqb, false≢true}
 use Rattle.std.proofs.lemmas.List.Elements.{All-nil, All-cons}
 use Rattle.std.proofs.lemmas.List.Kept.{AllPairs-cons}
 use Rattle.iom_ledger.specs.declared.ledger.Ledger.{Ledger}
-use Rattle.iom_table_frames.specs.declared.table_frames.Owner.{Owner}
+use Rattle.iom_base.specs.declared.owner.Owner.{Owner}
 use Rattle.iom_table_frames.specs.Marks.{IsFreeBesides, NoneIsFree, IsHighestFree}
 use Rattle.iom_world.specs.Admission.{AreChosen, AreHigherChosen, TooFewAreFree}
 

@@ -23,12 +23,12 @@ use Rattle.iom_machine.specs.declared.state.State.{State}
 use Rattle.iom_machine.specs.Devices.{with_device}
 use Rattle.iom_machine.specs.Frames.{bytes_of, stored, written}
 use Rattle.iom_machine.specs.Machine.{Commits, Makes, with_oldest_made}
-use Rattle.iom_table_frames.specs.declared.table_frames.Owner.{Owner}
-use Rattle.iom_table_frames.specs.declared.table_frames.Owner.TheVariants.{OneDevice}
+use Rattle.iom_base.specs.declared.owner.Owner.{Owner}
+use Rattle.iom_base.specs.declared.owner.Owner.TheVariants.{OneDevice}
 use Rattle.iom_world.specs.declared.device.Device.{Device}
 use Rattle.iom_world.specs.Devices.{shown_flight, shown_device, shown_devices}
 use Rattle.iom_world.specs.Facts.{IsGrant, AreGrants, IsDevice, IsCovered, AllCovered, serves, serves_still}
-use Rattle.iom_world.specs.Frames.{ShowsFrames, shown_owner}
+use Rattle.iom_world.specs.Frames.{ShowsFrames}
 use Rattle.iom_world.specs.Oldest.{OldestWritesSoMany, IsOldestAt}
 use Rattle.iom_world.specs.Places.{IsPlaceOf}
 use Rattle.iom_world.specs.Queue.{Queue}
@@ -179,7 +179,7 @@ frames_stored memory marks frames n offset bytes replacement shows free there =
     subst (λ (fs : List Frame). ShowsFrames (slice_set memory n (written bytes offset replacement)) marks fs) (sym stored_is) (record {
       size = length-set frames n frame' ∙ shows.size ∙ sym (length-set memory n (written bytes offset replacement));
       owners = λ k. elim (eqb_tells k n) [
-        | inl same ↦ subst (λ (j : ℕ). option_map (λ (f : Frame). f.owner) (slice_get (slice_set frames n frame') j) ≡ option_map (λ (m : Option Owner). option_map shown_owner m) (slice_get marks j)) (sym same.1)
+        | inl same ↦ subst (λ (j : ℕ). option_map (λ (f : Frame). f.owner) (slice_get (slice_set frames n frame') j) ≡ slice_get marks j) (sym same.1)
             (ap (option_map (λ (f : Frame). f.owner)) (get_set_same frames n frame' inside) ∙ sym (ap (option_map (λ (f : Frame). f.owner)) at.1) ∙ shows.owners n)
         | inr other ↦ ap (option_map (λ (f : Frame). f.owner)) (get_set_other frames n k frame' other.1) ∙ shows.owners k
       ];

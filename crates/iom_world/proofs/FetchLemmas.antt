@@ -3,7 +3,7 @@ use Rattle.std.proofs.Common.{◌≡◌, ◌<◌, ◌⊎◌, inl, inr, ◌↔◌
 use Rattle.std.proofs.lemmas.Bool.{false≢true}
 use Rattle.iom_ledger.specs.declared.ledger.Ledger.{Ledger}
 use Rattle.iom_machine.specs.declared.outcome.Fetched.{Fetched}
-use Rattle.iom_table_frames.specs.declared.table_frames.Owner.{Owner}
+use Rattle.iom_base.specs.declared.owner.Owner.{Owner}
 use Rattle.iom_world.specs.declared.commands.Command.{Command}
 use Rattle.iom_world.specs.declared.commands.Command.TheVariants.{InvalidatePage, Fence}
 use Rattle.iom_world.specs.declared.device.Device.{Device}

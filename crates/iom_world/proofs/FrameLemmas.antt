@@ -5,14 +5,14 @@ use Rattle.std.proofs.lemmas.Bool.Decides.{eqb_tells}
 use Rattle.std.specs.Option.{option_map_or}
 use Rattle.iom_machine.specs.declared.state.Frame.{Frame}
 use Rattle.iom_machine.specs.Frames.{is_reserved, with_frame}
-use Rattle.iom_table_frames.specs.declared.table_frames.Owner.{Owner}
+use Rattle.iom_base.specs.declared.owner.Owner.{Owner}
 use Rattle.iom_table_frames.specs.Marks as marks
-use Rattle.iom_world.specs.Frames.{ShowsFrames, shown_owner}
+use Rattle.iom_world.specs.Frames.{ShowsFrames}
 use Rattle.iom_world.proofs.ListLemmas.{get_set_same, get_set_other, get_within, get_there}
 
 -- a frame of the machine where an owner takes it
 abbrev pub owned : Owner → Frame → Frame
-owned owner frame = record frame { owner = Some (shown_owner owner) }
+owned owner frame = record frame { owner = Some owner }
 
 -- a frame is changed where it is, and no other
 frame_changed : (frames : List Frame) (n : ℕ) (change : Frame → Frame) → n < length frames
@@ -46,11 +46,11 @@ shows_reserved memory memory' marked frames n owner shows lt long same size =
     record {
       size = length-with_frame frames n (owned owner) inside ∙ shows.size ∙ sym size;
       owners = λ k. elim (eqb_tells k n) [
-        | inl e ↦ subst (λ j. option_map (λ (f : Frame). f.owner) (slice_get (with_frame frames n (owned owner)) j) ≡ option_map (λ (m : Option Owner). option_map shown_owner m) (slice_get (slice_set marked n (Some owner)) j)) (sym e.1)
+        | inl e ↦ subst (λ j. option_map (λ (f : Frame). f.owner) (slice_get (with_frame frames n (owned owner)) j) ≡ slice_get (slice_set marked n (Some owner)) j) (sym e.1)
             (ap (option_map (λ (f : Frame). f.owner)) (get_with_frame_same frames n (owned owner) there.0 there.1)
-            ∙ sym (ap (option_map (λ (m : Option Owner). option_map shown_owner m)) (get_set_same marked n (Some owner) (rw long lt))))
+            ∙ sym (get_set_same marked n (Some owner) (rw long lt)))
         | inr ne ↦ ap (option_map (λ (f : Frame). f.owner)) (get_with_frame_other frames n k (owned owner) inside ne.1) ∙ shows.owners k
-            ∙ sym (ap (option_map (λ (m : Option Owner). option_map shown_owner m)) (get_set_other marked n k (Some owner) ne.1))
+            ∙ sym (get_set_other marked n k (Some owner) ne.1)
       ];
       bytes = λ k free. elim (eqb_tells k n) [
         | inl e ↦ absurd (not_free (sym (get_set_same marked n (Some owner) (rw long lt)) ∙ ap (λ j. slice_get (slice_set marked n (Some owner)) j) (sym e.1) ∙ free))
@@ -76,10 +76,10 @@ shows_kept memory memory' marked frames shows same size = record {
 pub reserved_shown : (memory : List (List ℕ)) (marked : List (Option Owner)) (frames : List Frame) (n : ℕ) → ShowsFrames memory marked frames → is_reserved frames n ≡ marks.is_reserved marked n
 reserved_shown memory marked frames n shows = by (slice_get frames n) (slice_get marked n) (shows.owners n)
   where
-    by : (f : Option Frame) (m : Option (Option Owner)) → option_map (λ (g : Frame). g.owner) f ≡ option_map (λ (k : Option Owner). option_map shown_owner k) m
+    by : (f : Option Frame) (m : Option (Option Owner)) → option_map (λ (g : Frame). g.owner) f ≡ m
         → option_map_or (λ (g : Frame). is_some g.owner) f false ≡ option_map_or (λ (k : Option Owner). is_some k) m false
     by None None same = refl
     by None (Some m) same = cc
     by (Some f) None same = cc
     by (Some f) (Some None) same = let e : f.owner ≡ None = cc in rw e refl
-    by (Some f) (Some (Some owner)) same = let e : f.owner ≡ Some (shown_owner owner) = cc in rw e refl
+    by (Some f) (Some (Some owner)) same = let e : f.owner ≡ Some owner = cc in rw e refl

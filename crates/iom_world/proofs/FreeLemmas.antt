@@ -6,7 +6,7 @@ use Rattle.iom_ledger.specs.Shown.{Agrees, IsFreeIn}
 use Rattle.iom_ledger.proofs.AgreementLemmas.{some_row_from_May, May_from_some_row, IsFreeIn-from_rows, not_free_from_row}
 use Rattle.iom_machine.specs.declared.state.State.{State}
 use Rattle.iom_machine.specs.Frames.{IsFree}
-use Rattle.iom_table_frames.specs.declared.table_frames.Owner.{Owner}
+use Rattle.iom_base.specs.declared.owner.Owner.{Owner}
 use Rattle.iom_table_frames.specs.Marks.{is_reserved, IsFreeBesides}
 use Rattle.iom_world.specs.Frames.{ShowsFrames}
 use Rattle.iom_world.proofs.FrameLemmas.{reserved_shown}

@@ -20,8 +20,8 @@ use Rattle.iom_page_table.specs.Trees.{sv39, IsFrameOf, AreFresh, missing_under,
 use Rattle.iom_page_table.proofs.Pages.{path_shaped}
 use Rattle.iom_page_table.proofs.Stays.{stays}
 use Rattle.iom_page_table.proofs.Trees.{AlikeOn, alike_in}
-use Rattle.iom_table_frames.specs.declared.table_frames.Owner.{Owner}
-use Rattle.iom_table_frames.specs.declared.table_frames.Owner.TheVariants.{OneDevice}
+use Rattle.iom_base.specs.declared.owner.Owner.{Owner}
+use Rattle.iom_base.specs.declared.owner.Owner.TheVariants.{OneDevice}
 use Rattle.iom_table_frames.specs.Marks.{IsFreeBesides, is_reserved}
 use Rattle.iom_world.specs.declared.device.Device.{Device}
 use Rattle.iom_world.specs.Admission.{IsRootOf, AreChosen, marked_for, cleared}

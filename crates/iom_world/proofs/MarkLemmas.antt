@@ -4,10 +4,10 @@ use Rattle.std.proofs.lemmas.List.{length-set}
 use Rattle.std.proofs.lemmas.Bool.Decides.{eqb_tells}
 use Rattle.iom_phys_mem.specs.Words.{zeroed}
 use Rattle.iom_machine.specs.declared.state.Frame.{Frame}
-use Rattle.iom_machine.specs.declared.state.Owner.TheVariants as machine
+use Rattle.iom_base.specs.declared.owner.Owner.TheVariants as machine
 use Rattle.iom_machine.specs.Frames.{reserved_for}
-use Rattle.iom_table_frames.specs.declared.table_frames.Owner.{Owner}
-use Rattle.iom_table_frames.specs.declared.table_frames.Owner.TheVariants.{OneDevice}
+use Rattle.iom_base.specs.declared.owner.Owner.{Owner}
+use Rattle.iom_base.specs.declared.owner.Owner.TheVariants.{OneDevice}
 use Rattle.iom_world.specs.Admission.{marked_for, cleared}
 use Rattle.iom_world.specs.Frames.{ShowsFrames}
 use Rattle.iom_world.proofs.FrameLemmas.{shows_reserved}

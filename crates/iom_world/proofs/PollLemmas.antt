@@ -7,7 +7,7 @@ use Rattle.iom_ledger.specs.declared.ledger.Ledger.{Ledger}
 use Rattle.iom_ledger.specs.History.{History, Pair, confirms}
 use Rattle.iom_ledger.specs.Shown.{released_in}
 use Rattle.iom_machine.specs.Tickets.{confirmed_from, last_confirmed}
-use Rattle.iom_table_frames.specs.declared.table_frames.Owner.{Owner}
+use Rattle.iom_base.specs.declared.owner.Owner.{Owner}
 use Rattle.iom_world.specs.declared.device.Device.{Device}
 use Rattle.iom_world.specs.Confirmed.{is_among, unless_among, ConfirmsFrom}
 use Rattle.iom_world.specs.Facts.{AreGrants, serves_still, AreDevices, tickets_after}

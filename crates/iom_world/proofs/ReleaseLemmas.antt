@@ -15,7 +15,7 @@ use Rattle.iom_ledger.specs.Shown.{Agrees, held_in, released_in}
 use Rattle.iom_machine.specs.declared.state.State.{State}
 use Rattle.iom_machine.specs.Refusals.{first_that_applies, attachment_reasons, release_reasons, is_held}
 use Rattle.iom_machine.specs.Tickets.{last_confirmed, pending_tickets}
-use Rattle.iom_table_frames.specs.declared.table_frames.Owner.{Owner}
+use Rattle.iom_base.specs.declared.owner.Owner.{Owner}
 use Rattle.iom_world.specs.declared.device.Device.{Device}
 use Rattle.iom_world.specs.Facts.{AreGrants, serves, serves_still, IsDevice, tickets_after}
 use Rattle.iom_world.specs.Queue.{Queue, with_release}

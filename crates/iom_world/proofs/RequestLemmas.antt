@@ -27,7 +27,7 @@ use Rattle.iom_world.specs.declared.device.Device.{Device}
 use Rattle.iom_world.specs.Devices.{shown_flight, shown_device, shown_devices, shown_attachment}
 use Rattle.iom_world.specs.Facts.{IsDevice, IsCovered, serves}
 use Rattle.iom_world.specs.Held.{IsHeldFor, NoneIsHeldFor}
-use Rattle.iom_table_frames.specs.declared.table_frames.Owner.{Owner}
+use Rattle.iom_base.specs.declared.owner.Owner.{Owner}
 use Rattle.iom_world.specs.Places.{IsAbsent, IsPlaceOf}
 use Rattle.iom_world.specs.Queue.{Queue}
 use Rattle.iom_world.specs.Sound.{IsSound}

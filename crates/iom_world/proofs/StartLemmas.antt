@@ -9,12 +9,12 @@ use Rattle.iom_machine.specs.declared.state.Frame.{Frame}
 use Rattle.iom_machine.specs.Machine.{opening, empty_frame}
 use Rattle.iom_phys_mem.specs.Sizes.{IsMemorySize}
 use Rattle.iom_phys_mem.specs.Words.{zeroed}
-use Rattle.iom_table_frames.specs.declared.table_frames.Owner.{Owner}
-use Rattle.iom_table_frames.specs.declared.table_frames.Owner.TheVariants.{System}
+use Rattle.iom_base.specs.declared.owner.Owner.{Owner}
+use Rattle.iom_base.specs.declared.owner.Owner.TheVariants.{System}
 use Rattle.iom_table_frames.specs.Marks.{opening_marks}
 use Rattle.iom_world.specs.declared.device.Device.{Device}
 use Rattle.iom_world.specs.declared.world.World.{World}
-use Rattle.iom_world.specs.Frames.{ShowsFrames, shown_owner}
+use Rattle.iom_world.specs.Frames.{ShowsFrames}
 use Rattle.iom_world.specs.Queue.{Queue, no_commands}
 use Rattle.iom_world.specs.Shows.{Shows}
 use Rattle.iom_world.specs.Sound.{IsSound}
@@ -31,7 +31,7 @@ none_listed None same = refl
 none_listed (Some x) same = cc
 
 owners_at_start : (n k : ℕ) → option_map (λ (frame : Frame). frame.owner) (slice_get (replicate n empty_frame) k)
-    ≡ option_map (λ (mark : Option Owner). option_map shown_owner mark) (slice_get (replicate n None) k)
+    ≡ slice_get (replicate n None) k
 owners_at_start zero zero = refl
 owners_at_start zero (suc k) = refl
 owners_at_start (suc n) zero = refl

@@ -6,8 +6,8 @@ use Rattle.iom_ledger.specs.History.{Pair}
 use Rattle.iom_ledger.specs.Shown.{held_in}
 use Rattle.iom_page_table.specs.declared.leaf.PageLeaf.{PageLeaf}
 use Rattle.iom_page_table.proofs.Stays.{stays}
-use Rattle.iom_table_frames.specs.declared.table_frames.Owner.{Owner}
-use Rattle.iom_table_frames.specs.declared.table_frames.Owner.TheVariants.{OneDevice}
+use Rattle.iom_base.specs.declared.owner.Owner.{Owner}
+use Rattle.iom_base.specs.declared.owner.Owner.TheVariants.{OneDevice}
 use Rattle.iom_world.specs.Tables.{AreTablesOf, leaf_for}
 
 -- the frames that are marked for the device stay as they are, mark and bytes, and so does what it holds: its tables do

@@ -5,8 +5,8 @@ use Rattle.iom_ledger.specs.declared.ledger.Ledger.{Ledger}
 use Rattle.iom_ledger.specs.Shown.{held_in, lingering_in}
 use Rattle.iom_page_table.specs.Sv39.{missing_for}
 use Rattle.iom_phys_mem.specs.Words.{zeroed}
-use Rattle.iom_table_frames.specs.declared.table_frames.Owner.{Owner}
-use Rattle.iom_table_frames.specs.declared.table_frames.Owner.TheVariants.{OneDevice}
+use Rattle.iom_base.specs.declared.owner.Owner.{Owner}
+use Rattle.iom_base.specs.declared.owner.Owner.TheVariants.{OneDevice}
 use Rattle.iom_table_frames.specs.Marks.{is_reserved, IsFreeBesides, IsHighestFree}
 use Rattle.iom_world.specs.declared.device.Device.{Device}
 

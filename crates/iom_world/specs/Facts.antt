@@ -9,7 +9,7 @@ use Rattle.iom_ledger.specs.declared.ledger.Ledger.{Ledger}
 use Rattle.iom_ledger.specs.History.{Pair}
 use Rattle.iom_ledger.specs.Shown.{held_in, lingering_in, released_in}
 use Rattle.iom_inflight.specs.Flights.{Flight}
-use Rattle.iom_table_frames.specs.declared.table_frames.Owner.{Owner}
+use Rattle.iom_base.specs.declared.owner.Owner.{Owner}
 use Rattle.iom_world.specs.declared.device.Device.{Device}
 
 -- a pair that is granted at a page: the page is one that tables map, and the frame is of the memory and isn't reserved

@@ -7,8 +7,8 @@ use Rattle.iom_stage_walk.specs.Entries.{entries}
 use Rattle.iom_page_table.specs.declared.leaf.PageLeaf.{PageLeaf}
 use Rattle.iom_page_table.specs.Leaves.{leaf_of}
 use Rattle.iom_page_table.specs.Trees.{sv39, IsTree, IsFrameOf}
-use Rattle.iom_table_frames.specs.declared.table_frames.Owner.{Owner}
-use Rattle.iom_table_frames.specs.declared.table_frames.Owner.TheVariants.{OneDevice}
+use Rattle.iom_base.specs.declared.owner.Owner.{Owner}
+use Rattle.iom_base.specs.declared.owner.Owner.TheVariants.{OneDevice}
 use Rattle.iom_world.specs.declared.device.Device.{Device}
 
 -- the leaf that maps a page to what is held there

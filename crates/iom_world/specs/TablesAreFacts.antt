@@ -6,7 +6,7 @@ use Rattle.iom_ledger.specs.declared.ledger.Ledger.{Ledger}
 use Rattle.iom_stage_walk.specs.declared.entry.Entry.{Entry}
 use Rattle.iom_stage_walk.specs.declared.entry.Entry.TheVariants.{Outside, Faulty, Pointer, Leaf}
 use Rattle.iom_page_table.specs.Trees.{IsUpper, IsLowest}
-use Rattle.iom_table_frames.specs.declared.table_frames.Owner.{Owner}
+use Rattle.iom_base.specs.declared.owner.Owner.{Owner}
 use Rattle.iom_world.specs.declared.device.Device.{Device}
 use Rattle.iom_world.specs.Tables.{HaveTables}
 

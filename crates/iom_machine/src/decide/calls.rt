@@ -12,8 +12,8 @@ use crate::decide::reasons::{
 };
 use crate::outcome::Outcome;
 use crate::sequence::Sequence;
-use crate::state::{Attachment, Device, DeviceKind, Mode, Owner, State};
-use iom_base::{DeviceId, Rights};
+use crate::state::{Attachment, Device, DeviceKind, Mode, State};
+use iom_base::{DeviceId, Owner, Rights};
 use iom_ledger::{Entry, Refusal};
 use std::alloc::{AllocError, Global};
 

@@ -6,7 +6,8 @@ ghost use Rattle.iom_machine.specs.Judging.{CountsAll};
 
 use crate::decide::history::is_out_of_reach;
 use crate::sequence::Sequence;
-use crate::state::{Frame, Owner, State};
+use crate::state::{Frame, State};
+use iom_base::Owner;
 use iom_ledger::Entry;
 
 /// Whether the frame belongs to the system or to a device.

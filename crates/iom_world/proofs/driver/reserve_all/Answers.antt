@@ -1,6 +1,6 @@
 use Rattle.std.proofs.Common.{arith, rules, ◌≡◌, ◌<◌, length}
 use Rattle.std.proofs.lemmas.Grind.{common_steps}
-use Rattle.iom_table_frames.specs.declared.table_frames.Owner.TheVariants.{OneDevice}
+use Rattle.iom_base.specs.declared.owner.Owner.TheVariants.{OneDevice}
 use Rattle.iom_table_frames.proofs.MarkLemmas.{OffersUnreserved-reserved}
 use Rattle.iom_world.proofs.GrantLemmas.{shown_reserved, shown_twice}
 use Rattle.iom_world.proofs.driver.reserve_all.Goals as goal

@@ -1,7 +1,7 @@
 use Rattle.std.proofs.Common.{◌≡◌, ◌+◌, ◌-◌, length, Option, None, Some, refl, ap, ◌∙◌, arith}
 use Rattle.std.proofs.lemmas.List.{length-replicate, length-set}
-use Rattle.iom_table_frames.specs.declared.table_frames.Owner.{Owner}
-use Rattle.iom_table_frames.specs.declared.table_frames.Owner.TheVariants.{System}
+use Rattle.iom_base.specs.declared.owner.Owner.{Owner}
+use Rattle.iom_base.specs.declared.owner.Owner.TheVariants.{System}
 use Rattle.iom_table_frames.proofs.MarkLemmas.{OffersUnreserved-none, OffersUnreserved-reserved, fixed_none, fixed_more}
 use Rattle.iom_table_frames.proofs.table_frames.TableFrames.new.Goals as goal
 

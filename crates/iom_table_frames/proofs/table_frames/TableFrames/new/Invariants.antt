@@ -3,7 +3,7 @@ use Rattle.iom_ledger.specs.Changes.{ShowsSame}
 use Rattle.iom_ledger.specs.History.{History}
 use Rattle.iom_ledger.specs.Shown.{Agrees}
 use Rattle.iom_table_frames.specs.Marks.{OffersUnreserved}
-use Rattle.iom_table_frames.specs.declared.table_frames.Owner.TheVariants.{System}
+use Rattle.iom_base.specs.declared.owner.Owner.TheVariants.{System}
 use Rattle.iom_table_frames.proofs.table_frames.TableFrames.new.Given as goal
 
 abbrev pub invariant-loop-free : goal.invariant-loop-free

@@ -5,7 +5,7 @@ use Rattle.iom_ledger.specs.declared.refusal.Refusal.TheVariants.{NoSuchDevice, 
 use Rattle.iom_machine.specs.declared.state.State.{State}
 use Rattle.iom_machine.specs.declared.state.Mode.TheVariants.{First}
 use Rattle.iom_machine.specs.Refusals.{attach_reasons, MayRefuseAttach}
-use Rattle.iom_table_frames.specs.declared.table_frames.Owner.TheVariants.{OneDevice}
+use Rattle.iom_base.specs.declared.owner.Owner.TheVariants.{OneDevice}
 use Rattle.std.proofs.lemmas.List.{length-set}
 use Rattle.iom_ledger.specs.Shown.{held_in}
 use Rattle.iom_phys_mem.specs.Words.{zeroed}
@@ -14,7 +14,7 @@ use Rattle.iom_machine.specs.Devices.{device_of, with_device, replaced_device}
 use Rattle.iom_machine.specs.Frames.{IsFree, reserved_for}
 use Rattle.iom_machine.specs.declared.state.Device as machine
 use Rattle.iom_machine.specs.declared.state.Attachment.TheVariants.{Attached}
-use Rattle.iom_machine.specs.declared.state.Owner.TheVariants as owner
+use Rattle.iom_base.specs.declared.owner.Owner.TheVariants as owner
 use Rattle.iom_world.specs.Devices.{shown_device, shown_devices}
 use Rattle.iom_world.proofs.FrameLemmas.{shows_reserved}
 use Rattle.iom_world.proofs.PlaceLemmas.{place_shown, place_replaced}

@@ -3,12 +3,12 @@ use Rattle.std.specs.Result.{is_err}
 use Rattle.std.proofs.lemmas.Bool.{false≢true}
 use Rattle.iom_ledger.specs.declared.entry.Entry.TheVariants as entry
 use Rattle.iom_ledger.specs.declared.refusal.Refusal.TheVariants.{NoFrames}
-use Rattle.iom_machine.specs.declared.state.Owner.TheVariants as machine
+use Rattle.iom_base.specs.declared.owner.Owner.TheVariants as machine
 use Rattle.iom_machine.specs.Frames.{IsFree, reserved_for}
 use Rattle.iom_machine.specs.Refusals.{grant_reasons, MayRefuseGrant}
 use Rattle.iom_page_table.specs.declared.leaf.PageLeaf.{PageLeaf}
-use Rattle.iom_table_frames.specs.declared.table_frames.Owner.{Owner}
-use Rattle.iom_table_frames.specs.declared.table_frames.Owner.TheVariants.{OneDevice}
+use Rattle.iom_base.specs.declared.owner.Owner.{Owner}
+use Rattle.iom_base.specs.declared.owner.Owner.TheVariants.{OneDevice}
 use Rattle.iom_table_frames.specs.Marks.{OffersUnreserved}
 use Rattle.iom_world.specs.Admission.{marked_for, cleared}
 use Rattle.iom_world.proofs.FrameLemmas.{shows_kept}
