@@ -5,7 +5,7 @@ use Rattle.iom_base.specs.declared.access.AccessKind.{AccessKind}
 use Rattle.iom_base.specs.declared.access.AccessKind.TheVariants.{Read, Write}
 use Rattle.circular_buffer.specs.Buffer.{Buffer, buffer, keep_last}
 use Rattle.iom_inflight.specs.declared.in_flight.Accepted.{Accepted}
-use Rattle.iom_inflight.specs.Flights.{Flight, described}
+use Rattle.iom_inflight.specs.Flights.{Flight, description_of}
 use Rattle.iom_inflight.specs.Rings.{kept_bytes, flights_of, bytes_kept, AreShort, AreRings}
 
 -- each description has its access
@@ -14,7 +14,7 @@ length-flights_of [] bytes = refl
 length-flights_of (a ∷ later) bytes = ap suc (length-flights_of later (drop (kept_bytes a.kind a.len) bytes))
 
 -- the oldest access is described by the oldest description
-pub oldest_of : (waiting : List Accepted) (bytes : List ℕ) → option_map described (slice_get (flights_of waiting bytes) 0) ≡ slice_get waiting 0
+pub oldest_of : (waiting : List Accepted) (bytes : List ℕ) → option_map description_of (slice_get (flights_of waiting bytes) 0) ≡ slice_get waiting 0
 oldest_of [] bytes = refl
 oldest_of (a ∷ later) bytes = refl
 

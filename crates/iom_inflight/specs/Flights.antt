@@ -21,8 +21,8 @@ abbrev pub write_flight : ℕ → List ℕ → ℕ → Flight
 write_flight address bytes frame = record { address = address; len = length bytes; kind = Write; bytes = bytes; frame = frame }
 
 -- the access without its bytes
-abbrev pub described : Flight → Accepted
-described flight = record { address = flight.address; len = flight.len; kind = flight.kind; frame = flight.frame }
+abbrev pub description_of : Flight → Accepted
+description_of flight = record { address = flight.address; len = flight.len; kind = flight.kind; frame = flight.frame }
 
 -- the oldest access is a read
 abbrev pub OldestIsRead : List Flight → Type 0

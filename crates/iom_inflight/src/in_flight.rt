@@ -1,6 +1,6 @@
 ghost use Rattle.std.specs.Prelude.{◌≡◌, ◌<◌, ◌≤◌, [], ◌∷◌, ◌++◌, length, drop, IfOk, Some, None, slice_get, option_map, OnSome};
 ghost use Rattle.iom_base.specs.declared.access.AccessKind.TheVariants.{Read, Write};
-ghost use Rattle.iom_inflight.specs.Flights.{read_flight, write_flight, described, OldestIsRead, OldestWrites};
+ghost use Rattle.iom_inflight.specs.Flights.{read_flight, write_flight, description_of, OldestIsRead, OldestWrites};
 
 use circular_buffer::HeapCircularBuffer;
 use iom_base::{AccessKind, FRAME_SIZE};
@@ -64,7 +64,7 @@ impl InFlight {
     /// The oldest, which is made next.
     #[tactic(auto, using(crate::proofs::FlightLemmas::oldest_of))]
     pub fn oldest(&self) -> Option<Accepted>
-        ensures { result ≡ option_map described (slice_get self.now 0) }
+        ensures { result ≡ option_map description_of (slice_get self.now 0) }
     {
         self.waiting.front().copied()
     }

@@ -13,7 +13,7 @@ use Rattle.iom_ledger.specs.declared.row.Pending.{Pending}
 use Rattle.iom_ledger.specs.declared.entry.Entry.TheVariants.{Confirmed}
 use Rattle.iom_ledger.specs.declared.ledger.Ledger.{Ledger}
 use Rattle.iom_ledger.specs.History.{History, Pair, confirms, released_at, Holds, Lingers, May}
-use Rattle.iom_ledger.specs.Unconfirmed.{tickets_of}
+use Rattle.iom_ledger.specs.Pending.{tickets_of}
 use Rattle.iom_ledger.specs.Rows.{Devices, row_at, pair_of, held_of, released_of, unless_released, if_released, kept, waits_for, is_granted, has_granted_right, AllGranted, SomeRowNames, DropsRows}
 use Rattle.iom_ledger.specs.Shown.{AgreesAt, Agrees, IsFreeIn, held_in, released_in}
 use Rattle.iom_ledger.specs.Changes.{Confirms, unless_under}
@@ -179,11 +179,11 @@ Agrees-confirmed old new ticket confirmed h agrees = record {
         ∙ unless_under-filter ticket (released_in old d a)
         ∙ ap option_to_list (sym (confirmed.lingering d a));
   };
-  waiting =
+  pending =
       ap (filter (λ t. not ((ticket == t) || confirms h t))) (append-nil (tickets_of h))
       ∙ filter-not_or (λ t. ticket == t) (λ t. confirms h t) (tickets_of h)
-      ∙ ap (filter (λ t. not (ticket == t))) agrees.waiting
-      ∙ sym confirmed.waiting;
+      ∙ ap (filter (λ t. not (ticket == t))) agrees.pending
+      ∙ sym confirmed.pending;
 }
 
 -- what a row shows once the ticket is confirmed

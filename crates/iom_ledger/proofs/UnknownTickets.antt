@@ -9,7 +9,7 @@ use Rattle.iom_ledger.specs.declared.row.Row.{Row}
 use Rattle.iom_ledger.specs.declared.row.Pending.{Pending}
 use Rattle.iom_ledger.specs.declared.ledger.Ledger.{Ledger}
 use Rattle.iom_ledger.specs.Rows.{row_at, held_of, released_of, kept, names, ticket_of, is_named, AllNamed, DropsRows}
-use Rattle.iom_ledger.specs.Shown.{held_in, released_in, waiting_in, is_pooled}
+use Rattle.iom_ledger.specs.Shown.{held_in, released_in, pending_in, is_pooled}
 use Rattle.iom_ledger.specs.Changes.{IsUnchanged}
 use Rattle.iom_ledger.proofs.PendingLemmas.{any_names, is_other}
 
@@ -65,14 +65,14 @@ kept_absent s d a ticket (Some row) absent named = own row.ticket row.frame row.
     own (Some t) frame rights named = waits t frame rights (ticket == t) refl named
 
 pub IsUnchanged-confirmed : (old new : Ledger) (ticket : ℕ) → AllNamed old.devices old.pending.items → DropsRows old.devices new.devices ticket
-    → new.pending.items ≡ filter (is_other ticket) old.pending.items → new.counts.pool ≡ old.counts.pool → (Contains (waiting_in old) ticket → ⊥) → IsUnchanged old new
-unfolding held_in released_in waiting_in is_pooled
+    → new.pending.items ≡ filter (is_other ticket) old.pending.items → new.counts.pool ≡ old.counts.pool → (Contains (pending_in old) ticket → ⊥) → IsUnchanged old new
+unfolding held_in released_in pending_in is_pooled
 IsUnchanged-confirmed old new ticket named drops items same_pool absent =
     let none = not_among ticket (tickets old.pending.items) absent in
     let same : (d a : ℕ) → row_at new.devices d a ≡ row_at old.devices d a = λ d a. drops d a ∙ kept_absent old.pending.items d a ticket (row_at old.devices d a) none (named d a) in
     record {
       held = λ d a. ap held_of (same d a);
       lingering = λ d a. ap released_of (same d a);
-      waiting = ap tickets (items ∙ filter_absent ticket old.pending.items none);
+      pending = ap tickets (items ∙ filter_absent ticket old.pending.items none);
       pool = λ f. ap (λ pool. has pool f) same_pool;
     }

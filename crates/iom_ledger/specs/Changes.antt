@@ -2,7 +2,7 @@
 use Rattle.std.specs.Prelude.{◌≡◌, ℕ, false, not, ◌==◌, ◌&&◌, [], ◌∷◌, ◌++◌, filter, Option, None, Some, if◌then◌else◌}
 use Rattle.iom_ledger.specs.declared.ledger.Ledger.{Ledger}
 use Rattle.iom_ledger.specs.History.{Pair}
-use Rattle.iom_ledger.specs.Shown.{held_in, released_in, waiting_in, is_pooled}
+use Rattle.iom_ledger.specs.Shown.{held_in, released_in, pending_in, is_pooled}
 
 -- the same frames are in the pool
 abbrev pub SamePool : Ledger → Ledger → Type 0
@@ -12,20 +12,20 @@ SamePool old new = (f : ℕ) → is_pooled new f ≡ is_pooled old f
 pub record ShowsSame (old new : Ledger) : Type 0 where
   pub held : (d a : ℕ) → held_in new d a ≡ held_in old d a
   pub lingering : (d a : ℕ) → released_in new d a ≡ released_in old d a
-  pub waiting : waiting_in new ≡ waiting_in old
+  pub pending : pending_in new ≡ pending_in old
 
 -- nothing changes
 pub record IsUnchanged (old new : Ledger) : Type 0 where
   pub held : (d a : ℕ) → held_in new d a ≡ held_in old d a
   pub lingering : (d a : ℕ) → released_in new d a ≡ released_in old d a
-  pub waiting : waiting_in new ≡ waiting_in old
+  pub pending : pending_in new ≡ pending_in old
   pub pool : SamePool old new
 
 -- the pair is held at the page of the device, and nothing else changes
 pub record Grants (old new : Ledger) (device page : ℕ) (pair : Pair) : Type 0 where
   pub held : (d a : ℕ) → held_in new d a ≡ (if (device == d) && (page == a) then Some pair else held_in old d a)
   pub lingering : (d a : ℕ) → released_in new d a ≡ released_in old d a
-  pub waiting : waiting_in new ≡ waiting_in old
+  pub pending : pending_in new ≡ pending_in old
   pub pool : SamePool old new
 
 -- what was held and is released under the ticket, else what lingered already
@@ -38,7 +38,7 @@ pub record Releases (old new : Ledger) (device page ticket : ℕ) : Type 0 where
   pub held : (d a : ℕ) → held_in new d a ≡ (if (device == d) && (page == a) then None else held_in old d a)
   pub lingering : (d a : ℕ) → released_in new d a
       ≡ (if (device == d) && (page == a) then released_from (held_in old d a) ticket (released_in old d a) else released_in old d a)
-  pub waiting : waiting_in new ≡ waiting_in old ++ ticket ∷ []
+  pub pending : pending_in new ≡ pending_in old ++ ticket ∷ []
   pub pool : SamePool old new
 
 -- all that the device held lingers under the ticket, which waits, and nothing else changes
@@ -46,7 +46,7 @@ pub record ReleasesAll (old new : Ledger) (device ticket : ℕ) : Type 0 where
   pub held : (d a : ℕ) → held_in new d a ≡ (if device == d then None else held_in old d a)
   pub lingering : (d a : ℕ) → released_in new d a
       ≡ (if device == d then released_from (held_in old d a) ticket (released_in old d a) else released_in old d a)
-  pub waiting : waiting_in new ≡ waiting_in old ++ ticket ∷ []
+  pub pending : pending_in new ≡ pending_in old ++ ticket ∷ []
   pub pool : SamePool old new
 
 -- what lingers, unless it was released under the ticket
@@ -58,12 +58,12 @@ unless_under ticket (Some released) = if ticket == released.0 then None else Som
 pub record Confirms (old new : Ledger) (ticket : ℕ) : Type 0 where
   pub held : (d a : ℕ) → held_in new d a ≡ held_in old d a
   pub lingering : (d a : ℕ) → released_in new d a ≡ unless_under ticket (released_in old d a)
-  pub waiting : waiting_in new ≡ filter (λ t. not (ticket == t)) (waiting_in old)
+  pub pending : pending_in new ≡ filter (λ t. not (ticket == t)) (pending_in old)
   pub pool : SamePool old new
 
 -- the frame isn't in the pool any more, and nothing else changes
 pub record Reserves (old new : Ledger) (frame : ℕ) : Type 0 where
   pub held : (d a : ℕ) → held_in new d a ≡ held_in old d a
   pub lingering : (d a : ℕ) → released_in new d a ≡ released_in old d a
-  pub waiting : waiting_in new ≡ waiting_in old
+  pub pending : pending_in new ≡ pending_in old
   pub pool : (f : ℕ) → is_pooled new f ≡ (if frame == f then false else is_pooled old f)

@@ -1,6 +1,6 @@
 pub mod History
 pub mod Refusals
-pub mod Unconfirmed
+pub mod Pending
 pub mod Rows
 pub mod Counts
 pub mod Shown

@@ -6,7 +6,7 @@ use Rattle.iom_base.specs.declared.rights.Rights.{Rights}
 use Rattle.iom_base.specs.Rights.{r, rw}
 use Rattle.iom_ledger.specs.declared.ledger.Ledger.{Ledger}
 use Rattle.iom_ledger.specs.History.{History, Pair, held_at, lingering_at}
-use Rattle.iom_ledger.specs.Unconfirmed.{unconfirmed}
+use Rattle.iom_ledger.specs.Pending.{pending_of}
 use Rattle.iom_ledger.specs.Rows.{row_at, held_of, released_of}
 
 -- the pair that the device holds at the page
@@ -22,8 +22,8 @@ abbrev pub lingering_in : Ledger → ℕ → ℕ → Option Pair
 lingering_in ledger device page = option_map (λ released. released.1) (released_in ledger device page)
 
 -- the tickets under which something was released and that aren't confirmed, the oldest first
-unfoldable pub waiting_in : Ledger → List ℕ
-waiting_in ledger = map (λ release. release.ticket) ledger.pending.items
+unfoldable pub pending_in : Ledger → List ℕ
+pending_in ledger = map (λ release. release.ticket) ledger.pending.items
 
 -- whether the frame is in the pool: a frame of memory that isn't reserved
 unfoldable pub is_pooled : Ledger → ℕ → Bool
@@ -37,7 +37,7 @@ pub record AgreesAt (held : Option Pair) (released : Option (ℕ × Pair)) (hist
 -- the ledger shows what the history says: at each page of each device, and of the tickets
 pub record Agrees (ledger : Ledger) (history : History) : Type 0 where
   pub pages : (device page : ℕ) → AgreesAt (held_in ledger device page) (released_in ledger device page) history device page
-  pub waiting : unconfirmed history ≡ waiting_in ledger
+  pub pending : pending_of history ≡ pending_in ledger
 
 -- no pair that is held or lingers names the frame
 abbrev pub IsFreeIn : Ledger → ℕ → Type 0

@@ -1,7 +1,7 @@
-#![tactic(auto, unfolding(crate::specs::Shown::held_in, crate::specs::Shown::released_in, crate::specs::Shown::waiting_in, crate::specs::Shown::is_pooled))]
+#![tactic(auto, unfolding(crate::specs::Shown::held_in, crate::specs::Shown::released_in, crate::specs::Shown::pending_in, crate::specs::Shown::is_pooled))]
 
 ghost use Rattle.std.specs.Prelude.{◌≡◌};
-ghost use Rattle.iom_ledger.specs.declared.ledger.TheConstants.{MAX_WAITING};
+ghost use Rattle.iom_ledger.specs.declared.ledger.TheConstants.{MAX_PENDING};
 ghost use Rattle.iom_ledger.specs.Counts.{AreCounted};
 ghost use Rattle.iom_ledger.specs.Rows.{AllGranted, AllNamed};
 
@@ -16,7 +16,7 @@ use iom_base::{DeviceId, Rights};
 use std::alloc::{AllocError, Global};
 
 /// The most tickets that wait at a time.
-pub const MAX_WAITING: usize = 256;
+pub const MAX_PENDING: usize = 256;
 
 /// The grants of all devices, and the tickets that aren't confirmed.
 ///
@@ -29,7 +29,7 @@ pub struct Ledger {
     ghost granted: { AllGranted devices },
     ghost named: { AllNamed devices pending.items },
     ghost counted: { AreCounted devices counts.counts.items },
-    ghost room: { pending.capacity ≡ MAX_WAITING },
+    ghost room: { pending.capacity ≡ MAX_PENDING },
 }
 
 impl Ledger {
@@ -37,12 +37,12 @@ impl Ledger {
     ghost use Rattle.std.specs.Prelude.{IsTrue, IsSome, IfOk, OnOk, OnErr, MatchOption, Some, None};
     ghost use Rattle.iom_ledger.specs.declared.entry.Entry.TheVariants.{Granted, Released, AllReleased, Confirmed};
     ghost use Rattle.iom_ledger.specs.History.{History, Pair, confirms, held_at, lingering_at, Holds, Lingers, IsFree};
-    ghost use Rattle.iom_ledger.specs.Unconfirmed.{unconfirmed};
+    ghost use Rattle.iom_ledger.specs.Pending.{pending_of};
     ghost use Rattle.iom_ledger.specs.Shown.{Agrees, IsFreeIn, IsGrantable, NoneIsOffered, IsHighestOffered};
-    ghost use Rattle.iom_ledger.specs.Shown.{held_in, released_in, lingering_in, waiting_in, is_pooled};
+    ghost use Rattle.iom_ledger.specs.Shown.{held_in, released_in, lingering_in, pending_in, is_pooled};
     ghost use Rattle.iom_ledger.specs.Changes.{IsUnchanged, Grants, Releases, ReleasesAll, Confirms, Reserves};
 
-    /// A ledger of no grants, whose pool is all of so many frames. Makes the room of [`MAX_WAITING`]
+    /// A ledger of no grants, whose pool is all of so many frames. Makes the room of [`MAX_PENDING`]
     /// tickets, so that no release takes memory, and of a count for each of the frames. A grant of a frame
     /// beyond makes more.
     pub fn new(alloc: Global, frames: u32) -> Result<Ledger, AllocError>
@@ -52,7 +52,7 @@ impl Ledger {
         Ok(Ledger {
             devices: IndexMap::new(alloc),
             counts: RowCounts::new(alloc, frames)?,
-            pending: HeapCircularBuffer::with_capacity(alloc, MAX_WAITING)?,
+            pending: HeapCircularBuffer::with_capacity(alloc, MAX_PENDING)?,
         })
     }
 
@@ -123,10 +123,10 @@ impl Ledger {
     }
 
     /// The number of tickets under which something was released and that aren't confirmed.
-    pub fn waiting(&self) -> usize
-        ensures shown { result ≡ length (waiting_in self.now) }
-        ensures unconfirmed { (h : History) → Agrees self.now h → result ≡ length (unconfirmed h) }
-        ensures within { result ≤ MAX_WAITING }
+    pub fn pending(&self) -> usize
+        ensures shown { result ≡ length (pending_in self.now) }
+        ensures pending { (h : History) → Agrees self.now h → result ≡ length (pending_of h) }
+        ensures within { result ≤ MAX_PENDING }
     {
         self.pending.len()
     }
@@ -161,7 +161,7 @@ impl Ledger {
     /// memory.
     pub fn release(&mut self, device: DeviceId, page: u64, ticket: u32)
         requires held { IsSome (held_in self.old device page) }
-        requires room { length (waiting_in self.old) < MAX_WAITING }
+        requires room { length (pending_in self.old) < MAX_PENDING }
         ensures agrees { (h : History) → Agrees self.old h → confirms h ticket ≡ false → Agrees self.new (Released device page ticket ∷ h) }
         ensures released { Releases self.old self.new device page ticket }
     {
@@ -177,7 +177,7 @@ impl Ledger {
     /// Releases all that the device holds, under a ticket that isn't confirmed yet. The ticket waits
     /// even where the device holds nothing. Takes no memory.
     pub fn release_all(&mut self, device: DeviceId, ticket: u32)
-        requires { length (waiting_in self.old) < MAX_WAITING }
+        requires { length (pending_in self.old) < MAX_PENDING }
         ensures agrees { (h : History) → Agrees self.old h → confirms h ticket ≡ false → Agrees self.new (AllReleased device ticket ∷ h) }
         ensures released { ReleasesAll self.old self.new device ticket }
     {
@@ -195,7 +195,7 @@ impl Ledger {
     pub fn confirm(&mut self, ticket: u32)
         ensures agrees { (h : History) → Agrees self.old h → Agrees self.new (Confirmed ticket ∷ h) }
         ensures confirmed { Confirms self.old self.new ticket }
-        ensures unknown { ¬ Contains (waiting_in self.old) ticket → IsUnchanged self.old self.new }
+        ensures unknown { ¬ Contains (pending_in self.old) ticket → IsUnchanged self.old self.new }
     {
         confirm_in(
             &mut self.devices,

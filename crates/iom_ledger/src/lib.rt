@@ -24,7 +24,7 @@ mod ring;
 mod row;
 
 pub use entry::Entry;
-pub use ledger::{Ledger, MAX_WAITING};
+pub use ledger::{Ledger, MAX_PENDING};
 pub use refusal::Refusal;
 
 #[cfg(test)]

@@ -61,12 +61,12 @@ fn bring_about(ledger: &mut Ledger, entry: Entry) -> Result<(), Fail> {
             page,
             ticket,
         } => {
-            if ledger.holds(device, page).is_some() && ledger.waiting() < MAX_WAITING {
+            if ledger.holds(device, page).is_some() && ledger.pending() < MAX_PENDING {
                 ledger.release(device, page, ticket);
             }
         }
         Entry::AllReleased { device, ticket } => {
-            if ledger.waiting() < MAX_WAITING {
+            if ledger.pending() < MAX_PENDING {
                 ledger.release_all(device, ticket);
             }
         }
@@ -120,7 +120,7 @@ fn answers(alloc: Global, ledger: &Ledger) -> Result<String, AllocError> {
         (2, ledger.lingers_anything(2)),
     ];
     let lingers = numbers_text(alloc, &lingering)?;
-    let waiting = ledger.waiting();
+    let waiting = ledger.pending();
     let pages = format!(in alloc; "{first} {second} {other}")?;
     let devices = format!(in alloc; "holds{holds} lingers{lingers}")?;
     format!(in alloc; "{pages} free{free} {devices} waiting {waiting}")

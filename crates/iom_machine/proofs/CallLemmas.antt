@@ -28,9 +28,9 @@ none_if_not_some (Some x) e = cc
 pub granted_as : (taken : List ℕ) (old : State) (id page frame : ℕ) (rights : Rights) (history : History) (frames : List Frame)
     → NoneApplies (grant_reasons old id page frame) → IsGrantable rights → All (IsFreeBesides old (Some frame)) taken
     → history ≡ entries.Granted id page frame rights ∷ old.history → frames ≡ reserved_for (OneDevice id) taken old.frames
-    → (new : State) → (◌≡◌ {A = Option State} (Some (record { levels = old.levels; frames = frames; history = history; tickets = old.tickets; devices = old.devices })) (Some new)) ↔ Grants taken old id page frame rights Done new
+    → (new : State) → (◌≡◌ {A = Option State} (Some (record { levels = old.levels; frames = frames; history = history; last_ticket = old.last_ticket; devices = old.devices })) (Some new)) ↔ Grants taken old id page frame rights Done new
 granted_as taken old id page frame rights history frames none right free h f new =
-    let next : State = record { levels = old.levels; frames = frames; history = history; tickets = old.tickets; devices = old.devices } in
+    let next : State = record { levels = old.levels; frames = frames; history = history; last_ticket = old.last_ticket; devices = old.devices } in
     let is : next ≡ record old { history = entries.Granted id page frame rights ∷ old.history; frames = reserved_for (OneDevice id) taken old.frames } = rw (h, f) refl in (
       (λ same. (none, right, free, sym (only_state next new same) ∙ is)),
       (λ step. some_state next new (is ∙ sym step.3)),
@@ -44,9 +44,9 @@ attached_state taken old id mode ats device =
 pub attached_as : (taken : List ℕ) (old : State) (id : ℕ) (mode : Mode) (ats : Bool) (place : ℕ) (device : Device) (devices : List Device) (frames : List Frame)
     → NoneApplies (attach_reasons old id ats) → All (IsFreeBesides old None) taken → IsPlaceOf old.devices id place → slice_get old.devices place ≡ Some device
     → devices ≡ slice_set old.devices place (record device { attachment = Attached mode ats }) → frames ≡ reserved_for (OneDevice id) taken old.frames
-    → (new : State) → (◌≡◌ {A = Option State} (Some (record { levels = old.levels; frames = frames; history = old.history; tickets = old.tickets; devices = devices })) (Some new)) ↔ Attaches taken old id mode ats Done new
+    → (new : State) → (◌≡◌ {A = Option State} (Some (record { levels = old.levels; frames = frames; history = old.history; last_ticket = old.last_ticket; devices = devices })) (Some new)) ↔ Attaches taken old id mode ats Done new
 attached_as taken old id mode ats place device devices frames none free is_place at d f new =
-    let next : State = record { levels = old.levels; frames = frames; history = old.history; tickets = old.tickets; devices = devices } in
+    let next : State = record { levels = old.levels; frames = frames; history = old.history; last_ticket = old.last_ticket; devices = devices } in
     let own = own_place old.devices id place device is_place at in
     let now : Device = record device { attachment = Attached mode ats } in
     let is : next ≡ attached_state taken old id mode ats device = rw (d, f, own.2 now) refl in
@@ -63,9 +63,9 @@ not_attached_as taken old id mode ats never new =
 -- the state after a poll
 pub confirmed_as : (old : State) (first last : ℕ) (history : History) → AreNextTickets old first last → history ≡ confirmed_from first (suc (last - first)) old.history
     → All (DeviceMay history) old.devices
-    → (new : State) → (◌≡◌ {A = Option State} (Some (record { levels = old.levels; frames = old.frames; history = history; tickets = old.tickets; devices = old.devices })) (Some new)) ↔ Polls old (Confirmed first last) new
+    → (new : State) → (◌≡◌ {A = Option State} (Some (record { levels = old.levels; frames = old.frames; history = history; last_ticket = old.last_ticket; devices = old.devices })) (Some new)) ↔ Polls old (Confirmed first last) new
 confirmed_as old first last history tickets extended may new =
-    let next : State = record { levels = old.levels; frames = old.frames; history = history; tickets = old.tickets; devices = old.devices } in
+    let next : State = record { levels = old.levels; frames = old.frames; history = history; last_ticket = old.last_ticket; devices = old.devices } in
     let is : next ≡ with_confirmed old first last = rw extended refl in (
       (λ same. (tickets, sym (only_state next new same) ∙ is, subst EachInFlightMay (only_state next new same) may)),
       (λ step. some_state next new (is ∙ sym step.1)),

@@ -20,7 +20,7 @@ use Rattle.iom_machine.specs.declared.state.Attachment.{Attachment}
 use Rattle.iom_machine.specs.declared.state.Attachment.TheVariants.{Detached, Attached, Quarantined, Leaving}
 use Rattle.iom_machine.specs.declared.state.Device.{Device}
 use Rattle.iom_machine.specs.declared.state.Frame.{Frame}
-use Rattle.iom_machine.specs.declared.state.InFlight.{InFlight}
+use Rattle.iom_machine.specs.declared.state.AcceptedAccess.{AcceptedAccess}
 use Rattle.iom_machine.specs.declared.state.Mode.TheVariants.{First, Second, Both}
 use Rattle.iom_machine.specs.declared.state.State.{State}
 use Rattle.iom_machine.specs.Frames.{bytes_of, stored, written}
@@ -38,7 +38,7 @@ pub in_flight_may : (state : State) → IsReached state → EachInFlightMay stat
 in_flight_may state reached = (sound_if_reached state reached).reaches
 
 -- the bytes that are named lie in the frame, where it is there
-named_in : (frame : Frame) (made : InFlight) (bytes : List ℕ) → length frame.bytes ≡ 4096 → IsWithinPage made.access
+named_in : (frame : Frame) (made : AcceptedAccess) (bytes : List ℕ) → length frame.bytes ≡ 4096 → IsWithinPage made.access
     → bytes ≡ slice_range frame.bytes (offset_of made.access) (offset_of made.access + made.access.len)
     → (length bytes ≡ made.access.len) × ((k : ℕ) → k < made.access.len → slice_get bytes k ≡ slice_get frame.bytes (offset_of made.access + k))
 named_in frame made bytes long within same =
@@ -58,14 +58,14 @@ element_at (x ∷ xs) zero below = (x, refl)
 element_at (x ∷ xs) (suc k) below = let rest = element_at xs k (omega arith) in (rest.0, rest.1)
 
 -- the frame of an access in flight is there, with a page of bytes
-frame_there : (state : State) → IsSound state → (id : ℕ) (made : InFlight) → May state.history id made.frame made.access.kind
+frame_there : (state : State) → IsSound state → (id : ℕ) (made : AcceptedAccess) → May state.history id made.frame made.access.kind
     → (frame : Frame) × (slice_get state.frames made.frame ≡ Some frame) × (length frame.bytes ≡ 4096)
 frame_there state sound id made may =
     let found = element_at state.frames made.frame (sound.in_memory id made.frame made.access.kind may) in
     (found.0, found.1, All-at (λ (f : Frame). length f.bytes ≡ 4096) state.frames made.frame found.0 sound.frames found.1)
 
 -- the facts of the access that a commit makes
-made_facts : (state : State) → IsSound state → (id : ℕ) (device : Device) (made : InFlight) → device_of state id ≡ Some device → slice_get device.in_flight 0 ≡ Some made
+made_facts : (state : State) → IsSound state → (id : ℕ) (device : Device) (made : AcceptedAccess) → device_of state id ≡ Some device → slice_get device.in_flight 0 ≡ Some made
     → IsWhole id made × May state.history device.id made.frame made.access.kind
 made_facts state sound id device made at first = (
   All-at (λ flying. IsWhole device.id flying) device.in_flight 0 made (AllInFlight-of IsWhole state.devices id device at sound.whole) first,
@@ -92,7 +92,7 @@ bytes_elsewhere frames number other offset bytes differ = by (slice_get frames n
         (slice_get-set_other frames number other (record frame { bytes = written frame.bytes offset bytes }) differ)
 
 -- a store touches its named bytes alone
-stores_its_own : (frames : List Frame) (made : InFlight) (frame : Frame) → slice_get frames made.frame ≡ Some frame → length frame.bytes ≡ 4096 → IsWithinPage made.access
+stores_its_own : (frames : List Frame) (made : AcceptedAccess) (frame : Frame) → slice_get frames made.frame ≡ Some frame → length frame.bytes ≡ 4096 → IsWithinPage made.access
     → length made.access.bytes ≡ made.access.len
     → AreNamedBytes (stored frames made.frame (offset_of made.access) made.access.bytes) made made.access.bytes
     × ((number offset : ℕ) → IsOutside made number offset → byte_at (stored frames made.frame (offset_of made.access) made.access.bytes) number offset ≡ byte_at frames number offset)
@@ -242,7 +242,7 @@ free-change event outcome old new frame (Change.grants id page named rights gran
     subst (λ h. ledger.IsFree h frame) (sym extended)
     (free_after (entries.Granted id page named rights) old.history frame (λ same. other (subst (GrantsFrame event outcome) same granted)) free)
 free-change event outcome old new frame (Change.releases id page extended next) other free =
-    subst (λ h. ledger.IsFree h frame) (sym extended) (free_after (entries.Released id page new.tickets) old.history frame (λ x. x) free)
+    subst (λ h. ledger.IsFree h frame) (sym extended) (free_after (entries.Released id page new.last_ticket) old.history frame (λ x. x) free)
 free-change event outcome old new frame (Change.confirms_some first n most extended tickets reaches) other free =
     subst (λ h. ledger.IsFree h frame) (sym extended) (free_confirmed first n old.history frame free)
 
@@ -256,7 +256,7 @@ free-run old new [] (outcome ∷ outcomes) frame run none free = absurd run
 free-run old new (event ∷ events) [] frame run none free = absurd run
 
 -- what a commit makes may be reached
-made_may : (old new : State) (id frame : ℕ) (outcome : Outcome) (made : InFlight) → IsSound old → IsOldest old id made → made.frame ≡ frame → ledger.IsFree old.history frame → ⊥
+made_may : (old new : State) (id frame : ℕ) (outcome : Outcome) (made : AcceptedAccess) → IsSound old → IsOldest old id made → made.frame ≡ frame → ledger.IsFree old.history frame → ⊥
 made_may old new id frame outcome made sound (device, at, first) on free =
     free device.id made.access.kind (subst (λ f. May old.history device.id f made.access.kind) on (made_facts old sound id device made at first).1)
 
@@ -269,7 +269,7 @@ untouched old new _ _ frame sound free touches = absurd touches
 makes_of : (state : State) → IsSound state → (id : ℕ) (device : Device) → device_of state id ≡ Some device → (outcome : Outcome) × (new : State) × Makes state device outcome new
 makes_of state sound id device at = by device.in_flight refl
   where
-    of_kind : (made : InFlight) (kind : AccessKind) → made.access.kind ≡ kind → slice_get device.in_flight 0 ≡ Some made → May state.history device.id made.frame made.access.kind
+    of_kind : (made : AcceptedAccess) (kind : AccessKind) → made.access.kind ≡ kind → slice_get device.in_flight 0 ≡ Some made → May state.history device.id made.frame made.access.kind
         → (outcome : Outcome) × (new : State) × Makes state device outcome new
     of_kind made kinds.Read same first may = (
       Read (record { items = slice_range (bytes_of state.frames made.frame) (offset_of made.access) (offset_of made.access + made.access.len) }),
@@ -282,10 +282,10 @@ makes_of state sound id device at = by device.in_flight refl
       rw first ((same, subst (May state.history device.id made.frame) same may, refl), refl),
     )
 
-    by : (in_flight : List InFlight) → device.in_flight ≡ in_flight → (outcome : Outcome) × (new : State) × Makes state device outcome new
+    by : (in_flight : List AcceptedAccess) → device.in_flight ≡ in_flight → (outcome : Outcome) × (new : State) × Makes state device outcome new
     by [] none = (NothingInFlight, state, (none, refl))
     by (made ∷ rest) some =
-        let first : slice_get device.in_flight 0 ≡ Some made = ap (λ (l : List InFlight). slice_get l 0) some in
+        let first : slice_get device.in_flight 0 ≡ Some made = ap (λ (l : List AcceptedAccess). slice_get l 0) some in
         of_kind made made.access.kind refl first (made_facts state sound id device made at first).1
 
 pub commits_are_answered : (state : State) (id : ℕ) → IsReached state → (outcome : Outcome) × (new : State) × Step state (events.Commit id) outcome new

@@ -14,7 +14,7 @@ use Rattle.iom_machine.specs.declared.state.Access.{Access}
 use Rattle.iom_machine.specs.declared.state.Attachment.{Attachment}
 use Rattle.iom_machine.specs.declared.state.Attachment.TheVariants.{Detached, Attached, Quarantined, Leaving}
 use Rattle.iom_machine.specs.declared.state.Device.{Device}
-use Rattle.iom_machine.specs.declared.state.InFlight.{InFlight}
+use Rattle.iom_machine.specs.declared.state.AcceptedAccess.{AcceptedAccess}
 use Rattle.iom_machine.specs.declared.state.Mode.TheVariants.{First, Second, Both}
 use Rattle.iom_machine.specs.declared.state.State.{State}
 use Rattle.iom_machine.specs.Devices.{device_of, replaced_device}
@@ -41,11 +41,11 @@ All-rest P [] all = all
 All-rest P (x ∷ xs) all = All-tail P x xs all
 
 -- a fact of each access in flight, with its device's id
-abbrev pub AllInFlight : (ℕ → InFlight → Type 0) → List Device → Type 0
+abbrev pub AllInFlight : (ℕ → AcceptedAccess → Type 0) → List Device → Type 0
 AllInFlight P devices = All (λ device. All (P device.id) device.in_flight) devices
 
 -- the access may still reach its frame
-abbrev pub StillMay : History → ℕ → InFlight → Type 0
+abbrev pub StillMay : History → ℕ → AcceptedAccess → Type 0
 StillMay history id flying = May history id flying.frame flying.access.kind
 
 -- the device that is found is there, with its id
@@ -61,7 +61,7 @@ found_device (d ∷ devices) id device at = by (d.id == id) refl at (found_devic
     by false e at rest = (contains_tail d devices device (rest at).0, (rest at).1)
 
 -- where one device is changed
-pub AllInFlight-with : (P : ℕ → InFlight → Type 0) (devices : List Device) (id : ℕ) (now : Device) → AllInFlight P devices → All (P now.id) now.in_flight
+pub AllInFlight-with : (P : ℕ → AcceptedAccess → Type 0) (devices : List Device) (id : ℕ) (now : Device) → AllInFlight P devices → All (P now.id) now.in_flight
     → AllInFlight P (replaced_device devices id now)
 AllInFlight-with P [] id now all changed = all
 AllInFlight-with P (device ∷ others) id now all changed = by (device.id == id) (AllInFlight-with P others id now (All-tail (λ (d : Device). All (P d.id) d.in_flight) device others all) changed)
@@ -71,12 +71,12 @@ AllInFlight-with P (device ∷ others) id now all changed = by (device.id == id)
     by false rest = All-cons (λ (d : Device). All (P d.id) d.in_flight) device (replaced_device others id now) (All-head (λ (d : Device). All (P d.id) d.in_flight) device others all) rest
 
 -- the facts of one device's accesses
-pub AllInFlight-of : (P : ℕ → InFlight → Type 0) (devices : List Device) (id : ℕ) (device : Device) → find (λ d. d.id == id) devices ≡ Some device → AllInFlight P devices
+pub AllInFlight-of : (P : ℕ → AcceptedAccess → Type 0) (devices : List Device) (id : ℕ) (device : Device) → find (λ d. d.id == id) devices ≡ Some device → AllInFlight P devices
     → All (P device.id) device.in_flight
 AllInFlight-of P devices id device at all = All-contains (λ (d : Device). All (P d.id) d.in_flight) devices device all (found_device devices id device at).0
 
 -- a weaker fact
-pub AllInFlight-weaker : (P Q : ℕ → InFlight → Type 0) → ((id : ℕ) (flying : InFlight) → P id flying → Q id flying) → (devices : List Device) → AllInFlight P devices → AllInFlight Q devices
+pub AllInFlight-weaker : (P Q : ℕ → AcceptedAccess → Type 0) → ((id : ℕ) (flying : AcceptedAccess) → P id flying → Q id flying) → (devices : List Device) → AllInFlight P devices → AllInFlight Q devices
 AllInFlight-weaker P Q says devices all =
     All-weaker (λ (d : Device). All (P d.id) d.in_flight) (λ (d : Device). All (Q d.id) d.in_flight) (λ d h. All-weaker (P d.id) (Q d.id) (says d.id) d.in_flight h) devices all
 
@@ -100,7 +100,7 @@ pub accepted_if : (event : Event) (outcome : Outcome) (id : ℕ) (access : Acces
 accepted_if event (Accepted number) id access asks accepts = asks
 accepted_if event _ id access asks never = absurd never
 
-in_flight-answer : (P : ℕ → InFlight → Type 0) (chosen : ℕ) (old new : State) (id : ℕ) (device : Device) (access : Access) (outcome : Outcome) → device_of old id ≡ Some device
+in_flight-answer : (P : ℕ → AcceptedAccess → Type 0) (chosen : ℕ) (old new : State) (id : ℕ) (device : Device) (access : Access) (outcome : Outcome) → device_of old id ≡ Some device
     → MayAnswer old device access chosen outcome → new ≡ answered old device access chosen outcome
     → (IsAcceptance outcome → IsWithinPage access → May old.history id chosen access.kind → P id (record { access = access; frame = chosen }))
     → AllInFlight P old.devices → AllInFlight P new.devices
@@ -116,7 +116,7 @@ in_flight-answer P chosen old new id device access Busy at answer same enters al
 in_flight-answer P chosen old new id device access (Fault cause) at answer same enters all = subst (λ (s : State). AllInFlight P s.devices) (sym same) all
 in_flight-answer P chosen old new id device access _ at answer same enters all = absurd answer
 
-in_flight-requests : (P : ℕ → InFlight → Type 0) (chosen : ℕ) (old new : State) (id : ℕ) (access : Access) (outcome : Outcome) → Requests chosen old id access outcome new
+in_flight-requests : (P : ℕ → AcceptedAccess → Type 0) (chosen : ℕ) (old new : State) (id : ℕ) (access : Access) (outcome : Outcome) → Requests chosen old id access outcome new
     → (IsAcceptance outcome → IsWithinPage access → May old.history id chosen access.kind → P id (record { access = access; frame = chosen }))
     → AllInFlight P old.devices → AllInFlight P new.devices
 in_flight-requests P chosen old new id access outcome step enters all = elim (match_cases (device_of old id) _ _ step) [
@@ -125,12 +125,12 @@ in_flight-requests P chosen old new id access outcome step enters all = elim (ma
 ]
 
 -- where the oldest access of a device is made
-in_flight-made : (P : ℕ → InFlight → Type 0) (old : State) (id : ℕ) (device : Device) → device_of old id ≡ Some device → AllInFlight P old.devices
+in_flight-made : (P : ℕ → AcceptedAccess → Type 0) (old : State) (id : ℕ) (device : Device) → device_of old id ≡ Some device → AllInFlight P old.devices
     → AllInFlight P (replaced_device old.devices device.id (record device { in_flight = drop 1 device.in_flight }))
 in_flight-made P old id device at all =
     AllInFlight-with P old.devices device.id _ all (All-rest (P device.id) device.in_flight (AllInFlight-of P old.devices id device at all))
 
-in_flight-makes : (P : ℕ → InFlight → Type 0) (old new : State) (id : ℕ) (device : Device) (outcome : Outcome) → device_of old id ≡ Some device → Makes old device outcome new
+in_flight-makes : (P : ℕ → AcceptedAccess → Type 0) (old new : State) (id : ℕ) (device : Device) (outcome : Outcome) → device_of old id ≡ Some device → Makes old device outcome new
     → AllInFlight P old.devices → AllInFlight P new.devices
 in_flight-makes P old new id device (Read bytes) at makes all =
     let made = some_case (slice_get device.in_flight 0) _ makes in
@@ -141,19 +141,19 @@ in_flight-makes P old new id device (Wrote len) at makes all =
 in_flight-makes P old new id device NothingInFlight at makes all = subst (λ (s : State). AllInFlight P s.devices) (sym makes.1) all
 in_flight-makes P old new id device _ at makes all = absurd makes
 
-in_flight-commits : (P : ℕ → InFlight → Type 0) (old new : State) (id : ℕ) (outcome : Outcome) → Commits old id outcome new → AllInFlight P old.devices → AllInFlight P new.devices
+in_flight-commits : (P : ℕ → AcceptedAccess → Type 0) (old new : State) (id : ℕ) (outcome : Outcome) → Commits old id outcome new → AllInFlight P old.devices → AllInFlight P new.devices
 in_flight-commits P old new id outcome step all = elim (match_cases (device_of old id) _ _ step) [
   | inl (none, same) ↦ subst (λ (s : State). AllInFlight P s.devices) (sym same.1) all
   | inr (device, at, makes) ↦ in_flight-makes P old new id device outcome at makes all
 ]
 
 -- the devices stay
-devices_stay : (P : ℕ → InFlight → Type 0) (old new : State) → new.devices ≡ old.devices → AllInFlight P old.devices → AllInFlight P new.devices
+devices_stay : (P : ℕ → AcceptedAccess → Type 0) (old new : State) → new.devices ≡ old.devices → AllInFlight P old.devices → AllInFlight P new.devices
 devices_stay P old new same all = subst (AllInFlight P) (sym same) all
 
 -- A step keeps each fact of each access in flight, where it is true of those that enter.
-pub in_flight-step : (P : ℕ → InFlight → Type 0) (old new : State) (event : Event) (outcome : Outcome) → Step old event outcome new
-    → ((id : ℕ) (flying : InFlight) → IsAccepted event outcome id flying.access → IsWithinPage flying.access → StillMay old.history id flying → P id flying)
+pub in_flight-step : (P : ℕ → AcceptedAccess → Type 0) (old new : State) (event : Event) (outcome : Outcome) → Step old event outcome new
+    → ((id : ℕ) (flying : AcceptedAccess) → IsAccepted event outcome id flying.access → IsWithinPage flying.access → StillMay old.history id flying → P id flying)
     → AllInFlight P old.devices → AllInFlight P new.devices
 in_flight-step P old new (events.PlugRaw id) Done (choice, step) enters all =
     subst (λ (s : State). AllInFlight P s.devices) (sym step.1) (All-push (λ (d : Device). All (P d.id) d.in_flight) old.devices _ all (All-nil (P id)))

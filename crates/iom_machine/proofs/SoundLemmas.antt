@@ -20,7 +20,7 @@ use Rattle.iom_machine.specs.declared.outcome.Outcome.TheVariants.{Done, Refused
 use Rattle.iom_machine.specs.declared.state.Access.{Access}
 use Rattle.iom_machine.specs.declared.state.Device.{Device}
 use Rattle.iom_machine.specs.declared.state.Frame.{Frame}
-use Rattle.iom_machine.specs.declared.state.InFlight.{InFlight}
+use Rattle.iom_machine.specs.declared.state.AcceptedAccess.{AcceptedAccess}
 use Rattle.iom_base.specs.declared.owner.Owner.{Owner}
 use Rattle.iom_base.specs.declared.owner.Owner.TheVariants.{System, OneDevice}
 use Rattle.iom_machine.specs.declared.state.State.{State}
@@ -36,7 +36,7 @@ use Rattle.iom_machine.proofs.ByteLemmas.{length-written}
 use Rattle.iom_machine.proofs.InFlightLemmas.{match_cases, some_case, All-at, AllInFlight, AllInFlight-of, AllInFlight-weaker, StillMay, in_flight-step}
 
 -- an access that stays within its page, and a write with as many bytes as it names
-abbrev pub IsWhole : ℕ → InFlight → Type 0
+abbrev pub IsWhole : ℕ → AcceptedAccess → Type 0
 IsWhole id flying = IsWithinPage flying.access × (flying.access.kind ≡ kinds.Write → length flying.access.bytes ≡ flying.access.len)
 
 -- the frames have a page of bytes each
@@ -55,7 +55,7 @@ AreInMemory history size = (device frame : ℕ) (kind : AccessKind) → May hist
 pub record IsSound (state : State) : Type 0 where
   pub reaches : AllInFlight (StillMay state.history) state.devices
   pub whole : AllInFlight IsWhole state.devices
-  pub tickets : WereGiven state.history state.tickets
+  pub tickets : WereGiven state.history state.last_ticket
   pub frames : AreWholeFrames state.frames
   pub in_memory : AreInMemory state.history (length state.frames)
 
@@ -129,10 +129,10 @@ same_history P old new same fact = subst P (sym same) fact
 
 -- what requests and commits leave as it was: history, tickets
 abbrev pub SameLedger : State → State → Type 0
-SameLedger old new = (new.history ≡ old.history) × (new.tickets ≡ old.tickets)
+SameLedger old new = (new.history ≡ old.history) × (new.last_ticket ≡ old.last_ticket)
 
 all_same : (old new : State) → new ≡ old → SameLedger old new
-all_same old new same = (ap (λ (s : State). s.history) same, ap (λ (s : State). s.tickets) same)
+all_same old new same = (ap (λ (s : State). s.history) same, ap (λ (s : State). s.last_ticket) same)
 
 same_ledger-requests : (chosen : ℕ) (old new : State) (id : ℕ) (access : Access) (outcome : Outcome) → Requests chosen old id access outcome new → SameLedger old new
 same_ledger-requests chosen old new id access outcome step = elim (match_cases (device_of old id) _ _ step) [
@@ -141,7 +141,7 @@ same_ledger-requests chosen old new id access outcome step = elim (match_cases (
 ]
   where
     by : (device : Device) (outcome : Outcome) → new ≡ answered old device access chosen outcome → SameLedger old new
-    by device (Accepted number) same = (ap (λ (s : State). s.history) same, ap (λ (s : State). s.tickets) same)
+    by device (Accepted number) same = (ap (λ (s : State). s.history) same, ap (λ (s : State). s.last_ticket) same)
     by device _ same = all_same old new same
 
 same_ledger-commits : (old new : State) (id : ℕ) (outcome : Outcome) → Commits old id outcome new → SameLedger old new
@@ -151,43 +151,43 @@ same_ledger-commits old new id outcome step = elim (match_cases (device_of old i
 ]
   where
     by : (device : Device) (outcome : Outcome) → Makes old device outcome new → SameLedger old new
-    by device (Read bytes) makes = let made = some_case (slice_get device.in_flight 0) _ makes in (ap (λ (s : State). s.history) made.2.1, ap (λ (s : State). s.tickets) made.2.1)
-    by device (Wrote len) makes = let made = some_case (slice_get device.in_flight 0) _ makes in (ap (λ (s : State). s.history) made.2.1, ap (λ (s : State). s.tickets) made.2.1)
+    by device (Read bytes) makes = let made = some_case (slice_get device.in_flight 0) _ makes in (ap (λ (s : State). s.history) made.2.1, ap (λ (s : State). s.last_ticket) made.2.1)
+    by device (Wrote len) makes = let made = some_case (slice_get device.in_flight 0) _ makes in (ap (λ (s : State). s.history) made.2.1, ap (λ (s : State). s.last_ticket) made.2.1)
     by device NothingInFlight makes = all_same old new makes.1
     by device _ makes = absurd makes
 
 -- How a step changes the ledger.
 pub data Change (event : Event) (outcome : Outcome) (old new : State) : Type 0 where
   ledger_stays : SameLedger old new → Change event outcome old new
-  grants : (id page frame : ℕ) (rights : Rights) → GrantsFrame event outcome frame → frame < length old.frames → held_at old.history id page ≡ None → new.history ≡ entries.Granted id page frame rights ∷ old.history → new.tickets ≡ old.tickets → Change event outcome old new
-  releases : (id page : ℕ) → new.history ≡ entries.Released id page new.tickets ∷ old.history → new.tickets ≡ old.tickets + 1 → Change event outcome old new
-  confirms_some : (first n : ℕ) → first + n ≤ old.tickets + 1 → new.history ≡ confirmed_from first n old.history → new.tickets ≡ old.tickets → EachInFlightMay new → Change event outcome old new
+  grants : (id page frame : ℕ) (rights : Rights) → GrantsFrame event outcome frame → frame < length old.frames → held_at old.history id page ≡ None → new.history ≡ entries.Granted id page frame rights ∷ old.history → new.last_ticket ≡ old.last_ticket → Change event outcome old new
+  releases : (id page : ℕ) → new.history ≡ entries.Released id page new.last_ticket ∷ old.history → new.last_ticket ≡ old.last_ticket + 1 → Change event outcome old new
+  confirms_some : (first n : ℕ) → first + n ≤ old.last_ticket + 1 → new.history ≡ confirmed_from first n old.history → new.last_ticket ≡ old.last_ticket → EachInFlightMay new → Change event outcome old new
 
 unchanged : (event : Event) (outcome : Outcome) (old new : State) → new ≡ old → Change event outcome old new
 unchanged event outcome old new same = Change.ledger_stays (all_same old new same)
 
 pub change-step : (old new : State) (event : Event) (outcome : Outcome) → Step old event outcome new → Change event outcome old new
-change-step old new (events.PlugRaw id) Done (choice, step) = Change.ledger_stays (ap (λ (s : State). s.history) step.1, ap (λ (s : State). s.tickets) step.1)
+change-step old new (events.PlugRaw id) Done (choice, step) = Change.ledger_stays (ap (λ (s : State). s.history) step.1, ap (λ (s : State). s.last_ticket) step.1)
 change-step old new (events.PlugRaw id) (Refused why) (choice, step) = unchanged _ _ old new step.1
 change-step old new (events.PlugRaw id) _ (choice, step) = absurd step
 change-step old new (events.AttachFirst id) Done (choice, step) =
-    let found = some_case (device_of old id) _ step.2 in Change.ledger_stays (ap (λ (s : State). s.history) found.2, ap (λ (s : State). s.tickets) found.2)
+    let found = some_case (device_of old id) _ step.2 in Change.ledger_stays (ap (λ (s : State). s.history) found.2, ap (λ (s : State). s.last_ticket) found.2)
 change-step old new (events.AttachFirst id) (Refused why) (choice, step) = unchanged _ _ old new step.1
 change-step old new (events.AttachFirst id) _ (choice, step) = absurd step
 change-step old new (events.Grant id page frame rights) Done (choice, step) =
-    Change.grants id page frame rights refl (grant_in_memory old id page frame step.0) (grant_finds_nothing old id page frame step.0) (ap (λ (s : State). s.history) step.3) (ap (λ (s : State). s.tickets) step.3)
+    Change.grants id page frame rights refl (grant_in_memory old id page frame step.0) (grant_finds_nothing old id page frame step.0) (ap (λ (s : State). s.history) step.3) (ap (λ (s : State). s.last_ticket) step.3)
 change-step old new (events.Grant id page frame rights) (Refused why) (choice, step) = unchanged _ _ old new step.1
 change-step old new (events.Grant id page frame rights) _ (choice, step) = absurd step
 change-step old new (events.Release id page) (Ticket ticket) (choice, step) =
-    let given : new.tickets ≡ ticket = ap (λ (s : State). s.tickets) step.2 in
+    let given : new.last_ticket ≡ ticket = ap (λ (s : State). s.last_ticket) step.2 in
     Change.releases id page (ap (λ (s : State). s.history) step.2 ∙ ap (λ t. entries.Released id page t ∷ old.history) (sym given)) (given ∙ step.1)
 change-step old new (events.Release id page) (Refused why) (choice, step) = unchanged _ _ old new step.1
 change-step old new (events.Release id page) _ (choice, step) = absurd step
 change-step old new events.Fetch (Fetched result) (choice, step) = unchanged _ _ old new step
 change-step old new events.Fetch _ (choice, step) = absurd step
 change-step old new events.Poll (Confirmed first last) (choice, step) =
-    let upward : first ≤ last = step.0.1 in let most : last ≤ old.tickets = step.0.2 in
-    Change.confirms_some first (suc (last - first)) (omega arith) (ap (λ (s : State). s.history) step.1) (ap (λ (s : State). s.tickets) step.1) step.2
+    let upward : first ≤ last = step.0.1 in let most : last ≤ old.last_ticket = step.0.2 in
+    Change.confirms_some first (suc (last - first)) (omega arith) (ap (λ (s : State). s.history) step.1) (ap (λ (s : State). s.last_ticket) step.1) step.2
 change-step old new events.Poll NoneConfirmed (choice, step) = unchanged _ _ old new step
 change-step old new events.Poll _ (choice, step) = absurd step
 change-step old new (events.Read id address len) outcome (choice, step) = Change.ledger_stays (same_ledger-requests choice.frame old new id (read_of address len) outcome step)
@@ -195,29 +195,29 @@ change-step old new (events.Write id address bytes) outcome (choice, step) = Cha
 change-step old new (events.Commit id) outcome (choice, step) = Change.ledger_stays (same_ledger-commits old new id outcome step)
 
 -- a step takes no device's reach from an access in flight
-reaches-change : (event : Event) (outcome : Outcome) (old new : State) → Change event outcome old new → WereGiven old.history old.tickets → AllInFlight (StillMay old.history) new.devices → AllInFlight (StillMay new.history) new.devices
+reaches-change : (event : Event) (outcome : Outcome) (old new : State) → Change event outcome old new → WereGiven old.history old.last_ticket → AllInFlight (StillMay old.history) new.devices → AllInFlight (StillMay new.history) new.devices
 reaches-change event outcome old new (Change.ledger_stays stays) given all = subst (λ h. AllInFlight (StillMay h) new.devices) (sym stays.0) all
 reaches-change event outcome old new (Change.grants id page frame rights granted low empty extended tickets) given all =
     subst (λ h. AllInFlight (StillMay h) new.devices) (sym extended)
     (AllInFlight-weaker (StillMay old.history) _ (λ d flying may. reach_after_grant old.history id page frame rights empty d flying.frame flying.access.kind may) new.devices all)
 reaches-change event outcome old new (Change.releases id page extended next) given all =
     subst (λ h. AllInFlight (StillMay h) new.devices) (sym extended)
-    (AllInFlight-weaker (StillMay old.history) _ (λ d flying may. reach_after_release old.history id page new.tickets
-    (ap (confirms old.history) next ∙ fresh_ticket old.history old.tickets given) d flying.frame flying.access.kind may) new.devices all)
+    (AllInFlight-weaker (StillMay old.history) _ (λ d flying may. reach_after_release old.history id page new.last_ticket
+    (ap (confirms old.history) next ∙ fresh_ticket old.history old.last_ticket given) d flying.frame flying.access.kind may) new.devices all)
 reaches-change event outcome old new (Change.confirms_some first n most extended tickets reaches) given all = reaches
 
 -- confirmed tickets were given
-tickets-change : (event : Event) (outcome : Outcome) (old new : State) → Change event outcome old new → WereGiven old.history old.tickets → WereGiven new.history new.tickets
+tickets-change : (event : Event) (outcome : Outcome) (old new : State) → Change event outcome old new → WereGiven old.history old.last_ticket → WereGiven new.history new.last_ticket
 tickets-change event outcome old new (Change.ledger_stays stays) given = rw (stays.0, stays.1) given
 tickets-change event outcome old new (Change.grants id page frame rights granted low empty extended tickets) given = rw (extended, tickets) given
 tickets-change event outcome old new (Change.releases id page extended next) given =
     λ t c. let before : confirms old.history t ≡ true = subst (λ h. confirms h t ≡ true) extended c in
-    let below : t ≤ old.tickets = given t before in omega (arith, next)
+    let below : t ≤ old.last_ticket = given t before in omega (arith, next)
 tickets-change event outcome old new (Change.confirms_some first n most extended tickets reaches) given =
     λ t c. let below = confirmed_before first n old.history t (subst (λ h. confirms h t ≡ true) extended c) in
     subst (λ last. t ≤ last) (sym tickets) (by t below)
   where
-    by : (t : ℕ) → (t < first + n) ⊎ (confirms old.history t ≡ true) → t ≤ old.tickets
+    by : (t : ℕ) → (t < first + n) ⊎ (confirms old.history t ≡ true) → t ≤ old.last_ticket
     by t (inl below) = omega arith
     by t (inr before) = given t before
 
@@ -241,7 +241,7 @@ in_memory-change event outcome old new change size low = subst (λ n. AreInMemor
     by (Change.grants id page frame rights granted below empty extended tickets) = subst (λ h. AreInMemory h (length old.frames)) (sym extended)
         (entered (entries.Granted id page frame rights) (λ named same. subst (λ n. n < length old.frames) same below) old.history low)
     by (Change.releases id page extended next) = subst (λ h. AreInMemory h (length old.frames)) (sym extended)
-        (entered (entries.Released id page new.tickets) (λ frame named. absurd named) old.history low)
+        (entered (entries.Released id page new.last_ticket) (λ frame named. absurd named) old.history low)
     by (Change.confirms_some first n most extended tickets reaches) = subst (λ h. AreInMemory h (length old.frames)) (sym extended) (confirmed first n)
 
 same_frames-requests : (chosen : ℕ) (old new : State) (id : ℕ) (access : Access) (outcome : Outcome) → Requests chosen old id access outcome new → new.frames ≡ old.frames
@@ -259,15 +259,15 @@ abbrev pub KeptByOwners : (List Frame → Type 0) → Type 0
 KeptByOwners P = (frames : List Frame) (number : ℕ) (owner : Owner) → P frames → P (with_frame frames number (λ frame. record frame { owner = Some owner }))
 
 -- what is kept where a write that is so is made
-abbrev pub KeptByWrites : (InFlight → Type 0) → (List Frame → Type 0) → Type 0
-KeptByWrites W P = (frames : List Frame) (made : InFlight) → W made → made.access.kind ≡ kinds.Write → P frames
+abbrev pub KeptByWrites : (AcceptedAccess → Type 0) → (List Frame → Type 0) → Type 0
+KeptByWrites W P = (frames : List Frame) (made : AcceptedAccess) → W made → made.access.kind ≡ kinds.Write → P frames
     → P (stored frames made.frame (offset_of made.access) made.access.bytes)
 
 kept-reserved : (P : List Frame → Type 0) → KeptByOwners P → (owner : Owner) (numbers : List ℕ) (frames : List Frame) → P frames → P (reserved_for owner numbers frames)
 kept-reserved P owned owner [] frames its = its
 kept-reserved P owned owner (number ∷ numbers) frames its = kept-reserved P owned owner numbers _ (owned frames number owner its)
 
-frames-commits : (W : InFlight → Type 0) (P : List Frame → Type 0) → KeptByWrites W P → (old new : State) (id : ℕ) (outcome : Outcome) → AllInFlight (λ id flying. W flying) old.devices
+frames-commits : (W : AcceptedAccess → Type 0) (P : List Frame → Type 0) → KeptByWrites W P → (old new : State) (id : ℕ) (outcome : Outcome) → AllInFlight (λ id flying. W flying) old.devices
     → Commits old id outcome new → P old.frames → P new.frames
 frames-commits W P written old new id outcome all step its = elim (match_cases (device_of old id) _ _ step) [
   | inl (none, same) ↦ stay same.1
@@ -287,7 +287,7 @@ frames-commits W P written old new id outcome all step its = elim (match_cases (
     by device at _ makes = absurd makes
 
 -- A step keeps what reserving frames keeps, and making the writes in flight.
-pub frames-step : (W : InFlight → Type 0) (P : List Frame → Type 0) → KeptByOwners P → KeptByWrites W P
+pub frames-step : (W : AcceptedAccess → Type 0) (P : List Frame → Type 0) → KeptByOwners P → KeptByWrites W P
     → (old new : State) (event : Event) (outcome : Outcome) → AllInFlight (λ id flying. W flying) old.devices → Step old event outcome new → P old.frames → P new.frames
 frames-step W P owned written old new (events.PlugRaw id) Done all (choice, step) its = subst P (sym (ap (λ (s : State). s.frames) step.1)) its
 frames-step W P owned written old new (events.PlugRaw id) (Refused why) all (choice, step) its = subst P (sym (ap (λ (s : State). s.frames) step.1)) its
@@ -393,7 +393,7 @@ pub sound_if_reached : (state : State) → IsReached state → IsSound state
 sound_if_reached state (events, outcomes, (frames, levels, run)) = sound-run (opening frames levels) state events outcomes (sound-opening frames levels) run
 
 -- what is in flight was in flight before, or was accepted since
-accepted-run : (P : ℕ → InFlight → Type 0) (old new : State) (events : List Event) (outcomes : List Outcome) → Run old events outcomes new → AllInFlight P old.devices
+accepted-run : (P : ℕ → AcceptedAccess → Type 0) (old new : State) (events : List Event) (outcomes : List Outcome) → Run old events outcomes new → AllInFlight P old.devices
     → AllInFlight (λ id flying. P id flying ⊎ WasAccepted events outcomes id flying.access) new.devices
 accepted-run P old new [] [] run all = AllInFlight-weaker P (λ id flying. P id flying ⊎ ⊥) (λ id flying its. inl its) new.devices (subst (λ (s : State). AllInFlight P s.devices) (sym run) all)
 accepted-run P old new (event ∷ events) (outcome ∷ outcomes) (mid, step, run) all =
@@ -403,7 +403,7 @@ accepted-run P old new (event ∷ events) (outcome ∷ outcomes) (mid, step, run
     (λ id flying. P id flying ⊎ WasAccepted (event ∷ events) (outcome ∷ outcomes) id flying.access) (λ id flying found. by id flying found) new.devices
     (accepted-run (λ id flying. P id flying ⊎ IsAccepted event outcome id flying.access) mid new events outcomes run entered)
   where
-    by : (id : ℕ) (flying : InFlight) → (P id flying ⊎ IsAccepted event outcome id flying.access) ⊎ WasAccepted events outcomes id flying.access
+    by : (id : ℕ) (flying : AcceptedAccess) → (P id flying ⊎ IsAccepted event outcome id flying.access) ⊎ WasAccepted events outcomes id flying.access
         → P id flying ⊎ WasAccepted (event ∷ events) (outcome ∷ outcomes) id flying.access
     by id flying (inl (inl before)) = inl before
     by id flying (inl (inr now)) = inr (inl now)
@@ -417,6 +417,6 @@ in_flight_was_accepted state events outcomes (frames, levels, run) =
     AllInFlight-weaker (λ id flying. ⊥ ⊎ WasAccepted events outcomes id flying.access) (λ id flying. WasAccepted events outcomes id flying.access) (λ id flying found. by id flying found) state.devices
     (accepted-run (λ id flying. ⊥) (opening frames levels) state events outcomes run (All-nil (λ (d : Device). All (λ flying. ⊥) d.in_flight)))
   where
-    by : (id : ℕ) (flying : InFlight) → ⊥ ⊎ WasAccepted events outcomes id flying.access → WasAccepted events outcomes id flying.access
+    by : (id : ℕ) (flying : AcceptedAccess) → ⊥ ⊎ WasAccepted events outcomes id flying.access → WasAccepted events outcomes id flying.access
     by id flying (inl never) = absurd never
     by id flying (inr found) = found

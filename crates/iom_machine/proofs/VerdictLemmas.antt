@@ -9,7 +9,7 @@ use Rattle.iom_machine.specs.declared.line.Verdict.TheVariants.{Lawful, Unlawful
 use Rattle.iom_machine.specs.declared.outcome.Outcome.{Outcome}
 use Rattle.iom_machine.specs.declared.state.State.{State}
 use Rattle.iom_machine.specs.Machine.{ChosenStep, Run}
-use Rattle.iom_machine.specs.Verdicts.{LineStep, LinesRun, StopsAt, IsVerdict}
+use Rattle.iom_machine.specs.Verdicts.{LineStep, LinesRun, FirstUnlawfulAt, IsVerdict}
 use Rattle.iom_machine.proofs.SoundLemmas.{same_size-step}
 use Rattle.iom_machine.proofs.StepLemmas.{only_state}
 
@@ -30,7 +30,7 @@ lines_of (first ∷ later) line at =
     ap (λ (l : Line). l ∷ take (length (first ∷ later) - 1) (drop 1 (first ∷ later))) (sym same) ∙ ap (λ (ls : List Line). first ∷ ls) rest
 
 -- the line that may not come is one of them
-pub stops_below : (k : ℕ) (old : State) (lines : List Line) → StopsAt k old lines → k < length lines
+pub stops_below : (k : ℕ) (old : State) (lines : List Line) → FirstUnlawfulAt k old lines → k < length lines
 stops_below k old [] stops = absurd stops
 stops_below zero old (line ∷ lines) stops = omega arith
 stops_below (suc k) old (line ∷ lines) (mid, step, stops) = let below : k < length lines = stops_below k mid lines stops in omega arith
@@ -52,9 +52,9 @@ verdict_lawful old next last line later leaves (runs, stops) = (
   (λ k. ((λ same. cc), never k)),
 )
   where
-    never : (k : ℕ) → StopsAt k old (line ∷ later) → Lawful last ≡ Unlawful k
+    never : (k : ℕ) → FirstUnlawfulAt k old (line ∷ later) → Lawful last ≡ Unlawful k
     never zero stop = absurd (stop next ((leaves next).0 refl))
-    never (suc k) (mid, step, stop) = let h : Lawful last ≡ Unlawful k = (stops k).1 (subst (λ s. StopsAt k s later) (left_state old next line mid leaves step) stop) in cc
+    never (suc k) (mid, step, stop) = let h : Lawful last ≡ Unlawful k = (stops k).1 (subst (λ s. FirstUnlawfulAt k s later) (left_state old next line mid leaves step) stop) in cc
 
 pub verdict_unlawful : (old next : State) (place : ℕ) (line : Line) (later : List Line) → Leaves old line next → IsVerdict next later (Unlawful place) → IsVerdict old (line ∷ later) (Unlawful (place + 1))
 verdict_unlawful old next place line later leaves (runs, stops) = (
@@ -68,13 +68,13 @@ verdict_unlawful old next place line later leaves (runs, stops) = (
     one_more : place + 1 ≡ suc place
     one_more = omega arith
 
-    forward : (k : ℕ) → Unlawful (place + 1) ≡ Unlawful k → StopsAt k old (line ∷ later)
-    forward k same = let numbers : place + 1 ≡ k = cc in subst (λ n. StopsAt n old (line ∷ later)) (sym one_more ∙ numbers) (next, (leaves next).0 refl, (stops place).0 refl)
+    forward : (k : ℕ) → Unlawful (place + 1) ≡ Unlawful k → FirstUnlawfulAt k old (line ∷ later)
+    forward k same = let numbers : place + 1 ≡ k = cc in subst (λ n. FirstUnlawfulAt n old (line ∷ later)) (sym one_more ∙ numbers) (next, (leaves next).0 refl, (stops place).0 refl)
 
-    backward : (k : ℕ) → StopsAt k old (line ∷ later) → Unlawful (place + 1) ≡ Unlawful k
+    backward : (k : ℕ) → FirstUnlawfulAt k old (line ∷ later) → Unlawful (place + 1) ≡ Unlawful k
     backward zero stop = absurd (stop next ((leaves next).0 refl))
     backward (suc k) (mid, step, stop) =
-        let same : Unlawful place ≡ Unlawful k = (stops k).1 (subst (λ s. StopsAt k s later) (left_state old next line mid leaves step) stop) in
+        let same : Unlawful place ≡ Unlawful k = (stops k).1 (subst (λ s. FirstUnlawfulAt k s later) (left_state old next line mid leaves step) stop) in
         let numbers : place ≡ k = cc in ap (λ n. Unlawful n) (one_more ∙ ap suc numbers)
 
 -- a run, line by line

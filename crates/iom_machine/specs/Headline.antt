@@ -11,7 +11,7 @@ use Rattle.iom_machine.specs.declared.state.Attachment.TheVariants.{Attached}
 use Rattle.iom_machine.specs.declared.state.Device.{Device}
 use Rattle.iom_machine.specs.declared.state.DeviceKind.TheVariants.{Raw}
 use Rattle.iom_machine.specs.declared.state.Frame.{Frame}
-use Rattle.iom_machine.specs.declared.state.InFlight.{InFlight}
+use Rattle.iom_machine.specs.declared.state.AcceptedAccess.{AcceptedAccess}
 use Rattle.iom_machine.specs.declared.state.Mode.TheVariants.{First, Second}
 use Rattle.iom_machine.specs.declared.state.State.{State}
 use Rattle.iom_machine.specs.Frames.{IsFree, bytes_of}
@@ -32,17 +32,17 @@ abbrev pub byte_at : List Frame → ℕ → ℕ → Option ℕ
 byte_at frames frame offset = slice_get (bytes_of frames frame) offset
 
 -- the access is the device's oldest in flight, which a commit makes
-abbrev pub IsOldest : State → ℕ → InFlight → Type 0
+abbrev pub IsOldest : State → ℕ → AcceptedAccess → Type 0
 IsOldest state id flying =
     (device : Device) × IsPlugged state id device × (slice_get device.in_flight 0 ≡ Some flying)
 
 -- the place is none of those that the access names
-abbrev pub IsOutside : InFlight → ℕ → ℕ → Type 0
+abbrev pub IsOutside : AcceptedAccess → ℕ → ℕ → Type 0
 IsOutside made frame offset =
     (frame ≢ made.frame) ⊎ (offset < offset_of made.access) ⊎ (offset_of made.access + made.access.len ≤ offset)
 
 -- the bytes are those that the access names
-abbrev pub AreNamedBytes : List Frame → InFlight → List ℕ → Type 0
+abbrev pub AreNamedBytes : List Frame → AcceptedAccess → List ℕ → Type 0
 AreNamedBytes frames made bytes =
     (length bytes ≡ made.access.len)
     × ((k : ℕ) → k < made.access.len → slice_get bytes k ≡ byte_at frames made.frame (offset_of made.access + k))
@@ -50,10 +50,10 @@ AreNamedBytes frames made bytes =
 -- A read that is made gives exactly its named bytes, and changes none; a write changes exactly its named bytes, to its own. Both of a frame that the device may reach then.
 abbrev pub TouchesItsOwn : State → ℕ → Outcome → State → Type 0
 TouchesItsOwn old id (Read bytes) new =
-    (made : InFlight) × IsOldest old id made × May old.history id made.frame kinds.Read
+    (made : AcceptedAccess) × IsOldest old id made × May old.history id made.frame kinds.Read
     × AreNamedBytes old.frames made bytes.items × (new.frames ≡ old.frames)
 TouchesItsOwn old id (Wrote len) new =
-    (made : InFlight) × IsOldest old id made × May old.history id made.frame kinds.Write
+    (made : AcceptedAccess) × IsOldest old id made × May old.history id made.frame kinds.Write
     × (len ≡ made.access.len) × AreNamedBytes new.frames made made.access.bytes
     × ((frame offset : ℕ) → IsOutside made frame offset → byte_at new.frames frame offset ≡ byte_at old.frames frame offset)
 TouchesItsOwn old id _ new = new.frames ≡ old.frames
@@ -91,8 +91,8 @@ NoneGrants _ _ frame = ⊤
 
 -- the event makes an access to the frame
 abbrev pub TouchesFrame : State → Event → Outcome → ℕ → Type 0
-TouchesFrame old (events.Commit id) (Read bytes) frame = (made : InFlight) × IsOldest old id made × (made.frame ≡ frame)
-TouchesFrame old (events.Commit id) (Wrote len) frame = (made : InFlight) × IsOldest old id made × (made.frame ≡ frame)
+TouchesFrame old (events.Commit id) (Read bytes) frame = (made : AcceptedAccess) × IsOldest old id made × (made.frame ≡ frame)
+TouchesFrame old (events.Commit id) (Wrote len) frame = (made : AcceptedAccess) × IsOldest old id made × (made.frame ≡ frame)
 TouchesFrame old _ _ frame = ⊥
 
 -- An access that is made touches exactly its named bytes, in a frame that the history then shows held by that device with that right,

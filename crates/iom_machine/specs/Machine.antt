@@ -17,7 +17,7 @@ use Rattle.iom_machine.specs.declared.state.Device.{Device}
 use Rattle.iom_machine.specs.declared.state.DeviceKind.{DeviceKind}
 use Rattle.iom_machine.specs.declared.state.DeviceKind.TheVariants.{Raw}
 use Rattle.iom_machine.specs.declared.state.Frame.{Frame}
-use Rattle.iom_machine.specs.declared.state.InFlight.{InFlight}
+use Rattle.iom_machine.specs.declared.state.AcceptedAccess.{AcceptedAccess}
 use Rattle.iom_machine.specs.declared.state.Mode.{Mode}
 use Rattle.iom_machine.specs.declared.state.Mode.TheVariants.{First}
 use Rattle.iom_base.specs.declared.owner.Owner.TheVariants.{System, OneDevice}
@@ -73,8 +73,8 @@ Grants taken old id page frame rights _ new = ⊥
 -- What the device holds at a page is released, under the next ticket.
 abbrev pub Releases : State → ℕ → ℕ → Outcome → State → Type 0
 Releases old id page (Ticket ticket) new =
-    NoneApplies (release_reasons old id page) × (ticket ≡ old.tickets + 1)
-    × (new ≡ record old { history = entry.Released id page ticket ∷ old.history; tickets = ticket })
+    NoneApplies (release_reasons old id page) × (ticket ≡ old.last_ticket + 1)
+    × (new ≡ record old { history = entry.Released id page ticket ∷ old.history; last_ticket = ticket })
 Releases old id page (Refused why) new =
     IsRefusedBy (release_reasons old id page) MayRefuseRelease why × (new ≡ old)
 Releases old id page _ new = ⊥
@@ -106,13 +106,13 @@ abbrev pub with_oldest_made : State → Device → State
 with_oldest_made state device = with_device state (record device { in_flight = drop 1 device.in_flight })
 
 -- the access is a read that its device may make, and gives these bytes
-abbrev pub GivesBytes : State → ℕ → InFlight → List ℕ → Type 0
+abbrev pub GivesBytes : State → ℕ → AcceptedAccess → List ℕ → Type 0
 GivesBytes state id made bytes =
     (made.access.kind ≡ kinds.Read) × May state.history id made.frame kinds.Read
     × (bytes ≡ slice_range (bytes_of state.frames made.frame) (offset_of made.access) (offset_of made.access + made.access.len))
 
 -- the access is a write of so many bytes that its device may make
-abbrev pub MakesWrite : State → ℕ → InFlight → ℕ → Type 0
+abbrev pub MakesWrite : State → ℕ → AcceptedAccess → ℕ → Type 0
 MakesWrite state id made len =
     (made.access.kind ≡ kinds.Write) × May state.history id made.frame kinds.Write × (len ≡ made.access.len)
 
@@ -163,6 +163,6 @@ opening frames levels = record {
   levels = levels;
   frames = reserved_for System ((frames - 4) ∷ (frames - 3) ∷ (frames - 2) ∷ (frames - 1) ∷ []) (replicate frames empty_frame);
   history = [];
-  tickets = 0;
+  last_ticket = 0;
   devices = [];
 }

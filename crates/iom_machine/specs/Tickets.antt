@@ -14,12 +14,12 @@ last_confirmed (AllReleased d ticket ∷ before) = last_confirmed before
 
 -- how many tickets wait
 abbrev pub pending_tickets : State → ℕ
-pending_tickets state = state.tickets - last_confirmed state.history
+pending_tickets state = state.last_ticket - last_confirmed state.history
 
 -- the tickets from the first to the last are the oldest that wait, or some of them
 abbrev pub AreNextTickets : State → ℕ → ℕ → Type 0
 AreNextTickets state first last =
-    (first ≡ last_confirmed state.history + 1) × (first ≤ last) × (last ≤ state.tickets)
+    (first ≡ last_confirmed state.history + 1) × (first ≤ last) × (last ≤ state.last_ticket)
 
 -- the history, where so many tickets from the first on are confirmed, one after another
 abbrev pub confirmed_from : ℕ → ℕ → History → History

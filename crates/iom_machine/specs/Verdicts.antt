@@ -18,16 +18,16 @@ LinesRun old [] new = new ≡ old
 LinesRun old (line ∷ lines) new = (mid : State) × LineStep old line mid × LinesRun mid lines new
 
 -- the first so many lines may come one after another, and then the next one may not
-abbrev pub StopsAt : ℕ → State → List Line → Type 0
-StopsAt k old [] = ⊥
-StopsAt zero old (line ∷ lines) = (new : State) → ¬ LineStep old line new
-StopsAt (suc k) old (line ∷ lines) = (mid : State) × LineStep old line mid × StopsAt k mid lines
+abbrev pub FirstUnlawfulAt : ℕ → State → List Line → Type 0
+FirstUnlawfulAt k old [] = ⊥
+FirstUnlawfulAt zero old (line ∷ lines) = (new : State) → ¬ LineStep old line new
+FirstUnlawfulAt (suc k) old (line ∷ lines) = (mid : State) × LineStep old line mid × FirstUnlawfulAt k mid lines
 
 -- the verdict is true of the lines, and the only one that is
 abbrev pub IsVerdict : State → List Line → Verdict → Type 0
 IsVerdict old lines verdict =
     ((new : State) → (verdict ≡ Lawful new) ↔ LinesRun old lines new)
-    × ((k : ℕ) → (verdict ≡ Unlawful k) ↔ StopsAt k old lines)
+    × ((k : ℕ) → (verdict ≡ Unlawful k) ↔ FirstUnlawfulAt k old lines)
 
 -- Each run is one of some lines, with those events and outcomes.
 abbrev pub RunsAreChosen : Type 0

@@ -36,7 +36,7 @@ pub fn power_on(alloc: Global, frames: u32, levels: u8) -> Result<State, AllocEr
         levels,
         frames: all,
         history: Sequence::new(alloc),
-        tickets: 0,
+        last_ticket: 0,
         devices: Sequence::new(alloc),
     })
 }

@@ -54,7 +54,7 @@ pub struct Access {
 
 /// An access that is accepted and not yet made, with the frame that it will touch.
 #[derive(Drop)]
-pub struct InFlight {
+pub struct AcceptedAccess {
     pub access: Access,
     pub frame: u32,
 }
@@ -68,7 +68,7 @@ pub struct Device {
     /// How many of its accesses were ever accepted.
     pub accepted: u64,
     /// Those that aren't made yet, the oldest first.
-    pub in_flight: Sequence<InFlight>,
+    pub in_flight: Sequence<AcceptedAccess>,
 }
 
 /// All that the machine knows.
@@ -80,7 +80,7 @@ pub struct State {
     /// What happened to the grants, the newest entry first.
     pub history: Sequence<Entry>,
     /// The last ticket that was given; they count from 1.
-    pub tickets: u32,
+    pub last_ticket: u32,
     /// In the order of plugging.
     pub devices: Sequence<Device>,
 }

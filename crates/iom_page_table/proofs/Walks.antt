@@ -16,7 +16,7 @@ use Rattle.iom_base.specs.Rights.{allows}
 use Rattle.std.specs.List.{All}
 use Rattle.std.proofs.lemmas.List.Elements.{All-cons}
 use Rattle.iom_stage_walk.specs.Through.{after_pointer, through}
-use Rattle.iom_stage_walk.specs.Paths.{span, page_in, IsLawfulLeaf, Reaches, Stops, IsCanonical, path_of}
+use Rattle.iom_stage_walk.specs.Paths.{pages_spanned, page_in, IsLawfulLeaf, Reaches, Stops, IsCanonical, path_of}
 use Rattle.iom_page_table.specs.Leaves.{leaf_of, is_translated}
 use Rattle.iom_page_table.specs.Trees.{sv39}
 use Rattle.iom_page_table.proofs.Prefixes.{table_append, shape_front, leaf_at}
@@ -25,7 +25,7 @@ use Rattle.iom_page_table.proofs.Pages.{translated_cases}
 lawful_leaf : (kind : AccessKind) (base : ℕ) (rights : Rights) (is : List ℕ) (f : ℕ) (r : Rights) (follow : ℕ → Option PageLeaf) → IsLawfulLeaf kind base rights is f r
     → leaf_here (Leaf base rights) is follow ≡ Some record { frame = f; rights = r }
 lawful_leaf kind base rights is f r follow ok =
-    let test : (base % span is == 0) ≡ true = eq-eqb (base % span is) 0 ok.aligned in
+    let test : (base % pages_spanned is == 0) ≡ true = eq-eqb (base % pages_spanned is) 0 ok.aligned in
     let of_frame : ℕ → Option PageLeaf = λ n. Some record { frame = n; rights = rights } in
     let of_rights : Rights → Option PageLeaf = λ u. Some record { frame = f; rights = u } in
     rw test (ap of_frame (sym ok.page) ∙ ap of_rights (sym ok.same))
@@ -49,14 +49,14 @@ reach_step e kind t i is l Faulty at h ok go = let no : ⊥ = cc in absurd no
 reach_step e kind t i is l (Pointer next) at h ok go = inl (next, at, go next h)
 reach_step e kind t i is l (Leaf base rights) at h ok go =
     let found : PageLeaf = record { frame = base + page_in is; rights = rights } in
-    let both = cond_some (base % span is == 0) found l h in
+    let both = cond_some (base % pages_spanned is == 0) found l h in
     let same = same_leaf found l both.1 in
     inr (
       base,
       rights,
       at,
       record {
-        aligned = eqb-true (base % span is) 0 both.0;
+        aligned = eqb-true (base % pages_spanned is) 0 both.0;
         allowed = ap (λ u. allows u kind) same.1 ∙ ok;
         page = sym same.0;
         same = sym same.1;

@@ -1,7 +1,7 @@
 -- The leaf of a page, read off the tables of a root, for any number of levels.
 use Rattle.std.specs.Prelude.{◌==◌, ℕ, ◌+◌, ◌-◌, ◌*◌, ◌%◌, ◌^◌, Bool, ◌||◌, nat_lt, nat_le, List, [], ◌∷◌, Option, Some, None, if◌then◌else◌}
 use Rattle.iom_stage_walk.specs.Entries.{Entries, entries, slot}
-use Rattle.iom_stage_walk.specs.Paths.{span, page_in, path_of, first_widths}
+use Rattle.iom_stage_walk.specs.Paths.{pages_spanned, page_in, path_of, first_widths}
 use Rattle.iom_stage_walk.specs.declared.entry.Entry.{Entry}
 use Rattle.iom_stage_walk.specs.declared.entry.Entry.TheVariants.{Outside, Faulty, Pointer, Leaf}
 use Rattle.iom_page_table.specs.declared.leaf.PageLeaf.{PageLeaf}
@@ -12,7 +12,7 @@ abbrev pub leaf_here : Entry → List ℕ → (ℕ → Option PageLeaf) → Opti
 leaf_here Outside below follow = None
 leaf_here Faulty below follow = None
 leaf_here (Pointer next) below follow = follow next
-leaf_here (Leaf base rights) below follow = if base % span below == 0 then Some record { frame = base + page_in below; rights = rights } else None
+leaf_here (Leaf base rights) below follow = if base % pages_spanned below == 0 then Some record { frame = base + page_in below; rights = rights } else None
 
 -- the leaf to which the indices lead from the table
 abbrev pub leaf_under : Entries → ℕ → List ℕ → Option PageLeaf

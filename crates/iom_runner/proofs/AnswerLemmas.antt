@@ -79,8 +79,8 @@ release_is_answered state id page = by (first_that_applies (release_reasons stat
   where
     by : (found : Option Refusal) → first_that_applies (release_reasons state id page) ≡ found → IsAnswered state (events.Release id page)
     by None none = (
-      Ticket (state.tickets + 1),
-      record state { history = entry.Released id page (state.tickets + 1) ∷ state.history; tickets = state.tickets + 1 },
+      Ticket (state.last_ticket + 1),
+      record state { history = entry.Released id page (state.last_ticket + 1) ∷ state.history; last_ticket = state.last_ticket + 1 },
       (no_choice, (none, refl, refl)),
     )
     by (Some why) some = (Refused why, state, (no_choice, (refused_first (release_reasons state id page) MayRefuseRelease why some, refl)))

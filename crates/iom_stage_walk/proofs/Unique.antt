@@ -5,7 +5,7 @@ use Rattle.iom_base.specs.declared.access.AccessKind.{AccessKind}
 use Rattle.iom_base.specs.declared.cause.Cause.{Cause}
 use Rattle.iom_base.specs.declared.rights.Rights.{Rights}
 use Rattle.iom_stage_walk.specs.Entries.{Entries}
-use Rattle.iom_stage_walk.specs.Paths.{span, IsLawfulLeaf, IsUnlawfulLeaf, Reaches, Stops}
+use Rattle.iom_stage_walk.specs.Paths.{pages_spanned, IsLawfulLeaf, IsUnlawfulLeaf, Reaches, Stops}
 
 -- the paths of two kinds of access along the same indices reach the same leaf
 pub one_leaf : (e : Entries) (kind kind' : AccessKind) (table : ℕ) (is : List ℕ) (f g : ℕ) (r u : Rights) → Reaches e kind table is f r → Reaches e kind' table is g u → (f ≡ g) × (r ≡ u)
@@ -26,7 +26,7 @@ one_leaf e kind kind' table (i ∷ is) f g r u a b =
     ]
 
 lawful_or_not : (kind : AccessKind) (base base' : ℕ) (rights rights' : Rights) (is : List ℕ) (f : ℕ) (r : Rights) → base' ≡ base → rights' ≡ rights → IsLawfulLeaf kind base rights is f r → IsUnlawfulLeaf kind base' rights' is → ⊥
-lawful_or_not kind base base' rights rights' is f r eb er ok (inl bad) = bad (ap (λ b. b % span is) eb ∙ ok.aligned)
+lawful_or_not kind base base' rights rights' is f r eb er ok (inl bad) = bad (ap (λ b. b % pages_spanned is) eb ∙ ok.aligned)
 lawful_or_not kind base base' rights rights' is f r eb er ok (inr bad) =
     let yes = ok.allowed in
     let same : allows rights' kind ≡ allows rights kind = ap (λ x. allows x kind) er in

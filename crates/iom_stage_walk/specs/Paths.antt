@@ -12,20 +12,20 @@ use Rattle.iom_stage_walk.specs.declared.walked.Walked.{Walked}
 use Rattle.iom_stage_walk.specs.declared.walked.WalkFault.{WalkFault}
 
 -- how many pages a leaf spans whose table is followed by these indices: 512 for each level below
-abbrev pub span : List ℕ → ℕ
-span [] = 1
-span (i ∷ is) = 512 * span is
+abbrev pub pages_spanned : List ℕ → ℕ
+pages_spanned [] = 1
+pages_spanned (i ∷ is) = 512 * pages_spanned is
 
 -- which of those pages the indices name
 abbrev pub page_in : List ℕ → ℕ
 page_in [] = 0
-page_in (i ∷ is) = span is * i + page_in is
+page_in (i ∷ is) = pages_spanned is * i + page_in is
 
 -- a leaf gives the page that the indices below it name this frame and right: it is aligned to what it spans, and
 -- allows the kind of access
 pub record IsLawfulLeaf (kind : AccessKind) (base : ℕ) (rights : Rights) (below : List ℕ)
     (frame : ℕ) (given : Rights) : Type 0 where
-  pub aligned : base % span below ≡ 0
+  pub aligned : base % pages_spanned below ≡ 0
   pub allowed : allows rights kind ≡ true
   pub page : frame ≡ base + page_in below
   pub same : given ≡ rights
@@ -41,7 +41,7 @@ Reaches e kind table (i ∷ below) frame given =
 
 -- the leaf isn't lawful: a misaligned superpage, or its rights lack the kind of access
 abbrev pub IsUnlawfulLeaf : AccessKind → ℕ → Rights → List ℕ → Type 0
-IsUnlawfulLeaf kind base rights below = (base % span below ≢ 0) ⊎ (allows rights kind ≡ false)
+IsUnlawfulLeaf kind base rights below = (base % pages_spanned below ≢ 0) ⊎ (allows rights kind ≡ false)
 
 -- from the table the path along the indices is lawful up to an entry or a load that has this cause. A pointer at the
 -- last level leaves no index for the table that it names

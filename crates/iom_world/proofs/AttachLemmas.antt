@@ -12,7 +12,7 @@ use Rattle.iom_base.specs.declared.owner.Owner.{Owner}
 use Rattle.iom_base.specs.declared.owner.Owner.TheVariants.{OneDevice}
 use Rattle.iom_table_frames.specs.Marks as marks
 use Rattle.iom_world.specs.declared.device.Device.{Device}
-use Rattle.iom_world.specs.Facts.{AreGrants, IsDevice}
+use Rattle.iom_world.specs.Facts.{AreGrants, IsSoundDevice}
 use Rattle.iom_world.specs.Queue.{Queue}
 use Rattle.iom_world.specs.Sound.{IsSound}
 use Rattle.iom_world.specs.Tables.{AreTablesOf, HaveTables, leaf_for}
@@ -66,7 +66,7 @@ sound_attached memory memory' marked ledger devices queue events place root devi
       marked = length-set marked root (Some owner) ∙ sound.marked ∙ sym size;
       grants = grants_reserved marked ledger root owner sound.grants free;
       each = λ k d there. elim (get_set devices place k new d here there) [
-        | inl e ↦ subst (λ other. IsDevice ledger queue.completed events other) (sym e.1)
+        | inl e ↦ subst (λ other. IsSoundDevice ledger queue.completed events other) (sym e.1)
             (let was = sound.each place device at in record { detached = λ no. absurd (none_rooted no); covered = was.covered; counted = was.counted })
         | inr e ↦ sound.each k d e.1
       ];
@@ -78,7 +78,7 @@ sound_attached memory memory' marked ledger devices queue events place root devi
             | inl e ↦ none place new (get_set_same devices place new here) ((let one : device ≡ d = first_same k d there e.1 in ap (λ (x : Device). x.id) one) ∙ same)
             | inr ne ↦ none k d (get_set_other devices place k new ne.1 ∙ there) same
           ]);
-      waiting = sound.waiting;
+      pending = sound.pending;
       few = rw (length-set devices place new) sound.few;
     }
   where

@@ -11,14 +11,14 @@ use Rattle.iom_base.specs.declared.rights.Rights.{Rights}
 use Rattle.iom_base.specs.Rights.{allows}
 use Rattle.iom_inflight.specs.Flights.{Flight}
 use Rattle.iom_inflight.specs.declared.in_flight.Accepted.{Accepted}
-use Rattle.iom_inflight.specs.Flights.{OldestIsRead, described}
+use Rattle.iom_inflight.specs.Flights.{OldestIsRead, description_of}
 use Rattle.iom_ledger.specs.declared.ledger.Ledger.{Ledger}
 use Rattle.iom_ledger.specs.History.{Pair, May}
 use Rattle.iom_ledger.specs.Shown.{Agrees, held_in, released_in}
 use Rattle.iom_machine.specs.declared.outcome.Outcome.TheVariants.{Read, Wrote, NothingInFlight}
 use Rattle.iom_machine.specs.declared.state.Device as machine
 use Rattle.iom_machine.specs.declared.state.Frame.{Frame}
-use Rattle.iom_machine.specs.declared.state.InFlight.{InFlight}
+use Rattle.iom_machine.specs.declared.state.AcceptedAccess.{AcceptedAccess}
 use Rattle.iom_machine.specs.declared.state.State.{State}
 use Rattle.iom_machine.specs.Devices.{with_device}
 use Rattle.iom_machine.specs.Frames.{bytes_of, stored, written}
@@ -27,7 +27,7 @@ use Rattle.iom_base.specs.declared.owner.Owner.{Owner}
 use Rattle.iom_base.specs.declared.owner.Owner.TheVariants.{OneDevice}
 use Rattle.iom_world.specs.declared.device.Device.{Device}
 use Rattle.iom_world.specs.Devices.{shown_flight, shown_device, shown_devices}
-use Rattle.iom_world.specs.Facts.{IsGrant, AreGrants, IsDevice, IsCovered, AllCovered, serves, serves_still}
+use Rattle.iom_world.specs.Facts.{IsGrant, AreGrants, IsSoundDevice, IsCovered, AllCovered, serves, serves_still}
 use Rattle.iom_world.specs.Frames.{ShowsFrames}
 use Rattle.iom_world.specs.Oldest.{OldestWritesSoMany, IsOldestAt}
 use Rattle.iom_world.specs.Places.{IsPlaceOf}
@@ -110,7 +110,7 @@ rest_covered : (ledger : Ledger) (completed id : ℕ) (flights : List Flight) �
 rest_covered ledger completed id [] covered k flight at = cc
 rest_covered ledger completed id (first ∷ later) covered k flight at = covered (suc k) flight at
 
-device_made : (ledger : Ledger) (completed events : ℕ) (device : Device) → IsDevice ledger completed events device → IsDevice ledger completed events (without_oldest device)
+device_made : (ledger : Ledger) (completed events : ℕ) (device : Device) → IsSoundDevice ledger completed events device → IsSoundDevice ledger completed events (without_oldest device)
 device_made ledger completed events device is = record {
   detached = is.detached;
   covered = rest_covered ledger completed device.id device.in_flight is.covered;
@@ -122,7 +122,7 @@ pub sound_made : (memory : List (List ℕ)) (marks : List (Option Owner)) (ledge
     → IsSound memory marks ledger (slice_set devices place now) queue events
 sound_made memory marks ledger devices queue events place device now sound at is =
     sound_changed memory marks ledger devices queue events place device now sound at (still_made device now is)
-    (subst (λ d. IsDevice ledger queue.completed events d) (sym is) (device_made ledger queue.completed events device (sound.each place device at)))
+    (subst (λ d. IsSoundDevice ledger queue.completed events d) (sym is) (device_made ledger queue.completed events device (sound.each place device at)))
 
 pub tables_made : (memory : List (List ℕ)) (marks : List (Option Owner)) (ledger : Ledger) (devices : List Device) (place : ℕ) (device now : Device)
     → HaveTables memory marks ledger devices → slice_get devices place ≡ Some device → now ≡ without_oldest device → HaveTables memory marks ledger (slice_set devices place now)
@@ -132,7 +132,7 @@ tables_made memory marks ledger devices place device now tables at is = tables_c
 pub devices_made : (state : State) (devices : List Device) (id place : ℕ) (now : Device) (is : IsPlaceOf devices id place) → state.devices ≡ shown_devices devices → now ≡ without_oldest is.0
     → (with_oldest_made state (shown_device is.0)).devices ≡ shown_devices (slice_set devices place now)
 devices_made state devices id place now is shown same =
-    ap (λ (fs : List InFlight). (with_device state (record (shown_device is.0) { in_flight = fs })).devices) (sym (shown_rest is.0.in_flight))
+    ap (λ (fs : List AcceptedAccess). (with_device state (record (shown_device is.0) { in_flight = fs })).devices) (sym (shown_rest is.0.in_flight))
     ∙ shown_changed state devices id place (without_oldest is.0) shown is is.2
     ∙ ap (λ (d : Device). shown_devices (slice_set devices place d)) (sym same)
 
@@ -145,7 +145,7 @@ sound_stored memory marks ledger devices queue events frame bytes sound = record
   each = sound.each;
   own_ids = sound.own_ids;
   holders = sound.holders;
-  waiting = sound.waiting;
+  pending = sound.pending;
   few = sound.few;
 }
 
@@ -260,19 +260,19 @@ module _ (state : State) (ledger : Ledger) (memory : List (List ℕ)) (marks : L
 
 -- the access that stands first in flight is the oldest
 pub oldest_at : (devices : List Device) (place : ℕ) (device : Device) (access : Accepted) (kind : AccessKind) → slice_get devices place ≡ Some device
-    → Some access ≡ option_map described (slice_get device.in_flight 0) → access.kind ≡ kind → IsOldestAt devices place access kind
+    → Some access ≡ option_map description_of (slice_get device.in_flight 0) → access.kind ≡ kind → IsOldestAt devices place access kind
 oldest_at devices place device access kind at oldest same = by (slice_get device.in_flight 0) refl oldest
   where
-    by : (o : Option Flight) → slice_get device.in_flight 0 ≡ o → Some access ≡ option_map described o → IsOldestAt devices place access kind
+    by : (o : Option Flight) → slice_get device.in_flight 0 ≡ o → Some access ≡ option_map description_of o → IsOldestAt devices place access kind
     by None is none = cc
-    by (Some flight) is some = let known : access ≡ described flight = cc in (device, flight, at, is, known, sym (ap (λ (a : Accepted). a.kind) known) ∙ same)
+    by (Some flight) is some = let known : access ≡ description_of flight = cc in (device, flight, at, is, known, sym (ap (λ (a : Accepted). a.kind) known) ∙ same)
 
 -- nothing is made where nothing is in flight
-none_shown : (flights : List Flight) → None ≡ option_map described (slice_get flights 0) → map shown_flight flights ≡ []
+none_shown : (flights : List Flight) → None ≡ option_map description_of (slice_get flights 0) → map shown_flight flights ≡ []
 none_shown [] none = refl
 none_shown (first ∷ later) none = cc
 
 pub commits_nothing : (state : State) (devices : List Device) (id place : ℕ) (is : IsPlaceOf devices id place) → state.devices ≡ shown_devices devices
-    → None ≡ option_map described (slice_get is.0.in_flight 0) → Commits state id NothingInFlight state
+    → None ≡ option_map description_of (slice_get is.0.in_flight 0) → Commits state id NothingInFlight state
 commits_nothing state devices id place is shown none =
     acts_at (λ (device : machine.Device). Makes state device NothingInFlight state) state devices id place NothingInFlight state shown is (none_shown is.0.in_flight none, refl)

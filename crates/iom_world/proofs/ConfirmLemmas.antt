@@ -82,7 +82,7 @@ pub confirms_none : (ledger : Ledger) (first n : ℕ) → n ≡ 0 → ConfirmsFr
 confirms_none ledger first n none = subst (λ m. ConfirmsFrom ledger ledger first m) (sym none) record {
   held = λ d a. refl;
   lingering = λ d a. unless_none first _;
-  waiting = waiting_none first _;
+  pending = waiting_none first _;
 }
 
 pub confirms_more : (old now new : Ledger) (first n ticket more : ℕ) → ticket ≡ first + n → more ≡ suc n → ConfirmsFrom old now first n → Confirms now new ticket
@@ -92,7 +92,7 @@ confirms_more old now new first n ticket more next is before confirmed =
     subst (λ m. ConfirmsFrom old new first m) (sym is) record {
       held = λ d a. last.held d a ∙ before.held d a;
       lingering = λ d a. last.lingering d a ∙ ap (unless_under (first + n)) (before.lingering d a) ∙ unless_more first n _;
-      waiting = last.waiting ∙ ap (filter (λ t. not (first + n == t))) before.waiting ∙ waiting_more first n _;
+      pending = last.pending ∙ ap (filter (λ t. not (first + n == t))) before.pending ∙ waiting_more first n _;
     }
 
 -- each history that it agrees with has one more confirmation

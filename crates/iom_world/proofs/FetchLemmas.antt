@@ -7,7 +7,7 @@ use Rattle.iom_base.specs.declared.owner.Owner.{Owner}
 use Rattle.iom_world.specs.declared.commands.Command.{Command}
 use Rattle.iom_world.specs.declared.commands.Command.TheVariants.{InvalidatePage, Fence}
 use Rattle.iom_world.specs.declared.device.Device.{Device}
-use Rattle.iom_world.specs.Facts.{IsDevice, AreDevices}
+use Rattle.iom_world.specs.Facts.{IsSoundDevice, AreSoundDevices}
 use Rattle.iom_world.specs.Places.{SomeInFlight}
 use Rattle.iom_world.specs.Queue.{Queue, FetchesFrom, AfterFetch}
 use Rattle.iom_world.specs.Sound.{IsSound}
@@ -42,8 +42,8 @@ has_items (first ∷ xs) k x at = omega arith
 -- each device stays one
 devices_fetched : (ledger : Ledger) (events : ℕ) (devices : List Device) (old new : Queue) (in_flight : Bool)
     → (IsTrue in_flight ↔ SomeInFlight devices) → (new.completed ≡ old.completed) ⊎ (in_flight ≡ false)
-    → AreDevices ledger old.completed events devices → AreDevices ledger new.completed events devices
-devices_fetched ledger events devices old new in_flight some (inl same) each k device at = subst (λ done. IsDevice ledger done events device) (sym same) (each k device at)
+    → AreSoundDevices ledger old.completed events devices → AreSoundDevices ledger new.completed events devices
+devices_fetched ledger events devices old new in_flight some (inl same) each k device at = subst (λ done. IsSoundDevice ledger done events device) (sym same) (each k device at)
 devices_fetched ledger events devices old new in_flight some (inr none) each k device at = record {
   detached = (each k device at).detached;
   covered = λ j flight flies. absurd (false≢true (sym none ∙ some.1 (k, device, at, has_items device.in_flight j flight flies)));
@@ -61,6 +61,6 @@ sound_fetched memory marks ledger devices old new events in_flight result sound 
       each = devices_fetched ledger events devices old new in_flight some (done_from old.waiting old in_flight result new after) sound.each;
       own_ids = sound.own_ids;
       holders = sound.holders;
-      waiting = rw (keeps.given, keeps.confirmed) (sound.waiting);
+      pending = rw (keeps.given, keeps.confirmed) (sound.pending);
       few = sound.few;
     }

@@ -23,16 +23,16 @@ use Rattle.iom_world.proofs.TableLemmas.{tables_stay}
 -- what a ledger shows, after a refused grant and after a frame was reserved
 
 pub shown_unchanged : (old new : Ledger) → changes.IsUnchanged old new → changes.ShowsSame old new
-shown_unchanged old new same = record { held = same.held; lingering = same.lingering; waiting = same.waiting }
+shown_unchanged old new same = record { held = same.held; lingering = same.lingering; pending = same.pending }
 
 pub shown_reserved : (old new : Ledger) (frame : ℕ) → changes.Reserves old new frame → changes.ShowsSame old new
-shown_reserved old new frame reserved = record { held = reserved.held; lingering = reserved.lingering; waiting = reserved.waiting }
+shown_reserved old new frame reserved = record { held = reserved.held; lingering = reserved.lingering; pending = reserved.pending }
 
 pub shown_twice : (old mid new : Ledger) → changes.ShowsSame old mid → changes.ShowsSame mid new → changes.ShowsSame old new
 shown_twice old mid new first second = record {
   held = λ d a. second.held d a ∙ first.held d a;
   lingering = λ d a. second.lingering d a ∙ first.lingering d a;
-  waiting = second.waiting ∙ first.waiting;
+  pending = second.pending ∙ first.pending;
 }
 
 -- all that holds of what a ledger shows holds where another shows the same
@@ -65,7 +65,7 @@ sound_unchanged memory marks old new devices queue events same sound = record {
   };
   own_ids = sound.own_ids;
   holders = λ id page none. same.held id page ∙ sound.holders id page none;
-  waiting = same.waiting ∙ sound.waiting;
+  pending = same.pending ∙ sound.pending;
   few = sound.few;
 }
 
@@ -156,7 +156,7 @@ sound_granted memory memory' marks old new devices queue events id page frame ro
     | inl now ↦ absurd (none is_root.0 is_root.1 is_root.2 (is_root.3 ∙ now.0))
     | inr still ↦ still.1 ∙ sound.holders other p none
   ];
-  waiting = granted.waiting ∙ sound.waiting;
+  pending = granted.pending ∙ sound.pending;
   few = sound.few;
 }
   where

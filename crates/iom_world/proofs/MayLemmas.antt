@@ -10,10 +10,10 @@ use Rattle.iom_ledger.specs.declared.ledger.Ledger.{Ledger}
 use Rattle.iom_ledger.specs.History.{History, Pair, Holds, Lingers, May}
 use Rattle.iom_ledger.specs.Shown.{Agrees, AgreesAt, held_in, released_in}
 use Rattle.iom_machine.specs.declared.state.Device as machine
-use Rattle.iom_machine.specs.declared.state.InFlight.{InFlight}
+use Rattle.iom_machine.specs.declared.state.AcceptedAccess.{AcceptedAccess}
 use Rattle.iom_world.specs.declared.device.Device.{Device}
 use Rattle.iom_world.specs.Devices.{shown_flight, shown_device, shown_devices}
-use Rattle.iom_world.specs.Facts.{serves, serves_still, IsCovered, AllCovered, AreDevices}
+use Rattle.iom_world.specs.Facts.{serves, serves_still, IsCovered, AllCovered, AreSoundDevices}
 
 -- a pair that serves the access is on its frame, with a right that allows its kind
 served : (frame : ℕ) (kind : AccessKind) (pair : Pair) → serves frame kind pair ≡ true → (pair.0 ≡ frame) × (allows pair.1 kind ≡ true)
@@ -56,17 +56,17 @@ May-covered ledger h completed device flight agrees covered =
 
 -- so may each access in flight of a device, and of all devices, as the machine sees them
 flights_may : (ledger : Ledger) (h : History) (completed device : ℕ) (flights : List Flight) → Agrees ledger h → AllCovered ledger completed device flights
-    → All (λ (flying : InFlight). May h device flying.frame flying.access.kind) (map shown_flight flights)
-flights_may ledger h completed device [] agrees covered = All-nil (λ (flying : InFlight). May h device flying.frame flying.access.kind)
+    → All (λ (flying : AcceptedAccess). May h device flying.frame flying.access.kind) (map shown_flight flights)
+flights_may ledger h completed device [] agrees covered = All-nil (λ (flying : AcceptedAccess). May h device flying.frame flying.access.kind)
 flights_may ledger h completed device (flight ∷ later) agrees covered =
-    All-cons (λ (flying : InFlight). May h device flying.frame flying.access.kind) (shown_flight flight) (map shown_flight later)
+    All-cons (λ (flying : AcceptedAccess). May h device flying.frame flying.access.kind) (shown_flight flight) (map shown_flight later)
     (May-covered ledger h completed device flight agrees (covered 0 flight refl))
     (flights_may ledger h completed device later agrees (λ k f at. covered (suc k) f at))
 
-pub each_may : (ledger : Ledger) (h : History) (completed events : ℕ) (devices : List Device) → Agrees ledger h → AreDevices ledger completed events devices
-    → All (λ (device : machine.Device). All (λ (flying : InFlight). May h device.id flying.frame flying.access.kind) device.in_flight) (shown_devices devices)
-each_may ledger h completed events [] agrees each = All-nil (λ (device : machine.Device). All (λ (flying : InFlight). May h device.id flying.frame flying.access.kind) device.in_flight)
+pub each_may : (ledger : Ledger) (h : History) (completed events : ℕ) (devices : List Device) → Agrees ledger h → AreSoundDevices ledger completed events devices
+    → All (λ (device : machine.Device). All (λ (flying : AcceptedAccess). May h device.id flying.frame flying.access.kind) device.in_flight) (shown_devices devices)
+each_may ledger h completed events [] agrees each = All-nil (λ (device : machine.Device). All (λ (flying : AcceptedAccess). May h device.id flying.frame flying.access.kind) device.in_flight)
 each_may ledger h completed events (device ∷ others) agrees each =
-    All-cons (λ (device : machine.Device). All (λ (flying : InFlight). May h device.id flying.frame flying.access.kind) device.in_flight) (shown_device device) (shown_devices others)
+    All-cons (λ (device : machine.Device). All (λ (flying : AcceptedAccess). May h device.id flying.frame flying.access.kind) device.in_flight) (shown_device device) (shown_devices others)
     (flights_may ledger h completed device.id device.in_flight agrees (each 0 device refl).covered)
     (each_may ledger h completed events others agrees (λ k d at. each (suc k) d at))

@@ -10,7 +10,7 @@ use Rattle.iom_machine.specs.Refusals.{plug_reasons, first_that_applies}
 use Rattle.iom_base.specs.declared.owner.Owner.{Owner}
 use Rattle.iom_world.specs.declared.device.Device.{Device}
 use Rattle.iom_world.specs.Devices.{shown_device, shown_devices}
-use Rattle.iom_world.specs.Facts.{IsDevice, HaveOwnIds, HoldersArePlugged}
+use Rattle.iom_world.specs.Facts.{IsSoundDevice, HaveOwnIds, HoldersArePlugged}
 use Rattle.iom_world.specs.Places.{IsAbsent, IsPlaceOf}
 use Rattle.iom_world.specs.Queue.{Queue}
 use Rattle.iom_world.specs.Sound.{IsSound}
@@ -43,7 +43,7 @@ pub record IsNew (device : Device) (id : ℕ) : Type 0 where
   pub none : device.accepted ≡ 0
 
 sound_new : (ledger : Ledger) (completed events id : ℕ) (devices : List Device) (device : Device) → HoldersArePlugged ledger devices → IsAbsent devices id → IsNew device id
-    → IsDevice ledger completed events device
+    → IsSoundDevice ledger completed events device
 sound_new ledger completed events id devices device holders absent new = record {
   detached = λ no page. holders device.id page (λ k other at same. absent k other at (same ∙ new.own));
   covered = λ k flight at. absurd (none_there k flight (subst (λ fs. slice_get fs k ≡ Some flight) new.idle at));
@@ -71,11 +71,11 @@ sound_plugged memory marks ledger devices queue events id device sound absent fe
   grants = sound.grants;
   each = λ k d at. elim (get_pushed devices device d k at) [
     | inl e ↦ sound.each k d e
-    | inr e ↦ subst (λ other. IsDevice ledger queue.completed events other) (sym e.1) (sound_new ledger queue.completed events id devices device sound.holders absent new)
+    | inr e ↦ subst (λ other. IsSoundDevice ledger queue.completed events other) (sym e.1) (sound_new ledger queue.completed events id devices device sound.holders absent new)
   ];
   own_ids = own_ids_new devices device id sound.own_ids absent new;
   holders = λ other page none. sound.holders other page (λ k d at. none k d (get_longer devices device d k at));
-  waiting = sound.waiting;
+  pending = sound.pending;
   few = omega (arith, length-append devices (device ∷ []));
 }
 

@@ -10,7 +10,7 @@ use Rattle.iom_machine.specs.Tickets.{confirmed_from, last_confirmed}
 use Rattle.iom_base.specs.declared.owner.Owner.{Owner}
 use Rattle.iom_world.specs.declared.device.Device.{Device}
 use Rattle.iom_world.specs.Confirmed.{is_among, unless_among, ConfirmsFrom}
-use Rattle.iom_world.specs.Facts.{AreGrants, serves_still, AreDevices, tickets_after}
+use Rattle.iom_world.specs.Facts.{AreGrants, serves_still, AreSoundDevices, tickets_after}
 use Rattle.iom_world.specs.Queue.{Queue, IsPolled}
 use Rattle.iom_world.specs.Sound.{IsSound}
 use Rattle.iom_world.specs.Tables.{leaf_for, HaveTables}
@@ -42,7 +42,7 @@ still_serves first n completed frame kind (Some released) end = by (is_among fir
     by false e = refl
 
 pub devices_polled : (old new : Ledger) (first n completed events : ℕ) (devices : List Device) → ConfirmsFrom old new first n → first + n ≡ completed + 1
-    → AreDevices old completed events devices → AreDevices new completed events devices
+    → AreSoundDevices old completed events devices → AreSoundDevices new completed events devices
 devices_polled old new first n completed events devices confirmed end each k device at = record {
   detached = λ none page. confirmed.held device.id page ∙ (each k device at).detached none page;
   covered = λ j flight flies.
@@ -104,8 +104,8 @@ sound_polled memory marks old new devices queue events first n last sound confir
   each = devices_polled old new first n queue.completed events devices confirmed (omega (arith, poll.all, poll.done)) sound.each;
   own_ids = sound.own_ids;
   holders = λ id page none. confirmed.held id page ∙ sound.holders id page none;
-  waiting =
-      confirmed.waiting ∙ ap (filter (λ t. not (is_among first n t))) sound.waiting
+  pending =
+      confirmed.pending ∙ ap (filter (λ t. not (is_among first n t))) sound.pending
       ∙ drop_among first n queue.confirmed last (last - queue.confirmed) (queue.given - last) (queue.given - queue.confirmed)
       (omega (arith, poll.next)) poll.all (omega (arith, poll.some)) (omega (arith, poll.some, poll.given));
   few = sound.few;

@@ -17,7 +17,7 @@ use Rattle.iom_machine.specs.Refusals.{first_that_applies, attachment_reasons, r
 use Rattle.iom_machine.specs.Tickets.{last_confirmed, pending_tickets}
 use Rattle.iom_base.specs.declared.owner.Owner.{Owner}
 use Rattle.iom_world.specs.declared.device.Device.{Device}
-use Rattle.iom_world.specs.Facts.{AreGrants, serves, serves_still, IsDevice, tickets_after}
+use Rattle.iom_world.specs.Facts.{AreGrants, serves, serves_still, IsSoundDevice, tickets_after}
 use Rattle.iom_world.specs.Queue.{Queue, with_release}
 use Rattle.iom_world.specs.Sound.{IsSound}
 
@@ -56,13 +56,13 @@ pub not_granted : (state : State) (ledger : Ledger) (id page : ℕ) → IsAttach
 not_granted state ledger id page attached agrees none = attached (later_reasons state id page) ∙ rw ((agrees.pages id page).holds, none) refl
 
 pub too_many_pending : (state : State) (ledger : Ledger) (id page given confirmed : ℕ) → IsAttached state id → Agrees ledger state.history → is_some (held_in ledger id page) ≡ true
-    → state.tickets ≡ given → last_confirmed state.history ≡ confirmed → 256 ≤ given - confirmed → first_that_applies (release_reasons state id page) ≡ Some TooManyPending
+    → state.last_ticket ≡ given → last_confirmed state.history ≡ confirmed → 256 ≤ given - confirmed → first_that_applies (release_reasons state id page) ≡ Some TooManyPending
 too_many_pending state ledger id page given confirmed attached agrees held tickets last many =
     let pending : nat_le 256 (given - confirmed) ≡ true = le-leb 256 (given - confirmed) many in
     attached (later_reasons state id page) ∙ rw ((agrees.pages id page).holds, held, tickets, last, pending) refl
 
 pub may_release : (state : State) (ledger : Ledger) (id page given confirmed : ℕ) → IsAttached state id → Agrees ledger state.history → is_some (held_in ledger id page) ≡ true
-    → state.tickets ≡ given → last_confirmed state.history ≡ confirmed → given - confirmed < 256 → first_that_applies (release_reasons state id page) ≡ None
+    → state.last_ticket ≡ given → last_confirmed state.history ≡ confirmed → given - confirmed < 256 → first_that_applies (release_reasons state id page) ≡ None
 may_release state ledger id page given confirmed attached agrees held tickets last few =
     let pending : nat_le 256 (given - confirmed) ≡ false = lt-leb 256 (given - confirmed) few in
     attached (later_reasons state id page) ∙ rw ((agrees.pages id page).holds, held, tickets, last, pending) refl
@@ -136,7 +136,7 @@ covered_released false held released completed ticket frame kind later alone cov
 
 -- a device, after a release
 device_released : (ledger ledger' : Ledger) (completed events id page ticket : ℕ) (device : Device) → Releases ledger ledger' id page ticket → completed < ticket
-    → IsDevice ledger completed events device → IsDevice ledger' completed events device
+    → IsSoundDevice ledger completed events device → IsSoundDevice ledger' completed events device
 device_released ledger ledger' completed events id page ticket device released later sound = record {
   detached = λ no p. released.held device.id p ∙ still_none ((id == device.id) && (page == p)) (held_in ledger device.id p) (sound.detached no p);
   covered = λ k flight at.
@@ -171,6 +171,6 @@ sound_released memory memory' marks ledger ledger' devices queue events id page 
   each = λ k device at. device_released ledger ledger' queue.completed events id page (queue.given + 1) device released later (sound.each k device at);
   own_ids = sound.own_ids;
   holders = λ d p none. released.held d p ∙ still_none ((id == d) && (page == p)) (held_in ledger d p) (sound.holders d p none);
-  waiting = released.waiting ∙ ap (λ ts. ts ++ (queue.given + 1) ∷ []) sound.waiting ∙ sym (tickets_given queue.confirmed queue.given confirmed);
+  pending = released.pending ∙ ap (λ ts. ts ++ (queue.given + 1) ∷ []) sound.pending ∙ sym (tickets_given queue.confirmed queue.given confirmed);
   few = sound.few;
 }

@@ -8,7 +8,7 @@ use Rattle.iom_machine.specs.Devices.{with_device, replaced_device}
 use Rattle.iom_base.specs.declared.owner.Owner.{Owner}
 use Rattle.iom_world.specs.declared.device.Device.{Device}
 use Rattle.iom_world.specs.Devices.{shown_device, shown_devices}
-use Rattle.iom_world.specs.Facts.{IsDevice, HaveOwnIds, HoldersArePlugged}
+use Rattle.iom_world.specs.Facts.{IsSoundDevice, HaveOwnIds, HoldersArePlugged}
 use Rattle.iom_world.specs.Places.{IsPlaceOf}
 use Rattle.iom_world.specs.Queue.{Queue}
 use Rattle.iom_world.specs.Sound.{IsSound}
@@ -84,18 +84,18 @@ holders_changed ledger devices place old now was still holders id page none =
 
 -- what holds between the parts of a world still holds, where it holds of the changed device
 pub sound_changed : (memory : List (List ℕ)) (marks : List (Option Owner)) (ledger : Ledger) (devices : List Device) (queue : Queue) (events place : ℕ) (old now : Device)
-    → IsSound memory marks ledger devices queue events → slice_get devices place ≡ Some old → IsStill old now → IsDevice ledger queue.completed events now
+    → IsSound memory marks ledger devices queue events → slice_get devices place ≡ Some old → IsStill old now → IsSoundDevice ledger queue.completed events now
     → IsSound memory marks ledger (slice_set devices place now) queue events
 sound_changed memory marks ledger devices queue events place old now sound was still is = record {
   marked = sound.marked;
   grants = sound.grants;
   each = λ k device at. elim (get_changed devices place k now device (get_within devices place old was) at) [
     | inl same ↦ sound.each k device same
-    | inr changed ↦ subst (λ d. IsDevice ledger queue.completed events d) (sym changed.1) is
+    | inr changed ↦ subst (λ d. IsSoundDevice ledger queue.completed events d) (sym changed.1) is
   ];
   own_ids = own_ids_changed devices place old now was still sound.own_ids;
   holders = holders_changed ledger devices place old now was still sound.holders;
-  waiting = sound.waiting;
+  pending = sound.pending;
   few = rw (length-set devices place now) (sound.few);
 }
 

@@ -25,7 +25,7 @@ use Rattle.iom_machine.specs.Requests.{MayAccept, MayFault, MayAnswer, answered,
 use Rattle.iom_machine.specs.Requests as requests
 use Rattle.iom_world.specs.declared.device.Device.{Device}
 use Rattle.iom_world.specs.Devices.{shown_flight, shown_device, shown_devices, shown_attachment}
-use Rattle.iom_world.specs.Facts.{IsDevice, IsCovered, serves}
+use Rattle.iom_world.specs.Facts.{IsSoundDevice, IsCovered, serves}
 use Rattle.iom_world.specs.Held.{IsHeldFor, NoneIsHeldFor}
 use Rattle.iom_base.specs.declared.owner.Owner.{Owner}
 use Rattle.iom_world.specs.Places.{IsAbsent, IsPlaceOf}
@@ -98,8 +98,8 @@ covered_by_held (Some root) ledger completed id flight within translated = recor
 abbrev pub with_flight : Device → Flight → Device
 with_flight device flight = record device { accepted = device.accepted + 1; in_flight = device.in_flight ++ flight ∷ [] }
 
-pub device_accepted : (ledger : Ledger) (completed events : ℕ) (device : Device) (flight : Flight) → IsDevice ledger completed events device
-    → IsCovered ledger completed device.id flight → device.accepted < events → IsDevice ledger completed events (with_flight device flight)
+pub device_accepted : (ledger : Ledger) (completed events : ℕ) (device : Device) (flight : Flight) → IsSoundDevice ledger completed events device
+    → IsCovered ledger completed device.id flight → device.accepted < events → IsSoundDevice ledger completed events (with_flight device flight)
 device_accepted ledger completed events device flight is covered counted = record {
   detached = is.detached;
   covered = λ k other at. elim (get_pushed device.in_flight flight other k at) [
@@ -139,7 +139,7 @@ pub sound_accepted : (memory : List (List ℕ)) (marks : List (Option Owner)) (l
     → IsSound memory marks ledger (slice_set devices place now) queue events
 sound_accepted memory marks ledger devices queue events place device flight now sound at is within translated counted =
     sound_changed memory marks ledger devices queue events place device now sound at (still_accepted device flight now is)
-    (subst (λ d. IsDevice ledger queue.completed events d) (sym is)
+    (subst (λ d. IsSoundDevice ledger queue.completed events d) (sym is)
     (device_accepted ledger queue.completed events device flight (sound.each place device at) (covered_by_held device.root ledger queue.completed device.id flight within translated) counted))
 
 pub tables_accepted : (memory : List (List ℕ)) (marks : List (Option Owner)) (ledger : Ledger) (devices : List Device) (place : ℕ) (device : Device) (flight : Flight) (now : Device)

@@ -10,7 +10,7 @@ use Rattle.iom_machine.specs.Machine.{ChosenStep, Step, Run}
 use Rattle.iom_base.specs.declared.owner.Owner.{Owner}
 use Rattle.iom_world.specs.declared.device.Device.{Device}
 use Rattle.iom_world.specs.declared.world.World.{World}
-use Rattle.iom_world.specs.Facts.{AreDevices}
+use Rattle.iom_world.specs.Facts.{AreSoundDevices}
 use Rattle.iom_world.specs.Places.{CountsBelow}
 use Rattle.iom_world.specs.Queue.{Queue}
 use Rattle.iom_world.specs.Runs.{TakesAll, RunsTo, FailsAfter}
@@ -49,12 +49,12 @@ sound_counted memory marks ledger devices queue events sound = record {
   };
   own_ids = sound.own_ids;
   holders = sound.holders;
-  waiting = sound.waiting;
+  pending = sound.pending;
   few = sound.few;
 }
 
 -- no device has had more accesses accepted than events before the one that is counted
-pub below_counted : (ledger : Ledger) (completed events : ℕ) (devices : List Device) → AreDevices ledger completed events devices → CountsBelow devices (events + 1)
+pub below_counted : (ledger : Ledger) (completed events : ℕ) (devices : List Device) → AreSoundDevices ledger completed events devices → CountsBelow devices (events + 1)
 below_counted ledger completed events devices each k device at =
     let count : device.accepted ≤ events = (each k device at).counted in omega arith
 

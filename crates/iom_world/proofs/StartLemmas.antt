@@ -126,7 +126,7 @@ sound_at_start n ledger size agrees = record {
   each = λ k device at. absurd (none_there k device at);
   own_ids = λ j k one other at at' same. absurd (none_there j one at);
   holders = λ id page none. none_held ledger agrees id page;
-  waiting = sym agrees.waiting;
+  pending = sym agrees.pending;
   few = omega arith;
 }
   where

@@ -4,12 +4,12 @@ use Rattle.iom_inflight.specs.Flights.{Flight}
 use Rattle.iom_machine.specs.declared.state.Attachment.{Attachment}
 use Rattle.iom_machine.specs.declared.state.Attachment.TheVariants.{Detached, Attached}
 use Rattle.iom_machine.specs.declared.state.Mode.TheVariants.{First}
-use Rattle.iom_machine.specs.declared.state.InFlight.{InFlight}
+use Rattle.iom_machine.specs.declared.state.AcceptedAccess.{AcceptedAccess}
 use Rattle.iom_machine.specs.declared.state.Device as machine
 use Rattle.iom_world.specs.declared.device.Device.{Device}
 
 -- an access in flight
-abbrev pub shown_flight : Flight → InFlight
+abbrev pub shown_flight : Flight → AcceptedAccess
 shown_flight flight = record {
   access = record { address = flight.address; len = flight.len; kind = flight.kind; bytes = flight.bytes };
   frame = flight.frame;

@@ -47,15 +47,15 @@ tickets_after first zero = []
 tickets_after first (suc n) = (first + 1) ∷ tickets_after (first + 1) n
 
 -- a device: nothing is held where it has no root, its accesses are covered, and no more were accepted than events came
-pub record IsDevice (ledger : Ledger) (completed events : ℕ) (device : Device) : Type 0 where
+pub record IsSoundDevice (ledger : Ledger) (completed events : ℕ) (device : Device) : Type 0 where
   pub detached : device.root ≡ None → (page : ℕ) → held_in ledger device.id page ≡ None
   pub covered : AllCovered ledger completed device.id device.in_flight
   pub counted : device.accepted ≤ events
 
 -- each device is so
-abbrev pub AreDevices : Ledger → ℕ → ℕ → List Device → Type 0
-AreDevices ledger completed events devices =
-    (k : ℕ) (device : Device) → slice_get devices k ≡ Some device → IsDevice ledger completed events device
+abbrev pub AreSoundDevices : Ledger → ℕ → ℕ → List Device → Type 0
+AreSoundDevices ledger completed events devices =
+    (k : ℕ) (device : Device) → slice_get devices k ≡ Some device → IsSoundDevice ledger completed events device
 
 -- no two devices have the same id
 abbrev pub HaveOwnIds : List Device → Type 0

@@ -3,7 +3,7 @@ use Rattle.std.specs.Prelude.{◌≡◌, ℕ, List, [], ◌∷◌, Some, slice_g
 use Rattle.iom_base.specs.declared.access.AccessKind.{AccessKind}
 use Rattle.iom_base.specs.declared.access.AccessKind.TheVariants.{Write}
 use Rattle.iom_inflight.specs.declared.in_flight.Accepted.{Accepted}
-use Rattle.iom_inflight.specs.Flights.{Flight, described}
+use Rattle.iom_inflight.specs.Flights.{Flight, description_of}
 use Rattle.iom_world.specs.declared.device.Device.{Device}
 
 -- the oldest access is a write of so many bytes
@@ -15,4 +15,4 @@ OldestWritesSoMany (flight ∷ later) len = (flight.kind ≡ Write) × (flight.l
 abbrev pub IsOldestAt : List Device → ℕ → Accepted → AccessKind → Type 0
 IsOldestAt devices place access kind =
     (device : Device) × (flight : Flight) × (slice_get devices place ≡ Some device) × (slice_get device.in_flight 0 ≡ Some flight)
-    × (access ≡ described flight) × (flight.kind ≡ kind)
+    × (access ≡ description_of flight) × (flight.kind ≡ kind)

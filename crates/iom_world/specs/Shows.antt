@@ -13,7 +13,7 @@ pub record Shows (world : World) (state : State) : Type 0 where
   pub ledger : Agrees world.ledger state.history
   pub frames : ShowsFrames world.memory world.marks state.frames
   pub devices : state.devices ≡ shown_devices world.devices.items
-  pub given : state.tickets ≡ world.commands.given
+  pub given : state.last_ticket ≡ world.commands.given
   pub confirmed : last_confirmed state.history ≡ world.commands.confirmed
   pub none_later : (ticket : ℕ) → world.commands.confirmed < ticket → confirms state.history ticket ≡ false
   pub levels : state.levels ≡ world.levels

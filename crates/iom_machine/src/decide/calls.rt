@@ -198,7 +198,7 @@ pub(crate) fn judge_release(
     let first = release_refusal(&state, id, page);
     match outcome {
         Outcome::Ticket(ticket) => {
-            if first.is_some() || u64::from(*ticket) != u64::from(state.tickets) + 1 {
+            if first.is_some() || u64::from(*ticket) != u64::from(state.last_ticket) + 1 {
                 return Ok(None);
             }
             let mut next = state;
@@ -207,7 +207,7 @@ pub(crate) fn judge_release(
                 page,
                 ticket: *ticket,
             })?;
-            next.tickets = *ticket;
+            next.last_ticket = *ticket;
             Ok(Some(next))
         }
         Outcome::Refused(why) => {

@@ -2,7 +2,7 @@
 ghost use Rattle.std.specs.Prelude.{◌≡◌, ◌↔◌, ◌<◌, [], IfOk, OnOk, IsTrue, IsSomeAnd, Some, take, drop, length, slice_get, slice_set};
 ghost use Rattle.std.specs.Option.{option_copied};
 ghost use Rattle.iom_machine.specs.declared.state.Device.{Device};
-ghost use Rattle.iom_machine.specs.declared.state.InFlight.{InFlight};
+ghost use Rattle.iom_machine.specs.declared.state.AcceptedAccess.{AcceptedAccess};
 ghost use Rattle.iom_machine.specs.declared.state.State.{State};
 ghost use Rattle.iom_machine.specs.Frames.{bytes_of, written, stored};
 ghost use Rattle.iom_machine.specs.Requests.{offset_of};
@@ -14,7 +14,7 @@ use crate::decide::history::may;
 use crate::decide::requests::answers_absent;
 use crate::outcome::Outcome;
 use crate::sequence::Sequence;
-use crate::state::{Device, Frame, InFlight, State};
+use crate::state::{Device, Frame, AcceptedAccess, State};
 use iom_base::{AccessKind, DeviceId};
 use std::alloc::{AllocError, Global};
 
@@ -92,7 +92,7 @@ fn store(
 }
 
 /// Whether the access is a read that its device may make, and gives these bytes.
-fn gives(state: &State, id: DeviceId, made: &InFlight, bytes: &[u8]) -> bool
+fn gives(state: &State, id: DeviceId, made: &AcceptedAccess, bytes: &[u8]) -> bool
     ensures { IsTrue result ↔ GivesBytes state.now id made.now bytes.now }
 {
     if made.access.kind != AccessKind::Read {
@@ -115,7 +115,7 @@ fn gives(state: &State, id: DeviceId, made: &InFlight, bytes: &[u8]) -> bool
 }
 
 /// Whether the access is a write of so many bytes that its device may make.
-fn writes(state: &State, id: DeviceId, made: &InFlight, len: u64) -> bool
+fn writes(state: &State, id: DeviceId, made: &AcceptedAccess, len: u64) -> bool
     ensures { IsTrue result ↔ MakesWrite state.now id made.now len }
 {
     if made.access.kind != AccessKind::Write {
@@ -133,7 +133,7 @@ fn writes(state: &State, id: DeviceId, made: &InFlight, len: u64) -> bool
 }
 
 /// The oldest access of the device in flight.
-fn oldest(device: &Device) -> Option<&InFlight>
+fn oldest(device: &Device) -> Option<&AcceptedAccess>
     ensures { option_copied result ≡ slice_get device.now.in_flight 0 }
 {
     device.in_flight.as_slice().first()
@@ -171,7 +171,7 @@ fn has_none_in_flight(device: &Device) -> bool
 /// Makes the oldest access of the device, a write.
 fn write(alloc: Global, state: &mut State, place: usize) -> Result<(), AllocError>
     requires { (place < length state.old.devices) × ((device : Device) → slice_get state.old.devices place ≡ Some device → 0 < length device.in_flight) }
-    ensures { OnOk result ((device : Device) (made : InFlight) → slice_get state.old.devices place ≡ Some device → slice_get device.in_flight 0 ≡ Some made
+    ensures { OnOk result ((device : Device) (made : AcceptedAccess) → slice_get state.old.devices place ≡ Some device → slice_get device.in_flight 0 ≡ Some made
         → state.new ≡ record state.old {
           devices = slice_set state.old.devices place (record device { in_flight = drop 1 device.in_flight });
           frames = stored state.old.frames made.frame (offset_of made.access) made.access.bytes;

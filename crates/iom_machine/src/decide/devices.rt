@@ -5,7 +5,7 @@ ghost use Rattle.iom_machine.specs.Judging.{IsPlaceOf};
 ghost use Rattle.iom_machine.specs.declared.state.Device.{Device};
 
 use crate::sequence::Sequence;
-use crate::state::{Access, Attachment, Device, InFlight};
+use crate::state::{Access, Attachment, Device, AcceptedAccess};
 use iom_base::DeviceId;
 use std::alloc::AllocError;
 
@@ -48,7 +48,7 @@ pub(crate) fn accept(
         → devices.new ≡ slice_set devices.old place (record device { accepted = number; in_flight = device.in_flight ++ record { access = access; frame = frame } ∷ [] })) }
 {
     let device = &mut devices.items[place];
-    device.in_flight.push(InFlight { access, frame })?;
+    device.in_flight.push(AcceptedAccess { access, frame })?;
     device.accepted = number;
     Ok(())
 }
@@ -64,7 +64,7 @@ pub(crate) fn set_attachment(devices: &mut Sequence<Device>, place: usize, attac
 }
 
 /// Takes the oldest access of the device, which is in flight no more.
-pub(crate) fn take_oldest(devices: &mut Sequence<Device>, place: usize) -> InFlight
+pub(crate) fn take_oldest(devices: &mut Sequence<Device>, place: usize) -> AcceptedAccess
     requires { (place < length devices.old) × ((device : Device) → slice_get devices.old place ≡ Some device → 0 < length device.in_flight) }
     ensures { (device : Device) → slice_get devices.old place ≡ Some device
         → (slice_get device.in_flight 0 ≡ Some result) × (devices.new ≡ slice_set devices.old place (record device { in_flight = drop 1 device.in_flight })) }

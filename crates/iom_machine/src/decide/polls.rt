@@ -8,13 +8,13 @@ ghost use Rattle.iom_machine.specs.Machine.{Polls};
 use crate::decide::history::{last_ticket_confirmed, may};
 use crate::outcome::Outcome;
 use crate::sequence::Sequence;
-use crate::state::{Device, InFlight, State};
+use crate::state::{Device, AcceptedAccess, State};
 use iom_base::DeviceId;
 use iom_ledger::Entry;
 use std::alloc::AllocError;
 
 /// Whether each of the accesses of the device may reach its frame.
-fn each_may(history: &[Entry], id: DeviceId, in_flight: &[InFlight]) -> bool
+fn each_may(history: &[Entry], id: DeviceId, in_flight: &[AcceptedAccess]) -> bool
     ensures { IsTrue result ↔ All (λ flying. May history.now id flying.frame flying.access.kind) in_flight.now }
 {
     match in_flight {
@@ -66,7 +66,7 @@ fn are_next_tickets(state: &State, first: u32, last: u32) -> bool
     if first > last {
         return false;
     }
-    last <= state.tickets
+    last <= state.last_ticket
 }
 
 /// The state after a poll, where it may come so.

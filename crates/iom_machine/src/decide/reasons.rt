@@ -93,7 +93,7 @@ fn pending(state: &State) -> u32
     ensures { result ≡ pending_tickets state.now }
 {
     state
-        .tickets
+        .last_ticket
         .saturating_sub(last_ticket_confirmed(state.history.as_slice()))
 }
 

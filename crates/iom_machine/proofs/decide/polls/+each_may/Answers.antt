@@ -1,7 +1,7 @@
 use Rattle.std.proofs.Common.{◌≡◌, ◌<◌, Some, slice_get, length, refl, arith}
 use Rattle.std.proofs.lemmas.Option.{slice_get_read}
 use Rattle.iom_ledger.specs.History.{May}
-use Rattle.iom_machine.specs.declared.state.InFlight.{InFlight}
+use Rattle.iom_machine.specs.declared.state.AcceptedAccess.{AcceptedAccess}
 use Rattle.iom_machine.proofs.InFlightLemmas.{All-by_parts}
 use Rattle.iom_machine.proofs.decide.polls.+each_may.Goals as goal
 
@@ -11,5 +11,5 @@ returns-else-not-may t c =
     let first : slice_get c.args.in_flight.now 0 ≡ Some c.flying-item.result =
     slice_get_read c.args.in_flight.now _ 0 c.flying-item.result refl some c.flying-item.is in
     let here = rw c.from.ensures at (c.may.ensures.0 c.if-not-may.false) in
-    let parts = All-by_parts (λ (flying : InFlight). May c.args.history.now c.args.id flying.frame flying.access.kind) c.args.in_flight.now c.flying-item.result first in
+    let parts = All-by_parts (λ (flying : AcceptedAccess). May c.args.history.now c.args.id flying.frame flying.access.kind) c.args.in_flight.now c.flying-item.result first in
     ((λ yes. parts.0 here (c.each_may.ensures.0 yes)), (λ all. c.each_may.ensures.1 (parts.1 all)))

@@ -12,7 +12,7 @@ loop-fixed-init c =
       marks = fixed_none c.loop-free.marks.items c.loop-free.free c.args.frames c.loop-free.invariant all c.requires.fixed;
       long = ap length c.loop-free.invariant ∙ length-replicate {A = Option Owner} c.loop-free.free None ∙ all;
       offers = OffersUnreserved-none c.loop-free.marks.items c.args.ledger.now c.loop-free.free c.args.frames c.loop-free.invariant all c.requires.pool;
-      shows = record { held = λ d a. refl; lingering = λ d a. refl; waiting = refl };
+      shows = record { held = λ d a. refl; lingering = λ d a. refl; pending = refl };
       agrees = λ h agrees. agrees;
     }
 
@@ -27,7 +27,7 @@ loop-fixed-preserved c =
       shows = record {
         held = λ d a. now.held d a ∙ was.shows.held d a;
         lingering = λ d a. now.lingering d a ∙ was.shows.lingering d a;
-        waiting = now.waiting ∙ was.shows.waiting;
+        pending = now.pending ∙ was.shows.pending;
       };
       agrees = λ h agrees. c.reserve.ensures.agrees h (was.agrees h agrees);
     }

@@ -1,6 +1,6 @@
 use Rattle.std.proofs.Common.{◌≡◌, ◌+◌, ◌-◌, ◌∙◌, suc, List, refl, sym, ap, subst, arith}
 use Rattle.iom_ledger.specs.History.{May}
-use Rattle.iom_machine.specs.declared.state.InFlight.{InFlight}
+use Rattle.iom_machine.specs.declared.state.AcceptedAccess.{AcceptedAccess}
 use Rattle.iom_machine.specs.declared.state.Device as machine
 use Rattle.iom_machine.specs.Tickets.{with_confirmed, confirmed_from}
 use Rattle.std.proofs.Common.{All}
@@ -45,7 +45,7 @@ returns-in-Some-clause-step c = λ state shows.
           omega (arith, shows.given, poll.given),
         ),
         refl,
-        subst (λ (devices : List machine.Device). All (λ (device : machine.Device). All (λ (flying : InFlight). May (confirmed_from first (suc (last - first)) state.history) device.id flying.frame flying.access.kind) device.in_flight) devices)
+        subst (λ (devices : List machine.Device). All (λ (device : machine.Device). All (λ (flying : AcceptedAccess). May (confirmed_from first (suc (last - first)) state.history) device.id flying.frame flying.access.kind) device.in_flight) devices)
             (sym shows.devices) (each_may c.confirm_tickets.new.ledger _ world.commands.completed world.events world.devices.items agrees each),
       ),
       record {

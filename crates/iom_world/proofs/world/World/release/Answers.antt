@@ -1,7 +1,7 @@
 use Rattle.std.proofs.Common.{◌≡◌, inl, inr, ◌≤◌, ◌<◌, ◌+◌, ◌-◌, ◌∙◌, [], ◌∷◌, ℕ, List, None, length, true, is_some, refl, sym, ap, arith}
 use Rattle.iom_ledger.specs.declared.entry.Entry.TheVariants as entry
 use Rattle.iom_ledger.specs.declared.refusal.Refusal.TheVariants.{NotGranted, TooManyPending, QueueFull, NumbersUsedUp}
-use Rattle.iom_ledger.specs.Shown.{held_in, waiting_in}
+use Rattle.iom_ledger.specs.Shown.{held_in, pending_in}
 use Rattle.iom_machine.specs.Refusals.{release_reasons, MayRefuseRelease}
 use Rattle.iom_world.specs.Queue.{Queue}
 use Rattle.iom_world.proofs.FrameLemmas.{shows_kept}
@@ -78,8 +78,8 @@ pub release-requires-clause-room : goal.release-requires-clause-room
 release-requires-clause-room c =
     let queue = c.args.self.now.commands in
     let few : queue.given - queue.confirmed < 256 = below_limit 256 (queue.given - queue.confirmed) c.if-are_all_pending.ensures.1 in
-    let size : length (waiting_in c.args.self.now.ledger) ≡ queue.given - queue.confirmed =
-    ap (λ (ts : List ℕ). length ts) c.args.self.now.sound.waiting ∙ length-tickets_after queue.confirmed (queue.given - queue.confirmed) in
+    let size : length (pending_in c.args.self.now.ledger) ≡ queue.given - queue.confirmed =
+    ap (λ (ts : List ℕ). length ts) c.args.self.now.sound.pending ∙ length-tickets_after queue.confirmed (queue.given - queue.confirmed) in
     omega (arith, size, few)
 
 pub unmap-requires-clause-page : goal.unmap-requires-clause-page
@@ -130,7 +130,7 @@ returns-clause-step c = λ state shows.
     } in
     let tables = tables_of_root world.memory world.marks world.ledger world.devices.items c.args.id c.in-Ok.root world.tables c.in-Ok.ensures.root in
     let after = c.release-ticket.ensures.after in (
-      record state { history = entry.Released c.args.id c.args.page ticket ∷ state.history; tickets = ticket },
+      record state { history = entry.Released c.args.id c.args.page ticket ∷ state.history; last_ticket = ticket },
       (
         may_release state world.ledger c.args.id c.args.page queue.given queue.confirmed (c.in-Ok.ensures.attached state shows) shows.ledger held shows.given shows.confirmed few,
         c.release-ticket.ensures.ticket ∙ ap (λ n. n + 1) (sym shows.given),

@@ -17,5 +17,5 @@ tickets_of [] = []
 tickets_of (entry ∷ before) = tickets_of before ++ tickets_by entry
 
 -- the tickets of the releases that the history doesn't confirm, the oldest first
-abbrev pub unconfirmed : History → List ℕ
-unconfirmed history = filter (λ ticket. not (confirms history ticket)) (tickets_of history)
+abbrev pub pending_of : History → List ℕ
+pending_of history = filter (λ ticket. not (confirms history ticket)) (tickets_of history)
