@@ -1,5 +1,5 @@
 ghost use Rattle.std.specs.Prelude.{◌≡◌, ◌+◌, ◌<◌, ◌≤◌, ◌^◌, IfSome, IfOk, length};
-ghost use Rattle.iom_machine.specs.Machine.{opening};
+ghost use Rattle.iom_machine.specs.PowerOn.{opening};
 ghost use Rattle.iom_script.specs.Grammar.{IsWorldSize};
 ghost use Rattle.iom_lawful.specs.Outputs.{IsRunFrom, IsOutputOf};
 

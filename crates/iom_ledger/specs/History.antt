@@ -63,6 +63,10 @@ abbrev pub lingering_at : History → ℕ → ℕ → List (ℕ × Pair)
 lingering_at history device page =
     filter (λ released. not (confirms history released.0)) (released_at history device page)
 
+-- whether the pair is on the frame, with a right that allows the kind
+abbrev pub serves : ℕ → AccessKind → Pair → Bool
+serves frame kind pair = (pair.0 == frame) && allows pair.1 kind
+
 -- the device holds the pair at the page
 abbrev pub Holds : History → ℕ → ℕ → Pair → Type 0
 Holds history device page pair = held_at history device page ≡ Some pair

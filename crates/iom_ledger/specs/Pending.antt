@@ -1,4 +1,4 @@
--- Which tickets wait, by a history.
+-- Which tickets are pending, by a history.
 use Rattle.std.specs.Prelude.{ℕ, not, List, [], ◌∷◌, ◌++◌, filter}
 use Rattle.iom_ledger.specs.declared.entry.Entry.{Entry}
 use Rattle.iom_ledger.specs.declared.entry.Entry.TheVariants.{Granted, Released, AllReleased, Confirmed}

@@ -26,7 +26,7 @@ use Rattle.iom_machine.specs.declared.state.State.{State}
 use Rattle.iom_machine.specs.Frames.{bytes_of, stored, written}
 use Rattle.iom_machine.specs.Devices.{device_of, IsPlugged, EachInFlightMay}
 use Rattle.iom_machine.specs.Tickets.{confirmed_from}
-use Rattle.iom_machine.specs.Requests.{offset_of, IsWithinPage, IsBusy, HoldsFor, MayAccept, MayFault, MayAnswer, answered, with_accepted}
+use Rattle.iom_machine.specs.Requests.{offset_of, IsWithinPage, IsBusy, HoldsFor, MayAccept, MayFault, MayAnswer, state_after, with_accepted}
 use Rattle.iom_machine.specs.Machine.{Requests, Makes, Step, Run, with_oldest_made}
 use Rattle.iom_machine.specs.Headline.{IsReached, byte_at, IsOldest, IsOutside, AreNamedBytes, TouchesItsOwn, AsksFor, IsOneStage, GrantsFrame, NoneGrants, TouchesFrame}
 use Rattle.iom_machine.proofs.ReachLemmas.{NamesFrame, reach_before}
@@ -189,7 +189,7 @@ no_fault_where_held device state id access frame cause (ats, inl first) held may
 no_fault_where_held device state id access frame cause (ats, inr second) held may = (subst (λ a. MayFault a state id access cause) second may).0 frame held
 
 answered_where_held : (chosen : ℕ) (old new : State) (frame : ℕ) (device : Device) (access : Access) (outcome : Outcome)
-    → MayAnswer old device access chosen outcome → new ≡ answered old device access chosen outcome → IsOneStage device → IsWithinPage access → ¬ IsBusy device
+    → MayAnswer old device access chosen outcome → new ≡ state_after old device access chosen outcome → IsOneStage device → IsWithinPage access → ¬ IsBusy device
     → HoldsFor old.history device.id access frame
     → (outcome ≡ Accepted (device.accepted + 1)) × (new ≡ with_accepted old device access frame)
 answered_where_held chosen old new frame device access BadSpan answer next one within room held = absurd (answer within)

@@ -18,7 +18,7 @@ use Rattle.iom_machine.specs.declared.state.AcceptedAccess.{AcceptedAccess}
 use Rattle.iom_machine.specs.declared.state.Mode.TheVariants.{First, Second, Both}
 use Rattle.iom_machine.specs.declared.state.State.{State}
 use Rattle.iom_machine.specs.Devices.{device_of, replaced_device}
-use Rattle.iom_machine.specs.Requests.{read_of, write_of, page_of, IsWithinPage, MayAccept, MayAnswer, answered}
+use Rattle.iom_machine.specs.Requests.{read_of, write_of, page_of, IsWithinPage, MayAccept, MayAnswer, state_after}
 use Rattle.iom_machine.specs.Machine.{Requests, Makes, Commits, Step}
 use Rattle.iom_machine.specs.Headline.{AsksFor, IsAccepted}
 use Rattle.iom_machine.proofs.ReachLemmas.{contains_head, contains_tail}
@@ -101,7 +101,7 @@ accepted_if event (Accepted number) id access asks accepts = asks
 accepted_if event _ id access asks never = absurd never
 
 in_flight-answer : (P : ℕ → AcceptedAccess → Type 0) (chosen : ℕ) (old new : State) (id : ℕ) (device : Device) (access : Access) (outcome : Outcome) → device_of old id ≡ Some device
-    → MayAnswer old device access chosen outcome → new ≡ answered old device access chosen outcome
+    → MayAnswer old device access chosen outcome → new ≡ state_after old device access chosen outcome
     → (IsAcceptance outcome → IsWithinPage access → May old.history id chosen access.kind → P id (record { access = access; frame = chosen }))
     → AllInFlight P old.devices → AllInFlight P new.devices
 in_flight-answer P chosen old new id device access (Accepted number) at (forwarded, accepts, next) same enters all =

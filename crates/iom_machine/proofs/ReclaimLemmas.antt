@@ -4,7 +4,8 @@ use Rattle.iom_machine.specs.declared.event.Event.{Event}
 use Rattle.iom_machine.specs.declared.outcome.Outcome.{Outcome}
 use Rattle.iom_machine.specs.declared.state.State.{State}
 use Rattle.iom_machine.specs.Headline.{IsReached, MadeAccessesTouchTheirOwn, HeldPagesAreAccepted, FreeFramesAreNotTouched}
-use Rattle.iom_machine.specs.Machine.{Step, Run, opening}
+use Rattle.iom_machine.specs.Machine.{Step, Run}
+use Rattle.iom_machine.specs.PowerOn.{opening}
 use Rattle.iom_machine.specs.Reclaim.{Reclaims}
 use Rattle.iom_machine.proofs.HeadlineLemmas.{touches_its_own, accepted_on_its_frame, free-run, untouched}
 use Rattle.iom_machine.proofs.SoundLemmas.{sound_if_reached, sound-run}

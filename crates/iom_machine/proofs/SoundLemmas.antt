@@ -28,8 +28,9 @@ use Rattle.iom_machine.specs.Frames.{with_frame, reserved_for, stored, written}
 use Rattle.iom_machine.specs.Devices.{device_of, EachInFlightMay}
 use Rattle.iom_machine.specs.Tickets.{confirmed_from}
 use Rattle.iom_machine.specs.Refusals.{NoneApplies, first_that_applies, grant_reasons, is_held, is_lingering}
-use Rattle.iom_machine.specs.Requests.{read_of, write_of, offset_of, IsWithinPage, answered}
-use Rattle.iom_machine.specs.Machine.{Requests, Makes, Commits, Step, Run, opening, empty_frame}
+use Rattle.iom_machine.specs.Requests.{read_of, write_of, offset_of, IsWithinPage, state_after}
+use Rattle.iom_machine.specs.Machine.{Requests, Makes, Commits, Step, Run}
+use Rattle.iom_machine.specs.PowerOn.{opening, empty_frame}
 use Rattle.iom_machine.specs.Headline.{GrantsFrame, AsksFor, IsAccepted, WasAccepted, IsReached, IsReachedBy}
 use Rattle.iom_machine.proofs.ReachLemmas.{NamesFrame, reach_before, reach_after_grant, reach_after_release}
 use Rattle.iom_machine.proofs.ByteLemmas.{length-written}
@@ -140,7 +141,7 @@ same_ledger-requests chosen old new id access outcome step = elim (match_cases (
   | inr (device, at, answer) ↦ by device outcome answer.1
 ]
   where
-    by : (device : Device) (outcome : Outcome) → new ≡ answered old device access chosen outcome → SameLedger old new
+    by : (device : Device) (outcome : Outcome) → new ≡ state_after old device access chosen outcome → SameLedger old new
     by device (Accepted number) same = (ap (λ (s : State). s.history) same, ap (λ (s : State). s.last_ticket) same)
     by device _ same = all_same old new same
 
@@ -250,7 +251,7 @@ same_frames-requests chosen old new id access outcome step = elim (match_cases (
   | inr (device, at, answer) ↦ by device outcome answer.1
 ]
   where
-    by : (device : Device) (outcome : Outcome) → new ≡ answered old device access chosen outcome → new.frames ≡ old.frames
+    by : (device : Device) (outcome : Outcome) → new ≡ state_after old device access chosen outcome → new.frames ≡ old.frames
     by device (Accepted number) same = ap (λ (s : State). s.frames) same
     by device _ same = ap (λ (s : State). s.frames) same
 

@@ -17,7 +17,8 @@ use Rattle.iom_machine.specs.declared.state.State.{State}
 use Rattle.iom_machine.specs.Frames.{IsFree, bytes_of}
 use Rattle.iom_machine.specs.Devices.{IsPlugged, EachInFlightMay}
 use Rattle.iom_machine.specs.Requests.{read_of, write_of, offset_of, IsWithinPage, IsBusy, HoldsFor, with_accepted}
-use Rattle.iom_machine.specs.Machine.{Step, Run, opening}
+use Rattle.iom_machine.specs.Machine.{Step, Run}
+use Rattle.iom_machine.specs.PowerOn.{opening}
 
 -- these events from power-on may have had these outcomes, and left the state
 abbrev pub IsReachedBy : List Event → List Outcome → State → Type 0

@@ -5,15 +5,10 @@ use Rattle.std.specs.List.{list_any, IsDistinct}
 use Rattle.std.specs.Option.{option_map_or}
 use Rattle.iom_base.specs.declared.access.AccessKind.{AccessKind}
 use Rattle.iom_base.specs.declared.access.AccessKind.TheVariants.{Read}
-use Rattle.iom_base.specs.Rights.{allows}
 use Rattle.iom_ledger.specs.declared.entry.Entry.TheVariants.{Granted, Released, AllReleased, Confirmed}
-use Rattle.iom_ledger.specs.History.{History, Pair, held_at, released_at, confirms}
+use Rattle.iom_ledger.specs.History.{History, Pair, serves, held_at, released_at, confirms}
 use Rattle.iom_machine.specs.declared.state.Device.{Device}
 use Rattle.iom_machine.specs.Devices.{replaced_device}
-
--- whether the pair is on the frame, with a right that allows the kind
-abbrev pub serves : ℕ → AccessKind → Pair → Bool
-serves frame kind pair = (pair.0 == frame) && allows pair.1 kind
 
 -- whether the device holds the frame at the page, with such a right
 abbrev pub holds_for : History → ℕ → ℕ → AccessKind → ℕ → Bool

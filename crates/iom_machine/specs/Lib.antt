@@ -3,6 +3,7 @@ pub mod Devices
 pub mod Tickets
 pub mod Refusals
 pub mod Requests
+pub mod PowerOn
 pub mod Machine
 pub mod Headline
 pub mod Reclaim

@@ -1,5 +1,5 @@
 -- The ledger machine: what may come of each event, and the state after it.
-use Rattle.std.specs.Prelude.{◌≡◌, ℕ, ◌+◌, ◌-◌, Bool, false, List, [], ◌∷◌, ◌++◌, All, None, Some, MatchOption, IsSomeAnd, slice_get, slice_range, drop, replicate, ⊤}
+use Rattle.std.specs.Prelude.{◌≡◌, ℕ, ◌+◌, Bool, false, List, [], ◌∷◌, ◌++◌, All, Some, MatchOption, IsSomeAnd, slice_get, slice_range, drop, ⊤}
 use Rattle.iom_base.specs.declared.access.AccessKind.TheVariants as kinds
 use Rattle.iom_base.specs.declared.rights.Rights.{Rights}
 use Rattle.iom_ledger.specs.declared.entry.Entry.TheVariants as entry
@@ -16,17 +16,16 @@ use Rattle.iom_machine.specs.declared.state.Attachment.TheVariants.{Detached, At
 use Rattle.iom_machine.specs.declared.state.Device.{Device}
 use Rattle.iom_machine.specs.declared.state.DeviceKind.{DeviceKind}
 use Rattle.iom_machine.specs.declared.state.DeviceKind.TheVariants.{Raw}
-use Rattle.iom_machine.specs.declared.state.Frame.{Frame}
 use Rattle.iom_machine.specs.declared.state.AcceptedAccess.{AcceptedAccess}
 use Rattle.iom_machine.specs.declared.state.Mode.{Mode}
 use Rattle.iom_machine.specs.declared.state.Mode.TheVariants.{First}
-use Rattle.iom_base.specs.declared.owner.Owner.TheVariants.{System, OneDevice}
+use Rattle.iom_base.specs.declared.owner.Owner.TheVariants.{OneDevice}
 use Rattle.iom_machine.specs.declared.state.State.{State}
 use Rattle.iom_machine.specs.Frames.{IsFree, IsFreeBesides, reserved_for, bytes_of, stored}
 use Rattle.iom_machine.specs.Devices.{device_of, with_device, EachInFlightMay}
 use Rattle.iom_machine.specs.Tickets.{AreNextTickets, with_confirmed}
 use Rattle.iom_machine.specs.Refusals.{NoneApplies, IsRefusedBy, MayRefusePlug, MayRefuseAttach, MayRefuseGrant, MayRefuseRelease, plug_reasons, attach_reasons, grant_reasons, release_reasons}
-use Rattle.iom_machine.specs.Requests.{read_of, write_of, offset_of, MayAnswer, answered}
+use Rattle.iom_machine.specs.Requests.{read_of, write_of, offset_of, MayAnswer, state_after}
 
 -- the event can come: a right that is to be granted is R or RW
 abbrev pub IsEvent : Event → Type 0
@@ -99,7 +98,7 @@ Acts IfPlugged old id outcome new =
 -- A device asks for an access. Where it is accepted, that is on the frame.
 abbrev pub Requests : ℕ → State → ℕ → Access → Outcome → State → Type 0
 Requests frame old id access outcome new = Acts (λ device.
-    MayAnswer old device access frame outcome × (new ≡ answered old device access frame outcome)) old id outcome new
+    MayAnswer old device access frame outcome × (new ≡ state_after old device access frame outcome)) old id outcome new
 
 -- the state, where the oldest access of the device is in flight no more
 abbrev pub with_oldest_made : State → Device → State
@@ -152,17 +151,3 @@ abbrev pub Run : State → List Event → List Outcome → State → Type 0
 Run old [] [] new = new ≡ old
 Run old (event ∷ events) (outcome ∷ outcomes) new = (mid : State) × Step old event outcome mid × Run mid events outcomes new
 Run old _ _ new = ⊥
-
--- a frame of zeros that belongs to nobody
-abbrev pub empty_frame : Frame
-empty_frame = record { owner = None; bytes = replicate 4096 0 }
-
--- Power-on, with so many frames and levels of the device directory: nothing is granted or plugged in, all bytes are zero, and the last four frames are the system's.
-abbrev pub opening : ℕ → ℕ → State
-opening frames levels = record {
-  levels = levels;
-  frames = reserved_for System ((frames - 4) ∷ (frames - 3) ∷ (frames - 2) ∷ (frames - 1) ∷ []) (replicate frames empty_frame);
-  history = [];
-  last_ticket = 0;
-  devices = [];
-}

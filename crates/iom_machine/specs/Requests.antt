@@ -110,7 +110,7 @@ with_accepted state device access frame = with_device state (record device {
   in_flight = device.in_flight ++ record { access = access; frame = frame } ∷ [];
 })
 
--- the state after the answer
-abbrev pub answered : State → Device → Access → ℕ → Outcome → State
-answered state device access frame (Accepted number) = with_accepted state device access frame
-answered state device access frame _ = state
+-- the state after this answer
+abbrev pub state_after : State → Device → Access → ℕ → Outcome → State
+state_after state device access frame (Accepted number) = with_accepted state device access frame
+state_after state device access frame _ = state

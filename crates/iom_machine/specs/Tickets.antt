@@ -12,11 +12,11 @@ last_confirmed (Granted d a frame rights ∷ before) = last_confirmed before
 last_confirmed (Released d a ticket ∷ before) = last_confirmed before
 last_confirmed (AllReleased d ticket ∷ before) = last_confirmed before
 
--- how many tickets wait
+-- how many tickets are pending: given, and not confirmed
 abbrev pub pending_tickets : State → ℕ
 pending_tickets state = state.last_ticket - last_confirmed state.history
 
--- the tickets from the first to the last are the oldest that wait, or some of them
+-- the tickets from the first to the last are the oldest pending ones, or the first few of them
 abbrev pub AreNextTickets : State → ℕ → ℕ → Type 0
 AreNextTickets state first last =
     (first ≡ last_confirmed state.history + 1) × (first ≤ last) × (last ≤ state.last_ticket)

@@ -26,7 +26,7 @@ pub use outcome::{CommandName, Fetched, Outcome, Trace};
 pub use sequence::Sequence;
 pub use sink::Sink;
 pub use start::power_on;
-pub use state::{Access, Attachment, Device, DeviceKind, Frame, AcceptedAccess, Mode, State};
+pub use state::{AcceptedAccess, Access, Attachment, Device, DeviceKind, Frame, Mode, State};
 
 #[cfg(test)]
 mod tests;

@@ -1,5 +1,5 @@
 ghost use Rattle.std.specs.Prelude.{◌≡◌, ◌≤◌, IfOk, length, replicate};
-ghost use Rattle.iom_machine.specs.Machine.{opening, empty_frame};
+ghost use Rattle.iom_machine.specs.PowerOn.{opening, empty_frame};
 
 use crate::decide::frames::reserve;
 use crate::sequence::Sequence;

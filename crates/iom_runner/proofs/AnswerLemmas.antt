@@ -25,10 +25,11 @@ use Rattle.iom_machine.specs.declared.state.State.{State}
 use Rattle.iom_machine.specs.Devices.{device_of, with_device}
 use Rattle.iom_machine.specs.Frames.{IsFree}
 use Rattle.iom_machine.specs.Headline.{IsReached}
-use Rattle.iom_machine.specs.Machine.{IsEvent, Step, Requests, Run, opening, plugged_device}
+use Rattle.iom_machine.specs.Machine.{IsEvent, Step, Requests, Run, plugged_device}
+use Rattle.iom_machine.specs.PowerOn.{opening}
 use Rattle.iom_machine.specs.declared.state.DeviceKind.TheVariants.{Raw}
 use Rattle.iom_machine.specs.Refusals.{first_that_applies, IsRefusedBy, MayRefusePlug, MayRefuseAttach, MayRefuseGrant, MayRefuseRelease, plug_reasons, attach_reasons, grant_reasons, release_reasons, is_too_wide}
-use Rattle.iom_machine.specs.Requests.{read_of, write_of, page_of, HoldsFor, HoldsNoneFor, MayAccept, MayFault, MayAnswer, IsForwarded, answered}
+use Rattle.iom_machine.specs.Requests.{read_of, write_of, page_of, HoldsFor, HoldsNoneFor, MayAccept, MayFault, MayAnswer, IsForwarded, state_after}
 use Rattle.iom_machine.proofs.HeadlineLemmas.{commits_are_answered}
 use Rattle.iom_world.proofs.RunLemmas.{no_choice, frame_chosen, run_more}
 use Rattle.iom_runner.proofs.AttachmentLemmas.{IsFirstOrNone, AreFirstOrNone, found_first, first_or_none-step}
@@ -145,7 +146,7 @@ request_is_answered state id access usual = by (device_of state id) refl
     by None absent = (0, Refused NoSuchDevice, state, rw absent (refl, refl))
     by (Some device) there =
         let told = reply state device access (found_first state id device there usual) in
-        (told.0, told.1, answered state device access told.0 told.1, rw there (told.2, refl))
+        (told.0, told.1, state_after state device access told.0 told.1, rw there (told.2, refl))
 
 -- every event is answered
 is_answered : (state : State) (event : Event) → AreFirstOrNone state.devices → IsReached state → IsEvent event → IsAnswered state event

@@ -13,7 +13,7 @@ use Rattle.iom_machine.specs.declared.state.Device.{Device}
 use Rattle.iom_machine.specs.declared.state.Mode.TheVariants.{First, Second, Both}
 use Rattle.iom_machine.specs.declared.state.State.{State}
 use Rattle.iom_machine.specs.Devices.{device_of, replaced_device}
-use Rattle.iom_machine.specs.Requests.{read_of, write_of, MayAnswer, answered}
+use Rattle.iom_machine.specs.Requests.{read_of, write_of, MayAnswer, state_after}
 use Rattle.iom_machine.specs.Machine.{Requests, Makes, Commits, Step}
 use Rattle.iom_machine.proofs.InFlightLemmas.{match_cases, some_case, found_device}
 
@@ -51,7 +51,7 @@ stay : (old new : State) → new.devices ≡ old.devices → AreFirstOrNone old.
 stay old new same all = subst AreFirstOrNone (sym same) all
 
 after_answer : (chosen : ℕ) (old new : State) (id : ℕ) (device : Device) (access : Access) (outcome : Outcome) → device_of old id ≡ Some device
-    → MayAnswer old device access chosen outcome → new ≡ answered old device access chosen outcome → AreFirstOrNone old.devices → AreFirstOrNone new.devices
+    → MayAnswer old device access chosen outcome → new ≡ state_after old device access chosen outcome → AreFirstOrNone old.devices → AreFirstOrNone new.devices
 after_answer chosen old new id device access (Accepted number) at answer same all =
     subst (λ (s : State). AreFirstOrNone s.devices) (sym same) (replaced old.devices device.id _ all (found_first old id device at all))
 after_answer chosen old new id device access BadSpan at answer same all = stay old new (ap (λ (s : State). s.devices) same) all

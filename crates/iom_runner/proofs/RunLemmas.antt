@@ -8,7 +8,8 @@ use Rattle.iom_machine.specs.declared.event.Event.{Event}
 use Rattle.iom_machine.specs.declared.outcome.Outcome.{Outcome}
 use Rattle.iom_machine.specs.declared.outcome.Outcome.TheVariants.{Done}
 use Rattle.iom_machine.specs.declared.state.State.{State}
-use Rattle.iom_machine.specs.Machine.{IsEvent, Run, opening}
+use Rattle.iom_machine.specs.Machine.{IsEvent, Run}
+use Rattle.iom_machine.specs.PowerOn.{opening}
 use Rattle.iom_machine.proofs.ReclaimLemmas.{reclaims}
 use Rattle.iom_script.specs.Lines.{line_of, lines_of}
 use Rattle.iom_world.specs.declared.world.World.{World}

@@ -1,7 +1,8 @@
 // A script, from its bytes to the bytes of its lines.
 ghost use Rattle.std.specs.Prelude.{◌≡◌, ◌⊎◌, ◌+◌, ◌<◌, ◌^◌, [], ℕ, length, All, OnOk, OnErr, IfOk, IfErr, IfSome, Ok, Err, None};
 ghost use Rattle.std.specs.Io.KnownBytes.{Keeps};
-ghost use Rattle.iom_machine.specs.Machine.{IsEvent, opening};
+ghost use Rattle.iom_machine.specs.Machine.{IsEvent};
+ghost use Rattle.iom_machine.specs.PowerOn.{opening};
 ghost use Rattle.iom_script.specs.declared.script.Script.{Script};
 ghost use Rattle.iom_script.specs.Grammar.{IsScript, IsFirstBadLine, IsWorldSize};
 ghost use Rattle.iom_world.specs.Shows.{Shows};

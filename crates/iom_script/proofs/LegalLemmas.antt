@@ -38,7 +38,7 @@ said_events (line ∷ lines) script says = events_can_come lines script.events s
 
 said_world : (lines : List (List ℕ)) (script : Script) → Says lines script → IfSome script.world IsWorldSize
 said_world [] script says = subst (λ w. IfSome w IsWorldSize) (sym says.0) tt
-said_world (line ∷ lines) script says = subst (λ w. IfSome w IsWorldSize) (sym says.1) (says.2.2, says.2.3, says.2.4)
+said_world (line ∷ lines) script says = subst (λ w. IfSome w IsWorldSize) (sym says.1) says.2.2
 
 pub script_events : (bytes : List ℕ) (script : Script) → IsScript bytes script → All IsEvent script.events
 script_events bytes script is = said_events (spoken is.0) script is.1.says

@@ -59,14 +59,14 @@ keyword_line line word rest k result cut spelled reads =
 pub world_parts : (line word rest : List ℕ) → IsCut line 32 word rest → (size : WorldSize) → IsWorldLine line size
     → (word ≡ codes "world") × Begins IsNumber rest size.frames (codes "1")
 world_parts line word rest cut size q =
-    let same = cut_is_one 32 word (codes "world") rest (q.0 ␣ codes "1") cut.0 (search (rules, arith)) (sym cut.1 ∙ q.5) in
+    let same = cut_is_one 32 word (codes "world") rest (q.0 ␣ codes "1") cut.0 (search (rules, arith)) (sym cut.1 ∙ q.3) in
     (same.0, (q.0, q.1, same.1))
 
 -- no such line: it has no space
 pub world_uncut : (line : List ℕ) → Reads None (CutOf line) → Reads None (IsWorldLine line)
 world_uncut line none = reads_none (IsWorldLine line) (λ size q.
     let parts : List ℕ × List ℕ = (codes "world", q.0 ␣ codes "1") in
-    read_nothing (CutOf line) parts none (search (rules, arith), q.5))
+    read_nothing (CutOf line) parts none (search (rules, arith), q.3))
 
 -- no such line: it begins with another word
 pub world_otherwise : (line word rest : List ℕ) → Reads {X = List ℕ × List ℕ} (Some (word, rest)) (CutOf line) → (word ≡ codes "world" → ⊥) → Reads None (IsWorldLine line)
@@ -96,7 +96,7 @@ pub world_out_of_range : (line word rest levels : List ℕ) (frames : ℕ) → R
     → Reads {X = ℕ × List ℕ} (Some (frames, levels)) (FirstOf IsNumber rest) → (levels ≡ codes "1" → 64 ≤ frames → frames ≤ 4096 → ⊥) → Reads None (IsWorldLine line)
 world_out_of_range line word rest levels frames cut number out = reads_none (IsWorldLine line) (λ size q.
     let same = world_numbers line word rest levels frames cut number size q in
-    out same.1 (omega (arith, same.0, q.2)) (omega (arith, same.0, q.3)))
+    out same.1 (omega (arith, same.0, q.2.0)) (omega (arith, same.0, q.2.1)))
 
 -- the line
 pub world_read : (line word rest levels : List ℕ) (frames : ℕ) → Reads {X = List ℕ × List ℕ} (Some (word, rest)) (CutOf line) → word ≡ codes "world"
@@ -109,10 +109,10 @@ world_read line word rest levels frames cut is_world number one low high =
     let c = read_holds (CutOf line) parts cut in
     let n = read_holds (FirstOf IsNumber rest) here number in
     reads_some (IsWorldLine line) size_here
-    (n.0, n.1, low, high, refl, c.1 ∙ ap (λ w. w ␣ rest) is_world ∙ ap (λ r. codes "world" ␣ r) (n.2 ∙ ap (λ l. n.0 ␣ l) one))
+    (n.0, n.1, (low, high, refl), c.1 ∙ ap (λ w. w ␣ rest) is_world ∙ ap (λ r. codes "world" ␣ r) (n.2 ∙ ap (λ l. n.0 ␣ l) one))
     (λ size q.
     let same = world_numbers line word rest levels frames cut number size q in
-    same_size frames size same.0 (sym q.4))
+    same_size frames size same.0 (sym q.2.2))
   where
     same_size : (f : ℕ) (size : WorldSize) → f ≡ size.frames → 1 ≡ size.levels → let a : WorldSize = record { frames = f; levels = 1 } in a ≡ size
     same_size f size e l =

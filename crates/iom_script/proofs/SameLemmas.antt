@@ -110,10 +110,10 @@ event_same line (Commit device) b p q =
 -- a line says one world
 world_same : (line : List ℕ) (s t : WorldSize) → IsWorldLine line s → IsWorldLine line t → s ≡ t
 world_same line s t p q =
-    let text = append_cancel_right p.0 q.0 (32 ∷ codes "1") (append_cancel_left (codes "world ") (p.0 ␣ codes "1") (q.0 ␣ codes "1") (sym p.5 ∙ q.5)) in
+    let text = append_cancel_right p.0 q.0 (32 ∷ codes "1") (append_cancel_left (codes "world ") (p.0 ␣ codes "1") (q.0 ␣ codes "1") (sym p.3 ∙ q.3)) in
     let frames = number_same q.0 s.frames t.frames (subst (λ f. IsNumber f s.frames) text p.1) q.1 in
     ap (λ (f : ℕ). let w : WorldSize = record { frames = f; levels = s.levels } in w) frames
-    ∙ ap (λ (l : ℕ). let w : WorldSize = record { frames = t.frames; levels = l } in w) (p.4 ∙ sym q.4)
+    ∙ ap (λ (l : ℕ). let w : WorldSize = record { frames = t.frames; levels = l } in w) (p.2.2 ∙ sym q.2.2)
 
 -- lines say one list of events
 events_same : (lines : List (List ℕ)) (xs ys : List Event) → SayEvents lines xs → SayEvents lines ys → xs ≡ ys

@@ -34,8 +34,7 @@ IsWorldSize size = (64 ≤ size.frames) × (size.frames ≤ 4096) × (size.level
 -- the line, without its line feed, says how large the world is
 abbrev pub IsWorldLine : List ℕ → WorldSize → Type 0
 IsWorldLine line size =
-    (f : List ℕ) × IsNumber f size.frames × (64 ≤ size.frames) × (size.frames ≤ 4096) × (size.levels ≡ 1)
-    × (line ≡ codes "world" ␣ f ␣ codes "1")
+    (f : List ℕ) × IsNumber f size.frames × IsWorldSize size × (line ≡ codes "world" ␣ f ␣ codes "1")
 
 -- whether the line says something: it isn't empty, and doesn't begin with `#`
 abbrev pub is_spoken : List ℕ → Bool

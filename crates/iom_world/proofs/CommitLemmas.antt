@@ -13,7 +13,7 @@ use Rattle.iom_inflight.specs.Flights.{Flight}
 use Rattle.iom_inflight.specs.declared.in_flight.Accepted.{Accepted}
 use Rattle.iom_inflight.specs.Flights.{OldestIsRead, description_of}
 use Rattle.iom_ledger.specs.declared.ledger.Ledger.{Ledger}
-use Rattle.iom_ledger.specs.History.{Pair, May}
+use Rattle.iom_ledger.specs.History.{Pair, May, serves}
 use Rattle.iom_ledger.specs.Shown.{Agrees, held_in, released_in}
 use Rattle.iom_machine.specs.declared.outcome.Outcome.TheVariants.{Read, Wrote, NothingInFlight}
 use Rattle.iom_machine.specs.declared.state.Device as machine
@@ -27,7 +27,7 @@ use Rattle.iom_base.specs.declared.owner.Owner.{Owner}
 use Rattle.iom_base.specs.declared.owner.Owner.TheVariants.{OneDevice}
 use Rattle.iom_world.specs.declared.device.Device.{Device}
 use Rattle.iom_world.specs.Devices.{shown_flight, shown_device, shown_devices}
-use Rattle.iom_world.specs.Facts.{IsGrant, AreGrants, IsSoundDevice, IsCovered, AllCovered, serves, serves_still}
+use Rattle.iom_world.specs.Facts.{IsGrant, AreGrants, IsSoundDevice, IsCovered, AllCovered, serves_still}
 use Rattle.iom_world.specs.Frames.{ShowsFrames}
 use Rattle.iom_world.specs.Oldest.{OldestWritesSoMany, IsOldestAt}
 use Rattle.iom_world.specs.Places.{IsPlaceOf}

@@ -6,13 +6,13 @@ use Rattle.iom_base.specs.declared.rights.Rights.{Rights}
 use Rattle.iom_inflight.specs.Flights.{Flight}
 use Rattle.iom_ledger.specs.declared.ledger.Ledger.{Ledger}
 use Rattle.iom_ledger.specs.Changes as changes
-use Rattle.iom_ledger.specs.History.{Pair}
+use Rattle.iom_ledger.specs.History.{Pair, serves}
 use Rattle.iom_ledger.specs.Shown.{held_in, lingering_in, released_in}
 use Rattle.iom_base.specs.declared.owner.Owner.{Owner}
 use Rattle.iom_table_frames.specs.Marks.{IsFreeBesides}
 use Rattle.iom_world.specs.declared.device.Device.{Device}
 use Rattle.iom_world.specs.Admission.{IsRootOf, MayBeGranted, marked_for}
-use Rattle.iom_world.specs.Facts.{IsGrant, AreGrants, IsCovered, serves, serves_still}
+use Rattle.iom_world.specs.Facts.{IsGrant, AreGrants, IsCovered, serves_still}
 use Rattle.iom_world.specs.Queue.{Queue}
 use Rattle.iom_world.specs.Sound.{IsSound}
 use Rattle.iom_world.specs.Tables.{HaveTables}

@@ -7,13 +7,13 @@ use Rattle.iom_base.specs.declared.access.AccessKind.{AccessKind}
 use Rattle.iom_base.specs.Rights.{allows}
 use Rattle.iom_inflight.specs.Flights.{Flight}
 use Rattle.iom_ledger.specs.declared.ledger.Ledger.{Ledger}
-use Rattle.iom_ledger.specs.History.{History, Pair, Holds, Lingers, May}
+use Rattle.iom_ledger.specs.History.{History, Pair, Holds, Lingers, May, serves}
 use Rattle.iom_ledger.specs.Shown.{Agrees, AgreesAt, held_in, released_in}
 use Rattle.iom_machine.specs.declared.state.Device as machine
 use Rattle.iom_machine.specs.declared.state.AcceptedAccess.{AcceptedAccess}
 use Rattle.iom_world.specs.declared.device.Device.{Device}
 use Rattle.iom_world.specs.Devices.{shown_flight, shown_device, shown_devices}
-use Rattle.iom_world.specs.Facts.{serves, serves_still, IsCovered, AllCovered, AreSoundDevices}
+use Rattle.iom_world.specs.Facts.{serves_still, IsCovered, AllCovered, AreSoundDevices}
 
 -- a pair that serves the access is on its frame, with a right that allows its kind
 served : (frame : ℕ) (kind : AccessKind) (pair : Pair) → serves frame kind pair ≡ true → (pair.0 ≡ frame) × (allows pair.1 kind ≡ true)

@@ -9,7 +9,7 @@ use Rattle.iom_ledger.specs.declared.refusal.Refusal.TheVariants.{NoSuchDevice, 
 use Rattle.iom_ledger.specs.declared.refusal.Refusal.TheVariants as refusal
 use Rattle.iom_ledger.specs.declared.row.Row.{Row}
 use Rattle.iom_ledger.specs.Changes.{Releases, released_from}
-use Rattle.iom_ledger.specs.History.{Pair}
+use Rattle.iom_ledger.specs.History.{Pair, serves}
 use Rattle.iom_ledger.specs.Rows.{row_at, held_of, released_of, unless_released, if_released, pair_of}
 use Rattle.iom_ledger.specs.Shown.{Agrees, held_in, released_in}
 use Rattle.iom_machine.specs.declared.state.State.{State}
@@ -17,7 +17,7 @@ use Rattle.iom_machine.specs.Refusals.{first_that_applies, attachment_reasons, r
 use Rattle.iom_machine.specs.Tickets.{last_confirmed, pending_tickets}
 use Rattle.iom_base.specs.declared.owner.Owner.{Owner}
 use Rattle.iom_world.specs.declared.device.Device.{Device}
-use Rattle.iom_world.specs.Facts.{AreGrants, serves, serves_still, IsSoundDevice, tickets_after}
+use Rattle.iom_world.specs.Facts.{AreGrants, serves_still, IsSoundDevice, tickets_after}
 use Rattle.iom_world.specs.Queue.{Queue, with_release}
 use Rattle.iom_world.specs.Sound.{IsSound}
 

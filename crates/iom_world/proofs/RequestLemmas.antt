@@ -12,7 +12,7 @@ use Rattle.iom_base.specs.Spans.{FitsInPage}
 use Rattle.iom_inflight.specs.Flights.{Flight}
 use Rattle.iom_ledger.specs.declared.ledger.Ledger.{Ledger}
 use Rattle.iom_ledger.specs.declared.refusal.Refusal.TheVariants.{NoSuchDevice}
-use Rattle.iom_ledger.specs.History.{Pair}
+use Rattle.iom_ledger.specs.History.{Pair, serves}
 use Rattle.iom_ledger.specs.Shown.{Agrees, held_in}
 use Rattle.iom_machine.specs.declared.outcome.Outcome.{Outcome}
 use Rattle.iom_machine.specs.declared.outcome.Outcome.TheVariants.{Refused, Accepted, Busy, BadSpan, Fault}
@@ -21,11 +21,11 @@ use Rattle.iom_machine.specs.declared.state.Device as machine
 use Rattle.iom_machine.specs.declared.state.State.{State}
 use Rattle.iom_machine.specs.Devices.{with_device}
 use Rattle.iom_machine.specs.Machine.{Acts, Requests}
-use Rattle.iom_machine.specs.Requests.{MayAccept, MayFault, MayAnswer, answered, with_accepted}
+use Rattle.iom_machine.specs.Requests.{MayAccept, MayFault, MayAnswer, state_after, with_accepted}
 use Rattle.iom_machine.specs.Requests as requests
 use Rattle.iom_world.specs.declared.device.Device.{Device}
 use Rattle.iom_world.specs.Devices.{shown_flight, shown_device, shown_devices, shown_attachment}
-use Rattle.iom_world.specs.Facts.{IsSoundDevice, IsCovered, serves}
+use Rattle.iom_world.specs.Facts.{IsSoundDevice, IsCovered}
 use Rattle.iom_world.specs.Held.{IsHeldFor, NoneIsHeldFor}
 use Rattle.iom_base.specs.declared.owner.Owner.{Owner}
 use Rattle.iom_world.specs.Places.{IsAbsent, IsPlaceOf}
@@ -154,7 +154,7 @@ pub requests_accepted : (state : State) (ledger : Ledger) (devices : List Device
     → Requests flight.frame state id (shown_flight flight).access (Accepted number) (with_accepted state (shown_device is.0) (shown_flight flight).access flight.frame)
 requests_accepted state ledger devices id place number flight is agrees shown forwarded translated counted =
     acts_at (λ (device : machine.Device). MayAnswer state device (shown_flight flight).access flight.frame (Accepted number)
-    × (with_accepted state (shown_device is.0) (shown_flight flight).access flight.frame ≡ answered state device (shown_flight flight).access flight.frame (Accepted number)))
+    × (with_accepted state (shown_device is.0) (shown_flight flight).access flight.frame ≡ state_after state device (shown_flight flight).access flight.frame (Accepted number)))
     state devices id place (Accepted number) (with_accepted state (shown_device is.0) (shown_flight flight).access flight.frame) shown is
     ((forwarded_shown is.0 (shown_flight flight).access forwarded, may_accept is.0.root state ledger is.0.id flight.frame (shown_flight flight).access agrees translated, counted), refl)
 
@@ -170,15 +170,15 @@ devices_accepted state devices id place flight now is shown same =
 pub requests_busy : (frame : ℕ) (state : State) (devices : List Device) (id place : ℕ) (access : Access) (is : IsPlaceOf devices id place) → state.devices ≡ shown_devices devices
     → FitsInPage access.address access.len × IsBusy is.0 → Requests frame state id access Busy state
 requests_busy frame state devices id place access is shown busy =
-    acts_at (λ (device : machine.Device). MayAnswer state device access frame Busy × (state ≡ answered state device access frame Busy)) state devices id place Busy state shown is ((busy.0, busy_shown is.0 busy.1), refl)
+    acts_at (λ (device : machine.Device). MayAnswer state device access frame Busy × (state ≡ state_after state device access frame Busy)) state devices id place Busy state shown is ((busy.0, busy_shown is.0 busy.1), refl)
 
 pub requests_bad_span : (frame : ℕ) (state : State) (devices : List Device) (id place : ℕ) (access : Access) (is : IsPlaceOf devices id place) → state.devices ≡ shown_devices devices
     → (¬ FitsInPage access.address access.len) → Requests frame state id access BadSpan state
-requests_bad_span frame state devices id place access is shown bad = acts_at (λ (device : machine.Device). MayAnswer state device access frame BadSpan × (state ≡ answered state device access frame BadSpan)) state devices id place BadSpan state shown is (bad, refl)
+requests_bad_span frame state devices id place access is shown bad = acts_at (λ (device : machine.Device). MayAnswer state device access frame BadSpan × (state ≡ state_after state device access frame BadSpan)) state devices id place BadSpan state shown is (bad, refl)
 
 pub requests_fault : (frame : ℕ) (state : State) (ledger : Ledger) (levels : ℕ) (devices : List Device) (id place : ℕ) (access : Access) (cause : Cause) (is : IsPlaceOf devices id place)
     → Agrees ledger state.history → state.levels ≡ levels → state.devices ≡ shown_devices devices
     → IsForwarded is.0 access.address access.len × IsFaulty is.0.root ledger levels is.0.id access.address access.kind cause → Requests frame state id access (Fault cause) state
 requests_fault frame state ledger levels devices id place access cause is agrees same shown faulty =
-    acts_at (λ (device : machine.Device). MayAnswer state device access frame (Fault cause) × (state ≡ answered state device access frame (Fault cause))) state devices id place (Fault cause) state shown is
+    acts_at (λ (device : machine.Device). MayAnswer state device access frame (Fault cause) × (state ≡ state_after state device access frame (Fault cause))) state devices id place (Fault cause) state shown is
     ((forwarded_shown is.0 access faulty.0, may_fault is.0.root state ledger levels is.0.id access cause agrees same faulty.1), refl)

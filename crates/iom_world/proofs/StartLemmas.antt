@@ -6,7 +6,7 @@ use Rattle.iom_ledger.specs.declared.ledger.Ledger.{Ledger}
 use Rattle.iom_ledger.specs.History.{Pair}
 use Rattle.iom_ledger.specs.Shown.{Agrees, held_in, lingering_in, released_in}
 use Rattle.iom_machine.specs.declared.state.Frame.{Frame}
-use Rattle.iom_machine.specs.Machine.{opening, empty_frame}
+use Rattle.iom_machine.specs.PowerOn.{opening, empty_frame}
 use Rattle.iom_phys_mem.specs.Sizes.{IsMemorySize}
 use Rattle.iom_phys_mem.specs.Words.{zeroed}
 use Rattle.iom_base.specs.declared.owner.Owner.{Owner}

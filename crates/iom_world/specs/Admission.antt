@@ -1,8 +1,8 @@
 -- What a call of the driver has found out when it wasn't refused.
-use Rattle.std.specs.Prelude.{◌≡◌, ◌≢◌, ℕ, ◌^◌, ◌<◌, false, List, [], ◌∷◌, length, All, AllPairs, Contains, nat_eq, Option, None, Some, slice_get, slice_set}
-use Rattle.std.specs.List.{IsDistinct}
+use Rattle.std.specs.Prelude.{◌≡◌, ◌≢◌, ℕ, ◌^◌, ◌<◌, false, List, [], ◌∷◌, length, All, AllPairs, Contains, Option, None, Some, slice_get, slice_set}
 use Rattle.iom_ledger.specs.declared.ledger.Ledger.{Ledger}
 use Rattle.iom_ledger.specs.Shown.{held_in, lingering_in}
+use Rattle.iom_machine.specs.Frames.{FewerThan}
 use Rattle.iom_page_table.specs.Sv39.{missing_for}
 use Rattle.iom_phys_mem.specs.Words.{zeroed}
 use Rattle.iom_base.specs.declared.owner.Owner.{Owner}
@@ -39,8 +39,7 @@ pub record AreChosen (memory : List (List ℕ)) (marks : List (Option Owner)) (l
 -- fewer frames than so many are free besides the named one
 abbrev pub TooFewAreFree : List (List ℕ) → List (Option Owner) → Ledger → ℕ → ℕ → Type 0
 TooFewAreFree memory marks ledger named count =
-    (numbers : List ℕ) → IsDistinct nat_eq numbers
-    → All (λ frame. (frame < length memory) × IsFreeBesides marks ledger (Some named) frame) numbers → length numbers < count
+    FewerThan count (λ frame. (frame < length memory) × IsFreeBesides marks ledger (Some named) frame)
 
 -- the marks, where the frames are the device's
 abbrev pub marked_for : ℕ → List ℕ → List (Option Owner) → List (Option Owner)

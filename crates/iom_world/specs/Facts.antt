@@ -3,10 +3,9 @@ use Rattle.std.specs.Prelude.{◌≡◌, ℕ, zero, suc, ◌+◌, ◌/◌, ◌^�
 use Rattle.std.specs.Option.{option_map_or}
 use Rattle.iom_base.specs.declared.access.AccessKind.{AccessKind}
 use Rattle.iom_base.specs.declared.rights.Rights.{Rights}
-use Rattle.iom_base.specs.Rights.{allows}
 use Rattle.iom_base.specs.Spans.{FitsInPage}
 use Rattle.iom_ledger.specs.declared.ledger.Ledger.{Ledger}
-use Rattle.iom_ledger.specs.History.{Pair}
+use Rattle.iom_ledger.specs.History.{Pair, serves}
 use Rattle.iom_ledger.specs.Shown.{held_in, lingering_in, released_in}
 use Rattle.iom_inflight.specs.Flights.{Flight}
 use Rattle.iom_base.specs.declared.owner.Owner.{Owner}
@@ -21,10 +20,6 @@ pub record IsGrant (marks : List (Option Owner)) (page frame : ℕ) : Type 0 whe
 pub record AreGrants (marks : List (Option Owner)) (ledger : Ledger) : Type 0 where
   pub held : (device page frame : ℕ) (rights : Rights) → held_in ledger device page ≡ Some (frame, rights) → IsGrant marks page frame
   pub lingering : (device page frame : ℕ) (rights : Rights) → lingering_in ledger device page ≡ Some (frame, rights) → IsGrant marks page frame
-
--- whether the pair is on the frame, with a right that allows the kind
-abbrev pub serves : ℕ → AccessKind → Pair → Bool
-serves frame kind pair = (pair.0 == frame) && allows pair.1 kind
 
 -- whether the pair was released under a ticket whose fence isn't done
 abbrev pub serves_still : ℕ → ℕ → AccessKind → ℕ × Pair → Bool

@@ -71,7 +71,7 @@ impl Commands {
 
     /// Whether there is no room for the two commands of a release.
     pub(crate) fn is_full(&self) -> bool
-        ensures { IsTrue result ↔ (255 < length self.now.pending + 2) }
+        ensures { IsTrue result ↔ (255 < length self.now.waiting + 2) }
     {
         self.waiting.len() + 2 > MAX_COMMANDS
     }

@@ -1,7 +1,8 @@
 // Events, one after another, and what comes of them.
 ghost use Rattle.std.specs.Prelude.{◌≡◌, ◌↔◌, ℕ, Bool, IsTrue, ◌+◌, ◌<◌, ◌≤◌, ◌^◌, length, All, OnOk, OnErr};
 ghost use Rattle.iom_machine.specs.declared.state.State.{State};
-ghost use Rattle.iom_machine.specs.Machine.{IsEvent, Step, opening};
+ghost use Rattle.iom_machine.specs.Machine.{IsEvent, Step};
+ghost use Rattle.iom_machine.specs.PowerOn.{opening};
 ghost use Rattle.iom_world.specs.Places.{CountsBelow, SomeInFlight};
 ghost use Rattle.iom_world.specs.Runs.{RunsTo, ReclaimsFrom, FailsAfter};
 ghost use Rattle.iom_world.specs.Shows.{Shows};

@@ -1,6 +1,6 @@
 // A world at power-on.
 ghost use Rattle.std.specs.Prelude.{◌≡◌, ◌↔◌, replicate, IfOk, IsErrOf};
-ghost use Rattle.iom_machine.specs.Machine.{opening};
+ghost use Rattle.iom_machine.specs.PowerOn.{opening};
 ghost use Rattle.iom_phys_mem.specs.Sizes.{IsMemorySize};
 ghost use Rattle.iom_phys_mem.specs.Words.{zeroed};
 ghost use Rattle.iom_phys_mem.specs.declared.memory.MemError.TheVariants.{BadSize};

@@ -14,7 +14,7 @@ use crate::decide::history::may;
 use crate::decide::requests::answers_absent;
 use crate::outcome::Outcome;
 use crate::sequence::Sequence;
-use crate::state::{Device, Frame, AcceptedAccess, State};
+use crate::state::{AcceptedAccess, Device, Frame, State};
 use iom_base::{AccessKind, DeviceId};
 use std::alloc::{AllocError, Global};
 

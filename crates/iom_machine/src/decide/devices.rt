@@ -5,7 +5,7 @@ ghost use Rattle.iom_machine.specs.Judging.{IsPlaceOf};
 ghost use Rattle.iom_machine.specs.declared.state.Device.{Device};
 
 use crate::sequence::Sequence;
-use crate::state::{Access, Attachment, Device, AcceptedAccess};
+use crate::state::{AcceptedAccess, Access, Attachment, Device};
 use iom_base::DeviceId;
 use std::alloc::AllocError;
 
@@ -45,7 +45,10 @@ pub(crate) fn accept(
 ) -> Result<(), AllocError>
     requires { place < length devices.old }
     ensures { OnOk result ((device : Device) → slice_get devices.old place ≡ Some device
-        → devices.new ≡ slice_set devices.old place (record device { accepted = number; in_flight = device.in_flight ++ record { access = access; frame = frame } ∷ [] })) }
+        → devices.new ≡ slice_set devices.old place (record device {
+          accepted = number;
+          in_flight = device.in_flight ++ record { access = access; frame = frame } ∷ [];
+        })) }
 {
     let device = &mut devices.items[place];
     device.in_flight.push(AcceptedAccess { access, frame })?;

@@ -1,9 +1,9 @@
 // What a history says, read off it entry by entry.
 ghost use Rattle.std.specs.Prelude.{◌≡◌, ◌↔◌, IsTrue, ◌==◌, not, length, option_to_list};
 ghost use Rattle.std.specs.List.{list_any};
-ghost use Rattle.iom_ledger.specs.History.{is_about, granted_by, held_at, released_by, released_at, confirms, lingering_at, May, IsFree};
+ghost use Rattle.iom_ledger.specs.History.{is_about, granted_by, held_at, released_by, released_at, confirms, lingering_at, May, IsFree, serves};
 ghost use Rattle.iom_machine.specs.Tickets.{last_confirmed};
-ghost use Rattle.iom_machine.specs.Judging.{serves, holds_for, is_waiting, lingers_for, reaches_in, anyone_reaches_in};
+ghost use Rattle.iom_machine.specs.Judging.{holds_for, is_waiting, lingers_for, reaches_in, anyone_reaches_in};
 
 use iom_base::{AccessKind, DeviceId, Rights};
 use iom_ledger::Entry;

@@ -8,7 +8,7 @@ ghost use Rattle.iom_machine.specs.Machine.{Polls};
 use crate::decide::history::{last_ticket_confirmed, may};
 use crate::outcome::Outcome;
 use crate::sequence::Sequence;
-use crate::state::{Device, AcceptedAccess, State};
+use crate::state::{AcceptedAccess, Device, State};
 use iom_base::DeviceId;
 use iom_ledger::Entry;
 use std::alloc::AllocError;

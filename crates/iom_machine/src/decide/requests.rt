@@ -5,7 +5,7 @@ ghost use Rattle.iom_machine.specs.declared.outcome.Outcome.TheVariants.{Refused
 ghost use Rattle.iom_machine.specs.declared.state.Device.{Device};
 ghost use Rattle.iom_machine.specs.declared.state.State.{State};
 ghost use Rattle.iom_machine.specs.Requests.{IsWithinPage, IsBusy, IsForwarded, HoldsFor, HoldsNoneFor, LingersFor, MayAccept};
-ghost use Rattle.iom_machine.specs.Requests.{MayFault, MayAcceptInOneStage, MayAnswer, answered};
+ghost use Rattle.iom_machine.specs.Requests.{MayFault, MayAcceptInOneStage, MayAnswer, state_after};
 ghost use Rattle.iom_machine.specs.Machine.{Requests};
 ghost use Rattle.iom_machine.specs.Judging.{IsPlaceOf};
 
@@ -231,7 +231,7 @@ fn after_answer(
 ) -> Result<State, AllocError>
     requires { place < length state.devices }
     ensures { IfOk result (λ new. (device : Device) → IsPlaceOf state.devices device.id place → slice_get state.devices place ≡ Some device
-        → MayAnswer state device access frame outcome.now → new ≡ answered state device access frame outcome.now) }
+        → MayAnswer state device access frame outcome.now → new ≡ state_after state device access frame outcome.now) }
 {
     let mut next = state;
     if let Outcome::Accepted(number) = outcome {

@@ -1,6 +1,6 @@
 use Rattle.std.proofs.Common.{rules, ◌∙◌, ℕ, List}
 use Rattle.std.specs.Io.KnownBytes.{Appends}
-use Rattle.iom_machine.specs.Machine.{opening}
+use Rattle.iom_machine.specs.PowerOn.{opening}
 use Rattle.iom_runner.specs.Text.{TellsRun}
 use Rattle.iom_runner.specs.Writing.{AppendsFront}
 use Rattle.iom_runner.proofs.TextLemmas.{told_by}

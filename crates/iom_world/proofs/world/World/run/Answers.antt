@@ -1,6 +1,6 @@
 use Rattle.std.proofs.Common.{arith}
 use Rattle.std.proofs.lemmas.Result.{err_from_is_err_and}
-use Rattle.iom_machine.specs.Machine.{opening}
+use Rattle.iom_machine.specs.PowerOn.{opening}
 use Rattle.iom_machine.proofs.ReclaimLemmas.{reclaims}
 use Rattle.iom_world.proofs.RunLemmas.{goes_on, ends_at, whole}
 use Rattle.iom_world.proofs.world.World.run.Goals as goal
