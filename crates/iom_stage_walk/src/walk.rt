@@ -3,7 +3,7 @@ ghost use Rattle.std.specs.Prelude.{slice_index, EachIndex, true, false};
 ghost use Rattle.iom_base.specs.Causes.{page_fault_of};
 ghost use Rattle.iom_base.specs.Rights.{allows};
 ghost use Rattle.iom_stage_walk.specs.Entries.{Entries, IsBounded, entries, slot};
-ghost use Rattle.iom_stage_walk.specs.Paths.{span, page_in, IsLawfulLeaf, IsUnlawfulLeaf, Reaches, Stops, StopsAt, path_of};
+ghost use Rattle.iom_stage_walk.specs.Paths.{pages_spanned, page_in, IsLawfulLeaf, IsUnlawfulLeaf, Reaches, Stops, StopsAt, path_of};
 ghost use Rattle.iom_stage_walk.specs.Paths.{first_widths, IsCanonical, ReachesFirst, StopsFirst};
 ghost use Rattle.iom_stage_walk.specs.declared.walked.Walked.{Walked};
 ghost use Rattle.iom_stage_walk.specs.declared.walked.WalkFault.{WalkFault};
@@ -45,7 +45,7 @@ pub(crate) struct Reached {
 fn page_below(below: &[u64]) -> (u64, u64)
     requires small { EachIndex below.now (λ k. slice_index below.now k < 4096) }
     requires short { length below.now ≤ 3 }
-    ensures span { result.0 ≡ span below.now }
+    ensures span { result.0 ≡ pages_spanned below.now }
     ensures page { result.1 ≡ page_in below.now }
     ensures positive { 0 < result.0 }
     ensures fits { result.1 < 2 ^ 50 }
