@@ -1,5 +1,5 @@
 -- What a step does to the parts of a world that the ledger machine doesn't see, and that a refusal changes none.
-use Rattle.std.specs.Prelude.{◌≡◌, ℕ, ◌+◌, ◌<◌, ◌≤◌, Bool, List, length}
+use Rattle.std.specs.Prelude.{◌≡◌, ℕ, ◌+◌, ◌<◌, ◌≤◌, Bool, length}
 use Rattle.iom_ledger.specs.Changes.{IsUnchanged}
 use Rattle.iom_ledger.specs.declared.refusal.Refusal.{Refusal}
 use Rattle.iom_ledger.specs.declared.refusal.Refusal.TheVariants.{QueueFull, NumbersUsedUp}
