@@ -1,4 +1,4 @@
-use Rattle.std.proofs.Common.{arith, rules, ◌≡◌, ◌<◌, length}
+use Rattle.std.proofs.Common.{arith, rules}
 use Rattle.std.proofs.lemmas.Grind.{common_steps}
 use Rattle.iom_table_frames.specs.declared.table_frames.Owner.TheVariants.{OneDevice}
 use Rattle.iom_table_frames.proofs.MarkLemmas.{OffersUnreserved-reserved}

@@ -2,6 +2,8 @@ use Rattle.std.proofs.Common.{ℕ, List, ◌∙◌, refl, sym, subst}
 use Rattle.iom_machine.specs.Machine.{Requests}
 use Rattle.iom_machine.specs.Requests.{write_of}
 use Rattle.iom_world.specs.Answers.{outcome_of}
+use Rattle.iom_ledger.specs.declared.refusal.Refusal.TheVariants.{Memory, NoFrames}
+use Rattle.iom_world.proofs.AnswerLemmas.{answer_done, answer_refused}
 use Rattle.iom_world.proofs.RunLemmas.{stepped, no_choice, frame_chosen, frames_taken}
 use Rattle.iom_world.proofs.world.World.answer.Goals as goal
 
@@ -107,3 +109,37 @@ returns-in-Fetch-clause-queue c = λ in_flight is. rw (c.in-Fetch.is, c.tell-in-
 
 pub returns-in-Poll-clause-queue : goal.returns-in-Poll-clause-queue
 returns-in-Poll-clause-queue c = λ in_flight is. rw (c.in-Poll.is, c.tell-in-Poll.ensures) (c.poll.ensures.polled, c.poll.ensures.commands)
+
+pub returns-in-PlugRaw-clause-frames : goal.returns-in-PlugRaw-clause-frames
+returns-in-PlugRaw-clause-frames c = rw c.in-PlugRaw.is c.plug.ensures.marks
+
+pub returns-in-Release-clause-frames : goal.returns-in-Release-clause-frames
+returns-in-Release-clause-frames c = rw c.in-Release.is c.release.ensures.marks
+
+pub returns-in-Fetch-clause-frames : goal.returns-in-Fetch-clause-frames
+returns-in-Fetch-clause-frames c = rw c.in-Fetch.is c.fetch.ensures.marks
+
+pub returns-in-Poll-clause-frames : goal.returns-in-Poll-clause-frames
+returns-in-Poll-clause-frames c = rw c.in-Poll.is c.poll.ensures.marks
+
+pub returns-in-Read-clause-frames : goal.returns-in-Read-clause-frames
+returns-in-Read-clause-frames c = rw c.in-Read.is c.read.ensures.marks
+
+pub returns-in-Write-clause-frames : goal.returns-in-Write-clause-frames
+returns-in-Write-clause-frames c = rw c.in-Write.is c.write.ensures.marks
+
+pub returns-in-Commit-clause-frames : goal.returns-in-Commit-clause-frames
+returns-in-Commit-clause-frames c = rw c.in-Commit.is c.commit.ensures.marks
+
+pub returns-in-AttachFirst-clause-frames : goal.returns-in-AttachFirst-clause-frames
+returns-in-AttachFirst-clause-frames c = rw (c.in-AttachFirst.is, c.tell-in-AttachFirst.ensures) record {
+  root = λ done. c.attach.ensures.root (answer_done c.attach.result done);
+  no_frames = λ refused. c.attach.ensures.no_frames (answer_refused c.attach.result NoFrames refused);
+  memory = λ refused. c.attach.ensures.memory (answer_refused c.attach.result Memory refused);
+}
+
+pub returns-in-Grant-clause-frames : goal.returns-in-Grant-clause-frames
+returns-in-Grant-clause-frames c = rw (c.in-Grant.is, c.tell-in-Grant.ensures) record {
+  tables = λ done. c.grant.ensures.tables (answer_done c.grant.result done);
+  no_frames = λ refused. c.grant.ensures.no_frames (answer_refused c.grant.result NoFrames refused);
+}

@@ -1,4 +1,4 @@
-use Rattle.std.proofs.Common.{◌≡◌, inl, inr, ◌≤◌, ◌<◌, ◌+◌, ◌-◌, ◌∙◌, [], ◌∷◌, ℕ, List, None, length, true, is_some, refl, sym, ap, arith}
+use Rattle.std.proofs.Common.{◌≡◌, inl, inr, ◌≤◌, ◌<◌, ◌+◌, ◌-◌, ◌∙◌, ◌∷◌, ℕ, List, None, length, true, is_some, refl, sym, ap, arith}
 use Rattle.iom_ledger.specs.declared.entry.Entry.TheVariants as entry
 use Rattle.iom_ledger.specs.declared.refusal.Refusal.TheVariants.{NotGranted, TooManyPending, QueueFull, NumbersUsedUp}
 use Rattle.iom_ledger.specs.Shown.{held_in, waiting_in}
