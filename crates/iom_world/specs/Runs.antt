@@ -16,7 +16,7 @@ TakesAll takes before (outcome ∷ outcomes) after =
     (mid : _) × takes before outcome mid × TakesAll takes mid outcomes after
 
 -- the world goes through this run of the ledger machine, and is this one in the end: before each event and after the last it shows the state that the run
--- is in, and each event does what is said of it beyond what the machine sees
+-- is in, and each event also does to it what the machine doesn't see
 abbrev pub GoesThrough : (state : State) → World → (events : List Event) (outcomes : List Outcome) (last : State)
     → Run state events outcomes last → World → Type 0
 GoesThrough state old [] [] last run new = Shows new last × (new ≡ old)

@@ -61,8 +61,8 @@ pub record IsSame (old new : World) : Type 0 where
 abbrev pub SameIfRefused : Outcome → World → World → Type 0
 SameIfRefused told old new = (why : Refusal) → told ≡ outcome.Refused why → IsSame old new
 
--- what an event that is answered so does to the world and the ledger machine doesn't see: to the commands, whether an access is in flight or none;
--- to the frames of tables; a refusal changes nothing; and the event is counted
+-- what the ledger machine doesn't see of an event that is answered so: what it does to the commands, by whether an access is in flight; which frames
+-- it takes for tables; that a refusal changes nothing; and that the event is counted
 pub record Follows (old : World) (event : Event) (told : Outcome) (new : World) : Type 0 where
   pub queue : (in_flight : Bool) → (IsTrue in_flight ↔ SomeInFlight old.devices.items) → AfterEvent event in_flight old.commands told new.commands
   pub frames : TakesFrames event old told new

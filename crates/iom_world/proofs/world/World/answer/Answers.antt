@@ -110,27 +110,6 @@ returns-in-Fetch-clause-queue c = λ in_flight is. rw (c.in-Fetch.is, c.tell-in-
 pub returns-in-Poll-clause-queue : goal.returns-in-Poll-clause-queue
 returns-in-Poll-clause-queue c = λ in_flight is. rw (c.in-Poll.is, c.tell-in-Poll.ensures) (c.poll.ensures.polled, c.poll.ensures.commands)
 
-pub returns-in-PlugRaw-clause-frames : goal.returns-in-PlugRaw-clause-frames
-returns-in-PlugRaw-clause-frames c = rw c.in-PlugRaw.is c.plug.ensures.marks
-
-pub returns-in-Release-clause-frames : goal.returns-in-Release-clause-frames
-returns-in-Release-clause-frames c = rw c.in-Release.is c.release.ensures.marks
-
-pub returns-in-Fetch-clause-frames : goal.returns-in-Fetch-clause-frames
-returns-in-Fetch-clause-frames c = rw c.in-Fetch.is c.fetch.ensures.marks
-
-pub returns-in-Poll-clause-frames : goal.returns-in-Poll-clause-frames
-returns-in-Poll-clause-frames c = rw c.in-Poll.is c.poll.ensures.marks
-
-pub returns-in-Read-clause-frames : goal.returns-in-Read-clause-frames
-returns-in-Read-clause-frames c = rw c.in-Read.is c.read.ensures.marks
-
-pub returns-in-Write-clause-frames : goal.returns-in-Write-clause-frames
-returns-in-Write-clause-frames c = rw c.in-Write.is c.write.ensures.marks
-
-pub returns-in-Commit-clause-frames : goal.returns-in-Commit-clause-frames
-returns-in-Commit-clause-frames c = rw c.in-Commit.is c.commit.ensures.marks
-
 pub returns-in-AttachFirst-clause-frames : goal.returns-in-AttachFirst-clause-frames
 returns-in-AttachFirst-clause-frames c = rw (c.in-AttachFirst.is, c.tell-in-AttachFirst.ensures) record {
   root = λ done. c.attach.ensures.root (answer_done c.attach.result done);
