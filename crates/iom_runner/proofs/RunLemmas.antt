@@ -42,55 +42,55 @@ tells_none frames levels events old new can_come front =
     tells_more frames levels events 0 [] (opening frames levels) old new refl can_come (front-longer old new [] (line_of Done ++ []) front)
 
 -- what a sink that had nothing takes of the line of the world and the lines of a run
-takes_run : {W : Type 0} (contents : W → Option (List ℕ)) (old opened new : LineWriter W) (state : State) (events : List Event) (world : World)
-    → TakesLine contents old Done opened → (ran : RunsTo (TakesLine contents) state events opened new world) → TakesText contents old (line_of Done ++ lines_of ran.0) new
-takes_run contents old opened new state events world put ran =
+takes_run : {W : Type 0} (contents : W → Option (List ℕ)) (old opened new : LineWriter W) (state : State) (events : List Event) (first world : World)
+    → TakesLine contents old Done opened → (ran : RunsTo (TakesLine contents) state first events opened new world) → TakesText contents old (line_of Done ++ lines_of ran.0) new
+takes_run contents old opened new state events first world put ran =
     takes-more contents old opened new (line_of Done) (lines_of ran.0) put (takes-lines contents opened new ran.0 ran.3)
 
 -- a run whose lines are all written is told
-pub told_whole : {W : Type 0} (contents : W → Option (List ℕ)) (frames levels : ℕ) (events : List Event) (old opened mid new : LineWriter W) (world : World)
-    → old.buffer ≡ [] → TakesLine contents old Done opened → RunsTo (TakesLine contents) (opening frames levels) events opened mid world
+pub told_whole : {W : Type 0} (contents : W → Option (List ℕ)) (frames levels : ℕ) (events : List Event) (old opened mid new : LineWriter W) (first world : World)
+    → old.buffer ≡ [] → TakesLine contents old Done opened → RunsTo (TakesLine contents) (opening frames levels) first events opened mid world
     → Appends (contents mid.writer.now) (contents new.writer.now) mid.buffer
     → (text : List ℕ) × TellsRun (opening frames levels) events text × Appends (contents old.writer.now) (contents new.writer.now) text
-told_whole contents frames levels events old opened mid new world empty put ran wrote = (
+told_whole contents frames levels events old opened mid new first world empty put ran wrote = (
   line_of Done ++ lines_of ran.0,
-  (ran.0, ran.1, ran.2, reclaims frames levels events ran.0 ran.1 ran.2, refl),
-  all_written contents old mid (contents new.writer.now) (line_of Done ++ lines_of ran.0) empty (takes_run contents old opened mid (opening frames levels) events world put ran) wrote,
+  (ran.0, ran.1, ran.2.run, reclaims frames levels events ran.0 ran.1 ran.2.run, refl),
+  all_written contents old mid (contents new.writer.now) (line_of Done ++ lines_of ran.0) empty (takes_run contents old opened mid (opening frames levels) events first world put ran) wrote,
 )
 
 -- a run of which a beginning is written at the end
-pub told_in_part : {W : Type 0} (contents : W → Option (List ℕ)) (frames levels : ℕ) (events : List Event) (old opened mid new : LineWriter W) (world : World)
-    → old.buffer ≡ [] → TakesLine contents old Done opened → RunsTo (TakesLine contents) (opening frames levels) events opened mid world
+pub told_in_part : {W : Type 0} (contents : W → Option (List ℕ)) (frames levels : ℕ) (events : List Event) (old opened mid new : LineWriter W) (first world : World)
+    → old.buffer ≡ [] → TakesLine contents old Done opened → RunsTo (TakesLine contents) (opening frames levels) first events opened mid world
     → AppendsFront (contents mid.writer.now) (contents new.writer.now) mid.buffer
     → (text : List ℕ) × TellsRun (opening frames levels) events text × AppendsFront (contents old.writer.now) (contents new.writer.now) text
-told_in_part contents frames levels events old opened mid new world empty put ran wrote = (
+told_in_part contents frames levels events old opened mid new first world empty put ran wrote = (
   line_of Done ++ lines_of ran.0,
-  (ran.0, ran.1, ran.2, reclaims frames levels events ran.0 ran.1 ran.2, refl),
-  front_written contents old mid (contents new.writer.now) (line_of Done ++ lines_of ran.0) empty (takes_run contents old opened mid (opening frames levels) events world put ran) wrote,
+  (ran.0, ran.1, ran.2.run, reclaims frames levels events ran.0 ran.1 ran.2.run, refl),
+  front_written contents old mid (contents new.writer.now) (line_of Done ++ lines_of ran.0) empty (takes_run contents old opened mid (opening frames levels) events first world put ran) wrote,
 )
 
 -- a run that ends where the sink fails
-pub told_until_failure : {W : Type 0} (contents : W → Option (List ℕ)) (counted frames levels : ℕ) (events : List Event) (old opened new : LineWriter W) (world : World)
+pub told_until_failure : {W : Type 0} (contents : W → Option (List ℕ)) (frames levels : ℕ) (events : List Event) (old opened new : LineWriter W) (first world : World)
     → old.buffer ≡ [] → All IsEvent events → TakesLine contents old Done opened
-    → FailsAfter (TakesLine contents) (FailsWriting contents) (opening frames levels) events opened new counted world
+    → FailsAfter (TakesLine contents) (FailsWriting contents) (opening frames levels) first events opened new world
     → (text : List ℕ) × TellsRun (opening frames levels) events text × AppendsFront (contents old.writer.now) (contents new.writer.now) text
-told_until_failure contents counted frames levels events old opened new world empty can_come put (outcomes, last, next, middle, few, ran, took, failed, shows, count) =
+told_until_failure contents frames levels events old opened new first world empty can_come put (outcomes, last, next, middle, few, ran, took, failed, count) =
     let all = outcomes ++ last ∷ [] in
     let lines : line_of Done ++ lines_of all ≡ (line_of Done ++ lines_of outcomes) ++ lines_of (last ∷ []) =
     ap (λ l. line_of Done ++ l) (flat_map-append line_of outcomes (last ∷ [])) ∙ sym (append_assoc (line_of Done) (lines_of outcomes) (lines_of (last ∷ []))) in
     let front = front_written contents old middle (contents new.writer.now) (line_of Done ++ lines_of outcomes) empty
     (takes-more contents old opened middle (line_of Done) (lines_of outcomes) put (takes-lines contents opened middle outcomes took)) failed.1 in
-    tells_more frames levels events (length outcomes + 1) all next (contents old.writer.now) (contents new.writer.now) ran can_come
+    tells_more frames levels events (length outcomes + 1) all next (contents old.writer.now) (contents new.writer.now) ran.run can_come
     (subst (AppendsFront (contents old.writer.now) (contents new.writer.now)) (sym lines) (front-longer _ _ _ (lines_of (last ∷ [])) front))
 
 -- the sink writes to the same writer, where the run goes to its end
-pub same_if_ran : {W : Type 0} (contents : W → Option (List ℕ)) (frames levels : ℕ) (events : List Event) (old opened mid new : LineWriter W) (world : World)
-    → TakesLine contents old Done opened → RunsTo (TakesLine contents) (opening frames levels) events opened mid world → KeepsWriter mid new → KeepsWriter old new
-same_if_ran contents frames levels events old opened mid new world put ran same =
-    same ∙ (takes_run contents old opened mid (opening frames levels) events world put ran).0
+pub same_if_ran : {W : Type 0} (contents : W → Option (List ℕ)) (frames levels : ℕ) (events : List Event) (old opened mid new : LineWriter W) (first world : World)
+    → TakesLine contents old Done opened → RunsTo (TakesLine contents) (opening frames levels) first events opened mid world → KeepsWriter mid new → KeepsWriter old new
+same_if_ran contents frames levels events old opened mid new first world put ran same =
+    same ∙ (takes_run contents old opened mid (opening frames levels) events first world put ran).0
 
 -- the same, where the sink fails
-pub same_if_failed : {W : Type 0} (contents : W → Option (List ℕ)) (counted frames levels : ℕ) (events : List Event) (old opened new : LineWriter W) (world : World)
-    → TakesLine contents old Done opened → FailsAfter (TakesLine contents) (FailsWriting contents) (opening frames levels) events opened new counted world → KeepsWriter old new
-same_if_failed contents counted frames levels events old opened new world put (outcomes, last, next, middle, few, ran, took, failed, shows, count) =
+pub same_if_failed : {W : Type 0} (contents : W → Option (List ℕ)) (frames levels : ℕ) (events : List Event) (old opened new : LineWriter W) (first world : World)
+    → TakesLine contents old Done opened → FailsAfter (TakesLine contents) (FailsWriting contents) (opening frames levels) first events opened new world → KeepsWriter old new
+same_if_failed contents frames levels events old opened new first world put (outcomes, last, next, middle, few, ran, took, failed, count) =
     failed.0 ∙ (takes-lines contents opened middle outcomes took).0 ∙ put.0

@@ -21,5 +21,6 @@ pub mod RequestLemmas
 pub mod CommitLemmas
 pub mod ReleaseLemmas
 pub mod ReleaseTables
+pub mod AnswerLemmas
 pub mod RunLemmas
 pub mod StartLemmas

@@ -4,6 +4,7 @@ use Rattle.std.proofs.lemmas.List.{take_more, take_all, length-take-le}
 use Rattle.iom_ledger.specs.declared.ledger.Ledger.{Ledger}
 use Rattle.iom_machine.specs.declared.choice.Choice.{Choice}
 use Rattle.iom_machine.specs.declared.event.Event.{Event}
+use Rattle.iom_machine.specs.declared.event.Event.TheVariants as events
 use Rattle.iom_machine.specs.declared.outcome.Outcome.{Outcome}
 use Rattle.iom_machine.specs.declared.state.State.{State}
 use Rattle.iom_machine.specs.Machine.{ChosenStep, Step, Run}
@@ -13,9 +14,10 @@ use Rattle.iom_world.specs.declared.world.World.{World}
 use Rattle.iom_world.specs.Facts.{AreSoundDevices}
 use Rattle.iom_world.specs.Places.{CountsBelow}
 use Rattle.iom_world.specs.Queue.{Queue}
-use Rattle.iom_world.specs.Runs.{TakesAll, RunsTo, FailsAfter}
+use Rattle.iom_world.specs.Runs.{TakesAll, GoesThrough, AreOutcomes, RunsTo, FailsAfter}
 use Rattle.iom_world.specs.Shows.{Shows}
 use Rattle.iom_world.specs.Sound.{IsSound}
+use Rattle.iom_world.specs.Unseen.{TakesFrames, Follows}
 
 -- nothing is left free
 abbrev pub no_choice : Choice
@@ -58,6 +60,27 @@ pub below_counted : (ledger : Ledger) (completed events : ℕ) (devices : List D
 below_counted ledger completed events devices each k device at =
     let count : device.accepted ≤ events = (each k device at).counted in omega arith
 
+-- what frames an event takes doesn't hang on the count of events
+pub takes_counted : (event : Event) (told : Outcome) (old counted new : World)
+    → counted.memory ≡ old.memory → counted.marks ≡ old.marks → counted.ledger ≡ old.ledger → counted.devices.items ≡ old.devices.items
+    → TakesFrames event counted told new → TakesFrames event old told new
+takes_counted (events.AttachFirst device) told old counted new memory marks ledger devices takes = record {
+  root = λ done. rw (sym memory, sym marks, sym ledger) (takes.root done);
+  no_frames = λ refused. rw (sym memory, sym marks, sym ledger) (takes.no_frames refused);
+  memory = takes.memory;
+}
+takes_counted (events.Grant device page frame rights) told old counted new memory marks ledger devices takes = record {
+  tables = λ done. rw (sym memory, sym marks, sym ledger, sym devices) (takes.tables done);
+  no_frames = λ refused. rw (sym memory, sym marks, sym ledger, sym devices) (takes.no_frames refused);
+}
+takes_counted (events.PlugRaw device) told old counted new memory marks ledger devices takes = takes ∙ marks
+takes_counted (events.Release device page) told old counted new memory marks ledger devices takes = takes ∙ marks
+takes_counted events.Fetch told old counted new memory marks ledger devices takes = takes ∙ marks
+takes_counted events.Poll told old counted new memory marks ledger devices takes = takes ∙ marks
+takes_counted (events.Read device address len) told old counted new memory marks ledger devices takes = takes ∙ marks
+takes_counted (events.Write device address bytes) told old counted new memory marks ledger devices takes = takes ∙ marks
+takes_counted (events.Commit device) told old counted new memory marks ledger devices takes = takes ∙ marks
+
 -- a run has an outcome for each event
 pub run_length : (old new : State) (events : List Event) (outcomes : List Outcome) → Run old events outcomes new → length outcomes ≡ length events
 run_length old new [] [] ran = refl
@@ -75,6 +98,35 @@ run_more old mid new (other ∷ events) [] event outcome ran step = absurd ran
 run_more old mid new (first ∷ events) (told ∷ outcomes) event outcome ran step =
     (ran.0, ran.1, run_more ran.0 mid new events outcomes event outcome ran.2 step)
 
+-- a world that went through a run shows its last state
+pub through_shows : (state last : State) (old new : World) (events : List Event) (outcomes : List Outcome) (run : Run state events outcomes last)
+    → GoesThrough state old events outcomes last run new → Shows new last
+through_shows state last old new [] [] run through = through.0
+through_shows state last old new [] (other ∷ outcomes) run through = absurd run
+through_shows state last old new (other ∷ events) [] run through = absurd run
+through_shows state last old new (first ∷ events) (told ∷ outcomes) run through = through_shows run.0 last through.1 new events outcomes run.2 through.3
+
+-- events have one outcome more by an event at the end
+pub outcomes_more : (state next last : State) (old mid new : World) (events : List Event) (outcomes : List Outcome) (event : Event) (outcome : Outcome)
+    → AreOutcomes state old events outcomes next mid → Step next event outcome last → Follows mid event outcome new → Shows new last
+    → AreOutcomes state old (events ++ event ∷ []) (outcomes ++ outcome ∷ []) last new
+outcomes_more state next last old mid new [] [] event outcome so_far step follows shows = record {
+  run = (last, subst (λ (s : State). Step s event outcome last) so_far.run step, refl);
+  through = (
+    subst (λ (s : State). Shows old s) so_far.run (subst (λ (world : World). Shows world next) so_far.through.1 so_far.through.0),
+    new,
+    subst (λ (world : World). Follows world event outcome new) so_far.through.1 follows,
+    (shows, refl),
+  );
+}
+outcomes_more state next last old mid new [] (other ∷ outcomes) event outcome so_far step follows shows = absurd so_far.run
+outcomes_more state next last old mid new (other ∷ events) [] event outcome so_far step follows shows = absurd so_far.run
+outcomes_more state next last old mid new (first ∷ events) (told ∷ outcomes) event outcome so_far step follows shows =
+    let rest = outcomes_more so_far.run.0 next last so_far.through.1 mid new events outcomes event outcome record { run = so_far.run.2; through = so_far.through.3 } step follows shows in record {
+      run = (so_far.run.0, so_far.run.1, rest.run);
+      through = (so_far.through.0, so_far.through.1, so_far.through.2, rest.through);
+    }
+
 -- a sink takes one more outcome
 pub takes_all_more : {S : Type 0} (takes : S → Outcome → S → Type 0) (before mid after : S) (outcomes : List Outcome) (outcome : Outcome)
     → TakesAll takes before outcomes mid → takes mid outcome after → TakesAll takes before (outcomes ++ outcome ∷ []) after
@@ -83,46 +135,49 @@ takes_all_more takes before mid after [] outcome all put =
 takes_all_more takes before mid after (first ∷ outcomes) outcome all put =
     (all.0, all.1, takes_all_more takes all.0 mid after outcomes outcome all.2 put)
 
+-- the world shows the state that a run leads to
+pub shown_so_far : {S : Type 0} (takes : S → Outcome → S → Type 0) (state : State) (events : List Event) (before after : S) (old new : World)
+    → (so_far : RunsTo takes state old events before after new) → Shows new so_far.1
+shown_so_far takes state events before after old new so_far = through_shows state so_far.1 old new events so_far.0 so_far.2.run so_far.2.through
+
 -- what a run with one more event is
-pub goes_on : {S : Type 0} (takes : S → Outcome → S → Type 0) (state next : State) (events : List Event) (i : ℕ) (event : Event) (outcome : Outcome) (before mid after : S) (old new : World)
-    → (so_far : RunsTo takes state (take i events) before mid old)
+pub goes_on : {S : Type 0} (takes : S → Outcome → S → Type 0) (state next : State) (events : List Event) (i : ℕ) (event : Event) (outcome : Outcome) (before mid after : S) (first old new : World)
+    → (so_far : RunsTo takes state first (take i events) before mid old)
     → event ≡ get_or events i event → i < length events
-    → Step so_far.1 event outcome next → Shows new next → takes mid outcome after
-    → RunsTo takes state (take (i + 1) events) before after new
-goes_on takes state next events i event outcome before mid after old new so_far is lt step shows put = (
+    → Step so_far.1 event outcome next → Follows old event outcome new → Shows new next → takes mid outcome after
+    → RunsTo takes state first (take (i + 1) events) before after new
+goes_on takes state next events i event outcome before mid after first old new so_far is lt step follows shows put = (
   so_far.0 ++ outcome ∷ [],
   next,
-  subst (λ (es : List Event). Run state es (so_far.0 ++ outcome ∷ []) next)
+  subst (λ (es : List Event). AreOutcomes state first es (so_far.0 ++ outcome ∷ []) next new)
       (ap (λ (e : Event). take i events ++ e ∷ []) is ∙ sym (take_more events i event lt))
-      (run_more state so_far.1 next (take i events) so_far.0 event outcome so_far.2 step),
+      (outcomes_more state so_far.1 next first old new (take i events) so_far.0 event outcome so_far.2 step follows shows),
   takes_all_more takes before mid after so_far.0 outcome so_far.3 put,
-  shows,
 )
 
 -- the sink fails at the outcome of the next event
-pub ends_at : {S : Type 0} (takes fails : S → Outcome → S → Type 0) (state next : State) (events : List Event) (i : ℕ) (event : Event) (outcome : Outcome) (before mid after : S) (counted : ℕ) (old new : World)
-    → (so_far : RunsTo takes state (take i events) before mid old)
-    → event ≡ get_or events i event → i < length events → new.events ≡ counted + i + 1
-    → Step so_far.1 event outcome next → Shows new next → fails mid outcome after
-    → FailsAfter takes fails state events before after counted new
-ends_at takes fails state next events i event outcome before mid after counted old new so_far is lt count step shows failed =
-    let long : length so_far.0 ≡ i = run_length state so_far.1 (take i events) so_far.0 so_far.2 ∙ length-take-le i events (omega arith) in (
+pub ends_at : {S : Type 0} (takes fails : S → Outcome → S → Type 0) (state next : State) (events : List Event) (i : ℕ) (event : Event) (outcome : Outcome) (before mid after : S) (first old new : World)
+    → (so_far : RunsTo takes state first (take i events) before mid old)
+    → event ≡ get_or events i event → i < length events → new.events ≡ first.events + i + 1
+    → Step so_far.1 event outcome next → Follows old event outcome new → Shows new next → fails mid outcome after
+    → FailsAfter takes fails state first events before after new
+ends_at takes fails state next events i event outcome before mid after first old new so_far is lt count step follows shows failed =
+    let long : length so_far.0 ≡ i = run_length state so_far.1 (take i events) so_far.0 so_far.2.run ∙ length-take-le i events (omega arith) in (
       so_far.0,
       outcome,
       next,
       mid,
       rw long lt,
-      subst (λ (es : List Event). Run state es (so_far.0 ++ outcome ∷ []) next)
+      subst (λ (es : List Event). AreOutcomes state first es (so_far.0 ++ outcome ∷ []) next new)
           (ap (λ (e : Event). take i events ++ e ∷ []) is ∙ sym (take_more events i event lt) ∙ ap (λ n. take (n + 1) events) (sym long))
-          (run_more state so_far.1 next (take i events) so_far.0 event outcome so_far.2 step),
+          (outcomes_more state so_far.1 next first old new (take i events) so_far.0 event outcome so_far.2 step follows shows),
       so_far.3,
       failed,
-      shows,
-      count ∙ ap (λ n. counted + n + 1) (sym long),
+      count ∙ ap (λ n. first.events + n + 1) (sym long),
     )
 
 -- a run over all the events that there are is one over the events
-pub whole : {S : Type 0} (takes : S → Outcome → S → Type 0) (state : State) (events : List Event) (i : ℕ) (before after : S) (world : World)
-    → RunsTo takes state (take i events) before after world → length events ≤ i → RunsTo takes state events before after world
-whole takes state events i before after world ran le =
-    subst (λ (es : List Event). RunsTo takes state es before after world) (take_all i events le) ran
+pub whole : {S : Type 0} (takes : S → Outcome → S → Type 0) (state : State) (events : List Event) (i : ℕ) (before after : S) (first world : World)
+    → RunsTo takes state first (take i events) before after world → length events ≤ i → RunsTo takes state first events before after world
+whole takes state events i before after first world ran le =
+    subst (λ (es : List Event). RunsTo takes state first es before after world) (take_all i events le) ran

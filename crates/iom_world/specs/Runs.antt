@@ -1,5 +1,5 @@
 -- What a run of the world over a list of events gives, where the outcomes go to a sink.
-use Rattle.std.specs.Prelude.{◌≡◌, ℕ, ◌+◌, ◌<◌, List, [], ◌∷◌, ◌++◌, length, take}
+use Rattle.std.specs.Prelude.{◌≡◌, ◌+◌, ◌<◌, List, [], ◌∷◌, ◌++◌, length, take}
 use Rattle.iom_machine.specs.declared.event.Event.{Event}
 use Rattle.iom_machine.specs.declared.outcome.Outcome.{Outcome}
 use Rattle.iom_machine.specs.declared.state.State.{State}
@@ -7,6 +7,7 @@ use Rattle.iom_machine.specs.Machine.{Run}
 use Rattle.iom_machine.specs.Reclaim.{Reclaims}
 use Rattle.iom_world.specs.declared.world.World.{World}
 use Rattle.iom_world.specs.Shows.{Shows}
+use Rattle.iom_world.specs.Unseen.{Follows}
 
 -- the sink takes these outcomes, one after another
 abbrev pub TakesAll : {S : Type 0} → (S → Outcome → S → Type 0) → S → List Outcome → S → Type 0
@@ -14,24 +15,38 @@ TakesAll takes before [] after = after ≡ before
 TakesAll takes before (outcome ∷ outcomes) after =
     (mid : _) × takes before outcome mid × TakesAll takes mid outcomes after
 
--- a run of the ledger machine over all the events: the sink took each outcome, and the world shows the last state
-abbrev pub RunsTo : {S : Type 0} → (S → Outcome → S → Type 0) → State → List Event → S → S → World → Type 0
-RunsTo takes state events before after world =
+-- the world goes through this run of the ledger machine, and is this one in the end: before each event and after the last it shows the state that the run
+-- is in, and each event also does to it what the machine doesn't see
+abbrev pub GoesThrough : (state : State) → World → (events : List Event) (outcomes : List Outcome) (last : State)
+    → Run state events outcomes last → World → Type 0
+GoesThrough state old [] [] last run new = Shows new last × (new ≡ old)
+GoesThrough state old (event ∷ events) (outcome ∷ outcomes) last (next, step, rest) new =
+    Shows old state × (mid : World) × Follows old event outcome mid × GoesThrough next mid events outcomes last rest new
+GoesThrough state old _ _ last run new = ⊥
+
+-- the events have these outcomes: those of a run of the ledger machine to this state, which the world goes through
+pub record AreOutcomes (state : State) (old : World) (events : List Event) (outcomes : List Outcome) (last : State) (new : World) : Type 0 where
+  pub run : Run state events outcomes last
+  pub through : GoesThrough state old events outcomes last run new
+
+-- all the events have some outcomes, and the sink took each
+abbrev pub RunsTo : {S : Type 0} → (S → Outcome → S → Type 0) → State → World → List Event → S → S → World → Type 0
+RunsTo takes state old events before after new =
     (outcomes : List Outcome) × (next : State)
-    × Run state events outcomes next × TakesAll takes before outcomes after × Shows world next
+    × AreOutcomes state old events outcomes next new × TakesAll takes before outcomes after
 
 -- the same, where of each event of the run the sentences of the headline hold
-abbrev pub ReclaimsFrom : {S : Type 0} → (S → Outcome → S → Type 0) → State → List Event → S → S → World → Type 0
-ReclaimsFrom takes state events before after world =
+abbrev pub ReclaimsFrom : {S : Type 0} → (S → Outcome → S → Type 0) → State → World → List Event → S → S → World → Type 0
+ReclaimsFrom takes state old events before after new =
     (outcomes : List Outcome) × (next : State)
-    × Run state events outcomes next × Reclaims state events outcomes next
-    × TakesAll takes before outcomes after × Shows world next
+    × AreOutcomes state old events outcomes next new × TakesAll takes before outcomes after
+    × Reclaims state events outcomes next
 
--- a run over the events up to one at whose outcome the sink failed, having taken each outcome before: the world shows the state after that event, and has counted it with those before
-abbrev pub FailsAfter : {S : Type 0} → (S → Outcome → S → Type 0) → (S → Outcome → S → Type 0) → State → List Event → S → S → ℕ → World → Type 0
-FailsAfter takes fails state events before after counted world =
+-- the events up to one have some outcomes, at the last of which the sink failed, having taken each before; the world has counted that event with those before
+abbrev pub FailsAfter : {S : Type 0} → (S → Outcome → S → Type 0) → (S → Outcome → S → Type 0) → State → World → List Event → S → S → World → Type 0
+FailsAfter takes fails state old events before after new =
     (outcomes : List Outcome) × (last : Outcome) × (next : State) × (middle : _)
     × (length outcomes < length events)
-    × Run state (take (length outcomes + 1) events) (outcomes ++ last ∷ []) next
-    × TakesAll takes before outcomes middle × fails middle last after × Shows world next
-    × (world.events ≡ counted + length outcomes + 1)
+    × AreOutcomes state old (take (length outcomes + 1) events) (outcomes ++ last ∷ []) next new
+    × TakesAll takes before outcomes middle × fails middle last after
+    × (new.events ≡ old.events + length outcomes + 1)

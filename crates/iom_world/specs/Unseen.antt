@@ -1,15 +1,18 @@
 -- What a step does to the parts of a world that the ledger machine doesn't see, and that a refusal changes none.
-use Rattle.std.specs.Prelude.{◌≡◌, ℕ, ◌+◌, ◌<◌, ◌≤◌, Bool, length}
+use Rattle.std.specs.Prelude.{◌≡◌, ◌≢◌, ◌↔◌, ℕ, ◌+◌, ◌<◌, ◌≤◌, Bool, IsTrue, None, length}
 use Rattle.iom_ledger.specs.Changes.{IsUnchanged}
 use Rattle.iom_ledger.specs.declared.refusal.Refusal.{Refusal}
-use Rattle.iom_ledger.specs.declared.refusal.Refusal.TheVariants.{QueueFull, NumbersUsedUp}
+use Rattle.iom_ledger.specs.declared.refusal.Refusal.TheVariants.{Memory, NoFrames, QueueFull, NumbersUsedUp}
 use Rattle.iom_machine.specs.declared.event.Event.{Event}
 use Rattle.iom_machine.specs.declared.event.Event.TheVariants as events
 use Rattle.iom_machine.specs.declared.outcome.Fetched.{Fetched}
 use Rattle.iom_machine.specs.declared.outcome.Outcome.{Outcome}
 use Rattle.iom_machine.specs.declared.outcome.Outcome.TheVariants as outcome
+use Rattle.iom_table_frames.specs.Marks.{NoneIsFree}
 use Rattle.iom_world.specs.declared.world.World.{World}
+use Rattle.iom_world.specs.Admission.{TakesHighest, LacksTables, TakesTables}
 use Rattle.iom_world.specs.Confirmed.{polled_from}
+use Rattle.iom_world.specs.Places.{SomeInFlight}
 use Rattle.iom_world.specs.Queue.{Queue, with_release, AfterFetch}
 
 -- a release that is answered so: its ticket is the next, and its commands are appended; a full queue is told only where there is no room for them, used-up numbers only where there is room and no number; and a refusal leaves the commands
@@ -28,6 +31,23 @@ AfterEvent events.Poll in_flight old told new =
     (told ≡ polled_from old) × (new ≡ record old { confirmed = old.completed })
 AfterEvent _ in_flight old told new = new ≡ old
 
+-- an attachment that is answered so: its root takes the highest free frame; want of frames is told only where none is free, and want of memory never
+pub record AttachTakes (old : World) (device : ℕ) (told : Outcome) (new : World) : Type 0 where
+  pub root : told ≡ outcome.Done → TakesHighest old.memory old.marks old.ledger device new.marks
+  pub no_frames : told ≡ outcome.Refused NoFrames → NoneIsFree old.marks old.ledger None 0 (length old.memory)
+  pub memory : told ≢ outcome.Refused Memory
+
+-- a grant that is answered so: the tables that the page lacks take the highest free frames; want of frames is told only where too few are free for them
+pub record GrantTakes (old : World) (device page frame : ℕ) (told : Outcome) (new : World) : Type 0 where
+  pub tables : told ≡ outcome.Done → TakesTables old.memory old.marks old.ledger old.devices.items device page frame new.marks
+  pub no_frames : told ≡ outcome.Refused NoFrames → LacksTables old.memory old.marks old.ledger old.devices.items device page frame
+
+-- an attachment takes a frame for its root, a grant those for the tables that its page lacks, and nothing else changes whose a frame is
+abbrev pub TakesFrames : Event → World → Outcome → World → Type 0
+TakesFrames (events.AttachFirst device) old told new = AttachTakes old device told new
+TakesFrames (events.Grant device page frame rights) old told new = GrantTakes old device page frame told new
+TakesFrames _ old told new = new.marks ≡ old.marks
+
 -- all is the same but the count of events, and what room the ledger has
 pub record IsSame (old new : World) : Type 0 where
   pub memory : new.memory ≡ old.memory
@@ -40,3 +60,11 @@ pub record IsSame (old new : World) : Type 0 where
 -- a refusal changes nothing
 abbrev pub SameIfRefused : Outcome → World → World → Type 0
 SameIfRefused told old new = (why : Refusal) → told ≡ outcome.Refused why → IsSame old new
+
+-- what the ledger machine doesn't see of an event that is answered so: what it does to the commands, by whether an access is in flight; which frames
+-- it takes for tables; that a refusal changes nothing; and that the event is counted
+pub record Follows (old : World) (event : Event) (told : Outcome) (new : World) : Type 0 where
+  pub queue : (in_flight : Bool) → (IsTrue in_flight ↔ SomeInFlight old.devices.items) → AfterEvent event in_flight old.commands told new.commands
+  pub frames : TakesFrames event old told new
+  pub refused : SameIfRefused told old new
+  pub events : new.events ≡ old.events + 1

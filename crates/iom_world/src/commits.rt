@@ -50,6 +50,7 @@ impl World {
             × Commits state id told.new next × Shows self.new next }
         ensures given { (bytes : List ℕ) × GivesBytes told.new bytes }
         ensures commands { self.new.commands ≡ self.old.commands }
+        ensures marks { self.new.marks ≡ self.old.marks }
         ensures events { self.new.events ≡ self.old.events }
     {
         let offset = (access.address % 4096) as usize;
@@ -66,6 +67,7 @@ impl World {
             × Commits state id (outcome_of result) next × Shows self.new next }
         ensures wrote { (len : ℕ) × (result ≡ answer.Wrote len) }
         ensures commands { self.new.commands ≡ self.old.commands }
+        ensures marks { self.new.marks ≡ self.old.marks }
         ensures events { self.new.events ≡ self.old.events }
     {
         let offset = (access.address % 4096) as usize;
@@ -81,6 +83,7 @@ impl World {
         ensures step { (state : State) → Shows self.old state → (next : State) × Commits state id told.new next × Shows self.new next }
         ensures refused { SameIfRefused told.new self.old self.new }
         ensures commands { self.new.commands ≡ self.old.commands }
+        ensures marks { self.new.marks ≡ self.old.marks }
         ensures events { self.new.events ≡ self.old.events }
     {
         let Some(place) = self.place_of(id) else {

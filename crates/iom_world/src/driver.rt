@@ -192,6 +192,7 @@ impl World {
             × (4294967295 ≤ self.old.commands.given) }
         ensures ticket { (ticket : ℕ) → outcome_of result ≡ outcome.Ticket ticket → (ticket ≡ self.old.commands.given + 1)
             × (self.new.commands ≡ with_release self.old.commands) }
+        ensures marks { self.new.marks ≡ self.old.marks }
         ensures refused { SameIfRefused (outcome_of result) self.old self.new }
         ensures events { self.new.events ≡ self.old.events }
     {

@@ -4,8 +4,9 @@
 //! Page tables stand in memory and are walked for every request (RISC-V Privileged Architecture,
 //! "Sv39"); commands and fences are those of the RISC-V IOMMU Architecture Specification, section 3.1.
 //! The layer above may rely on [`World::run`] being a run of the ledger machine, whatever the events
-//! are, and so on the sentences of the reclaim theorem; and on [`World::step`] for what that
-//! machine doesn't see: what each event does to the commands, and that a refusal changes nothing.
+//! are, and so on the sentences of the reclaim theorem. Of each event [`World::run`] and [`World::step`]
+//! also say what that machine doesn't see: what it does to the commands, which frames it takes for
+//! tables, and that a refusal changes nothing.
 #![tactic(auto)]
 
 mod answer;

@@ -50,7 +50,10 @@ impl Device {
         requires len { len ≤ 4096 }
         requires count { self.old.accepted + 1 < 2 ^ 64 }
         ensures number { result ≡ self.old.accepted + 1 }
-        ensures after { self.new ≡ record self.old { accepted = self.old.accepted + 1; in_flight = self.old.in_flight ++ read_flight address len frame ∷ [] } }
+        ensures after { self.new ≡ record self.old {
+          accepted = self.old.accepted + 1;
+          in_flight = self.old.in_flight ++ read_flight address len frame ∷ [];
+        } }
     {
         self.in_flight.accept_read(address, len, frame);
         self.count_accepted()
@@ -62,7 +65,10 @@ impl Device {
         requires len { length bytes.now ≤ 4096 }
         requires count { self.old.accepted + 1 < 2 ^ 64 }
         ensures number { result ≡ self.old.accepted + 1 }
-        ensures after { self.new ≡ record self.old { accepted = self.old.accepted + 1; in_flight = self.old.in_flight ++ write_flight address bytes.now frame ∷ [] } }
+        ensures after { self.new ≡ record self.old {
+          accepted = self.old.accepted + 1;
+          in_flight = self.old.in_flight ++ write_flight address bytes.now frame ∷ [];
+        } }
     {
         self.in_flight.accept_write(address, bytes, frame);
         self.count_accepted()
@@ -118,6 +124,7 @@ impl World {
             × Requests frame state id (read_of address len) (outcome_of result) next × Shows self.new next }
         ensures refused { SameIfRefused (outcome_of result) self.old self.new }
         ensures commands { self.new.commands ≡ self.old.commands }
+        ensures marks { self.new.marks ≡ self.old.marks }
         ensures events { self.new.events ≡ self.old.events }
     {
         let Some(place) = self.place_of(id) else {
@@ -143,6 +150,7 @@ impl World {
             × Requests frame state id (write_of address bytes.now) (outcome_of result) next × Shows self.new next }
         ensures refused { SameIfRefused (outcome_of result) self.old self.new }
         ensures commands { self.new.commands ≡ self.old.commands }
+        ensures marks { self.new.marks ≡ self.old.marks }
         ensures events { self.new.events ≡ self.old.events }
     {
         let Some(place) = self.place_of(id) else {

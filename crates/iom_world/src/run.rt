@@ -6,7 +6,7 @@ ghost use Rattle.iom_machine.specs.PowerOn.{opening};
 ghost use Rattle.iom_world.specs.Places.{CountsBelow, SomeInFlight};
 ghost use Rattle.iom_world.specs.Runs.{RunsTo, ReclaimsFrom, FailsAfter};
 ghost use Rattle.iom_world.specs.Shows.{Shows};
-ghost use Rattle.iom_world.specs.Unseen.{AfterEvent, SameIfRefused};
+ghost use Rattle.iom_world.specs.Unseen.{AfterEvent, TakesFrames, SameIfRefused};
 
 use crate::places::Places;
 use crate::world::World;
@@ -20,6 +20,7 @@ impl World {
         ensures step { (state : State) → Shows self.old state → (next : State) × Step state event.now told.new next × Shows self.new next }
         ensures queue { (in_flight : Bool) → (IsTrue in_flight ↔ SomeInFlight self.old.devices.items)
             → AfterEvent event.now in_flight self.old.commands told.new self.new.commands }
+        ensures frames { TakesFrames event.now self.old told.new self.new }
         ensures refused { SameIfRefused told.new self.old self.new }
         ensures events { self.new.events ≡ self.old.events }
     {
@@ -56,6 +57,7 @@ impl World {
         ensures step { (state : State) → Shows self.old state → (next : State) × Step state event.now told.new next × Shows self.new next }
         ensures queue { (in_flight : Bool) → (IsTrue in_flight ↔ SomeInFlight self.old.devices.items)
             → AfterEvent event.now in_flight self.old.commands told.new self.new.commands }
+        ensures frames { TakesFrames event.now self.old told.new self.new }
         ensures refused { SameIfRefused told.new self.old self.new }
         ensures events { self.new.events ≡ self.old.events + 1 }
     {
@@ -64,13 +66,16 @@ impl World {
     }
 
     /// One event, and what comes of it: a lawful step of the ledger machine from every state that the
-    /// world shows. Each event is counted, whatever comes of it.
+    /// world shows. A release, a fetch and a poll do to the commands what the driver and the IOMMU do; an
+    /// attach and a grant take the highest free frames for tables; a refusal changes nothing. Each event
+    /// is counted, whatever comes of it.
     pub fn step(&mut self, event: &Event) -> Outcome
         requires event { IsEvent event.now }
         requires count { self.old.events + 1 < 2 ^ 64 }
         ensures step { (state : State) → Shows self.old state → (next : State) × Step state event.now result next × Shows self.new next }
         ensures queue { (in_flight : Bool) → (IsTrue in_flight ↔ SomeInFlight self.old.devices.items)
             → AfterEvent event.now in_flight self.old.commands result self.new.commands }
+        ensures frames { TakesFrames event.now self.old result self.new }
         ensures refused { SameIfRefused result self.old self.new }
         ensures events { self.new.events ≡ self.old.events + 1 }
     {
@@ -81,17 +86,18 @@ impl World {
 
     /// The events, one after another: the sink takes the outcome of each, and the run stops at the first
     /// that it fails at. The outcomes are those of a run of the ledger machine over the events, from every
-    /// state that the world shows.
+    /// state that the world shows; and each event does to the commands and to the frames of tables what
+    /// [`World::step`] says of it.
     pub fn run<S: Sink>(&mut self, events: &[Event], sink: &mut S) -> Result<(), S::Fault>
         requires events { All IsEvent events.now }
         requires count { self.old.events + length events.now < 2 ^ 64 }
-        ensures ran { (state : State) → Shows self.old state → OnOk result (RunsTo S.takes state events.now sink.old sink.new self.new) }
+        ensures ran { (state : State) → Shows self.old state → OnOk result (RunsTo S.takes state self.old events.now sink.old sink.new self.new) }
         ensures failed { (state : State) → Shows self.old state
-            → OnErr result (FailsAfter S.takes S.fails state events.now sink.old sink.new self.old.events self.new) }
+            → OnErr result (FailsAfter S.takes S.fails state self.old events.now sink.old sink.new self.new) }
         ensures counted { OnOk result (self.new.events ≡ self.old.events + length events.now) }
         ensures counted_at_most { OnErr result (self.new.events ≤ self.old.events + length events.now) }
         ensures reclaim { (frames levels : ℕ) → Shows self.old (opening frames levels)
-            → OnOk result (ReclaimsFrom S.takes (opening frames levels) events.now sink.old sink.new self.new) }
+            → OnOk result (ReclaimsFrom S.takes (opening frames levels) self.old events.now sink.old sink.new self.new) }
     {
         let mut places = Places::new();
         for event in events {

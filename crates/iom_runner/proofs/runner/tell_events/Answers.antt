@@ -12,20 +12,20 @@ returns-in_err-put-clause-front g c = λ frames levels shows.
 
 pub returns-in_err-run-clause-same_writer : goal.returns-in_err-run-clause-same_writer
 returns-in_err-run-clause-same_writer g c = λ frames levels shows.
-    same_if_failed g.W.Write.contents _ frames levels c.args.events.now c.args.lines.now c.put.new.self c.run.new.sink c.run.new.self c.in_ok-put.ensures.taken (c.in_err-run.ensures.failed _ shows)
+    same_if_failed g.W.Write.contents frames levels c.args.events.now c.args.lines.now c.put.new.self c.run.new.sink _ c.run.new.self c.in_ok-put.ensures.taken (c.in_err-run.ensures.failed _ shows)
 
 pub returns-in_err-run-clause-front : goal.returns-in_err-run-clause-front
 returns-in_err-run-clause-front g c = λ frames levels shows.
-    at_err c.from_residual-in_err-run.result (told_until_failure g.W.Write.contents _ frames levels c.args.events.now c.args.lines.now c.put.new.self c.run.new.sink c.run.new.self c.requires.empty c.requires.events c.in_ok-put.ensures.taken (c.in_err-run.ensures.failed _ shows))
+    at_err c.from_residual-in_err-run.result (told_until_failure g.W.Write.contents frames levels c.args.events.now c.args.lines.now c.put.new.self c.run.new.sink _ c.run.new.self c.requires.empty c.requires.events c.in_ok-put.ensures.taken (c.in_err-run.ensures.failed _ shows))
 
 pub returns-clause-same_writer : goal.returns-clause-same_writer
 returns-clause-same_writer g c = λ frames levels shows.
-    same_if_ran g.W.Write.contents frames levels c.args.events.now c.args.lines.now c.put.new.self c.run.new.sink c.write_out.new.self c.run.new.self c.in_ok-put.ensures.taken (c.in_ok-run.ensures.ran _ shows) c.write_out.ensures.same_writer
+    same_if_ran g.W.Write.contents frames levels c.args.events.now c.args.lines.now c.put.new.self c.run.new.sink c.write_out.new.self _ c.run.new.self c.in_ok-put.ensures.taken (c.in_ok-run.ensures.ran _ shows) c.write_out.ensures.same_writer
 
 pub returns-clause-told : goal.returns-clause-told
 returns-clause-told g c = λ frames levels shows.
-    on_ok_weaker c.write_out.result (told_whole g.W.Write.contents frames levels c.args.events.now c.args.lines.now c.put.new.self c.run.new.sink c.write_out.new.self c.run.new.self c.requires.empty c.in_ok-put.ensures.taken (c.in_ok-run.ensures.ran _ shows)) c.write_out.ensures.all
+    on_ok_weaker c.write_out.result (told_whole g.W.Write.contents frames levels c.args.events.now c.args.lines.now c.put.new.self c.run.new.sink c.write_out.new.self _ c.run.new.self c.requires.empty c.in_ok-put.ensures.taken (c.in_ok-run.ensures.ran _ shows)) c.write_out.ensures.all
 
 pub returns-clause-front : goal.returns-clause-front
 returns-clause-front g c = λ frames levels shows.
-    on_err_weaker c.write_out.result (told_in_part g.W.Write.contents frames levels c.args.events.now c.args.lines.now c.put.new.self c.run.new.sink c.write_out.new.self c.run.new.self c.requires.empty c.in_ok-put.ensures.taken (c.in_ok-run.ensures.ran _ shows)) c.write_out.ensures.front
+    on_err_weaker c.write_out.result (told_in_part g.W.Write.contents frames levels c.args.events.now c.args.lines.now c.put.new.self c.run.new.sink c.write_out.new.self _ c.run.new.self c.requires.empty c.in_ok-put.ensures.taken (c.in_ok-run.ensures.ran _ shows)) c.write_out.ensures.front

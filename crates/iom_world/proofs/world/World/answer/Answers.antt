@@ -2,6 +2,8 @@ use Rattle.std.proofs.Common.{ℕ, List, ◌∙◌, refl, sym, subst}
 use Rattle.iom_machine.specs.Machine.{Requests}
 use Rattle.iom_machine.specs.Requests.{write_of}
 use Rattle.iom_world.specs.Answers.{outcome_of}
+use Rattle.iom_ledger.specs.declared.refusal.Refusal.TheVariants.{Memory, NoFrames}
+use Rattle.iom_world.proofs.AnswerLemmas.{answer_done, answer_refused}
 use Rattle.iom_world.proofs.RunLemmas.{stepped, no_choice, frame_chosen, frames_taken}
 use Rattle.iom_world.proofs.world.World.answer.Goals as goal
 
@@ -107,3 +109,16 @@ returns-in-Fetch-clause-queue c = λ in_flight is. rw (c.in-Fetch.is, c.tell-in-
 
 pub returns-in-Poll-clause-queue : goal.returns-in-Poll-clause-queue
 returns-in-Poll-clause-queue c = λ in_flight is. rw (c.in-Poll.is, c.tell-in-Poll.ensures) (c.poll.ensures.polled, c.poll.ensures.commands)
+
+pub returns-in-AttachFirst-clause-frames : goal.returns-in-AttachFirst-clause-frames
+returns-in-AttachFirst-clause-frames c = rw (c.in-AttachFirst.is, c.tell-in-AttachFirst.ensures) record {
+  root = λ done. c.attach.ensures.root (answer_done c.attach.result done);
+  no_frames = λ refused. c.attach.ensures.no_frames (answer_refused c.attach.result NoFrames refused);
+  memory = λ refused. c.attach.ensures.memory (answer_refused c.attach.result Memory refused);
+}
+
+pub returns-in-Grant-clause-frames : goal.returns-in-Grant-clause-frames
+returns-in-Grant-clause-frames c = rw (c.in-Grant.is, c.tell-in-Grant.ensures) record {
+  tables = λ done. c.grant.ensures.tables (answer_done c.grant.result done);
+  no_frames = λ refused. c.grant.ensures.no_frames (answer_refused c.grant.result NoFrames refused);
+}

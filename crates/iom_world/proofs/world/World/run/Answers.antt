@@ -2,28 +2,38 @@ use Rattle.std.proofs.Common.{arith}
 use Rattle.std.proofs.lemmas.Result.{err_from_is_err_and}
 use Rattle.iom_machine.specs.PowerOn.{opening}
 use Rattle.iom_machine.proofs.ReclaimLemmas.{reclaims}
-use Rattle.iom_world.proofs.RunLemmas.{goes_on, ends_at, whole}
+use Rattle.iom_world.proofs.RunLemmas.{goes_on, ends_at, shown_so_far, whole}
 use Rattle.iom_world.proofs.world.World.run.Goals as goal
 
 pub loop-event-preserved : goal.loop-event-preserved
 loop-event-preserved g c = record {
   ran = λ state shows.
       let so_far = c.loop-event.invariant.ran state shows in
-      let next = c.take.ensures.step so_far.1 so_far.4 in
-      goes_on g.S.Sink.takes state next.0 c.args.events.now c.loop-event.event-index c.event-item.result c.take.new.told _ _ _ _ _
-      so_far c.event-item.is c.loop-event-test.true next.1 next.2 c.in_ok-put.ensures.taken;
+      let next = c.take.ensures.step so_far.1 (shown_so_far g.S.Sink.takes state _ _ _ _ _ so_far) in
+      goes_on g.S.Sink.takes state next.0 c.args.events.now c.loop-event.event-index c.event-item.result c.take.new.told _ _ _ _ _ _
+      so_far c.event-item.is c.loop-event-test.true next.1 record {
+        queue = c.take.ensures.queue;
+        frames = c.take.ensures.frames;
+        refused = c.take.ensures.refused;
+        events = c.take.ensures.events;
+      } next.2 c.in_ok-put.ensures.taken;
   counted = omega (arith, c.take.ensures.events, c.loop-event.invariant.counted);
 }
 
 pub returns-in_err-put-clause-failed : goal.returns-in_err-put-clause-failed
 returns-in_err-put-clause-failed g c = λ state shows.
     let so_far = c.loop-event.invariant.ran state shows in
-    let next = c.take.ensures.step so_far.1 so_far.4 in
+    let next = c.take.ensures.step so_far.1 (shown_so_far g.S.Sink.takes state _ _ _ _ _ so_far) in
     let fault = err_from_is_err_and c.from_residual.result c.from_residual.ensures.1 in
-    rw fault.1 (ends_at g.S.Sink.takes g.S.Sink.fails state next.0 c.args.events.now c.loop-event.event-index c.event-item.result c.take.new.told _ _ _ c.args.self.now.events _ _
-    so_far c.event-item.is c.loop-event-test.true (omega (arith, c.take.ensures.events, c.loop-event.invariant.counted)) next.1 next.2 c.in_err-put.ensures.failed)
+    rw fault.1 (ends_at g.S.Sink.takes g.S.Sink.fails state next.0 c.args.events.now c.loop-event.event-index c.event-item.result c.take.new.told _ _ _ c.args.self.now _ _
+    so_far c.event-item.is c.loop-event-test.true (omega (arith, c.take.ensures.events, c.loop-event.invariant.counted)) next.1 record {
+      queue = c.take.ensures.queue;
+      frames = c.take.ensures.frames;
+      refused = c.take.ensures.refused;
+      events = c.take.ensures.events;
+    } next.2 c.in_err-put.ensures.failed)
 
 pub returns-clause-reclaim : goal.returns-clause-reclaim
 returns-clause-reclaim g c = λ frames levels shows.
-    let ran = whole g.S.Sink.takes (opening frames levels) c.args.events.now c.loop-event.event-index _ _ _ (c.loop-event.invariant.ran (opening frames levels) shows) (omega (arith, c.loop-event-test.false)) in
-    (ran.0, ran.1, ran.2, reclaims frames levels c.args.events.now ran.0 ran.1 ran.2, ran.3, ran.4)
+    let ran = whole g.S.Sink.takes (opening frames levels) c.args.events.now c.loop-event.event-index _ _ _ _ (c.loop-event.invariant.ran (opening frames levels) shows) (omega (arith, c.loop-event-test.false)) in
+    (ran.0, ran.1, ran.2, ran.3, reclaims frames levels c.args.events.now ran.0 ran.1 ran.2.run)

@@ -9,6 +9,6 @@ abbrev pub invariant-loop-event : goal.invariant-loop-event
 invariant-loop-event g l =
     record {
       ran : (state : State) → Shows l.fn.self state
-          → RunsTo g.S.Sink.takes state (take l.event-index l.events) l.fn.sink l.sink l.self;
+          → RunsTo g.S.Sink.takes state l.fn.self (take l.event-index l.events) l.fn.sink l.sink l.self;
       counted : l.self.events ≡ l.fn.self.events + l.event-index;
     }

@@ -1,4 +1,5 @@
-use Rattle.iom_world.proofs.RunLemmas.{sound_counted, below_counted}
+use Rattle.std.proofs.Common.{refl}
+use Rattle.iom_world.proofs.RunLemmas.{sound_counted, below_counted, takes_counted}
 use Rattle.iom_world.proofs.world.World.take.Goals as goal
 
 pub invariant_of-self : goal.invariant_of-self
@@ -32,3 +33,6 @@ returns-clause-refused c = λ why refused. let same = c.answer.ensures.refused w
   commands = same.commands;
   levels = same.levels;
 }
+
+pub returns-clause-frames : goal.returns-clause-frames
+returns-clause-frames c = takes_counted c.args.event.now _ c.args.self.now _ _ refl refl refl refl c.answer.ensures.frames
