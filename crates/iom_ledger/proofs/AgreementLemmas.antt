@@ -14,7 +14,8 @@ use Rattle.iom_ledger.specs.declared.entry.Entry.TheVariants.{Confirmed}
 use Rattle.iom_ledger.specs.declared.ledger.Ledger.{Ledger}
 use Rattle.iom_ledger.specs.History.{History, Pair, confirms, released_at, Holds, Lingers, May}
 use Rattle.iom_ledger.specs.Unconfirmed.{tickets_of}
-use Rattle.iom_ledger.specs.Rows.{Devices, row_at, pair_of, held_of, released_of, unless_released, if_released, waits_for, is_granted, has_granted_right, AllGranted}
+use Rattle.iom_ledger.specs.Rows.{Devices, row_at, pair_of, held_of, released_of, unless_released, if_released, waits_for}
+use Rattle.iom_ledger.specs.Rows.{is_granted, has_granted_right, AllGranted}
 use Rattle.iom_ledger.specs.RowChanges.{unless_waiting, DropsRows}
 use Rattle.iom_ledger.specs.Shown.{AgreesAt, Agrees, IsFreeIn, held_in, released_in}
 use Rattle.iom_ledger.specs.Changes.{Confirms, unless_under}
@@ -201,7 +202,8 @@ held_of-unless_waiting (Some row) ticket = by row.ticket row.frame row.rights
     waits t frame rights true = refl
     waits t frame rights false = refl
 
-    by : (t : Option ℕ) (frame : ℕ) (rights : Rights) → held_of (unless_waiting (Some (record { frame = frame; rights = rights; ticket = t })) ticket) ≡ unless_released t (frame, rights)
+    by : (t : Option ℕ) (frame : ℕ) (rights : Rights)
+        → held_of (unless_waiting (Some (record { frame = frame; rights = rights; ticket = t })) ticket) ≡ unless_released t (frame, rights)
     by None frame rights = refl
     by (Some t) frame rights = waits t frame rights (ticket == t)
 
@@ -215,7 +217,8 @@ released_of-unless_waiting (Some row) ticket = by row.ticket row.frame row.right
     waits t frame rights false = refl
 
     by : (t : Option ℕ) (frame : ℕ) (rights : Rights)
-        → released_of (unless_waiting (Some (record { frame = frame; rights = rights; ticket = t })) ticket) ≡ unless_under ticket (if_released t (frame, rights))
+        → released_of (unless_waiting (Some (record { frame = frame; rights = rights; ticket = t })) ticket)
+        ≡ unless_under ticket (if_released t (frame, rights))
     by None frame rights = refl
     by (Some t) frame rights = waits t frame rights (ticket == t)
 
@@ -228,7 +231,8 @@ has_granted_right-unless_waiting (Some row) ticket granted = by (waits_for row.t
     by false = granted
 
 pub AllGranted-confirmed : (old new : Devices) (ticket : ℕ) → AllGranted old → DropsRows old new ticket → AllGranted new
-AllGranted-confirmed old new ticket granted drops d a = ap has_granted_right (drops d a) ∙ has_granted_right-unless_waiting (row_at old d a) ticket (granted d a)
+AllGranted-confirmed old new ticket granted drops d a =
+    ap has_granted_right (drops d a) ∙ has_granted_right-unless_waiting (row_at old d a) ticket (granted d a)
 
 -- the tickets of the releases that stay
 pub tickets-filter : (ticket : ℕ) (s : List Pending) → map (λ p. p.ticket) (filter (is_other ticket) s) ≡ filter (λ t. not (ticket == t)) (map (λ p. p.ticket) s)

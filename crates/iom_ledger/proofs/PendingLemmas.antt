@@ -72,7 +72,8 @@ all_dropped s d a ticket None named = by (any_names s d a ticket)
 all_dropped s d a ticket (Some row) named = own row.ticket row.frame row.rights named
   where
     waits : (t frame : ℕ) (rights : Rights) (b c : Bool) → (ticket == t) ≡ b → any_names s d a ticket ≡ c → any_names s d a t ≡ true
-        → dropped c (Some (record { frame = frame; rights = rights; ticket = Some t })) ticket ≡ unless_waiting (Some (record { frame = frame; rights = rights; ticket = Some t })) ticket
+        → dropped c (Some (record { frame = frame; rights = rights; ticket = Some t })) ticket
+        ≡ unless_waiting (Some (record { frame = frame; rights = rights; ticket = Some t })) ticket
     waits t frame rights b true e any named = refl
     waits t frame rights true false e any named =
         absurd (false≢true (sym any ∙ subst (λ x. any_names s d a x ≡ true) (sym (eqb-true ticket t e)) named))
@@ -84,7 +85,8 @@ all_dropped s d a ticket (Some row) named = own row.ticket row.frame row.rights 
     held false frame rights = refl
 
     own : (t : Option ℕ) (frame : ℕ) (rights : Rights) → is_named s d a t ≡ true
-        → dropped (any_names s d a ticket) (Some (record { frame = frame; rights = rights; ticket = t })) ticket ≡ unless_waiting (Some (record { frame = frame; rights = rights; ticket = t })) ticket
+        → dropped (any_names s d a ticket) (Some (record { frame = frame; rights = rights; ticket = t })) ticket
+        ≡ unless_waiting (Some (record { frame = frame; rights = rights; ticket = t })) ticket
     own None frame rights named = held (any_names s d a ticket) frame rights
     own (Some t) frame rights named = waits t frame rights (ticket == t) (any_names s d a ticket) refl refl named
 

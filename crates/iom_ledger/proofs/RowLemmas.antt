@@ -38,9 +38,11 @@ pub all_dropped_of : (old now : Devices) (device ticket : ℕ) → DropsSome old
     → (d a : ℕ) → row_at now d a ≡ (if device == d then unless_waiting (row_at old d a) ticket else row_at old d a)
 all_dropped_of old now device ticket some none d a = by (device == d) refl (some d a)
   where
-    by : (b : Bool) → (device == d) ≡ b → (if b then unless_waiting (row_at now d a) ticket else row_at now d a) ≡ (if b then unless_waiting (row_at old d a) ticket else row_at old d a)
+    by : (b : Bool) → (device == d) ≡ b
+        → (if b then unless_waiting (row_at now d a) ticket else row_at now d a) ≡ (if b then unless_waiting (row_at old d a) ticket else row_at old d a)
         → row_at now d a ≡ (if b then unless_waiting (row_at old d a) ticket else row_at old d a)
-    by true e same = sym (subst (λ x. unless_waiting (row_at now x a) ticket ≡ row_at now x a) (eqb-true device d e) (unless_waiting-row now device a ticket none)) ∙ same
+    by true e same =
+        sym (subst (λ x. unless_waiting (row_at now x a) ticket ≡ row_at now x a) (eqb-true device d e) (unless_waiting-row now device a ticket none)) ∙ same
     by false e same = same
 
 -- a row that the pages have is among the entries

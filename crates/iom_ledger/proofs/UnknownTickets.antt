@@ -61,7 +61,8 @@ unless_waiting-absent s d a ticket (Some row) absent named = own row.ticket row.
     waits t frame rights false e named = refl
 
     own : (t : Option ℕ) (frame : ℕ) (rights : Rights) → is_named s d a t ≡ true
-        → ◌≡◌ {A = Option Row} (unless_waiting (Some (record { frame = frame; rights = rights; ticket = t })) ticket) (Some (record { frame = frame; rights = rights; ticket = t }))
+        → ◌≡◌ {A = Option Row} (unless_waiting (Some (record { frame = frame; rights = rights; ticket = t })) ticket)
+        (Some (record { frame = frame; rights = rights; ticket = t }))
     own None frame rights named = refl
     own (Some t) frame rights named = waits t frame rights (ticket == t) refl named
 
@@ -70,7 +71,8 @@ pub IsUnchanged-confirmed : (old new : Ledger) (ticket : ℕ) → AllNamed old.d
 unfolding held_in released_in waiting_in is_pooled
 IsUnchanged-confirmed old new ticket named drops items same_pool absent =
     let none = not_among ticket (tickets old.pending.items) absent in
-    let same : (d a : ℕ) → row_at new.devices d a ≡ row_at old.devices d a = λ d a. drops d a ∙ unless_waiting-absent old.pending.items d a ticket (row_at old.devices d a) none (named d a) in
+    let same : (d a : ℕ) → row_at new.devices d a ≡ row_at old.devices d a =
+    λ d a. drops d a ∙ unless_waiting-absent old.pending.items d a ticket (row_at old.devices d a) none (named d a) in
     record {
       held = λ d a. ap held_of (same d a);
       lingering = λ d a. ap released_of (same d a);
