@@ -13,8 +13,10 @@ use Rattle.iom_ledger.specs.declared.row.Pending.{Pending}
 use Rattle.iom_ledger.specs.declared.entry.Entry.TheVariants.{Confirmed}
 use Rattle.iom_ledger.specs.declared.ledger.Ledger.{Ledger}
 use Rattle.iom_ledger.specs.History.{History, Pair, confirms, released_at, Holds, Lingers, May}
-use Rattle.iom_ledger.specs.Pending.{tickets_of}
-use Rattle.iom_ledger.specs.Rows.{Devices, row_at, pair_of, held_of, released_of, unless_released, if_released, kept, waits_for, is_granted, has_granted_right, AllGranted, SomeRowNames, DropsRows}
+use Rattle.iom_ledger.specs.Unconfirmed.{tickets_of}
+use Rattle.iom_ledger.specs.Rows.{Devices, row_at, pair_of, held_of, released_of, unless_released, if_released, waits_for}
+use Rattle.iom_ledger.specs.Rows.{is_granted, has_granted_right, AllGranted}
+use Rattle.iom_ledger.specs.RowChanges.{unless_waiting, DropsRows}
 use Rattle.iom_ledger.specs.Shown.{AgreesAt, Agrees, IsFreeIn, held_in, released_in}
 use Rattle.iom_ledger.specs.Changes.{Confirms, unless_under}
 use Rattle.iom_ledger.proofs.PendingLemmas.{is_other}
@@ -63,6 +65,11 @@ reached_from_row h device page row shows = by row.ticket row.frame row.rights sh
     by None frame rights shows = inl shows.holds
     by (Some t) frame rights shows =
         inr (refl, (t, subst (λ l. Contains l (t, (frame, rights))) (sym shows.lingers) (Contains-push [] (t, (frame, rights)))))
+
+-- some device has a row that names the frame
+abbrev pub SomeRowNames : Devices → ℕ → Type 0
+SomeRowNames devices frame =
+    (device page : ℕ) × (row : Row) × (row_at devices device page ≡ Some row) × (row.frame ≡ frame)
 
 -- a device that may reach a frame has a row that names it
 pub some_row_from_May : (ledger : Ledger) (h : History) → Agrees ledger h → (device frame : ℕ) (kind : AccessKind) → May h device frame kind → SomeRowNames ledger.devices frame
@@ -187,21 +194,22 @@ Agrees-confirmed old new ticket confirmed h agrees = record {
 }
 
 -- what a row shows once the ticket is confirmed
-pub held_of-kept : (row : Option Row) (ticket : ℕ) → held_of (kept row ticket) ≡ held_of row
-held_of-kept None ticket = refl
-held_of-kept (Some row) ticket = by row.ticket row.frame row.rights
+pub held_of-unless_waiting : (row : Option Row) (ticket : ℕ) → held_of (unless_waiting row ticket) ≡ held_of row
+held_of-unless_waiting None ticket = refl
+held_of-unless_waiting (Some row) ticket = by row.ticket row.frame row.rights
   where
     waits : (t frame : ℕ) (rights : Rights) (b : Bool) → held_of (if b then None else Some (record { frame = frame; rights = rights; ticket = Some t })) ≡ None
     waits t frame rights true = refl
     waits t frame rights false = refl
 
-    by : (t : Option ℕ) (frame : ℕ) (rights : Rights) → held_of (kept (Some (record { frame = frame; rights = rights; ticket = t })) ticket) ≡ unless_released t (frame, rights)
+    by : (t : Option ℕ) (frame : ℕ) (rights : Rights)
+        → held_of (unless_waiting (Some (record { frame = frame; rights = rights; ticket = t })) ticket) ≡ unless_released t (frame, rights)
     by None frame rights = refl
     by (Some t) frame rights = waits t frame rights (ticket == t)
 
-pub released_of-kept : (row : Option Row) (ticket : ℕ) → released_of (kept row ticket) ≡ unless_under ticket (released_of row)
-released_of-kept None ticket = refl
-released_of-kept (Some row) ticket = by row.ticket row.frame row.rights
+pub released_of-unless_waiting : (row : Option Row) (ticket : ℕ) → released_of (unless_waiting row ticket) ≡ unless_under ticket (released_of row)
+released_of-unless_waiting None ticket = refl
+released_of-unless_waiting (Some row) ticket = by row.ticket row.frame row.rights
   where
     waits : (t frame : ℕ) (rights : Rights) (b : Bool)
         → released_of (if b then None else Some (record { frame = frame; rights = rights; ticket = Some t })) ≡ (if b then None else Some (t, (frame, rights)))
@@ -209,20 +217,22 @@ released_of-kept (Some row) ticket = by row.ticket row.frame row.rights
     waits t frame rights false = refl
 
     by : (t : Option ℕ) (frame : ℕ) (rights : Rights)
-        → released_of (kept (Some (record { frame = frame; rights = rights; ticket = t })) ticket) ≡ unless_under ticket (if_released t (frame, rights))
+        → released_of (unless_waiting (Some (record { frame = frame; rights = rights; ticket = t })) ticket)
+        ≡ unless_under ticket (if_released t (frame, rights))
     by None frame rights = refl
     by (Some t) frame rights = waits t frame rights (ticket == t)
 
-has_granted_right-kept : (row : Option Row) (ticket : ℕ) → has_granted_right row ≡ true → has_granted_right (kept row ticket) ≡ true
-has_granted_right-kept None ticket granted = refl
-has_granted_right-kept (Some row) ticket granted = by (waits_for row.ticket ticket)
+has_granted_right-unless_waiting : (row : Option Row) (ticket : ℕ) → has_granted_right row ≡ true → has_granted_right (unless_waiting row ticket) ≡ true
+has_granted_right-unless_waiting None ticket granted = refl
+has_granted_right-unless_waiting (Some row) ticket granted = by (waits_for row.ticket ticket)
   where
     by : (b : Bool) → has_granted_right (if b then None else Some row) ≡ true
     by true = refl
     by false = granted
 
 pub AllGranted-confirmed : (old new : Devices) (ticket : ℕ) → AllGranted old → DropsRows old new ticket → AllGranted new
-AllGranted-confirmed old new ticket granted drops d a = ap has_granted_right (drops d a) ∙ has_granted_right-kept (row_at old d a) ticket (granted d a)
+AllGranted-confirmed old new ticket granted drops d a =
+    ap has_granted_right (drops d a) ∙ has_granted_right-unless_waiting (row_at old d a) ticket (granted d a)
 
 -- the tickets of the releases that stay
 pub tickets-filter : (ticket : ℕ) (s : List Pending) → map (λ p. p.ticket) (filter (is_other ticket) s) ≡ filter (λ t. not (ticket == t)) (map (λ p. p.ticket) s)

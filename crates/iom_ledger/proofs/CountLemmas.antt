@@ -7,8 +7,10 @@ use Rattle.std.proofs.lemmas.Bool.{eqb-true, eq-eqb, and_parts, and_from, or_lef
 use Rattle.std.proofs.lemmas.Map.Made.{length-remove_key}
 use Rattle.iom_base.specs.declared.rights.Rights.{Rights}
 use Rattle.iom_ledger.specs.declared.row.Row.{Row}
-use Rattle.iom_ledger.specs.Rows.{Devices, row_at, held_of, released_of, released, unless_released, if_released, SetsRow, SomeRowNames}
-use Rattle.iom_ledger.specs.Counts.{names_frame, is_among, AreOnceEach, ArePages, IsCountOf, count_of, AreCounted, KeepsCounts, RaisesCount, LowersCount}
+use Rattle.iom_ledger.specs.Rows.{Devices, row_at, held_of, released_of, unless_released, if_released}
+use Rattle.iom_ledger.specs.RowChanges.{released_row_if_any, SetsRow}
+use Rattle.iom_ledger.specs.Counts.{names_frame, has_page, AreOnceEach, ArePages, IsCountOf, count_of, AreCounted, KeepsCounts, RaisesCount, LowersCount}
+use Rattle.iom_ledger.proofs.AgreementLemmas.{SomeRowNames}
 
 -- the pages but this one
 abbrev without : ℕ → ℕ → List (ℕ × ℕ) → List (ℕ × ℕ)
@@ -16,7 +18,7 @@ without d a pages = remove_key (λ p. (p.0 == d) && (p.1 == a)) pages
 
 -- one page less is among them
 among-without : (d a e b : ℕ) (pages : List (ℕ × ℕ)) → AreOnceEach pages
-    → is_among (without d a pages) e b ≡ (if (d == e) && (a == b) then false else is_among pages e b)
+    → has_page (without d a pages) e b ≡ (if (d == e) && (a == b) then false else has_page pages e b)
 among-without d a e b [] once = by ((d == e) && (a == b))
   where
     by : (t : Bool) → false ≡ (if t then false else false)
@@ -25,14 +27,14 @@ among-without d a e b [] once = by ((d == e) && (a == b))
 among-without d a e b (p ∷ pages) once = by ((p.0 == d) && (p.1 == a)) ((d == e) && (a == b)) refl refl (among-without d a e b pages once.1)
   where
     by : (s t : Bool) → ((p.0 == d) && (p.1 == a)) ≡ s → ((d == e) && (a == b)) ≡ t
-        → is_among (without d a pages) e b ≡ (if (d == e) && (a == b) then false else is_among pages e b)
-        → is_among (without d a (p ∷ pages)) e b ≡ (if (d == e) && (a == b) then false else is_among (p ∷ pages) e b)
+        → has_page (without d a pages) e b ≡ (if (d == e) && (a == b) then false else has_page pages e b)
+        → has_page (without d a (p ∷ pages)) e b ≡ (if (d == e) && (a == b) then false else has_page (p ∷ pages) e b)
     by true true first same rest =
         let here = and_parts (p.0 == d) (p.1 == a) first in
         let there = and_parts (d == e) (a == b) same in
         let device : p.0 ≡ e = eqb-true p.0 d here.0 ∙ eqb-true d e there.0 in
         let page : p.1 ≡ b = eqb-true p.1 a here.1 ∙ eqb-true a b there.1 in
-        rw (first, same) (ap (λ x. is_among pages x b) (sym device) ∙ ap (λ x. is_among pages p.0 x) (sym page) ∙ once.0)
+        rw (first, same) (ap (λ x. has_page pages x b) (sym device) ∙ ap (λ x. has_page pages p.0 x) (sym page) ∙ once.0)
     by true false first other rest =
         let here = and_parts (p.0 == d) (p.1 == a) first in
         let apart : ((p.0 == e) && (p.1 == b)) ≡ false =
@@ -49,7 +51,7 @@ once-without : (d a : ℕ) (pages : List (ℕ × ℕ)) → AreOnceEach pages →
 once-without d a [] once = once
 once-without d a (p ∷ pages) once = by ((p.0 == d) && (p.1 == a)) refl (once-without d a pages once.1)
   where
-    absent : (t : Bool) → (if t then false else is_among pages p.0 p.1) ≡ false
+    absent : (t : Bool) → (if t then false else has_page pages p.0 p.1) ≡ false
     absent true = refl
     absent false = once.0
 
@@ -74,7 +76,7 @@ count_added test now d a n m new more number count = ∥∥₁_map count one_mor
     one_more : (pages : List (ℕ × ℕ)) × ArePages test pages × (length pages ≡ n) → (pages : List (ℕ × ℕ)) × ArePages now pages × (length pages ≡ m)
     one_more (pages, are, long) = (
       (d, a) ∷ pages,
-      record { once = (are.all d a ∙ new, are.once); all = λ e b. by e b (is_among pages e b) (are.all e b) ((d == e) && (a == b)) ∙ sym (more e b) },
+      record { once = (are.all d a ∙ new, are.once); all = λ e b. by e b (has_page pages e b) (are.all e b) ((d == e) && (a == b)) ∙ sym (more e b) },
       omega arith,
     )
 
@@ -98,7 +100,7 @@ count_dropped test now d a n m old less number count = ∥∥₁_map count one_l
 pub count_positive : (test : ℕ → ℕ → Bool) (d a n : ℕ) → test d a ≡ true → IsCountOf test n → 0 < n
 count_positive test d a zero passes count = absurd (∥∥₁_elim count (λ x y. absurd x) (λ (pages, are, long). none pages long (are.all d a ∙ passes)))
   where
-    none : (pages : List (ℕ × ℕ)) → length pages ≡ 0 → is_among pages d a ≡ true → ⊥
+    none : (pages : List (ℕ × ℕ)) → length pages ≡ 0 → has_page pages d a ≡ true → ⊥
     none [] long among = false≢true among
     none (p ∷ pages) long among = omega arith
 count_positive test d a (suc n) passes count = omega arith
@@ -112,7 +114,7 @@ count_none test (suc n) none count = absurd (∥∥₁_elim count (λ x y. absur
     some [] are long = absurd (omega arith)
     some (p ∷ pages) are long = none p.0 p.1 (sym (are.all p.0 p.1) ∙ here p.0 p.1)
       where
-        here : (d a : ℕ) → ((d == d) && (a == a) || is_among pages d a) ≡ true
+        here : (d a : ℕ) → ((d == d) && (a == a) || has_page pages d a) ≡ true
         here d a = or_left _ _ (and_from (d == d) (a == a) (eq-eqb d d refl) (eq-eqb a a refl))
 
 -- the test by which the rows of a frame are counted
@@ -126,7 +128,7 @@ AreCounted-kept old new c e same counts counted f =
     count_same (naming old f) (naming new f) (count_of c f) (count_of e f) (λ d a. same d a f) (counts f) (counted f)
 
 -- a release keeps the frame of a row
-pub names-released : (t : Bool) (row : Option Row) (ticket f : ℕ) → names_frame (if t then released row ticket else row) f ≡ names_frame row f
+pub names-released : (t : Bool) (row : Option Row) (ticket f : ℕ) → names_frame (if t then released_row_if_any row ticket else row) f ≡ names_frame row f
 names-released true None ticket f = refl
 names-released true (Some row) ticket f = refl
 names-released false row ticket f = refl

@@ -9,7 +9,8 @@ use Rattle.std.proofs.lemmas.Map.Views.{any-filter_same}
 use Rattle.iom_base.specs.declared.rights.Rights.{Rights}
 use Rattle.iom_ledger.specs.declared.row.Row.{Row}
 use Rattle.iom_ledger.specs.declared.row.Pending.{Pending}
-use Rattle.iom_ledger.specs.Rows.{Devices, row_at, kept, released, ticket_after, waits_for, names, ticket_of, is_named, AllNamed, DropsRows}
+use Rattle.iom_ledger.specs.Rows.{Devices, row_at, waits_for, names, ticket_of, is_named, AllNamed}
+use Rattle.iom_ledger.specs.RowChanges.{unless_waiting, released_row_if_any, ticket_after, DropsRows}
 
 -- whether one of the releases is of this page, under the ticket
 abbrev pub any_names : List Pending → ℕ → ℕ → ℕ → Bool
@@ -17,32 +18,32 @@ any_names releases device page ticket = list_any (λ release. names release devi
 
 -- what is left of a row, where it is named by a release that is confirmed
 abbrev pub dropped : Bool → Option Row → ℕ → Option Row
-dropped named row ticket = if named then kept row ticket else row
+dropped named row ticket = if named then unless_waiting row ticket else row
 
 -- whether the release stays once the ticket is confirmed
 abbrev pub is_other : ℕ → Pending → Bool
 is_other ticket release = not (ticket == release.ticket)
 
 -- a row that was dropped, or wasn't, is dropped no further
-kept-kept : (row : Option Row) (ticket : ℕ) → kept (kept row ticket) ticket ≡ kept row ticket
-kept-kept None ticket = refl
-kept-kept (Some row) ticket = by (waits_for row.ticket ticket) refl
+unless_waiting-twice : (row : Option Row) (ticket : ℕ) → unless_waiting (unless_waiting row ticket) ticket ≡ unless_waiting row ticket
+unless_waiting-twice None ticket = refl
+unless_waiting-twice (Some row) ticket = by (waits_for row.ticket ticket) refl
   where
-    by : (b : Bool) → waits_for row.ticket ticket ≡ b → kept (if b then None else Some row) ticket ≡ (if b then None else Some row)
+    by : (b : Bool) → waits_for row.ticket ticket ≡ b → unless_waiting (if b then None else Some row) ticket ≡ (if b then None else Some row)
     by true e = refl
     by false e = rw e refl
 
 -- one more release is confirmed
 dropped_more : (before named : Bool) (old now new : Option Row) (ticket : ℕ)
-    → now ≡ dropped before old ticket → new ≡ (if named then kept now ticket else now) → new ≡ dropped (before || named) old ticket
-dropped_more true true old now new ticket was is = is ∙ ap (λ row. kept row ticket) was ∙ kept-kept old ticket
+    → now ≡ dropped before old ticket → new ≡ (if named then unless_waiting now ticket else now) → new ≡ dropped (before || named) old ticket
+dropped_more true true old now new ticket was is = is ∙ ap (λ row. unless_waiting row ticket) was ∙ unless_waiting-twice old ticket
 dropped_more true false old now new ticket was is = is ∙ was
-dropped_more false true old now new ticket was is = is ∙ ap (λ row. kept row ticket) was
+dropped_more false true old now new ticket was is = is ∙ ap (λ row. unless_waiting row ticket) was
 dropped_more false false old now new ticket was is = is ∙ was
 
 pub rows_more : (s : List Pending) (n : ℕ) (release : Pending) (d a ticket : ℕ) (old now new : Option Row) → n < length s
     → now ≡ dropped (any_names (take n s) d a ticket) old ticket
-    → new ≡ (if names (get_or s n release) d a ticket then kept now ticket else now)
+    → new ≡ (if names (get_or s n release) d a ticket then unless_waiting now ticket else now)
     → new ≡ dropped (any_names (take (n + 1) s) d a ticket) old ticket
 rows_more s n release d a ticket old now new lt was is =
     dropped_more (any_names (take n s) d a ticket) (names (get_or s n release) d a ticket) old now new ticket was is
@@ -62,7 +63,7 @@ items_more ticket n s release lt =
 
 -- once all releases were looked at, no row waits for the ticket, since each that did was named
 pub all_dropped : (s : List Pending) (d a ticket : ℕ) (row : Option Row) → is_named s d a (ticket_of row) ≡ true
-    → dropped (any_names s d a ticket) row ticket ≡ kept row ticket
+    → dropped (any_names s d a ticket) row ticket ≡ unless_waiting row ticket
 all_dropped s d a ticket None named = by (any_names s d a ticket)
   where
     by : (b : Bool) → dropped b None ticket ≡ None
@@ -71,7 +72,8 @@ all_dropped s d a ticket None named = by (any_names s d a ticket)
 all_dropped s d a ticket (Some row) named = own row.ticket row.frame row.rights named
   where
     waits : (t frame : ℕ) (rights : Rights) (b c : Bool) → (ticket == t) ≡ b → any_names s d a ticket ≡ c → any_names s d a t ≡ true
-        → dropped c (Some (record { frame = frame; rights = rights; ticket = Some t })) ticket ≡ kept (Some (record { frame = frame; rights = rights; ticket = Some t })) ticket
+        → dropped c (Some (record { frame = frame; rights = rights; ticket = Some t })) ticket
+        ≡ unless_waiting (Some (record { frame = frame; rights = rights; ticket = Some t })) ticket
     waits t frame rights b true e any named = refl
     waits t frame rights true false e any named =
         absurd (false≢true (sym any ∙ subst (λ x. any_names s d a x ≡ true) (sym (eqb-true ticket t e)) named))
@@ -83,13 +85,14 @@ all_dropped s d a ticket (Some row) named = own row.ticket row.frame row.rights 
     held false frame rights = refl
 
     own : (t : Option ℕ) (frame : ℕ) (rights : Rights) → is_named s d a t ≡ true
-        → dropped (any_names s d a ticket) (Some (record { frame = frame; rights = rights; ticket = t })) ticket ≡ kept (Some (record { frame = frame; rights = rights; ticket = t })) ticket
+        → dropped (any_names s d a ticket) (Some (record { frame = frame; rights = rights; ticket = t })) ticket
+        ≡ unless_waiting (Some (record { frame = frame; rights = rights; ticket = t })) ticket
     own None frame rights named = held (any_names s d a ticket) frame rights
     own (Some t) frame rights named = waits t frame rights (ticket == t) (any_names s d a ticket) refl refl named
 
 -- each row that still waits is named by a release that stays
 stays_named : (s : List Pending) (d a ticket : ℕ) (row : Option Row) → is_named s d a (ticket_of row) ≡ true
-    → is_named (filter (is_other ticket) s) d a (ticket_of (kept row ticket)) ≡ true
+    → is_named (filter (is_other ticket) s) d a (ticket_of (unless_waiting row ticket)) ≡ true
 stays_named s d a ticket None named = refl
 stays_named s d a ticket (Some row) named = own row.ticket row.frame row.rights named
   where
@@ -102,7 +105,7 @@ stays_named s d a ticket (Some row) named = own row.ticket row.frame row.rights 
         ∙ named
 
     own : (t : Option ℕ) (frame : ℕ) (rights : Rights) → is_named s d a t ≡ true
-        → is_named (filter (is_other ticket) s) d a (ticket_of (kept (Some (record { frame = frame; rights = rights; ticket = t })) ticket)) ≡ true
+        → is_named (filter (is_other ticket) s) d a (ticket_of (unless_waiting (Some (record { frame = frame; rights = rights; ticket = t })) ticket)) ≡ true
     own None frame rights named = refl
     own (Some t) frame rights named = waits t frame rights (ticket == t) refl named
 
@@ -118,7 +121,7 @@ named_more s p d a (Some t) named = list_any-append (λ release. names release d
 
 -- a release names what it releases
 pub named_released : (s : List Pending) (p : Pending) (d a : ℕ) (b : Bool) (row : Option Row) → (b ≡ true → names p d a p.ticket ≡ true)
-    → is_named s d a (ticket_of row) ≡ true → is_named (s ++ p ∷ []) d a (ticket_of (if b then released row p.ticket else row)) ≡ true
+    → is_named s d a (ticket_of row) ≡ true → is_named (s ++ p ∷ []) d a (ticket_of (if b then released_row_if_any row p.ticket else row)) ≡ true
 named_released s p d a false row own named = named_more s p d a (ticket_of row) named
 named_released s p d a true None own named = refl
 named_released s p d a true (Some row) own named = by row.ticket named

@@ -10,36 +10,39 @@ use Rattle.std.proofs.lemmas.Map.Entries.{lookup_from_place}
 use Rattle.std.proofs.lemmas.Option.{slice_get_read}
 use Rattle.indexmap.specs.IndexMap.{get}
 use Rattle.iom_ledger.specs.declared.row.Row.{Row}
-use Rattle.iom_ledger.specs.Rows.{Devices, Pages, row_at, entries_of, kept, waits_for, DropsSome, NoneWaitsFrom}
+use Rattle.iom_ledger.specs.Rows.{Devices, Pages, row_at, entries_of, waits_for, NoneWaitsFrom}
+use Rattle.iom_ledger.specs.RowChanges.{unless_waiting, DropsSome}
 
 -- where no entry waits for the ticket, no row does
-kept_entry : (es : List (ℕ × Row)) (ticket page : ℕ) → ((k : ℕ) (e : ℕ × Row) → slice_get es k ≡ Some e → waits_for e.1.ticket ticket ≡ false)
-    → kept (lookup (nat_eq page) es) ticket ≡ lookup (nat_eq page) es
-kept_entry [] ticket page none = refl
-kept_entry (e ∷ es) ticket page none = by (nat_eq page e.0) (kept_entry es ticket page (λ k d at. none (suc k) d at))
+unless_waiting-entry : (es : List (ℕ × Row)) (ticket page : ℕ) → ((k : ℕ) (e : ℕ × Row) → slice_get es k ≡ Some e → waits_for e.1.ticket ticket ≡ false)
+    → unless_waiting (lookup (nat_eq page) es) ticket ≡ lookup (nat_eq page) es
+unless_waiting-entry [] ticket page none = refl
+unless_waiting-entry (e ∷ es) ticket page none = by (nat_eq page e.0) (unless_waiting-entry es ticket page (λ k d at. none (suc k) d at))
   where
-    by : (b : Bool) → kept (lookup (nat_eq page) es) ticket ≡ lookup (nat_eq page) es
-        → kept (cond b (Some e.1) (lookup (nat_eq page) es)) ticket ≡ cond b (Some e.1) (lookup (nat_eq page) es)
+    by : (b : Bool) → unless_waiting (lookup (nat_eq page) es) ticket ≡ lookup (nat_eq page) es
+        → unless_waiting (cond b (Some e.1) (lookup (nat_eq page) es)) ticket ≡ cond b (Some e.1) (lookup (nat_eq page) es)
     by true rest = rw (none zero e refl) refl
     by false rest = rest
 
-kept_row : (devices : Devices) (device page ticket : ℕ) → NoneWaitsFrom (entries_of devices device) 0 ticket
-    → kept (row_at devices device page) ticket ≡ row_at devices device page
-kept_row devices device page ticket none = by (get nat_eq devices device) none
+unless_waiting-row : (devices : Devices) (device page ticket : ℕ) → NoneWaitsFrom (entries_of devices device) 0 ticket
+    → unless_waiting (row_at devices device page) ticket ≡ row_at devices device page
+unless_waiting-row devices device page ticket none = by (get nat_eq devices device) none
   where
     by : (found : Option Pages) → NoneWaitsFrom (option_map_or (λ pages. pages.entries) found []) 0 ticket
-        → kept (option_and_then (λ pages. get nat_eq pages page) found) ticket ≡ option_and_then (λ pages. get nat_eq pages page) found
+        → unless_waiting (option_and_then (λ pages. get nat_eq pages page) found) ticket ≡ option_and_then (λ pages. get nat_eq pages page) found
     by None none = refl
-    by (Some pages) none = kept_entry pages.entries ticket page (λ k e at. none k e (omega arith) at)
+    by (Some pages) none = unless_waiting-entry pages.entries ticket page (λ k e at. none k e (omega arith) at)
 
 -- once no row of the device waits for the ticket, each that did is dropped
 pub all_dropped_of : (old now : Devices) (device ticket : ℕ) → DropsSome old now device ticket → NoneWaitsFrom (entries_of now device) 0 ticket
-    → (d a : ℕ) → row_at now d a ≡ (if device == d then kept (row_at old d a) ticket else row_at old d a)
+    → (d a : ℕ) → row_at now d a ≡ (if device == d then unless_waiting (row_at old d a) ticket else row_at old d a)
 all_dropped_of old now device ticket some none d a = by (device == d) refl (some d a)
   where
-    by : (b : Bool) → (device == d) ≡ b → (if b then kept (row_at now d a) ticket else row_at now d a) ≡ (if b then kept (row_at old d a) ticket else row_at old d a)
-        → row_at now d a ≡ (if b then kept (row_at old d a) ticket else row_at old d a)
-    by true e same = sym (subst (λ x. kept (row_at now x a) ticket ≡ row_at now x a) (eqb-true device d e) (kept_row now device a ticket none)) ∙ same
+    by : (b : Bool) → (device == d) ≡ b
+        → (if b then unless_waiting (row_at now d a) ticket else row_at now d a) ≡ (if b then unless_waiting (row_at old d a) ticket else row_at old d a)
+        → row_at now d a ≡ (if b then unless_waiting (row_at old d a) ticket else row_at old d a)
+    by true e same =
+        sym (subst (λ x. unless_waiting (row_at now x a) ticket ≡ row_at now x a) (eqb-true device d e) (unless_waiting-row now device a ticket none)) ∙ same
     by false e same = same
 
 -- a row that the pages have is among the entries

@@ -8,8 +8,9 @@ use Rattle.iom_frame_set.specs.Sets.{has}
 use Rattle.iom_ledger.specs.declared.row.Row.{Row}
 use Rattle.iom_ledger.specs.declared.row.Pending.{Pending}
 use Rattle.iom_ledger.specs.declared.ledger.Ledger.{Ledger}
-use Rattle.iom_ledger.specs.Rows.{row_at, held_of, released_of, kept, names, ticket_of, is_named, AllNamed, DropsRows}
-use Rattle.iom_ledger.specs.Shown.{held_in, released_in, pending_in, is_pooled}
+use Rattle.iom_ledger.specs.Rows.{row_at, held_of, released_of, names, ticket_of, is_named, AllNamed}
+use Rattle.iom_ledger.specs.RowChanges.{unless_waiting, DropsRows}
+use Rattle.iom_ledger.specs.Shown.{held_in, released_in, waiting_in, is_pooled}
 use Rattle.iom_ledger.specs.Changes.{IsUnchanged}
 use Rattle.iom_ledger.proofs.PendingLemmas.{any_names, is_other}
 
@@ -47,10 +48,10 @@ among_from_names (p ∷ s) d a ticket named = by (names p d a ticket) refl named
     by false this either later = or_right _ _ (later either)
 
 -- so no row waits for it
-kept_absent : (s : List Pending) (d a ticket : ℕ) (row : Option Row) → is_among ticket (tickets s) ≡ false → is_named s d a (ticket_of row) ≡ true
-    → kept row ticket ≡ row
-kept_absent s d a ticket None absent named = refl
-kept_absent s d a ticket (Some row) absent named = own row.ticket row.frame row.rights named
+unless_waiting-absent : (s : List Pending) (d a ticket : ℕ) (row : Option Row) → is_among ticket (tickets s) ≡ false → is_named s d a (ticket_of row) ≡ true
+    → unless_waiting row ticket ≡ row
+unless_waiting-absent s d a ticket None absent named = refl
+unless_waiting-absent s d a ticket (Some row) absent named = own row.ticket row.frame row.rights named
   where
     waits : (t frame : ℕ) (rights : Rights) (b : Bool) → (ticket == t) ≡ b → any_names s d a t ≡ true
         → ◌≡◌ {A = Option Row} (if b then None else Some (record { frame = frame; rights = rights; ticket = Some t })) (Some (record { frame = frame; rights = rights; ticket = Some t }))
@@ -60,7 +61,8 @@ kept_absent s d a ticket (Some row) absent named = own row.ticket row.frame row.
     waits t frame rights false e named = refl
 
     own : (t : Option ℕ) (frame : ℕ) (rights : Rights) → is_named s d a t ≡ true
-        → ◌≡◌ {A = Option Row} (kept (Some (record { frame = frame; rights = rights; ticket = t })) ticket) (Some (record { frame = frame; rights = rights; ticket = t }))
+        → ◌≡◌ {A = Option Row} (unless_waiting (Some (record { frame = frame; rights = rights; ticket = t })) ticket)
+        (Some (record { frame = frame; rights = rights; ticket = t }))
     own None frame rights named = refl
     own (Some t) frame rights named = waits t frame rights (ticket == t) refl named
 
@@ -69,7 +71,8 @@ pub IsUnchanged-confirmed : (old new : Ledger) (ticket : ℕ) → AllNamed old.d
 unfolding held_in released_in pending_in is_pooled
 IsUnchanged-confirmed old new ticket named drops items same_pool absent =
     let none = not_among ticket (tickets old.pending.items) absent in
-    let same : (d a : ℕ) → row_at new.devices d a ≡ row_at old.devices d a = λ d a. drops d a ∙ kept_absent old.pending.items d a ticket (row_at old.devices d a) none (named d a) in
+    let same : (d a : ℕ) → row_at new.devices d a ≡ row_at old.devices d a =
+    λ d a. drops d a ∙ unless_waiting-absent old.pending.items d a ticket (row_at old.devices d a) none (named d a) in
     record {
       held = λ d a. ap held_of (same d a);
       lingering = λ d a. ap released_of (same d a);

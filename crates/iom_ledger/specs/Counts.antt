@@ -11,18 +11,18 @@ names_frame None frame = false
 names_frame (Some row) frame = row.frame == frame
 
 -- whether the page of the device is among these
-abbrev pub is_among : List (ℕ × ℕ) → ℕ → ℕ → Bool
-is_among pages device page = list_any (λ p. (p.0 == device) && (p.1 == page)) pages
+abbrev pub has_page : List (ℕ × ℕ) → ℕ → ℕ → Bool
+has_page pages device page = list_any (λ p. (p.0 == device) && (p.1 == page)) pages
 
 -- no page of a device stands there twice
 abbrev pub AreOnceEach : List (ℕ × ℕ) → Type 0
 AreOnceEach [] = ⊤
-AreOnceEach (p ∷ pages) = (is_among pages p.0 p.1 ≡ false) × AreOnceEach pages
+AreOnceEach (p ∷ pages) = (has_page pages p.0 p.1 ≡ false) × AreOnceEach pages
 
 -- these are the pages of devices that pass the test, each once
 pub record ArePages (test : ℕ → ℕ → Bool) (pages : List (ℕ × ℕ)) : Type 0 where
   pub once : AreOnceEach pages
-  pub all : (device page : ℕ) → is_among pages device page ≡ test device page
+  pub all : (device page : ℕ) → has_page pages device page ≡ test device page
 
 -- so many pages of devices pass the test
 abbrev pub IsCountOf : (ℕ → ℕ → Bool) → ℕ → Type 0

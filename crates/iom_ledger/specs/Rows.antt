@@ -1,7 +1,7 @@
 -- What a ledger keeps: for each device its pages, each with a row, and the releases that aren't confirmed.
-use Rattle.std.specs.Prelude.{◌≡◌, ◌≤◌, ℕ, Bool, true, false, ◌==◌, ◌&&◌, ◌||◌, List, [], Option, None, Some, nat_eq, slice_get, if◌then◌else◌}
+use Rattle.std.specs.Prelude.{◌≡◌, ◌≤◌, ℕ, Bool, true, false, ◌==◌, ◌&&◌, ◌||◌, List, [], Option, None, Some, nat_eq, slice_get}
 use Rattle.std.specs.List.{list_any}
-use Rattle.std.specs.Option.{option_and_then, option_map, option_map_or}
+use Rattle.std.specs.Option.{option_and_then, option_map_or}
 use Rattle.std.specs.declared.hash.FoldHasher.{FoldHasher}
 use Rattle.std.specs.declared.hash.BuildHasherDefault.{BuildHasherDefault}
 use Rattle.indexmap.specs.IndexMap.{IndexMap, get}
@@ -46,66 +46,10 @@ abbrev pub released_of : Option Row → Option (ℕ × Pair)
 released_of None = None
 released_of (Some row) = if_released row.ticket (pair_of row)
 
--- the ticket of a row that is released under this one, unless it has one
-abbrev pub ticket_after : Option ℕ → ℕ → Option ℕ
-ticket_after None ticket = Some ticket
-ticket_after (Some own) ticket = Some own
-
--- the row, released under the ticket unless it was
-abbrev pub released_row : Row → ℕ → Row
-released_row row ticket = record { frame = row.frame; rights = row.rights; ticket = ticket_after row.ticket ticket }
-
--- the same of a row, if there is one
-abbrev pub released : Option Row → ℕ → Option Row
-released row ticket = option_map (λ r. released_row r ticket) row
-
 -- whether a row with this ticket waits for that one
 abbrev pub waits_for : Option ℕ → ℕ → Bool
 waits_for None ticket = false
 waits_for (Some own) ticket = ticket == own
-
--- the row, unless it waits for the ticket
-abbrev pub kept : Option Row → ℕ → Option Row
-kept None ticket = None
-kept (Some row) ticket = if waits_for row.ticket ticket then None else Some row
-
--- the page of the device has the row, and each other page stays
-abbrev pub SetsRow : Devices → Devices → ℕ → ℕ → Row → Type 0
-SetsRow old new device page row =
-    (d a : ℕ) → row_at new d a ≡ (if (device == d) && (page == a) then Some row else row_at old d a)
-
--- the row of the page of the device is released, and each other stays
-abbrev pub ReleasesRow : Devices → Devices → ℕ → ℕ → ℕ → Type 0
-ReleasesRow old new device page ticket =
-    (d a : ℕ) → row_at new d a
-    ≡ (if (device == d) && (page == a) then released (row_at old d a) ticket else row_at old d a)
-
--- each row of the device is released, and each other stays
-abbrev pub ReleasesRows : Devices → Devices → ℕ → ℕ → Type 0
-ReleasesRows old new device ticket =
-    (d a : ℕ) → row_at new d a ≡ (if device == d then released (row_at old d a) ticket else row_at old d a)
-
--- the rows that wait for the ticket go, and each other stays
-abbrev pub DropsRows : Devices → Devices → ℕ → Type 0
-DropsRows old new ticket = (d a : ℕ) → row_at new d a ≡ kept (row_at old d a) ticket
-
--- the page had this row, which waits for the ticket, and has none now; each other page keeps its row
-pub record TakesRow (old new : Pages) (page : ℕ) (row : Row) (ticket : ℕ) : Type 0 where
-  pub had : get nat_eq old page ≡ Some row
-  pub waits : waits_for row.ticket ticket ≡ true
-  pub pages : (a : ℕ) → get nat_eq new a ≡ (if page == a then None else get nat_eq old a)
-
--- the page of the device had this row, which waits for the ticket, and has none now; each other page keeps its row
-pub record TakesRowOf (old new : Devices) (device page : ℕ) (row : Row) (ticket : ℕ) : Type 0 where
-  pub had : row_at old device page ≡ Some row
-  pub waits : waits_for row.ticket ticket ≡ true
-  pub rows : (d a : ℕ) → row_at new d a ≡ (if (device == d) && (page == a) then None else row_at old d a)
-
--- some rows of the device that wait for the ticket may go, and each other stays
-abbrev pub DropsSome : Devices → Devices → ℕ → ℕ → Type 0
-DropsSome old new device ticket =
-    (d a : ℕ) → (if device == d then kept (row_at new d a) ticket else row_at new d a)
-    ≡ (if device == d then kept (row_at old d a) ticket else row_at old d a)
 
 -- the rows of a device, each with its page, in the order in which they are kept
 abbrev pub entries_of : Devices → ℕ → List (ℕ × Row)
@@ -116,10 +60,6 @@ abbrev pub NoneWaitsFrom : List (ℕ × Row) → ℕ → ℕ → Type 0
 NoneWaitsFrom entries first ticket =
     (k : ℕ) (entry : ℕ × Row) → first ≤ k → slice_get entries k ≡ Some entry → waits_for entry.1.ticket ticket ≡ false
 
--- each row stays
-abbrev pub KeepsRows : Devices → Devices → Type 0
-KeepsRows old new = (d a : ℕ) → row_at new d a ≡ row_at old d a
-
 -- whether the release is of this page: the one that it names, or any where it names none
 abbrev pub is_of_page : Option ℕ → ℕ → Bool
 is_of_page None page = true
@@ -129,12 +69,6 @@ is_of_page (Some named) page = named == page
 abbrev pub names : Pending → ℕ → ℕ → ℕ → Bool
 names release device page ticket =
     (release.ticket == ticket) && ((release.device == device) && is_of_page release.page page)
-
--- of the rows that wait for the ticket those that the release names under it go, and each other stays
-abbrev pub DropsNamed : Devices → Devices → Pending → ℕ → Type 0
-DropsNamed old new release ticket =
-    (d a : ℕ) → row_at new d a
-    ≡ (if names release d a ticket then kept (row_at old d a) ticket else row_at old d a)
 
 -- the ticket of a row that is released
 abbrev pub ticket_of : Option Row → Option ℕ
@@ -162,8 +96,3 @@ has_granted_right (Some row) = is_granted row.rights
 -- each row has such a right
 abbrev pub AllGranted : Devices → Type 0
 AllGranted devices = (d a : ℕ) → has_granted_right (row_at devices d a) ≡ true
-
--- some device has a row that names the frame
-abbrev pub SomeRowNames : Devices → ℕ → Type 0
-SomeRowNames devices frame =
-    (device page : ℕ) × (row : Row) × (row_at devices device page ≡ Some row) × (row.frame ≡ frame)

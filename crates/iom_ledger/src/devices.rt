@@ -2,8 +2,9 @@
 ghost use Rattle.std.specs.Prelude.{◌≡◌, ◌+◌, ℕ, None, true, ◌==◌, ◌&&◌, nat_eq, OnOk, OnErr, IfSome, IfNone, if◌then◌else◌};
 ghost use Rattle.indexmap.specs.IndexMap.{get};
 ghost use Rattle.iom_ledger.specs.Counts.{AreCounted};
-ghost use Rattle.iom_ledger.specs.Rows.{row_at, entries_of, SetsRow, ReleasesRow, ReleasesRows, TakesRow, TakesRowOf, DropsSome};
-ghost use Rattle.iom_ledger.specs.Rows.{DropsNamed, NoneWaitsFrom, KeepsRows, released, released_row, kept};
+ghost use Rattle.iom_ledger.specs.Rows.{row_at, entries_of, NoneWaitsFrom};
+ghost use Rattle.iom_ledger.specs.RowChanges.{SetsRow, ReleasesRow, ReleasesRows, KeepsRows, TakesRow, TakesRowOf, DropsSome, DropsNamed};
+ghost use Rattle.iom_ledger.specs.RowChanges.{released_row, released_row_if_any, unless_waiting};
 
 use crate::counts::RowCounts;
 use crate::row::{Pending, Row};
@@ -26,7 +27,7 @@ pub(crate) fn row_in(devices: &Devices, device: DeviceId, page: u64) -> Option<R
 
 /// Releases each row.
 fn release_rows(pages: &mut Pages, ticket: u32)
-    ensures { (page : ℕ) → get nat_eq pages.new page ≡ released (get nat_eq pages.old page) ticket }
+    ensures { (page : ℕ) → get nat_eq pages.new page ≡ released_row_if_any (get nat_eq pages.old page) ticket }
 {
     pages.retain(
         |_page: &u64, row: &mut Row| -> bool
@@ -56,7 +57,7 @@ fn take_waiting_row(pages: &mut Pages, index: usize, ticket: u32) -> Option<(u64
 fn take_waiting_row_at(pages: &mut Pages, page: u64, ticket: u32) -> Option<Row>
     ensures taken { IfSome result (λ row. TakesRow pages.old pages.new page row ticket) }
     ensures kept { IfNone result ((a : ℕ) → get nat_eq pages.new a ≡ get nat_eq pages.old a) }
-    ensures stays { IfNone result (kept (get nat_eq pages.old page) ticket ≡ get nat_eq pages.old page) }
+    ensures stays { IfNone result (unless_waiting (get nat_eq pages.old page) ticket ≡ get nat_eq pages.old page) }
 {
     let row = pages.get(&page).copied()?;
     if row.waits_for(ticket) {
@@ -145,7 +146,7 @@ fn take_in(devices: &mut Devices, device: DeviceId, index: usize, ticket: u32) -
 fn take_at_in(devices: &mut Devices, device: DeviceId, page: u64, ticket: u32) -> Option<Row>
     ensures taken { IfSome result (λ row. TakesRowOf devices.old devices.new device page row ticket) }
     ensures kept { IfNone result (KeepsRows devices.old devices.new) }
-    ensures stays { IfNone result (kept (row_at devices.old device page) ticket ≡ row_at devices.old device page) }
+    ensures stays { IfNone result (unless_waiting (row_at devices.old device page) ticket ≡ row_at devices.old device page) }
 {
     let pages = devices.get_mut(&device)?;
     take_waiting_row_at(pages, page, ticket)
@@ -175,7 +176,7 @@ fn drop_waiting(devices: &mut Devices, counts: &mut RowCounts, device: DeviceId,
     requires { AreCounted devices.old counts.old.counts.items }
     ensures counted { AreCounted devices.new counts.new.counts.items }
     ensures pool { counts.new.pool ≡ counts.old.pool }
-    ensures rows { (d a : ℕ) → row_at devices.new d a ≡ (if device == d then kept (row_at devices.old d a) ticket else row_at devices.old d a) }
+    ensures rows { (d a : ℕ) → row_at devices.new d a ≡ (if device == d then unless_waiting (row_at devices.old d a) ticket else row_at devices.old d a) }
 {
     let rows = match devices.get(&device) {
         None => 0,
@@ -198,7 +199,7 @@ fn drop_waiting_at(
     ensures counted { AreCounted devices.new counts.new.counts.items }
     ensures pool { counts.new.pool ≡ counts.old.pool }
     ensures rows { (d a : ℕ)
-        → row_at devices.new d a ≡ (if (device == d) && (page == a) then kept (row_at devices.old d a) ticket else row_at devices.old d a) }
+        → row_at devices.new d a ≡ (if (device == d) && (page == a) then unless_waiting (row_at devices.old d a) ticket else row_at devices.old d a) }
 {
     if let Some(row) = take_at_in(devices, device, page, ticket) {
         counts.lower(row.frame);

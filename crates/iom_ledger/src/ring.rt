@@ -2,7 +2,8 @@
 ghost use Rattle.std.specs.Prelude.{◌≡◌, ◌<◌, ◌≤◌, ◌==◌, List, not, [], ◌∷◌, ◌++◌, length, filter};
 ghost use Rattle.iom_ledger.specs.declared.row.Pending.{Pending};
 ghost use Rattle.iom_ledger.specs.Counts.{AreCounted};
-ghost use Rattle.iom_ledger.specs.Rows.{DropsRows, DropsNamed, AllNamed};
+ghost use Rattle.iom_ledger.specs.Rows.{AllNamed};
+ghost use Rattle.iom_ledger.specs.RowChanges.{DropsRows, DropsNamed};
 
 use crate::counts::RowCounts;
 use crate::devices::{Devices, drop_named_in};

@@ -1,6 +1,7 @@
 //! A row of the ledger, and what is kept beside the rows of each ticket that isn't confirmed.
 ghost use Rattle.std.specs.Prelude.{◌≡◌, ◌==◌};
-ghost use Rattle.iom_ledger.specs.Rows.{released_row, waits_for};
+ghost use Rattle.iom_ledger.specs.Rows.{waits_for};
+ghost use Rattle.iom_ledger.specs.RowChanges.{released_row};
 
 use iom_base::{DeviceId, Rights};
 

@@ -1,6 +1,7 @@
 use Rattle.std.proofs.Common.{◌≡◌}
 use Rattle.iom_ledger.specs.Counts.{AreCounted}
-use Rattle.iom_ledger.specs.Rows.{entries_of, DropsSome, NoneWaitsFrom}
+use Rattle.iom_ledger.specs.Rows.{entries_of, NoneWaitsFrom}
+use Rattle.iom_ledger.specs.RowChanges.{DropsSome}
 use Rattle.iom_ledger.proofs.devices.drop_waiting.Given as goal
 
 -- from the index on no row waits

@@ -1,7 +1,7 @@
 use Rattle.std.proofs.Common.{rules, ap, ◌∙◌, nat_eq}
 use Rattle.std.specs.Map.{lookup}
 use Rattle.std.proofs.lemmas.Map.Made.{map_same_pairs, lookup-map_values}
-use Rattle.iom_ledger.specs.Rows.{released_row}
+use Rattle.iom_ledger.specs.RowChanges.{released_row}
 use Rattle.iom_ledger.proofs.devices.release_rows.Goals as goal
 
 pub returns : goal.returns

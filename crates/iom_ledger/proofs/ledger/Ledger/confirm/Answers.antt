@@ -3,7 +3,7 @@ use Rattle.iom_frame_set.specs.Sets.{has}
 use Rattle.iom_ledger.specs.Rows.{row_at, held_of, released_of, is_named, ticket_of}
 use Rattle.iom_ledger.specs.Shown.{held_in, released_in, pending_in, is_pooled}
 use Rattle.iom_ledger.proofs.PendingLemmas.{AllNamed-confirmed}
-use Rattle.iom_ledger.proofs.AgreementLemmas.{Agrees-confirmed, AllGranted-confirmed, held_of-kept, released_of-kept, tickets-filter}
+use Rattle.iom_ledger.proofs.AgreementLemmas.{Agrees-confirmed, AllGranted-confirmed, held_of-unless_waiting, released_of-unless_waiting, tickets-filter}
 use Rattle.iom_ledger.proofs.UnknownTickets.{IsUnchanged-confirmed}
 use Rattle.iom_ledger.proofs.ledger.Ledger.confirm.Goals as goal
 
@@ -18,9 +18,9 @@ invariant_of-self c = record {
 pub returns-clause-confirmed : goal.returns-clause-confirmed
 unfolding held_in released_in pending_in is_pooled
 returns-clause-confirmed c = record {
-  held = λ d a. ap held_of (c.confirm_in.ensures.rows d a) ∙ held_of-kept (row_at c.args.self.now.devices d a) c.args.ticket;
-  lingering = λ d a. ap released_of (c.confirm_in.ensures.rows d a) ∙ released_of-kept (row_at c.args.self.now.devices d a) c.args.ticket;
-  pending = ap (map (λ p. p.ticket)) c.confirm_in.ensures.items ∙ tickets-filter c.args.ticket c.args.self.now.pending.items;
+  held = λ d a. ap held_of (c.confirm_in.ensures.rows d a) ∙ held_of-unless_waiting (row_at c.args.self.now.devices d a) c.args.ticket;
+  lingering = λ d a. ap released_of (c.confirm_in.ensures.rows d a) ∙ released_of-unless_waiting (row_at c.args.self.now.devices d a) c.args.ticket;
+  waiting = ap (map (λ p. p.ticket)) c.confirm_in.ensures.items ∙ tickets-filter c.args.ticket c.args.self.now.pending.items;
   pool = λ f. ap (λ pool. has pool f) c.confirm_in.ensures.pool;
 }
 

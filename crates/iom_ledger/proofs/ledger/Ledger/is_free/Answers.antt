@@ -3,8 +3,7 @@ use Rattle.std.proofs.lemmas.Bool.{eqb-true, eq-eqb}
 use Rattle.iom_base.specs.declared.access.AccessKind.TheVariants.{Read}
 use Rattle.iom_ledger.specs.declared.ledger.Ledger.{Ledger}
 use Rattle.iom_ledger.specs.Counts.{count_of}
-use Rattle.iom_ledger.specs.Rows.{SomeRowNames}
-use Rattle.iom_ledger.proofs.AgreementLemmas.{some_row_from_May, May_from_some_row, IsFreeIn-from_rows, not_free_from_row}
+use Rattle.iom_ledger.proofs.AgreementLemmas.{SomeRowNames, some_row_from_May, May_from_some_row, IsFreeIn-from_rows, not_free_from_row}
 use Rattle.iom_ledger.proofs.CountLemmas.{no_row_from_count, count_from_no_row}
 use Rattle.iom_ledger.proofs.ledger.Ledger.is_free.Goals as goal
 
