@@ -13,7 +13,7 @@ use Rattle.iom_ledger.specs.declared.row.Pending.{Pending}
 use Rattle.iom_ledger.specs.declared.entry.Entry.TheVariants.{Confirmed}
 use Rattle.iom_ledger.specs.declared.ledger.Ledger.{Ledger}
 use Rattle.iom_ledger.specs.History.{History, Pair, confirms, released_at, Holds, Lingers, May}
-use Rattle.iom_ledger.specs.Unconfirmed.{tickets_of}
+use Rattle.iom_ledger.specs.Pending.{tickets_of}
 use Rattle.iom_ledger.specs.Rows.{Devices, row_at, pair_of, held_of, released_of, unless_released, if_released, waits_for}
 use Rattle.iom_ledger.specs.Rows.{is_granted, has_granted_right, AllGranted}
 use Rattle.iom_ledger.specs.RowChanges.{unless_waiting, DropsRows}

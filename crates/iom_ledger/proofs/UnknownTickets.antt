@@ -10,7 +10,7 @@ use Rattle.iom_ledger.specs.declared.row.Pending.{Pending}
 use Rattle.iom_ledger.specs.declared.ledger.Ledger.{Ledger}
 use Rattle.iom_ledger.specs.Rows.{row_at, held_of, released_of, names, ticket_of, is_named, AllNamed}
 use Rattle.iom_ledger.specs.RowChanges.{unless_waiting, DropsRows}
-use Rattle.iom_ledger.specs.Shown.{held_in, released_in, waiting_in, is_pooled}
+use Rattle.iom_ledger.specs.Shown.{held_in, released_in, pending_in, is_pooled}
 use Rattle.iom_ledger.specs.Changes.{IsUnchanged}
 use Rattle.iom_ledger.proofs.PendingLemmas.{any_names, is_other}
 

@@ -20,7 +20,7 @@ unfolding held_in released_in pending_in is_pooled
 returns-clause-confirmed c = record {
   held = λ d a. ap held_of (c.confirm_in.ensures.rows d a) ∙ held_of-unless_waiting (row_at c.args.self.now.devices d a) c.args.ticket;
   lingering = λ d a. ap released_of (c.confirm_in.ensures.rows d a) ∙ released_of-unless_waiting (row_at c.args.self.now.devices d a) c.args.ticket;
-  waiting = ap (map (λ p. p.ticket)) c.confirm_in.ensures.items ∙ tickets-filter c.args.ticket c.args.self.now.pending.items;
+  pending = ap (map (λ p. p.ticket)) c.confirm_in.ensures.items ∙ tickets-filter c.args.ticket c.args.self.now.pending.items;
   pool = λ f. ap (λ pool. has pool f) c.confirm_in.ensures.pool;
 }
 
