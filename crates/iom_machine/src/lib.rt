@@ -27,6 +27,3 @@ pub use sequence::Sequence;
 pub use sink::Sink;
 pub use start::power_on;
 pub use state::{Access, Attachment, Device, DeviceKind, Frame, InFlight, Mode, Owner, State};
-
-#[cfg(test)]
-mod tests;
