@@ -7,4 +7,8 @@
 #![tactic(auto)]
 
 #[cfg(test)]
+mod drawn_worlds;
+#[cfg(test)]
 mod machine;
+#[cfg(test)]
+mod world;
