@@ -1,5 +1,5 @@
-use super::*;
 use iom_base::{DeviceId, Rights};
+use iom_ledger::{Entry, Ledger, MAX_WAITING, Refusal};
 use std::alloc::{AllocError, Global};
 use std::process::Abort;
 use std::test::Fail;
