@@ -13,4 +13,6 @@ mod ledger;
 #[cfg(test)]
 mod machine;
 #[cfg(test)]
+mod runner;
+#[cfg(test)]
 mod world;
