@@ -15,4 +15,6 @@ mod machine;
 #[cfg(test)]
 mod runner;
 #[cfg(test)]
+mod script;
+#[cfg(test)]
 mod world;
