@@ -13,6 +13,8 @@ mod ledger;
 #[cfg(test)]
 mod machine;
 #[cfg(test)]
+mod page_table;
+#[cfg(test)]
 mod runner;
 #[cfg(test)]
 mod script;
