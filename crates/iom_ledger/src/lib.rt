@@ -26,6 +26,3 @@ mod row;
 pub use entry::Entry;
 pub use ledger::{Ledger, MAX_PENDING};
 pub use refusal::Refusal;
-
-#[cfg(test)]
-mod tests;

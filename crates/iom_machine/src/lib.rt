@@ -27,6 +27,3 @@ pub use sequence::Sequence;
 pub use sink::Sink;
 pub use start::power_on;
 pub use state::{AcceptedAccess, Access, Attachment, Device, DeviceKind, Frame, Mode, State};
-
-#[cfg(test)]
-mod tests;

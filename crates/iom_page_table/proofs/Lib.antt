@@ -9,4 +9,3 @@ pub mod Pages
 pub mod Whole
 pub mod Walks
 pub mod Stays
-pub mod Spare

@@ -17,6 +17,3 @@ mod tables;
 
 pub use leaf::PageLeaf;
 pub use tables::{is_mapped, map, missing, unmap};
-
-#[cfg(test)]
-mod tests;

@@ -20,6 +20,3 @@ mod writing;
 pub use arguments::{Args, read_words};
 pub use faults::{ArgsFault, RunFault, args_status, exit_status};
 pub use runner::run;
-
-#[cfg(test)]
-mod tests;

@@ -24,8 +24,3 @@ mod tables;
 mod world;
 
 pub use world::World;
-
-#[cfg(test)]
-mod drawn_tests;
-#[cfg(test)]
-mod tests;

@@ -3,9 +3,9 @@
 ghost use Rattle.std.specs.Prelude.{◌<◌, IfOk};
 ghost use Rattle.iom_machine.specs.Machine.{IsEvent};
 
-use super::*;
 use iom_base::{DeviceId, Rights};
 use iom_machine::{Choice, Event, Outcome, Sequence, judge, power_on};
+use iom_world::World;
 use std::alloc::{AllocError, Global};
 use std::test::Fail;
 

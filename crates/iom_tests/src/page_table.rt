@@ -3,8 +3,8 @@ ghost use Rattle.iom_base.specs.Rights.{r, rw};
 ghost use Rattle.iom_phys_mem.specs.Words.{zeroed};
 ghost use Rattle.iom_page_table.specs.Sv39.{IsRoot, HasTable};
 
-use super::*;
 use iom_base::{AccessKind, Cause, Rights};
+use iom_page_table::{PageLeaf, is_mapped, laws, map, missing, unmap};
 use iom_phys_mem::{Bytes, Memory};
 use iom_stage_walk::{WalkFault, Walked, walk_first};
 use std::process::Abort;

@@ -1,9 +1,9 @@
 ghost use Rattle.std.specs.Prelude.{◌≡◌, ◌+◌, IfOk, length};
 ghost use Rattle.iom_machine.specs.Machine.{IsEvent};
 
-use super::*;
 use iom_base::{Cause, Rights};
 use iom_machine::{CommandName, Event, Fetched, Outcome, Sink};
+use iom_world::World;
 use std::alloc::{AllocError, Global};
 use std::test::Fail;
 

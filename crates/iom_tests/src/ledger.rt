@@ -1,5 +1,5 @@
-use super::*;
 use iom_base::{DeviceId, Rights};
+use iom_ledger::{Entry, Ledger, MAX_PENDING, Refusal};
 use std::alloc::{AllocError, Global};
 use std::process::Abort;
 use std::test::Fail;
@@ -120,10 +120,10 @@ fn answers(alloc: Global, ledger: &Ledger) -> Result<String, AllocError> {
         (2, ledger.lingers_anything(2)),
     ];
     let lingers = numbers_text(alloc, &lingering)?;
-    let waiting = ledger.pending();
+    let pending = ledger.pending();
     let pages = format!(in alloc; "{first} {second} {other}")?;
     let devices = format!(in alloc; "holds{holds} lingers{lingers}")?;
-    format!(in alloc; "{pages} free{free} {devices} waiting {waiting}")
+    format!(in alloc; "{pages} free{free} {devices} pending {pending}")
 }
 
 fn granted(device: DeviceId, page: u64, frame: u32, rights: Rights) -> Entry {
@@ -156,29 +156,29 @@ fn first_entries<'a>() -> [(Entry, &'a str); 7] {
     [
         (
             granted(1, 16, 5, Rights::RW),
-            "5rw - - free 6 7 holds 1 lingers waiting 0",
+            "5rw - - free 6 7 holds 1 lingers pending 0",
         ),
         (
             granted(2, 16, 5, Rights::R),
-            "5rw - 5r free 6 7 holds 1 2 lingers waiting 0",
+            "5rw - 5r free 6 7 holds 1 2 lingers pending 0",
         ),
         (
             granted(1, 17, 6, Rights::R),
-            "5rw 6r 5r free 7 holds 1 2 lingers waiting 0",
+            "5rw 6r 5r free 7 holds 1 2 lingers pending 0",
         ),
         (
             released(1, 16, 1),
-            "(5rw) 6r 5r free 7 holds 1 2 lingers 1 waiting 1",
+            "(5rw) 6r 5r free 7 holds 1 2 lingers 1 pending 1",
         ),
         (
             confirmed(9),
-            "(5rw) 6r 5r free 7 holds 1 2 lingers 1 waiting 1",
+            "(5rw) 6r 5r free 7 holds 1 2 lingers 1 pending 1",
         ),
         (
             all_released(2, 2),
-            "(5rw) 6r (5r) free 7 holds 1 lingers 1 2 waiting 2",
+            "(5rw) 6r (5r) free 7 holds 1 lingers 1 2 pending 2",
         ),
-        (confirmed(1), "- 6r (5r) free 7 holds 1 lingers 2 waiting 1"),
+        (confirmed(1), "- 6r (5r) free 7 holds 1 lingers 2 pending 1"),
     ]
 }
 
@@ -187,25 +187,25 @@ fn later_entries<'a>() -> [(Entry, &'a str); 7] {
     [
         (
             granted(1, 16, 7, Rights::RW),
-            "7rw 6r (5r) free holds 1 lingers 2 waiting 1",
+            "7rw 6r (5r) free holds 1 lingers 2 pending 1",
         ),
         (
             all_released(1, 3),
-            "(7rw) (6r) (5r) free holds lingers 1 2 waiting 2",
+            "(7rw) (6r) (5r) free holds lingers 1 2 pending 2",
         ),
         (
             confirmed(2),
-            "(7rw) (6r) - free 5 holds lingers 1 waiting 1",
+            "(7rw) (6r) - free 5 holds lingers 1 pending 1",
         ),
         (
             all_released(2, 4),
-            "(7rw) (6r) - free 5 holds lingers 1 waiting 2",
+            "(7rw) (6r) - free 5 holds lingers 1 pending 2",
         ),
-        (confirmed(3), "- - - free 5 6 7 holds lingers waiting 1"),
-        (confirmed(4), "- - - free 5 6 7 holds lingers waiting 0"),
+        (confirmed(3), "- - - free 5 6 7 holds lingers pending 1"),
+        (confirmed(4), "- - - free 5 6 7 holds lingers pending 0"),
         (
             granted(2, 16, 6, Rights::RW),
-            "- - 6rw free 5 7 holds 2 lingers waiting 0",
+            "- - 6rw free 5 7 holds 2 lingers pending 0",
         ),
     ]
 }
@@ -263,7 +263,7 @@ fn a_frame_of_two_devices_is_free_after_the_last_confirmation(rt: HostRuntime) -
 fn each_lookup_answers_what_the_history_says(rt: HostRuntime) -> Result<(), Fail> {
     let mut ledger = Ledger::new(rt.alloc(), 8)?;
     let first = answers(rt.alloc(), &ledger)?;
-    assert_eq!(rt; first.as_str(), "- - - free 5 6 7 holds lingers waiting 0");
+    assert_eq!(rt; first.as_str(), "- - - free 5 6 7 holds lingers pending 0");
     follow(&rt, &mut ledger, &first_entries())?;
     follow(&rt, &mut ledger, &later_entries())
 }

@@ -1,6 +1,6 @@
 use Rattle.std.proofs.Common.{◌-◌, [], ◌∷◌, arith}
-use Rattle.iom_page_table.proofs.Spare.{one_fresh, two_fresh, none_in, one_in, two_in, spare_stays}
-use Rattle.iom_page_table.proofs.tests.map_page.Goals as goal
+use Rattle.iom_tests.proofs.Spare.{one_fresh, two_fresh, none_in, one_in, two_in, spare_stays}
+use Rattle.iom_tests.proofs.page_table.map_page.Goals as goal
 
 pub map-requires-then-lacking-eq1-clause-fresh : goal.map-requires-then-lacking-eq1-clause-fresh
 map-requires-then-lacking-eq1-clause-fresh g c = one_fresh c.args.memory.now c.args.top c.requires.spare (omega arith)

@@ -1,7 +1,10 @@
-use super::*;
 use arrayvec::ArrayVec;
 use iom_base::{Cause, DeviceId, Rights};
 use iom_ledger::Refusal;
+use iom_machine::{
+    Choice, CommandName, Event, Fetched, Line, Outcome, Sequence, Verdict, judge, judge_run,
+    lawful_runs_have_choices, power_on, reclaim_theorem,
+};
 use std::alloc::Global;
 use std::test::Fail;
 

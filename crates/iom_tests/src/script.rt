@@ -1,8 +1,8 @@
-use super::*;
 use arrayvec::ArrayVec;
 use iom_base::{Cause, Rights};
 use iom_ledger::Refusal;
 use iom_machine::{CommandName, Event, Fetched, Outcome};
+use iom_script::{LineBuffer, ScriptFault, parse};
 use std::test::Fail;
 
 /// The line number at which the bytes are refused, or 0 where they are a script.
