@@ -34,8 +34,28 @@ fn lines_read(alloc: Global, output: &str) -> Result<usize, Fail> {
 }
 
 /// Each form of a line.
-const LINES: &str =
-    "ok\nok\nrefused 12 TooManyPending\nticket 4294967295\nconfirmed 1-256\nconfirmed -\ndid iotinval.vma\ndid iotinval.gvma\ndid iofence.c\ndid iodir.inval_ddt\ndid ats.inval\nwaiting\nempty\nstopped\naccepted 18446744073709551615\nbusy\nbadspan\nfault 260\nread 00af\nwrote 4096\nnone\n";
+const LINES: &str = "\
+    ok\n\
+    ok\n\
+    refused 12 TooManyPending\n\
+    ticket 4294967295\n\
+    confirmed 1-256\n\
+    confirmed -\n\
+    did iotinval.vma\n\
+    did iotinval.gvma\n\
+    did iofence.c\n\
+    did iodir.inval_ddt\n\
+    did ats.inval\n\
+    waiting\n\
+    empty\n\
+    stopped\n\
+    accepted 18446744073709551615\n\
+    busy\n\
+    badspan\n\
+    fault 260\n\
+    read 00af\n\
+    wrote 4096\n\
+    none\n";
 
 /// Lines that tell no outcome.
 const NO_LINES: [&str; 20] = [

@@ -111,11 +111,33 @@ fn many(alloc: Global, front: &[u8], piece: &[u8], count: usize) -> Result<Vec<u
     Ok(bytes)
 }
 
-const FIRST_PATH: &[u8] =
-    b"world 64 1\ndevice 000001 raw\nattach 000001 first\ngrant 000001 3 5 rw\nread 000001 0x3ffc 4\nread 000001 0x3ffc 5\ncommit 000001\nrelease 000001 3\nfetch\nfetch\npoll\nread 000001 0x3ffc 4\n";
+const FIRST_PATH: &[u8] = b"\
+    world 64 1\n\
+    device 000001 raw\n\
+    attach 000001 first\n\
+    grant 000001 3 5 rw\n\
+    read 000001 0x3ffc 4\n\
+    read 000001 0x3ffc 5\n\
+    commit 000001\n\
+    release 000001 3\n\
+    fetch\n\
+    fetch\n\
+    poll\n\
+    read 000001 0x3ffc 4\n";
 
-const FIRST_PATH_LINES: &[u8] =
-    b"ok\nok\nok\nok\naccepted 1\nbadspan\nread 00000000\nticket 1\ndid iotinval.vma\ndid iofence.c\nconfirmed 1-1\nfault 13\n";
+const FIRST_PATH_LINES: &[u8] = b"\
+    ok\n\
+    ok\n\
+    ok\n\
+    ok\n\
+    accepted 1\n\
+    badspan\n\
+    read 00000000\n\
+    ticket 1\n\
+    did iotinval.vma\n\
+    did iofence.c\n\
+    confirmed 1-1\n\
+    fault 13\n";
 
 #[test]
 fn the_first_path_is_told(rt: HostRuntime) -> Result<(), Fail> {

@@ -53,8 +53,22 @@ fn lines_tell_outcomes(rt: HostRuntime) -> Result<(), Fail> {
     out.append_line(&Outcome::Read(bytes));
     out.append_line(&Outcome::Wrote(4096));
     out.append_line(&Outcome::NothingInFlight);
-    let lines =
-        b"ok\nrefused 12 TooManyPending\nticket 1\nconfirmed 1-256\nconfirmed -\ndid iotinval.vma\ndid iofence.c\nempty\naccepted 1\nbusy\nbadspan\nfault 13\nread 00af\nwrote 4096\nnone\n";
+    let lines = b"\
+        ok\n\
+        refused 12 TooManyPending\n\
+        ticket 1\n\
+        confirmed 1-256\n\
+        confirmed -\n\
+        did iotinval.vma\n\
+        did iofence.c\n\
+        empty\n\
+        accepted 1\n\
+        busy\n\
+        badspan\n\
+        fault 13\n\
+        read 00af\n\
+        wrote 4096\n\
+        none\n";
     assert!(rt; out.as_slice() == lines.as_slice());
     out.clear();
     assert!(rt; out.as_slice().is_empty());
@@ -86,8 +100,19 @@ fn an_empty_script_says_nothing(rt: HostRuntime) -> Result<(), Fail> {
     Ok(())
 }
 
-const FIRST_PATH: &[u8] =
-    b"world 64 1\ndevice 000001 raw\nattach 000001 first\ngrant 000001 3 5 rw\nread 000001 0x3ffc 4\nread 000001 0x3ffc 5\ncommit 000001\nrelease 000001 3\nfetch\nfetch\npoll\nread 000001 0x3ffc 4\n";
+const FIRST_PATH: &[u8] = b"\
+    world 64 1\n\
+    device 000001 raw\n\
+    attach 000001 first\n\
+    grant 000001 3 5 rw\n\
+    read 000001 0x3ffc 4\n\
+    read 000001 0x3ffc 5\n\
+    commit 000001\n\
+    release 000001 3\n\
+    fetch\n\
+    fetch\n\
+    poll\n\
+    read 000001 0x3ffc 4\n";
 
 #[test]
 fn the_first_path_is_read(rt: HostRuntime) -> Result<(), Fail> {
@@ -117,8 +142,12 @@ fn the_first_path_is_read(rt: HostRuntime) -> Result<(), Fail> {
     }
 }
 
-const BOUNDARIES: &[u8] =
-    b"world 4096 1\n\n# grants\ngrant ffffff 18446744073709551615 0 r\nwrite 00000a 0x0000003ffffff000 00f1\n";
+const BOUNDARIES: &[u8] = b"\
+    world 4096 1\n\
+    \n\
+    # grants\n\
+    grant ffffff 18446744073709551615 0 r\n\
+    write 00000a 0x0000003ffffff000 00f1\n";
 
 #[test]
 fn boundaries_are_read(rt: HostRuntime) -> Result<(), Fail> {
@@ -148,8 +177,26 @@ fn boundaries_are_read(rt: HostRuntime) -> Result<(), Fail> {
 }
 
 /// Scripts that are refused at their first line, with a bar between.
-const BAD_FIRST: &[u8] =
-    b"fetch\n|world 63 1\n|world 4097 1\n|world 64 2\n|world 64 0\n|world 064 1\n|world 64 01\n|world  64 1\n| world 64 1\n|world 64 1 \n|world\t64 1\n|world 64 1\r\n|world 64 1\0\n|World 64 1\n|world 64\n|world\n|world 64 1|# no line feed| \n";
+const BAD_FIRST: &[u8] = b"\
+    fetch\n\
+    |world 63 1\n\
+    |world 4097 1\n\
+    |world 64 2\n\
+    |world 64 0\n\
+    |world 064 1\n\
+    |world 64 01\n\
+    |world  64 1\n\
+    | world 64 1\n\
+    |world 64 1 \n\
+    |world\t64 1\n\
+    |world 64 1\r\n\
+    |world 64 1\0\n\
+    |World 64 1\n\
+    |world 64\n\
+    |world\n\
+    |world 64 1\
+    |# no line feed\
+    | \n";
 
 #[test]
 fn bad_first_lines_are_named(rt: HostRuntime) {
@@ -159,8 +206,38 @@ fn bad_first_lines_are_named(rt: HostRuntime) {
 }
 
 /// Scripts that are refused at their second line.
-const BAD_SECOND: &[u8] =
-    b"world 64 1\nfetch 1\n|world 64 1\nfetch|world 64 1\nworld 64 1\n|world 64 1\nfetch\r\n|world 64 1\nfetch \n|world 64 1\n fetch\n|world 64 1\nFetch\n|world 64 1\nfetc\n|world 64 1\npoll 1\n|world 64 1\ndevice 000001 ats\n|world 64 1\ndevice 00001 raw\n|world 64 1\ndevice 0000001 raw\n|world 64 1\ndevice 00000A raw\n|world 64 1\ndevice 00000g raw\n|world 64 1\ndevice 000001 raw raw\n|world 64 1\nattach 000001 second\n|world 64 1\ngrant 000001 03 5 rw\n|world 64 1\ngrant 000001 3 5 w\n|world 64 1\ngrant 000001 3 5 rwx\n|world 64 1\ngrant 000001 18446744073709551616 5 rw\n|world 64 1\ngrant 000001 99999999999999999999999 5 rw\n|world 64 1\ngrant 000001 +3 5 rw\n|world 64 1\nrelease 000001 \n|world 64 1\nrelease 000001\n|world 64 1\nread 000001 3ffc 4\n|world 64 1\nread 000001 0x 4\n|world 64 1\nread 000001 0x00000000000000001 4\n|world 64 1\nwrite 000001 0x0 \n|world 64 1\nwrite 000001 0x0 000\n|world 64 1\nwrite 000001 0x0 0G\n|world 64 1\ncommit \xc3\xa9\n";
+const BAD_SECOND: &[u8] = b"\
+    world 64 1\nfetch 1\n\
+    |world 64 1\nfetch\
+    |world 64 1\nworld 64 1\n\
+    |world 64 1\nfetch\r\n\
+    |world 64 1\nfetch \n\
+    |world 64 1\n fetch\n\
+    |world 64 1\nFetch\n\
+    |world 64 1\nfetc\n\
+    |world 64 1\npoll 1\n\
+    |world 64 1\ndevice 000001 ats\n\
+    |world 64 1\ndevice 00001 raw\n\
+    |world 64 1\ndevice 0000001 raw\n\
+    |world 64 1\ndevice 00000A raw\n\
+    |world 64 1\ndevice 00000g raw\n\
+    |world 64 1\ndevice 000001 raw raw\n\
+    |world 64 1\nattach 000001 second\n\
+    |world 64 1\ngrant 000001 03 5 rw\n\
+    |world 64 1\ngrant 000001 3 5 w\n\
+    |world 64 1\ngrant 000001 3 5 rwx\n\
+    |world 64 1\ngrant 000001 18446744073709551616 5 rw\n\
+    |world 64 1\ngrant 000001 99999999999999999999999 5 rw\n\
+    |world 64 1\ngrant 000001 +3 5 rw\n\
+    |world 64 1\nrelease 000001 \n\
+    |world 64 1\nrelease 000001\n\
+    |world 64 1\nread 000001 3ffc 4\n\
+    |world 64 1\nread 000001 0x 4\n\
+    |world 64 1\nread 000001 0x00000000000000001 4\n\
+    |world 64 1\nwrite 000001 0x0 \n\
+    |world 64 1\nwrite 000001 0x0 000\n\
+    |world 64 1\nwrite 000001 0x0 0G\n\
+    |world 64 1\ncommit \xc3\xa9\n";
 
 #[test]
 fn bad_second_lines_are_named(rt: HostRuntime) {

@@ -171,7 +171,8 @@ fn has_none_in_flight(device: &Device) -> bool
 /// Makes the oldest access of the device, a write.
 fn write(alloc: Global, state: &mut State, place: usize) -> Result<(), AllocError>
     requires { (place < length state.old.devices) × ((device : Device) → slice_get state.old.devices place ≡ Some device → 0 < length device.in_flight) }
-    ensures { OnOk result ((device : Device) (made : AcceptedAccess) → slice_get state.old.devices place ≡ Some device → slice_get device.in_flight 0 ≡ Some made
+    ensures { OnOk result ((device : Device) (made : AcceptedAccess)
+        → slice_get state.old.devices place ≡ Some device → slice_get device.in_flight 0 ≡ Some made
         → state.new ≡ record state.old {
           devices = slice_set state.old.devices place (record device { in_flight = drop 1 device.in_flight });
           frames = stored state.old.frames made.frame (offset_of made.access) made.access.bytes;
