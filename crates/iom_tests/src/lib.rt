@@ -15,6 +15,8 @@ mod machine;
 #[cfg(test)]
 mod page_table;
 #[cfg(test)]
+mod phys_mem;
+#[cfg(test)]
 mod runner;
 #[cfg(test)]
 mod script;
