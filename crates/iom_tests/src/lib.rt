@@ -21,4 +21,6 @@ mod runner;
 #[cfg(test)]
 mod script;
 #[cfg(test)]
+mod stage_walk;
+#[cfg(test)]
 mod world;
