@@ -23,4 +23,6 @@ mod script;
 #[cfg(test)]
 mod stage_walk;
 #[cfg(test)]
+mod table_frames;
+#[cfg(test)]
 mod world;
