@@ -9,6 +9,8 @@
 #[cfg(test)]
 mod drawn_worlds;
 #[cfg(test)]
+mod inflight;
+#[cfg(test)]
 mod ledger;
 #[cfg(test)]
 mod machine;
