@@ -9,6 +9,8 @@
 #[cfg(test)]
 mod drawn_worlds;
 #[cfg(test)]
+mod frame_set;
+#[cfg(test)]
 mod inflight;
 #[cfg(test)]
 mod ledger;
