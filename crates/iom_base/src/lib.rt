@@ -16,6 +16,3 @@ pub use access::{AccessKind, DeviceId};
 pub use cause::Cause;
 pub use rights::Rights;
 pub use span::{FRAME_SIZE, Span};
-
-#[cfg(test)]
-mod tests;

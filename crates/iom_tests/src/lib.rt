@@ -7,6 +7,8 @@
 #![tactic(auto)]
 
 #[cfg(test)]
+mod base;
+#[cfg(test)]
 mod drawn_worlds;
 #[cfg(test)]
 mod frame_set;
