@@ -12,6 +12,3 @@ mod frame_set;
 mod number_set;
 
 pub use frame_set::FrameSet;
-
-#[cfg(test)]
-mod tests;

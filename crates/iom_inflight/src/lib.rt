@@ -11,6 +11,3 @@
 mod in_flight;
 
 pub use in_flight::{Accepted, InFlight, MAX_IN_FLIGHT};
-
-#[cfg(test)]
-mod tests;

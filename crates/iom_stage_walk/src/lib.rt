@@ -17,6 +17,3 @@ pub use entry::{Entry, entry_at};
 pub use pte::{Pte, PteFlags};
 pub use walk::walk_first;
 pub use walked::{WalkFault, Walked};
-
-#[cfg(test)]
-mod tests;

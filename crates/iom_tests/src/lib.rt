@@ -7,7 +7,13 @@
 #![tactic(auto)]
 
 #[cfg(test)]
+mod base;
+#[cfg(test)]
 mod drawn_worlds;
+#[cfg(test)]
+mod frame_set;
+#[cfg(test)]
+mod inflight;
 #[cfg(test)]
 mod ledger;
 #[cfg(test)]
@@ -15,8 +21,14 @@ mod machine;
 #[cfg(test)]
 mod page_table;
 #[cfg(test)]
+mod phys_mem;
+#[cfg(test)]
 mod runner;
 #[cfg(test)]
 mod script;
+#[cfg(test)]
+mod stage_walk;
+#[cfg(test)]
+mod table_frames;
 #[cfg(test)]
 mod world;

@@ -1,5 +1,5 @@
-use super::*;
 use iom_base::AccessKind;
+use iom_inflight::{Accepted, InFlight};
 use std::test::Fail;
 
 #[test]

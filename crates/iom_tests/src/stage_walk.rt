@@ -1,7 +1,7 @@
-use super::*;
 use bitflags::Flags;
 use iom_base::{AccessKind, Cause, Rights};
 use iom_phys_mem::{Bytes, Memory};
+use iom_stage_walk::{Entry, Pte, PteFlags, WalkFault, Walked, entry_at, laws, walk_first};
 use std::process::Abort;
 use std::test::Fail;
 

@@ -1,7 +1,7 @@
-use super::*;
 use iom_base::Rights;
 use iom_ledger::Ledger;
 use iom_phys_mem::{Bytes, Memory};
+use iom_table_frames::TableFrames;
 use std::test::Fail;
 
 /// With 64 frames and one grant of frame 59, tables come from 58 down, and never lie on a fixed frame.

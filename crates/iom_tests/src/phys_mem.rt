@@ -1,5 +1,5 @@
-use super::*;
 use iom_base::FRAME_SIZE;
+use iom_phys_mem::{Bytes, MemError, Memory, frames};
 use std::alloc::Global;
 use std::process::Abort;
 use std::test::Fail;

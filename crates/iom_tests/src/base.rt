@@ -1,5 +1,5 @@
-use super::*;
 use bitflags::Flags;
+use iom_base::{AccessKind, Cause, Rights, Span};
 use std::alloc::{AllocError, Global};
 use std::fmt::Display;
 use std::process::Abort;

@@ -1,4 +1,4 @@
-use super::*;
+use iom_frame_set::FrameSet;
 use std::alloc::AllocError;
 use std::test::Fail;
 
