@@ -48,7 +48,8 @@ AreNamedBytes frames made bytes =
     (length bytes ≡ made.access.len)
     × ((k : ℕ) → k < made.access.len → slice_get bytes k ≡ byte_at frames made.frame (offset_of made.access + k))
 
--- A read that is made gives exactly its named bytes, and changes none; a write changes exactly its named bytes, to its own. Both of a frame that the device may reach then.
+-- A read that is made gives exactly its named bytes, and changes none; a write changes exactly its named bytes, to its own. Both of a frame that the
+-- device may reach then.
 abbrev pub TouchesItsOwn : State → ℕ → Outcome → State → Type 0
 TouchesItsOwn old id (Read bytes) new =
     (made : AcceptedAccess) × IsOldest old id made × May old.history id made.frame kinds.Read

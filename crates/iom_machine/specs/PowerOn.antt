@@ -9,7 +9,8 @@ use Rattle.iom_machine.specs.Frames.{reserved_for}
 abbrev pub empty_frame : Frame
 empty_frame = record { owner = None; bytes = replicate 4096 0 }
 
--- Power-on, with so many frames and levels of the device directory: nothing is granted or plugged in, all bytes are zero, and the last four frames are the system's.
+-- Power-on, with so many frames and levels of the device directory: nothing is granted or plugged in, all bytes are zero, and the last four frames are
+-- the system's.
 abbrev pub opening : ℕ → ℕ → State
 opening frames levels = record {
   levels = levels;

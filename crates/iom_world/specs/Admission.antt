@@ -14,7 +14,8 @@ use Rattle.iom_world.specs.declared.device.Device.{Device}
 abbrev pub IsRootOf : List Device → ℕ → ℕ → Type 0
 IsRootOf devices id root = (place : ℕ) × (device : Device) × (slice_get devices place ≡ Some device) × (device.id ≡ id) × (device.root ≡ Some root)
 
--- the frame may be granted at the page: the page is below 2^26, the frame is of the memory, which has less than 2^32 frames, and not reserved, and at the page nothing is held and nothing lingers
+-- the frame may be granted at the page: the page is below 2^26, the frame is of the memory, which has less than 2^32 frames, and not reserved, and at
+-- the page nothing is held and nothing lingers
 pub record MayBeGranted (memory : List (List ℕ)) (marks : List (Option Owner)) (ledger : Ledger) (id page frame : ℕ) : Type 0 where
   pub inside : frame < length memory
   pub small : frame < 2 ^ 32

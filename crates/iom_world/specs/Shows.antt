@@ -8,7 +8,9 @@ use Rattle.iom_world.specs.declared.world.World.{World}
 use Rattle.iom_world.specs.Devices.{shown_devices}
 use Rattle.iom_world.specs.Frames.{ShowsFrames}
 
--- the ledger agrees with the history; the same frames are reserved, for the same owners, and all others have the same bytes; the devices are the same, with what they have in flight; the last tickets given and confirmed are the same, and none after that is confirmed; and the directory has as many levels
+-- the ledger agrees with the history; the same frames are reserved, for the same owners, and all others have the same bytes; the devices are the same,
+-- with what they have in flight; the last tickets given and confirmed are the same, and none after that is confirmed; and the directory has as many
+-- levels
 pub record Shows (world : World) (state : State) : Type 0 where
   pub ledger : Agrees world.ledger state.history
   pub frames : ShowsFrames world.memory world.marks state.frames

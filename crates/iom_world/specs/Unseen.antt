@@ -15,7 +15,8 @@ use Rattle.iom_world.specs.Confirmed.{polled_from}
 use Rattle.iom_world.specs.Places.{SomeInFlight}
 use Rattle.iom_world.specs.Queue.{Queue, with_release, AfterFetch}
 
--- a release that is answered so: its ticket is the next, and its commands are appended; a full queue is told only where there is no room for them, used-up numbers only where there is room and no number; and a refusal leaves the commands
+-- a release that is answered so: its ticket is the next, and its commands are appended; a full queue is told only where there is no room for them, used-
+-- up numbers only where there is room and no number; and a refusal leaves the commands
 pub record AfterRelease (old : Queue) (told : Outcome) (new : Queue) : Type 0 where
   pub ticket : (ticket : ℕ) → told ≡ outcome.Ticket ticket → (ticket ≡ old.given + 1) × (new ≡ with_release old)
   pub full : told ≡ outcome.Refused QueueFull → 255 < length old.waiting + 2
