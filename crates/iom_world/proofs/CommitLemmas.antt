@@ -171,6 +171,17 @@ frame_by_bytes (Some frame) bytes is = (frame, refl, (let same : frame.bytes ≡
 abbrev rewritten : Frame → ℕ → List ℕ → Frame
 rewritten frame offset bytes = record frame { bytes = written frame.bytes offset bytes }
 
+-- a frame that is somebody's isn't the one that is stored to, and keeps its bytes
+pub owned_stays : (memory : List (List ℕ)) (marks : List (Option Owner)) (n frame : ℕ) (bytes : List ℕ) (owner : Owner)
+    → slice_get marks n ≡ Some None → slice_get marks frame ≡ Some (Some owner) → slice_get (slice_set memory n bytes) frame ≡ slice_get memory frame
+owned_stays memory marks n frame bytes owner free at = elim (eqb_tells frame n) [
+  | inl same ↦ absurd (nobody's (sym free ∙ ap (λ (k : ℕ). slice_get marks k) (sym same.1) ∙ at))
+  | inr other ↦ get_set_other memory n frame bytes other.1
+]
+  where
+    nobody's : ◌≡◌ {A = Option (Option Owner)} (Some None) (Some (Some owner)) → ⊥
+    nobody's same = cc
+
 -- the machine's frames show the memory where bytes are stored
 pub frames_stored : (memory : List (List ℕ)) (marks : List (Option Owner)) (frames : List Frame) (n offset : ℕ) (bytes replacement : List ℕ)
     → ShowsFrames memory marks frames → slice_get marks n ≡ Some None → slice_get memory n ≡ Some bytes

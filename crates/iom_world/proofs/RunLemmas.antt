@@ -1,5 +1,5 @@
 -- Runs that go on by one event, where the outcomes go to a sink.
-use Rattle.std.proofs.Common.{suc, ◌≡◌, ◌+◌, ◌<◌, ◌≤◌, ◌++◌, ◌∙◌, ℕ, List, Option, [], ◌∷◌, length, take, get_or, refl, sym, ap, subst, arith}
+use Rattle.std.proofs.Common.{suc, ◌≡◌, ◌+◌, ◌<◌, ◌≤◌, ◌++◌, ◌∙◌, ℕ, List, Option, [], ◌∷◌, length, take, get_or, slice_get, refl, sym, ap, subst, arith}
 use Rattle.std.proofs.lemmas.List.{take_more, take_all, length-take-le}
 use Rattle.iom_ledger.specs.declared.ledger.Ledger.{Ledger}
 use Rattle.iom_machine.specs.declared.choice.Choice.{Choice}
@@ -17,7 +17,7 @@ use Rattle.iom_world.specs.Queue.{Queue}
 use Rattle.iom_world.specs.Runs.{TakesAll, GoesThrough, AreOutcomes, RunsTo, FailsAfter}
 use Rattle.iom_world.specs.Shows.{Shows}
 use Rattle.iom_world.specs.Sound.{IsSound}
-use Rattle.iom_world.specs.Unseen.{TakesFrames, Follows}
+use Rattle.iom_world.specs.Unseen.{KeepsTables, TakesFrames, Follows}
 
 -- nothing is left free
 abbrev pub no_choice : Choice
@@ -60,6 +60,13 @@ pub below_counted : (ledger : Ledger) (completed events : ℕ) (devices : List D
 below_counted ledger completed events devices each k device at =
     let count : device.accepted ≤ events = (each k device at).counted in omega arith
 
+kept_counted : (old counted new : World) → counted.memory ≡ old.memory → counted.marks ≡ old.marks → KeepsTables counted new → KeepsTables old new
+kept_counted old counted new memory marks kept = record {
+  marks = kept.marks ∙ marks;
+  bytes = λ frame owner at. kept.bytes frame owner (ap (λ (m : List (Option Owner)). slice_get m frame) marks ∙ at)
+      ∙ ap (λ (bytes : List (List ℕ)). slice_get bytes frame) memory;
+}
+
 -- what frames an event takes doesn't hang on the count of events
 pub takes_counted : (event : Event) (told : Outcome) (old counted new : World)
     → counted.memory ≡ old.memory → counted.marks ≡ old.marks → counted.ledger ≡ old.ledger → counted.devices.items ≡ old.devices.items
@@ -73,13 +80,13 @@ takes_counted (events.Grant device page frame rights) told old counted new memor
   tables = λ done. rw (sym memory, sym marks, sym ledger, sym devices) (takes.tables done);
   no_frames = λ refused. rw (sym memory, sym marks, sym ledger, sym devices) (takes.no_frames refused);
 }
-takes_counted (events.PlugRaw device) told old counted new memory marks ledger devices takes = takes ∙ marks
+takes_counted (events.PlugRaw device) told old counted new memory marks ledger devices takes = kept_counted old counted new memory marks takes
 takes_counted (events.Release device page) told old counted new memory marks ledger devices takes = takes ∙ marks
-takes_counted events.Fetch told old counted new memory marks ledger devices takes = takes ∙ marks
-takes_counted events.Poll told old counted new memory marks ledger devices takes = takes ∙ marks
-takes_counted (events.Read device address len) told old counted new memory marks ledger devices takes = takes ∙ marks
-takes_counted (events.Write device address bytes) told old counted new memory marks ledger devices takes = takes ∙ marks
-takes_counted (events.Commit device) told old counted new memory marks ledger devices takes = takes ∙ marks
+takes_counted events.Fetch told old counted new memory marks ledger devices takes = kept_counted old counted new memory marks takes
+takes_counted events.Poll told old counted new memory marks ledger devices takes = kept_counted old counted new memory marks takes
+takes_counted (events.Read device address len) told old counted new memory marks ledger devices takes = kept_counted old counted new memory marks takes
+takes_counted (events.Write device address bytes) told old counted new memory marks ledger devices takes = kept_counted old counted new memory marks takes
+takes_counted (events.Commit device) told old counted new memory marks ledger devices takes = kept_counted old counted new memory marks takes
 
 -- a run has an outcome for each event
 pub run_length : (old new : State) (events : List Event) (outcomes : List Outcome) → Run old events outcomes new → length outcomes ≡ length events

@@ -1,5 +1,6 @@
 -- What a step does to the parts of a world that the ledger machine doesn't see, and that a refusal changes none.
-use Rattle.std.specs.Prelude.{◌≡◌, ◌≢◌, ◌↔◌, ℕ, ◌+◌, ◌<◌, ◌≤◌, Bool, IsTrue, None, length}
+use Rattle.std.specs.Prelude.{◌≡◌, ◌≢◌, ◌↔◌, ℕ, ◌+◌, ◌<◌, ◌≤◌, Bool, IsTrue, None, Some, length, slice_get}
+use Rattle.iom_base.specs.declared.owner.Owner.{Owner}
 use Rattle.iom_ledger.specs.Changes.{IsUnchanged}
 use Rattle.iom_ledger.specs.declared.refusal.Refusal.{Refusal}
 use Rattle.iom_ledger.specs.declared.refusal.Refusal.TheVariants.{Memory, NoFrames, QueueFull, NumbersUsedUp}
@@ -43,11 +44,18 @@ pub record GrantTakes (old : World) (device page frame : ℕ) (told : Outcome) (
   pub tables : told ≡ outcome.Done → TakesTables old.memory old.marks old.ledger old.devices.items device page frame new.marks
   pub no_frames : told ≡ outcome.Refused NoFrames → LacksTables old.memory old.marks old.ledger old.devices.items device page frame
 
--- an attachment takes a frame for its root, a grant those for the tables that its page lacks, and nothing else changes whose a frame is
+-- whose each frame is stays, and so do the bytes of each frame that is somebody's
+pub record KeepsTables (old new : World) : Type 0 where
+  pub marks : new.marks ≡ old.marks
+  pub bytes : (frame : ℕ) (owner : Owner) → slice_get old.marks frame ≡ Some (Some owner) → slice_get new.memory frame ≡ slice_get old.memory frame
+
+-- an attachment takes a frame for its root, a grant those for the tables that its page lacks; nothing else changes whose a frame is, and but for these
+-- and a release nothing changes a table
 abbrev pub TakesFrames : Event → World → Outcome → World → Type 0
 TakesFrames (events.AttachFirst device) old told new = AttachTakes old device told new
 TakesFrames (events.Grant device page frame rights) old told new = GrantTakes old device page frame told new
-TakesFrames _ old told new = new.marks ≡ old.marks
+TakesFrames (events.Release device page) old told new = new.marks ≡ old.marks
+TakesFrames _ old told new = KeepsTables old new
 
 -- all is the same but the count of events, and what room the ledger has
 pub record IsSame (old new : World) : Type 0 where

@@ -11,7 +11,7 @@ ghost use Rattle.iom_world.specs.declared.answer.Answer.TheVariants as answer;
 ghost use Rattle.iom_world.specs.Oldest.{OldestWritesSoMany, IsOldestAt};
 ghost use Rattle.iom_world.specs.Places.{IsPlaceOf};
 ghost use Rattle.iom_world.specs.Shows.{Shows};
-ghost use Rattle.iom_world.specs.Unseen.{SameIfRefused};
+ghost use Rattle.iom_world.specs.Unseen.{SameIfRefused, KeepsTables};
 
 use crate::answer::{Answer, tell_read};
 use crate::device::Device;
@@ -50,6 +50,7 @@ impl World {
             × Commits state id told.new next × Shows self.new next }
         ensures given { (bytes : List ℕ) × GivesBytes told.new bytes }
         ensures commands { self.new.commands ≡ self.old.commands }
+        ensures memory { self.new.memory ≡ self.old.memory }
         ensures marks { self.new.marks ≡ self.old.marks }
         ensures events { self.new.events ≡ self.old.events }
     {
@@ -67,7 +68,7 @@ impl World {
             × Commits state id (outcome_of result) next × Shows self.new next }
         ensures wrote { (len : ℕ) × (result ≡ answer.Wrote len) }
         ensures commands { self.new.commands ≡ self.old.commands }
-        ensures marks { self.new.marks ≡ self.old.marks }
+        ensures kept { KeepsTables self.old self.new }
         ensures events { self.new.events ≡ self.old.events }
     {
         let offset = (access.address % 4096) as usize;
@@ -83,7 +84,7 @@ impl World {
         ensures step { (state : State) → Shows self.old state → (next : State) × Commits state id told.new next × Shows self.new next }
         ensures refused { SameIfRefused told.new self.old self.new }
         ensures commands { self.new.commands ≡ self.old.commands }
-        ensures marks { self.new.marks ≡ self.old.marks }
+        ensures kept { KeepsTables self.old self.new }
         ensures events { self.new.events ≡ self.old.events }
     {
         let Some(place) = self.place_of(id) else {

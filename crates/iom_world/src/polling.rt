@@ -50,6 +50,7 @@ impl World {
         ensures step { (state : State) → Shows self.old state → (next : State) × Fetches state (outcome_of result) next × Shows self.new next }
         ensures fetched { (in_flight : Bool) → (IsTrue in_flight ↔ SomeInFlight self.old.devices.items) → (fetched : Fetched)
             × (outcome_of result ≡ outcome.Fetched fetched) × AfterFetch self.old.commands in_flight fetched self.new.commands }
+        ensures memory { self.new.memory ≡ self.old.memory }
         ensures marks { self.new.marks ≡ self.old.marks }
         ensures refused { SameIfRefused (outcome_of result) self.old self.new }
         ensures events { self.new.events ≡ self.old.events }
@@ -64,6 +65,7 @@ impl World {
         ensures step { (state : State) → Shows self.old state → (next : State) × Polls state (outcome_of result) next × Shows self.new next }
         ensures polled { outcome_of result ≡ polled_from self.old.commands }
         ensures commands { self.new.commands ≡ record self.old.commands { confirmed = self.old.commands.completed } }
+        ensures memory { self.new.memory ≡ self.old.memory }
         ensures marks { self.new.marks ≡ self.old.marks }
         ensures refused { SameIfRefused (outcome_of result) self.old self.new }
         ensures events { self.new.events ≡ self.old.events }

@@ -124,6 +124,7 @@ impl World {
             × Requests frame state id (read_of address len) (outcome_of result) next × Shows self.new next }
         ensures refused { SameIfRefused (outcome_of result) self.old self.new }
         ensures commands { self.new.commands ≡ self.old.commands }
+        ensures memory { self.new.memory ≡ self.old.memory }
         ensures marks { self.new.marks ≡ self.old.marks }
         ensures events { self.new.events ≡ self.old.events }
     {
@@ -150,6 +151,7 @@ impl World {
             × Requests frame state id (write_of address bytes.now) (outcome_of result) next × Shows self.new next }
         ensures refused { SameIfRefused (outcome_of result) self.old self.new }
         ensures commands { self.new.commands ≡ self.old.commands }
+        ensures memory { self.new.memory ≡ self.old.memory }
         ensures marks { self.new.marks ≡ self.old.marks }
         ensures events { self.new.events ≡ self.old.events }
     {

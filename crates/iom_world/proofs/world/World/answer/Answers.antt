@@ -3,7 +3,7 @@ use Rattle.iom_machine.specs.Machine.{Requests}
 use Rattle.iom_machine.specs.Requests.{write_of}
 use Rattle.iom_world.specs.Answers.{outcome_of}
 use Rattle.iom_ledger.specs.declared.refusal.Refusal.TheVariants.{Memory, NoFrames}
-use Rattle.iom_world.proofs.AnswerLemmas.{answer_done, answer_refused}
+use Rattle.iom_world.proofs.AnswerLemmas.{answer_done, answer_refused, keeps_tables}
 use Rattle.iom_world.proofs.RunLemmas.{stepped, no_choice, frame_chosen, frames_taken}
 use Rattle.iom_world.proofs.world.World.answer.Goals as goal
 
@@ -122,3 +122,21 @@ returns-in-Grant-clause-frames c = rw (c.in-Grant.is, c.tell-in-Grant.ensures) r
   tables = λ done. c.grant.ensures.tables (answer_done c.grant.result done);
   no_frames = λ refused. c.grant.ensures.no_frames (answer_refused c.grant.result NoFrames refused);
 }
+
+pub returns-in-PlugRaw-clause-frames : goal.returns-in-PlugRaw-clause-frames
+returns-in-PlugRaw-clause-frames c = rw c.in-PlugRaw.is (keeps_tables c.args.self.now c.plug.new.self c.plug.ensures.marks c.plug.ensures.memory)
+
+pub returns-in-Fetch-clause-frames : goal.returns-in-Fetch-clause-frames
+returns-in-Fetch-clause-frames c = rw c.in-Fetch.is (keeps_tables c.args.self.now c.fetch.new.self c.fetch.ensures.marks c.fetch.ensures.memory)
+
+pub returns-in-Poll-clause-frames : goal.returns-in-Poll-clause-frames
+returns-in-Poll-clause-frames c = rw c.in-Poll.is (keeps_tables c.args.self.now c.poll.new.self c.poll.ensures.marks c.poll.ensures.memory)
+
+pub returns-in-Read-clause-frames : goal.returns-in-Read-clause-frames
+returns-in-Read-clause-frames c = rw c.in-Read.is (keeps_tables c.args.self.now c.read.new.self c.read.ensures.marks c.read.ensures.memory)
+
+pub returns-in-Write-clause-frames : goal.returns-in-Write-clause-frames
+returns-in-Write-clause-frames c = rw c.in-Write.is (keeps_tables c.args.self.now c.write.new.self c.write.ensures.marks c.write.ensures.memory)
+
+pub returns-in-Commit-clause-frames : goal.returns-in-Commit-clause-frames
+returns-in-Commit-clause-frames c = rw c.in-Commit.is c.commit.ensures.kept

@@ -1,4 +1,4 @@
-use Rattle.std.proofs.Common.{◌≡◌, ℕ, ◌∙◌, ◌%◌, List, Some, slice_get, slice_set, Option, option_map, sym, ap, subst, arith}
+use Rattle.std.proofs.Common.{◌≡◌, ℕ, ◌∙◌, ◌%◌, List, Some, slice_get, slice_set, Option, option_map, refl, sym, ap, subst, arith}
 use Rattle.std.specs.Borrow.{MutBor}
 use Rattle.iom_inflight.specs.declared.in_flight.Accepted.{Accepted}
 use Rattle.iom_inflight.specs.Flights.{Flight}
@@ -10,7 +10,7 @@ use Rattle.iom_world.specs.Frames.{ShowsFrames}
 use Rattle.iom_world.specs.Oldest.{OldestWritesSoMany}
 use Rattle.iom_world.proofs.ListLemmas.{get_within}
 use Rattle.iom_world.proofs.ReplaceLemmas.{same_item, same_place}
-use Rattle.iom_world.proofs.CommitLemmas.{may_be_made, some_by_map, oldest_writes, without_oldest, sound_made, tables_made, devices_made, sound_stored, tables_stored, frames_stored, known_of_some, commits_write}
+use Rattle.iom_world.proofs.CommitLemmas.{may_be_made, some_by_map, oldest_writes, without_oldest, sound_made, tables_made, devices_made, sound_stored, tables_stored, frames_stored, known_of_some, commits_write, owned_stays}
 use Rattle.iom_world.proofs.world.World.commit_write.Goals as goal
 
 pub unwrap-frame-requires : goal.unwrap-frame-requires
@@ -77,3 +77,10 @@ returns-clause-step c = λ state id shows is.
         levels = shows.levels;
       },
     )
+
+pub returns-clause-kept : goal.returns-clause-kept
+returns-clause-kept c =
+    let world = c.args.self.now in
+    let made = may_be_made world.memory world.marks world.ledger world.devices.items world.commands world.events c.args.place c.requires.0 c.requires.1 world.sound c.requires.2 c.requires.3 in
+    let free = ap (λ (a : Accepted). slice_get world.marks a.frame) c.requires.4 ∙ made.free in
+    record { marks = refl; bytes = λ frame owner at. owned_stays world.memory world.marks c.args.access.frame frame c.take_write.new.frame owner free at }
