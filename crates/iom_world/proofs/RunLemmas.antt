@@ -81,7 +81,10 @@ takes_counted (events.Grant device page frame rights) told old counted new memor
   no_frames = λ refused. rw (sym memory, sym marks, sym ledger, sym devices) (takes.no_frames refused);
 }
 takes_counted (events.PlugRaw device) told old counted new memory marks ledger devices takes = kept_counted old counted new memory marks takes
-takes_counted (events.Release device page) told old counted new memory marks ledger devices takes = takes ∙ marks
+takes_counted (events.Release device page) told old counted new memory marks ledger devices takes = record {
+  marks = takes.marks ∙ marks;
+  leaf = λ ticket answer. rw (sym memory, sym devices) (takes.leaf ticket answer);
+}
 takes_counted events.Fetch told old counted new memory marks ledger devices takes = kept_counted old counted new memory marks takes
 takes_counted events.Poll told old counted new memory marks ledger devices takes = kept_counted old counted new memory marks takes
 takes_counted (events.Read device address len) told old counted new memory marks ledger devices takes = kept_counted old counted new memory marks takes

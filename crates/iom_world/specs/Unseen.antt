@@ -1,5 +1,5 @@
 -- What a step does to the parts of a world that the ledger machine doesn't see, and that a refusal changes none.
-use Rattle.std.specs.Prelude.{◌≡◌, ◌≢◌, ◌↔◌, ℕ, ◌+◌, ◌<◌, ◌≤◌, Bool, IsTrue, None, Some, length, slice_get}
+use Rattle.std.specs.Prelude.{◌≡◌, ◌≢◌, ◌↔◌, ℕ, ◌+◌, ◌*◌, ◌/◌, ◌<◌, ◌≤◌, Bool, IsTrue, List, None, Some, length, slice_get}
 use Rattle.iom_base.specs.declared.owner.Owner.{Owner}
 use Rattle.iom_ledger.specs.Changes.{IsUnchanged}
 use Rattle.iom_ledger.specs.declared.refusal.Refusal.{Refusal}
@@ -9,9 +9,11 @@ use Rattle.iom_machine.specs.declared.event.Event.TheVariants as events
 use Rattle.iom_machine.specs.declared.outcome.Fetched.{Fetched}
 use Rattle.iom_machine.specs.declared.outcome.Outcome.{Outcome}
 use Rattle.iom_machine.specs.declared.outcome.Outcome.TheVariants as outcome
+use Rattle.iom_page_table.specs.Sv39.{IsLeafEntry}
+use Rattle.iom_phys_mem.specs.Words.{byte_at, word_at}
 use Rattle.iom_table_frames.specs.Marks.{NoneIsFree}
 use Rattle.iom_world.specs.declared.world.World.{World}
-use Rattle.iom_world.specs.Admission.{TakesHighest, LacksTables, TakesTables}
+use Rattle.iom_world.specs.Admission.{IsRootOf, TakesHighest, LacksTables, TakesTables}
 use Rattle.iom_world.specs.Confirmed.{polled_from}
 use Rattle.iom_world.specs.Places.{SomeInFlight}
 use Rattle.iom_world.specs.Queue.{Queue, with_release, AfterFetch}
@@ -44,17 +46,27 @@ pub record GrantTakes (old : World) (device page frame : ℕ) (told : Outcome) (
   pub tables : told ≡ outcome.Done → TakesTables old.memory old.marks old.ledger old.devices.items device page frame new.marks
   pub no_frames : told ≡ outcome.Refused NoFrames → LacksTables old.memory old.marks old.ledger old.devices.items device page frame
 
+-- the eight bytes of the page's leaf are zero, and each other byte of memory stays
+pub record ClearsLeaf (old new : List (List ℕ)) (root page : ℕ) : Type 0 where
+  pub cleared : (s : ℕ) → IsLeafEntry old root page s → word_at 8 new (8 * s) ≡ Some 0
+  pub others : (address : ℕ) → ¬ IsLeafEntry old root page (address / 8) → byte_at new address ≡ byte_at old address
+
+-- a release that is answered so: it clears the page's leaf, and takes no frame
+pub record ReleaseClears (old : World) (device page : ℕ) (told : Outcome) (new : World) : Type 0 where
+  pub marks : new.marks ≡ old.marks
+  pub leaf : (ticket : ℕ) → told ≡ outcome.Ticket ticket → (root : ℕ) × IsRootOf old.devices.items device root × ClearsLeaf old.memory new.memory root page
+
 -- whose each frame is stays, and so do the bytes of each frame that is somebody's
 pub record KeepsTables (old new : World) : Type 0 where
   pub marks : new.marks ≡ old.marks
   pub bytes : (frame : ℕ) (owner : Owner) → slice_get old.marks frame ≡ Some (Some owner) → slice_get new.memory frame ≡ slice_get old.memory frame
 
--- an attachment takes a frame for its root, a grant those for the tables that its page lacks; nothing else changes whose a frame is, and but for these
--- and a release nothing changes a table
+-- an attachment takes a frame for its root, a grant those for the tables that its page lacks, and a release clears a leaf; nothing else changes whose a
+-- frame is, or a table
 abbrev pub TakesFrames : Event → World → Outcome → World → Type 0
 TakesFrames (events.AttachFirst device) old told new = AttachTakes old device told new
 TakesFrames (events.Grant device page frame rights) old told new = GrantTakes old device page frame told new
-TakesFrames (events.Release device page) old told new = new.marks ≡ old.marks
+TakesFrames (events.Release device page) old told new = ReleaseClears old device page told new
 TakesFrames _ old told new = KeepsTables old new
 
 -- all is the same but the count of events, and what room the ledger has

@@ -17,7 +17,7 @@ ghost use Rattle.iom_world.specs.declared.answer.Answer.TheVariants as answer;
 ghost use Rattle.iom_world.specs.Admission.{IsRootOf, TakesHighest, LacksTables, TakesTables, MayBeGranted, AreChosen, TooFewAreFree, marked_for, cleared};
 ghost use Rattle.iom_world.specs.Queue.{with_release};
 ghost use Rattle.iom_world.specs.Shows.{Shows};
-ghost use Rattle.iom_world.specs.Unseen.{SameIfRefused};
+ghost use Rattle.iom_world.specs.Unseen.{SameIfRefused, ClearsLeaf};
 
 use crate::answer::Answer;
 use crate::world::World;
@@ -193,6 +193,8 @@ impl World {
         ensures ticket { (ticket : ℕ) → outcome_of result ≡ outcome.Ticket ticket → (ticket ≡ self.old.commands.given + 1)
             × (self.new.commands ≡ with_release self.old.commands) }
         ensures marks { self.new.marks ≡ self.old.marks }
+        ensures cleared { (ticket : ℕ) → outcome_of result ≡ outcome.Ticket ticket → (root : ℕ)
+            × IsRootOf self.old.devices.items id root × ClearsLeaf self.old.memory self.new.memory root page }
         ensures refused { SameIfRefused (outcome_of result) self.old self.new }
         ensures events { self.new.events ≡ self.old.events }
     {

@@ -140,3 +140,9 @@ returns-in-Write-clause-frames c = rw c.in-Write.is (keeps_tables c.args.self.no
 
 pub returns-in-Commit-clause-frames : goal.returns-in-Commit-clause-frames
 returns-in-Commit-clause-frames c = rw c.in-Commit.is c.commit.ensures.kept
+
+pub returns-in-Release-clause-frames : goal.returns-in-Release-clause-frames
+returns-in-Release-clause-frames c = rw (c.in-Release.is, c.tell-in-Release.ensures) record {
+  marks = c.release.ensures.marks;
+  leaf = c.release.ensures.cleared;
+}

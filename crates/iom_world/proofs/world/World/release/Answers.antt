@@ -147,3 +147,7 @@ returns-clause-step c = λ state shows.
         levels = shows.levels;
       },
     )
+
+pub returns-clause-cleared : goal.returns-clause-cleared
+returns-clause-cleared c = λ ticket told.
+    (c.in-Ok.root, c.in-Ok.ensures.root, record { cleared = c.unmap.ensures.cleared; others = c.unmap.ensures.other_bytes })
