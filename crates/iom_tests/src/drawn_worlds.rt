@@ -187,7 +187,7 @@ impl Known {
 
 /// How many of the events drawn from this seed the judge finds lawful, up to the first that isn't.
 fn lawful(alloc: Global, seed: u64, count: u32) -> Result<u32, Fail> {
-    let mut world = World::new(alloc, 64, 1).map_err(|_| AllocError)?;
+    let mut world = World::new(alloc, 64, 1)?;
     let mut state = power_on(alloc, 64, 1)?;
     let mut draw = Draw { state: seed };
     let mut known = Known::new(alloc);

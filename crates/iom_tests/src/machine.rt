@@ -448,7 +448,10 @@ fn one_step_is_judged(rt: HostRuntime) -> Result<(), Fail> {
         &line.outcome,
         &line.choice,
     )?;
-    assert_eq!(rt; next.map(|state| state.devices.as_slice().len()), Some(1));
+    match next {
+        Some(state) => assert_eq!(rt; state.devices.as_slice().len(), 1),
+        None => return Err(Fail::new("an unlawful step")),
+    }
     reclaim_theorem();
     lawful_runs_have_choices();
     Ok(())

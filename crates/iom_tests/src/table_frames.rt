@@ -7,7 +7,7 @@ use std::test::Fail;
 /// With 64 frames and one grant of frame 59, tables come from 58 down, and never lie on a fixed frame.
 #[test]
 fn the_highest_free_frame_is_taken(rt: HostRuntime) -> Result<(), Fail> {
-    let mut memory = Memory::new(rt.alloc(), 64).map_err(|_| std::alloc::AllocError)?;
+    let mut memory = Memory::new(rt.alloc(), 64)?;
     let mut ledger = Ledger::new(rt.alloc(), 64)?;
     let mut tables = TableFrames::new(rt.alloc(), 64, &mut ledger)?;
     assert!(rt; !tables.is_reserved(59));

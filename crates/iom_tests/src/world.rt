@@ -4,7 +4,7 @@ ghost use Rattle.iom_machine.specs.Machine.{IsEvent};
 use iom_base::{Cause, Rights};
 use iom_machine::{CommandName, Event, Fetched, Outcome, Sink};
 use iom_world::World;
-use std::alloc::{AllocError, Global};
+use std::alloc::Global;
 use std::test::Fail;
 
 /// A sink that takes so many outcomes, and fails at the next.
@@ -33,7 +33,7 @@ impl Sink for Room {
 fn granted(alloc: Global) -> Result<World, Fail>
     ensures { IfOk result (λ world. world.events ≡ 3) }
 {
-    let mut world = World::new(alloc, 64, 1).map_err(|_| AllocError)?;
+    let mut world = World::new(alloc, 64, 1)?;
     let grant = Event::Grant {
         device: 1,
         page: 3,
@@ -111,7 +111,7 @@ fn a_released_page_is_confirmed_and_served_no_more(rt: HostRuntime) -> Result<()
 /// A sink with room for two outcomes fails at the third, and the event after it doesn't happen.
 #[test]
 fn a_run_stops_where_the_sink_fails(rt: HostRuntime) -> Result<(), Fail> {
-    let mut world = World::new(rt.alloc(), 64, 1).map_err(|_| AllocError)?;
+    let mut world = World::new(rt.alloc(), 64, 1)?;
     let events = [Event::Fetch, Event::Poll, Event::Fetch, Event::Poll];
     let mut sink = Room { left: 2 };
     assert!(rt; world.run(&events, &mut sink).is_err());
@@ -160,7 +160,7 @@ impl Sink for Kept {
 /// A sink over a list takes the outcome of each event, in order.
 #[test]
 fn a_list_takes_each_outcome(rt: HostRuntime) -> Result<(), Fail> {
-    let mut world = World::new(rt.alloc(), 64, 1).map_err(|_| std::alloc::AllocError)?;
+    let mut world = World::new(rt.alloc(), 64, 1)?;
     let device = 1;
     let events = [
         Event::AttachFirst { device },
