@@ -31,7 +31,7 @@ pub record IsMember (words : List ℕ) (named : Option ℕ) (frame : ℕ) : Type
   pub other : named ≢ Some frame
   pub inside : has words frame ≡ true
 
--- no frame below the limit is
+-- no frame below the limit is a member besides the named one
 abbrev pub NoneIsMember : List ℕ → Option ℕ → ℕ → Type 0
 NoneIsMember words named limit = (frame : ℕ) → frame < limit → ¬ IsMember words named frame
 

@@ -8,7 +8,7 @@ use Rattle.iom_ledger.specs.Shown.{held_in, released_in, pending_in, is_pooled}
 abbrev pub SamePool : Ledger → Ledger → Type 0
 SamePool old new = (f : ℕ) → is_pooled new f ≡ is_pooled old f
 
--- the same is held, lingers and waits
+-- the same is held, lingers and is pending
 pub record ShowsSame (old new : Ledger) : Type 0 where
   pub held : (d a : ℕ) → held_in new d a ≡ held_in old d a
   pub lingering : (d a : ℕ) → released_in new d a ≡ released_in old d a
@@ -33,7 +33,7 @@ abbrev pub released_from : Option Pair → ℕ → Option (ℕ × Pair) → Opti
 released_from None ticket lingered = lingered
 released_from (Some pair) ticket lingered = Some (ticket, pair)
 
--- what was held at the page of the device lingers under the ticket, which waits, and nothing else changes
+-- what was held at the page of the device lingers under the ticket, which is pending, and nothing else changes
 pub record Releases (old new : Ledger) (device page ticket : ℕ) : Type 0 where
   pub held : (d a : ℕ) → held_in new d a ≡ (if (device == d) && (page == a) then None else held_in old d a)
   pub lingering : (d a : ℕ) → released_in new d a
@@ -41,7 +41,7 @@ pub record Releases (old new : Ledger) (device page ticket : ℕ) : Type 0 where
   pub pending : pending_in new ≡ pending_in old ++ ticket ∷ []
   pub pool : SamePool old new
 
--- all that the device held lingers under the ticket, which waits, and nothing else changes
+-- all that the device held lingers under the ticket, which is pending, and nothing else changes
 pub record ReleasesAll (old new : Ledger) (device ticket : ℕ) : Type 0 where
   pub held : (d a : ℕ) → held_in new d a ≡ (if device == d then None else held_in old d a)
   pub lingering : (d a : ℕ) → released_in new d a
@@ -54,7 +54,7 @@ abbrev pub unless_under : ℕ → Option (ℕ × Pair) → Option (ℕ × Pair)
 unless_under ticket None = None
 unless_under ticket (Some released) = if ticket == released.0 then None else Some released
 
--- what lingered under the ticket is gone, the ticket waits no more, and nothing else changes
+-- what lingered under the ticket is gone, the ticket is pending no more, and nothing else changes
 pub record Confirms (old new : Ledger) (ticket : ℕ) : Type 0 where
   pub held : (d a : ℕ) → held_in new d a ≡ held_in old d a
   pub lingering : (d a : ℕ) → released_in new d a ≡ unless_under ticket (released_in old d a)

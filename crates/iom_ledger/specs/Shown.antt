@@ -1,9 +1,8 @@
 -- What a ledger shows, and when that is what a history says.
-use Rattle.std.specs.Prelude.{◌≡◌, ◌≢◌, ℕ, ◌⊎◌, ◌<◌, Bool, true, List, Option, Some, map}
+use Rattle.std.specs.Prelude.{◌≡◌, ◌≢◌, ℕ, ◌<◌, Bool, true, List, Option, Some, map}
 use Rattle.std.specs.Option.{option_map, option_to_list}
 use Rattle.iom_frame_set.specs.Sets.{has}
 use Rattle.iom_base.specs.declared.rights.Rights.{Rights}
-use Rattle.iom_base.specs.Rights.{r, rw}
 use Rattle.iom_ledger.specs.declared.ledger.Ledger.{Ledger}
 use Rattle.iom_ledger.specs.History.{History, Pair, held_at, lingering_at}
 use Rattle.iom_ledger.specs.Pending.{pending_of}
@@ -50,16 +49,12 @@ pub record IsOffered (ledger : Ledger) (named : Option ℕ) (frame : ℕ) : Type
   pub pooled : is_pooled ledger frame ≡ true
   pub ungranted : IsFreeIn ledger frame
 
--- no frame below the limit is
+-- no frame below the limit is offered
 abbrev pub NoneIsOffered : Ledger → Option ℕ → ℕ → Type 0
 NoneIsOffered ledger named limit = (frame : ℕ) → frame < limit → ¬ IsOffered ledger named frame
 
--- this frame is, below the limit, and none above it
+-- this frame below the limit is offered, and none above it is
 pub record IsHighestOffered (ledger : Ledger) (named : Option ℕ) (limit frame : ℕ) : Type 0 where
   pub below : frame < limit
   pub offered : IsOffered ledger named frame
   pub highest : (higher : ℕ) → frame < higher → higher < limit → ¬ IsOffered ledger named higher
-
--- the right is one of the two that are granted
-abbrev pub IsGrantable : Rights → Type 0
-IsGrantable rights = (rights ≡ r) ⊎ (rights ≡ rw)

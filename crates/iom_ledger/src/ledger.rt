@@ -15,7 +15,7 @@ use indexmap::IndexMap;
 use iom_base::{DeviceId, Rights};
 use std::alloc::{AllocError, Global};
 
-/// The most tickets that wait at a time.
+/// The most tickets that are pending at a time.
 pub const MAX_PENDING: usize = 256;
 
 /// The grants of all devices, and the tickets that aren't confirmed.
@@ -38,7 +38,8 @@ impl Ledger {
     ghost use Rattle.iom_ledger.specs.declared.entry.Entry.TheVariants.{Granted, Released, AllReleased, Confirmed};
     ghost use Rattle.iom_ledger.specs.History.{History, Pair, confirms, held_at, lingering_at, Holds, Lingers, IsFree};
     ghost use Rattle.iom_ledger.specs.Pending.{pending_of};
-    ghost use Rattle.iom_ledger.specs.Shown.{Agrees, IsFreeIn, IsGrantable, NoneIsOffered, IsHighestOffered};
+    ghost use Rattle.iom_ledger.specs.Shown.{Agrees, IsFreeIn, NoneIsOffered, IsHighestOffered};
+    ghost use Rattle.iom_base.specs.Rights.{IsGrantable};
     ghost use Rattle.iom_ledger.specs.Shown.{held_in, released_in, lingering_in, pending_in, is_pooled};
     ghost use Rattle.iom_ledger.specs.Changes.{IsUnchanged, Grants, Releases, ReleasesAll, Confirms, Reserves};
 
@@ -174,7 +175,7 @@ impl Ledger {
         note(&mut self.pending, release);
     }
 
-    /// Releases all that the device holds, under a ticket that isn't confirmed yet. The ticket waits
+    /// Releases all that the device holds, under a ticket that isn't confirmed yet. It is pending
     /// even where the device holds nothing. Takes no memory.
     pub fn release_all(&mut self, device: DeviceId, ticket: u32)
         requires { length (pending_in self.old) < MAX_PENDING }
@@ -190,7 +191,7 @@ impl Ledger {
         note(&mut self.pending, release);
     }
 
-    /// Forgets what was released under the ticket. Where nothing waits for it, nothing changes. Takes
+    /// Forgets what was released under the ticket. Where it isn't pending, nothing changes. Takes
     /// no memory.
     pub fn confirm(&mut self, ticket: u32)
         ensures agrees { (h : History) → Agrees self.old h → Agrees self.new (Confirmed ticket ∷ h) }

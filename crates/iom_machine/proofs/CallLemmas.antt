@@ -4,7 +4,7 @@ use Rattle.iom_base.specs.declared.rights.Rights.{Rights}
 use Rattle.iom_ledger.specs.declared.entry.Entry.TheVariants as entries
 use Rattle.iom_ledger.specs.declared.refusal.Refusal.{Refusal}
 use Rattle.iom_ledger.specs.History.{History}
-use Rattle.iom_ledger.specs.Shown.{IsGrantable}
+use Rattle.iom_base.specs.Rights.{IsGrantable}
 use Rattle.iom_machine.specs.declared.outcome.Outcome.TheVariants.{Done, Confirmed}
 use Rattle.iom_machine.specs.declared.state.Attachment.TheVariants.{Attached}
 use Rattle.iom_machine.specs.declared.state.Device.{Device}
@@ -16,7 +16,7 @@ use Rattle.iom_machine.specs.Frames.{IsFreeBesides, reserved_for}
 use Rattle.iom_machine.specs.Devices.{device_of, with_device, DeviceMay, EachInFlightMay}
 use Rattle.iom_machine.specs.Tickets.{AreNextTickets, confirmed_from, with_confirmed}
 use Rattle.iom_machine.specs.Refusals.{NoneApplies, attach_reasons, grant_reasons}
-use Rattle.iom_machine.specs.Judging.{IsPlaceOf}
+use Rattle.iom_machine.specs.Judging.{StandsAt}
 use Rattle.iom_machine.specs.Machine.{Attaches, Grants, Polls}
 use Rattle.iom_machine.proofs.FrameLemmas.{free_besides_none}
 use Rattle.iom_machine.proofs.StepLemmas.{only_state, some_state, no_state, own_place}
@@ -42,7 +42,7 @@ attached_state taken old id mode ats device =
     record (with_device old (record device { attachment = Attached mode ats })) { frames = reserved_for (OneDevice id) taken old.frames }
 
 pub attached_as : (taken : List ℕ) (old : State) (id : ℕ) (mode : Mode) (ats : Bool) (place : ℕ) (device : Device) (devices : List Device) (frames : List Frame)
-    → NoneApplies (attach_reasons old id ats) → All (IsFreeBesides old None) taken → IsPlaceOf old.devices id place → slice_get old.devices place ≡ Some device
+    → NoneApplies (attach_reasons old id ats) → All (IsFreeBesides old None) taken → StandsAt old.devices id place → slice_get old.devices place ≡ Some device
     → devices ≡ slice_set old.devices place (record device { attachment = Attached mode ats }) → frames ≡ reserved_for (OneDevice id) taken old.frames
     → (new : State) → (◌≡◌ {A = Option State} (Some (record { levels = old.levels; frames = frames; history = old.history; last_ticket = old.last_ticket; devices = devices })) (Some new)) ↔ Attaches taken old id mode ats Done new
 attached_as taken old id mode ats place device devices frames none free is_place at d f new =

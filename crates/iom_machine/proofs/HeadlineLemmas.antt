@@ -2,6 +2,7 @@
 use Rattle.std.proofs.Common.{◌≡◌, ◌≢◌, ℕ, suc, zero, ◌+◌, ◌<◌, ◌≤◌, ◌⊎◌, inl, inr, List, [], ◌∷◌, length, slice_range, Option, None, Some, slice_get, slice_set, refl, sym, ap, ◌∙◌, subst, arith}
 use Rattle.std.specs.Option.{option_map_or}
 use Rattle.std.proofs.lemmas.Bool.{cases_eq}
+use Rattle.iom_base.specs.Bytes.{with_bytes}
 use Rattle.iom_base.specs.declared.access.AccessKind.{AccessKind}
 use Rattle.iom_base.specs.declared.access.AccessKind.TheVariants as kinds
 use Rattle.iom_base.specs.declared.cause.Cause.{Cause}
@@ -23,12 +24,12 @@ use Rattle.iom_machine.specs.declared.state.Frame.{Frame}
 use Rattle.iom_machine.specs.declared.state.AcceptedAccess.{AcceptedAccess}
 use Rattle.iom_machine.specs.declared.state.Mode.TheVariants.{First, Second, Both}
 use Rattle.iom_machine.specs.declared.state.State.{State}
-use Rattle.iom_machine.specs.Frames.{bytes_of, stored, written}
+use Rattle.iom_machine.specs.Frames.{bytes_of, stored}
 use Rattle.iom_machine.specs.Devices.{device_of, IsPlugged, EachInFlightMay}
 use Rattle.iom_machine.specs.Tickets.{confirmed_from}
 use Rattle.iom_machine.specs.Requests.{offset_of, IsWithinPage, IsBusy, HoldsFor, MayAccept, MayFault, MayAnswer, state_after, with_accepted}
 use Rattle.iom_machine.specs.Machine.{Requests, Makes, Step, Run, with_oldest_made}
-use Rattle.iom_machine.specs.Headline.{IsReached, byte_at, IsOldest, IsOutside, AreNamedBytes, TouchesItsOwn, AsksFor, IsOneStage, GrantsFrame, NoneGrants, TouchesFrame}
+use Rattle.iom_machine.specs.Headline.{IsReached, byte_in, IsOldest, IsOutside, AreNamedBytes, TouchesItsOwn, AsksFor, IsOneStage, GrantsFrame, NoneGrants, TouchesFrame}
 use Rattle.iom_machine.proofs.ReachLemmas.{NamesFrame, reach_before}
 use Rattle.iom_machine.proofs.ByteLemmas.{slice_get-set_same, slice_get-set_other, slice_get-written_inside, slice_get-written_outside, slice_get-range, length-range}
 use Rattle.iom_machine.proofs.InFlightLemmas.{match_cases, some_case, All-at, AllInFlight-of, found_device}
@@ -68,17 +69,17 @@ frame_there state sound id made may =
 made_facts : (state : State) → IsSound state → (id : ℕ) (device : Device) (made : AcceptedAccess) → device_of state id ≡ Some device → slice_get device.in_flight 0 ≡ Some made
     → IsWhole id made × May state.history device.id made.frame made.access.kind
 made_facts state sound id device made at first = (
-  All-at (λ flying. IsWhole device.id flying) device.in_flight 0 made (AllInFlight-of IsWhole state.devices id device at sound.whole) first,
-  All-at (λ flying. May state.history device.id flying.frame flying.access.kind) device.in_flight 0 made
-      (AllInFlight-of (λ i flying. May state.history i flying.frame flying.access.kind) state.devices id device at sound.reaches) first,
+  All-at (λ flight. IsWhole device.id flight) device.in_flight 0 made (AllInFlight-of IsWhole state.devices id device at sound.whole) first,
+  All-at (λ flight. May state.history device.id flight.frame flight.access.kind) device.in_flight 0 made
+      (AllInFlight-of (λ i flight. May state.history i flight.frame flight.access.kind) state.devices id device at sound.reaches) first,
 )
 
 -- the bytes of a frame after a store into it
 bytes_stored : (frames : List Frame) (number : ℕ) (frame : Frame) (offset : ℕ) (bytes : List ℕ) → slice_get frames number ≡ Some frame
-    → bytes_of (stored frames number offset bytes) number ≡ written frame.bytes offset bytes
+    → bytes_of (stored frames number offset bytes) number ≡ with_bytes frame.bytes offset bytes
 bytes_stored frames number frame offset bytes at =
-    let new_frame : Frame = record frame { bytes = written frame.bytes offset bytes } in
-    ap (λ (found : Option Frame). bytes_of (option_map_or (λ (f : Frame). slice_set frames number (record f { bytes = written f.bytes offset bytes })) found frames) number) at
+    let new_frame : Frame = record frame { bytes = with_bytes frame.bytes offset bytes } in
+    ap (λ (found : Option Frame). bytes_of (option_map_or (λ (f : Frame). slice_set frames number (record f { bytes = with_bytes f.bytes offset bytes })) found frames) number) at
     ∙ bytes_there (slice_set frames number new_frame) number new_frame (slice_get-set_same frames number frame new_frame at)
 
 -- and of another
@@ -86,16 +87,16 @@ bytes_elsewhere : (frames : List Frame) (number other offset : ℕ) (bytes : Lis
     → bytes_of (stored frames number offset bytes) other ≡ bytes_of frames other
 bytes_elsewhere frames number other offset bytes differ = by (slice_get frames number)
   where
-    by : (found : Option Frame) → bytes_of (option_map_or (λ (f : Frame). slice_set frames number (record f { bytes = written f.bytes offset bytes })) found frames) other ≡ bytes_of frames other
+    by : (found : Option Frame) → bytes_of (option_map_or (λ (f : Frame). slice_set frames number (record f { bytes = with_bytes f.bytes offset bytes })) found frames) other ≡ bytes_of frames other
     by None = refl
     by (Some frame) = ap (λ (found : Option Frame). option_map_or (λ (f : Frame). f.bytes) found [])
-        (slice_get-set_other frames number other (record frame { bytes = written frame.bytes offset bytes }) differ)
+        (slice_get-set_other frames number other (record frame { bytes = with_bytes frame.bytes offset bytes }) differ)
 
 -- a store touches its named bytes alone
 stores_its_own : (frames : List Frame) (made : AcceptedAccess) (frame : Frame) → slice_get frames made.frame ≡ Some frame → length frame.bytes ≡ 4096 → IsWithinPage made.access
     → length made.access.bytes ≡ made.access.len
     → AreNamedBytes (stored frames made.frame (offset_of made.access) made.access.bytes) made made.access.bytes
-    × ((number offset : ℕ) → IsOutside made number offset → byte_at (stored frames made.frame (offset_of made.access) made.access.bytes) number offset ≡ byte_at frames number offset)
+    × ((number offset : ℕ) → IsOutside made number offset → byte_in (stored frames made.frame (offset_of made.access) made.access.bytes) number offset ≡ byte_in frames number offset)
 stores_its_own frames made frame at long within named = (
   (
     named,
@@ -108,26 +109,26 @@ stores_its_own frames made frame at long within named = (
     fits : offset_of made.access + length made.access.bytes ≤ length frame.bytes
     fits = subst (λ n. offset_of made.access + n ≤ length frame.bytes) (sym named) (subst (λ n. offset_of made.access + made.access.len ≤ n) (sym long) within.1)
 
-    other : (number offset : ℕ) → number ≢ made.frame → byte_at (stored frames made.frame (offset_of made.access) made.access.bytes) number offset ≡ byte_at frames number offset
+    other : (number offset : ℕ) → number ≢ made.frame → byte_in (stored frames made.frame (offset_of made.access) made.access.bytes) number offset ≡ byte_in frames number offset
     other number offset differ = ap (λ (l : List ℕ). slice_get l offset) (bytes_elsewhere frames made.frame number (offset_of made.access) made.access.bytes differ)
 
     span : (offset : ℕ) → (offset < offset_of made.access) ⊎ (offset_of made.access + made.access.len ≤ offset)
-        → slice_get (written frame.bytes (offset_of made.access) made.access.bytes) offset ≡ slice_get frame.bytes offset
+        → slice_get (with_bytes frame.bytes (offset_of made.access) made.access.bytes) offset ≡ slice_get frame.bytes offset
     span offset (inl below) = slice_get-written_outside frame.bytes (offset_of made.access) made.access.bytes offset fits (inl below)
     span offset (inr above) = slice_get-written_outside frame.bytes (offset_of made.access) made.access.bytes offset fits
         (inr (subst (λ n. offset_of made.access + n ≤ offset) (sym named) above))
 
     here : (offset : ℕ) → (offset < offset_of made.access) ⊎ (offset_of made.access + made.access.len ≤ offset)
-        → byte_at (stored frames made.frame (offset_of made.access) made.access.bytes) made.frame offset ≡ byte_at frames made.frame offset
+        → byte_in (stored frames made.frame (offset_of made.access) made.access.bytes) made.frame offset ≡ byte_in frames made.frame offset
     here offset out = ap (λ (l : List ℕ). slice_get l offset) (bytes_stored frames made.frame frame (offset_of made.access) made.access.bytes at)
         ∙ span offset out ∙ sym (ap (λ (l : List ℕ). slice_get l offset) (bytes_there frames made.frame frame at))
 
     by : (number offset : ℕ) → (number ≡ made.frame) ⊎ (number ≢ made.frame) → IsOutside made number offset
-        → byte_at (stored frames made.frame (offset_of made.access) made.access.bytes) number offset ≡ byte_at frames number offset
+        → byte_in (stored frames made.frame (offset_of made.access) made.access.bytes) number offset ≡ byte_in frames number offset
     by number offset (inr differ) out = other number offset differ
     by number offset (inl same) (inl differ) = other number offset differ
     by number offset (inl same) (inr out) =
-        subst (λ n. byte_at (stored frames made.frame (offset_of made.access) made.access.bytes) n offset ≡ byte_at frames n offset) (sym same) (here offset out)
+        subst (λ n. byte_in (stored frames made.frame (offset_of made.access) made.access.bytes) n offset ≡ byte_in frames n offset) (sym same) (here offset out)
 
 touches-makes : (old new : State) (id : ℕ) (outcome : Outcome) → IsSound old → (device : Device) → device_of old id ≡ Some device → Makes old device outcome new → TouchesItsOwn old id outcome new
 touches-makes old new id (Read bytes) sound device at makes =
@@ -157,7 +158,7 @@ touches-makes old new id (Wrote len) sound device at makes =
       subst (λ i. May old.history i made.frame kinds.Write) own found.2.0.1,
       found.2.0.2,
       subst (λ fs. AreNamedBytes fs made made.access.bytes) (sym frames_now) stores.0,
-      (λ frame offset out. ap (λ (fs : List Frame). byte_at fs frame offset) frames_now ∙ stores.1 frame offset out),
+      (λ frame offset out. ap (λ (fs : List Frame). byte_in fs frame offset) frames_now ∙ stores.1 frame offset out),
     )
 touches-makes old new id NothingInFlight sound device at makes = ap (λ (s : State). s.frames) makes.1
 touches-makes old new id _ sound device at makes = absurd makes
@@ -189,7 +190,7 @@ no_fault_where_held device state id access frame cause (ats, inl first) held may
 no_fault_where_held device state id access frame cause (ats, inr second) held may = (subst (λ a. MayFault a state id access cause) second may).0 frame held
 
 answered_where_held : (chosen : ℕ) (old new : State) (frame : ℕ) (device : Device) (access : Access) (outcome : Outcome)
-    → MayAnswer old device access chosen outcome → new ≡ state_after old device access chosen outcome → IsOneStage device → IsWithinPage access → ¬ IsBusy device
+    → MayAnswer old device access chosen outcome → new ≡ state_after old device access chosen outcome → IsOneStage device → IsWithinPage access → ¬ IsBusy device.in_flight
     → HoldsFor old.history device.id access frame
     → (outcome ≡ Accepted (device.accepted + 1)) × (new ≡ with_accepted old device access frame)
 answered_where_held chosen old new frame device access BadSpan answer next one within room held = absurd (answer within)
@@ -203,7 +204,7 @@ answered_where_held chosen old new frame device access (Accepted number) answer 
 answered_where_held chosen old new frame device access _ answer next one within room held = absurd answer
 
 asked_where_held : (chosen : ℕ) (old new : State) (id frame : ℕ) (device : Device) (access : Access) (outcome : Outcome)
-    → Requests chosen old id access outcome new → IsPlugged old id device → IsOneStage device → IsWithinPage access → ¬ IsBusy device
+    → Requests chosen old id access outcome new → IsPlugged old id device → IsOneStage device → IsWithinPage access → ¬ IsBusy device.in_flight
     → HoldsFor old.history id access frame
     → (outcome ≡ Accepted (device.accepted + 1)) × (new ≡ with_accepted old device access frame)
 asked_where_held chosen old new id frame device access outcome step there one within room held =
@@ -212,7 +213,7 @@ asked_where_held chosen old new id frame device access outcome step there one wi
     answered_where_held chosen old new frame device access outcome answer.0 answer.1 one within room (subst (λ i. HoldsFor old.history i access frame) (sym own) held)
 
 pub accepted_on_its_frame : (old new : State) (event : Event) (outcome : Outcome) (id frame : ℕ) (device : Device) (access : Access)
-    → Step old event outcome new → AsksFor event id access → IsPlugged old id device → IsOneStage device → IsWithinPage access → ¬ IsBusy device
+    → Step old event outcome new → AsksFor event id access → IsPlugged old id device → IsOneStage device → IsWithinPage access → ¬ IsBusy device.in_flight
     → HoldsFor old.history id access frame
     → (outcome ≡ Accepted (device.accepted + 1)) × (new ≡ with_accepted old device access frame)
 accepted_on_its_frame old new (events.Read d address len) outcome id frame device access (choice, step) (who, what) there one within room held =

@@ -46,7 +46,7 @@ AllInFlight P devices = All (λ device. All (P device.id) device.in_flight) devi
 
 -- the access may still reach its frame
 abbrev pub StillMay : History → ℕ → AcceptedAccess → Type 0
-StillMay history id flying = May history id flying.frame flying.access.kind
+StillMay history id flight = May history id flight.frame flight.access.kind
 
 -- the device that is found is there, with its id
 pub found_device : (devices : List Device) (id : ℕ) (device : Device) → find (λ d. d.id == id) devices ≡ Some device → Contains devices device × (device.id ≡ id)
@@ -76,7 +76,7 @@ pub AllInFlight-of : (P : ℕ → AcceptedAccess → Type 0) (devices : List Dev
 AllInFlight-of P devices id device at all = All-contains (λ (d : Device). All (P d.id) d.in_flight) devices device all (found_device devices id device at).0
 
 -- a weaker fact
-pub AllInFlight-weaker : (P Q : ℕ → AcceptedAccess → Type 0) → ((id : ℕ) (flying : AcceptedAccess) → P id flying → Q id flying) → (devices : List Device) → AllInFlight P devices → AllInFlight Q devices
+pub AllInFlight-weaker : (P Q : ℕ → AcceptedAccess → Type 0) → ((id : ℕ) (flight : AcceptedAccess) → P id flight → Q id flight) → (devices : List Device) → AllInFlight P devices → AllInFlight Q devices
 AllInFlight-weaker P Q says devices all =
     All-weaker (λ (d : Device). All (P d.id) d.in_flight) (λ (d : Device). All (Q d.id) d.in_flight) (λ d h. All-weaker (P d.id) (Q d.id) (says d.id) d.in_flight h) devices all
 
@@ -153,7 +153,7 @@ devices_stay P old new same all = subst (AllInFlight P) (sym same) all
 
 -- A step keeps each fact of each access in flight, where it is true of those that enter.
 pub in_flight-step : (P : ℕ → AcceptedAccess → Type 0) (old new : State) (event : Event) (outcome : Outcome) → Step old event outcome new
-    → ((id : ℕ) (flying : AcceptedAccess) → IsAccepted event outcome id flying.access → IsWithinPage flying.access → StillMay old.history id flying → P id flying)
+    → ((id : ℕ) (flight : AcceptedAccess) → IsAccepted event outcome id flight.access → IsWithinPage flight.access → StillMay old.history id flight → P id flight)
     → AllInFlight P old.devices → AllInFlight P new.devices
 in_flight-step P old new (events.PlugRaw id) Done (choice, step) enters all =
     subst (λ (s : State). AllInFlight P s.devices) (sym step.1) (All-push (λ (d : Device). All (P d.id) d.in_flight) old.devices _ all (All-nil (P id)))

@@ -19,7 +19,7 @@ use Rattle.iom_machine.specs.Frames.{FewerThan}
 use Rattle.iom_ledger.specs.declared.entry.Entry.{Entry}
 use Rattle.iom_ledger.specs.declared.entry.Entry.TheVariants.{Granted, Released, AllReleased, Confirmed}
 use Rattle.iom_ledger.specs.History.{History, Pair, is_about, granted_by, held_at, released_by, released_at, confirms, Holds, Lingers, May, IsFree, serves}
-use Rattle.iom_machine.specs.Judging.{holds_for, is_waiting, lingers_for, reaches_in, anyone_reaches_in}
+use Rattle.iom_machine.specs.Judging.{holds_for, still_serves, lingers_for, reaches_in, anyone_reaches_in}
 use Rattle.iom_machine.proofs.ReachLemmas.{cons_cases, contains_head, contains_tail, contains_from_filter, contains_filter, released_was_held}
 
 -- a test that some element passes, and the element
@@ -75,7 +75,7 @@ HoldsFor-test h id page kind frame (rights, holds, allowed) = rw holds (serving 
 
 pub LingersFor-from : (h : History) (id page : ℕ) (kind : AccessKind) (frame : ℕ) → lingers_for h h id page kind frame ≡ true → LingersFor h id page kind frame
 LingersFor-from h id page kind frame e =
-    let found = passing_element (is_waiting h frame kind) (released_at h id page) e in
+    let found = passing_element (still_serves h frame kind) (released_at h id page) e in
     let parts = and_parts (not (confirms h found.0.0)) (serves frame kind found.0.1) found.2 in
     let s = served frame kind found.0.1 parts.1 in (
       found.0.1.1,
@@ -90,7 +90,7 @@ LingersFor-from h id page kind frame e =
 pub LingersFor-test : (h : History) (id page : ℕ) (kind : AccessKind) (frame : ℕ) → LingersFor h id page kind frame → lingers_for h h id page kind frame ≡ true
 LingersFor-test h id page kind frame (rights, (ticket, c), allowed) =
     let kept = contains_from_filter (λ r. not (confirms h r.0)) (released_at h id page) (ticket, (frame, rights)) c in
-    some_passes (is_waiting h frame kind) (released_at h id page) (ticket, (frame, rights)) kept.0
+    some_passes (still_serves h frame kind) (released_at h id page) (ticket, (frame, rights)) kept.0
     (and_from (not (confirms h ticket)) (serves frame kind (frame, rights)) kept.1 (serving frame kind rights allowed))
 
 -- whether some entry grants the device something at the page

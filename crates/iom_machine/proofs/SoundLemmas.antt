@@ -6,6 +6,7 @@ use Rattle.std.proofs.lemmas.Grind.{common_steps}
 use Rattle.std.proofs.lemmas.List.{length-replicate}
 use Rattle.std.proofs.lemmas.List.Elements.{All-nil, All-set, All-replicate}
 use Rattle.std.specs.Option.{option_map_or}
+use Rattle.iom_base.specs.Bytes.{with_bytes}
 use Rattle.iom_base.specs.declared.access.AccessKind.{AccessKind}
 use Rattle.iom_base.specs.declared.access.AccessKind.TheVariants as kinds
 use Rattle.iom_base.specs.declared.rights.Rights.{Rights}
@@ -24,7 +25,7 @@ use Rattle.iom_machine.specs.declared.state.AcceptedAccess.{AcceptedAccess}
 use Rattle.iom_base.specs.declared.owner.Owner.{Owner}
 use Rattle.iom_base.specs.declared.owner.Owner.TheVariants.{System, OneDevice}
 use Rattle.iom_machine.specs.declared.state.State.{State}
-use Rattle.iom_machine.specs.Frames.{with_frame, reserved_for, stored, written}
+use Rattle.iom_machine.specs.Frames.{with_frame, reserved_for, stored}
 use Rattle.iom_machine.specs.Devices.{device_of, EachInFlightMay}
 use Rattle.iom_machine.specs.Tickets.{confirmed_from}
 use Rattle.iom_machine.specs.Refusals.{NoneApplies, first_that_applies, grant_reasons, is_held, is_lingering}
@@ -33,12 +34,12 @@ use Rattle.iom_machine.specs.Machine.{Requests, Makes, Commits, Step, Run}
 use Rattle.iom_machine.specs.PowerOn.{opening, empty_frame}
 use Rattle.iom_machine.specs.Headline.{GrantsFrame, AsksFor, IsAccepted, WasAccepted, IsReached, IsReachedBy}
 use Rattle.iom_machine.proofs.ReachLemmas.{NamesFrame, reach_before, reach_after_grant, reach_after_release}
-use Rattle.iom_machine.proofs.ByteLemmas.{length-written}
+use Rattle.iom_machine.proofs.ByteLemmas.{length-with_bytes}
 use Rattle.iom_machine.proofs.InFlightLemmas.{match_cases, some_case, All-at, AllInFlight, AllInFlight-of, AllInFlight-weaker, StillMay, in_flight-step}
 
 -- an access that stays within its page, and a write with as many bytes as it names
 abbrev pub IsWhole : ℕ → AcceptedAccess → Type 0
-IsWhole id flying = IsWithinPage flying.access × (flying.access.kind ≡ kinds.Write → length flying.access.bytes ≡ flying.access.len)
+IsWhole id flight = IsWithinPage flight.access × (flight.access.kind ≡ kinds.Write → length flight.access.bytes ≡ flight.access.len)
 
 -- the frames have a page of bytes each
 abbrev pub AreWholeFrames : List Frame → Type 0
@@ -200,11 +201,11 @@ reaches-change : (event : Event) (outcome : Outcome) (old new : State) → Chang
 reaches-change event outcome old new (Change.ledger_stays stays) given all = subst (λ h. AllInFlight (StillMay h) new.devices) (sym stays.0) all
 reaches-change event outcome old new (Change.grants id page frame rights granted low empty extended tickets) given all =
     subst (λ h. AllInFlight (StillMay h) new.devices) (sym extended)
-    (AllInFlight-weaker (StillMay old.history) _ (λ d flying may. reach_after_grant old.history id page frame rights empty d flying.frame flying.access.kind may) new.devices all)
+    (AllInFlight-weaker (StillMay old.history) _ (λ d flight may. reach_after_grant old.history id page frame rights empty d flight.frame flight.access.kind may) new.devices all)
 reaches-change event outcome old new (Change.releases id page extended next) given all =
     subst (λ h. AllInFlight (StillMay h) new.devices) (sym extended)
-    (AllInFlight-weaker (StillMay old.history) _ (λ d flying may. reach_after_release old.history id page new.last_ticket
-    (ap (confirms old.history) next ∙ fresh_ticket old.history old.last_ticket given) d flying.frame flying.access.kind may) new.devices all)
+    (AllInFlight-weaker (StillMay old.history) _ (λ d flight may. reach_after_release old.history id page new.last_ticket
+    (ap (confirms old.history) next ∙ fresh_ticket old.history old.last_ticket given) d flight.frame flight.access.kind may) new.devices all)
 reaches-change event outcome old new (Change.confirms_some first n most extended tickets reaches) given all = reaches
 
 -- confirmed tickets were given
@@ -268,7 +269,7 @@ kept-reserved : (P : List Frame → Type 0) → KeptByOwners P → (owner : Owne
 kept-reserved P owned owner [] frames its = its
 kept-reserved P owned owner (number ∷ numbers) frames its = kept-reserved P owned owner numbers _ (owned frames number owner its)
 
-frames-commits : (W : AcceptedAccess → Type 0) (P : List Frame → Type 0) → KeptByWrites W P → (old new : State) (id : ℕ) (outcome : Outcome) → AllInFlight (λ id flying. W flying) old.devices
+frames-commits : (W : AcceptedAccess → Type 0) (P : List Frame → Type 0) → KeptByWrites W P → (old new : State) (id : ℕ) (outcome : Outcome) → AllInFlight (λ id flight. W flight) old.devices
     → Commits old id outcome new → P old.frames → P new.frames
 frames-commits W P written old new id outcome all step its = elim (match_cases (device_of old id) _ _ step) [
   | inl (none, same) ↦ stay same.1
@@ -282,14 +283,14 @@ frames-commits W P written old new id outcome all step its = elim (match_cases (
     by device at (Read bytes) makes = let made = some_case (slice_get device.in_flight 0) _ makes in subst (λ (s : State). P s.frames) (sym made.2.1) its
     by device at (Wrote len) makes =
         let made = some_case (slice_get device.in_flight 0) _ makes in
-        let fact = All-at W device.in_flight 0 made.0 (AllInFlight-of (λ id flying. W flying) old.devices id device at all) made.1 in
+        let fact = All-at W device.in_flight 0 made.0 (AllInFlight-of (λ id flight. W flight) old.devices id device at all) made.1 in
         subst (λ (s : State). P s.frames) (sym made.2.1) (written old.frames made.0 fact made.2.0.0 its)
     by device at NothingInFlight makes = stay makes.1
     by device at _ makes = absurd makes
 
 -- A step keeps what reserving frames keeps, and making the writes in flight.
 pub frames-step : (W : AcceptedAccess → Type 0) (P : List Frame → Type 0) → KeptByOwners P → KeptByWrites W P
-    → (old new : State) (event : Event) (outcome : Outcome) → AllInFlight (λ id flying. W flying) old.devices → Step old event outcome new → P old.frames → P new.frames
+    → (old new : State) (event : Event) (outcome : Outcome) → AllInFlight (λ id flight. W flight) old.devices → Step old event outcome new → P old.frames → P new.frames
 frames-step W P owned written old new (events.PlugRaw id) Done all (choice, step) its = subst P (sym (ap (λ (s : State). s.frames) step.1)) its
 frames-step W P owned written old new (events.PlugRaw id) (Refused why) all (choice, step) its = subst P (sym (ap (λ (s : State). s.frames) step.1)) its
 frames-step W P owned written old new (events.PlugRaw id) _ all (choice, step) its = absurd step
@@ -317,8 +318,8 @@ frames-step W P owned written old new (events.Commit id) outcome all (choice, st
 -- a write within its page keeps the length of a frame
 whole-stored : KeptByWrites (IsWhole 0) AreWholeFrames
 whole-stored frames made whole write all = All-with_frame (λ (f : Frame). length f.bytes ≡ 4096) frames made.frame
-    (λ frame. record frame { bytes = written frame.bytes (offset_of made.access) made.access.bytes })
-    (λ frame long. length-written frame.bytes (offset_of made.access) made.access.bytes
+    (λ frame. record frame { bytes = with_bytes frame.bytes (offset_of made.access) made.access.bytes })
+    (λ frame long. length-with_bytes frame.bytes (offset_of made.access) made.access.bytes
     (subst (λ n. offset_of made.access + n ≤ length frame.bytes) (sym (whole.1 write)) (subst (λ n. offset_of made.access + made.access.len ≤ n) (sym long) whole.0.1)) ∙ long) all
 
 length-with_frame : (frames : List Frame) (number : ℕ) (change : Frame → Frame) → length (with_frame frames number change) ≡ length frames
@@ -340,9 +341,9 @@ all_so xs k d below = tt
 -- A step keeps the number of frames.
 pub same_size-step : (old new : State) (event : Event) (outcome : Outcome) → Step old event outcome new → length new.frames ≡ length old.frames
 same_size-step old new event outcome step =
-    frames-step (λ flying. Unit {0}) (λ frames. length frames ≡ length old.frames)
+    frames-step (λ flight. Unit {0}) (λ frames. length frames ≡ length old.frames)
     (λ frames number owner same. length-with_frame frames number (λ frame. record frame { owner = Some owner }) ∙ same)
-    (λ frames made fact write same. length-with_frame frames made.frame (λ frame. record frame { bytes = written frame.bytes (offset_of made.access) made.access.bytes }) ∙ same)
+    (λ frames made fact write same. length-with_frame frames made.frame (λ frame. record frame { bytes = with_bytes frame.bytes (offset_of made.access) made.access.bytes }) ∙ same)
     old new event outcome (λ k d below. all_so _) step refl
 
 -- an access that is asked for names as many bytes as it has
@@ -359,8 +360,8 @@ pub sound-step : (old new : State) (event : Event) (outcome : Outcome) → IsSou
 sound-step old new event outcome sound step =
     let change = change-step old new event outcome step in
     record {
-      reaches = reaches-change event outcome old new change sound.tickets (in_flight-step (StillMay old.history) old new event outcome step (λ id flying accepted within may. may) sound.reaches);
-      whole = in_flight-step IsWhole old new event outcome step (λ id flying accepted within may. (within, named_bytes event outcome id flying.access accepted)) sound.whole;
+      reaches = reaches-change event outcome old new change sound.tickets (in_flight-step (StillMay old.history) old new event outcome step (λ id flight accepted within may. may) sound.reaches);
+      whole = in_flight-step IsWhole old new event outcome step (λ id flight accepted within may. (within, named_bytes event outcome id flight.access accepted)) sound.whole;
       tickets = tickets-change event outcome old new change sound.tickets;
       frames = frames-step (IsWhole 0) AreWholeFrames
           (λ frames number owner all. All-with_frame (λ (f : Frame). length f.bytes ≡ 4096) frames number (λ frame. record frame { owner = Some owner }) (λ frame its. its) all)
@@ -395,29 +396,29 @@ sound_if_reached state (events, outcomes, (frames, levels, run)) = sound-run (op
 
 -- what is in flight was in flight before, or was accepted since
 accepted-run : (P : ℕ → AcceptedAccess → Type 0) (old new : State) (events : List Event) (outcomes : List Outcome) → Run old events outcomes new → AllInFlight P old.devices
-    → AllInFlight (λ id flying. P id flying ⊎ WasAccepted events outcomes id flying.access) new.devices
-accepted-run P old new [] [] run all = AllInFlight-weaker P (λ id flying. P id flying ⊎ ⊥) (λ id flying its. inl its) new.devices (subst (λ (s : State). AllInFlight P s.devices) (sym run) all)
+    → AllInFlight (λ id flight. P id flight ⊎ WasAccepted events outcomes id flight.access) new.devices
+accepted-run P old new [] [] run all = AllInFlight-weaker P (λ id flight. P id flight ⊎ ⊥) (λ id flight its. inl its) new.devices (subst (λ (s : State). AllInFlight P s.devices) (sym run) all)
 accepted-run P old new (event ∷ events) (outcome ∷ outcomes) (mid, step, run) all =
-    let entered = in_flight-step (λ id flying. P id flying ⊎ IsAccepted event outcome id flying.access) old mid event outcome step
-    (λ id flying accepted within may. inr accepted) (AllInFlight-weaker P (λ id flying. P id flying ⊎ IsAccepted event outcome id flying.access) (λ id flying its. inl its) old.devices all) in
-    AllInFlight-weaker (λ id flying. (P id flying ⊎ IsAccepted event outcome id flying.access) ⊎ WasAccepted events outcomes id flying.access)
-    (λ id flying. P id flying ⊎ WasAccepted (event ∷ events) (outcome ∷ outcomes) id flying.access) (λ id flying found. by id flying found) new.devices
-    (accepted-run (λ id flying. P id flying ⊎ IsAccepted event outcome id flying.access) mid new events outcomes run entered)
+    let entered = in_flight-step (λ id flight. P id flight ⊎ IsAccepted event outcome id flight.access) old mid event outcome step
+    (λ id flight accepted within may. inr accepted) (AllInFlight-weaker P (λ id flight. P id flight ⊎ IsAccepted event outcome id flight.access) (λ id flight its. inl its) old.devices all) in
+    AllInFlight-weaker (λ id flight. (P id flight ⊎ IsAccepted event outcome id flight.access) ⊎ WasAccepted events outcomes id flight.access)
+    (λ id flight. P id flight ⊎ WasAccepted (event ∷ events) (outcome ∷ outcomes) id flight.access) (λ id flight found. by id flight found) new.devices
+    (accepted-run (λ id flight. P id flight ⊎ IsAccepted event outcome id flight.access) mid new events outcomes run entered)
   where
-    by : (id : ℕ) (flying : AcceptedAccess) → (P id flying ⊎ IsAccepted event outcome id flying.access) ⊎ WasAccepted events outcomes id flying.access
-        → P id flying ⊎ WasAccepted (event ∷ events) (outcome ∷ outcomes) id flying.access
-    by id flying (inl (inl before)) = inl before
-    by id flying (inl (inr now)) = inr (inl now)
-    by id flying (inr later) = inr (inr later)
+    by : (id : ℕ) (flight : AcceptedAccess) → (P id flight ⊎ IsAccepted event outcome id flight.access) ⊎ WasAccepted events outcomes id flight.access
+        → P id flight ⊎ WasAccepted (event ∷ events) (outcome ∷ outcomes) id flight.access
+    by id flight (inl (inl before)) = inl before
+    by id flight (inl (inr now)) = inr (inl now)
+    by id flight (inr later) = inr (inr later)
 accepted-run P old new [] (outcome ∷ outcomes) run all = absurd run
 accepted-run P old new (event ∷ events) [] run all = absurd run
 
 pub in_flight_was_accepted : (state : State) (events : List Event) (outcomes : List Outcome) → IsReachedBy events outcomes state
-    → AllInFlight (λ id flying. WasAccepted events outcomes id flying.access) state.devices
+    → AllInFlight (λ id flight. WasAccepted events outcomes id flight.access) state.devices
 in_flight_was_accepted state events outcomes (frames, levels, run) =
-    AllInFlight-weaker (λ id flying. ⊥ ⊎ WasAccepted events outcomes id flying.access) (λ id flying. WasAccepted events outcomes id flying.access) (λ id flying found. by id flying found) state.devices
-    (accepted-run (λ id flying. ⊥) (opening frames levels) state events outcomes run (All-nil (λ (d : Device). All (λ flying. ⊥) d.in_flight)))
+    AllInFlight-weaker (λ id flight. ⊥ ⊎ WasAccepted events outcomes id flight.access) (λ id flight. WasAccepted events outcomes id flight.access) (λ id flight found. by id flight found) state.devices
+    (accepted-run (λ id flight. ⊥) (opening frames levels) state events outcomes run (All-nil (λ (d : Device). All (λ flight. ⊥) d.in_flight)))
   where
-    by : (id : ℕ) (flying : AcceptedAccess) → ⊥ ⊎ WasAccepted events outcomes id flying.access → WasAccepted events outcomes id flying.access
-    by id flying (inl never) = absurd never
-    by id flying (inr found) = found
+    by : (id : ℕ) (flight : AcceptedAccess) → ⊥ ⊎ WasAccepted events outcomes id flight.access → WasAccepted events outcomes id flight.access
+    by id flight (inl never) = absurd never
+    by id flight (inr found) = found

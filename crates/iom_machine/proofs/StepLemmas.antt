@@ -7,7 +7,7 @@ use Rattle.iom_machine.specs.declared.outcome.Outcome.TheVariants.{Refused}
 use Rattle.iom_machine.specs.declared.state.Device.{Device}
 use Rattle.iom_machine.specs.declared.state.State.{State}
 use Rattle.iom_machine.specs.Devices.{device_of}
-use Rattle.iom_machine.specs.Judging.{IsPlaceOf}
+use Rattle.iom_machine.specs.Judging.{StandsAt}
 use Rattle.iom_machine.specs.Machine.{Acts}
 use Rattle.iom_machine.proofs.InFlightLemmas.{found_device}
 
@@ -39,9 +39,9 @@ pub acts_absent : (next : Option State) (Q : Device → State → Type 0) (old :
 acts_absent next Q old id outcome absent decides new = rw absent (decides new)
 
 -- the device at the place of an id has that place itself
-pub own_place : (devices : List Device) (id place : ℕ) (device : Device) → IsPlaceOf devices id place → slice_get devices place ≡ Some device → IsPlaceOf devices device.id place
+pub own_place : (devices : List Device) (id place : ℕ) (device : Device) → StandsAt devices id place → slice_get devices place ≡ Some device → StandsAt devices device.id place
 own_place devices id place device is_place at =
-    let own = (found_device devices id device (is_place.1 ∙ at)).1 in subst (λ i. IsPlaceOf devices i place) (sym own) is_place
+    let own = (found_device devices id device (is_place.1 ∙ at)).1 in subst (λ i. StandsAt devices i place) (sym own) is_place
 
 -- the same, whatever memory did
 pub acts_if_ok : (result : Result (Option State) AllocError) (Q : Device → State → Type 0) (old : State) (id : ℕ) (outcome : Outcome) (device : Device) → device_of old id ≡ Some device

@@ -1,7 +1,8 @@
 -- Frames of memory: which are reserved, which are free, what they hold, and how they change.
-use Rattle.std.specs.Prelude.{◌≡◌, ◌≢◌, ℕ, ◌+◌, ◌<◌, Bool, false, List, [], ◌∷◌, ◌++◌, take, drop, length, All, Option, Some, MatchOption, is_some, slice_get, slice_set, nat_eq, ⊤}
+use Rattle.std.specs.Prelude.{◌≡◌, ◌≢◌, ℕ, ◌<◌, Bool, false, List, [], ◌∷◌, length, All, Option, Some, MatchOption, is_some, slice_get, slice_set, nat_eq, ⊤}
 use Rattle.std.specs.List.{IsDistinct}
 use Rattle.std.specs.Option.{option_map_or}
+use Rattle.iom_base.specs.Bytes.{with_bytes}
 use Rattle.iom_ledger.specs.History as ledger
 use Rattle.iom_base.specs.declared.owner.Owner.{Owner}
 use Rattle.iom_machine.specs.declared.state.Frame.{Frame}
@@ -39,11 +40,7 @@ reserved_for owner (number ∷ numbers) frames =
 abbrev pub bytes_of : List Frame → ℕ → List ℕ
 bytes_of frames number = option_map_or (λ frame. frame.bytes) (slice_get frames number) []
 
--- the bytes, where those from the offset on are replaced
-abbrev pub written : List ℕ → ℕ → List ℕ → List ℕ
-written bytes offset replacement = take offset bytes ++ replacement ++ drop (offset + length replacement) bytes
-
 -- the frames, where the bytes stand in this one from the offset on
 abbrev pub stored : List Frame → ℕ → ℕ → List ℕ → List Frame
 stored frames number offset bytes =
-    with_frame frames number (λ frame. record frame { bytes = written frame.bytes offset bytes })
+    with_frame frames number (λ frame. record frame { bytes = with_bytes frame.bytes offset bytes })

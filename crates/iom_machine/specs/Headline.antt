@@ -29,13 +29,13 @@ abbrev pub IsReached : State → Type 0
 IsReached state = (events : List Event) × (outcomes : List Outcome) × IsReachedBy events outcomes state
 
 -- the byte of a frame at an offset
-abbrev pub byte_at : List Frame → ℕ → ℕ → Option ℕ
-byte_at frames frame offset = slice_get (bytes_of frames frame) offset
+abbrev pub byte_in : List Frame → ℕ → ℕ → Option ℕ
+byte_in frames frame offset = slice_get (bytes_of frames frame) offset
 
 -- the access is the device's oldest in flight, which a commit makes
 abbrev pub IsOldest : State → ℕ → AcceptedAccess → Type 0
-IsOldest state id flying =
-    (device : Device) × IsPlugged state id device × (slice_get device.in_flight 0 ≡ Some flying)
+IsOldest state id flight =
+    (device : Device) × IsPlugged state id device × (slice_get device.in_flight 0 ≡ Some flight)
 
 -- the place is none of those that the access names
 abbrev pub IsOutside : AcceptedAccess → ℕ → ℕ → Type 0
@@ -46,7 +46,7 @@ IsOutside made frame offset =
 abbrev pub AreNamedBytes : List Frame → AcceptedAccess → List ℕ → Type 0
 AreNamedBytes frames made bytes =
     (length bytes ≡ made.access.len)
-    × ((k : ℕ) → k < made.access.len → slice_get bytes k ≡ byte_at frames made.frame (offset_of made.access + k))
+    × ((k : ℕ) → k < made.access.len → slice_get bytes k ≡ byte_in frames made.frame (offset_of made.access + k))
 
 -- A read that is made gives exactly its named bytes, and changes none; a write changes exactly its named bytes, to its own. Both of a frame that the
 -- device may reach then.
@@ -57,7 +57,7 @@ TouchesItsOwn old id (Read bytes) new =
 TouchesItsOwn old id (Wrote len) new =
     (made : AcceptedAccess) × IsOldest old id made × May old.history id made.frame kinds.Write
     × (len ≡ made.access.len) × AreNamedBytes new.frames made made.access.bytes
-    × ((frame offset : ℕ) → IsOutside made frame offset → byte_at new.frames frame offset ≡ byte_at old.frames frame offset)
+    × ((frame offset : ℕ) → IsOutside made frame offset → byte_in new.frames frame offset ≡ byte_in old.frames frame offset)
 TouchesItsOwn old id _ new = new.frames ≡ old.frames
 
 -- the event asks for this access of this device
@@ -107,7 +107,7 @@ abbrev pub HeldPageIsAccepted : State → Event → Outcome → State → Type 0
 HeldPageIsAccepted old event outcome new =
     (id frame : ℕ) (device : Device) (access : Access)
     → AsksFor event id access → IsPlugged old id device → device.kind ≡ Raw → IsOneStage device
-    → IsWithinPage access → ¬ IsBusy device → HoldsFor old.history id access frame
+    → IsWithinPage access → ¬ IsBusy device.in_flight → HoldsFor old.history id access frame
     → (outcome ≡ Accepted (device.accepted + 1)) × (new ≡ with_accepted old device access frame)
 
 -- No frame is touched that was free at the earlier state, and wasn't granted since.
@@ -141,7 +141,7 @@ AccessesInFlightMay = (state : State) → IsReached state → EachInFlightMay st
 abbrev pub AccessesInFlightWereAccepted : Type 0
 AccessesInFlightWereAccepted =
     (state : State) (events : List Event) (outcomes : List Outcome) → IsReachedBy events outcomes state
-    → All (λ device. All (λ flying. WasAccepted events outcomes device.id flying.access) device.in_flight) state.devices
+    → All (λ device. All (λ flight. WasAccepted events outcomes device.id flight.access) device.in_flight) state.devices
 
 -- A commit is always answered: what is in flight is made, and nothing is kept back.
 abbrev pub CommitsAreAnswered : Type 0

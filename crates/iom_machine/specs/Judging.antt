@@ -14,13 +14,13 @@ use Rattle.iom_machine.specs.Devices.{replaced_device}
 abbrev pub holds_for : History → ℕ → ℕ → AccessKind → ℕ → Bool
 holds_for history device page kind frame = option_map_or (serves frame kind) (held_at history device page) false
 
--- whether the released pair serves, and its ticket isn't confirmed
-abbrev pub is_waiting : History → ℕ → AccessKind → ℕ × Pair → Bool
-is_waiting history frame kind released = not (confirms history released.0) && serves frame kind released.1
+-- whether the released pair still serves: its ticket isn't confirmed
+abbrev pub still_serves : History → ℕ → AccessKind → ℕ × Pair → Bool
+still_serves history frame kind released = not (confirms history released.0) && serves frame kind released.1
 
 -- whether the frame lingers at the page by these entries of the whole history, with such a right
 abbrev pub lingers_for : History → History → ℕ → ℕ → AccessKind → ℕ → Bool
-lingers_for all history device page kind frame = list_any (is_waiting all frame kind) (released_at history device page)
+lingers_for all history device page kind frame = list_any (still_serves all frame kind) (released_at history device page)
 
 -- whether the device reaches the frame at one of the pages that these entries grant
 abbrev pub reaches_in : History → History → ℕ → ℕ → AccessKind → Bool
@@ -40,8 +40,8 @@ anyone_reaches_in all (AllReleased d ticket ∷ before) frame = anyone_reaches_i
 anyone_reaches_in all (Confirmed ticket ∷ before) frame = anyone_reaches_in all before frame
 
 -- the device with this id is the one at this place
-abbrev pub IsPlaceOf : List Device → ℕ → ℕ → Type 0
-IsPlaceOf devices id place =
+abbrev pub StandsAt : List Device → ℕ → ℕ → Type 0
+StandsAt devices id place =
     (place < length devices) × (find (λ device. device.id == id) devices ≡ slice_get devices place)
     × ((now : Device) → replaced_device devices id now ≡ slice_set devices place now)
 

@@ -5,7 +5,7 @@ use Rattle.iom_base.specs.declared.rights.Rights.{Rights}
 use Rattle.iom_ledger.specs.declared.entry.Entry.TheVariants as entry
 use Rattle.iom_ledger.specs.declared.refusal.Refusal.TheVariants.{NoSuchDevice}
 use Rattle.iom_ledger.specs.History.{May}
-use Rattle.iom_ledger.specs.Shown.{IsGrantable}
+use Rattle.iom_base.specs.Rights.{IsGrantable}
 use Rattle.iom_machine.specs.declared.choice.Choice.{Choice}
 use Rattle.iom_machine.specs.declared.event.Event.{Event}
 use Rattle.iom_machine.specs.declared.event.Event.TheVariants as events
@@ -83,7 +83,7 @@ abbrev pub Fetches : State → Outcome → State → Type 0
 Fetches old (Fetched result) new = new ≡ old
 Fetches old _ new = ⊥
 
--- Some of the oldest tickets that wait are confirmed, such that each access in flight may still reach its frame; or none is.
+-- Some of the oldest pending tickets are confirmed, such that each access in flight may still reach its frame; or none is.
 abbrev pub Polls : State → Outcome → State → Type 0
 Polls old (Confirmed first last) new =
     AreNextTickets old first last × (new ≡ with_confirmed old first last) × EachInFlightMay new

@@ -40,9 +40,9 @@ offset_of access = access.address % 4096
 abbrev pub IsWithinPage : Access → Type 0
 IsWithinPage access = FitsInPage access.address access.len
 
--- the device may have no more accesses in flight
-abbrev pub IsBusy : Device → Type 0
-IsBusy device = 8 ≤ length device.in_flight
+-- a device with these accesses in flight may have no more
+abbrev pub IsBusy : {X : Type 0} → List X → Type 0
+IsBusy in_flight = 8 ≤ length in_flight
 
 -- the device holds the frame where the access is to, with a right that allows it
 abbrev pub HoldsFor : History → ℕ → Access → ℕ → Type 0
@@ -89,18 +89,18 @@ MayFault (Attached Both ats) state id access cause = ⊥
 MayFault (Quarantined ticket mode ats) state id access cause = ⊥
 MayFault (Leaving ticket mode ats) state id access cause = ⊥
 
--- the request comes before the IOMMU: it stays within its page, and the device isn't busy
-abbrev pub IsForwarded : Device → Access → Type 0
-IsForwarded device access = IsWithinPage access × (¬ IsBusy device)
+-- the request comes before the IOMMU: it stays within its page, and the device, with these in flight, isn't busy
+abbrev pub IsForwarded : {X : Type 0} → List X → ℕ → ℕ → Type 0
+IsForwarded in_flight address len = FitsInPage address len × (¬ IsBusy in_flight)
 
 -- what a plugged device's request may be answered, on which frame
 abbrev pub MayAnswer : State → Device → Access → ℕ → Outcome → Type 0
 MayAnswer state device access frame BadSpan = ¬ IsWithinPage access
-MayAnswer state device access frame Busy = IsWithinPage access × IsBusy device
+MayAnswer state device access frame Busy = IsWithinPage access × IsBusy device.in_flight
 MayAnswer state device access frame (Accepted number) =
-    IsForwarded device access × MayAccept device.attachment state device.id access frame × (number ≡ device.accepted + 1)
+    IsForwarded device.in_flight access.address access.len × MayAccept device.attachment state device.id access frame × (number ≡ device.accepted + 1)
 MayAnswer state device access frame (Fault cause) =
-    IsForwarded device access × MayFault device.attachment state device.id access cause
+    IsForwarded device.in_flight access.address access.len × MayFault device.attachment state device.id access cause
 MayAnswer state device access frame _ = ⊥
 
 -- the state, where one more access of the device is in flight

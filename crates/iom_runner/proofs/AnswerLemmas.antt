@@ -94,7 +94,7 @@ same_right : (frame other : ℕ) (rights others : Rights) → ◌≡◌ {A = Opt
 same_right frame other rights others same = ap (λ (o : Option Pair). (unwrap_or o (frame, rights)).1) same
 
 -- what is held is accepted where its right allows the access, and else nothing allows it
-held_reply : (state : State) (device : Device) (access : Access) → IsForwarded device access
+held_reply : (state : State) (device : Device) (access : Access) → IsForwarded device.in_flight access.address access.len
     → ((frame : ℕ) → HoldsFor state.history device.id access frame → HasReply state device access)
     → (HoldsNoneFor state.history device.id access → HasReply state device access) → HasReply state device access
 held_reply state device access forwarded accepts faults = held (held_at state.history device.id (page_of access)) refl
@@ -113,7 +113,7 @@ held_reply state device access forwarded accepts faults = held (held_at state.hi
 abbrev cause_unattached : State → ℕ → Cause
 cause_unattached state id = if is_too_wide state id then TransactionTypeDisallowed else DirectoryEntryNotValid
 
-forwarded_reply : (state : State) (device : Device) (access : Access) → IsForwarded device access → (attachment : Attachment) → device.attachment ≡ attachment → IsFirstOrNone attachment
+forwarded_reply : (state : State) (device : Device) (access : Access) → IsForwarded device.in_flight access.address access.len → (attachment : Attachment) → device.attachment ≡ attachment → IsFirstOrNone attachment
     → HasReply state device access
 forwarded_reply state device access forwarded Detached is usual =
     (0, Fault (cause_unattached state device.id), (forwarded, subst (λ a. MayFault a state device.id access (cause_unattached state device.id)) (sym is) refl))

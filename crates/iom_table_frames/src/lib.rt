@@ -12,6 +12,3 @@
 mod table_frames;
 
 pub use table_frames::TableFrames;
-
-#[cfg(test)]
-mod tests;

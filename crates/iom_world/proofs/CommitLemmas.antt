@@ -1,6 +1,7 @@
 -- The oldest access of a device is made: on a frame that the device may reach, and that holds no table.
 use Rattle.std.proofs.Common.{suc, ◌≡◌, ◌≢◌, ◌+◌, ◌/◌, ◌%◌, ◌<◌, ◌≤◌, inl, inr, ◌∙◌, ◌==◌, nat_lt, ℕ, true, false, List, [], ◌∷◌, drop, length, map, Option, Some, None, is_some, option_map, IsSomeAnd, slice_get, slice_set, slice_range, refl, sym, ap, subst}
 use Rattle.std.specs.Option.{option_map_or}
+use Rattle.iom_base.specs.Bytes.{with_bytes}
 use Rattle.arrayvec.specs.ArrayVec.{ArrayVec}
 use Rattle.std.proofs.lemmas.Bool.{or_cases, and_parts, eqb-true, false≢true}
 use Rattle.std.proofs.lemmas.Bool.Decides.{eqb_tells}
@@ -21,7 +22,7 @@ use Rattle.iom_machine.specs.declared.state.Frame.{Frame}
 use Rattle.iom_machine.specs.declared.state.AcceptedAccess.{AcceptedAccess}
 use Rattle.iom_machine.specs.declared.state.State.{State}
 use Rattle.iom_machine.specs.Devices.{with_device}
-use Rattle.iom_machine.specs.Frames.{bytes_of, stored, written}
+use Rattle.iom_machine.specs.Frames.{bytes_of, stored}
 use Rattle.iom_machine.specs.Machine.{Commits, Makes, with_oldest_made}
 use Rattle.iom_base.specs.declared.owner.Owner.{Owner}
 use Rattle.iom_base.specs.declared.owner.Owner.TheVariants.{OneDevice}
@@ -169,7 +170,7 @@ frame_by_bytes (Some frame) bytes is = (frame, refl, (let same : frame.bytes ≡
 
 -- the frame, where the bytes stand from the offset on
 abbrev rewritten : Frame → ℕ → List ℕ → Frame
-rewritten frame offset bytes = record frame { bytes = written frame.bytes offset bytes }
+rewritten frame offset bytes = record frame { bytes = with_bytes frame.bytes offset bytes }
 
 -- a frame that is somebody's isn't the one that is stored to, and keeps its bytes
 pub owned_stays : (memory : List (List ℕ)) (marks : List (Option Owner)) (n frame : ℕ) (bytes : List ℕ) (owner : Owner)
@@ -185,22 +186,22 @@ owned_stays memory marks n frame bytes owner free at = elim (eqb_tells frame n) 
 -- the machine's frames show the memory where bytes are stored
 pub frames_stored : (memory : List (List ℕ)) (marks : List (Option Owner)) (frames : List Frame) (n offset : ℕ) (bytes replacement : List ℕ)
     → ShowsFrames memory marks frames → slice_get marks n ≡ Some None → slice_get memory n ≡ Some bytes
-    → ShowsFrames (slice_set memory n (written bytes offset replacement)) marks (stored frames n offset replacement)
+    → ShowsFrames (slice_set memory n (with_bytes bytes offset replacement)) marks (stored frames n offset replacement)
 frames_stored memory marks frames n offset bytes replacement shows free there =
-    subst (λ (fs : List Frame). ShowsFrames (slice_set memory n (written bytes offset replacement)) marks fs) (sym stored_is) (record {
-      size = length-set frames n frame' ∙ shows.size ∙ sym (length-set memory n (written bytes offset replacement));
+    subst (λ (fs : List Frame). ShowsFrames (slice_set memory n (with_bytes bytes offset replacement)) marks fs) (sym stored_is) (record {
+      size = length-set frames n frame' ∙ shows.size ∙ sym (length-set memory n (with_bytes bytes offset replacement));
       owners = λ k. elim (eqb_tells k n) [
         | inl same ↦ subst (λ (j : ℕ). option_map (λ (f : Frame). f.owner) (slice_get (slice_set frames n frame') j) ≡ slice_get marks j) (sym same.1)
             (ap (option_map (λ (f : Frame). f.owner)) (get_set_same frames n frame' inside) ∙ sym (ap (option_map (λ (f : Frame). f.owner)) at.1) ∙ shows.owners n)
         | inr other ↦ ap (option_map (λ (f : Frame). f.owner)) (get_set_other frames n k frame' other.1) ∙ shows.owners k
       ];
       bytes = λ k unreserved. elim (eqb_tells k n) [
-        | inl same ↦ subst (λ (j : ℕ). option_map (λ (f : Frame). f.bytes) (slice_get (slice_set frames n frame') j) ≡ slice_get (slice_set memory n (written bytes offset replacement)) j) (sym same.1)
+        | inl same ↦ subst (λ (j : ℕ). option_map (λ (f : Frame). f.bytes) (slice_get (slice_set frames n frame') j) ≡ slice_get (slice_set memory n (with_bytes bytes offset replacement)) j) (sym same.1)
             (ap (option_map (λ (f : Frame). f.bytes)) (get_set_same frames n frame' inside)
-            ∙ ap (λ (b : List ℕ). Some (written b offset replacement)) at.2
-            ∙ sym (get_set_same memory n (written bytes offset replacement) (get_within memory n bytes there)))
+            ∙ ap (λ (b : List ℕ). Some (with_bytes b offset replacement)) at.2
+            ∙ sym (get_set_same memory n (with_bytes bytes offset replacement) (get_within memory n bytes there)))
         | inr other ↦ ap (option_map (λ (f : Frame). f.bytes)) (get_set_other frames n k frame' other.1) ∙ shows.bytes k unreserved
-            ∙ sym (get_set_other memory n k (written bytes offset replacement) other.1)
+            ∙ sym (get_set_other memory n k (with_bytes bytes offset replacement) other.1)
       ];
     })
   where

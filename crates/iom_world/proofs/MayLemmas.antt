@@ -56,17 +56,17 @@ May-covered ledger h completed device flight agrees covered =
 
 -- so may each access in flight of a device, and of all devices, as the machine sees them
 flights_may : (ledger : Ledger) (h : History) (completed device : ℕ) (flights : List Flight) → Agrees ledger h → AllCovered ledger completed device flights
-    → All (λ (flying : AcceptedAccess). May h device flying.frame flying.access.kind) (map shown_flight flights)
-flights_may ledger h completed device [] agrees covered = All-nil (λ (flying : AcceptedAccess). May h device flying.frame flying.access.kind)
+    → All (λ (flight : AcceptedAccess). May h device flight.frame flight.access.kind) (map shown_flight flights)
+flights_may ledger h completed device [] agrees covered = All-nil (λ (flight : AcceptedAccess). May h device flight.frame flight.access.kind)
 flights_may ledger h completed device (flight ∷ later) agrees covered =
-    All-cons (λ (flying : AcceptedAccess). May h device flying.frame flying.access.kind) (shown_flight flight) (map shown_flight later)
+    All-cons (λ (flight : AcceptedAccess). May h device flight.frame flight.access.kind) (shown_flight flight) (map shown_flight later)
     (May-covered ledger h completed device flight agrees (covered 0 flight refl))
     (flights_may ledger h completed device later agrees (λ k f at. covered (suc k) f at))
 
 pub each_may : (ledger : Ledger) (h : History) (completed events : ℕ) (devices : List Device) → Agrees ledger h → AreSoundDevices ledger completed events devices
-    → All (λ (device : machine.Device). All (λ (flying : AcceptedAccess). May h device.id flying.frame flying.access.kind) device.in_flight) (shown_devices devices)
-each_may ledger h completed events [] agrees each = All-nil (λ (device : machine.Device). All (λ (flying : AcceptedAccess). May h device.id flying.frame flying.access.kind) device.in_flight)
+    → All (λ (device : machine.Device). All (λ (flight : AcceptedAccess). May h device.id flight.frame flight.access.kind) device.in_flight) (shown_devices devices)
+each_may ledger h completed events [] agrees each = All-nil (λ (device : machine.Device). All (λ (flight : AcceptedAccess). May h device.id flight.frame flight.access.kind) device.in_flight)
 each_may ledger h completed events (device ∷ others) agrees each =
-    All-cons (λ (device : machine.Device). All (λ (flying : AcceptedAccess). May h device.id flying.frame flying.access.kind) device.in_flight) (shown_device device) (shown_devices others)
+    All-cons (λ (device : machine.Device). All (λ (flight : AcceptedAccess). May h device.id flight.frame flight.access.kind) device.in_flight) (shown_device device) (shown_devices others)
     (flights_may ledger h completed device.id device.in_flight agrees (each 0 device refl).covered)
     (each_may ledger h completed events others agrees (λ k d at. each (suc k) d at))

@@ -21,7 +21,7 @@ use Rattle.iom_machine.specs.declared.state.Device as machine
 use Rattle.iom_machine.specs.declared.state.State.{State}
 use Rattle.iom_machine.specs.Devices.{with_device}
 use Rattle.iom_machine.specs.Machine.{Acts, Requests}
-use Rattle.iom_machine.specs.Requests.{MayAccept, MayFault, MayAnswer, state_after, with_accepted}
+use Rattle.iom_machine.specs.Requests.{IsBusy, IsForwarded, MayAccept, MayFault, MayAnswer, state_after, with_accepted}
 use Rattle.iom_machine.specs.Requests as requests
 use Rattle.iom_world.specs.declared.device.Device.{Device}
 use Rattle.iom_world.specs.Devices.{shown_flight, shown_device, shown_devices, shown_attachment}
@@ -33,7 +33,7 @@ use Rattle.iom_world.specs.Queue.{Queue}
 use Rattle.iom_world.specs.Sound.{IsSound}
 use Rattle.iom_world.specs.Tables.{HaveTables}
 use Rattle.iom_world.proofs.ReplaceLemmas.{IsStill, sound_changed, tables_changed, shown_changed}
-use Rattle.iom_world.specs.Replies.{IsBusy, IsForwarded, IsTranslated, IsFaulty, detached_cause}
+use Rattle.iom_world.specs.Replies.{IsTranslated, IsFaulty, detached_cause}
 use Rattle.iom_world.proofs.PlaceLemmas.{absent_shown, place_shown}
 use Rattle.iom_world.proofs.PlugLemmas.{get_pushed}
 
@@ -51,13 +51,13 @@ length-flights : (flights : List Flight) → length (map shown_flight flights) �
 length-flights [] = refl
 length-flights (flight ∷ later) = ap suc (length-flights later)
 
-pub busy_shown : (device : Device) → IsBusy device → requests.IsBusy (shown_device device)
+pub busy_shown : (device : Device) → IsBusy device.in_flight → IsBusy (shown_device device).in_flight
 busy_shown device busy = rw (length-flights device.in_flight) busy
 
-pub not_busy_shown : (device : Device) → (¬ IsBusy device) → ¬ requests.IsBusy (shown_device device)
+pub not_busy_shown : (device : Device) → (¬ IsBusy device.in_flight) → ¬ IsBusy (shown_device device).in_flight
 not_busy_shown device idle busy = idle (omega (arith, busy, length-flights device.in_flight))
 
-pub forwarded_shown : (device : Device) (access : Access) → IsForwarded device access.address access.len → requests.IsForwarded (shown_device device) access
+pub forwarded_shown : (device : Device) (access : Access) → IsForwarded device.in_flight access.address access.len → IsForwarded (shown_device device).in_flight access.address access.len
 forwarded_shown device access forwarded = (forwarded.0, not_busy_shown device forwarded.1)
 
 -- what the ledger shows as held is held by the history
@@ -123,10 +123,10 @@ pub faulty_by_root : (root : Option ℕ) (ledger : Ledger) (levels id address ta
 faulty_by_root root ledger levels id address table kind cause is faulty = rw is faulty
 
 -- fewer than eight accesses are in flight
-pub idle_by_count : (device : Device) (count : ℕ) → count ≡ length device.in_flight → count < 8 → ¬ IsBusy device
+pub idle_by_count : (device : Device) (count : ℕ) → count ≡ length device.in_flight → count < 8 → ¬ IsBusy device.in_flight
 idle_by_count device count is few busy = absurd (omega arith)
 
-pub room_by_idle : (device here : Device) → device ≡ here → (¬ IsBusy here) → length device.in_flight < 8
+pub room_by_idle : (device here : Device) → device ≡ here → (¬ IsBusy here.in_flight) → length device.in_flight < 8
 room_by_idle device here same idle = rw same (elim (cases_lt (length here.in_flight) 8) [ inl few ↦ few | inr busy ↦ absurd (idle busy) ])
 
 -- the device that has one more access in flight, among the others
@@ -149,7 +149,7 @@ tables_accepted memory marks ledger devices place device flight now tables at is
 
 -- the machine accepts it, and has it in flight
 pub requests_accepted : (state : State) (ledger : Ledger) (devices : List Device) (id place number : ℕ) (flight : Flight) (is : IsPlaceOf devices id place)
-    → Agrees ledger state.history → state.devices ≡ shown_devices devices → IsForwarded is.0 flight.address flight.len
+    → Agrees ledger state.history → state.devices ≡ shown_devices devices → IsForwarded is.0.in_flight flight.address flight.len
     → IsTranslated is.0.root ledger is.0.id flight.address flight.kind flight.frame → number ≡ is.0.accepted + 1
     → Requests flight.frame state id (shown_flight flight).access (Accepted number) (with_accepted state (shown_device is.0) (shown_flight flight).access flight.frame)
 requests_accepted state ledger devices id place number flight is agrees shown forwarded translated counted =
@@ -168,7 +168,7 @@ devices_accepted state devices id place flight now is shown same =
 
 -- what isn't accepted changes nothing
 pub requests_busy : (frame : ℕ) (state : State) (devices : List Device) (id place : ℕ) (access : Access) (is : IsPlaceOf devices id place) → state.devices ≡ shown_devices devices
-    → FitsInPage access.address access.len × IsBusy is.0 → Requests frame state id access Busy state
+    → FitsInPage access.address access.len × IsBusy is.0.in_flight → Requests frame state id access Busy state
 requests_busy frame state devices id place access is shown busy =
     acts_at (λ (device : machine.Device). MayAnswer state device access frame Busy × (state ≡ state_after state device access frame Busy)) state devices id place Busy state shown is ((busy.0, busy_shown is.0 busy.1), refl)
 
@@ -178,7 +178,7 @@ requests_bad_span frame state devices id place access is shown bad = acts_at (λ
 
 pub requests_fault : (frame : ℕ) (state : State) (ledger : Ledger) (levels : ℕ) (devices : List Device) (id place : ℕ) (access : Access) (cause : Cause) (is : IsPlaceOf devices id place)
     → Agrees ledger state.history → state.levels ≡ levels → state.devices ≡ shown_devices devices
-    → IsForwarded is.0 access.address access.len × IsFaulty is.0.root ledger levels is.0.id access.address access.kind cause → Requests frame state id access (Fault cause) state
+    → IsForwarded is.0.in_flight access.address access.len × IsFaulty is.0.root ledger levels is.0.id access.address access.kind cause → Requests frame state id access (Fault cause) state
 requests_fault frame state ledger levels devices id place access cause is agrees same shown faulty =
     acts_at (λ (device : machine.Device). MayAnswer state device access frame (Fault cause) × (state ≡ state_after state device access frame (Fault cause))) state devices id place (Fault cause) state shown is
     ((forwarded_shown is.0 access faulty.0, may_fault is.0.root state ledger levels is.0.id access cause agrees same faulty.1), refl)

@@ -22,5 +22,5 @@ outcome_of (Wrote count) = outcome.Wrote count
 outcome_of NothingInFlight = outcome.NothingInFlight
 
 -- a read was made, and gave these bytes
-abbrev pub GivesBytes : Outcome → List ℕ → Type 0
-GivesBytes told bytes = (held : ArrayVec ℕ) × (told ≡ outcome.Read held) × (held.items ≡ bytes)
+abbrev pub TellsBytes : Outcome → List ℕ → Type 0
+TellsBytes told bytes = (held : ArrayVec ℕ) × (told ≡ outcome.Read held) × (held.items ≡ bytes)

@@ -16,7 +16,7 @@ abbrev pub unless_among : ℕ → ℕ → Option (ℕ × Pair) → Option (ℕ �
 unless_among first n None = None
 unless_among first n (Some released) = if is_among first n released.0 then None else Some released
 
--- what lingered under one of the tickets is gone, they wait no more, and nothing else changes
+-- what lingered under one of the tickets is gone, they are pending no more, and nothing else changes
 pub record ConfirmsFrom (old new : Ledger) (first n : ℕ) : Type 0 where
   pub held : (d a : ℕ) → held_in new d a ≡ held_in old d a
   pub lingering : (d a : ℕ) → released_in new d a ≡ unless_among first n (released_in old d a)

@@ -1,5 +1,5 @@
 -- What the ledger machine sees of the world's devices.
-use Rattle.std.specs.Prelude.{ℕ, ◌==◌, false, List, map, position, Option, None, Some}
+use Rattle.std.specs.Prelude.{ℕ, false, List, map, Option, None, Some}
 use Rattle.iom_inflight.specs.Flights.{Flight}
 use Rattle.iom_machine.specs.declared.state.Attachment.{Attachment}
 use Rattle.iom_machine.specs.declared.state.Attachment.TheVariants.{Detached, Attached}
@@ -33,7 +33,3 @@ shown_device device = record {
 -- the devices, in the order of plugging
 abbrev pub shown_devices : List Device → List machine.Device
 shown_devices devices = map shown_device devices
-
--- where the device with this id is
-abbrev pub place_of : List Device → ℕ → Option ℕ
-place_of devices id = position (λ device. device.id == id) devices

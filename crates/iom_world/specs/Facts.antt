@@ -10,6 +10,7 @@ use Rattle.iom_ledger.specs.Shown.{held_in, lingering_in, released_in}
 use Rattle.iom_inflight.specs.Flights.{Flight}
 use Rattle.iom_base.specs.declared.owner.Owner.{Owner}
 use Rattle.iom_world.specs.declared.device.Device.{Device}
+use Rattle.iom_world.specs.Places.{IsAbsent}
 
 -- a pair that is granted at a page: the page is one that tables map, and the frame is of the memory and isn't reserved
 pub record IsGrant (marks : List (Option Owner)) (page frame : ℕ) : Type 0 where
@@ -60,4 +61,4 @@ HaveOwnIds devices =
 -- only plugged devices hold anything: what is held is held by a device that is there
 abbrev pub HoldersArePlugged : Ledger → List Device → Type 0
 HoldersArePlugged ledger devices =
-    (id page : ℕ) → ((k : ℕ) (device : Device) → slice_get devices k ≡ Some device → device.id ≡ id → ⊥) → held_in ledger id page ≡ None
+    (id page : ℕ) → IsAbsent devices id → held_in ledger id page ≡ None

@@ -1,4 +1,4 @@
--- The commands that wait, and the tickets that wait for their fences.
+-- The commands that wait, and the tickets, each pending until its fence is done.
 use Rattle.std.specs.Prelude.{◌≡◌, ℕ, ◌+◌, ◌<◌, Bool, true, false, List, [], ◌∷◌, ◌++◌}
 use Rattle.iom_machine.specs.declared.outcome.Fetched.{Fetched}
 use Rattle.iom_machine.specs.declared.outcome.Fetched.TheVariants.{Did, Waiting, Empty}

@@ -1,5 +1,5 @@
 -- What a device's request is answered, by what it has in flight, its root and the ledger.
-use Rattle.std.specs.Prelude.{◌≡◌, ℕ, ◌/◌, ◌≤◌, nat_le, length, Option, None, Some, if◌then◌else◌}
+use Rattle.std.specs.Prelude.{◌≡◌, ℕ, ◌/◌, nat_le, Option, None, Some, if◌then◌else◌}
 use Rattle.iom_base.specs.declared.access.AccessKind.{AccessKind}
 use Rattle.iom_base.specs.declared.cause.Cause.{Cause}
 use Rattle.iom_base.specs.declared.cause.Cause.TheVariants.{DirectoryEntryNotValid, TransactionTypeDisallowed}
@@ -7,18 +7,11 @@ use Rattle.iom_base.specs.Causes.{page_fault_of}
 use Rattle.iom_base.specs.Spans.{FitsInPage}
 use Rattle.iom_ledger.specs.declared.ledger.Ledger.{Ledger}
 use Rattle.iom_machine.specs.Refusals.{id_limit}
+use Rattle.iom_machine.specs.Requests.{IsBusy, IsForwarded}
 use Rattle.iom_world.specs.declared.device.Device.{Device}
 use Rattle.iom_world.specs.declared.requests.Reply.{Reply}
 use Rattle.iom_world.specs.declared.requests.Reply.TheVariants.{Accept, Busy, BadSpan, Fault}
 use Rattle.iom_world.specs.Held.{IsHeldFor, NoneIsHeldFor}
-
--- eight accesses of the device are in flight
-abbrev pub IsBusy : Device → Type 0
-IsBusy device = 8 ≤ length device.in_flight
-
--- the request comes before the IOMMU
-abbrev pub IsForwarded : Device → ℕ → ℕ → Type 0
-IsForwarded device address len = FitsInPage address len × (¬ IsBusy device)
 
 -- why a device that has no tables is refused: the device directory can't name its id, or has no valid entry for it
 abbrev pub detached_cause : ℕ → ℕ → Cause
@@ -37,8 +30,8 @@ IsFaulty (Some root) ledger levels id address kind cause = (cause ≡ page_fault
 -- what the device's request is answered: the first of a bad span, eight in flight, and what becomes of it at the IOMMU
 abbrev pub IsReply : Ledger → ℕ → Device → ℕ → ℕ → AccessKind → Reply → Type 0
 IsReply ledger levels device address len kind BadSpan = ¬ FitsInPage address len
-IsReply ledger levels device address len kind Busy = FitsInPage address len × IsBusy device
+IsReply ledger levels device address len kind Busy = FitsInPage address len × IsBusy device.in_flight
 IsReply ledger levels device address len kind (Accept frame) =
-    IsForwarded device address len × IsTranslated device.root ledger device.id address kind frame
+    IsForwarded device.in_flight address len × IsTranslated device.root ledger device.id address kind frame
 IsReply ledger levels device address len kind (Fault cause) =
-    IsForwarded device address len × IsFaulty device.root ledger levels device.id address kind cause
+    IsForwarded device.in_flight address len × IsFaulty device.root ledger levels device.id address kind cause

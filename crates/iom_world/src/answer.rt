@@ -1,6 +1,6 @@
 //! What the world's own calls answer.
 ghost use Rattle.std.specs.Prelude.{◌≡◌, ◌≤◌, length};
-ghost use Rattle.iom_world.specs.Answers.{outcome_of, GivesBytes};
+ghost use Rattle.iom_world.specs.Answers.{outcome_of, TellsBytes};
 
 use arrayvec::ArrayVec;
 use iom_base::Cause;
@@ -81,7 +81,7 @@ impl Answer {
 /// Makes the outcome in the place say that a read gave the bytes.
 pub(crate) fn tell_read(bytes: &[u8], place: &mut Outcome)
     requires { length bytes.now ≤ 4096 }
-    ensures { GivesBytes place.new bytes.now }
+    ensures { TellsBytes place.new bytes.now }
 {
     if let Outcome::Read(held) = place {
         held.clear();

@@ -1,18 +1,16 @@
-//! The commands that the driver has given and the IOMMU hasn't done, and the tickets that wait for
-//! their fences.
+//! The commands that the driver has given and the IOMMU hasn't done, and the tickets, each pending until
+//! its fence is done.
 ghost use Rattle.std.specs.Prelude.{◌≡◌, ℕ, ◌+◌, ◌-◌, ◌<◌, ◌≤◌, ◌^◌, ◌↔◌, [], ◌∷◌, ◌++◌, length, IfOk, IsTrue, true, false, Some, None, drop};
 ghost use Rattle.iom_world.specs.Queue.{Queue, no_commands, with_release, AfterFetch, IsPolled};
 
 use circular_buffer::HeapCircularBuffer;
+use iom_ledger::MAX_PENDING;
 use iom_machine::{CommandName, Fetched};
 use std::alloc::{AllocError, Global};
 use std::marker::Model;
 
 /// How many commands may wait: one less than the entries of a command queue of 256.
 const MAX_COMMANDS: usize = 255;
-
-/// How many tickets may wait.
-const MAX_PENDING: u32 = 256;
 
 /// A command of the driver (IOMMU specification, section 3.1).
 #[derive(Clone, Copy, PartialEq, Eq, Debug)]
@@ -62,11 +60,11 @@ impl Commands {
         })
     }
 
-    /// Whether 256 tickets wait.
+    /// Whether as many tickets are pending as may be.
     pub(crate) fn are_all_pending(&self) -> bool
         ensures { IsTrue result ↔ (256 ≤ self.now.given - self.now.confirmed) }
     {
-        self.given - self.confirmed >= MAX_PENDING
+        self.given - self.confirmed >= MAX_PENDING as u32
     }
 
     /// Whether there is no room for the two commands of a release.

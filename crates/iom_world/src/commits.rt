@@ -1,12 +1,12 @@
 // What becomes of an access in flight: it is made, on the frame that it was translated to.
 ghost use Rattle.std.specs.Prelude.{◌≡◌, ℕ, ◌+◌, ◌≤◌, List, length, drop, IsSomeAnd, Some, slice_get};
+ghost use Rattle.iom_base.specs.Bytes.{with_bytes};
 ghost use Rattle.iom_base.specs.declared.access.AccessKind.TheVariants.{Read, Write};
 ghost use Rattle.iom_inflight.specs.Flights.{OldestIsRead};
 ghost use Rattle.iom_machine.specs.declared.state.State.{State};
-ghost use Rattle.iom_machine.specs.Frames.{written};
 ghost use Rattle.iom_machine.specs.Machine.{Commits};
 ghost use Rattle.iom_world.specs.declared.device.Device.{Device};
-ghost use Rattle.iom_world.specs.Answers.{outcome_of, GivesBytes};
+ghost use Rattle.iom_world.specs.Answers.{outcome_of, TellsBytes};
 ghost use Rattle.iom_world.specs.declared.answer.Answer.TheVariants as answer;
 ghost use Rattle.iom_world.specs.Oldest.{OldestWritesSoMany, IsOldestAt};
 ghost use Rattle.iom_world.specs.Places.{IsPlaceOf};
@@ -35,7 +35,7 @@ impl Device {
     fn take_write(&mut self, frame: &mut [u8], offset: usize, len: usize)
         requires write { OldestWritesSoMany self.old.in_flight len }
         requires within { offset + len ≤ length frame.old }
-        ensures stored { IsSomeAnd (slice_get self.old.in_flight 0) (λ flight. frame.new ≡ written frame.old offset flight.bytes) }
+        ensures stored { IsSomeAnd (slice_get self.old.in_flight 0) (λ flight. frame.new ≡ with_bytes frame.old offset flight.bytes) }
         ensures after { self.new ≡ record self.old { in_flight = drop 1 self.old.in_flight } }
     {
         self.in_flight.take_write(&mut frame[offset..offset + len]);
@@ -48,7 +48,7 @@ impl World {
         requires { IsOldestAt self.old.devices.items place access Read }
         ensures step { (state : State) (id : ℕ) → Shows self.old state → IsPlaceOf self.old.devices.items id place → (next : State)
             × Commits state id told.new next × Shows self.new next }
-        ensures given { (bytes : List ℕ) × GivesBytes told.new bytes }
+        ensures given { (bytes : List ℕ) × TellsBytes told.new bytes }
         ensures commands { self.new.commands ≡ self.old.commands }
         ensures memory { self.new.memory ≡ self.old.memory }
         ensures marks { self.new.marks ≡ self.old.marks }

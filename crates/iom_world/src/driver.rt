@@ -5,7 +5,8 @@ ghost use Rattle.iom_ledger.specs.declared.refusal.Refusal.TheVariants.{NoFrames
 ghost use Rattle.iom_ledger.specs.declared.refusal.Refusal.TheVariants as refusal;
 ghost use Rattle.iom_ledger.specs.Changes.{ShowsSame};
 ghost use Rattle.iom_ledger.specs.History.{History};
-ghost use Rattle.iom_ledger.specs.Shown.{Agrees, IsGrantable};
+ghost use Rattle.iom_ledger.specs.Shown.{Agrees};
+ghost use Rattle.iom_base.specs.Rights.{IsGrantable};
 ghost use Rattle.iom_machine.specs.declared.outcome.Outcome.TheVariants as outcome;
 ghost use Rattle.iom_machine.specs.declared.state.State.{State};
 ghost use Rattle.iom_machine.specs.declared.state.Mode.TheVariants.{First};

@@ -1,6 +1,6 @@
 // The driver's calls.
 ghost use Rattle.std.specs.Prelude.{◌≡◌, ◌↔◌, ◌^◌, ◌≤◌, IfOk, IsTrue, Some, length};
-ghost use Rattle.iom_ledger.specs.Shown.{IsGrantable};
+ghost use Rattle.iom_base.specs.Rights.{IsGrantable};
 ghost use Rattle.iom_machine.specs.declared.state.State.{State};
 ghost use Rattle.iom_machine.specs.Refusals.{MayRefusePlug, MayRefuseAttach, MayRefuseGrant, MayRefuseRelease};
 ghost use Rattle.iom_machine.specs.Machine.{Plugs, Attaches, Grants, Releases, Fetches};

@@ -1,12 +1,13 @@
 // What a commit makes.
 ghost use Rattle.std.specs.Prelude.{◌≡◌, ◌↔◌, ◌<◌, [], IfOk, OnOk, IsTrue, IsSomeAnd, Some, take, drop, length, slice_get, slice_set};
 ghost use Rattle.std.specs.Option.{option_copied};
+ghost use Rattle.iom_base.specs.Bytes.{with_bytes};
 ghost use Rattle.iom_machine.specs.declared.state.Device.{Device};
 ghost use Rattle.iom_machine.specs.declared.state.AcceptedAccess.{AcceptedAccess};
 ghost use Rattle.iom_machine.specs.declared.state.State.{State};
-ghost use Rattle.iom_machine.specs.Frames.{bytes_of, written, stored};
+ghost use Rattle.iom_machine.specs.Frames.{bytes_of, stored};
 ghost use Rattle.iom_machine.specs.Requests.{offset_of};
-ghost use Rattle.iom_machine.specs.Judging.{IsPlaceOf};
+ghost use Rattle.iom_machine.specs.Judging.{StandsAt};
 ghost use Rattle.iom_machine.specs.Machine.{GivesBytes, MakesWrite, Makes, Commits};
 
 use crate::decide::devices::{drop_oldest, place_of, take_oldest};
@@ -64,7 +65,7 @@ fn with_bytes(
     offset: u64,
     replacement: &[u8],
 ) -> Result<Sequence<u8>, AllocError>
-    ensures { IfOk result (λ new. new ≡ written bytes.now offset replacement.now) }
+    ensures { IfOk result (λ new. new ≡ with_bytes bytes.now offset replacement.now) }
 {
     let mut items = Vec::new(alloc);
     items.extend_from_slice(first_bytes(bytes, offset))?;
@@ -196,7 +197,7 @@ fn judge_make(
     outcome: &Outcome,
 ) -> Result<Option<State>, AllocError>
     requires { place < length state.devices }
-    ensures { IfOk result (λ next. (device : Device) → slice_get state.devices place ≡ Some device → IsPlaceOf state.devices device.id place
+    ensures { IfOk result (λ next. (device : Device) → slice_get state.devices place ≡ Some device → StandsAt state.devices device.id place
         → (new : State) → (next ≡ Some new) ↔ Makes state device outcome.now new) }
 {
     let device = &state.devices.as_slice()[place];

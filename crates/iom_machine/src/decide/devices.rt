@@ -1,7 +1,7 @@
 // Where a device stands, and how it changes.
 ghost use Rattle.std.specs.Prelude.{◌≡◌, ◌<◌, ◌==◌, [], ◌∷◌, ◌++◌, length, find, slice_get, slice_set, MatchOption, OnOk, Some, None, drop};
 ghost use Rattle.std.specs.Option.{option_copied};
-ghost use Rattle.iom_machine.specs.Judging.{IsPlaceOf};
+ghost use Rattle.iom_machine.specs.Judging.{StandsAt};
 ghost use Rattle.iom_machine.specs.declared.state.Device.{Device};
 
 use crate::sequence::Sequence;
@@ -18,7 +18,7 @@ pub(crate) fn device_with(devices: &[Device], id: DeviceId) -> Option<&Device>
 
 /// The place of the device with this id.
 pub(crate) fn place_of(devices: &[Device], id: DeviceId) -> Option<usize>
-    ensures { MatchOption result (find (λ device. device.id == id) devices.now ≡ None) (IsPlaceOf devices.now id) }
+    ensures { MatchOption result (find (λ device. device.id == id) devices.now ≡ None) (StandsAt devices.now id) }
 {
     match devices {
         [] => None,

@@ -3,7 +3,7 @@ ghost use Rattle.std.specs.Prelude.{◌≡◌, ◌↔◌, IsTrue, ◌==◌, not,
 ghost use Rattle.std.specs.List.{list_any};
 ghost use Rattle.iom_ledger.specs.History.{is_about, granted_by, held_at, released_by, released_at, confirms, lingering_at, May, IsFree, serves};
 ghost use Rattle.iom_machine.specs.Tickets.{last_confirmed};
-ghost use Rattle.iom_machine.specs.Judging.{holds_for, is_waiting, lingers_for, reaches_in, anyone_reaches_in};
+ghost use Rattle.iom_machine.specs.Judging.{holds_for, still_serves, lingers_for, reaches_in, anyone_reaches_in};
 
 use iom_base::{AccessKind, DeviceId, Rights};
 use iom_ledger::Entry;
@@ -123,13 +123,13 @@ pub(crate) fn is_held_for(
 }
 
 /// Whether what the entry releases serves, and its ticket isn't confirmed by all of the history.
-pub(crate) fn waits(
+pub(crate) fn still_serves(
     all: &[Entry],
     released: &Option<(u32, Pair)>,
     frame: u64,
     kind: AccessKind,
 ) -> bool
-    ensures { result ≡ list_any (is_waiting all.now frame kind) (option_to_list released.now) }
+    ensures { result ≡ list_any (still_serves all.now frame kind) (option_to_list released.now) }
 {
     match released {
         None => false,
@@ -153,7 +153,7 @@ pub(crate) fn lingers_in(
         [entry, before @ ..] => {
             let held = pair_held(before, device, page);
             let here = entry_is_about(entry, &held, device, page)
-                && waits(all, &pair_released(entry, &held), frame, kind);
+                && still_serves(all, &pair_released(entry, &held), frame, kind);
             here || lingers_in(all, before, device, page, kind, frame)
         }
     }

@@ -15,12 +15,12 @@ use std::alloc::AllocError;
 
 /// Whether each of the accesses of the device may reach its frame.
 fn each_may(history: &[Entry], id: DeviceId, in_flight: &[AcceptedAccess]) -> bool
-    ensures { IsTrue result ↔ All (λ flying. May history.now id flying.frame flying.access.kind) in_flight.now }
+    ensures { IsTrue result ↔ All (λ flight. May history.now id flight.frame flight.access.kind) in_flight.now }
 {
     match in_flight {
         [] => true,
-        [flying, later @ ..] => {
-            if !may(history, id, u64::from(flying.frame), flying.access.kind) {
+        [flight, later @ ..] => {
+            if !may(history, id, u64::from(flight.frame), flight.access.kind) {
                 return false;
             }
             each_may(history, id, later)
@@ -56,7 +56,7 @@ fn confirm(history: &mut Sequence<Entry>, first: u32, last: u32) -> Result<(), A
     Ok(())
 }
 
-/// Whether these are the oldest tickets that wait, or some of them.
+/// Whether these are the oldest pending tickets, or the first few of them.
 fn are_next_tickets(state: &State, first: u32, last: u32) -> bool
     ensures { IsTrue result ↔ AreNextTickets state.now first last }
 {

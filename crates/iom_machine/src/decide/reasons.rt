@@ -88,7 +88,7 @@ fn first_id_above(levels: u8) -> u32
     }
 }
 
-/// How many tickets wait.
+/// How many tickets are pending.
 fn pending(state: &State) -> u32
     ensures { result ≡ pending_tickets state.now }
 {

@@ -7,7 +7,7 @@ ghost use Rattle.iom_machine.specs.declared.state.State.{State};
 ghost use Rattle.iom_machine.specs.Requests.{IsWithinPage, IsBusy, IsForwarded, HoldsFor, HoldsNoneFor, LingersFor, MayAccept};
 ghost use Rattle.iom_machine.specs.Requests.{MayFault, MayAcceptInOneStage, MayAnswer, state_after};
 ghost use Rattle.iom_machine.specs.Machine.{Requests};
-ghost use Rattle.iom_machine.specs.Judging.{IsPlaceOf};
+ghost use Rattle.iom_machine.specs.Judging.{StandsAt};
 
 use crate::decide::devices::{accept, place_of};
 use crate::decide::history::{is_held_for, lingers_in, pair_held};
@@ -25,14 +25,14 @@ fn is_within_page(access: &Access) -> bool
 }
 
 fn is_busy(device: &Device) -> bool
-    ensures { IsTrue result ↔ IsBusy device.now }
+    ensures { IsTrue result ↔ IsBusy device.now.in_flight }
 {
     device.in_flight.as_slice().len() >= 8
 }
 
 /// Whether the request comes before the IOMMU.
 fn is_forwarded(device: &Device, access: &Access) -> bool
-    ensures { IsTrue result ↔ IsForwarded device.now access.now }
+    ensures { IsTrue result ↔ IsForwarded device.now.in_flight access.now.address access.now.len }
 {
     if !is_within_page(access) {
         return false;
@@ -172,7 +172,7 @@ fn may_fault(
 }
 
 fn answers_busy(device: &Device, access: &Access) -> bool
-    ensures { IsTrue result ↔ (IsWithinPage access.now × IsBusy device.now) }
+    ensures { IsTrue result ↔ (IsWithinPage access.now × IsBusy device.now.in_flight) }
 {
     if !is_within_page(access) {
         return false;
@@ -181,7 +181,7 @@ fn answers_busy(device: &Device, access: &Access) -> bool
 }
 
 fn accepts(state: &State, device: &Device, access: &Access, frame: u32, number: u64) -> bool
-    ensures { IsTrue result ↔ (IsForwarded device.now access.now × MayAccept device.now.attachment state.now device.now.id access.now frame
+    ensures { IsTrue result ↔ (IsForwarded device.now.in_flight access.now.address access.now.len × MayAccept device.now.attachment state.now device.now.id access.now frame
         × (number ≡ device.now.accepted + 1)) }
 {
     if !is_forwarded(device, access) {
@@ -194,7 +194,7 @@ fn accepts(state: &State, device: &Device, access: &Access, frame: u32, number: 
 }
 
 fn faults(state: &State, device: &Device, access: &Access, cause: Cause) -> bool
-    ensures { IsTrue result ↔ (IsForwarded device.now access.now × MayFault device.now.attachment state.now device.now.id access.now cause) }
+    ensures { IsTrue result ↔ (IsForwarded device.now.in_flight access.now.address access.now.len × MayFault device.now.attachment state.now device.now.id access.now cause) }
 {
     if !is_forwarded(device, access) {
         return false;
@@ -230,7 +230,7 @@ fn after_answer(
     outcome: &Outcome,
 ) -> Result<State, AllocError>
     requires { place < length state.devices }
-    ensures { IfOk result (λ new. (device : Device) → IsPlaceOf state.devices device.id place → slice_get state.devices place ≡ Some device
+    ensures { IfOk result (λ new. (device : Device) → StandsAt state.devices device.id place → slice_get state.devices place ≡ Some device
         → MayAnswer state device access frame outcome.now → new ≡ state_after state device access frame outcome.now) }
 {
     let mut next = state;

@@ -1,7 +1,7 @@
 use Rattle.std.proofs.Common.{◌∙◌, ◌≡◌, ◌↔◌, Option, Some, slice_get}
 use Rattle.iom_machine.specs.declared.state.Device.{Device}
 use Rattle.iom_machine.specs.declared.state.State.{State}
-use Rattle.iom_machine.specs.Judging.{IsPlaceOf}
+use Rattle.iom_machine.specs.Judging.{StandsAt}
 use Rattle.iom_machine.specs.Machine.{Makes}
 use Rattle.iom_machine.proofs.HeadlineLemmas.{element_at}
 use Rattle.iom_machine.proofs.StepLemmas.{acts_if_ok, own_place, at_device}
@@ -12,5 +12,5 @@ returns-in-Some c =
     let place = rw c.as_slice.ensures at c.in-Some.ensures in
     let found = element_at c.args.state.devices c.in-Some.place place.0 in
     acts_if_ok c.judge_make.result (λ (d : Device) (new : State). Makes c.args.state d c.args.outcome.now new) c.args.state c.args.id c.args.outcome.now found.0 (place.1 ∙ found.1)
-    (at_device c.judge_make.result (λ (d : Device). slice_get c.args.state.devices c.in-Some.place ≡ Some d) (λ (d : Device). IsPlaceOf c.args.state.devices d.id c.in-Some.place)
+    (at_device c.judge_make.result (λ (d : Device). slice_get c.args.state.devices c.in-Some.place ≡ Some d) (λ (d : Device). StandsAt c.args.state.devices d.id c.in-Some.place)
     (λ (next : Option State) (d : Device). (new : State) → (next ≡ Some new) ↔ Makes c.args.state d c.args.outcome.now new) found.0 found.1 (own_place c.args.state.devices c.args.id c.in-Some.place found.0 place found.1) c.judge_make.ensures)

@@ -1,8 +1,9 @@
 use Rattle.std.proofs.Common.{◌≡◌, ℕ, ◌∙◌, ◌%◌, List, Some, slice_get, slice_set, Option, option_map, refl, sym, ap, subst, arith}
 use Rattle.std.specs.Borrow.{MutBor}
+use Rattle.iom_base.specs.Bytes.{with_bytes}
 use Rattle.iom_inflight.specs.declared.in_flight.Accepted.{Accepted}
 use Rattle.iom_inflight.specs.Flights.{Flight}
-use Rattle.iom_machine.specs.Frames.{stored, written}
+use Rattle.iom_machine.specs.Frames.{stored}
 use Rattle.iom_machine.specs.Machine.{with_oldest_made}
 use Rattle.iom_world.specs.declared.device.Device.{Device}
 use Rattle.iom_world.specs.Devices.{shown_device}
@@ -60,7 +61,7 @@ returns-clause-step c = λ state id shows is.
     let here = same_item world.devices.items c.args.place c.index_mut.result.now is.0 c.index_mut.ensures.value is.1 in
     let there = sym c.frame_mut.ensures.value ∙ ap (λ (o : Option (MutBor (List ℕ))). option_map (λ (f : MutBor (List ℕ)). f.now) o) c.unwrap-frame.ensures in
     let free = ap (λ (a : Accepted). slice_get world.marks a.frame) c.requires.4 ∙ made.free in
-    let stores = known_of_some (slice_get c.index_mut.result.now.in_flight 0) (λ (f : Flight). c.take_write.new.frame ≡ written c.unwrap-frame.result.now (access.address % 4096) f.bytes) flight
+    let stores = known_of_some (slice_get c.index_mut.result.now.in_flight 0) (λ (f : Flight). c.take_write.new.frame ≡ with_bytes c.unwrap-frame.result.now (access.address % 4096) f.bytes) flight
     (ap (λ (d : Device). slice_get d.in_flight 0) here ∙ oldest) c.take_write.ensures.stored in (
       record (with_oldest_made state (shown_device is.0)) { frames = stored state.frames flight.frame (flight.address % 4096) flight.bytes },
       commits_write state world.ledger world.memory world.marks world.devices.items world.commands world.events id c.args.place flight world.sound shows.ledger shows.frames shows.devices is oldest

@@ -45,7 +45,7 @@ returns-in-Some-clause-step c = λ state shows.
           omega (arith, shows.given, poll.given),
         ),
         refl,
-        subst (λ (devices : List machine.Device). All (λ (device : machine.Device). All (λ (flying : AcceptedAccess). May (confirmed_from first (suc (last - first)) state.history) device.id flying.frame flying.access.kind) device.in_flight) devices)
+        subst (λ (devices : List machine.Device). All (λ (device : machine.Device). All (λ (flight : AcceptedAccess). May (confirmed_from first (suc (last - first)) state.history) device.id flight.frame flight.access.kind) device.in_flight) devices)
             (sym shows.devices) (each_may c.confirm_tickets.new.ledger _ world.commands.completed world.events world.devices.items agrees each),
       ),
       record {
