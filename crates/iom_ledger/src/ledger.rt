@@ -159,7 +159,7 @@ impl Ledger {
     }
 
     /// Releases what the device holds at the page, under a ticket that isn't confirmed yet. Takes no
-    /// memory.
+    /// memory. That the device holds there is the caller's premise: what is ensured is proved without it.
     pub fn release(&mut self, device: DeviceId, page: u64, ticket: u32)
         requires held { IsSome (held_in self.old device page) }
         requires room { length (pending_in self.old) < MAX_PENDING }

@@ -1,11 +1,11 @@
 -- The loop that hangs the missing tables, step by step.
-use Rattle.std.proofs.Common.{◌≡◌, ◌≢◌, ◌+◌, ◌<◌, ◌≤◌, ◌++◌, ◌∙◌, inl, inr, ℕ, List, [], ◌∷◌, length, take, drop, get_or, slice_index, refl, sym, ap, subst, arith, append_assoc, add-one}
+use Rattle.std.proofs.Common.{◌≡◌, ◌≢◌, ◌+◌, ◌/◌, ◌<◌, ◌≤◌, ◌++◌, ◌∙◌, inl, inr, ℕ, List, [], ◌∷◌, length, take, drop, get_or, slice_index, refl, sym, ap, subst, arith, append_assoc, add-one}
 use Rattle.std.proofs.lemmas.Bool.Decides.{eqb_tells}
 use Rattle.iom_stage_walk.specs.Entries.{Entries, entries, slot}
 use Rattle.iom_stage_walk.specs.declared.entry.Entry.{Entry}
 use Rattle.iom_stage_walk.specs.declared.entry.Entry.TheVariants.{Outside, Faulty, Pointer, Leaf}
-use Rattle.iom_page_table.specs.Trees.{InShape, IsTableAt, IsSlotAt, IsUpper, IsTree, IsFrameOf}
-use Rattle.iom_page_table.specs.Building.{IsPage, lacking_here, lacking, IsFresh, Puts, Built}
+use Rattle.iom_page_table.specs.Trees.{InShape, IsTableAt, IsSlotAt, IsUpper, IsTree, IsFrameOf, IsFilledEntry}
+use Rattle.iom_page_table.specs.Building.{IsPage, lacking_here, lacking, IsFresh, Puts, PutsWord, Built, FillsPath}
 use Rattle.std.proofs.lemmas.List.{take_more, length-take-le, take-append-drop, take_all, drop_all}
 use Rattle.iom_stage_walk.proofs.Steps.{rest_is}
 use Rattle.iom_page_table.proofs.Prefixes.{table_append, shape_front}
@@ -23,11 +23,30 @@ built_start shape old root upper frames tree count fresh =
       grown = record { stays = λ p i k a. a; only = λ p i k a. inl a; all = λ n lt. absurd (omega arith) };
       same = λ is inside long. refl;
       others = λ f out. refl;
+      nowhere = λ s e. e;
+      bytes = λ a out. refl;
       size = refl;
     }
 
 lacking_at : (e : Entries) (t i : ℕ) (is : List ℕ) (x : Entry) → e (slot t i) ≡ x → lacking e t (i ∷ is) ≡ lacking_here x (length is + 1) (λ f. lacking e f is)
 lacking_at e t i is x at = ap (λ y. lacking_here y (length is + 1) (λ f. lacking e f is)) at
+
+-- an entry that was filled on a path is so on a longer one, along tables that stay
+pub filled_longer : (shape : List ℕ) (old mid new : Entries) (root : ℕ) (path more : List ℕ) (s : ℕ)
+    → ((p : List ℕ) (i k : ℕ) → IsSlotAt shape mid root p i k → IsSlotAt shape new root p i k)
+    → IsFilledEntry shape old mid root path s → IsFilledEntry shape old new root (path ++ more) s
+filled_longer shape old mid new root path more s stays x =
+    let on = x.0 in
+    ((on.0, on.1, on.2 ++ more, ap (λ l. l ++ more) on.3 ∙ append_assoc on.0 (on.1 ∷ on.2) more, stays on.0 on.1 s on.4), x.1)
+
+-- a store at the next index of the path fills an entry on it
+pub fills_next : (shape : List ℕ) (old mid new : List (List ℕ)) (root : ℕ) (path : List ℕ) (i s : ℕ) → FillsPath shape old mid root path
+    → ((p : List ℕ) (j k : ℕ) → IsSlotAt shape (entries mid) root p j k → IsSlotAt shape (entries new) root p j k)
+    → IsSlotAt shape (entries mid) root path i s → entries old s ≡ Faulty → PutsWord mid new s → FillsPath shape old new root (path ++ i ∷ [])
+fills_next shape old mid new root path i s fills stays at nowhere put =
+    λ a out.
+    put a (λ e. out ((path, i, [], refl, subst (λ n. IsSlotAt shape (entries new) root path i n) (sym e) (stays path i s at)), subst (λ n. entries old n ≡ Faulty) (sym e) nowhere))
+    ∙ fills a (λ x. out (filled_longer shape (entries old) (entries mid) (entries new) root path (i ∷ []) (a / 8) stays x))
 
 -- a pointer stands
 pub built_down : (shape : List ℕ) (old new : List (List ℕ)) (root : ℕ) (upper : List ℕ) (k table : ℕ) (frames : List ℕ) (used next : ℕ) → Built shape old new root upper k table frames used
@@ -41,6 +60,10 @@ built_down shape old new root upper k table frames used next b lt to =
       grown = b.grown;
       same = b.same;
       others = b.others;
+      nowhere = b.nowhere;
+      bytes = λ a out.
+          b.bytes a (λ x. out (subst (λ l. IsFilledEntry shape (entries old) (entries new) root l (a / 8)) (sym (take_more upper k 0 lt))
+          (filled_longer shape (entries old) (entries new) (entries new) root (take k upper) (get_or upper k 0 ∷ []) (a / 8) (λ p i n at. at) x)));
       size = b.size;
     }
 
@@ -118,8 +141,8 @@ frame_stays shape old new root f stays h = (h.0, h.1, h.2, stays h.0 h.1 h.2 h.3
 pub built_new : (shape : List ℕ) (old mid new : List (List ℕ)) (root : ℕ) (upper : List ℕ) (last k table : ℕ) (frames : List ℕ) (used : ℕ) → Built shape old mid root upper k table frames used → IsPage shape upper last
     → ((m n : ℕ) → m < n → n < length frames → slice_index frames n ≢ slice_index frames m)
     → k < length upper → entries mid (slot table (get_or upper k 0)) ≡ Faulty → Puts mid new (slot table (get_or upper k 0)) (Pointer (slice_index frames used))
-    → Built shape old new root upper (k + 1) (slice_index frames used) frames (used + 1)
-built_new shape old mid new root upper last k table frames used b page distinct lt nowhere put =
+    → PutsWord mid new (slot table (get_or upper k 0)) → Built shape old new root upper (k + 1) (slice_index frames used) frames (used + 1)
+built_new shape old mid new root upper last k table frames used b page distinct lt nowhere put word =
     let q = take k upper in
     let j = get_or upper k 0 in
     let s = slot table (get_or upper k 0) in
@@ -155,6 +178,12 @@ built_new shape old mid new root upper last k table frames used b page distinct 
       others = λ g out.
           put.others g (λ e. out (q, j, s, stays q j s h.at, e))
           ∙ b.others g (λ is. out (frame_stays shape (entries mid) (entries new) root g stays is));
+      nowhere = λ n e.
+          elim (eqb_tells n s) [
+            | inl here ↦ let no : ⊥ = cc (put.entry, e, here.1) in absurd no
+            | inr ne ↦ b.nowhere n (sym (put.elsewhere n ne.1) ∙ e)
+          ];
+      bytes = subst (λ l. FillsPath shape old new root l) (sym (take_more upper k 0 lt)) (fills_next shape old mid new root q j s b.bytes stays h.at (b.nowhere s nowhere) word);
       size = put.size ∙ b.size;
     }
 
@@ -172,5 +201,7 @@ built_all shape old new root upper k table frames used b le =
       grown = record { stays = b.grown.stays; only = b.grown.only; all = λ n lt. b.grown.all n (omega (arith, all)) };
       same = b.same;
       others = b.others;
+      nowhere = b.nowhere;
+      bytes = subst (λ l. FillsPath shape old new root l) (take_all k upper le ∙ sym (take_all (length upper) upper (omega arith))) b.bytes;
       size = b.size;
     }

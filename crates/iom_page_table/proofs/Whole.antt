@@ -5,19 +5,20 @@ use Rattle.iom_stage_walk.specs.Entries.{entries, slot}
 use Rattle.iom_stage_walk.specs.declared.entry.Entry.{Entry}
 use Rattle.iom_stage_walk.specs.declared.entry.Entry.TheVariants.{Outside, Faulty, Pointer, Leaf}
 use Rattle.iom_page_table.specs.Leaves.{leaf_here, leaf_under}
-use Rattle.iom_page_table.specs.Trees.{IsTableAt, IsLowest, IsTree, IsFrameOf, IsLastEntry}
-use Rattle.iom_page_table.specs.Building.{InFrames, Puts, Built}
+use Rattle.iom_page_table.specs.Trees.{IsTableAt, IsSlotAt, IsLowest, IsTree, IsFrameOf, IsLastEntry}
+use Rattle.iom_page_table.specs.Building.{InFrames, Puts, PutsWord, Built, FillsPath}
 use Rattle.iom_page_table.specs.declared.leaf.PageLeaf.{PageLeaf}
 use Rattle.std.specs.Prelude.{◌↔◌, ◌==◌, is_some, if◌then◌else◌}
 use Rattle.std.specs.List.{Contains}
-use Rattle.std.proofs.lemmas.List.{get_or_default}
+use Rattle.std.proofs.lemmas.List.{get_or_default, take_all}
 use Rattle.iom_stage_walk.specs.Paths.{path_of}
 use Rattle.iom_page_table.specs.Leaves.{leaf_of}
 use Rattle.iom_page_table.specs.Trees.{sv39}
 use Rattle.iom_page_table.proofs.Mapping.{Sets, sets, no_table, last_entry, is_last_entry, last_table, whole_table, lowest_inside}
+use Rattle.iom_page_table.proofs.Steps.{fills_next}
 use Rattle.iom_page_table.proofs.Words.{inside_of}
 use Rattle.iom_page_table.proofs.Prefixes.{leaf_below}
-use Rattle.iom_page_table.proofs.Pages.{is_page, leaves_after, translated_low, translated_leaf}
+use Rattle.iom_page_table.proofs.Pages.{is_page, path_shaped, leaves_after, translated_low, translated_leaf}
 
 -- a page's indices: those above the last level, and the last
 abbrev pub Splits : ℕ → List ℕ → Type 0
@@ -93,6 +94,15 @@ pub record Maps (old new : List (List ℕ)) (root page : ℕ) (leaf : PageLeaf) 
   pub leaves : (p : ℕ) → p < 2 ^ 52 → leaf_of 3 new root p ≡ (if p == page then Some leaf else leaf_of 3 old root p)
   pub others : (f : ℕ) → (IsFrameOf sv39 (entries new) root f → ⊥) → slice_get new f ≡ slice_get old f
 
+-- an entry at the last level that gives no leaf leads nowhere
+lowest_nowhere : (x : Entry) → IsLowest x → leaf_here x [] (λ next. None) ≡ None → x ≡ Faulty
+lowest_nowhere Outside low none = absurd low
+lowest_nowhere Faulty low none = refl
+lowest_nowhere (Pointer next) low none = absurd low
+lowest_nowhere (Leaf base rights) low none =
+    let some : is_some (leaf_here (Leaf base rights) [] (λ next. None)) ≡ true = mapped_here (Leaf base rights) base rights refl in
+    let no : ⊥ = cc (some, none) in absurd no
+
 in_frames : (frames : List ℕ) (f s : ℕ) → f ≡ s / 512 → InFrames frames s → Contains frames f
 in_frames frames f s e h =
     let at : s ≡ 512 * slice_index frames h.0 + h.1 = h.4 in
@@ -121,3 +131,23 @@ maps old mid new root page table upper frames leaf low b splits put =
       leaves = leaves_after old new root page (Some leaf) low (s.leaf ∙ leaf_one leaf) (λ is inside long ne. s.same is inside long ne ∙ b.same is inside long);
       others = λ f out. s.others f (λ h. out ((same f).1 h)) ∙ b.others f (λ h. out ((same f).1 h));
     }
+
+-- mapping a page fills entries on its path alone
+pub maps_bytes : (old mid new : List (List ℕ)) (root page table : ℕ) (upper frames : List ℕ) (leaf : PageLeaf) → page < 2 ^ 26 → Built sv39 old mid root upper (length upper) table frames (length frames) → Splits page upper
+    → leaf_of 3 old root page ≡ None → Puts mid new (slot table (page % 512)) (Leaf leaf.frame leaf.rights) → PutsWord mid new (slot table (page % 512)) → FillsPath sv39 old new root (path_of sv39 page)
+maps_bytes old mid new root page table upper frames leaf low b splits free put word =
+    let last = page % 512 in
+    let s = slot table last in
+    let at = whole_table sv39 old mid root upper table frames (length frames) b in
+    let set = sets_page mid new root page table upper (Leaf leaf.frame leaf.rights) b.tree splits at put tt in
+    let p = is_page page last upper splits in
+    let here : IsSlotAt sv39 (entries mid) root upper last s = (table, p.inside, at, refl) in
+    let before : leaf_of 3 mid root page ≡ None =
+    translated_leaf mid root page (translated_low page low)
+    ∙ b.same (path_of sv39 page) (path_shaped page) refl
+    ∙ sym (translated_leaf old root page (translated_low page low))
+    ∙ free in
+    let none : leaf_here (entries mid s) [] (λ next. None) ≡ None = sym (leaf_found mid root page table upper low splits at) ∙ before in
+    let nowhere : entries mid s ≡ Faulty = lowest_nowhere (entries mid s) (b.tree.lowest upper last s here p.long) none in
+    let fills : FillsPath sv39 old mid root upper = subst (λ l. FillsPath sv39 old mid root l) (take_all (length upper) upper (omega arith)) b.bytes in
+    subst (λ path. FillsPath sv39 old new root path) splits (fills_next sv39 old mid new root upper last s fills set.stays here (b.nowhere s nowhere) word)

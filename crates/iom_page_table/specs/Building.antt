@@ -1,10 +1,11 @@
 -- How tables are added along a path, for the functions of this crate alone.
 use Rattle.std.specs.Prelude.{◌≡◌, ◌≢◌, ◌⊎◌, ℕ, ◌+◌, ◌/◌, ◌<◌, ◌≤◌, List, [], ◌∷◌, ◌++◌, length, take, drop, slice_get, slice_index}
+use Rattle.iom_phys_mem.specs.Words.{byte_at}
 use Rattle.iom_stage_walk.specs.Entries.{Entries, entries, slot}
 use Rattle.iom_stage_walk.specs.declared.entry.Entry.{Entry}
 use Rattle.iom_stage_walk.specs.declared.entry.Entry.TheVariants.{Outside, Faulty, Pointer, Leaf}
 use Rattle.iom_page_table.specs.Leaves.{leaf_under}
-use Rattle.iom_page_table.specs.Trees.{InShape, IsTableAt, IsSlotAt, IsTree, IsFrameOf}
+use Rattle.iom_page_table.specs.Trees.{InShape, IsTableAt, IsSlotAt, IsTree, IsFrameOf, IsFilledEntry}
 
 -- every width but the first is at most a frame's 512 entries
 abbrev pub AllNarrow : List ℕ → Type 0
@@ -59,6 +60,15 @@ pub record Puts (old new : List (List ℕ)) (s : ℕ) (x : Entry) : Type 0 where
 abbrev pub SameLeaf : Entries → Entries → ℕ → List ℕ → Type 0
 SameLeaf old new root is = leaf_under new root is ≡ leaf_under old root is
 
+-- a byte changes only in an entry on the path that no walk got past before
+abbrev pub FillsPath : List ℕ → List (List ℕ) → List (List ℕ) → ℕ → List ℕ → Type 0
+FillsPath shape old new root path =
+    (a : ℕ) → (IsFilledEntry shape (entries old) (entries new) root path (a / 8) → ⊥) → byte_at new a ≡ byte_at old a
+
+-- a word was stored at entry s: no byte of another entry changed
+abbrev pub PutsWord : List (List ℕ) → List (List ℕ) → ℕ → Type 0
+PutsWord old new s = (a : ℕ) → a / 8 ≢ s → byte_at new a ≡ byte_at old a
+
 -- the tables under the first k indices stand, in the frames used so far, and every page is as before
 pub record Built (shape : List ℕ) (old new : List (List ℕ)) (root : ℕ) (upper : List ℕ) (k table : ℕ) (frames : List ℕ) (used : ℕ) : Type 0 where
   pub tree : IsTree shape (entries new) root
@@ -68,4 +78,6 @@ pub record Built (shape : List ℕ) (old new : List (List ℕ)) (root : ℕ) (up
   pub grown : Grown shape (entries old) (entries new) root frames used
   pub same : (is : List ℕ) → InShape shape is → length is ≡ length shape → SameLeaf (entries old) (entries new) root is
   pub others : (f : ℕ) → (IsFrameOf shape (entries new) root f → ⊥) → slice_get new f ≡ slice_get old f
+  pub nowhere : (s : ℕ) → entries new s ≡ Faulty → entries old s ≡ Faulty
+  pub bytes : FillsPath shape old new root (take k upper)
   pub size : length new ≡ length old

@@ -3,7 +3,7 @@ use Rattle.std.specs.Prelude.{◌≡◌, ◌==◌, ℕ, ◌^◌, ◌<◌, List, 
 use Rattle.iom_stage_walk.specs.Entries.{entries}
 use Rattle.iom_stage_walk.specs.Paths.{path_of}
 use Rattle.iom_page_table.specs.Leaves.{leaf_of}
-use Rattle.iom_page_table.specs.Trees.{sv39, IsTree, IsFrameOf, IsLastEntry, missing_under}
+use Rattle.iom_page_table.specs.Trees.{sv39, IsTree, IsFrameOf, IsLastEntry, IsFilledEntry, missing_under}
 use Rattle.iom_page_table.specs.declared.leaf.PageLeaf.{PageLeaf}
 
 -- the tables of the root are a tree
@@ -21,6 +21,10 @@ missing_for frames root page = missing_under (entries frames) root (path_of sv39
 -- s is the number of the page's entry in its last table
 abbrev pub IsLeafEntry : List (List ℕ) → ℕ → ℕ → ℕ → Type 0
 IsLeafEntry frames root page s = IsLastEntry (entries frames) root (path_of sv39 page) s
+
+-- s is the number of an entry on the page's path, along the tables as they are afterwards, that no walk got past before
+abbrev pub FillsEntry : List (List ℕ) → List (List ℕ) → ℕ → ℕ → ℕ → Type 0
+FillsEntry old new root page s = IsFilledEntry sv39 (entries old) (entries new) root (path_of sv39 page) s
 
 -- the page has this leaf, or none, and every other page has what it had
 abbrev pub ChangesLeaf : List (List ℕ) → List (List ℕ) → ℕ → ℕ → Option PageLeaf → Type 0

@@ -60,6 +60,14 @@ IsLastEntry e table [] s = ⊥
 IsLastEntry e table (i ∷ []) s = s ≡ slot table i
 IsLastEntry e table (i ∷ j ∷ is) s = (next : ℕ) × (e (slot table i) ≡ Pointer next) × IsLastEntry e next (j ∷ is) s
 
+-- s is the number of an entry on the path: of the one at some index of it, in the table under the indices before
+abbrev pub IsEntryOnPath : List ℕ → Entries → ℕ → List ℕ → ℕ → Type 0
+IsEntryOnPath shape e root path s = (prefix : List ℕ) × (i : ℕ) × (below : List ℕ) × (path ≡ prefix ++ i ∷ below) × IsSlotAt shape e root prefix i s
+
+-- s is the number of an entry on the path, along the tables as they are afterwards, that no walk got past before
+abbrev pub IsFilledEntry : List ℕ → Entries → Entries → ℕ → List ℕ → ℕ → Type 0
+IsFilledEntry shape old new root path s = IsEntryOnPath shape new root path s × (old s ≡ Faulty)
+
 -- how many tables are missing under an entry: none where it names the next, else one for each level below
 abbrev pub missing_here : Entry → List ℕ → (ℕ → ℕ) → ℕ
 missing_here Outside below follow = length below

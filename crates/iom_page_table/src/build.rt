@@ -6,7 +6,7 @@ ghost use Rattle.iom_phys_mem.specs.Words.{word_at, byte_at};
 ghost use Rattle.iom_stage_walk.specs.Entries.{entries, entry_of, slot};
 ghost use Rattle.iom_stage_walk.specs.Fields.{pte_of};
 ghost use Rattle.iom_page_table.specs.Trees.{IsTree, IsTableAt, AreFresh};
-ghost use Rattle.iom_page_table.specs.Building.{Puts, Built, IsPage, lacking};
+ghost use Rattle.iom_page_table.specs.Building.{Puts, PutsWord, Built, IsPage, lacking};
 
 use crate::leaf::PageLeaf;
 use bitflags::Flags;
@@ -58,7 +58,7 @@ pub(crate) fn put<B: Bytes>(memory: &mut B, table: u64, index: u64, word: u64)
     requires inside { slot table index / 512 < length (B.frames_of memory.old) }
     ensures put { Puts (B.frames_of memory.old) (B.frames_of memory.new) (slot table index) (entry_of (pte_of word)) }
     ensures here { word_at 8 (B.frames_of memory.new) (8 * slot table index) ≡ Some word }
-    ensures other_bytes { (a : ℕ) → a / 8 ≢ slot table index → byte_at (B.frames_of memory.new) a ≡ byte_at (B.frames_of memory.old) a }
+    ensures other_bytes { PutsWord (B.frames_of memory.old) (B.frames_of memory.new) (slot table index) }
 {
     let _stored = memory.store_u64(4096 * table + 8 * index, word);
 }

@@ -4,7 +4,7 @@ ghost use Rattle.iom_base.specs.Rights.{r, rw};
 ghost use Rattle.iom_phys_mem.specs.Words.{word_at, byte_at};
 ghost use Rattle.iom_stage_walk.specs.Paths.{path_of};
 ghost use Rattle.iom_page_table.specs.Leaves.{leaf_of};
-ghost use Rattle.iom_page_table.specs.Sv39.{IsRoot, HasTable, missing_for, IsLeafEntry, ChangesLeaf, KeepsOutside};
+ghost use Rattle.iom_page_table.specs.Sv39.{IsRoot, HasTable, missing_for, IsLeafEntry, FillsEntry, ChangesLeaf, KeepsOutside};
 ghost use Rattle.iom_page_table.specs.Trees.{sv39, AreFresh};
 
 use crate::build::{build, count_lacking, leaf_word, put, table_under};
@@ -14,15 +14,14 @@ use iom_stage_walk::{Entry, entry_at};
 
 /// The indices of a page in the tables above the last.
 fn upper_of(page: u64) -> [u64; 2]
-    requires { page < 2 ^ 27 }
     ensures { result ++ page % 512 ∷ [] ≡ path_of sv39 page }
 {
-    [page / 262_144, page / 512 % 512]
+    [page / 262_144 % 512, page / 512 % 512]
 }
 
-/// How many tables a leaf for the page lacks, 0 to 2. At most two loads.
+/// How many tables a leaf for the page lacks, 0 to 2. Of the page's number the low 27 bits count. At most
+/// two loads.
 pub fn missing<B: Bytes>(memory: &B, root: u32, page: u64) -> usize
-    requires { page < 2 ^ 26 }
     ensures { result ≡ missing_for (B.frames_of memory.now) root page }
 {
     count_lacking(memory, root as u64, &upper_of(page))
@@ -45,7 +44,8 @@ pub fn is_mapped<B: Bytes>(memory: &B, root: u32, page: u64) -> bool
 
 /// Maps a page that isn't mapped: hangs the missing tables under the root, from the root down, in the
 /// frames handed in, and writes the leaf. `frames` are as many as [`missing`] says, zeroed, distinct and no
-/// tables of the root. Two loads, and one store more than there are frames.
+/// tables of the root. Two loads, and one store more than there are frames: a byte changes only in an entry on
+/// the page's path that led nowhere.
 pub fn map<B: Bytes>(memory: &mut B, root: u32, page: u64, leaf: PageLeaf, frames: &[u32])
     requires page { page < 2 ^ 26 }
     requires rights { (leaf.rights ≡ r) ⊎ (leaf.rights ≡ rw) }
@@ -57,6 +57,8 @@ pub fn map<B: Bytes>(memory: &mut B, root: u32, page: u64, leaf: PageLeaf, frame
     ensures tables { (f : ℕ) → HasTable (B.frames_of memory.new) root f
         ↔ (HasTable (B.frames_of memory.old) root f ⊎ Contains frames.now f) }
     ensures leaf { ChangesLeaf (B.frames_of memory.old) (B.frames_of memory.new) root page (Some leaf) }
+    ensures other_bytes { (a : ℕ) → (FillsEntry (B.frames_of memory.old) (B.frames_of memory.new) root page (a / 8) → ⊥)
+        → byte_at (B.frames_of memory.new) a ≡ byte_at (B.frames_of memory.old) a }
     ensures outside { KeepsOutside (B.frames_of memory.old) (B.frames_of memory.new) root }
     ensures size { length (B.frames_of memory.new) ≡ length (B.frames_of memory.old) }
 {

@@ -41,7 +41,7 @@ loop-k-preserved g c =
           rw (w.memory-is, w.table-is, w.used-is)
           (record {
             range = let small = c.type_inv.frames c.loop-k.used in omega (arith, small);
-            built = built_new g.shape _ _ _ _ c.args.upper.now c.args.last c.loop-k.k c.loop-k.table c.args.frames.now c.loop-k.used b page (fresh_apart g.shape _ c.args.root c.args.frames.now c.requires.1.1.1.1.1.1) lt nowhere put;
+            built = built_new g.shape _ _ _ _ c.args.upper.now c.args.last c.loop-k.k c.loop-k.table c.args.frames.now c.loop-k.used b page (fresh_apart g.shape _ c.args.root c.args.frames.now c.requires.1.1.1.1.1.1) lt nowhere put w.put.ensures.other_bytes;
           })
     ]
 

@@ -4,7 +4,7 @@ use Rattle.iom_page_table.specs.Trees.{missing_under}
 use Rattle.iom_page_table.specs.Building.{Puts}
 use Rattle.iom_page_table.proofs.Mapping.{missing_lacking, whole_table}
 use Rattle.iom_page_table.proofs.Pages.{is_page, small_upper}
-use Rattle.iom_page_table.proofs.Whole.{entry_inside, Maps, maps}
+use Rattle.iom_page_table.proofs.Whole.{entry_inside, Maps, maps, maps_bytes}
 use Rattle.iom_page_table.specs.Trees.{sv39}
 use Rattle.iom_page_table.proofs.tables.map.Goals as goal
 use Rattle.iom_page_table.proofs.tables.map.Given.{Over}
@@ -35,6 +35,13 @@ done g c =
     let new = g.B.Bytes.frames_of c.put.new.memory in
     maps (g.B.Bytes.frames_of c.args.memory.now) mid new c.args.root c.args.page c.build-table.result c.upper_of.result c.args.frames.now c.args.leaf c.requires.page c.build-table.ensures.built c.upper_of.ensures
     (subst (λ x. Puts mid new (slot c.build-table.result (c.args.page % 512)) x) c.leaf_word.ensures c.put.ensures.put)
+
+pub returns-clause-other_bytes : goal.returns-clause-other_bytes
+returns-clause-other_bytes g c =
+    let mid = g.B.Bytes.frames_of c.build-table.new.memory in
+    let new = g.B.Bytes.frames_of c.put.new.memory in
+    maps_bytes (g.B.Bytes.frames_of c.args.memory.now) mid new c.args.root c.args.page c.build-table.result c.upper_of.result c.args.frames.now c.args.leaf c.requires.page c.build-table.ensures.built c.upper_of.ensures c.requires.free
+    (subst (λ x. Puts mid new (slot c.build-table.result (c.args.page % 512)) x) c.leaf_word.ensures c.put.ensures.put) c.put.ensures.other_bytes
 
 pub returns-clause-tree : goal.returns-clause-tree
 returns-clause-tree g c = (done g c).tree
