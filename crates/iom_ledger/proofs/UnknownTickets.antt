@@ -74,8 +74,10 @@ IsUnchanged-confirmed old new ticket named drops items same_pool absent =
     let same : (d a : ℕ) → row_at new.devices d a ≡ row_at old.devices d a =
     λ d a. drops d a ∙ unless_waiting-absent old.pending.items d a ticket (row_at old.devices d a) none (named d a) in
     record {
-      held = λ d a. ap held_of (same d a);
-      lingering = λ d a. ap released_of (same d a);
-      pending = ap tickets (items ∙ filter_absent ticket old.pending.items none);
+      shown = record {
+        held = λ d a. ap held_of (same d a);
+        lingering = λ d a. ap released_of (same d a);
+        pending = ap tickets (items ∙ filter_absent ticket old.pending.items none);
+      };
       pool = λ f. ap (λ pool. has pool f) same_pool;
     }

@@ -16,9 +16,7 @@ pub record ShowsSame (old new : Ledger) : Type 0 where
 
 -- nothing changes
 pub record IsUnchanged (old new : Ledger) : Type 0 where
-  pub held : (d a : ℕ) → held_in new d a ≡ held_in old d a
-  pub lingering : (d a : ℕ) → released_in new d a ≡ released_in old d a
-  pub pending : pending_in new ≡ pending_in old
+  pub shown : ShowsSame old new
   pub pool : SamePool old new
 
 -- the pair is held at the page of the device, and nothing else changes
@@ -63,7 +61,5 @@ pub record Confirms (old new : Ledger) (ticket : ℕ) : Type 0 where
 
 -- the frame isn't in the pool any more, and nothing else changes
 pub record Reserves (old new : Ledger) (frame : ℕ) : Type 0 where
-  pub held : (d a : ℕ) → held_in new d a ≡ held_in old d a
-  pub lingering : (d a : ℕ) → released_in new d a ≡ released_in old d a
-  pub pending : pending_in new ≡ pending_in old
+  pub shown : ShowsSame old new
   pub pool : (f : ℕ) → is_pooled new f ≡ (if frame == f then false else is_pooled old f)

@@ -20,14 +20,7 @@ use Rattle.iom_world.proofs.AttachLemmas.{unmarked}
 use Rattle.iom_world.proofs.MarkLemmas.{not_among, mark_stays, length-marked_for}
 use Rattle.iom_world.proofs.TableLemmas.{tables_stay}
 
--- what a ledger shows, after a refused grant and after a frame was reserved
-
-pub shown_unchanged : (old new : Ledger) → changes.IsUnchanged old new → changes.ShowsSame old new
-shown_unchanged old new same = record { held = same.held; lingering = same.lingering; pending = same.pending }
-
-pub shown_reserved : (old new : Ledger) (frame : ℕ) → changes.Reserves old new frame → changes.ShowsSame old new
-shown_reserved old new frame reserved = record { held = reserved.held; lingering = reserved.lingering; pending = reserved.pending }
-
+-- what a ledger shows, after two changes that leave it
 pub shown_twice : (old mid new : Ledger) → changes.ShowsSame old mid → changes.ShowsSame mid new → changes.ShowsSame old new
 shown_twice old mid new first second = record {
   held = λ d a. second.held d a ∙ first.held d a;

@@ -3,9 +3,6 @@ use Rattle.std.specs.Prelude.{◌≡◌, ℕ, ◌+◌, nat_le, nat_lt, Bool, not
 use Rattle.iom_ledger.specs.declared.ledger.Ledger.{Ledger}
 use Rattle.iom_ledger.specs.History.{Pair}
 use Rattle.iom_ledger.specs.Shown.{held_in, released_in, pending_in}
-use Rattle.iom_machine.specs.declared.outcome.Outcome.{Outcome}
-use Rattle.iom_machine.specs.declared.outcome.Outcome.TheVariants.{Confirmed, NoneConfirmed}
-use Rattle.iom_world.specs.Queue.{Queue}
 
 -- whether the ticket is one of so many from the first on
 abbrev pub is_among : ℕ → ℕ → ℕ → Bool
@@ -21,8 +18,3 @@ pub record ConfirmsFrom (old new : Ledger) (first n : ℕ) : Type 0 where
   pub held : (d a : ℕ) → held_in new d a ≡ held_in old d a
   pub lingering : (d a : ℕ) → released_in new d a ≡ unless_among first n (released_in old d a)
   pub pending : pending_in new ≡ filter (λ ticket. not (is_among first n ticket)) (pending_in old)
-
--- what a poll answers: the tickets whose fences are done and that aren't confirmed, if there is one
-abbrev pub polled_from : Queue → Outcome
-polled_from queue =
-    if nat_lt queue.confirmed queue.completed then Confirmed (queue.confirmed + 1) queue.completed else NoneConfirmed

@@ -1,8 +1,10 @@
 -- The commands that wait, and the tickets, each pending until its fence is done.
-use Rattle.std.specs.Prelude.{◌≡◌, ℕ, ◌+◌, ◌<◌, Bool, true, false, List, [], ◌∷◌, ◌++◌}
+use Rattle.std.specs.Prelude.{◌≡◌, ℕ, ◌+◌, ◌<◌, nat_lt, Bool, true, false, List, [], ◌∷◌, ◌++◌, if◌then◌else◌}
 use Rattle.iom_machine.specs.declared.outcome.Fetched.{Fetched}
 use Rattle.iom_machine.specs.declared.outcome.Fetched.TheVariants.{Did, Waiting, Empty}
 use Rattle.iom_machine.specs.declared.outcome.CommandName.TheVariants.{IotinvalVma, IofenceC}
+use Rattle.iom_machine.specs.declared.outcome.Outcome.{Outcome}
+use Rattle.iom_machine.specs.declared.outcome.Outcome.TheVariants.{Confirmed, NoneConfirmed}
 use Rattle.iom_world.specs.declared.commands.Command.{Command}
 use Rattle.iom_world.specs.declared.commands.Command.TheVariants.{InvalidatePage, Fence}
 
@@ -42,3 +44,8 @@ pub record IsPolled (queue : Queue) (first last : ℕ) : Type 0 where
   pub next : first ≡ queue.confirmed + 1
   pub done : last ≡ queue.completed
   pub some : queue.confirmed < queue.completed
+
+-- what a poll answers: the tickets whose fences are done and that aren't confirmed, if there is one
+abbrev pub polled_from : Queue → Outcome
+polled_from queue =
+    if nat_lt queue.confirmed queue.completed then Confirmed (queue.confirmed + 1) queue.completed else NoneConfirmed

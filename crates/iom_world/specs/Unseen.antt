@@ -14,9 +14,8 @@ use Rattle.iom_phys_mem.specs.Words.{byte_at, word_at}
 use Rattle.iom_table_frames.specs.Marks.{NoneIsFree}
 use Rattle.iom_world.specs.declared.world.World.{World}
 use Rattle.iom_world.specs.Admission.{IsRootOf, TakesHighest, LacksTables, TakesTables}
-use Rattle.iom_world.specs.Confirmed.{polled_from}
 use Rattle.iom_world.specs.Places.{SomeInFlight}
-use Rattle.iom_world.specs.Queue.{Queue, with_release, AfterFetch}
+use Rattle.iom_world.specs.Queue.{Queue, with_release, AfterFetch, polled_from}
 
 -- a release that is answered so: its ticket is the next, and its commands are appended; a full queue is told only where there is no room for them, used-
 -- up numbers only where there is room and no number; and a refusal leaves the commands

@@ -9,9 +9,9 @@ ghost use Rattle.iom_machine.specs.declared.outcome.Outcome.TheVariants as outco
 ghost use Rattle.iom_machine.specs.Machine.{Fetches, Polls};
 ghost use Rattle.iom_machine.specs.Tickets.{confirmed_from};
 ghost use Rattle.iom_world.specs.Answers.{outcome_of};
-ghost use Rattle.iom_world.specs.Confirmed.{ConfirmsFrom, polled_from};
+ghost use Rattle.iom_world.specs.Confirmed.{ConfirmsFrom};
 ghost use Rattle.iom_world.specs.Places.{SomeInFlight};
-ghost use Rattle.iom_world.specs.Queue.{AfterFetch};
+ghost use Rattle.iom_world.specs.Queue.{AfterFetch, polled_from};
 ghost use Rattle.iom_world.specs.Shows.{Shows};
 ghost use Rattle.iom_world.specs.Unseen.{SameIfRefused};
 

@@ -25,9 +25,9 @@ loop-fixed-preserved c =
       long = length-set c.loop-fixed.marks.items (c.args.frames - 4 + c.loop-fixed.fixed) (Some System) ∙ was.long;
       offers = OffersUnreserved-reserved c.loop-fixed.marks.items System c.loop-fixed.ledger c.reserve.new.self (c.args.frames - 4 + c.loop-fixed.fixed) (omega (arith, was.long, c.requires.fixed)) now was.offers;
       shows = record {
-        held = λ d a. now.held d a ∙ was.shows.held d a;
-        lingering = λ d a. now.lingering d a ∙ was.shows.lingering d a;
-        pending = now.pending ∙ was.shows.pending;
+        held = λ d a. now.shown.held d a ∙ was.shows.held d a;
+        lingering = λ d a. now.shown.lingering d a ∙ was.shows.lingering d a;
+        pending = now.shown.pending ∙ was.shows.pending;
       };
       agrees = λ h agrees. c.reserve.ensures.agrees h (was.agrees h agrees);
     }
