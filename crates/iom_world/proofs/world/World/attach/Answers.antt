@@ -24,7 +24,7 @@ use Rattle.iom_world.specs.declared.device.Device.{Device}
 use Rattle.iom_world.specs.Places.{IsPlaceOf}
 use Rattle.iom_table_frames.proofs.MarkLemmas.{OffersUnreserved-reserved}
 use Rattle.iom_world.proofs.GrantLemmas.{shown_reserved, sound_unchanged, tables_unchanged}
-use Rattle.iom_world.proofs.AttachLemmas.{sound_attached, tables_attached, rooted, unmarked, none_free}
+use Rattle.iom_world.proofs.AttachLemmas.{sound_attached, tables_attached, rooted, unmarked, owned_differs, none_free}
 use Rattle.iom_world.proofs.ListLemmas.{get_within, read_is, get_set_same, get_set_other}
 use Rattle.iom_world.proofs.ReasonLemmas.{attach_absent, attach_again, attach_wide, attach_may}
 use Rattle.iom_world.proofs.RefusalLemmas.{refused_first, refused_else, some_and}
@@ -182,3 +182,12 @@ returns-clause-step c = λ state shows.
         levels = shows.levels;
       },
     )
+
+pub returns-clause-others : goal.returns-clause-others
+returns-clause-others c = λ frame owner at.
+    let world = c.args.self.now in
+    let root = c.in-Some-highest_free.root in
+    let found : IsHighestFree world.marks world.ledger None c.frames-frames.result root = c.in-Some-highest_free.ensures in
+    let inside : root < length world.memory = subst (λ m. root < m) c.frames-frames.ensures found.below in
+    let marked : root < length world.marks = subst (λ m. root < m) (sym world.sound.marked) inside in
+    rw c.reserve.ensures.zero (get_set_other world.memory root frame zeroed (owned_differs world.marks frame root owner at (unmarked world.marks root marked found.free.unmarked)))
