@@ -38,6 +38,11 @@ unmarked marked n lt free = by (get_there marked n lt) free
         contra : true ≡ false → ⊥
         contra e = cc
 
+-- a frame that isn't marked is none that is somebody's
+pub owned_differs : (marked : List (Option Owner)) (n free : ℕ) (owner : Owner) → slice_get marked n ≡ Some (Some owner) → slice_get marked free ≡ Some None → n ≢ free
+owned_differs marked n free owner own none e =
+    let both : ◌≡◌ {A = Option (Option Owner)} (Some (Some owner)) (Some None) = sym own ∙ ap (λ j. slice_get marked j) e ∙ none in cc
+
 -- grants where another frame that no pair names is reserved
 pub grants_reserved : (marked : List (Option Owner)) (ledger : Ledger) (n : ℕ) (owner : Owner) → AreGrants marked ledger → IsFreeIn ledger n → AreGrants (slice_set marked n (Some owner)) ledger
 grants_reserved marked ledger n owner grants free = record {
@@ -118,11 +123,8 @@ tables_attached memory memory' marked ledger devices place root device tables at
           (subst (λ q. AreTablesOf memory' (slice_set marked root (Some (OneDevice device.id))) ledger device.id q) there_root
           (tables_new memory' (slice_set marked root (Some (OneDevice device.id))) ledger device.id root cleared (get_set_same marked root (Some (OneDevice device.id)) lt) none))
       | inr e ↦ tables_stay memory memory' marked (slice_set marked root (Some (OneDevice device.id))) ledger ledger d.id r (tables k d r e.1 is)
-          (λ n own. let other : n ≢ root = differs n own in (same n other, get_set_other marked root n (Some (OneDevice device.id)) other)) (λ page. refl)
+          (λ n own. let other : n ≢ root = owned_differs marked n root _ own free in (same n other, get_set_other marked root n (Some (OneDevice device.id)) other)) (λ page. refl)
     ]
-  where
-    differs : (n : ℕ) {i : ℕ} → slice_get marked n ≡ Some (Some (OneDevice i)) → n ≢ root
-    differs n own e = let both : ◌≡◌ {A = Option (Option Owner)} (Some (Some _)) (Some None) = sym own ∙ ap (λ j. slice_get marked j) e ∙ free in cc
 
 -- none is free: every list of free frames is empty
 pub none_free : {IsOfSort : ℕ → Type 0} (numbers : List ℕ) → ((n : ℕ) → ¬ IsOfSort n) → All IsOfSort numbers → length numbers < 3

@@ -1,5 +1,5 @@
 -- The tables of a device that gets a page: what it may be mapped with, and what they are then.
-use Rattle.std.proofs.Common.{◌≡◌, ◌/◌, ◌^◌, ◌<◌, ◌≤◌, ◌==◌, ◌&&◌, ◌⊎◌, inl, inr, ◌∙◌, ℕ, true, false, List, [], ◌∷◌, length, Option, Some, None, option_map, is_some, slice_get, get_or, refl, sym, ap, subst, arith, All, Contains, if◌then◌else◌}
+use Rattle.std.proofs.Common.{◌≡◌, ◌≢◌, ◌/◌, ◌^◌, ◌<◌, ◌≤◌, ◌==◌, ◌&&◌, ◌⊎◌, inl, inr, ◌∙◌, ℕ, true, false, List, [], ◌∷◌, length, Option, Some, None, option_map, is_some, slice_get, get_or, refl, sym, ap, subst, arith, All, Contains, if◌then◌else◌}
 use Rattle.std.specs.Prelude.{◌↔◌}
 use Rattle.std.specs.Option.{option_map_or}
 use Rattle.std.proofs.lemmas.Bool.{eq-eqb}
@@ -26,7 +26,7 @@ use Rattle.iom_table_frames.specs.Marks.{IsFreeBesides, is_reserved}
 use Rattle.iom_world.specs.declared.device.Device.{Device}
 use Rattle.iom_world.specs.Admission.{IsRootOf, AreChosen, marked_for, cleared}
 use Rattle.iom_world.specs.Tables.{AreTablesOf, HaveTables, leaf_for}
-use Rattle.iom_world.proofs.AttachLemmas.{unmarked}
+use Rattle.iom_world.proofs.AttachLemmas.{unmarked, owned_differs}
 use Rattle.iom_world.proofs.GrantLemmas.{one_device, here_or_there}
 use Rattle.iom_world.proofs.MarkLemmas.{NotAmong, not_among, among_contained, among_get, mark_stays, bytes_stay, marked_still, marked_among, zero_among}
 use Rattle.iom_world.proofs.TableLemmas.{tables_stay}
@@ -125,6 +125,23 @@ pub mapped_others : (memory memory' : List (List ℕ)) (marks : List (Option Own
 mapped_others memory memory' marks ledger id root page named count n leaf chosen long tables chose mapped differs =
     mapped.outside n (λ at. differs (mapped_own memory memory' marks ledger id root page named count leaf chosen long tables chose mapped n at))
 
+-- a frame that is somebody's isn't chosen
+not_chosen : (memory : List (List ℕ)) (marks : List (Option Owner)) (ledger : Ledger) (named count n : ℕ) (chosen : List ℕ) (owner : Owner) → length marks ≡ length memory
+    → AreChosen memory marks ledger named count chosen → slice_get marks n ≡ Some (Some owner) → NotAmong n chosen
+not_chosen memory marks ledger named count n chosen owner long chose mark =
+    not_among (λ t. (t < length memory) × IsFreeBesides marks ledger (Some named) t) n chosen (λ k d lt. (chose.inside k d lt, chose.free k d lt))
+    (λ is_free. owned_differs marks n n owner mark (unmarked marks n (subst (λ m. n < m) (sym long) is_free.0) is_free.1.unmarked) refl)
+
+-- a frame that is somebody else's keeps its bytes
+pub kept_others : (memory memory' : List (List ℕ)) (marks : List (Option Owner)) (ledger : Ledger) (id root page named count n : ℕ) (leaf : PageLeaf) (chosen : List ℕ) (owner : Owner) → length marks ≡ length memory
+    → AreTablesOf memory marks ledger id root → AreChosen memory marks ledger named count chosen → IsMapped (cleared chosen memory) memory' root page leaf chosen
+    → slice_get marks n ≡ Some (Some owner) → owner ≢ OneDevice id → slice_get memory' n ≡ slice_get memory n
+kept_others memory memory' marks ledger id root page named count n leaf chosen owner long tables chose mapped mark other =
+    let apart = not_chosen memory marks ledger named count n chosen owner long chose mark in
+    mapped_others memory memory' marks ledger id root page named count n leaf chosen long tables chose mapped
+    (λ now. let both : ◌≡◌ {A = Option (Option Owner)} (Some (Some owner)) (Some (Some (OneDevice id))) = sym mark ∙ sym (mark_stays id n chosen marks apart) ∙ now in other cc)
+    ∙ bytes_stay n chosen memory apart
+
 pub tables_granted : (memory memory' : List (List ℕ)) (marks : List (Option Owner)) (old new : Ledger) (devices : List Device) (id root page frame count : ℕ) (rights : Rights) (chosen : List ℕ)
     → length marks ≡ length memory → HaveTables memory marks old devices → ((j k : ℕ) (one other : Device) → slice_get devices j ≡ Some one → slice_get devices k ≡ Some other → one.id ≡ other.id → j ≡ k)
     → IsRootOf devices id root → page < 2 ^ 26 → changes.Grants old new id page (frame, rights) → AreChosen memory marks old frame count chosen
@@ -137,10 +154,16 @@ tables_granted memory memory' marks old new devices id root page frame count rig
           let one : root ≡ r = cc in
           subst (λ i. AreTablesOf memory' (marked_for id chosen marks) new i r) (sym same.1) (subst (λ q. AreTablesOf memory' (marked_for id chosen marks) new id q) one own_tables)
       | inr other ↦ tables_stay memory memory' marks (marked_for id chosen marks) old new device.id r (tables k device r at is)
-          (λ n mark. (kept n other.1 mark, mark_kept n mark))
+          (λ n mark. (
+            kept_others memory memory' marks old id root page frame count n (record { frame = frame; rights = rights }) chosen (OneDevice device.id) long before chose mapped mark (λ same. other.1 (one_id device.id same)),
+            mark_stays id n chosen marks (not_chosen memory marks old frame count n chosen (OneDevice device.id) long chose mark),
+          ))
           (λ p. elim (here_or_there id page device.id p (frame, rights) (held_in old device.id p) (held_in new device.id p) (granted.held device.id p)) [ inl now ↦ absurd (other.1 (sym now.0)) | inr still ↦ still.1 ])
     ]
   where
+    one_id : (i : ℕ) → ◌≡◌ {A = Owner} (OneDevice i) (OneDevice id) → i ≡ id
+    one_id i same = cc
+
     before : AreTablesOf memory marks old id root
     before = subst (λ i. AreTablesOf memory marks old i root) is_root.3 (tables is_root.0 is_root.1 root is_root.2 is_root.4)
 
@@ -162,19 +185,3 @@ tables_granted memory memory' marks old new devices id root page frame count rig
           own = mapped_own memory memory' marks old id root page frame count (record { frame = frame; rights = rights }) chosen long before chose mapped;
           leaves = λ p below. mapped.leaf p below ∙ leaf_by p (stay.leaves p ∙ before.leaves p below);
         }
-
-    not_chosen : (n i : ℕ) → slice_get marks n ≡ Some (Some (OneDevice i)) → NotAmong n chosen
-    not_chosen n i mark = not_among (λ t. (t < length memory) × IsFreeBesides marks old (Some frame) t) n chosen (λ k d lt. (chose.inside k d lt, chose.free k d lt))
-        (λ is_free. contra (sym mark ∙ unmarked marks n (subst (λ m. n < m) (sym long) is_free.0) is_free.1.unmarked))
-      where
-        contra : ◌≡◌ {A = Option (Option Owner)} (Some (Some (OneDevice i))) (Some None) → ⊥
-        contra e = cc
-
-    mark_kept : (n : ℕ) {i : ℕ} → slice_get marks n ≡ Some (Some (OneDevice i)) → slice_get (marked_for id chosen marks) n ≡ slice_get marks n
-    mark_kept n {i} mark = mark_stays id n chosen marks (not_chosen n i mark)
-
-    kept : (n : ℕ) {i : ℕ} → (i ≡ id → ⊥) → slice_get marks n ≡ Some (Some (OneDevice i)) → slice_get memory' n ≡ slice_get memory n
-    kept n {i} differs mark =
-        mapped_others memory memory' marks old id root page frame count n (record { frame = frame; rights = rights }) chosen long before chose mapped
-        (λ now. let both : ◌≡◌ {A = Option (Option Owner)} (Some (Some (OneDevice i))) (Some (Some (OneDevice id))) = sym mark ∙ sym (mark_kept n mark) ∙ now in differs cc)
-        ∙ bytes_stay n chosen memory (not_chosen n i mark)

@@ -94,6 +94,12 @@ covered_by_held (Some root) ledger completed id flight within translated = recor
   within = within;
 }
 
+-- the device with this id holds what its access is translated to
+pub held_by_translated : (root : Option ℕ) (ledger : Ledger) (own id address frame : ℕ) (kind : AccessKind) → own ≡ id
+    → IsTranslated root ledger own address kind frame → IsHeldFor ledger id (address / 4096) kind frame
+held_by_translated None ledger own id address frame kind same translated = absurd translated
+held_by_translated (Some root) ledger own id address frame kind same translated = subst (λ d. IsHeldFor ledger d (address / 4096) kind frame) same translated
+
 -- the device, where one more access was accepted
 abbrev pub with_flight : Device → Flight → Device
 with_flight device flight = record device { accepted = device.accepted + 1; in_flight = device.in_flight ++ flight ∷ [] }

@@ -1,5 +1,5 @@
 -- Runs that go on by one event, where the outcomes go to a sink.
-use Rattle.std.proofs.Common.{suc, ◌≡◌, ◌+◌, ◌<◌, ◌≤◌, ◌++◌, ◌∙◌, ℕ, List, Option, [], ◌∷◌, length, take, get_or, slice_get, refl, sym, ap, subst, arith}
+use Rattle.std.proofs.Common.{suc, ◌≡◌, ◌+◌, ◌<◌, ◌≤◌, ◌++◌, ◌∙◌, ℕ, List, Option, [], ◌∷◌, length, take, get_or, refl, sym, ap, subst, arith}
 use Rattle.std.proofs.lemmas.List.{take_more, take_all, length-take-le}
 use Rattle.iom_ledger.specs.declared.ledger.Ledger.{Ledger}
 use Rattle.iom_machine.specs.declared.choice.Choice.{Choice}
@@ -17,7 +17,7 @@ use Rattle.iom_world.specs.Queue.{Queue}
 use Rattle.iom_world.specs.Runs.{TakesAll, GoesThrough, AreOutcomes, RunsTo, FailsAfter}
 use Rattle.iom_world.specs.Shows.{Shows}
 use Rattle.iom_world.specs.Sound.{IsSound}
-use Rattle.iom_world.specs.Unseen.{KeepsTables, TakesFrames, Follows}
+use Rattle.iom_world.specs.Unseen.{KeepsTables, TakesFrames, AnswersRequest, Follows}
 
 -- nothing is left free
 abbrev pub no_choice : Choice
@@ -63,8 +63,7 @@ below_counted ledger completed events devices each k device at =
 kept_counted : (old counted new : World) → counted.memory ≡ old.memory → counted.marks ≡ old.marks → KeepsTables counted new → KeepsTables old new
 kept_counted old counted new memory marks kept = record {
   marks = kept.marks ∙ marks;
-  bytes = λ frame owner at. kept.bytes frame owner (ap (λ (m : List (Option Owner)). slice_get m frame) marks ∙ at)
-      ∙ ap (λ (bytes : List (List ℕ)). slice_get bytes frame) memory;
+  bytes = rw (sym memory, sym marks) kept.bytes;
 }
 
 -- what frames an event takes doesn't hang on the count of events
@@ -75,10 +74,12 @@ takes_counted (events.AttachFirst device) told old counted new memory marks ledg
   root = λ done. rw (sym memory, sym marks, sym ledger) (takes.root done);
   no_frames = λ refused. rw (sym memory, sym marks, sym ledger) (takes.no_frames refused);
   memory = takes.memory;
+  others = rw (sym memory, sym marks) takes.others;
 }
 takes_counted (events.Grant device page frame rights) told old counted new memory marks ledger devices takes = record {
   tables = λ done. rw (sym memory, sym marks, sym ledger, sym devices) (takes.tables done);
   no_frames = λ refused. rw (sym memory, sym marks, sym ledger, sym devices) (takes.no_frames refused);
+  others = rw (sym memory, sym marks) takes.others;
 }
 takes_counted (events.PlugRaw device) told old counted new memory marks ledger devices takes = kept_counted old counted new memory marks takes
 takes_counted (events.Release device page) told old counted new memory marks ledger devices takes = record {
@@ -90,6 +91,12 @@ takes_counted events.Poll told old counted new memory marks ledger devices takes
 takes_counted (events.Read device address len) told old counted new memory marks ledger devices takes = kept_counted old counted new memory marks takes
 takes_counted (events.Write device address bytes) told old counted new memory marks ledger devices takes = kept_counted old counted new memory marks takes
 takes_counted (events.Commit device) told old counted new memory marks ledger devices takes = kept_counted old counted new memory marks takes
+
+-- nor what a request is answered
+pub requests_counted : (event : Event) (told : Outcome) (old counted : World) → counted.ledger ≡ old.ledger → AnswersRequest event counted told → AnswersRequest event old told
+requests_counted (events.Read device address len) told old counted ledger answers = λ number accepted. rw (sym ledger) (answers number accepted)
+requests_counted (events.Write device address bytes) told old counted ledger answers = λ number accepted. rw (sym ledger) (answers number accepted)
+requests_counted _ told old counted ledger answers = tt
 
 -- a run has an outcome for each event
 pub run_length : (old new : State) (events : List Event) (outcomes : List Outcome) → Run old events outcomes new → length outcomes ≡ length events

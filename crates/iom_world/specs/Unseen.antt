@@ -1,6 +1,10 @@
--- What a step does to the parts of a world that the ledger machine doesn't see, and that a refusal changes none.
-use Rattle.std.specs.Prelude.{◌≡◌, ◌≢◌, ◌↔◌, ℕ, ◌+◌, ◌*◌, ◌/◌, ◌<◌, ◌≤◌, Bool, IsTrue, List, None, Some, length, slice_get}
+-- What a step does to the parts of a world that the ledger machine doesn't see, what it answers where the machine leaves a choice, and that a refusal
+-- changes nothing.
+use Rattle.std.specs.Prelude.{◌≡◌, ◌≢◌, ◌↔◌, ℕ, ◌+◌, ◌*◌, ◌/◌, ◌<◌, ◌≤◌, ⊤, Bool, IsTrue, List, None, Some, length, slice_get}
+use Rattle.iom_base.specs.declared.access.AccessKind.{AccessKind}
+use Rattle.iom_base.specs.declared.access.AccessKind.TheVariants.{Read, Write}
 use Rattle.iom_base.specs.declared.owner.Owner.{Owner}
+use Rattle.iom_base.specs.declared.owner.Owner.TheVariants.{OneDevice}
 use Rattle.iom_ledger.specs.Changes.{IsUnchanged}
 use Rattle.iom_ledger.specs.declared.refusal.Refusal.{Refusal}
 use Rattle.iom_ledger.specs.declared.refusal.Refusal.TheVariants.{Memory, NoFrames, QueueFull, NumbersUsedUp}
@@ -14,11 +18,12 @@ use Rattle.iom_phys_mem.specs.Words.{byte_at, word_at}
 use Rattle.iom_table_frames.specs.Marks.{NoneIsFree}
 use Rattle.iom_world.specs.declared.world.World.{World}
 use Rattle.iom_world.specs.Admission.{IsRootOf, TakesHighest, LacksTables, TakesTables}
+use Rattle.iom_world.specs.Held.{IsHeldFor}
 use Rattle.iom_world.specs.Places.{SomeInFlight}
 use Rattle.iom_world.specs.Queue.{Queue, with_release, AfterFetch, polled_from}
 
--- a release that is answered so: its ticket is the next, and its commands are appended; a full queue is told only where there is no room for them, used-
--- up numbers only where there is room and no number; and a refusal leaves the commands
+-- a release that is answered so: its ticket is the next, and its commands are appended; a full queue is told only where there is no room for them,
+-- used-up numbers only where there is room and no number; and a refusal leaves the commands
 pub record AfterRelease (old : Queue) (told : Outcome) (new : Queue) : Type 0 where
   pub ticket : (ticket : ℕ) → told ≡ outcome.Ticket ticket → (ticket ≡ old.given + 1) × (new ≡ with_release old)
   pub full : told ≡ outcome.Refused QueueFull → 255 < length old.waiting + 2
@@ -34,16 +39,30 @@ AfterEvent events.Poll in_flight old told new =
     (told ≡ polled_from old) × (new ≡ record old { confirmed = old.completed })
 AfterEvent _ in_flight old told new = new ≡ old
 
--- an attachment that is answered so: its root takes the highest free frame; want of frames is told only where none is free, and want of memory never
+-- each frame that is somebody's keeps its bytes
+abbrev pub KeepsOwned : World → World → Type 0
+KeepsOwned old new = (frame : ℕ) (owner : Owner) → slice_get old.marks frame ≡ Some (Some owner) → slice_get new.memory frame ≡ slice_get old.memory frame
+
+-- each frame that is somebody's, and isn't this device's, keeps its bytes
+abbrev pub KeepsOthers : ℕ → World → World → Type 0
+KeepsOthers device old new =
+    (frame : ℕ) (owner : Owner) → slice_get old.marks frame ≡ Some (Some owner) → owner ≢ OneDevice device
+    → slice_get new.memory frame ≡ slice_get old.memory frame
+
+-- an attachment that is answered so: its root takes the highest free frame; want of frames is told only where none is free, and want of memory never;
+-- and no frame that was somebody's changes
 pub record AttachTakes (old : World) (device : ℕ) (told : Outcome) (new : World) : Type 0 where
   pub root : told ≡ outcome.Done → TakesHighest old.memory old.marks old.ledger device new.marks
   pub no_frames : told ≡ outcome.Refused NoFrames → NoneIsFree old.marks old.ledger None 0 (length old.memory)
   pub memory : told ≢ outcome.Refused Memory
+  pub others : KeepsOwned old new
 
--- a grant that is answered so: the tables that the page lacks take the highest free frames; want of frames is told only where too few are free for them
+-- a grant that is answered so: the tables that the page lacks take the highest free frames; want of frames is told only where too few are free for them;
+-- and no frame that is somebody else's changes
 pub record GrantTakes (old : World) (device page frame : ℕ) (told : Outcome) (new : World) : Type 0 where
   pub tables : told ≡ outcome.Done → TakesTables old.memory old.marks old.ledger old.devices.items device page frame new.marks
   pub no_frames : told ≡ outcome.Refused NoFrames → LacksTables old.memory old.marks old.ledger old.devices.items device page frame
+  pub others : KeepsOthers device old new
 
 -- the eight bytes of the page's leaf are zero, and each other byte of memory stays
 pub record ClearsLeaf (old new : List (List ℕ)) (root page : ℕ) : Type 0 where
@@ -58,15 +77,26 @@ pub record ReleaseClears (old : World) (device page : ℕ) (told : Outcome) (new
 -- whose each frame is stays, and so do the bytes of each frame that is somebody's
 pub record KeepsTables (old new : World) : Type 0 where
   pub marks : new.marks ≡ old.marks
-  pub bytes : (frame : ℕ) (owner : Owner) → slice_get old.marks frame ≡ Some (Some owner) → slice_get new.memory frame ≡ slice_get old.memory frame
+  pub bytes : KeepsOwned old new
 
--- an attachment takes a frame for its root, a grant those for the tables that its page lacks, and a release clears a leaf; nothing else changes whose a
--- frame is, or a table
+-- an attachment takes a frame for its root, a grant those for the tables that its page lacks, and a release clears a leaf, each in tables of its own
+-- device alone; nothing else changes whose a frame is, or a table
 abbrev pub TakesFrames : Event → World → Outcome → World → Type 0
 TakesFrames (events.AttachFirst device) old told new = AttachTakes old device told new
 TakesFrames (events.Grant device page frame rights) old told new = GrantTakes old device page frame told new
 TakesFrames (events.Release device page) old told new = ReleaseClears old device page told new
 TakesFrames _ old told new = KeepsTables old new
+
+-- an access that is accepted is to a page that its device holds, with a right that allows it: what only lingers gets no new access
+abbrev pub AcceptsHeld : World → ℕ → ℕ → AccessKind → Outcome → Type 0
+AcceptsHeld old id address kind told =
+    (number : ℕ) → told ≡ outcome.Accepted number → (frame : ℕ) × IsHeldFor old.ledger id (address / 4096) kind frame
+
+-- a read and a write are accepted only to what is held
+abbrev pub AnswersRequest : Event → World → Outcome → Type 0
+AnswersRequest (events.Read device address len) old told = AcceptsHeld old device address Read told
+AnswersRequest (events.Write device address bytes) old told = AcceptsHeld old device address Write told
+AnswersRequest _ old told = ⊤
 
 -- all is the same but the count of events, and what room the ledger has
 pub record IsSame (old new : World) : Type 0 where
@@ -82,9 +112,10 @@ abbrev pub SameIfRefused : Outcome → World → World → Type 0
 SameIfRefused told old new = (why : Refusal) → told ≡ outcome.Refused why → IsSame old new
 
 -- what the ledger machine doesn't see of an event that is answered so: what it does to the commands, by whether an access is in flight; which frames
--- it takes for tables; that a refusal changes nothing; and that the event is counted
+-- it takes for tables; that a request is accepted only to what is held; that a refusal changes nothing; and that the event is counted
 pub record Follows (old : World) (event : Event) (told : Outcome) (new : World) : Type 0 where
   pub queue : (in_flight : Bool) → (IsTrue in_flight ↔ SomeInFlight old.devices.items) → AfterEvent event in_flight old.commands told new.commands
   pub frames : TakesFrames event old told new
+  pub requests : AnswersRequest event old told
   pub refused : SameIfRefused told old new
   pub events : new.events ≡ old.events + 1

@@ -11,7 +11,7 @@ ghost use Rattle.iom_world.specs.Answers.{outcome_of};
 ghost use Rattle.iom_world.specs.Places.{CountsBelow};
 ghost use Rattle.iom_world.specs.Replies.{IsReply};
 ghost use Rattle.iom_world.specs.Shows.{Shows};
-ghost use Rattle.iom_world.specs.Unseen.{SameIfRefused};
+ghost use Rattle.iom_world.specs.Unseen.{SameIfRefused, AcceptsHeld};
 
 use crate::answer::Answer;
 use crate::device::Device;
@@ -122,6 +122,7 @@ impl World {
         requires { CountsBelow self.old.devices.items self.old.events }
         ensures step { (state : State) → Shows self.old state → (frame : ℕ) × (next : State)
             × Requests frame state id (read_of address len) (outcome_of result) next × Shows self.new next }
+        ensures requests { AcceptsHeld self.old id address Read (outcome_of result) }
         ensures refused { SameIfRefused (outcome_of result) self.old self.new }
         ensures commands { self.new.commands ≡ self.old.commands }
         ensures memory { self.new.memory ≡ self.old.memory }
@@ -149,6 +150,7 @@ impl World {
         requires { CountsBelow self.old.devices.items self.old.events }
         ensures step { (state : State) → Shows self.old state → (frame : ℕ) × (next : State)
             × Requests frame state id (write_of address bytes.now) (outcome_of result) next × Shows self.new next }
+        ensures requests { AcceptsHeld self.old id address Write (outcome_of result) }
         ensures refused { SameIfRefused (outcome_of result) self.old self.new }
         ensures commands { self.new.commands ≡ self.old.commands }
         ensures memory { self.new.memory ≡ self.old.memory }

@@ -6,7 +6,7 @@ ghost use Rattle.iom_machine.specs.PowerOn.{opening};
 ghost use Rattle.iom_world.specs.Places.{CountsBelow, SomeInFlight};
 ghost use Rattle.iom_world.specs.Runs.{RunsTo, ReclaimsFrom, FailsAfter};
 ghost use Rattle.iom_world.specs.Shows.{Shows};
-ghost use Rattle.iom_world.specs.Unseen.{AfterEvent, TakesFrames, SameIfRefused};
+ghost use Rattle.iom_world.specs.Unseen.{AfterEvent, TakesFrames, AnswersRequest, SameIfRefused};
 
 use crate::places::Places;
 use crate::world::World;
@@ -21,6 +21,7 @@ impl World {
         ensures queue { (in_flight : Bool) → (IsTrue in_flight ↔ SomeInFlight self.old.devices.items)
             → AfterEvent event.now in_flight self.old.commands told.new self.new.commands }
         ensures frames { TakesFrames event.now self.old told.new self.new }
+        ensures requests { AnswersRequest event.now self.old told.new }
         ensures refused { SameIfRefused told.new self.old self.new }
         ensures events { self.new.events ≡ self.old.events }
     {
@@ -58,6 +59,7 @@ impl World {
         ensures queue { (in_flight : Bool) → (IsTrue in_flight ↔ SomeInFlight self.old.devices.items)
             → AfterEvent event.now in_flight self.old.commands told.new self.new.commands }
         ensures frames { TakesFrames event.now self.old told.new self.new }
+        ensures requests { AnswersRequest event.now self.old told.new }
         ensures refused { SameIfRefused told.new self.old self.new }
         ensures events { self.new.events ≡ self.old.events + 1 }
     {
@@ -67,8 +69,9 @@ impl World {
 
     /// One event, and what comes of it: a lawful step of the ledger machine from every state that the
     /// world shows. A release, a fetch and a poll do to the commands what the driver and the IOMMU do; an
-    /// attach and a grant take the highest free frames for tables; a refusal changes nothing. Each event
-    /// is counted, whatever comes of it.
+    /// attach and a grant take the highest free frames for tables, and change nobody else's; a request is
+    /// accepted only to a page that is held; a refusal changes nothing. Each event is counted, whatever
+    /// comes of it.
     pub fn step(&mut self, event: &Event) -> Outcome
         requires event { IsEvent event.now }
         requires count { self.old.events + 1 < 2 ^ 64 }
@@ -76,6 +79,7 @@ impl World {
         ensures queue { (in_flight : Bool) → (IsTrue in_flight ↔ SomeInFlight self.old.devices.items)
             → AfterEvent event.now in_flight self.old.commands result self.new.commands }
         ensures frames { TakesFrames event.now self.old result self.new }
+        ensures requests { AnswersRequest event.now self.old result }
         ensures refused { SameIfRefused result self.old self.new }
         ensures events { self.new.events ≡ self.old.events + 1 }
     {
@@ -86,8 +90,8 @@ impl World {
 
     /// The events, one after another: the sink takes the outcome of each, and the run stops at the first
     /// that it fails at. The outcomes are those of a run of the ledger machine over the events, from every
-    /// state that the world shows; and each event does to the commands and to the frames of tables what
-    /// [`World::step`] says of it.
+    /// state that the world shows; and each event does to the commands and to the frames of tables, and
+    /// answers to a request, what [`World::step`] says of it.
     pub fn run<S: Sink>(&mut self, events: &[Event], sink: &mut S) -> Result<(), S::Fault>
         requires events { All IsEvent events.now }
         requires count { self.old.events + length events.now < 2 ^ 64 }

@@ -115,12 +115,14 @@ returns-in-AttachFirst-clause-frames c = rw (c.in-AttachFirst.is, c.tell-in-Atta
   root = λ done. c.attach.ensures.root (answer_done c.attach.result done);
   no_frames = λ refused. c.attach.ensures.no_frames (answer_refused c.attach.result NoFrames refused);
   memory = λ refused. c.attach.ensures.memory (answer_refused c.attach.result Memory refused);
+  others = c.attach.ensures.others;
 }
 
 pub returns-in-Grant-clause-frames : goal.returns-in-Grant-clause-frames
 returns-in-Grant-clause-frames c = rw (c.in-Grant.is, c.tell-in-Grant.ensures) record {
   tables = λ done. c.grant.ensures.tables (answer_done c.grant.result done);
   no_frames = λ refused. c.grant.ensures.no_frames (answer_refused c.grant.result NoFrames refused);
+  others = c.grant.ensures.others;
 }
 
 pub returns-in-PlugRaw-clause-frames : goal.returns-in-PlugRaw-clause-frames
@@ -146,3 +148,9 @@ returns-in-Release-clause-frames c = rw (c.in-Release.is, c.tell-in-Release.ensu
   marks = c.release.ensures.marks;
   leaf = c.release.ensures.cleared;
 }
+
+pub returns-in-Read-clause-requests : goal.returns-in-Read-clause-requests
+returns-in-Read-clause-requests c = rw (c.in-Read.is, c.tell-in-Read.ensures) c.read.ensures.requests
+
+pub returns-in-Write-clause-requests : goal.returns-in-Write-clause-requests
+returns-in-Write-clause-requests c = rw (c.in-Write.is, c.tell-in-Write.ensures) c.write.ensures.requests

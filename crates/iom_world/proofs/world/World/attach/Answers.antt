@@ -23,8 +23,8 @@ use Rattle.iom_world.proofs.FreeLemmas.{free_in_machine, free_in_world}
 use Rattle.iom_world.specs.declared.device.Device.{Device}
 use Rattle.iom_world.specs.Places.{IsPlaceOf}
 use Rattle.iom_table_frames.proofs.MarkLemmas.{OffersUnreserved-reserved}
-use Rattle.iom_world.proofs.GrantLemmas.{shown_reserved, sound_unchanged, tables_unchanged}
-use Rattle.iom_world.proofs.AttachLemmas.{sound_attached, tables_attached, rooted, unmarked, none_free}
+use Rattle.iom_world.proofs.GrantLemmas.{sound_unchanged, tables_unchanged}
+use Rattle.iom_world.proofs.AttachLemmas.{sound_attached, tables_attached, rooted, unmarked, owned_differs, none_free}
 use Rattle.iom_world.proofs.ListLemmas.{get_within, read_is, get_set_same, get_set_other}
 use Rattle.iom_world.proofs.ReasonLemmas.{attach_absent, attach_again, attach_wide, attach_may}
 use Rattle.iom_world.proofs.RefusalLemmas.{refused_first, refused_else, some_and}
@@ -132,7 +132,7 @@ invariant_of-self-2 c =
     let own : device.id ≡ c.args.id = ap (λ (d : Device). d.id) same_device ∙ place.2 in
     let mark : c.reserve.new.self ≡ slice_set world.marks root (Some (OneDevice device.id)) = c.reserve.ensures.mark ∙ ap (λ i. slice_set world.marks root (Some (OneDevice i))) (sym own) in
     let none : (page : ℕ) → held_in world.ledger device.id page ≡ None = (world.sound.each c.in-Some.place device at).detached (ap (λ (d : Device). d.root) same_device ∙ detached) in
-    let shown = shown_reserved world.ledger c.reserve.new.ledger root c.reserve.ensures.ledger in
+    let shown = c.reserve.ensures.ledger.shown in
     rw (mark, c.reserve.ensures.zero) record {
       sound = sound_unchanged _ _ world.ledger c.reserve.new.ledger _ world.commands world.events shown
           (sound_attached world.memory (slice_set world.memory root zeroed) world.marks world.ledger world.devices.items world.commands world.events c.in-Some.place root device (OneDevice device.id)
@@ -182,3 +182,12 @@ returns-clause-step c = λ state shows.
         levels = shows.levels;
       },
     )
+
+pub returns-clause-others : goal.returns-clause-others
+returns-clause-others c = λ frame owner at.
+    let world = c.args.self.now in
+    let root = c.in-Some-highest_free.root in
+    let found : IsHighestFree world.marks world.ledger None c.frames-frames.result root = c.in-Some-highest_free.ensures in
+    let inside : root < length world.memory = subst (λ m. root < m) c.frames-frames.ensures found.below in
+    let marked : root < length world.marks = subst (λ m. root < m) (sym world.sound.marked) inside in
+    rw c.reserve.ensures.zero (get_set_other world.memory root frame zeroed (owned_differs world.marks frame root owner at (unmarked world.marks root marked found.free.unmarked)))

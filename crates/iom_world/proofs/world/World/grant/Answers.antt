@@ -1,4 +1,4 @@
-use Rattle.std.proofs.Common.{◌≡◌, ◌≢◌, ◌∙◌, ℕ, [], ◌∷◌, true, false, Option, Some, None, Result, Ok, Err, OnOk, OnErr, get_or, All, refl, sym, ap, subst, arith}
+use Rattle.std.proofs.Common.{◌≡◌, ◌≢◌, ◌∙◌, ℕ, List, [], ◌∷◌, true, false, Option, Some, None, Result, Ok, Err, OnOk, OnErr, get_or, All, refl, sym, ap, subst, arith}
 use Rattle.std.specs.Result.{is_err}
 use Rattle.std.proofs.lemmas.Bool.{false≢true}
 use Rattle.iom_ledger.specs.declared.entry.Entry.TheVariants as entry
@@ -13,8 +13,8 @@ use Rattle.iom_table_frames.specs.Marks.{OffersUnreserved}
 use Rattle.iom_world.specs.Admission.{marked_for, cleared}
 use Rattle.iom_world.proofs.FrameLemmas.{shows_kept}
 use Rattle.iom_world.proofs.FreeLemmas.{free_in_machine, free_in_world}
-use Rattle.iom_world.proofs.GrantLemmas.{shown_unchanged, sound_unchanged, tables_unchanged, sound_granted}
-use Rattle.iom_world.proofs.GrantTables.{missing_two, may_be_mapped, IsMapped, mapped_others, tables_granted}
+use Rattle.iom_world.proofs.GrantLemmas.{sound_unchanged, tables_unchanged, sound_granted}
+use Rattle.iom_world.proofs.GrantTables.{missing_two, may_be_mapped, IsMapped, mapped_others, kept_others, tables_granted}
 use Rattle.iom_world.proofs.MarkLemmas.{length-cleared, shows_all_reserved}
 use Rattle.iom_world.proofs.RefusalLemmas.{refused_else}
 use Rattle.iom_world.proofs.ReleaseTables.{tables_of_root}
@@ -34,6 +34,13 @@ some_other frame n other same = let e : frame ≡ n = cc in other (sym e)
 
 nobody's : (id : ℕ) → ◌≡◌ {A = Option (Option Owner)} (Some None) (Some (Some (OneDevice id))) → ⊥
 nobody's id same = cc
+
+-- the frames that are cleared and then mapped are the chosen ones
+mapped_as : (memory before after : List (List ℕ)) (root page : ℕ) (leaf : PageLeaf) (clears maps chosen : List ℕ) → before ≡ cleared clears memory → clears ≡ chosen → maps ≡ chosen
+    → IsMapped before after root page leaf maps → IsMapped (cleared chosen memory) after root page leaf chosen
+mapped_as memory before after root page leaf clears maps chosen is clears_is maps_is mapped =
+    subst (λ m. IsMapped m after root page leaf chosen) (is ∙ ap (λ fs. cleared fs memory) clears_is)
+    (subst (λ fs. IsMapped before after root page leaf fs) maps_is mapped)
 
 pub overflow_cast-frame : goal.overflow_cast-frame
 overflow_cast-frame c = omega (arith, c.in-Ok.ensures.root.1.small)
@@ -59,7 +66,7 @@ pub invariant_of-self : goal.invariant_of-self
 invariant_of-self c =
     let world = c.args.self.now in
     let same = err_then c.grant.result (sym c.is_err.ensures.value ∙ c.if-is_err.true) c.grant.ensures.refused in
-    let shown = shown_unchanged world.ledger c.grant.new.self same in
+    let shown = same.shown in
     record {
       sound = sound_unchanged world.memory world.marks world.ledger c.grant.new.self world.devices.items world.commands world.events shown world.sound;
       tables = tables_unchanged world.memory world.marks world.ledger c.grant.new.self world.devices.items shown world.tables;
@@ -103,17 +110,14 @@ invariant_of-self-2 c =
     let world = c.args.self.now in
     let tables = c.in-Some.tables.items in
     let leaf : PageLeaf = record { frame = c.args.frame; rights = c.args.rights } in
-    let before : c.reserve_all.new.memory ≡ cleared tables world.memory = c.reserve_all.ensures.memory ∙ ap (λ ts. cleared ts world.memory) c.as_slice.ensures.value in
-    let whole : IsMapped c.reserve_all.new.memory c.map.new.memory c.in-Ok.root c.args.page leaf c.as_slice-2.result.now = record {
+    let mapped = mapped_as world.memory c.reserve_all.new.memory c.map.new.memory c.in-Ok.root c.args.page leaf c.as_slice.result.now c.as_slice-2.result.now tables
+    c.reserve_all.ensures.memory c.as_slice.ensures.value c.as_slice-2.ensures.value record {
       tree = c.map.ensures.tree;
       tables = c.map.ensures.tables;
       leaf = c.map.ensures.leaf;
       outside = c.map.ensures.outside;
       size = c.map.ensures.size;
     } in
-    let mapped : IsMapped (cleared tables world.memory) c.map.new.memory c.in-Ok.root c.args.page leaf tables =
-    subst (λ m. IsMapped m c.map.new.memory c.in-Ok.root c.args.page leaf tables) before
-    (subst (λ ts. IsMapped c.reserve_all.new.memory c.map.new.memory c.in-Ok.root c.args.page leaf ts) c.as_slice-2.ensures.value whole) in
     let granted = ok_then c.grant.result (sym c.is_err.ensures.value ∙ c.if-is_err.false) c.grant.ensures.granted in
     let root = c.in-Ok.ensures.root in
     let chose = c.in-Some.ensures.chosen in
@@ -133,17 +137,14 @@ returns-clause-step c = λ state shows.
     let world = c.args.self.now in
     let tables = c.in-Some.tables.items in
     let leaf : PageLeaf = record { frame = c.args.frame; rights = c.args.rights } in
-    let before : c.reserve_all.new.memory ≡ cleared tables world.memory = c.reserve_all.ensures.memory ∙ ap (λ ts. cleared ts world.memory) c.as_slice.ensures.value in
-    let whole : IsMapped c.reserve_all.new.memory c.map.new.memory c.in-Ok.root c.args.page leaf c.as_slice-2.result.now = record {
+    let mapped = mapped_as world.memory c.reserve_all.new.memory c.map.new.memory c.in-Ok.root c.args.page leaf c.as_slice.result.now c.as_slice-2.result.now tables
+    c.reserve_all.ensures.memory c.as_slice.ensures.value c.as_slice-2.ensures.value record {
       tree = c.map.ensures.tree;
       tables = c.map.ensures.tables;
       leaf = c.map.ensures.leaf;
       outside = c.map.ensures.outside;
       size = c.map.ensures.size;
     } in
-    let mapped : IsMapped (cleared tables world.memory) c.map.new.memory c.in-Ok.root c.args.page leaf tables =
-    subst (λ m. IsMapped m c.map.new.memory c.in-Ok.root c.args.page leaf tables) before
-    (subst (λ ts. IsMapped c.reserve_all.new.memory c.map.new.memory c.in-Ok.root c.args.page leaf ts) c.as_slice-2.ensures.value whole) in
     let agrees = ok_then c.grant.result (sym c.is_err.ensures.value ∙ c.if-is_err.false) c.grant.ensures.agrees in
     let own = tables_of_root world.memory world.marks world.ledger world.devices.items c.args.id c.in-Ok.root world.tables c.in-Ok.ensures.root.0 in
     let chose = c.in-Some.ensures.chosen in
@@ -170,3 +171,20 @@ returns-clause-step c = λ state shows.
         levels = shows.levels;
       },
     )
+
+pub returns-clause-others : goal.returns-clause-others
+returns-clause-others c = λ frame owner at other.
+    let world = c.args.self.now in
+    let tables = c.in-Some.tables.items in
+    let leaf : PageLeaf = record { frame = c.args.frame; rights = c.args.rights } in
+    let mapped = mapped_as world.memory c.reserve_all.new.memory c.map.new.memory c.in-Ok.root c.args.page leaf c.as_slice.result.now c.as_slice-2.result.now tables
+    c.reserve_all.ensures.memory c.as_slice.ensures.value c.as_slice-2.ensures.value record {
+      tree = c.map.ensures.tree;
+      tables = c.map.ensures.tables;
+      leaf = c.map.ensures.leaf;
+      outside = c.map.ensures.outside;
+      size = c.map.ensures.size;
+    } in
+    let own = tables_of_root world.memory world.marks world.ledger world.devices.items c.args.id c.in-Ok.root world.tables c.in-Ok.ensures.root.0 in
+    kept_others world.memory c.map.new.memory world.marks world.ledger c.args.id c.in-Ok.root c.args.page c.args.frame c.missing-lacking.result frame leaf tables owner
+    world.sound.marked own c.in-Some.ensures.chosen mapped at other

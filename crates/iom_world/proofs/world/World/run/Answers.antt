@@ -14,6 +14,7 @@ loop-event-preserved g c = record {
       so_far c.event-item.is c.loop-event-test.true next.1 record {
         queue = c.take.ensures.queue;
         frames = c.take.ensures.frames;
+        requests = c.take.ensures.requests;
         refused = c.take.ensures.refused;
         events = c.take.ensures.events;
       } next.2 c.in_ok-put.ensures.taken;
@@ -29,6 +30,7 @@ returns-in_err-put-clause-failed g c = λ state shows.
     so_far c.event-item.is c.loop-event-test.true (omega (arith, c.take.ensures.events, c.loop-event.invariant.counted)) next.1 record {
       queue = c.take.ensures.queue;
       frames = c.take.ensures.frames;
+      requests = c.take.ensures.requests;
       refused = c.take.ensures.refused;
       events = c.take.ensures.events;
     } next.2 c.in_err-put.ensures.failed)

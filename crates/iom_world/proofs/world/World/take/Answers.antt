@@ -1,5 +1,5 @@
 use Rattle.std.proofs.Common.{refl}
-use Rattle.iom_world.proofs.RunLemmas.{sound_counted, below_counted, takes_counted}
+use Rattle.iom_world.proofs.RunLemmas.{sound_counted, below_counted, takes_counted, requests_counted}
 use Rattle.iom_world.proofs.world.World.take.Goals as goal
 
 pub invariant_of-self : goal.invariant_of-self
@@ -36,3 +36,6 @@ returns-clause-refused c = λ why refused. let same = c.answer.ensures.refused w
 
 pub returns-clause-frames : goal.returns-clause-frames
 returns-clause-frames c = takes_counted c.args.event.now _ c.args.self.now _ _ refl refl refl refl c.answer.ensures.frames
+
+pub returns-clause-requests : goal.returns-clause-requests
+returns-clause-requests c = requests_counted c.args.event.now _ c.args.self.now _ refl c.answer.ensures.requests

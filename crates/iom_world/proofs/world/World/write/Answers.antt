@@ -1,11 +1,12 @@
 use Rattle.std.proofs.Common.{◌+◌, ◌∙◌, ap, arith}
+use Rattle.iom_base.specs.declared.access.AccessKind.TheVariants as kind
 use Rattle.iom_inflight.specs.Flights.{write_flight}
 use Rattle.iom_machine.specs.Requests.{write_of, with_accepted}
 use Rattle.iom_world.specs.declared.device.Device.{Device}
 use Rattle.iom_world.specs.Devices.{shown_device}
 use Rattle.iom_world.proofs.ListLemmas.{get_within}
 use Rattle.iom_world.proofs.ReplaceLemmas.{same_item}
-use Rattle.iom_world.proofs.RequestLemmas.{acts_absent, room_by_idle, with_flight, sound_accepted, tables_accepted, requests_accepted, devices_accepted, requests_busy, requests_bad_span, requests_fault}
+use Rattle.iom_world.proofs.RequestLemmas.{acts_absent, held_by_translated, room_by_idle, with_flight, sound_accepted, tables_accepted, requests_accepted, devices_accepted, requests_busy, requests_bad_span, requests_fault}
 use Rattle.iom_world.proofs.world.World.write.Goals as goal
 
 pub returns-in_default-clause-step : goal.returns-in_default-clause-step
@@ -97,3 +98,8 @@ returns-in-Fault-clause-step c = λ state shows.
           (c.in-Fault.ensures place.0 place.1),
       shows,
     )
+
+pub returns-in-Accept-clause-requests : goal.returns-in-Accept-clause-requests
+returns-in-Accept-clause-requests c = λ number accepted.
+    let place = c.in-Some.ensures in
+    (c.in-Accept.frame, held_by_translated place.0.root c.args.self.now.ledger place.0.id c.args.id c.args.address c.in-Accept.frame kind.Write place.2 (c.in-Accept.ensures place.0 place.1).1)
