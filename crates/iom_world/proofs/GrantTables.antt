@@ -1,7 +1,7 @@
 -- The tables of a device that gets a page: what it may be mapped with, and what they are then.
-use Rattle.std.proofs.Common.{◌≡◌, ◌≢◌, ◌/◌, ◌^◌, ◌<◌, ◌≤◌, ◌==◌, ◌&&◌, ◌⊎◌, inl, inr, ◌∙◌, ℕ, true, false, List, [], ◌∷◌, length, Option, Some, None, option_map, is_some, slice_get, get_or, refl, sym, ap, subst, arith, All, Contains, if◌then◌else◌}
+use Rattle.std.proofs.Common.{◌≡◌, ◌≢◌, ◌/◌, ◌%◌, ◌^◌, ◌<◌, ◌≤◌, ◌==◌, ◌&&◌, ◌⊎◌, inl, inr, ◌∙◌, ℕ, true, false, List, [], ◌∷◌, length, Option, Some, None, option_map, is_some, slice_get, get_or, refl, sym, ap, subst, arith, All, Contains, if◌then◌else◌}
 use Rattle.std.specs.Prelude.{◌↔◌}
-use Rattle.std.specs.Option.{option_map_or}
+use Rattle.std.specs.Option.{option_map_or, option_and_then}
 use Rattle.std.proofs.lemmas.Bool.{eq-eqb}
 use Rattle.std.proofs.lemmas.Bool.Decides.{eqb_tells}
 use Rattle.iom_base.specs.declared.rights.Rights.{Rights}
@@ -13,9 +13,10 @@ use Rattle.iom_stage_walk.specs.Paths.{path_of}
 use Rattle.iom_stage_walk.specs.declared.entry.Entry.{Entry}
 use Rattle.iom_stage_walk.specs.declared.entry.Entry.TheVariants.{Outside, Faulty, Pointer, Leaf}
 use Rattle.iom_stage_walk.proofs.Alike.{Alike, same_entry}
+use Rattle.iom_phys_mem.specs.Words.{byte_at}
 use Rattle.iom_page_table.specs.declared.leaf.PageLeaf.{PageLeaf}
 use Rattle.iom_page_table.specs.Leaves.{leaf_of}
-use Rattle.iom_page_table.specs.Sv39.{IsRoot, HasTable, ChangesLeaf, KeepsOutside, missing_for}
+use Rattle.iom_page_table.specs.Sv39.{IsRoot, HasTable, ChangesLeaf, KeepsOutside, FillsEntry, missing_for}
 use Rattle.iom_page_table.specs.Trees.{sv39, IsFrameOf, AreFresh, missing_under, missing_here}
 use Rattle.iom_page_table.proofs.Pages.{path_shaped}
 use Rattle.iom_page_table.proofs.Stays.{stays}
@@ -141,6 +142,19 @@ kept_others memory memory' marks ledger id root page named count n leaf chosen o
     mapped_others memory memory' marks ledger id root page named count n leaf chosen long tables chose mapped
     (λ now. let both : ◌≡◌ {A = Option (Option Owner)} (Some (Some owner)) (Some (Some (OneDevice id))) = sym mark ∙ sym (mark_stays id n chosen marks apart) ∙ now in other cc)
     ∙ bytes_stay n chosen memory apart
+
+-- a byte of a frame that is somebody's stays, but in an entry that is filled
+pub kept_unfilled : (memory memory' : List (List ℕ)) (marks : List (Option Owner)) (ledger : Ledger) (root page named count address : ℕ) (chosen : List ℕ) (owner : Owner) → length marks ≡ length memory
+    → AreChosen memory marks ledger named count chosen
+    → ((a : ℕ) → (FillsEntry (cleared chosen memory) memory' root page (a / 8) → ⊥) → byte_at memory' a ≡ byte_at (cleared chosen memory) a)
+    → slice_get marks (address / 4096) ≡ Some (Some owner) → (FillsEntry memory memory' root page (address / 8) → ⊥) → byte_at memory' address ≡ byte_at memory address
+kept_unfilled memory memory' marks ledger root page named count address chosen owner long chose other mark unfilled =
+    let stays : slice_get (cleared chosen memory) (address / 4096) ≡ slice_get memory (address / 4096) =
+    bytes_stay (address / 4096) chosen memory (not_chosen memory marks ledger named count (address / 4096) chosen owner long chose mark) in
+    let within : address / 8 / 512 ≡ address / 4096 = omega arith in
+    let entry = same_entry memory (cleared chosen memory) (address / 8) (subst (λ n. slice_get (cleared chosen memory) n ≡ slice_get memory n) (sym within) stays) in
+    other address (λ filled. unfilled (filled.0, sym entry ∙ filled.1))
+    ∙ ap (λ (o : Option (List ℕ)). option_and_then (λ (frame : List ℕ). slice_get frame (address % 4096)) o) stays
 
 pub tables_granted : (memory memory' : List (List ℕ)) (marks : List (Option Owner)) (old new : Ledger) (devices : List Device) (id root page frame count : ℕ) (rights : Rights) (chosen : List ℕ)
     → length marks ≡ length memory → HaveTables memory marks old devices → ((j k : ℕ) (one other : Device) → slice_get devices j ≡ Some one → slice_get devices k ≡ Some other → one.id ≡ other.id → j ≡ k)

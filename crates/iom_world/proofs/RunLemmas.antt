@@ -78,6 +78,7 @@ takes_counted (events.AttachFirst device) told old counted new memory marks ledg
 }
 takes_counted (events.Grant device page frame rights) told old counted new memory marks ledger devices takes = record {
   tables = λ done. rw (sym memory, sym marks, sym ledger, sym devices) (takes.tables done);
+  filled = λ done. rw (sym memory, sym marks, sym devices) (takes.filled done);
   no_frames = λ refused. rw (sym memory, sym marks, sym ledger, sym devices) (takes.no_frames refused);
   others = rw (sym memory, sym marks) takes.others;
 }

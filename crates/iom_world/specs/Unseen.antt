@@ -13,7 +13,7 @@ use Rattle.iom_machine.specs.declared.event.Event.TheVariants as events
 use Rattle.iom_machine.specs.declared.outcome.Fetched.{Fetched}
 use Rattle.iom_machine.specs.declared.outcome.Outcome.{Outcome}
 use Rattle.iom_machine.specs.declared.outcome.Outcome.TheVariants as outcome
-use Rattle.iom_page_table.specs.Sv39.{IsLeafEntry}
+use Rattle.iom_page_table.specs.Sv39.{IsLeafEntry, FillsEntry}
 use Rattle.iom_phys_mem.specs.Words.{byte_at, word_at}
 use Rattle.iom_table_frames.specs.Marks.{NoneIsFree}
 use Rattle.iom_world.specs.declared.world.World.{World}
@@ -57,10 +57,17 @@ pub record AttachTakes (old : World) (device : ℕ) (told : Outcome) (new : Worl
   pub memory : told ≢ outcome.Refused Memory
   pub others : KeepsOwned old new
 
+-- of the frames that were somebody's, no byte changes but of entries on the page's path, from the device's root, that no walk got past before
+abbrev pub FillsPath : ℕ → ℕ → World → World → Type 0
+FillsPath device page old new = (root : ℕ) × IsRootOf old.devices.items device root
+    × ((address : ℕ) (owner : Owner) → slice_get old.marks (address / 4096) ≡ Some (Some owner)
+    → ¬ FillsEntry old.memory new.memory root page (address / 8) → byte_at new.memory address ≡ byte_at old.memory address)
+
 -- a grant that is answered so: the tables that the page lacks take the highest free frames; want of frames is told only where too few are free for them;
--- and no frame that is somebody else's changes
+-- of what stood in tables only what the page needs is filled in; and no frame that is somebody else's changes
 pub record GrantTakes (old : World) (device page frame : ℕ) (told : Outcome) (new : World) : Type 0 where
   pub tables : told ≡ outcome.Done → TakesTables old.memory old.marks old.ledger old.devices.items device page frame new.marks
+  pub filled : told ≡ outcome.Done → FillsPath device page old new
   pub no_frames : told ≡ outcome.Refused NoFrames → LacksTables old.memory old.marks old.ledger old.devices.items device page frame
   pub others : KeepsOthers device old new
 

@@ -18,7 +18,7 @@ ghost use Rattle.iom_world.specs.declared.answer.Answer.TheVariants as answer;
 ghost use Rattle.iom_world.specs.Admission.{IsRootOf, TakesHighest, LacksTables, TakesTables, MayBeGranted, AreChosen, TooFewAreFree, marked_for, cleared};
 ghost use Rattle.iom_world.specs.Queue.{with_release};
 ghost use Rattle.iom_world.specs.Shows.{Shows};
-ghost use Rattle.iom_world.specs.Unseen.{SameIfRefused, KeepsOwned, KeepsOthers, ClearsLeaf};
+ghost use Rattle.iom_world.specs.Unseen.{SameIfRefused, KeepsOwned, KeepsOthers, FillsPath, ClearsLeaf};
 
 use crate::answer::Answer;
 use crate::world::World;
@@ -159,6 +159,7 @@ impl World {
         ensures commands { self.new.commands ≡ self.old.commands }
         ensures no_frames { result ≡ answer.Refused NoFrames → LacksTables self.old.memory self.old.marks self.old.ledger self.old.devices.items id page frame }
         ensures others { KeepsOthers id self.old self.new }
+        ensures filled { result ≡ answer.Done → FillsPath id page self.old self.new }
         ensures tables { result ≡ answer.Done → TakesTables self.old.memory self.old.marks self.old.ledger self.old.devices.items id page frame self.new.marks }
         ensures events { self.new.events ≡ self.old.events }
     {

@@ -121,6 +121,7 @@ returns-in-AttachFirst-clause-frames c = rw (c.in-AttachFirst.is, c.tell-in-Atta
 pub returns-in-Grant-clause-frames : goal.returns-in-Grant-clause-frames
 returns-in-Grant-clause-frames c = rw (c.in-Grant.is, c.tell-in-Grant.ensures) record {
   tables = λ done. c.grant.ensures.tables (answer_done c.grant.result done);
+  filled = λ done. c.grant.ensures.filled (answer_done c.grant.result done);
   no_frames = λ refused. c.grant.ensures.no_frames (answer_refused c.grant.result NoFrames refused);
   others = c.grant.ensures.others;
 }

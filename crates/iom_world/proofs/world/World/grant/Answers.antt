@@ -1,4 +1,4 @@
-use Rattle.std.proofs.Common.{◌≡◌, ◌≢◌, ◌∙◌, ℕ, List, [], ◌∷◌, true, false, Option, Some, None, Result, Ok, Err, OnOk, OnErr, get_or, All, refl, sym, ap, subst, arith}
+use Rattle.std.proofs.Common.{◌≡◌, ◌≢◌, ◌/◌, ◌∙◌, ℕ, List, [], ◌∷◌, true, false, Option, Some, None, Result, Ok, Err, OnOk, OnErr, get_or, All, refl, sym, ap, subst, arith}
 use Rattle.std.specs.Result.{is_err}
 use Rattle.std.proofs.lemmas.Bool.{false≢true}
 use Rattle.iom_ledger.specs.declared.entry.Entry.TheVariants as entry
@@ -6,7 +6,9 @@ use Rattle.iom_ledger.specs.declared.refusal.Refusal.TheVariants.{NoFrames}
 use Rattle.iom_base.specs.declared.owner.Owner.TheVariants as machine
 use Rattle.iom_machine.specs.Frames.{IsFree, reserved_for}
 use Rattle.iom_machine.specs.Refusals.{grant_reasons, MayRefuseGrant}
+use Rattle.iom_phys_mem.specs.Words.{byte_at}
 use Rattle.iom_page_table.specs.declared.leaf.PageLeaf.{PageLeaf}
+use Rattle.iom_page_table.specs.Sv39.{FillsEntry}
 use Rattle.iom_base.specs.declared.owner.Owner.{Owner}
 use Rattle.iom_base.specs.declared.owner.Owner.TheVariants.{OneDevice}
 use Rattle.iom_table_frames.specs.Marks.{OffersUnreserved}
@@ -14,7 +16,7 @@ use Rattle.iom_world.specs.Admission.{marked_for, cleared}
 use Rattle.iom_world.proofs.FrameLemmas.{shows_kept}
 use Rattle.iom_world.proofs.FreeLemmas.{free_in_machine, free_in_world}
 use Rattle.iom_world.proofs.GrantLemmas.{sound_unchanged, tables_unchanged, sound_granted}
-use Rattle.iom_world.proofs.GrantTables.{missing_two, may_be_mapped, IsMapped, mapped_others, kept_others, tables_granted}
+use Rattle.iom_world.proofs.GrantTables.{missing_two, may_be_mapped, IsMapped, mapped_others, kept_others, kept_unfilled, tables_granted}
 use Rattle.iom_world.proofs.MarkLemmas.{length-cleared, shows_all_reserved}
 use Rattle.iom_world.proofs.RefusalLemmas.{refused_else}
 use Rattle.iom_world.proofs.ReleaseTables.{tables_of_root}
@@ -188,3 +190,22 @@ returns-clause-others c = λ frame owner at other.
     let own = tables_of_root world.memory world.marks world.ledger world.devices.items c.args.id c.in-Ok.root world.tables c.in-Ok.ensures.root.0 in
     kept_others world.memory c.map.new.memory world.marks world.ledger c.args.id c.in-Ok.root c.args.page c.args.frame c.missing-lacking.result frame leaf tables owner
     world.sound.marked own c.in-Some.ensures.chosen mapped at other
+
+-- what is said of the frames that are cleared and then mapped is said of the chosen ones
+filled_as : (memory before after : List (List ℕ)) (root page : ℕ) (clears chosen : List ℕ) → before ≡ cleared clears memory → clears ≡ chosen
+    → ((a : ℕ) → (FillsEntry before after root page (a / 8) → ⊥) → byte_at after a ≡ byte_at before a)
+    → (a : ℕ) → (FillsEntry (cleared chosen memory) after root page (a / 8) → ⊥) → byte_at after a ≡ byte_at (cleared chosen memory) a
+filled_as memory before after root page clears chosen is clears_is other =
+    subst (λ m. (a : ℕ) → (FillsEntry m after root page (a / 8) → ⊥) → byte_at after a ≡ byte_at m a) (is ∙ ap (λ fs. cleared fs memory) clears_is) other
+
+pub returns-clause-filled : goal.returns-clause-filled
+returns-clause-filled c = λ done.
+    let world = c.args.self.now in
+    let tables = c.in-Some.tables.items in (
+      c.in-Ok.root,
+      c.in-Ok.ensures.root.0,
+      λ address owner mark unfilled.
+          kept_unfilled world.memory c.map.new.memory world.marks world.ledger c.in-Ok.root c.args.page c.args.frame c.missing-lacking.result address tables owner world.sound.marked c.in-Some.ensures.chosen
+          (filled_as world.memory c.reserve_all.new.memory c.map.new.memory c.in-Ok.root c.args.page c.as_slice.result.now tables c.reserve_all.ensures.memory c.as_slice.ensures.value c.map.ensures.other_bytes)
+          mark unfilled,
+    )
