@@ -99,6 +99,7 @@ fn tell<W: Write>(alloc: Global, script: &Script, writer: &mut W) -> Result<(), 
     requires events { All IsEvent script.now.events }
     requires world { IfSome script.now.world IsWorldSize }
     ensures silent { script.now.world ≡ None → result ≡ Ok tt }
+    ensures memory { result ≡ Err RunFault.Memory → Keeps (W.contents writer.old) (W.contents writer.new) }
     ensures told { OnOk result (WritesText script.now (W.contents writer.old) (W.contents writer.new)) }
     ensures front { OnErr result (BeginsText script.now (W.contents writer.old) (W.contents writer.new)) }
     ensures so_far { result ≡ Err RunFault.Writing → BeginsTextSoFar script.now (W.contents writer.old) (W.contents writer.new) }
@@ -128,8 +129,9 @@ pub fn run<R: Read, W: Write>(alloc: Global, reader: &mut R, writer: &mut W) -> 
     ensures named { (number : ℕ) → result ≡ Err (RunFault.Script number)
         → IfSome (R.remaining reader.old) (λ input. IsFirstBadLine input number) × Keeps (W.contents writer.old) (W.contents writer.new) }
 
-    // Where reading fails nothing is written.
+    // Where reading fails, or memory, nothing is written.
     ensures reading { result ≡ Err RunFault.Reading → Keeps (W.contents writer.old) (W.contents writer.new) }
+    ensures memory { result ≡ Err RunFault.Memory → Keeps (W.contents writer.old) (W.contents writer.new) }
 
     // Where it fails, what was written is a beginning of the script's text.
     ensures front { OnErr result (IfSome (R.remaining reader.old) (λ input. (script : Script) → IsScript input script
