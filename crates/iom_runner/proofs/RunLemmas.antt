@@ -1,7 +1,7 @@
 -- Runs from power-on, and the texts that tell them.
-use Rattle.std.proofs.Common.{◌≡◌, ◌+◌, ◌++◌, ◌∙◌, ℕ, List, [], ◌∷◌, length, take, drop, All, Option, refl, sym, ap, subst, append_assoc}
+use Rattle.std.proofs.Common.{◌≡◌, ◌+◌, ◌++◌, ◌∙◌, ℕ, List, [], ◌∷◌, length, take, drop, All, Option, refl, sym, ap, subst, append_assoc, arith}
 use Rattle.std.specs.Io.KnownBytes.{Appends}
-use Rattle.std.proofs.lemmas.List.{take-append-drop}
+use Rattle.std.proofs.lemmas.List.{take_all, take-append-drop}
 use Rattle.std.proofs.lemmas.List.Elements.{All-drop}
 use Rattle.std.proofs.lemmas.List.Concat.{flat_map-append}
 use Rattle.iom_machine.specs.declared.event.Event.{Event}
@@ -13,9 +13,11 @@ use Rattle.iom_machine.specs.PowerOn.{opening}
 use Rattle.iom_machine.proofs.ReclaimLemmas.{reclaims}
 use Rattle.iom_script.specs.Lines.{line_of, lines_of}
 use Rattle.iom_world.specs.declared.world.World.{World}
-use Rattle.iom_world.specs.Runs.{RunsTo, FailsAfter}
+use Rattle.iom_world.specs.Queue.{no_commands}
+use Rattle.iom_world.specs.Runs.{AreOutcomes, RunsTo, FailsAfter}
+use Rattle.iom_world.specs.Shows.{Shows}
 use Rattle.iom_runner.specs.declared.writing.LineWriter.{LineWriter}
-use Rattle.iom_runner.specs.Text.{TellsRun}
+use Rattle.iom_runner.specs.Text.{TellsWorld, WritesRun, BeginsRun, BeginsRunSoFar}
 use Rattle.iom_runner.specs.Writing.{AppendsFront, KeepsWriter, TakesText, TakesLine, FailsWriting}
 use Rattle.iom_runner.proofs.AnswerLemmas.{goes_on}
 use Rattle.iom_runner.proofs.WritingLemmas.{front-longer, takes-more, takes-lines, all_written, front_written}
@@ -23,7 +25,7 @@ use Rattle.iom_runner.proofs.WritingLemmas.{front-longer, takes-more, takes-line
 -- the text of a run over the first events is a beginning of one over all, as every event has an answer
 tells_more : (frames levels : ℕ) (events : List Event) (count : ℕ) (outcomes : List Outcome) (last : State) (old new : Option (List ℕ))
     → Run (opening frames levels) (take count events) outcomes last → All IsEvent events → AppendsFront old new (line_of Done ++ lines_of outcomes)
-    → (text : List ℕ) × TellsRun (opening frames levels) events text × AppendsFront old new text
+    → BeginsRun (opening frames levels) events old new
 tells_more frames levels events count outcomes last old new ran can_come front =
     let rest = goes_on frames levels last (take count events) (drop count events) outcomes ran (All-drop IsEvent count events can_come) in
     let whole : Run (opening frames levels) events (outcomes ++ rest.0) rest.1 =
@@ -31,15 +33,21 @@ tells_more frames levels events count outcomes last old new ran can_come front =
     let lines : line_of Done ++ lines_of (outcomes ++ rest.0) ≡ (line_of Done ++ lines_of outcomes) ++ lines_of rest.0 =
     ap (λ l. line_of Done ++ l) (flat_map-append line_of outcomes rest.0) ∙ sym (append_assoc (line_of Done) (lines_of outcomes) (lines_of rest.0)) in (
       line_of Done ++ lines_of (outcomes ++ rest.0),
-      (outcomes ++ rest.0, rest.1, whole, reclaims frames levels events (outcomes ++ rest.0) rest.1 whole, refl),
+      (outcomes ++ rest.0, rest.1, whole, (reclaims frames levels events (outcomes ++ rest.0) rest.1 whole, refl)),
       subst (AppendsFront old new) (sym lines) (front-longer old new (line_of Done ++ lines_of outcomes) (lines_of rest.0) front),
     )
 
 -- nothing of a run is told
 pub tells_none : (frames levels : ℕ) (events : List Event) (old new : Option (List ℕ)) → All IsEvent events → AppendsFront old new []
-    → (text : List ℕ) × TellsRun (opening frames levels) events text × AppendsFront old new text
+    → BeginsRun (opening frames levels) events old new
 tells_none frames levels events old new can_come front =
     tells_more frames levels events 0 [] (opening frames levels) old new refl can_come (front-longer old new [] (line_of Done ++ []) front)
+
+-- a beginning of a text of the first events is one of a text of all
+pub begins_whole : (frames levels : ℕ) (events : List Event) (old new : Option (List ℕ)) → All IsEvent events
+    → BeginsRunSoFar (opening frames levels) events old new → BeginsRun (opening frames levels) events old new
+begins_whole frames levels events old new can_come (text, (count, (world, end, outcomes, last, shows, none, are, (reclaim, is))), front) =
+    tells_more frames levels events count outcomes last old new are.run can_come (subst (AppendsFront old new) is front)
 
 -- what a sink that had nothing takes of the line of the world and the lines of a run
 takes_run : {W : Type 0} (contents : W → Option (List ℕ)) (old opened new : LineWriter W) (state : State) (events : List Event) (first world : World)
@@ -47,41 +55,64 @@ takes_run : {W : Type 0} (contents : W → Option (List ℕ)) (old opened new : 
 takes_run contents old opened new state events first world put ran =
     takes-more contents old opened new (line_of Done) (lines_of ran.0) put (takes-lines contents opened new ran.0 ran.3)
 
+-- a run, which a world goes through, is told by its lines
+tells_world : (frames levels : ℕ) (events : List Event) (outcomes : List Outcome) (last : State) (world new : World)
+    → Shows world (opening frames levels) → world.commands ≡ no_commands → AreOutcomes (opening frames levels) world events outcomes last new
+    → TellsWorld (opening frames levels) events (line_of Done ++ lines_of outcomes)
+tells_world frames levels events outcomes last world new shows none are =
+    (world, new, outcomes, last, shows, none, are, (reclaims frames levels events outcomes last are.run, refl))
+
 -- a run whose lines are all written is told
 pub told_whole : {W : Type 0} (contents : W → Option (List ℕ)) (frames levels : ℕ) (events : List Event) (old opened mid new : LineWriter W) (first world : World)
-    → old.buffer ≡ [] → TakesLine contents old Done opened → RunsTo (TakesLine contents) (opening frames levels) first events opened mid world
+    → old.buffer ≡ [] → TakesLine contents old Done opened → Shows first (opening frames levels) → first.commands ≡ no_commands
+    → RunsTo (TakesLine contents) (opening frames levels) first events opened mid world
     → Appends (contents mid.writer.now) (contents new.writer.now) mid.buffer
-    → (text : List ℕ) × TellsRun (opening frames levels) events text × Appends (contents old.writer.now) (contents new.writer.now) text
-told_whole contents frames levels events old opened mid new first world empty put ran wrote = (
+    → WritesRun (opening frames levels) events (contents old.writer.now) (contents new.writer.now)
+told_whole contents frames levels events old opened mid new first world empty put shows none ran wrote = (
   line_of Done ++ lines_of ran.0,
-  (ran.0, ran.1, ran.2.run, reclaims frames levels events ran.0 ran.1 ran.2.run, refl),
+  tells_world frames levels events ran.0 ran.1 first world shows none ran.2,
   all_written contents old mid (contents new.writer.now) (line_of Done ++ lines_of ran.0) empty (takes_run contents old opened mid (opening frames levels) events first world put ran) wrote,
 )
 
+-- nothing of a run is told, and no event came
+pub so_far_none : (frames levels : ℕ) (events : List Event) (old new : Option (List ℕ)) (world : World)
+    → Shows world (opening frames levels) → world.commands ≡ no_commands → AppendsFront old new [] → BeginsRunSoFar (opening frames levels) events old new
+so_far_none frames levels events old new world shows none front =
+    let are : AreOutcomes (opening frames levels) world [] [] (opening frames levels) world = record { run = refl; through = (shows, refl) } in (
+      line_of Done ++ [],
+      (0, tells_world frames levels [] [] (opening frames levels) world world shows none are),
+      front-longer old new [] (line_of Done ++ []) front,
+    )
+
 -- a run of which a beginning is written at the end
 pub told_in_part : {W : Type 0} (contents : W → Option (List ℕ)) (frames levels : ℕ) (events : List Event) (old opened mid new : LineWriter W) (first world : World)
-    → old.buffer ≡ [] → TakesLine contents old Done opened → RunsTo (TakesLine contents) (opening frames levels) first events opened mid world
+    → old.buffer ≡ [] → TakesLine contents old Done opened → Shows first (opening frames levels) → first.commands ≡ no_commands
+    → RunsTo (TakesLine contents) (opening frames levels) first events opened mid world
     → AppendsFront (contents mid.writer.now) (contents new.writer.now) mid.buffer
-    → (text : List ℕ) × TellsRun (opening frames levels) events text × AppendsFront (contents old.writer.now) (contents new.writer.now) text
-told_in_part contents frames levels events old opened mid new first world empty put ran wrote = (
-  line_of Done ++ lines_of ran.0,
-  (ran.0, ran.1, ran.2.run, reclaims frames levels events ran.0 ran.1 ran.2.run, refl),
-  front_written contents old mid (contents new.writer.now) (line_of Done ++ lines_of ran.0) empty (takes_run contents old opened mid (opening frames levels) events first world put ran) wrote,
-)
+    → BeginsRunSoFar (opening frames levels) events (contents old.writer.now) (contents new.writer.now)
+told_in_part contents frames levels events old opened mid new first world empty put shows none ran wrote =
+    let all : take (length events) events ≡ events = take_all (length events) events (omega arith) in
+    let are = subst (λ (es : List Event). AreOutcomes (opening frames levels) first es ran.0 ran.1 world) (sym all) ran.2 in (
+      line_of Done ++ lines_of ran.0,
+      (length events, tells_world frames levels (take (length events) events) ran.0 ran.1 first world shows none are),
+      front_written contents old mid (contents new.writer.now) (line_of Done ++ lines_of ran.0) empty (takes_run contents old opened mid (opening frames levels) events first world put ran) wrote,
+    )
 
 -- a run that ends where the sink fails
 pub told_until_failure : {W : Type 0} (contents : W → Option (List ℕ)) (frames levels : ℕ) (events : List Event) (old opened new : LineWriter W) (first world : World)
-    → old.buffer ≡ [] → All IsEvent events → TakesLine contents old Done opened
+    → old.buffer ≡ [] → TakesLine contents old Done opened → Shows first (opening frames levels) → first.commands ≡ no_commands
     → FailsAfter (TakesLine contents) (FailsWriting contents) (opening frames levels) first events opened new world
-    → (text : List ℕ) × TellsRun (opening frames levels) events text × AppendsFront (contents old.writer.now) (contents new.writer.now) text
-told_until_failure contents frames levels events old opened new first world empty can_come put (outcomes, last, next, middle, few, ran, took, failed, count) =
+    → BeginsRunSoFar (opening frames levels) events (contents old.writer.now) (contents new.writer.now)
+told_until_failure contents frames levels events old opened new first world empty put shows none (outcomes, last, next, middle, few, ran, took, failed, count) =
     let all = outcomes ++ last ∷ [] in
     let lines : line_of Done ++ lines_of all ≡ (line_of Done ++ lines_of outcomes) ++ lines_of (last ∷ []) =
     ap (λ l. line_of Done ++ l) (flat_map-append line_of outcomes (last ∷ [])) ∙ sym (append_assoc (line_of Done) (lines_of outcomes) (lines_of (last ∷ []))) in
     let front = front_written contents old middle (contents new.writer.now) (line_of Done ++ lines_of outcomes) empty
-    (takes-more contents old opened middle (line_of Done) (lines_of outcomes) put (takes-lines contents opened middle outcomes took)) failed.1 in
-    tells_more frames levels events (length outcomes + 1) all next (contents old.writer.now) (contents new.writer.now) ran.run can_come
-    (subst (AppendsFront (contents old.writer.now) (contents new.writer.now)) (sym lines) (front-longer _ _ _ (lines_of (last ∷ [])) front))
+    (takes-more contents old opened middle (line_of Done) (lines_of outcomes) put (takes-lines contents opened middle outcomes took)) failed.1 in (
+      line_of Done ++ lines_of all,
+      (length outcomes + 1, tells_world frames levels (take (length outcomes + 1) events) all next first world shows none ran),
+      subst (AppendsFront (contents old.writer.now) (contents new.writer.now)) (sym lines) (front-longer _ _ _ (lines_of (last ∷ [])) front),
+    )
 
 -- the sink writes to the same writer, where the run goes to its end
 pub same_if_ran : {W : Type 0} (contents : W → Option (List ℕ)) (frames levels : ℕ) (events : List Event) (old opened mid new : LineWriter W) (first world : World)

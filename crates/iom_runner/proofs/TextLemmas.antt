@@ -2,8 +2,9 @@
 use Rattle.std.proofs.Common.{◌≡◌, ◌<◌, ◌∙◌, ◌⊎◌, ℕ, inl, inr, List, [], take, All, Option, None, Some, MatchOption, IfSome, Result, Err, refl, sym, ap, subst, subst₂}
 use Rattle.std.proofs.KnownBytes.{Keeps-refl}
 use Rattle.std.proofs.lemmas.Option.{IfSome_then}
-use Rattle.std.specs.Io.KnownBytes.{Appends, Keeps}
+use Rattle.std.specs.Io.KnownBytes.{Keeps}
 use Rattle.iom_machine.specs.declared.event.Event.{Event}
+use Rattle.iom_machine.specs.declared.state.State.{State}
 use Rattle.iom_machine.specs.Machine.{IsEvent}
 use Rattle.iom_script.specs.declared.script.Script.{Script}
 use Rattle.iom_script.specs.declared.script.WorldSize.{WorldSize}
@@ -14,7 +15,7 @@ use Rattle.iom_script.proofs.MeaningLemmas.{one_script, one_fault, script_or_fau
 use Rattle.iom_runner.specs.declared.faults.RunFault.{RunFault}
 use Rattle.iom_runner.specs.declared.faults.RunFault.TheVariants as faults
 use Rattle.iom_runner.specs.Bytes.{Explains}
-use Rattle.iom_runner.specs.Text.{power_on, TellsRun, WritesText, BeginsText}
+use Rattle.iom_runner.specs.Text.{power_on, TellsRun, IsTextOf, WritesText, BeginsText}
 use Rattle.iom_runner.specs.Writing.{AppendsFront}
 use Rattle.iom_runner.proofs.RunLemmas.{tells_none}
 use Rattle.iom_runner.proofs.WritingLemmas.{front-none}
@@ -27,22 +28,14 @@ begins_none script known can_come = by script.world
     by None = ([], refl, front-none known [])
     by (Some size) = tells_none size.frames size.levels script.events known known can_come (front-none known [])
 
--- a script with a world is told by the lines of its run
-pub writes_run : (script : Script) (size : WorldSize) (events : List Event) (old new : Option (List ℕ)) → script.world ≡ Some size → events ≡ script.events
-    → (text : List ℕ) × TellsRun (power_on size) events text × Appends old new text → WritesText script old new
-writes_run script size events old new is same (text, tells, wrote) = (
+-- what tells a run from power-on tells a script with a world of that size
+pub of_script : (Tells : State → List Event → List ℕ → Type 0) (Grows : List ℕ → Type 0) (script : Script) (size : WorldSize) (events : List Event)
+    → script.world ≡ Some size → events ≡ script.events → (text : List ℕ) × Tells (power_on size) events text × Grows text
+    → (text : List ℕ) × IsTextOf Tells script text × Grows text
+of_script Tells Grows script size events is same (text, tells, grows) = (
   text,
-  subst (λ world. MatchOption world (text ≡ []) (λ s. TellsRun (power_on s) script.events text)) (sym is) (subst (λ (es : List Event). TellsRun (power_on size) es text) same tells),
-  wrote,
-)
-
--- the same of a beginning
-pub begins_run : (script : Script) (size : WorldSize) (events : List Event) (old new : Option (List ℕ)) → script.world ≡ Some size → events ≡ script.events
-    → (text : List ℕ) × TellsRun (power_on size) events text × AppendsFront old new text → BeginsText script old new
-begins_run script size events old new is same (text, tells, wrote) = (
-  text,
-  subst (λ world. MatchOption world (text ≡ []) (λ s. TellsRun (power_on s) script.events text)) (sym is) (subst (λ (es : List Event). TellsRun (power_on size) es text) same tells),
-  wrote,
+  subst (λ world. MatchOption world (text ≡ []) (λ s. Tells (power_on s) script.events text)) (sym is) (subst (λ (es : List Event). Tells (power_on size) es text) same tells),
+  grows,
 )
 
 -- the first bytes are a script only where all are
@@ -96,11 +89,11 @@ pub begins_each : (known written : Option (List ℕ)) → IfSome known (λ input
 begins_each None written = tt
 begins_each (Some input) written = λ script is. begins_none script written (script_events input script is)
 
--- what is a beginning of the text of the script that was read is one of the text of each script that the bytes are
-pub begins_that : (known old new : Option (List ℕ)) (read : Script) → IfSome known (λ input. IsScript input read) → BeginsText read old new
-    → IfSome known (λ input. (script : Script) → IsScript input script → BeginsText script old new)
-begins_that None old new read is begins = tt
-begins_that (Some input) old new read is begins = λ script other. subst (λ (s : Script). BeginsText s old new) (one_script input read script is other) begins
+-- what is so of the script that was read is so of each script that the bytes are
+pub of_each : (P : Script → Type 0) (known : Option (List ℕ)) (read : Script) → IfSome known (λ input. IsScript input read) → P read
+    → IfSome known (λ input. (script : Script) → IsScript input script → P script)
+of_each P None read is fact = tt
+of_each P (Some input) read is fact = λ script other. subst P (one_script input read script is other) fact
 
 -- the script that was read is one that the bytes are
 pub writes_that : (known old new : Option (List ℕ)) (read : Script) → IfSome known (λ input. IsScript input read) → WritesText read old new

@@ -67,6 +67,11 @@ pub at_err : {T E P : Type 0} (result : Result T E) → P → OnErr result P
 at_err (Ok x) fact = tt
 at_err (Err e) fact = fact
 
+-- and what is so at an error is so where there is one
+pub at_fault : {T E P : Type 0} (result : Result T E) (fault : E) → result ≡ Err fault → OnErr result P → P
+at_fault (Ok x) fault is fact = cc
+at_fault (Err e) fault is fact = fact
+
 -- some of what is left is written
 pub writes_some : (old mid new : Option (List ℕ)) (bytes written rest : List ℕ) (count : ℕ) → Appends old mid written → bytes ≡ written ++ rest → Appends mid new (take count rest)
     → (after : List ℕ) × Appends old new after × (bytes ≡ after ++ take (length rest - count) (drop count rest))

@@ -5,9 +5,10 @@ ghost use Rattle.iom_machine.specs.Machine.{IsEvent};
 ghost use Rattle.iom_machine.specs.PowerOn.{opening};
 ghost use Rattle.iom_script.specs.declared.script.Script.{Script};
 ghost use Rattle.iom_script.specs.Grammar.{IsScript, IsFirstBadLine, IsWorldSize};
+ghost use Rattle.iom_world.specs.Queue.{no_commands};
 ghost use Rattle.iom_world.specs.Shows.{Shows};
 ghost use Rattle.iom_runner.specs.Bytes.{Explains};
-ghost use Rattle.iom_runner.specs.Text.{power_on, WritesRun, BeginsRun, WritesText, BeginsText};
+ghost use Rattle.iom_runner.specs.Text.{power_on, WritesRun, BeginsRun, BeginsRunSoFar, WritesText, BeginsText, BeginsTextSoFar};
 ghost use Rattle.iom_runner.specs.Writing.{KeepsWriter};
 
 use crate::faults::RunFault;
@@ -34,6 +35,7 @@ fn world_of(alloc: Global, size: WorldSize) -> Result<World, RunFault>
     requires { IsWorldSize size }
     ensures opening { IfOk result (λ world. Shows world (power_on size)) }
     ensures count { IfOk result (λ world. world.events ≡ 0) }
+    ensures commands { IfOk result (λ world. world.commands ≡ no_commands) }
     ensures fault { IfErr result (λ fault. fault ≡ RunFault.Memory) }
 {
     World::new(alloc, size.frames as u32, size.levels as u8).map_err(|_| RunFault::Memory)
@@ -47,12 +49,15 @@ fn tell_events<W: Write>(
 ) -> Result<(), WriteFault>
     requires events { All IsEvent events.now }
     requires count { world.old.events + length events.now < 2 ^ 64 }
+    requires commands { world.old.commands ≡ no_commands }
     requires empty { lines.old.buffer ≡ [] }
     ensures same_writer { (frames levels : ℕ) → Shows world.old (opening frames levels) → KeepsWriter lines.old lines.new }
     ensures told { (frames levels : ℕ) → Shows world.old (opening frames levels)
         → OnOk result (WritesRun (opening frames levels) events.now (W.contents lines.old.writer.now) (W.contents lines.new.writer.now)) }
     ensures front { (frames levels : ℕ) → Shows world.old (opening frames levels)
         → OnErr result (BeginsRun (opening frames levels) events.now (W.contents lines.old.writer.now) (W.contents lines.new.writer.now)) }
+    ensures so_far { (frames levels : ℕ) → Shows world.old (opening frames levels)
+        → OnErr result (BeginsRunSoFar (opening frames levels) events.now (W.contents lines.old.writer.now) (W.contents lines.new.writer.now)) }
 {
     lines.put(&Outcome::Done)?;
     world.run(events, lines)?;
@@ -68,11 +73,14 @@ fn tell_run<W: Write>(
 ) -> Result<(), RunFault>
     requires events { All IsEvent events.now }
     requires count { world.old.events + length events.now < 2 ^ 64 }
+    requires commands { world.old.commands ≡ no_commands }
     requires empty { buffer ≡ [] }
     ensures told { (frames levels : ℕ) → Shows world.old (opening frames levels)
         → OnOk result (WritesRun (opening frames levels) events.now (W.contents writer.old) (W.contents writer.new)) }
     ensures front { (frames levels : ℕ) → Shows world.old (opening frames levels)
         → OnErr result (BeginsRun (opening frames levels) events.now (W.contents writer.old) (W.contents writer.new)) }
+    ensures so_far { (frames levels : ℕ) → Shows world.old (opening frames levels)
+        → OnErr result (BeginsRunSoFar (opening frames levels) events.now (W.contents writer.old) (W.contents writer.new)) }
     ensures fault { IfErr result (λ fault. fault ≡ RunFault.Writing) }
 {
     let mut lines = LineWriter::new(buffer, writer);
@@ -91,8 +99,10 @@ fn tell<W: Write>(alloc: Global, script: &Script, writer: &mut W) -> Result<(), 
     requires events { All IsEvent script.now.events }
     requires world { IfSome script.now.world IsWorldSize }
     ensures silent { script.now.world ≡ None → result ≡ Ok tt }
+    ensures memory { result ≡ Err RunFault.Memory → Keeps (W.contents writer.old) (W.contents writer.new) }
     ensures told { OnOk result (WritesText script.now (W.contents writer.old) (W.contents writer.new)) }
     ensures front { OnErr result (BeginsText script.now (W.contents writer.old) (W.contents writer.new)) }
+    ensures so_far { result ≡ Err RunFault.Writing → BeginsTextSoFar script.now (W.contents writer.old) (W.contents writer.new) }
     ensures fault { IfErr result (λ fault. (fault ≡ RunFault.Writing) ⊎ (fault ≡ RunFault.Memory)) }
 {
     let Some(size) = script.world else {
@@ -106,7 +116,7 @@ fn tell<W: Write>(alloc: Global, script: &Script, writer: &mut W) -> Result<(), 
 /// Reads a script, runs its events in a world at power-on, and writes a line for the world and one for
 /// each event.
 pub fn run<R: Read, W: Write>(alloc: Global, reader: &mut R, writer: &mut W) -> Result<(), RunFault>
-    // What is read is a script, and what is written its text.
+    // What is read is a script, and what is written its text, told of a run that a world goes through.
     ensures ran { OnOk result (IfSome (R.remaining reader.old) (λ input. (script : Script) × IsScript input script
         × WritesText script (W.contents writer.old) (W.contents writer.new))) }
 
@@ -119,12 +129,17 @@ pub fn run<R: Read, W: Write>(alloc: Global, reader: &mut R, writer: &mut W) -> 
     ensures named { (number : ℕ) → result ≡ Err (RunFault.Script number)
         → IfSome (R.remaining reader.old) (λ input. IsFirstBadLine input number) × Keeps (W.contents writer.old) (W.contents writer.new) }
 
-    // Where reading fails nothing is written.
+    // Where reading fails, or memory, nothing is written.
     ensures reading { result ≡ Err RunFault.Reading → Keeps (W.contents writer.old) (W.contents writer.new) }
+    ensures memory { result ≡ Err RunFault.Memory → Keeps (W.contents writer.old) (W.contents writer.new) }
 
     // Where it fails, what was written is a beginning of the script's text.
     ensures front { OnErr result (IfSome (R.remaining reader.old) (λ input. (script : Script) → IsScript input script
         → BeginsText script (W.contents writer.old) (W.contents writer.new))) }
+
+    // Where writing fails, it is one of the text of some first events, told of a run that a world goes through.
+    ensures so_far { result ≡ Err RunFault.Writing → IfSome (R.remaining reader.old) (λ input. (script : Script) → IsScript input script
+        → BeginsTextSoFar script (W.contents writer.old) (W.contents writer.new)) }
 {
     let bytes = read_script(alloc, reader)?;
     let script = script_of(alloc, &bytes)?;

@@ -4,6 +4,7 @@ ghost use Rattle.iom_machine.specs.PowerOn.{opening};
 ghost use Rattle.iom_phys_mem.specs.Sizes.{IsMemorySize};
 ghost use Rattle.iom_phys_mem.specs.Words.{zeroed};
 ghost use Rattle.iom_phys_mem.specs.declared.memory.MemError.TheVariants.{BadSize};
+ghost use Rattle.iom_world.specs.Queue.{no_commands};
 ghost use Rattle.iom_world.specs.Shows.{Shows};
 ghost use Rattle.iom_world.specs.Start.{IsLevels};
 
@@ -27,6 +28,7 @@ impl World {
         requires zero { memory ≡ replicate frames zeroed }
         ensures opening { IfOk result (λ world. Shows world (opening frames levels)) }
         ensures count { IfOk result (λ world. world.events ≡ 0) }
+        ensures commands { IfOk result (λ world. world.commands ≡ no_commands) }
     {
         let mut ledger = Ledger::new(alloc, frames)?;
         let marks = TableFrames::new(alloc, frames, &mut ledger)?;
@@ -44,13 +46,14 @@ impl World {
     }
 
     /// The world at power-on, with so many frames of memory and levels of the device directory: all bytes
-    /// are zero, the last four frames are the system's, no device is plugged in, nothing is granted, and
-    /// no event was counted. `BadSize` exactly where the frames aren't 64 to 4,096 or the levels aren't 1
-    /// to 3 (IOMMU specification, section 2.1, "Device-Directory-Table (DDT)"); else `OutOfMemory` where
-    /// an allocation is refused.
+    /// are zero, the last four frames are the system's, no device is plugged in, nothing is granted, no
+    /// command waits, and no event was counted. `BadSize` exactly where the frames aren't 64 to 4,096 or
+    /// the levels aren't 1 to 3 (IOMMU specification, section 2.1, "Device-Directory-Table (DDT)"); else
+    /// `OutOfMemory` where an allocation is refused.
     pub fn new(alloc: Global, frames: u32, levels: u8) -> Result<World, MemError>
         ensures opening { IfOk result (λ world. Shows world (opening frames levels)) }
         ensures count { IfOk result (λ world. world.events ≡ 0) }
+        ensures commands { IfOk result (λ world. world.commands ≡ no_commands) }
         ensures size { IfOk result (λ world. IsMemorySize frames × IsLevels levels) }
         ensures bad_size { (IsErrOf result BadSize) ↔ ¬ (IsMemorySize frames × IsLevels levels) }
     {

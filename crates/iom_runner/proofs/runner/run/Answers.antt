@@ -1,7 +1,9 @@
 use Rattle.std.proofs.Common.{◌∙◌, ap, lit<, Err}
 use Rattle.std.proofs.lemmas.Option.{IfSome_then}
 use Rattle.std.proofs.lemmas.Result.{err_from_is_err_and, on_ok_weaker, on_err_weaker}
-use Rattle.iom_runner.proofs.TextLemmas.{whole_script, refused_as, named_as, no_bad_line, begins_each, begins_that, writes_that}
+use Rattle.iom_script.specs.declared.script.Script.{Script}
+use Rattle.iom_runner.specs.Text.{BeginsText, BeginsTextSoFar}
+use Rattle.iom_runner.proofs.TextLemmas.{whole_script, refused_as, named_as, no_bad_line, begins_each, of_each, writes_that}
 use Rattle.iom_runner.proofs.WritingLemmas.{at_err}
 use Rattle.iom_runner.proofs.runner.run.Goals as goal
 
@@ -44,4 +46,11 @@ returns-clause-front g c =
     let known = g.R.Read.remaining c.args.reader.now in
     let read = IfSome_then known c.in_ok-bytes.ensures.bytes (λ input is. c.deref.ensures.value ∙ is) in
     let is = whole_script known c.deref.result.now 1048577 c.in_ok-script.script (lit< tt) read c.in_ok-script.ensures.script in
-    on_err_weaker c.tell.result (begins_that known _ _ c.in_ok-script.script is) c.tell.ensures.front
+    on_err_weaker c.tell.result (of_each (λ (script : Script). BeginsText script _ _) known c.in_ok-script.script is) c.tell.ensures.front
+
+pub returns-clause-so_far : goal.returns-clause-so_far
+returns-clause-so_far g c = λ failed.
+    let known = g.R.Read.remaining c.args.reader.now in
+    let read = IfSome_then known c.in_ok-bytes.ensures.bytes (λ input is. c.deref.ensures.value ∙ is) in
+    let is = whole_script known c.deref.result.now 1048577 c.in_ok-script.script (lit< tt) read c.in_ok-script.ensures.script in
+    of_each (λ (script : Script). BeginsTextSoFar script _ _) known c.in_ok-script.script is (c.tell.ensures.so_far failed)

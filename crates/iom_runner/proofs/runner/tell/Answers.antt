@@ -1,6 +1,9 @@
 use Rattle.std.proofs.lemmas.Result.{on_ok_weaker, on_err_weaker}
-use Rattle.iom_runner.proofs.TextLemmas.{begins_none, writes_run, begins_run}
-use Rattle.iom_runner.proofs.WritingLemmas.{at_err}
+use Rattle.std.specs.Io.KnownBytes.{Appends}
+use Rattle.iom_runner.specs.Text.{TellsRun, TellsWorld, TellsSoFar}
+use Rattle.iom_runner.specs.Writing.{AppendsFront}
+use Rattle.iom_runner.proofs.TextLemmas.{begins_none, of_script}
+use Rattle.iom_runner.proofs.WritingLemmas.{at_err, at_fault}
 use Rattle.iom_runner.proofs.runner.tell.Goals as goal
 
 pub returns-in_err-world-clause-front : goal.returns-in_err-world-clause-front
@@ -11,10 +14,15 @@ returns-in_err-buffer-clause-front g c = at_err c.from_residual-in_err-buffer.re
 
 pub returns-clause-told : goal.returns-clause-told
 returns-clause-told g c =
-    on_ok_weaker c.tell_run.result (writes_run c.args.script.now c.in-Some.size _ _ _ c.in-Some.is c.as_slice.ensures)
+    on_ok_weaker c.tell_run.result (of_script TellsWorld (Appends _ _) c.args.script.now c.in-Some.size _ c.in-Some.is c.as_slice.ensures)
     (c.tell_run.ensures.told c.in-Some.size.frames c.in-Some.size.levels c.in_ok-world.ensures.opening)
 
 pub returns-clause-front : goal.returns-clause-front
 returns-clause-front g c =
-    on_err_weaker c.tell_run.result (begins_run c.args.script.now c.in-Some.size _ _ _ c.in-Some.is c.as_slice.ensures)
+    on_err_weaker c.tell_run.result (of_script TellsRun (AppendsFront _ _) c.args.script.now c.in-Some.size _ c.in-Some.is c.as_slice.ensures)
     (c.tell_run.ensures.front c.in-Some.size.frames c.in-Some.size.levels c.in_ok-world.ensures.opening)
+
+pub returns-clause-so_far : goal.returns-clause-so_far
+returns-clause-so_far g c = λ failed.
+    of_script TellsSoFar (AppendsFront _ _) c.args.script.now c.in-Some.size _ c.in-Some.is c.as_slice.ensures
+    (at_fault c.tell_run.result _ failed (c.tell_run.ensures.so_far c.in-Some.size.frames c.in-Some.size.levels c.in_ok-world.ensures.opening))
