@@ -28,6 +28,24 @@ fn many(
     Ok(bytes)
 }
 
+/// The line of an outcome of each kind.
+const LINES: &[u8] = b"\
+    ok\n\
+    refused 12 TooManyPending\n\
+    ticket 1\n\
+    confirmed 1-256\n\
+    confirmed -\n\
+    did iotinval.vma\n\
+    did iofence.c\n\
+    empty\n\
+    accepted 1\n\
+    busy\n\
+    badspan\n\
+    fault 13\n\
+    read 00af\n\
+    wrote 4096\n\
+    none\n";
+
 #[test]
 fn lines_tell_outcomes(rt: HostRuntime) -> Result<(), Fail> {
     let mut out = LineBuffer::new(rt.alloc())?;
@@ -53,23 +71,7 @@ fn lines_tell_outcomes(rt: HostRuntime) -> Result<(), Fail> {
     out.append_line(&Outcome::Read(bytes));
     out.append_line(&Outcome::Wrote(4096));
     out.append_line(&Outcome::NothingInFlight);
-    let lines = b"\
-        ok\n\
-        refused 12 TooManyPending\n\
-        ticket 1\n\
-        confirmed 1-256\n\
-        confirmed -\n\
-        did iotinval.vma\n\
-        did iofence.c\n\
-        empty\n\
-        accepted 1\n\
-        busy\n\
-        badspan\n\
-        fault 13\n\
-        read 00af\n\
-        wrote 4096\n\
-        none\n";
-    assert!(rt; out.as_slice() == lines.as_slice());
+    assert!(rt; out.as_slice() == LINES);
     out.clear();
     assert!(rt; out.as_slice().is_empty());
     Ok(())

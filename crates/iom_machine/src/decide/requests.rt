@@ -181,8 +181,8 @@ fn answers_busy(device: &Device, access: &Access) -> bool
 }
 
 fn accepts(state: &State, device: &Device, access: &Access, frame: u32, number: u64) -> bool
-    ensures { IsTrue result ↔ (IsForwarded device.now.in_flight access.now.address access.now.len × MayAccept device.now.attachment state.now device.now.id access.now frame
-        × (number ≡ device.now.accepted + 1)) }
+    ensures { IsTrue result ↔ (IsForwarded device.now.in_flight access.now.address access.now.len
+        × MayAccept device.now.attachment state.now device.now.id access.now frame × (number ≡ device.now.accepted + 1)) }
 {
     if !is_forwarded(device, access) {
         return false;
@@ -194,7 +194,8 @@ fn accepts(state: &State, device: &Device, access: &Access, frame: u32, number: 
 }
 
 fn faults(state: &State, device: &Device, access: &Access, cause: Cause) -> bool
-    ensures { IsTrue result ↔ (IsForwarded device.now.in_flight access.now.address access.now.len × MayFault device.now.attachment state.now device.now.id access.now cause) }
+    ensures { IsTrue result ↔ (IsForwarded device.now.in_flight access.now.address access.now.len
+        × MayFault device.now.attachment state.now device.now.id access.now cause) }
 {
     if !is_forwarded(device, access) {
         return false;
