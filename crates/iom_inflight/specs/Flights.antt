@@ -2,7 +2,7 @@
 use Rattle.std.specs.Prelude.{◌≡◌, ℕ, List, [], ◌∷◌, length}
 use Rattle.iom_base.specs.declared.access.AccessKind.{AccessKind}
 use Rattle.iom_base.specs.declared.access.AccessKind.TheVariants.{Read, Write}
-use Rattle.iom_inflight.specs.declared.in_flight.Accepted.{Accepted}
+use Rattle.iom_inflight.specs.declared.in_flight.AccessHeader.{AccessHeader}
 
 -- an access with the bytes that a write stores, and the frame that it was translated to
 pub record Flight : Type 0 where
@@ -21,8 +21,8 @@ abbrev pub write_flight : ℕ → List ℕ → ℕ → Flight
 write_flight address bytes frame = record { address = address; len = length bytes; kind = Write; bytes = bytes; frame = frame }
 
 -- the access without its bytes
-abbrev pub description_of : Flight → Accepted
-description_of flight = record { address = flight.address; len = flight.len; kind = flight.kind; frame = flight.frame }
+abbrev pub header_of : Flight → AccessHeader
+header_of flight = record { address = flight.address; len = flight.len; kind = flight.kind; frame = flight.frame }
 
 -- the oldest access is a read
 abbrev pub OldestIsRead : List Flight → Type 0

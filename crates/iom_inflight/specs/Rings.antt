@@ -3,7 +3,7 @@ use Rattle.std.specs.Prelude.{◌≡◌, ℕ, ◌+◌, ◌*◌, ◌≤◌, List,
 use Rattle.iom_base.specs.declared.access.AccessKind.{AccessKind}
 use Rattle.iom_base.specs.declared.access.AccessKind.TheVariants.{Read, Write}
 use Rattle.circular_buffer.specs.Buffer.{Buffer}
-use Rattle.iom_inflight.specs.declared.in_flight.Accepted.{Accepted}
+use Rattle.iom_inflight.specs.declared.in_flight.AccessHeader.{AccessHeader}
 use Rattle.iom_inflight.specs.Flights.{Flight}
 
 -- how many bytes an access keeps: those of a write
@@ -12,24 +12,24 @@ kept_bytes Read len = 0
 kept_bytes Write len = len
 
 -- the accesses, each with its bytes off the front
-abbrev pub flights_of : List Accepted → List ℕ → List Flight
+abbrev pub flights_of : List AccessHeader → List ℕ → List Flight
 flights_of [] bytes = []
 flights_of (a ∷ later) bytes =
     record { address = a.address; len = a.len; kind = a.kind; bytes = take (kept_bytes a.kind a.len) bytes; frame = a.frame }
     ∷ flights_of later (drop (kept_bytes a.kind a.len) bytes)
 
 -- how many bytes all of them keep
-abbrev pub bytes_kept : List Accepted → ℕ
+abbrev pub bytes_kept : List AccessHeader → ℕ
 bytes_kept [] = 0
 bytes_kept (a ∷ later) = kept_bytes a.kind a.len + bytes_kept later
 
 -- no access is longer than a page
-abbrev pub AreShort : List Accepted → Type 0
+abbrev pub AreShort : List AccessHeader → Type 0
 AreShort [] = Unit {0}
 AreShort (a ∷ later) = (a.len ≤ 4096) × AreShort later
 
 -- the rings have their room, and the bytes are those of the writes
-pub record AreRings (waiting : Buffer Accepted) (bytes : Buffer ℕ) : Type 0 where
+pub record AreRings (waiting : Buffer AccessHeader) (bytes : Buffer ℕ) : Type 0 where
   pub eight : waiting.capacity ≡ 8
   pub room : bytes.capacity ≡ 8 * 4096
   pub short : AreShort waiting.items

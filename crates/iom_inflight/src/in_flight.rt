@@ -1,6 +1,6 @@
 ghost use Rattle.std.specs.Prelude.{◌≡◌, ◌<◌, ◌≤◌, [], ◌∷◌, ◌++◌, length, drop, IfOk, Some, None, slice_get, option_map, OnSome};
 ghost use Rattle.iom_base.specs.declared.access.AccessKind.TheVariants.{Read, Write};
-ghost use Rattle.iom_inflight.specs.Flights.{read_flight, write_flight, description_of, OldestIsRead, OldestWrites};
+ghost use Rattle.iom_inflight.specs.Flights.{read_flight, write_flight, header_of, OldestIsRead, OldestWrites};
 
 use circular_buffer::HeapCircularBuffer;
 use iom_base::{AccessKind, FRAME_SIZE};
@@ -12,7 +12,7 @@ pub const MAX_IN_FLIGHT: usize = 8;
 
 /// An access that was accepted, without the bytes of a write.
 #[derive(Clone, Copy, PartialEq, Eq, Debug)]
-pub struct Accepted {
+pub struct AccessHeader {
     /// The address that the device asked for.
     pub address: u64,
     /// How many bytes, at most 4,096.
@@ -25,7 +25,7 @@ pub struct Accepted {
 /// The accesses of one device in flight, the oldest first.
 #[derive(Drop)]
 pub struct InFlight {
-    waiting: HeapCircularBuffer<Accepted>,
+    waiting: HeapCircularBuffer<AccessHeader>,
     /// The bytes of the writes among them, one after another.
     bytes: HeapCircularBuffer<u8>,
 }
@@ -63,8 +63,8 @@ impl InFlight {
 
     /// The oldest, which is made next.
     #[tactic(auto, using(crate::proofs::FlightLemmas::oldest_of))]
-    pub fn oldest(&self) -> Option<Accepted>
-        ensures { result ≡ option_map description_of (slice_get self.now 0) }
+    pub fn oldest(&self) -> Option<AccessHeader>
+        ensures { result ≡ option_map header_of (slice_get self.now 0) }
     {
         self.waiting.front().copied()
     }
@@ -75,7 +75,7 @@ impl InFlight {
         requires len { len ≤ 4096 }
         ensures { self.new ≡ self.old ++ read_flight address len frame ∷ [] }
     {
-        let access = Accepted {
+        let access = AccessHeader {
             address,
             len,
             kind: AccessKind::Read,
@@ -90,7 +90,7 @@ impl InFlight {
         requires len { length bytes.now ≤ 4096 }
         ensures { self.new ≡ self.old ++ write_flight address bytes.now frame ∷ [] }
     {
-        let access = Accepted {
+        let access = AccessHeader {
             address,
             len: bytes.len() as u16,
             kind: AccessKind::Write,

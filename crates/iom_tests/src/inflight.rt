@@ -1,5 +1,5 @@
 use iom_base::AccessKind;
-use iom_inflight::{Accepted, InFlight};
+use iom_inflight::{AccessHeader, InFlight};
 use std::test::Fail;
 
 #[test]
@@ -16,7 +16,7 @@ fn accesses_come_out_in_order_with_their_bytes(rt: HostRuntime) -> Result<(), Fa
         flights.accept_write(0x3000, b"\xcc", 5);
     }
     assert_eq!(rt; flights.count(), 3);
-    let first = Accepted {
+    let first = AccessHeader {
         address: 0x3010,
         len: 2,
         kind: AccessKind::Write,

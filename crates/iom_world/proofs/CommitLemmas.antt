@@ -11,8 +11,8 @@ use Rattle.iom_base.specs.declared.access.AccessKind.TheVariants as kinds
 use Rattle.iom_base.specs.declared.rights.Rights.{Rights}
 use Rattle.iom_base.specs.Rights.{allows}
 use Rattle.iom_inflight.specs.Flights.{Flight}
-use Rattle.iom_inflight.specs.declared.in_flight.Accepted.{Accepted}
-use Rattle.iom_inflight.specs.Flights.{OldestIsRead, description_of}
+use Rattle.iom_inflight.specs.declared.in_flight.AccessHeader.{AccessHeader}
+use Rattle.iom_inflight.specs.Flights.{OldestIsRead, header_of}
 use Rattle.iom_ledger.specs.declared.ledger.Ledger.{Ledger}
 use Rattle.iom_ledger.specs.History.{Pair, May, serves}
 use Rattle.iom_ledger.specs.Shown.{Agrees, held_in, released_in}
@@ -271,20 +271,20 @@ module _ (state : State) (ledger : Ledger) (memory : List (List ℕ)) (marks : L
       ((kind, subst (λ k. May state.history is.0.id flight.frame k) kind may_reach, long), refl))
 
 -- the access that stands first in flight is the oldest
-pub oldest_at : (devices : List Device) (place : ℕ) (device : Device) (access : Accepted) (kind : AccessKind) → slice_get devices place ≡ Some device
-    → Some access ≡ option_map description_of (slice_get device.in_flight 0) → access.kind ≡ kind → IsOldestAt devices place access kind
+pub oldest_at : (devices : List Device) (place : ℕ) (device : Device) (access : AccessHeader) (kind : AccessKind) → slice_get devices place ≡ Some device
+    → Some access ≡ option_map header_of (slice_get device.in_flight 0) → access.kind ≡ kind → IsOldestAt devices place access kind
 oldest_at devices place device access kind at oldest same = by (slice_get device.in_flight 0) refl oldest
   where
-    by : (o : Option Flight) → slice_get device.in_flight 0 ≡ o → Some access ≡ option_map description_of o → IsOldestAt devices place access kind
+    by : (o : Option Flight) → slice_get device.in_flight 0 ≡ o → Some access ≡ option_map header_of o → IsOldestAt devices place access kind
     by None is none = cc
-    by (Some flight) is some = let known : access ≡ description_of flight = cc in (device, flight, at, is, known, sym (ap (λ (a : Accepted). a.kind) known) ∙ same)
+    by (Some flight) is some = let known : access ≡ header_of flight = cc in (device, flight, at, is, known, sym (ap (λ (a : AccessHeader). a.kind) known) ∙ same)
 
 -- nothing is made where nothing is in flight
-none_shown : (flights : List Flight) → None ≡ option_map description_of (slice_get flights 0) → map shown_flight flights ≡ []
+none_shown : (flights : List Flight) → None ≡ option_map header_of (slice_get flights 0) → map shown_flight flights ≡ []
 none_shown [] none = refl
 none_shown (first ∷ later) none = cc
 
 pub commits_nothing : (state : State) (devices : List Device) (id place : ℕ) (is : IsPlaceOf devices id place) → state.devices ≡ shown_devices devices
-    → None ≡ option_map description_of (slice_get is.0.in_flight 0) → Commits state id NothingInFlight state
+    → None ≡ option_map header_of (slice_get is.0.in_flight 0) → Commits state id NothingInFlight state
 commits_nothing state devices id place is shown none =
     acts_at (λ (device : machine.Device). Makes state device NothingInFlight state) state devices id place NothingInFlight state shown is (none_shown is.0.in_flight none, refl)

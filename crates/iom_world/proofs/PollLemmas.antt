@@ -11,7 +11,7 @@ use Rattle.iom_base.specs.declared.owner.Owner.{Owner}
 use Rattle.iom_world.specs.declared.device.Device.{Device}
 use Rattle.iom_world.specs.Confirmed.{is_among, unless_among, ConfirmsFrom}
 use Rattle.iom_world.specs.Facts.{AreGrants, serves_still, AreSoundDevices, tickets_after}
-use Rattle.iom_world.specs.Queue.{Queue, IsPolled}
+use Rattle.iom_world.specs.Queue.{Queue, polled}
 use Rattle.iom_world.specs.Sound.{IsSound}
 use Rattle.iom_world.specs.Tables.{leaf_for, HaveTables}
 use Rattle.iom_world.proofs.ConfirmLemmas.{among_yes, among_above}
@@ -86,14 +86,24 @@ pub record IsPollOf (old : Queue) (first n last : ℕ) : Type 0 where
   pub some : old.confirmed < last
   pub given : last ≤ old.given
 
-pub poll_of : (queue : Queue) (first last : ℕ) → IsPolled queue first last → queue.completed ≤ queue.given → IsPollOf queue first (suc (last - first)) last
-poll_of queue first last polled given = record {
-  next = polled.next;
-  done = polled.done;
-  all = omega (arith, polled.next, polled.done, polled.some);
-  some = omega (arith, polled.done, polled.some);
-  given = omega (arith, polled.done);
-}
+pub poll_of : (queue : Queue) (first last : ℕ) → ◌≡◌ {A = Option (ℕ × ℕ)} (Some (first, last)) (polled queue) → queue.completed ≤ queue.given → IsPollOf queue first (suc (last - first)) last
+poll_of queue first last found given = by (nat_lt queue.confirmed queue.completed) refl found
+  where
+    of : queue.confirmed < queue.completed → first ≡ queue.confirmed + 1 → last ≡ queue.completed → IsPollOf queue first (suc (last - first)) last
+    of some next done = record {
+      next = next;
+      done = done;
+      all = omega (arith, next, done, some);
+      some = omega (arith, done, some);
+      given = omega (arith, done);
+    }
+
+    by : (b : Bool) → nat_lt queue.confirmed queue.completed ≡ b
+        → ◌≡◌ {A = Option (ℕ × ℕ)} (Some (first, last)) (if b then Some (queue.confirmed + 1, queue.completed) else None) → IsPollOf queue first (suc (last - first)) last
+    by true lt same =
+        let tickets : ◌≡◌ {A = ℕ × ℕ} (first, last) (queue.confirmed + 1, queue.completed) = cc in
+        of (ltb-true queue.confirmed queue.completed lt) (ap (λ (p : ℕ × ℕ). p.0) tickets) (ap (λ (p : ℕ × ℕ). p.1) tickets)
+    by false lt same = cc
 
 pub sound_polled : (memory : List (List ℕ)) (marks : List (Option Owner)) (old new : Ledger) (devices : List Device) (queue : Queue) (events first n last : ℕ)
     → IsSound memory marks old devices queue events → ConfirmsFrom old new first n → IsPollOf queue first n last

@@ -1,5 +1,6 @@
 -- The commands that wait, and the tickets, each pending until its fence is done.
-use Rattle.std.specs.Prelude.{◌≡◌, ℕ, ◌+◌, ◌<◌, nat_lt, Bool, true, false, List, [], ◌∷◌, ◌++◌, if◌then◌else◌}
+use Rattle.std.specs.Prelude.{◌≡◌, ℕ, ◌+◌, nat_lt, Bool, true, false, List, [], ◌∷◌, ◌++◌, Option, None, Some, if◌then◌else◌}
+use Rattle.std.specs.Option.{option_map_or}
 use Rattle.iom_machine.specs.declared.outcome.Fetched.{Fetched}
 use Rattle.iom_machine.specs.declared.outcome.Fetched.TheVariants.{Did, Waiting, Empty}
 use Rattle.iom_machine.specs.declared.outcome.CommandName.TheVariants.{IotinvalVma, IofenceC}
@@ -39,13 +40,10 @@ FetchesFrom (Fence number ∷ later) old false result new =
 abbrev pub AfterFetch : Queue → Bool → Fetched → Queue → Type 0
 AfterFetch old in_flight result new = FetchesFrom old.waiting old in_flight result new
 
--- the tickets whose fences are done and that aren't confirmed
-pub record IsPolled (queue : Queue) (first last : ℕ) : Type 0 where
-  pub next : first ≡ queue.confirmed + 1
-  pub done : last ≡ queue.completed
-  pub some : queue.confirmed < queue.completed
+-- the tickets whose fences are done and that aren't confirmed, from the first to the last, if there is one
+abbrev pub polled : Queue → Option (ℕ × ℕ)
+polled queue = if nat_lt queue.confirmed queue.completed then Some (queue.confirmed + 1, queue.completed) else None
 
--- what a poll answers: the tickets whose fences are done and that aren't confirmed, if there is one
+-- what a poll answers
 abbrev pub polled_from : Queue → Outcome
-polled_from queue =
-    if nat_lt queue.confirmed queue.completed then Confirmed (queue.confirmed + 1) queue.completed else NoneConfirmed
+polled_from queue = option_map_or (λ tickets. Confirmed tickets.0 tickets.1) (polled queue) NoneConfirmed

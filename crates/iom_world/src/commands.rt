@@ -1,7 +1,7 @@
 //! The commands that the driver has given and the IOMMU hasn't done, and the tickets, each pending until
 //! its fence is done.
 ghost use Rattle.std.specs.Prelude.{◌≡◌, ℕ, ◌+◌, ◌-◌, ◌<◌, ◌≤◌, ◌^◌, ◌↔◌, [], ◌∷◌, ◌++◌, length, IfOk, IsTrue, true, false, Some, None, drop};
-ghost use Rattle.iom_world.specs.Queue.{Queue, no_commands, with_release, AfterFetch, IsPolled};
+ghost use Rattle.iom_world.specs.Queue.{Queue, no_commands, with_release, AfterFetch, polled};
 
 use circular_buffer::HeapCircularBuffer;
 use iom_ledger::MAX_PENDING;
@@ -118,9 +118,10 @@ impl Commands {
     /// The tickets whose fences are done and that aren't confirmed, from the first to the last: they are
     /// confirmed now.
     pub(crate) fn poll(&mut self) -> Option<(u32, u32)>
-        ensures none { result ≡ None → (self.old.completed ≡ self.old.confirmed) × (self.new ≡ self.old) }
+        ensures polled { result ≡ polled self.old }
+        ensures none { result ≡ None → self.new ≡ self.old }
+        ensures after { self.new ≡ record self.old { confirmed = self.old.completed } }
         ensures given { self.old.completed ≤ self.old.given }
-        ensures some { (first last : ℕ) → result ≡ Some (first, last) → IsPolled self.old first last × (self.new ≡ record self.old { confirmed = last }) }
     {
         if self.confirmed == self.completed {
             return None;

@@ -17,7 +17,7 @@ use crate::answer::{Answer, tell_read};
 use crate::device::Device;
 use crate::world::World;
 use iom_base::{AccessKind, DeviceId};
-use iom_inflight::Accepted;
+use iom_inflight::AccessHeader;
 use iom_ledger::Refusal;
 use iom_machine::Outcome;
 
@@ -44,7 +44,7 @@ impl Device {
 
 impl World {
     /// The oldest access of the device that stands here, a read, is made: the place tells the bytes.
-    fn commit_read(&mut self, place: usize, access: Accepted, told: &mut Outcome)
+    fn commit_read(&mut self, place: usize, access: AccessHeader, told: &mut Outcome)
         requires { IsOldestAt self.old.devices.items place access Read }
         ensures step { (state : State) (id : ℕ) → Shows self.old state → IsPlaceOf self.old.devices.items id place → (next : State)
             × Commits state id told.new next × Shows self.new next }
@@ -62,7 +62,7 @@ impl World {
     }
 
     /// The oldest access of the device that stands here, a write, is made.
-    fn commit_write(&mut self, place: usize, access: Accepted) -> Answer
+    fn commit_write(&mut self, place: usize, access: AccessHeader) -> Answer
         requires { IsOldestAt self.old.devices.items place access Write }
         ensures step { (state : State) (id : ℕ) → Shows self.old state → IsPlaceOf self.old.devices.items id place → (next : State)
             × Commits state id (outcome_of result) next × Shows self.new next }

@@ -7,7 +7,7 @@ use Rattle.iom_machine.specs.declared.outcome.Outcome.TheVariants as outcome
 use Rattle.iom_world.specs.Answers.{outcome_of}
 use Rattle.iom_world.proofs.AnswerLemmas.{keeps_tables}
 use Rattle.iom_world.proofs.CommitLemmas.{commits_nothing, oldest_at}
-use Rattle.iom_inflight.specs.Flights.{description_of}
+use Rattle.iom_inflight.specs.Flights.{header_of}
 use Rattle.iom_world.specs.declared.device.Device.{Device}
 use Rattle.iom_world.proofs.ListLemmas.{get_within}
 use Rattle.iom_world.proofs.ReplaceLemmas.{same_item}
@@ -27,7 +27,7 @@ returns-in_default-oldest-clause-step c = λ state shows.
     let here = same_item c.args.self.now.devices.items c.in-Some.place c.index.result.now place.0 c.index.ensures place.1 in (
       state,
       rw c.tell-in_default-oldest.ensures (commits_nothing state c.args.self.now.devices.items c.args.id c.in-Some.place place shows.devices
-          (c.in_default-oldest.ensures ∙ ap (λ (d : Device). option_map description_of (slice_get d.in_flight 0)) here)),
+          (c.in_default-oldest.ensures ∙ ap (λ (d : Device). option_map header_of (slice_get d.in_flight 0)) here)),
       shows,
     )
 
@@ -36,14 +36,14 @@ commit_read-requires c =
     let place = c.in-Some.ensures in
     let here = same_item c.args.self.now.devices.items c.in-Some.place c.index.result.now place.0 c.index.ensures place.1 in
     oldest_at c.args.self.now.devices.items c.in-Some.place place.0 c.in-Some-oldest.access Read place.1
-    (c.in-Some-oldest.ensures ∙ ap (λ (d : Device). option_map description_of (slice_get d.in_flight 0)) here) c.in-Read.is
+    (c.in-Some-oldest.ensures ∙ ap (λ (d : Device). option_map header_of (slice_get d.in_flight 0)) here) c.in-Read.is
 
 pub commit_write-requires : goal.commit_write-requires
 commit_write-requires c =
     let place = c.in-Some.ensures in
     let here = same_item c.args.self.now.devices.items c.in-Some.place c.index.result.now place.0 c.index.ensures place.1 in
     oldest_at c.args.self.now.devices.items c.in-Some.place place.0 c.in-Some-oldest.access Write place.1
-    (c.in-Some-oldest.ensures ∙ ap (λ (d : Device). option_map description_of (slice_get d.in_flight 0)) here) c.in-Write.is
+    (c.in-Some-oldest.ensures ∙ ap (λ (d : Device). option_map header_of (slice_get d.in_flight 0)) here) c.in-Write.is
 
 pub returns-in-Write-clause-step : goal.returns-in-Write-clause-step
 returns-in-Write-clause-step c = λ state shows.

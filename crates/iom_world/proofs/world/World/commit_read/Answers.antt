@@ -1,6 +1,6 @@
 use Rattle.std.proofs.Common.{◌≡◌, ℕ, ◌+◌, ◌∙◌, ◌%◌, List, Some, slice_get, slice_range, Option, option_map, sym, ap, subst, arith}
 use Rattle.std.specs.Borrow.{Bor}
-use Rattle.iom_inflight.specs.declared.in_flight.Accepted.{Accepted}
+use Rattle.iom_inflight.specs.declared.in_flight.AccessHeader.{AccessHeader}
 use Rattle.iom_inflight.specs.Flights.{OldestIsRead}
 use Rattle.iom_world.specs.declared.device.Device.{Device}
 use Rattle.iom_world.specs.Devices.{shown_device}
@@ -14,20 +14,20 @@ pub unwrap-frame-requires : goal.unwrap-frame-requires
 unwrap-frame-requires c =
     let world = c.args.self.now in
     let made = may_be_made world.memory world.marks world.ledger world.devices.items world.commands world.events c.args.place c.requires.0 c.requires.1 world.sound c.requires.2 c.requires.3 in
-    some_by_map (λ (f : Bor (List ℕ)). f.now) c.frame.result made.bytes (c.frame.ensures ∙ ap (λ (a : Accepted). slice_get world.memory a.frame) c.requires.4 ∙ made.there)
+    some_by_map (λ (f : Bor (List ℕ)). f.now) c.frame.result made.bytes (c.frame.ensures ∙ ap (λ (a : AccessHeader). slice_get world.memory a.frame) c.requires.4 ∙ made.there)
 
 pub slice_bounds-bytes-end : goal.slice_bounds-bytes-end
 slice_bounds-bytes-end c =
     let world = c.args.self.now in
     let made = may_be_made world.memory world.marks world.ledger world.devices.items world.commands world.events c.args.place c.requires.0 c.requires.1 world.sound c.requires.2 c.requires.3 in
     let w = made.within in
-    omega (arith, ap (λ (a : Accepted). a.address % 4096) c.requires.4, ap (λ (a : Accepted). a.len) c.requires.4, w)
+    omega (arith, ap (λ (a : AccessHeader). a.address % 4096) c.requires.4, ap (λ (a : AccessHeader). a.len) c.requires.4, w)
 
 pub tell_read-requires : goal.tell_read-requires
 tell_read-requires c =
     let world = c.args.self.now in
     let made = may_be_made world.memory world.marks world.ledger world.devices.items world.commands world.events c.args.place c.requires.0 c.requires.1 world.sound c.requires.2 c.requires.3 in
-    let l = ap (λ (a : Accepted). a.len) c.requires.4 in
+    let l = ap (λ (a : AccessHeader). a.len) c.requires.4 in
     let w = made.within in
     omega (arith, l, w)
 
@@ -54,11 +54,11 @@ returns-clause-step c = λ state id shows is.
     let world = c.args.self.now in
     let same : c.requires.0 ≡ is.0 = same_place world.devices.items c.args.place c.requires.0 is.0 c.requires.2 is.1 in
     let oldest = subst (λ (d : Device). slice_get d.in_flight 0 ≡ Some c.requires.1) same c.requires.3 in
-    let at = ap (λ (a : Accepted). slice_get world.memory a.frame) (sym c.requires.4)
+    let at = ap (λ (a : AccessHeader). slice_get world.memory a.frame) (sym c.requires.4)
     ∙ sym c.frame.ensures ∙ ap (λ (o : Option (Bor (List ℕ))). option_map (λ (f : Bor (List ℕ)). f.now) o) c.unwrap-frame.ensures in
     let items = c.tell_read.ensures.2
     ∙ ap (λ (l : ℕ). slice_range c.unwrap-frame.result.now (c.args.access.address % 4096) (c.args.access.address % 4096 + l)) c.from.ensures
-    ∙ ap (λ (a : Accepted). slice_range c.unwrap-frame.result.now (a.address % 4096) (a.address % 4096 + a.len)) c.requires.4 in
+    ∙ ap (λ (a : AccessHeader). slice_range c.unwrap-frame.result.now (a.address % 4096) (a.address % 4096 + a.len)) c.requires.4 in
     let now = c.take_read.ensures ∙ ap without_oldest (same_item world.devices.items c.args.place c.index_mut.result.now is.0 c.index_mut.ensures.value is.1) in (
       with_oldest_made state (shown_device is.0),
       rw c.tell_read.ensures.1 (commits_read state world.ledger world.memory world.marks world.devices.items world.commands world.events id c.args.place c.requires.1 world.sound shows.ledger shows.frames shows.devices is oldest

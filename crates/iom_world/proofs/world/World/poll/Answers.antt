@@ -15,8 +15,8 @@ invariant_of-self-in-Some c =
     let world = c.args.self.now in
     let first = c.in-Some.first in
     let last = c.in-Some.last in
-    let (polled, changed) = c.in-Some.ensures.some first last refl in
-    let poll = poll_of world.commands first last polled c.in-Some.ensures.given in
+    let poll = poll_of world.commands first last c.in-Some.ensures.polled c.in-Some.ensures.given in
+    let changed = c.in-Some.ensures.after ∙ ap (λ n. let q : Queue = record world.commands { confirmed = n } in q) (sym poll.done) in
     record {
       sound = subst (λ (queue : Queue). IsSound world.memory world.marks c.confirm_tickets.new.ledger world.devices.items queue world.events) (sym changed)
           (sound_polled world.memory world.marks world.ledger c.confirm_tickets.new.ledger world.devices.items world.commands world.events first (suc (last - first)) last
@@ -30,8 +30,8 @@ returns-in-Some-clause-step c = λ state shows.
     let world = c.args.self.now in
     let first = c.in-Some.first in
     let last = c.in-Some.last in
-    let (polled, changed) = c.in-Some.ensures.some first last refl in
-    let poll = poll_of world.commands first last polled c.in-Some.ensures.given in
+    let poll = poll_of world.commands first last c.in-Some.ensures.polled c.in-Some.ensures.given in
+    let changed = c.in-Some.ensures.after ∙ ap (λ n. let q : Queue = record world.commands { confirmed = n } in q) (sym poll.done) in
     let ends : first + (last - first) ≡ last = omega (arith, poll.next, poll.some) in
     let agrees = c.confirm_tickets.ensures.agrees state.history shows.ledger in
     let each = devices_polled world.ledger c.confirm_tickets.new.ledger first (suc (last - first)) world.commands.completed world.events world.devices.items c.confirm_tickets.ensures.confirmed
