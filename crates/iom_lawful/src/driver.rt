@@ -3,7 +3,7 @@
 ghost use Rattle.std.specs.Prelude.{◌<◌};
 
 use iom_base::DeviceId;
-use iom_ledger::Entry;
+use iom_ledger::HistoryEntry;
 use iom_machine::{Choice, Event, Outcome, Sequence, State};
 use std::alloc::{AllocError, Global};
 
@@ -48,9 +48,9 @@ fn release(reaches: &mut [Reach], device: DeviceId, page: Option<u64>, ticket: u
 }
 
 /// The entry happens.
-fn enter(reaches: &mut Vec<Reach>, entry: &Entry) -> Result<(), AllocError> {
+fn enter(reaches: &mut Vec<Reach>, entry: &HistoryEntry) -> Result<(), AllocError> {
     match *entry {
-        Entry::Granted {
+        HistoryEntry::Granted {
             device,
             page,
             frame,
@@ -61,19 +61,19 @@ fn enter(reaches: &mut Vec<Reach>, entry: &Entry) -> Result<(), AllocError> {
             frame,
             ticket: None,
         })?,
-        Entry::Released {
+        HistoryEntry::Released {
             device,
             page,
             ticket,
         } => release(reaches, device, Some(page), ticket),
-        Entry::AllReleased { device, ticket } => release(reaches, device, None, ticket),
-        Entry::Confirmed { ticket } => reaches.retain(|reach| reach.ticket != Some(ticket)),
+        HistoryEntry::AllReleased { device, ticket } => release(reaches, device, None, ticket),
+        HistoryEntry::Confirmed { ticket } => reaches.retain(|reach| reach.ticket != Some(ticket)),
     }
     Ok(())
 }
 
 /// What the devices reach by the history, which has its newest entry first.
-fn reaches_of(alloc: Global, history: &[Entry]) -> Result<Vec<Reach>, AllocError> {
+fn reaches_of(alloc: Global, history: &[HistoryEntry]) -> Result<Vec<Reach>, AllocError> {
     let mut reaches = Vec::new(alloc);
     for entry in history.iter().rev() {
         enter(&mut reaches, entry)?;

@@ -10,7 +10,7 @@ use Rattle.iom_base.specs.declared.rights.Rights.{Rights}
 use Rattle.iom_base.specs.Rights.{allows}
 use Rattle.iom_ledger.specs.declared.row.Row.{Row}
 use Rattle.iom_ledger.specs.declared.row.Pending.{Pending}
-use Rattle.iom_ledger.specs.declared.entry.Entry.TheVariants.{Confirmed}
+use Rattle.iom_ledger.specs.declared.entry.HistoryEntry.TheVariants.{Confirmed}
 use Rattle.iom_ledger.specs.declared.ledger.Ledger.{Ledger}
 use Rattle.iom_ledger.specs.History.{History, Pair, confirms, released_at, Holds, Lingers, May}
 use Rattle.iom_ledger.specs.Pending.{tickets_of}

@@ -3,26 +3,26 @@ use Rattle.std.specs.Prelude.{◌≡◌, ℕ, ◌⊎◌, Bool, true, false, not,
 use Rattle.iom_base.specs.declared.access.AccessKind.{AccessKind}
 use Rattle.iom_base.specs.declared.rights.Rights.{Rights}
 use Rattle.iom_base.specs.Rights.{allows}
-use Rattle.iom_ledger.specs.declared.entry.Entry.{Entry}
-use Rattle.iom_ledger.specs.declared.entry.Entry.TheVariants.{Granted, Released, AllReleased, Confirmed}
+use Rattle.iom_ledger.specs.declared.entry.HistoryEntry.{HistoryEntry}
+use Rattle.iom_ledger.specs.declared.entry.HistoryEntry.TheVariants.{Granted, Released, AllReleased, Confirmed}
 
 -- what happened to the grants, the newest entry first
 abbrev pub History : Type 0
-History = List Entry
+History = List HistoryEntry
 
 -- a frame, and the right to it
 abbrev pub Pair : Type 0
 Pair = ℕ × Rights
 
 -- whether the entry is about this page of the device, which until then held `before` there
-abbrev pub is_about : Entry → Option Pair → ℕ → ℕ → Bool
+abbrev pub is_about : HistoryEntry → Option Pair → ℕ → ℕ → Bool
 is_about (Granted d a frame rights) before device page = (d == device) && (a == page)
 is_about (Released d a ticket) before device page = (d == device) && (a == page)
 is_about (AllReleased d ticket) before device page = (d == device) && is_some before
 is_about (Confirmed ticket) before device page = false
 
 -- the pair that the entry grants
-abbrev pub granted_by : Entry → Option Pair
+abbrev pub granted_by : HistoryEntry → Option Pair
 granted_by (Granted d a frame rights) = Some (frame, rights)
 granted_by (Released d a ticket) = None
 granted_by (AllReleased d ticket) = None
@@ -35,7 +35,7 @@ held_at (entry ∷ before) device page =
     if is_about entry (held_at before device page) device page then granted_by entry else held_at before device page
 
 -- the ticket under which the entry releases a pair that was held, with that pair
-abbrev pub released_by : Entry → Option Pair → List (ℕ × Pair)
+abbrev pub released_by : HistoryEntry → Option Pair → List (ℕ × Pair)
 released_by (Released d a ticket) (Some pair) = (ticket, pair) ∷ []
 released_by (AllReleased d ticket) (Some pair) = (ticket, pair) ∷ []
 released_by (Released d a ticket) None = []

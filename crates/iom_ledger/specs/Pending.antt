@@ -1,11 +1,11 @@
 -- Which tickets are pending, by a history.
 use Rattle.std.specs.Prelude.{ℕ, not, List, [], ◌∷◌, ◌++◌, filter}
-use Rattle.iom_ledger.specs.declared.entry.Entry.{Entry}
-use Rattle.iom_ledger.specs.declared.entry.Entry.TheVariants.{Granted, Released, AllReleased, Confirmed}
+use Rattle.iom_ledger.specs.declared.entry.HistoryEntry.{HistoryEntry}
+use Rattle.iom_ledger.specs.declared.entry.HistoryEntry.TheVariants.{Granted, Released, AllReleased, Confirmed}
 use Rattle.iom_ledger.specs.History.{History, confirms}
 
 -- the ticket under which the entry releases
-abbrev pub tickets_by : Entry → List ℕ
+abbrev pub tickets_by : HistoryEntry → List ℕ
 tickets_by (Granted device page frame rights) = []
 tickets_by (Released device page ticket) = ticket ∷ []
 tickets_by (AllReleased device ticket) = ticket ∷ []

@@ -2,7 +2,7 @@ use iom_base::{DeviceId, Rights};
 
 /// One thing that happened to the grants.
 #[derive(Clone, Copy, PartialEq, Eq, Debug)]
-pub enum Entry {
+pub enum HistoryEntry {
     /// The device got the frame at the page, with the right.
     Granted {
         device: DeviceId,

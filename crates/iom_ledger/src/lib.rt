@@ -23,6 +23,6 @@ mod refusal;
 mod ring;
 mod row;
 
-pub use entry::Entry;
+pub use entry::HistoryEntry;
 pub use ledger::{Ledger, MAX_PENDING};
 pub use refusal::Refusal;

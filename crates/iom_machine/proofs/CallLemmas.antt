@@ -1,7 +1,7 @@
 -- Calls of the driver that are lawful.
 use Rattle.std.proofs.Common.{◌≡◌, ◌↔◌, ℕ, suc, ◌-◌, Bool, false, List, ◌∷◌, All, Option, None, Some, is_some, slice_get, slice_set, refl, sym, ◌∙◌, subst}
 use Rattle.iom_base.specs.declared.rights.Rights.{Rights}
-use Rattle.iom_ledger.specs.declared.entry.Entry.TheVariants as entries
+use Rattle.iom_ledger.specs.declared.entry.HistoryEntry.TheVariants as entries
 use Rattle.iom_ledger.specs.declared.refusal.Refusal.{Refusal}
 use Rattle.iom_ledger.specs.History.{History}
 use Rattle.iom_base.specs.Rights.{IsGrantable}

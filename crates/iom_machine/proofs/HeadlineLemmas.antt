@@ -6,8 +6,8 @@ use Rattle.iom_base.specs.Bytes.{with_bytes}
 use Rattle.iom_base.specs.declared.access.AccessKind.{AccessKind}
 use Rattle.iom_base.specs.declared.access.AccessKind.TheVariants as kinds
 use Rattle.iom_base.specs.declared.cause.Cause.{Cause}
-use Rattle.iom_ledger.specs.declared.entry.Entry.{Entry}
-use Rattle.iom_ledger.specs.declared.entry.Entry.TheVariants as entries
+use Rattle.iom_ledger.specs.declared.entry.HistoryEntry.{HistoryEntry}
+use Rattle.iom_ledger.specs.declared.entry.HistoryEntry.TheVariants as entries
 use Rattle.iom_ledger.specs.History.{History, May, Pair, Holds}
 use Rattle.iom_ledger.specs.History as ledger
 use Rattle.iom_ledger.specs.declared.refusal.Refusal.TheVariants.{NoSuchDevice}
@@ -225,7 +225,7 @@ accepted_on_its_frame old new (events.Write d address bytes) outcome id frame de
 accepted_on_its_frame old new _ outcome id frame device access step asks there one within room held = absurd asks
 
 -- a frame that is free stays so, after an entry that doesn't grant it
-free_after : (entry : Entry) (h : History) (frame : ℕ) → ¬ NamesFrame entry frame → ledger.IsFree h frame → ledger.IsFree (entry ∷ h) frame
+free_after : (entry : HistoryEntry) (h : History) (frame : ℕ) → ¬ NamesFrame entry frame → ledger.IsFree h frame → ledger.IsFree (entry ∷ h) frame
 free_after entry h frame other free device kind may = elim (reach_before entry h device frame kind may) [
   | inl named ↦ other named
   | inr before ↦ free device kind before

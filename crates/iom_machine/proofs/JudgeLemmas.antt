@@ -16,8 +16,8 @@ use Rattle.std.proofs.Common.{nat_eq, length, ◌<◌, ◌≤◌, All}
 use Rattle.std.proofs.lemmas.Map.Made.{length-le_from_is_member}
 use Rattle.std.proofs.lemmas.List.Elements.{All-contains}
 use Rattle.iom_machine.specs.Frames.{FewerThan}
-use Rattle.iom_ledger.specs.declared.entry.Entry.{Entry}
-use Rattle.iom_ledger.specs.declared.entry.Entry.TheVariants.{Granted, Released, AllReleased, Confirmed}
+use Rattle.iom_ledger.specs.declared.entry.HistoryEntry.{HistoryEntry}
+use Rattle.iom_ledger.specs.declared.entry.HistoryEntry.TheVariants.{Granted, Released, AllReleased, Confirmed}
 use Rattle.iom_ledger.specs.History.{History, Pair, is_about, granted_by, held_at, released_by, released_at, confirms, Holds, Lingers, May, IsFree, serves}
 use Rattle.iom_machine.specs.Judging.{holds_for, still_serves, lingers_for, reaches_in, anyone_reaches_in}
 use Rattle.iom_machine.proofs.ReachLemmas.{cons_cases, contains_head, contains_tail, contains_from_filter, contains_filter, released_was_held}
@@ -101,7 +101,7 @@ grants_at (Released d p ticket ∷ before) device page = grants_at before device
 grants_at (AllReleased d ticket ∷ before) device page = grants_at before device page
 grants_at (Confirmed ticket ∷ before) device page = grants_at before device page
 
-granted_before : (entry : Entry) (h : History) (device page : ℕ) → grants_at h device page ≡ true → grants_at (entry ∷ h) device page ≡ true
+granted_before : (entry : HistoryEntry) (h : History) (device page : ℕ) → grants_at h device page ≡ true → grants_at (entry ∷ h) device page ≡ true
 granted_before (Granted d p frame rights) h device page e = or_right ((d == device) && (p == page)) (grants_at h device page) e
 granted_before (Released d p ticket) h device page e = e
 granted_before (AllReleased d ticket) h device page e = e
@@ -112,7 +112,7 @@ held_was_granted : (h : History) (d page : ℕ) (pair : Pair) → held_at h d pa
 held_was_granted [] d page pair e = cc
 held_was_granted (entry ∷ h) d page pair e = by (is_about entry (held_at h d page) d page) refl e (held_was_granted h d page pair)
   where
-    here : (x : Entry) → is_about x (held_at h d page) d page ≡ true → granted_by x ≡ Some pair → grants_at (x ∷ h) d page ≡ true
+    here : (x : HistoryEntry) → is_about x (held_at h d page) d page ≡ true → granted_by x ≡ Some pair → grants_at (x ∷ h) d page ≡ true
     here (Granted x p frame rights) about g = or_left ((x == d) && (p == page)) (grants_at h d page) about
     here (Released x p ticket) about g = cc
     here (AllReleased x ticket) about g = cc

@@ -4,8 +4,8 @@ use Rattle.std.proofs.lemmas.Bool.{false≢true, eqb-true, and_parts}
 use Rattle.std.proofs.lemmas.List.Elements.{Contains-push, Contains-push_cases, Contains-append_cases, Contains-append_left, Contains-append_right}
 use Rattle.iom_base.specs.declared.access.AccessKind.{AccessKind}
 use Rattle.iom_base.specs.declared.rights.Rights.{Rights}
-use Rattle.iom_ledger.specs.declared.entry.Entry.{Entry}
-use Rattle.iom_ledger.specs.declared.entry.Entry.TheVariants.{Granted, Released, AllReleased, Confirmed}
+use Rattle.iom_ledger.specs.declared.entry.HistoryEntry.{HistoryEntry}
+use Rattle.iom_ledger.specs.declared.entry.HistoryEntry.TheVariants.{Granted, Released, AllReleased, Confirmed}
 use Rattle.iom_ledger.specs.History.{History, Pair, is_about, granted_by, held_at, released_by, released_at, confirms, Holds, Lingers, May}
 
 -- the first element, or one of the others
@@ -46,14 +46,14 @@ contains_filter p (a ∷ xs) x c passes = by (p a) refl (cons_cases a xs x c) (�
     by true e (inr later) rest = contains_tail a (filter p xs) x (rest later)
 
 -- the entry grants the frame
-abbrev pub NamesFrame : Entry → ℕ → Type 0
+abbrev pub NamesFrame : HistoryEntry → ℕ → Type 0
 NamesFrame (Granted d a named rights) frame = named ≡ frame
 NamesFrame (Released d a ticket) frame = ⊥
 NamesFrame (AllReleased d ticket) frame = ⊥
 NamesFrame (Confirmed ticket) frame = ⊥
 
 -- a ticket that isn't confirmed was not before
-unconfirmed_before : (entry : Entry) (h : History) (t : ℕ) → not (confirms (entry ∷ h) t) ≡ true → not (confirms h t) ≡ true
+unconfirmed_before : (entry : HistoryEntry) (h : History) (t : ℕ) → not (confirms (entry ∷ h) t) ≡ true → not (confirms h t) ≡ true
 unconfirmed_before (Granted d a frame rights) h t u = u
 unconfirmed_before (Released d a ticket) h t u = u
 unconfirmed_before (AllReleased d ticket) h t u = u
@@ -64,7 +64,7 @@ unconfirmed_before (Confirmed ticket) h t u = by (ticket == t) (confirms h t) u
     by false c x = x
 
 -- what an entry releases was held
-pub released_was_held : (entry : Entry) (held : Option Pair) (t : ℕ) (pair : Pair) → Contains (released_by entry held) (t, pair) → held ≡ Some pair
+pub released_was_held : (entry : HistoryEntry) (held : Option Pair) (t : ℕ) (pair : Pair) → Contains (released_by entry held) (t, pair) → held ≡ Some pair
 released_was_held (Granted d a frame rights) held t pair (k, below, at) = absurd (omega arith)
 released_was_held (Confirmed ticket) held t pair (k, below, at) = absurd (omega arith)
 released_was_held (Released d a ticket) None t pair (k, below, at) = absurd (omega arith)
@@ -79,7 +79,7 @@ released_was_held (AllReleased d ticket) (Some p) t pair c = only c
     only c = elim (cons_cases (ticket, p) [] (t, pair) c) [ inl same ↦ ap (λ x. Some x.1) same | inr (k, below, at) ↦ absurd (omega arith) ]
 
 -- what lingers was held, or lingered, before
-lingers_before : (entry : Entry) (h : History) (d p : ℕ) (pair : Pair) → Lingers (entry ∷ h) d p pair → Holds h d p pair ⊎ Lingers h d p pair
+lingers_before : (entry : HistoryEntry) (h : History) (d p : ℕ) (pair : Pair) → Lingers (entry ∷ h) d p pair → Holds h d p pair ⊎ Lingers h d p pair
 lingers_before entry h d p pair (t, c) =
     let kept = contains_from_filter _ (released_at (entry ∷ h) d p) (t, pair) c in
     elim (Contains-append_cases (if is_about entry (held_at h d p) d p then released_by entry (held_at h d p) else []) (released_at h d p) (t, pair) kept.0) [
@@ -92,11 +92,11 @@ lingers_before entry h d p pair (t, c) =
     by false (k, below, at) = absurd (omega arith)
 
 -- what is held was held before, or is granted now
-holds_before : (entry : Entry) (h : History) (d p frame : ℕ) (rights : Rights) → Holds (entry ∷ h) d p (frame, rights)
+holds_before : (entry : HistoryEntry) (h : History) (d p frame : ℕ) (rights : Rights) → Holds (entry ∷ h) d p (frame, rights)
     → NamesFrame entry frame ⊎ Holds h d p (frame, rights)
 holds_before entry h d p frame rights holds = by (is_about entry (held_at h d p) d p) holds
   where
-    granted : (e : Entry) → granted_by e ≡ Some (frame, rights) → NamesFrame e frame
+    granted : (e : HistoryEntry) → granted_by e ≡ Some (frame, rights) → NamesFrame e frame
     granted (Granted x a named r) same = let pairs : ◌≡◌ {A = Pair} (named, r) (frame, rights) = cc in ap (λ (x : Pair). x.0) pairs
     granted (Released x a ticket) same = cc
     granted (AllReleased x ticket) same = cc
@@ -107,7 +107,7 @@ holds_before entry h d p frame rights holds = by (is_about entry (held_at h d p)
     by false x = inr x
 
 -- a device reaches a frame only where it did before, or the frame is granted now
-pub reach_before : (entry : Entry) (h : History) (device frame : ℕ) (kind : AccessKind) → May (entry ∷ h) device frame kind
+pub reach_before : (entry : HistoryEntry) (h : History) (device frame : ℕ) (kind : AccessKind) → May (entry ∷ h) device frame kind
     → NamesFrame entry frame ⊎ May h device frame kind
 reach_before entry h device frame kind (page, rights, reaches, allowed) = elim reaches [
   | inl holds ↦ elim (holds_before entry h device page frame rights holds) [

@@ -10,8 +10,8 @@ use Rattle.iom_base.specs.Bytes.{with_bytes}
 use Rattle.iom_base.specs.declared.access.AccessKind.{AccessKind}
 use Rattle.iom_base.specs.declared.access.AccessKind.TheVariants as kinds
 use Rattle.iom_base.specs.declared.rights.Rights.{Rights}
-use Rattle.iom_ledger.specs.declared.entry.Entry.{Entry}
-use Rattle.iom_ledger.specs.declared.entry.Entry.TheVariants as entries
+use Rattle.iom_ledger.specs.declared.entry.HistoryEntry.{HistoryEntry}
+use Rattle.iom_ledger.specs.declared.entry.HistoryEntry.TheVariants as entries
 use Rattle.iom_ledger.specs.declared.refusal.Refusal.{Refusal}
 use Rattle.iom_ledger.specs.History.{History, May, Pair, held_at, confirms}
 use Rattle.iom_machine.specs.declared.event.Event.{Event}
@@ -228,7 +228,7 @@ in_memory-change : (event : Event) (outcome : Outcome) (old new : State) → Cha
     → AreInMemory new.history (length new.frames)
 in_memory-change event outcome old new change size low = subst (λ n. AreInMemory new.history n) (sym size) (by change)
   where
-    entered : (e : Entry) → ((frame : ℕ) → NamesFrame e frame → frame < length old.frames) → (h : History) → AreInMemory h (length old.frames) → AreInMemory (e ∷ h) (length old.frames)
+    entered : (e : HistoryEntry) → ((frame : ℕ) → NamesFrame e frame → frame < length old.frames) → (h : History) → AreInMemory h (length old.frames) → AreInMemory (e ∷ h) (length old.frames)
     entered e names h before device frame kind may = elim (reach_before e h device frame kind may) [
       | inl named ↦ names frame named
       | inr reached ↦ before device frame kind reached

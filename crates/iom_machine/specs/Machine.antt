@@ -2,7 +2,7 @@
 use Rattle.std.specs.Prelude.{◌≡◌, ℕ, ◌+◌, Bool, false, List, [], ◌∷◌, ◌++◌, All, Some, MatchOption, IsSomeAnd, slice_get, slice_range, drop, ⊤}
 use Rattle.iom_base.specs.declared.access.AccessKind.TheVariants as kinds
 use Rattle.iom_base.specs.declared.rights.Rights.{Rights}
-use Rattle.iom_ledger.specs.declared.entry.Entry.TheVariants as entry
+use Rattle.iom_ledger.specs.declared.entry.HistoryEntry.TheVariants as entry
 use Rattle.iom_ledger.specs.declared.refusal.Refusal.TheVariants.{NoSuchDevice}
 use Rattle.iom_ledger.specs.History.{May}
 use Rattle.iom_base.specs.Rights.{IsGrantable}

@@ -1,6 +1,6 @@
 -- Tickets: they count from 1, and are confirmed in that order.
 use Rattle.std.specs.Prelude.{◌≡◌, ◌≤◌, ℕ, zero, suc, ◌+◌, ◌-◌, ◌∷◌, []}
-use Rattle.iom_ledger.specs.declared.entry.Entry.TheVariants.{Granted, Released, AllReleased, Confirmed}
+use Rattle.iom_ledger.specs.declared.entry.HistoryEntry.TheVariants.{Granted, Released, AllReleased, Confirmed}
 use Rattle.iom_ledger.specs.History.{History}
 use Rattle.iom_machine.specs.declared.state.State.{State}
 

@@ -1,6 +1,6 @@
 use crate::sequence::Sequence;
 use iom_base::{AccessKind, DeviceId, Owner};
-use iom_ledger::Entry;
+use iom_ledger::HistoryEntry;
 
 /// What a device is, and so which requests it can make.
 #[derive(Clone, Copy, PartialEq, Eq, Debug)]
@@ -78,7 +78,7 @@ pub struct State {
     pub levels: u8,
     pub frames: Sequence<Frame>,
     /// What happened to the grants, the newest entry first.
-    pub history: Sequence<Entry>,
+    pub history: Sequence<HistoryEntry>,
     /// The last ticket that was given; they count from 1.
     pub last_ticket: u32,
     /// In the order of plugging.

@@ -1,5 +1,5 @@
 use iom_base::{DeviceId, Rights};
-use iom_ledger::{Entry, Ledger, MAX_PENDING, Refusal};
+use iom_ledger::{HistoryEntry, Ledger, MAX_PENDING, Refusal};
 use std::alloc::{AllocError, Global};
 use std::process::Abort;
 use std::test::Fail;
@@ -41,9 +41,9 @@ fn each_refusal_is_told_by_number_and_name(rt: HostRuntime) -> Result<(), Fail> 
 }
 
 /// Brings an entry about by the ledger's calls.
-fn bring_about(ledger: &mut Ledger, entry: Entry) -> Result<(), Fail> {
+fn bring_about(ledger: &mut Ledger, entry: HistoryEntry) -> Result<(), Fail> {
     match entry {
-        Entry::Granted {
+        HistoryEntry::Granted {
             device,
             page,
             frame,
@@ -56,7 +56,7 @@ fn bring_about(ledger: &mut Ledger, entry: Entry) -> Result<(), Fail> {
                 ledger.grant(device, page, frame, rights)?;
             }
         }
-        Entry::Released {
+        HistoryEntry::Released {
             device,
             page,
             ticket,
@@ -65,12 +65,12 @@ fn bring_about(ledger: &mut Ledger, entry: Entry) -> Result<(), Fail> {
                 ledger.release(device, page, ticket);
             }
         }
-        Entry::AllReleased { device, ticket } => {
+        HistoryEntry::AllReleased { device, ticket } => {
             if ledger.pending() < MAX_PENDING {
                 ledger.release_all(device, ticket);
             }
         }
-        Entry::Confirmed { ticket } => ledger.confirm(ticket),
+        HistoryEntry::Confirmed { ticket } => ledger.confirm(ticket),
     }
     Ok(())
 }
@@ -126,8 +126,8 @@ fn answers(alloc: Global, ledger: &Ledger) -> Result<String, AllocError> {
     format!(in alloc; "{pages} free{free} {devices} pending {pending}")
 }
 
-fn granted(device: DeviceId, page: u64, frame: u32, rights: Rights) -> Entry {
-    Entry::Granted {
+fn granted(device: DeviceId, page: u64, frame: u32, rights: Rights) -> HistoryEntry {
+    HistoryEntry::Granted {
         device,
         page,
         frame,
@@ -135,24 +135,24 @@ fn granted(device: DeviceId, page: u64, frame: u32, rights: Rights) -> Entry {
     }
 }
 
-fn released(device: DeviceId, page: u64, ticket: u32) -> Entry {
-    Entry::Released {
+fn released(device: DeviceId, page: u64, ticket: u32) -> HistoryEntry {
+    HistoryEntry::Released {
         device,
         page,
         ticket,
     }
 }
 
-fn all_released(device: DeviceId, ticket: u32) -> Entry {
-    Entry::AllReleased { device, ticket }
+fn all_released(device: DeviceId, ticket: u32) -> HistoryEntry {
+    HistoryEntry::AllReleased { device, ticket }
 }
 
-fn confirmed(ticket: u32) -> Entry {
-    Entry::Confirmed { ticket }
+fn confirmed(ticket: u32) -> HistoryEntry {
+    HistoryEntry::Confirmed { ticket }
 }
 
 /// Entries, each with what the history leaves then, worked out by hand.
-fn first_entries<'a>() -> [(Entry, &'a str); 7] {
+fn first_entries<'a>() -> [(HistoryEntry, &'a str); 7] {
     [
         (
             granted(1, 16, 5, Rights::RW),
@@ -183,7 +183,7 @@ fn first_entries<'a>() -> [(Entry, &'a str); 7] {
 }
 
 /// The entries after those.
-fn later_entries<'a>() -> [(Entry, &'a str); 7] {
+fn later_entries<'a>() -> [(HistoryEntry, &'a str); 7] {
     [
         (
             granted(1, 16, 7, Rights::RW),
@@ -214,7 +214,7 @@ fn later_entries<'a>() -> [(Entry, &'a str); 7] {
 fn follow(
     rt: &(impl Abort + AllocGlobal),
     ledger: &mut Ledger,
-    entries: &[(Entry, &str)],
+    entries: &[(HistoryEntry, &str)],
 ) -> Result<(), Fail> {
     for (entry, expected) in entries {
         bring_about(ledger, *entry)?;

@@ -2,7 +2,7 @@
 use Rattle.std.proofs.Common.{◌≡◌, ◌<◌, ◌≤◌, ◌+◌, ◌∙◌, ◌==◌, ◌||◌, suc, ℕ, Bool, true, false, not, nat_lt, List, [], ◌∷◌, filter, Option, Some, None, refl, sym, ap, subst, arith}
 use Rattle.std.proofs.lemmas.Bool.{eqb-true, lt-ltb, le-ltb, le-leb, lt-leb, and_from, and_left, and_right}
 use Rattle.std.proofs.lemmas.Bool.Decides.{nat_tests}
-use Rattle.iom_ledger.specs.declared.entry.Entry.TheVariants.{Confirmed}
+use Rattle.iom_ledger.specs.declared.entry.HistoryEntry.TheVariants.{Confirmed}
 use Rattle.iom_ledger.specs.declared.ledger.Ledger.{Ledger}
 use Rattle.iom_ledger.specs.History.{History, Pair}
 use Rattle.iom_ledger.specs.Shown.{Agrees}

@@ -14,7 +14,7 @@ use crate::outcome::Outcome;
 use crate::sequence::Sequence;
 use crate::state::{Attachment, Device, DeviceKind, Mode, State};
 use iom_base::{DeviceId, Owner, Rights};
-use iom_ledger::{Entry, Refusal};
+use iom_ledger::{HistoryEntry, Refusal};
 use std::alloc::{AllocError, Global};
 
 fn may_refuse_plug(why: Refusal) -> bool
@@ -165,7 +165,7 @@ pub(crate) fn judge_grant(
             }
             let mut next = state;
             let number = frame as u32;
-            next.history.push_front(Entry::Granted {
+            next.history.push_front(HistoryEntry::Granted {
                 device: id,
                 page,
                 frame: number,
@@ -202,7 +202,7 @@ pub(crate) fn judge_release(
                 return Ok(None);
             }
             let mut next = state;
-            next.history.push_front(Entry::Released {
+            next.history.push_front(HistoryEntry::Released {
                 device: id,
                 page,
                 ticket: *ticket,

@@ -8,7 +8,7 @@ use crate::decide::history::is_out_of_reach;
 use crate::sequence::Sequence;
 use crate::state::{Frame, State};
 use iom_base::Owner;
-use iom_ledger::Entry;
+use iom_ledger::HistoryEntry;
 
 /// Whether the frame belongs to the system or to a device.
 pub(crate) fn has_owner(frames: &[Frame], number: u64) -> bool
@@ -20,7 +20,7 @@ pub(crate) fn has_owner(frames: &[Frame], number: u64) -> bool
     }
 }
 
-fn is_free_in(frames: &[Frame], history: &[Entry], number: u64) -> bool
+fn is_free_in(frames: &[Frame], history: &[HistoryEntry], number: u64) -> bool
     ensures { IsTrue result ↔ ((number < length frames.now) × (is_reserved frames.now number ≡ false) × ledger.IsFree history.now number) }
 {
     if number as usize >= frames.len() {

@@ -6,14 +6,14 @@ ghost use Rattle.iom_machine.specs.Tickets.{last_confirmed};
 ghost use Rattle.iom_machine.specs.Judging.{holds_for, still_serves, lingers_for, reaches_in, anyone_reaches_in};
 
 use iom_base::{AccessKind, DeviceId, Rights};
-use iom_ledger::Entry;
+use iom_ledger::HistoryEntry;
 
 /// A frame, and the right to it.
 pub(crate) type Pair = (u32, Rights);
 
 /// Whether the entry is about this page of the device, which until then held `before` there.
 pub(crate) fn entry_is_about(
-    entry: &Entry,
+    entry: &HistoryEntry,
     before: &Option<Pair>,
     device: DeviceId,
     page: u64,
@@ -21,35 +21,35 @@ pub(crate) fn entry_is_about(
     ensures { result ≡ is_about entry.now before.now device page }
 {
     match *entry {
-        Entry::Granted {
+        HistoryEntry::Granted {
             device: d,
             page: a,
             ..
         } => d == device && a == page,
-        Entry::Released {
+        HistoryEntry::Released {
             device: d,
             page: a,
             ..
         } => d == device && a == page,
-        Entry::AllReleased { device: d, .. } => d == device && before.is_some(),
-        Entry::Confirmed { .. } => false,
+        HistoryEntry::AllReleased { device: d, .. } => d == device && before.is_some(),
+        HistoryEntry::Confirmed { .. } => false,
     }
 }
 
 /// The pair that the entry grants.
-pub(crate) fn pair_granted(entry: &Entry) -> Option<Pair>
+pub(crate) fn pair_granted(entry: &HistoryEntry) -> Option<Pair>
     ensures { result ≡ granted_by entry.now }
 {
     match *entry {
-        Entry::Granted { frame, rights, .. } => Some((frame, rights)),
-        Entry::Released { .. } => None,
-        Entry::AllReleased { .. } => None,
-        Entry::Confirmed { .. } => None,
+        HistoryEntry::Granted { frame, rights, .. } => Some((frame, rights)),
+        HistoryEntry::Released { .. } => None,
+        HistoryEntry::AllReleased { .. } => None,
+        HistoryEntry::Confirmed { .. } => None,
     }
 }
 
 /// What the device holds at the page.
-pub(crate) fn pair_held(history: &[Entry], device: DeviceId, page: u64) -> Option<Pair>
+pub(crate) fn pair_held(history: &[HistoryEntry], device: DeviceId, page: u64) -> Option<Pair>
     ensures { result ≡ held_at history.now device page }
 {
     match history {
@@ -66,35 +66,35 @@ pub(crate) fn pair_held(history: &[Entry], device: DeviceId, page: u64) -> Optio
 }
 
 /// Whether the ticket is confirmed.
-pub(crate) fn is_confirmed(history: &[Entry], ticket: u32) -> bool
+pub(crate) fn is_confirmed(history: &[HistoryEntry], ticket: u32) -> bool
     ensures { result ≡ confirms history.now ticket }
 {
     match history {
         [] => false,
-        [Entry::Confirmed { ticket: t }, before @ ..] => *t == ticket
+        [HistoryEntry::Confirmed { ticket: t }, before @ ..] => *t == ticket
             || is_confirmed(before, ticket),
         [_, before @ ..] => is_confirmed(before, ticket),
     }
 }
 
 /// The last ticket that is confirmed; 0 where none is.
-pub(crate) fn last_ticket_confirmed(history: &[Entry]) -> u32
+pub(crate) fn last_ticket_confirmed(history: &[HistoryEntry]) -> u32
     ensures { result ≡ last_confirmed history.now }
 {
     match history {
         [] => 0,
-        [Entry::Confirmed { ticket }, ..] => *ticket,
+        [HistoryEntry::Confirmed { ticket }, ..] => *ticket,
         [_, before @ ..] => last_ticket_confirmed(before),
     }
 }
 
 /// The ticket under which the entry releases what was held, with that pair.
-pub(crate) fn pair_released(entry: &Entry, before: &Option<Pair>) -> Option<(u32, Pair)>
+pub(crate) fn pair_released(entry: &HistoryEntry, before: &Option<Pair>) -> Option<(u32, Pair)>
     ensures { option_to_list result ≡ released_by entry.now before.now }
 {
     match (*entry, *before) {
-        (Entry::Released { ticket, .. }, Some(pair)) => Some((ticket, pair)),
-        (Entry::AllReleased { ticket, .. }, Some(pair)) => Some((ticket, pair)),
+        (HistoryEntry::Released { ticket, .. }, Some(pair)) => Some((ticket, pair)),
+        (HistoryEntry::AllReleased { ticket, .. }, Some(pair)) => Some((ticket, pair)),
         _ => None,
     }
 }
@@ -108,7 +108,7 @@ pub(crate) fn pair_serves(pair: &Pair, frame: u64, kind: AccessKind) -> bool
 
 /// Whether the device holds the frame at the page, with a right that allows the kind.
 pub(crate) fn is_held_for(
-    history: &[Entry],
+    history: &[HistoryEntry],
     device: DeviceId,
     page: u64,
     kind: AccessKind,
@@ -124,7 +124,7 @@ pub(crate) fn is_held_for(
 
 /// Whether what the entry releases serves, and its ticket isn't confirmed by all of the history.
 pub(crate) fn still_serves(
-    all: &[Entry],
+    all: &[HistoryEntry],
     released: &Option<(u32, Pair)>,
     frame: u64,
     kind: AccessKind,
@@ -139,8 +139,8 @@ pub(crate) fn still_serves(
 
 /// Whether the frame lingers at the page by these entries of the history, with such a right.
 pub(crate) fn lingers_in(
-    all: &[Entry],
-    history: &[Entry],
+    all: &[HistoryEntry],
+    history: &[HistoryEntry],
     device: DeviceId,
     page: u64,
     kind: AccessKind,
@@ -161,8 +161,8 @@ pub(crate) fn lingers_in(
 
 /// Whether the device reaches the frame at one of the pages that these entries grant.
 pub(crate) fn reached_in(
-    all: &[Entry],
-    history: &[Entry],
+    all: &[HistoryEntry],
+    history: &[HistoryEntry],
     device: DeviceId,
     frame: u64,
     kind: AccessKind,
@@ -171,7 +171,7 @@ pub(crate) fn reached_in(
 {
     match history {
         [] => false,
-        [Entry::Granted { page, .. }, before @ ..] => {
+        [HistoryEntry::Granted { page, .. }, before @ ..] => {
             is_held_for(all, device, *page, kind, frame)
                 || lingers_in(all, all, device, *page, kind, frame)
                 || reached_in(all, before, device, frame, kind)
@@ -181,19 +181,19 @@ pub(crate) fn reached_in(
 }
 
 /// Whether the device may reach the frame by an access of this kind.
-pub(crate) fn may(history: &[Entry], device: DeviceId, frame: u64, kind: AccessKind) -> bool
+pub(crate) fn may(history: &[HistoryEntry], device: DeviceId, frame: u64, kind: AccessKind) -> bool
     ensures { IsTrue result ↔ May history.now device frame kind }
 {
     reached_in(history, history, device, frame, kind)
 }
 
 /// Whether a device to which these entries grant anything reaches the frame.
-pub(crate) fn anyone_in(all: &[Entry], history: &[Entry], frame: u64) -> bool
+pub(crate) fn anyone_in(all: &[HistoryEntry], history: &[HistoryEntry], frame: u64) -> bool
     ensures { result ≡ anyone_reaches_in all.now history.now frame }
 {
     match history {
         [] => false,
-        [Entry::Granted { device, .. }, before @ ..] => {
+        [HistoryEntry::Granted { device, .. }, before @ ..] => {
             reached_in(all, all, *device, frame, AccessKind::Read) || anyone_in(all, before, frame)
         }
         [_, before @ ..] => anyone_in(all, before, frame),
@@ -201,14 +201,14 @@ pub(crate) fn anyone_in(all: &[Entry], history: &[Entry], frame: u64) -> bool
 }
 
 /// Whether no device may reach the frame.
-pub(crate) fn is_out_of_reach(history: &[Entry], frame: u64) -> bool
+pub(crate) fn is_out_of_reach(history: &[HistoryEntry], frame: u64) -> bool
     ensures { IsTrue result ↔ IsFree history.now frame }
 {
     !anyone_in(history, history, frame)
 }
 
 /// Whether the ticket of what the entry releases isn't confirmed by all of the history.
-fn is_open(all: &[Entry], released: &Option<(u32, Pair)>) -> bool
+fn is_open(all: &[HistoryEntry], released: &Option<(u32, Pair)>) -> bool
     ensures { result ≡ list_any (λ r. not (confirms all.now r.0)) (option_to_list released.now) }
 {
     match released {
@@ -218,7 +218,7 @@ fn is_open(all: &[Entry], released: &Option<(u32, Pair)>) -> bool
 }
 
 /// Whether anything lingers at the page by these entries of the history.
-fn lingering_in(all: &[Entry], history: &[Entry], device: DeviceId, page: u64) -> bool
+fn lingering_in(all: &[HistoryEntry], history: &[HistoryEntry], device: DeviceId, page: u64) -> bool
     ensures { result ≡ list_any (λ r. not (confirms all.now r.0)) (released_at history.now device page) }
 {
     match history {
@@ -233,7 +233,7 @@ fn lingering_in(all: &[Entry], history: &[Entry], device: DeviceId, page: u64) -
 }
 
 /// Whether anything lingers at the page.
-pub(crate) fn lingers_at(history: &[Entry], device: DeviceId, page: u64) -> bool
+pub(crate) fn lingers_at(history: &[HistoryEntry], device: DeviceId, page: u64) -> bool
     ensures { result ≡ not (length (lingering_at history.now device page) == 0) }
 {
     lingering_in(history, history, device, page)

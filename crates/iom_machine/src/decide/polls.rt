@@ -10,11 +10,11 @@ use crate::outcome::Outcome;
 use crate::sequence::Sequence;
 use crate::state::{AcceptedAccess, Device, State};
 use iom_base::DeviceId;
-use iom_ledger::Entry;
+use iom_ledger::HistoryEntry;
 use std::alloc::AllocError;
 
 /// Whether each of the accesses of the device may reach its frame.
-fn each_may(history: &[Entry], id: DeviceId, in_flight: &[AcceptedAccess]) -> bool
+fn each_may(history: &[HistoryEntry], id: DeviceId, in_flight: &[AcceptedAccess]) -> bool
     ensures { IsTrue result ↔ All (λ flight. May history.now id flight.frame flight.access.kind) in_flight.now }
 {
     match in_flight {
@@ -29,7 +29,7 @@ fn each_may(history: &[Entry], id: DeviceId, in_flight: &[AcceptedAccess]) -> bo
 }
 
 /// Whether each access in flight of these devices may reach its frame.
-fn all_may(history: &[Entry], devices: &[Device]) -> bool
+fn all_may(history: &[HistoryEntry], devices: &[Device]) -> bool
     ensures { IsTrue result ↔ All (DeviceMay history.now) devices.now }
 {
     match devices {
@@ -44,12 +44,12 @@ fn all_may(history: &[Entry], devices: &[Device]) -> bool
 }
 
 /// Confirms the tickets from the first to the last, one after another.
-fn confirm(history: &mut Sequence<Entry>, first: u32, last: u32) -> Result<(), AllocError>
+fn confirm(history: &mut Sequence<HistoryEntry>, first: u32, last: u32) -> Result<(), AllocError>
     requires { first ≤ last }
     ensures { OnOk result (history.new ≡ confirmed_from first (suc (last - first)) history.old) }
 {
     for ticket in u64::from(first)..u64::from(last) + 1 {
-        history.push_front(Entry::Confirmed {
+        history.push_front(HistoryEntry::Confirmed {
             ticket: ticket as u32,
         })?;
     }

@@ -15,7 +15,7 @@ use crate::decide::reasons::too_wide;
 use crate::outcome::Outcome;
 use crate::state::{Access, Attachment, Device, Mode, State};
 use iom_base::{Cause, DeviceId, Span};
-use iom_ledger::{Entry, Refusal};
+use iom_ledger::{HistoryEntry, Refusal};
 use std::alloc::AllocError;
 
 fn is_within_page(access: &Access) -> bool
@@ -41,7 +41,7 @@ fn is_forwarded(device: &Device, access: &Access) -> bool
 }
 
 /// Whether the device holds the frame where the access is to, with a right that allows it.
-fn holds(history: &[Entry], id: DeviceId, access: &Access, frame: u32) -> bool
+fn holds(history: &[HistoryEntry], id: DeviceId, access: &Access, frame: u32) -> bool
     ensures { IsTrue result ↔ HoldsFor history.now id access.now frame }
 {
     is_held_for(
@@ -54,7 +54,7 @@ fn holds(history: &[Entry], id: DeviceId, access: &Access, frame: u32) -> bool
 }
 
 /// Whether the frame lingers there, with such a right.
-fn lingers(history: &[Entry], id: DeviceId, access: &Access, frame: u32) -> bool
+fn lingers(history: &[HistoryEntry], id: DeviceId, access: &Access, frame: u32) -> bool
     ensures { IsTrue result ↔ LingersFor history.now id access.now frame }
 {
     lingers_in(
@@ -68,7 +68,7 @@ fn lingers(history: &[Entry], id: DeviceId, access: &Access, frame: u32) -> bool
 }
 
 /// Whether the device holds nothing there with such a right.
-fn holds_none(history: &[Entry], id: DeviceId, access: &Access) -> bool
+fn holds_none(history: &[HistoryEntry], id: DeviceId, access: &Access) -> bool
     ensures { IsTrue result ↔ HoldsNoneFor history.now id access.now }
 {
     match pair_held(history, id, access.address / 4096) {
@@ -77,7 +77,7 @@ fn holds_none(history: &[Entry], id: DeviceId, access: &Access) -> bool
     }
 }
 
-fn accepts_in_one_stage(history: &[Entry], id: DeviceId, access: &Access, frame: u32) -> bool
+fn accepts_in_one_stage(history: &[HistoryEntry], id: DeviceId, access: &Access, frame: u32) -> bool
     ensures { IsTrue result ↔ MayAcceptInOneStage history.now id access.now frame }
 {
     holds(history, id, access, frame)
@@ -91,7 +91,7 @@ fn is_same_cause(cause: Cause, fault: Cause) -> bool
 }
 
 fn faults_in_one_stage(
-    history: &[Entry],
+    history: &[HistoryEntry],
     id: DeviceId,
     access: &Access,
     cause: Cause,

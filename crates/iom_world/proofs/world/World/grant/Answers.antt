@@ -1,7 +1,7 @@
 use Rattle.std.proofs.Common.{◌≡◌, ◌≢◌, ◌/◌, ◌∙◌, ℕ, List, [], ◌∷◌, true, false, Option, Some, None, Result, Ok, Err, OnOk, OnErr, get_or, All, refl, sym, ap, subst, arith}
 use Rattle.std.specs.Result.{is_err}
 use Rattle.std.proofs.lemmas.Bool.{false≢true}
-use Rattle.iom_ledger.specs.declared.entry.Entry.TheVariants as entry
+use Rattle.iom_ledger.specs.declared.entry.HistoryEntry.TheVariants as entry
 use Rattle.iom_ledger.specs.declared.refusal.Refusal.TheVariants.{NoFrames}
 use Rattle.iom_base.specs.declared.owner.Owner.TheVariants as machine
 use Rattle.iom_machine.specs.Frames.{IsFree, reserved_for}

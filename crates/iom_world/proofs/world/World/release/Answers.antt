@@ -1,5 +1,5 @@
 use Rattle.std.proofs.Common.{◌≡◌, inl, inr, ◌≤◌, ◌<◌, ◌+◌, ◌-◌, ◌∙◌, ◌∷◌, ℕ, List, None, length, true, is_some, refl, sym, ap, arith}
-use Rattle.iom_ledger.specs.declared.entry.Entry.TheVariants as entry
+use Rattle.iom_ledger.specs.declared.entry.HistoryEntry.TheVariants as entry
 use Rattle.iom_ledger.specs.declared.refusal.Refusal.TheVariants.{NotGranted, TooManyPending, QueueFull, NumbersUsedUp}
 use Rattle.iom_ledger.specs.Shown.{held_in, pending_in}
 use Rattle.iom_machine.specs.Refusals.{release_reasons, MayRefuseRelease}
