@@ -5,7 +5,7 @@ use Rattle.iom_stage_walk.specs.Entries.{Entries, entries, slot}
 use Rattle.iom_stage_walk.specs.declared.entry.Entry.{Entry}
 use Rattle.iom_stage_walk.specs.declared.entry.Entry.TheVariants.{Outside, Faulty, Pointer, Leaf}
 use Rattle.iom_page_table.specs.Trees.{InShape, IsTableAt, IsSlotAt, IsUpper, IsTree, IsFrameOf, IsFilledEntry}
-use Rattle.iom_page_table.specs.Building.{IsPage, lacking_here, lacking, IsFresh, Puts, PutsWord, Built, FillsPath}
+use Rattle.iom_page_table.specs.Building.{IsPage, lacking_here, lacking, IsFresh, Puts, PutsWord, Built, FillsAlong}
 use Rattle.std.proofs.lemmas.List.{take_more, length-take-le, take-append-drop, take_all, drop_all}
 use Rattle.iom_stage_walk.proofs.Steps.{rest_is}
 use Rattle.iom_page_table.proofs.Prefixes.{table_append, shape_front}
@@ -40,9 +40,9 @@ filled_longer shape old mid new root path more s stays x =
     ((on.0, on.1, on.2 ++ more, ap (λ l. l ++ more) on.3 ∙ append_assoc on.0 (on.1 ∷ on.2) more, stays on.0 on.1 s on.4), x.1)
 
 -- a store at the next index of the path fills an entry on it
-pub fills_next : (shape : List ℕ) (old mid new : List (List ℕ)) (root : ℕ) (path : List ℕ) (i s : ℕ) → FillsPath shape old mid root path
+pub fills_next : (shape : List ℕ) (old mid new : List (List ℕ)) (root : ℕ) (path : List ℕ) (i s : ℕ) → FillsAlong shape old mid root path
     → ((p : List ℕ) (j k : ℕ) → IsSlotAt shape (entries mid) root p j k → IsSlotAt shape (entries new) root p j k)
-    → IsSlotAt shape (entries mid) root path i s → entries old s ≡ Faulty → PutsWord mid new s → FillsPath shape old new root (path ++ i ∷ [])
+    → IsSlotAt shape (entries mid) root path i s → entries old s ≡ Faulty → PutsWord mid new s → FillsAlong shape old new root (path ++ i ∷ [])
 fills_next shape old mid new root path i s fills stays at nowhere put =
     λ a out.
     put a (λ e. out ((path, i, [], refl, subst (λ n. IsSlotAt shape (entries new) root path i n) (sym e) (stays path i s at)), subst (λ n. entries old n ≡ Faulty) (sym e) nowhere))
@@ -183,7 +183,7 @@ built_new shape old mid new root upper last k table frames used b page distinct 
             | inl here ↦ let no : ⊥ = cc (put.entry, e, here.1) in absurd no
             | inr ne ↦ b.nowhere n (sym (put.elsewhere n ne.1) ∙ e)
           ];
-      bytes = subst (λ l. FillsPath shape old new root l) (sym (take_more upper k 0 lt)) (fills_next shape old mid new root q j s b.bytes stays h.at (b.nowhere s nowhere) word);
+      bytes = subst (λ l. FillsAlong shape old new root l) (sym (take_more upper k 0 lt)) (fills_next shape old mid new root q j s b.bytes stays h.at (b.nowhere s nowhere) word);
       size = put.size ∙ b.size;
     }
 
@@ -202,6 +202,6 @@ built_all shape old new root upper k table frames used b le =
       same = b.same;
       others = b.others;
       nowhere = b.nowhere;
-      bytes = subst (λ l. FillsPath shape old new root l) (take_all k upper le ∙ sym (take_all (length upper) upper (omega arith))) b.bytes;
+      bytes = subst (λ l. FillsAlong shape old new root l) (take_all k upper le ∙ sym (take_all (length upper) upper (omega arith))) b.bytes;
       size = b.size;
     }

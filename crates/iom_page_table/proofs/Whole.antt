@@ -6,7 +6,7 @@ use Rattle.iom_stage_walk.specs.declared.entry.Entry.{Entry}
 use Rattle.iom_stage_walk.specs.declared.entry.Entry.TheVariants.{Outside, Faulty, Pointer, Leaf}
 use Rattle.iom_page_table.specs.Leaves.{leaf_here, leaf_under}
 use Rattle.iom_page_table.specs.Trees.{IsTableAt, IsSlotAt, IsLowest, IsTree, IsFrameOf, IsLastEntry}
-use Rattle.iom_page_table.specs.Building.{InFrames, Puts, PutsWord, Built, FillsPath}
+use Rattle.iom_page_table.specs.Building.{InFrames, Puts, PutsWord, Built, FillsAlong}
 use Rattle.iom_page_table.specs.declared.leaf.PageLeaf.{PageLeaf}
 use Rattle.std.specs.Prelude.{◌↔◌, ◌==◌, is_some, if◌then◌else◌}
 use Rattle.std.specs.List.{Contains}
@@ -134,7 +134,7 @@ maps old mid new root page table upper frames leaf low b splits put =
 
 -- mapping a page fills entries on its path alone
 pub maps_bytes : (old mid new : List (List ℕ)) (root page table : ℕ) (upper frames : List ℕ) (leaf : PageLeaf) → page < 2 ^ 26 → Built sv39 old mid root upper (length upper) table frames (length frames) → Splits page upper
-    → leaf_of 3 old root page ≡ None → Puts mid new (slot table (page % 512)) (Leaf leaf.frame leaf.rights) → PutsWord mid new (slot table (page % 512)) → FillsPath sv39 old new root (path_of sv39 page)
+    → leaf_of 3 old root page ≡ None → Puts mid new (slot table (page % 512)) (Leaf leaf.frame leaf.rights) → PutsWord mid new (slot table (page % 512)) → FillsAlong sv39 old new root (path_of sv39 page)
 maps_bytes old mid new root page table upper frames leaf low b splits free put word =
     let last = page % 512 in
     let s = slot table last in
@@ -149,5 +149,5 @@ maps_bytes old mid new root page table upper frames leaf low b splits free put w
     ∙ free in
     let none : leaf_here (entries mid s) [] (λ next. None) ≡ None = sym (leaf_found mid root page table upper low splits at) ∙ before in
     let nowhere : entries mid s ≡ Faulty = lowest_nowhere (entries mid s) (b.tree.lowest upper last s here p.long) none in
-    let fills : FillsPath sv39 old mid root upper = subst (λ l. FillsPath sv39 old mid root l) (take_all (length upper) upper (omega arith)) b.bytes in
-    subst (λ path. FillsPath sv39 old new root path) splits (fills_next sv39 old mid new root upper last s fills set.stays here (b.nowhere s nowhere) word)
+    let fills : FillsAlong sv39 old mid root upper = subst (λ l. FillsAlong sv39 old mid root l) (take_all (length upper) upper (omega arith)) b.bytes in
+    subst (λ path. FillsAlong sv39 old new root path) splits (fills_next sv39 old mid new root upper last s fills set.stays here (b.nowhere s nowhere) word)

@@ -61,8 +61,8 @@ abbrev pub SameLeaf : Entries → Entries → ℕ → List ℕ → Type 0
 SameLeaf old new root is = leaf_under new root is ≡ leaf_under old root is
 
 -- a byte changes only in an entry on the path that no walk got past before
-abbrev pub FillsPath : List ℕ → List (List ℕ) → List (List ℕ) → ℕ → List ℕ → Type 0
-FillsPath shape old new root path =
+abbrev pub FillsAlong : List ℕ → List (List ℕ) → List (List ℕ) → ℕ → List ℕ → Type 0
+FillsAlong shape old new root path =
     (a : ℕ) → (IsFilledEntry shape (entries old) (entries new) root path (a / 8) → ⊥) → byte_at new a ≡ byte_at old a
 
 -- a word was stored at entry s: no byte of another entry changed
@@ -79,5 +79,5 @@ pub record Built (shape : List ℕ) (old new : List (List ℕ)) (root : ℕ) (up
   pub same : (is : List ℕ) → InShape shape is → length is ≡ length shape → SameLeaf (entries old) (entries new) root is
   pub others : (f : ℕ) → (IsFrameOf shape (entries new) root f → ⊥) → slice_get new f ≡ slice_get old f
   pub nowhere : (s : ℕ) → entries new s ≡ Faulty → entries old s ≡ Faulty
-  pub bytes : FillsPath shape old new root (take k upper)
+  pub bytes : FillsAlong shape old new root (take k upper)
   pub size : length new ≡ length old
