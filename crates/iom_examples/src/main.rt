@@ -9,10 +9,11 @@ use std::alloc::Global;
 use std::fs;
 
 /// The examples, in the order in which they are best read.
-const NAMES: [&str; 6] = [
+const NAMES: [&str; 7] = [
     "first-path",
     "stale-read",
     "draining",
+    "too-early",
     "busy",
     "double-grant",
     "no-frames",

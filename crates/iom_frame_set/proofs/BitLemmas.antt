@@ -6,7 +6,7 @@ use Rattle.std.specs.Int.Count.{count_leading_zeros}
 use Rattle.std.proofs.lemmas.Bool.{cases_lt}
 use Rattle.std.proofs.lemmas.Nat.{one_shl, leading_top}
 use Rattle.std.proofs.lemmas.Nat.Bits.{bit_at_and, bit_at-lt, bit_at_ones, bit_at_ones_above, bit_at_above, bit_at_cat_high}
-use Rattle.iom_frame_set.specs.Sets.{IsHighestBit}
+use Rattle.iom_frame_set.specs.Spans.{IsHighestBit}
 
 -- the bits of 2 ^ place - 1
 pub ones_are_below : (place k : ℕ) → place < 64 → (bit_at (1 * 2 ^ place % 2 ^ 64 - 1) k ≡ 1) ↔ (k < place)

@@ -1,2 +1,4 @@
 pub mod BitLemmas
+pub mod SearchLemmas
 pub mod SetLemmas
+pub mod SummaryLemmas

@@ -1,13 +1,16 @@
 //! Words of 64 bits.
 ghost use Rattle.std.specs.Prelude.{◌≡◌, ◌≢◌, ◌↔◌, ◌<◌, ◌≤◌, ℕ, MatchOption};
 ghost use Rattle.std.specs.Int.{bit_at};
-ghost use Rattle.iom_frame_set.specs.Sets.{IsHighestBit};
+ghost use Rattle.iom_frame_set.specs.Spans.{IsHighestBit};
+
+/// The bits of a word.
+pub(crate) const BITS: u32 = 64;
 
 /// The bits below the place.
 pub(crate) fn ones_below(place: u32) -> u64
     ensures { (k : ℕ) → k < 64 → (bit_at result k ≡ 1) ↔ (k < place) }
 {
-    if place >= 64 {
+    if place >= BITS {
         u64::MAX
     } else {
         (1 << place) - 1
@@ -39,5 +42,5 @@ pub(crate) fn highest_bit(word: u64) -> Option<u32>
     if word == 0 {
         return None;
     }
-    Some(63 - word.leading_zeros())
+    Some(BITS - 1 - word.leading_zeros())
 }

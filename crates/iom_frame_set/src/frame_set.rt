@@ -1,7 +1,9 @@
-ghost use Rattle.std.specs.Prelude.{◌≡◌, ◌<◌, ◌≤◌, OnOk, MatchOption};
-ghost use Rattle.iom_frame_set.specs.Sets.{has, room, IsEmpty, HasSame, Inserts, Removes, NoneIsIn, IsHighestIn, NoneIsMember, IsHighestMember};
+ghost use Rattle.std.specs.Prelude.{◌≡◌, ◌+◌, ◌<◌, ◌≤◌, OnOk, MatchOption, max};
+ghost use Rattle.iom_frame_set.specs.Sets.{has, room, IsEmpty, IsFull, HasSame, Inserts, Removes, NoneIsCommon, IsHighestCommon};
+ghost use Rattle.iom_frame_set.specs.Spans.{NoneIsInBoth, IsHighestInBoth};
 
-use crate::number_set::{BITS, NumberSet};
+use crate::bits::BITS;
+use crate::number_set::NumberSet;
 use std::alloc::{AllocError, Global};
 use std::marker::Model;
 
@@ -13,32 +15,44 @@ pub struct FrameSet {
 }
 
 impl Model for FrameSet {
-    ghost use Rattle.std.specs.Prelude.{List, ℕ};
+    ghost use Rattle.iom_frame_set.specs.Sets.{Words};
 
-    ghost Value = { List ℕ };
+    ghost Value = { Words };
 
     ghost view = { λ s. s.frames };
 
-    ghost use Rattle.iom_frame_set.specs.Sets.{IsSummary};
+    ghost use Rattle.iom_frame_set.specs.Spans.{IsSummary};
 
     ghost invariant = { λ s. IsSummary s.frames s.filled };
 }
 
 impl FrameSet {
-    /// The empty set. Takes no memory.
-    pub fn new(alloc: Global) -> FrameSet
+    /// The set of no frames. Takes no memory.
+    pub fn empty(alloc: Global) -> FrameSet
         ensures { IsEmpty result }
     {
         FrameSet {
-            frames: NumberSet::new(alloc),
-            filled: NumberSet::new(alloc),
+            frames: NumberSet::empty(alloc),
+            filled: NumberSet::empty(alloc),
         }
     }
 
-    /// Makes room for the frame and those below it. Where that is refused, the same frames are in the set.
+    /// The set of all frames. Takes no memory.
+    pub fn full(alloc: Global) -> FrameSet
+        ensures { IsFull result }
+    {
+        FrameSet {
+            frames: NumberSet::full(alloc),
+            filled: NumberSet::full(alloc),
+        }
+    }
+
+    /// Makes room for the frame and those below it, and for no more than the 64 of the frame's word. The same
+    /// frames are in the set, also where memory is refused.
     pub fn make_room(&mut self, frame: u32) -> Result<(), AllocError>
         ensures within { OnOk result (frame < room self.new) }
         ensures grows { room self.old ≤ room self.new }
+        ensures no_further { room self.new ≤ max (room self.old) (frame + 64) }
         ensures same { HasSame self.old self.new }
     {
         self.filled.make_room(frame / BITS)?;
@@ -57,6 +71,7 @@ impl FrameSet {
 
     /// Takes the frame out of the set, if it is there.
     pub fn remove(&mut self, frame: u32)
+        requires { frame < room self.old }
         ensures removed { Removes self.old self.new frame }
         ensures room { room self.new ≡ room self.old }
     {
@@ -66,33 +81,41 @@ impl FrameSet {
         }
     }
 
-    /// Whether the frame is in the set; false beyond its room.
+    /// Whether the frame is in the set.
     pub fn contains(&self, frame: u32) -> bool
         ensures { result ≡ has self.now frame }
     {
         self.frames.contains(frame)
     }
 
-    /// The highest frame below the limit.
-    fn highest(&self, limit: u32) -> Option<u32>
-        ensures { MatchOption result (NoneIsIn self.now 0 limit) (IsHighestIn self.now 0 limit) }
+    /// The highest frame below the limit that is in both sets.
+    fn highest_common(&self, other: &FrameSet, limit: u32) -> Option<u32>
+        ensures { MatchOption result (NoneIsInBoth self.now other.now 0 limit) (IsHighestInBoth self.now other.now 0 limit) }
     {
-        if let Some(frame) = self.frames.highest_in_word(limit / BITS, limit % BITS) {
+        let mut below = limit / BITS;
+        if let Some(frame) = self
+            .frames
+            .highest_in_word(&other.frames, below, limit % BITS)
+        {
             return Some(frame);
         }
-        match self.filled.highest_below(limit / BITS) {
-            None => None,
-            Some(index) => self.frames.highest_in_word(index, BITS),
+        while let Some(index) = self.filled.highest_in_both(&other.filled, below) {
+            if let Some(frame) = self.frames.highest_in_word(&other.frames, index, BITS) {
+                return Some(frame);
+            }
+            below = index;
         }
+        None
     }
 
-    /// The highest frame below the limit that isn't the named one. Looks at the limit's own word, and else
-    /// finds the word by those that say which words aren't 0: one of them stands for 4,096 frames.
-    pub fn highest_below(&self, limit: u32, named: Option<u32>) -> Option<u32>
-        ensures { MatchOption result (NoneIsMember self.now named limit) (IsHighestMember self.now named limit) }
+    /// The highest frame below the limit that is in both sets and isn't the named one. Looks at a word of
+    /// each for 64 frames, from the limit's down to the one that has it, and passes over those where either
+    /// has none: that a look at one word for 4,096 frames shows.
+    pub fn highest_in_both(&self, other: &FrameSet, limit: u32, named: Option<u32>) -> Option<u32>
+        ensures { MatchOption result (NoneIsCommon self.now other.now named limit) (IsHighestCommon self.now other.now named limit) }
     {
-        match self.highest(limit) {
-            Some(highest) if named == Some(highest) => self.highest(highest),
+        match self.highest_common(other, limit) {
+            Some(highest) if named == Some(highest) => self.highest_common(other, highest),
             found => found,
         }
     }

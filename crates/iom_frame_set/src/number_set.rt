@@ -1,37 +1,49 @@
 //! Sets of numbers, a bit for each in words of 64.
-ghost use Rattle.std.specs.Prelude.{◌≡◌, ◌↔◌, ◌⊎◌, ◌+◌, ◌*◌, ◌/◌, ◌^◌, ◌<◌, ◌≤◌, ℕ, OnOk, IfNone, MatchOption, length, slice_index};
-ghost use Rattle.std.specs.Int.{bit_at};
-ghost use Rattle.iom_frame_set.specs.Sets.{has, room, IsEmpty, Inserts, Removes, KeepsOthers, NoneIsIn, IsHighestIn};
+ghost use Rattle.std.specs.Prelude.{◌≡◌, ◌+◌, ◌-◌, ◌*◌, ◌/◌, ◌^◌, ◌<◌, ◌≤◌, ℕ, OnOk, MatchOption, length, max};
+ghost use Rattle.iom_frame_set.specs.Sets.{word_at, has, room, IsEmpty, IsFull, Inserts, Removes};
+ghost use Rattle.iom_frame_set.specs.Spans.{KeepsWords, KeepsOtherWords, NoneIsInBoth, IsHighestInBoth};
 
-use crate::bits::{highest_bit, ones_below, with_bit, without_bit};
+use crate::bits::{BITS, highest_bit, ones_below, with_bit, without_bit};
 use std::alloc::{AllocError, Global};
 use std::marker::Model;
 
-/// The bits of a word.
-pub(crate) const BITS: u32 = 64;
-
-/// A set of numbers.
+/// A set of numbers: the words that are kept, and the word that stands for each beyond them.
 #[derive(Drop)]
 pub(crate) struct NumberSet {
     words: Vec<u64>,
+    beyond: u64,
 }
 
 impl Model for NumberSet {
-    ghost use Rattle.std.specs.Prelude.{List, ℕ};
+    ghost use Rattle.iom_frame_set.specs.Sets.{Words};
 
-    ghost Value = { List ℕ };
+    ghost Value = { Words };
 
-    ghost view = { λ s. s.words.items };
+    ghost view = { λ s. record { kept = s.words.items; beyond = s.beyond } };
 }
 
 impl NumberSet {
-    /// The empty set. Takes no memory.
-    pub(crate) fn new(alloc: Global) -> NumberSet
+    /// The set of no numbers. Takes no memory.
+    pub(crate) fn empty(alloc: Global) -> NumberSet
         ensures empty { IsEmpty result }
-        ensures words { length result ≡ 0 }
+        ensures zero { (i : ℕ) → word_at result i ≡ 0 }
+        ensures room { length result.kept ≡ 0 }
     {
         NumberSet {
             words: Vec::new(alloc),
+            beyond: 0,
+        }
+    }
+
+    /// The set of all numbers. Takes no memory.
+    pub(crate) fn full(alloc: Global) -> NumberSet
+        ensures full { IsFull result }
+        ensures ones { (i : ℕ) → word_at result i ≡ 2 ^ 64 - 1 }
+        ensures room { length result.kept ≡ 0 }
+    {
+        NumberSet {
+            words: Vec::new(alloc),
+            beyond: u64::MAX,
         }
     }
 
@@ -39,12 +51,12 @@ impl NumberSet {
     /// set.
     pub(crate) fn make_room(&mut self, number: u32) -> Result<(), AllocError>
         ensures within { OnOk result (number < room self.new) }
-        ensures grows { length self.old ≤ length self.new }
-        ensures no_further { (length self.new ≤ length self.old) ⊎ (length self.new ≤ number / 64 + 1) }
-        ensures same { (i : ℕ) → slice_index self.new i ≡ slice_index self.old i }
+        ensures grows { length self.old.kept ≤ length self.new.kept }
+        ensures no_further { length self.new.kept ≤ max (length self.old.kept) (number / 64 + 1) }
+        ensures same { KeepsWords self.old self.new }
     {
         for counted in self.words.len()..(number / BITS) as usize + 1 {
-            self.words.push(0)?;
+            self.words.push(self.beyond)?;
         }
         Ok(())
     }
@@ -53,8 +65,8 @@ impl NumberSet {
     pub(crate) fn insert(&mut self, number: u32)
         requires { number < room self.old }
         ensures inserted { Inserts self.old self.new number }
-        ensures others { KeepsOthers self.old self.new (number / 64) }
-        ensures length { length self.new ≡ length self.old }
+        ensures others { KeepsOtherWords self.old self.new (number / 64) }
+        ensures length { length self.new.kept ≡ length self.old.kept }
     {
         let index = (number / BITS) as usize;
         self.words[index] = with_bit(self.words[index], number % BITS);
@@ -62,24 +74,23 @@ impl NumberSet {
 
     /// Takes the number out of the set, if it is there.
     pub(crate) fn remove(&mut self, number: u32)
+        requires { number < room self.old }
         ensures removed { Removes self.old self.new number }
-        ensures others { KeepsOthers self.old self.new (number / 64) }
-        ensures length { length self.new ≡ length self.old }
+        ensures others { KeepsOtherWords self.old self.new (number / 64) }
+        ensures length { length self.new.kept ≡ length self.old.kept }
     {
         let index = (number / BITS) as usize;
-        if index < self.words.len() {
-            self.words[index] = without_bit(self.words[index], number % BITS);
-        }
+        self.words[index] = without_bit(self.words[index], number % BITS);
     }
 
     /// The bits of the numbers from 64 times the index on.
     pub(crate) fn word(&self, index: u32) -> u64
-        ensures { result ≡ slice_index self.now index }
+        ensures { result ≡ word_at self.now index }
     {
-        match self.words.get(index as usize) {
-            None => 0,
-            Some(word) => *word,
-        }
+        self.words
+            .get(index as usize)
+            .copied()
+            .unwrap_or(self.beyond)
     }
 
     /// Whether the number is in the set.
@@ -89,28 +100,30 @@ impl NumberSet {
         (self.word(number / BITS) >> (number % BITS)) & 1 == 1
     }
 
-    /// The highest number of the first so many of a word. Looks at this word.
-    pub(crate) fn highest_in_word(&self, index: u32, places: u32) -> Option<u32>
+    /// The highest number, of the first so many of a word, that is in both sets. Looks at this word.
+    pub(crate) fn highest_in_word(&self, other: &NumberSet, index: u32, places: u32) -> Option<u32>
         requires within { places ≤ 64 }
         requires fits { 64 * index + places < 2 ^ 32 }
-        ensures found { MatchOption result (NoneIsIn self.now (64 * index) (64 * index + places)) (IsHighestIn self.now (64 * index) (64 * index + places)) }
-        ensures whole { places ≡ 64 → IfNone result (slice_index self.now index ≡ 0) }
+        ensures { let first = 64 * index in
+            MatchOption result (NoneIsInBoth self.now other.now first (first + places))
+            (IsHighestInBoth self.now other.now first (first + places)) }
     {
-        match highest_bit(self.word(index) & ones_below(places)) {
+        match highest_bit(self.word(index) & other.word(index) & ones_below(places)) {
             None => None,
             Some(bit) => Some(index * BITS + bit),
         }
     }
 
-    /// The highest number below the limit. Looks at words from the limit's down to the one that has it.
-    pub(crate) fn highest_below(&self, limit: u32) -> Option<u32>
-        ensures { MatchOption result (NoneIsIn self.now 0 limit) (IsHighestIn self.now 0 limit) }
+    /// The highest number below the limit that is in both sets. Looks at words from the limit's down to
+    /// the one that has it.
+    pub(crate) fn highest_in_both(&self, other: &NumberSet, limit: u32) -> Option<u32>
+        ensures { MatchOption result (NoneIsInBoth self.now other.now 0 limit) (IsHighestInBoth self.now other.now 0 limit) }
     {
-        if let Some(number) = self.highest_in_word(limit / BITS, limit % BITS) {
+        if let Some(number) = self.highest_in_word(other, limit / BITS, limit % BITS) {
             return Some(number);
         }
         for index in (0..limit / BITS).rev() {
-            if let Some(number) = self.highest_in_word(index, BITS) {
+            if let Some(number) = self.highest_in_word(other, index, BITS) {
                 return Some(number);
             }
         }

@@ -1,4 +1,4 @@
--- How the accesses in flight stand in two rings: what describes them in one, the bytes of the writes in the other.
+-- For the invariant of `InFlight` alone: how the accesses stand in two rings, what describes them in one, the bytes of the writes in the other.
 use Rattle.std.specs.Prelude.{◌≡◌, ℕ, ◌+◌, ◌*◌, ◌≤◌, List, [], ◌∷◌, length, take, drop}
 use Rattle.iom_base.specs.declared.access.AccessKind.{AccessKind}
 use Rattle.iom_base.specs.declared.access.AccessKind.TheVariants.{Read, Write}
@@ -23,10 +23,10 @@ abbrev pub bytes_kept : List AccessHeader → ℕ
 bytes_kept [] = 0
 bytes_kept (a ∷ later) = kept_bytes a.kind a.len + bytes_kept later
 
--- no access is longer than a page
+-- no access keeps more bytes than a page has
 abbrev pub AreShort : List AccessHeader → Type 0
 AreShort [] = Unit {0}
-AreShort (a ∷ later) = (a.len ≤ 4096) × AreShort later
+AreShort (a ∷ later) = (kept_bytes a.kind a.len ≤ 4096) × AreShort later
 
 -- the rings have their room, and the bytes are those of the writes
 pub record AreRings (waiting : Buffer AccessHeader) (bytes : Buffer ℕ) : Type 0 where

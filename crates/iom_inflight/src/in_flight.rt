@@ -1,4 +1,4 @@
-ghost use Rattle.std.specs.Prelude.{◌≡◌, ◌<◌, ◌≤◌, [], ◌∷◌, ◌++◌, length, drop, IfOk, Some, None, slice_get, option_map, OnSome};
+ghost use Rattle.std.specs.Prelude.{◌≡◌, ◌↔◌, ◌<◌, ◌≤◌, [], ◌∷◌, ◌++◌, length, drop, IfOk, Some, None, slice_get, option_map, OnSome, IsSome, IfNone};
 ghost use Rattle.iom_base.specs.declared.access.AccessKind.TheVariants.{Read, Write};
 ghost use Rattle.iom_inflight.specs.Flights.{read_flight, write_flight, header_of, OldestIsRead, OldestWrites};
 
@@ -69,11 +69,12 @@ impl InFlight {
         self.waiting.front().copied()
     }
 
-    /// Accepts a read of so many bytes at the address, on the frame. Takes no memory.
-    pub fn accept_read(&mut self, address: u64, len: u16, frame: u32)
-        requires room { length self.old < 8 }
-        requires len { len ≤ 4096 }
-        ensures { self.new ≡ self.old ++ read_flight address len frame ∷ [] }
+    /// Accepts a read of so many bytes at the address, on the frame: it goes last. None exactly where eight
+    /// are in flight, and then nothing changes. Takes no memory.
+    pub fn accept_read(&mut self, address: u64, len: u16, frame: u32) -> Option<()>
+        ensures room { IsSome result ↔ (length self.old < 8) }
+        ensures accepted { OnSome result (self.new ≡ self.old ++ read_flight address len frame ∷ []) }
+        ensures refused { IfNone result (self.new ≡ self.old) }
     {
         let access = AccessHeader {
             address,
@@ -81,14 +82,16 @@ impl InFlight {
             kind: AccessKind::Read,
             frame,
         };
-        self.waiting.push_back(access);
+        self.waiting.try_push_back(access).ok()
     }
 
-    /// Accepts a write of the bytes at the address, on the frame. Takes no memory.
-    pub fn accept_write(&mut self, address: u64, bytes: &[u8], frame: u32)
-        requires room { length self.old < 8 }
-        requires len { length bytes.now ≤ 4096 }
-        ensures { self.new ≡ self.old ++ write_flight address bytes.now frame ∷ [] }
+    /// Accepts a write of the bytes at the address, on the frame: it goes last, with its bytes. None exactly
+    /// where eight are in flight, and then nothing changes. Takes no memory.
+    pub fn accept_write(&mut self, address: u64, bytes: &[u8], frame: u32) -> Option<()>
+        requires { length bytes.now ≤ 4096 }
+        ensures room { IsSome result ↔ (length self.old < 8) }
+        ensures accepted { OnSome result (self.new ≡ self.old ++ write_flight address bytes.now frame ∷ []) }
+        ensures refused { IfNone result (self.new ≡ self.old) }
     {
         let access = AccessHeader {
             address,
@@ -96,8 +99,9 @@ impl InFlight {
             kind: AccessKind::Write,
             frame,
         };
-        self.waiting.push_back(access);
+        self.waiting.try_push_back(access).ok()?;
         self.bytes.fill_from_slice(bytes);
+        Some(())
     }
 
     /// The oldest is a read: it is made, and no more in flight.

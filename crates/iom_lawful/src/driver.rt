@@ -150,7 +150,7 @@ impl Driver {
         outcome: &Outcome,
     ) -> Result<(usize, Option<u64>), AllocError> {
         match (event, outcome) {
-            (Event::AttachFirst { .. }, Outcome::Done) => Ok((1, None)),
+            (Event::Attach { .. }, Outcome::Done) => Ok((1, None)),
             (
                 Event::Grant {
                     device,

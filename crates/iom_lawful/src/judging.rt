@@ -54,19 +54,23 @@ fn judge_lines(
     // What is found lawful is lawful.
     ensures { IfOk result (λ found. found ≡ Found.Lawful → IsRunFrom state events.now outcomes.now) }
 {
-    match (events.split_first(), outcomes.split_first()) {
-        (None, None) => Ok(Found::Lawful),
-        (Some((event, later_events)), Some((outcome, later_outcomes))) => {
-            let choice = driver.choose(alloc, &state, event, outcome)?;
-            match judge(alloc, state, event, outcome, &choice)? {
-                None => Ok(Found::Unlawful { line }),
-                Some(next) => {
-                    judge_lines(alloc, driver, next, later_events, later_outcomes, line + 1)
-                }
-            }
+    let mut reached = state;
+    let mut line = line;
+    for (number, event) in events.iter().enumerate() {
+        let Some(outcome) = outcomes.get(number) else {
+            return Ok(Found::Unread { line });
+        };
+        let choice = driver.choose(alloc, &reached, event, outcome)?;
+        match judge(alloc, reached, event, outcome, &choice)? {
+            None => return Ok(Found::Unlawful { line }),
+            Some(next) => reached = next,
         }
-        _ => Ok(Found::Unread { line }),
+        line += 1;
     }
+    if outcomes.len() > events.len() {
+        return Ok(Found::Unread { line });
+    }
+    Ok(Found::Lawful)
 }
 
 /// What the judge finds of an output of the script.

@@ -18,8 +18,8 @@ use Rattle.iom_ledger.specs.Rows.{Devices, row_at, pair_of, held_of, released_of
 use Rattle.iom_ledger.specs.Rows.{is_granted, has_granted_right, AllGranted}
 use Rattle.iom_ledger.specs.RowChanges.{unless_waiting, DropsRows}
 use Rattle.iom_ledger.specs.Shown.{AgreesAt, Agrees, IsFreeIn, held_in, released_in}
-use Rattle.iom_ledger.specs.Changes.{Confirms, unless_under}
-use Rattle.iom_ledger.proofs.PendingLemmas.{is_other}
+use Rattle.iom_ledger.specs.Changes.{ShowsConfirmation, unless_under}
+use Rattle.iom_ledger.specs.Ring.{is_other}
 
 -- a right that is granted allows to read
 allows-granted : (rights : Rights) → is_granted rights ≡ true → allows rights Read ≡ true
@@ -176,7 +176,7 @@ unless_under-filter ticket (Some released) = by (ticket == released.0) refl
     by false e = rw e refl
 
 -- a ledger that drops what waits for a ticket agrees with the history that confirms it
-pub Agrees-confirmed : (old new : Ledger) (ticket : ℕ) → Confirms old new ticket → (h : History) → Agrees old h → Agrees new (Confirmed ticket ∷ h)
+pub Agrees-confirmed : (old new : Ledger) (ticket : ℕ) → ShowsConfirmation old new ticket → (h : History) → Agrees old h → Agrees new (Confirmed ticket ∷ h)
 Agrees-confirmed old new ticket confirmed h agrees = record {
   pages = λ d a. record {
     holds = (agrees.pages d a).holds ∙ sym (confirmed.held d a);

@@ -1,5 +1,5 @@
 -- How the number of rows that name a frame changes.
-use Rattle.std.proofs.Common.{◌≡◌, ◌+◌, ◌-◌, ◌<◌, ℕ, suc, zero, Bool, true, false, ◌==◌, ◌&&◌, ◌||◌, List, [], ◌∷◌, length, replicate, Option, None, Some, if◌then◌else◌, refl, sym, ap, ◌∙◌, arith}
+use Rattle.std.proofs.Common.{◌≡◌, ◌+◌, ◌-◌, ◌^◌, ◌<◌, ℕ, suc, zero, Bool, true, false, ◌==◌, ◌&&◌, ◌||◌, List, [], ◌∷◌, length, replicate, Option, None, Some, if◌then◌else◌, refl, sym, ap, ◌∙◌, arith}
 use Rattle.std.proofs.Math.Logic.{∥∥₁_map, ∥∥₁_elim}
 use Rattle.std.specs.Option.{option_map}
 use Rattle.std.specs.Set.{remove_key}
@@ -9,7 +9,7 @@ use Rattle.iom_base.specs.declared.rights.Rights.{Rights}
 use Rattle.iom_ledger.specs.declared.row.Row.{Row}
 use Rattle.iom_ledger.specs.Rows.{Devices, row_at, held_of, released_of, unless_released, if_released}
 use Rattle.iom_ledger.specs.RowChanges.{released_row_if_any, SetsRow}
-use Rattle.iom_ledger.specs.Counts.{names_frame, has_page, AreOnceEach, ArePages, IsCountOf, count_of, AreCounted, KeepsCounts, RaisesCount, LowersCount}
+use Rattle.iom_ledger.specs.Counts.{names_frame, has_page, AreOnceEach, AreNumbered, ArePages, IsCountOf, count_of, AreCounted, KeepsCounts, RaisesCount, LowersCount}
 use Rattle.iom_ledger.proofs.AgreementLemmas.{SomeRowNames}
 
 -- the pages but this one
@@ -59,15 +59,23 @@ once-without d a (p ∷ pages) once = by ((p.0 == d) && (p.1 == a)) refl (once-w
     by true first rest = rw first once.1
     by false later rest = rw later (among-without d a p.0 p.1 pages once.1 ∙ absent ((d == p.0) && (a == p.1)), rest)
 
+numbered-without : (d a : ℕ) (pages : List (ℕ × ℕ)) → AreNumbered pages → AreNumbered (without d a pages)
+numbered-without d a [] numbered = numbered
+numbered-without d a (p ∷ pages) numbered = by ((p.0 == d) && (p.1 == a)) refl (numbered-without d a pages numbered.2)
+  where
+    by : (s : Bool) → ((p.0 == d) && (p.1 == a)) ≡ s → AreNumbered (without d a pages) → AreNumbered (without d a (p ∷ pages))
+    by true first rest = rw first numbered.2
+    by false later rest = rw later (numbered.0, numbered.1, rest)
+
 -- the same pages pass another test
 pub count_same : (test now : ℕ → ℕ → Bool) (n m : ℕ) → ((e b : ℕ) → now e b ≡ test e b) → m ≡ n → IsCountOf test n → IsCountOf now m
 count_same test now n m same number count =
-    ∥∥₁_map count (λ (pages, are, long). (pages, record { once = are.once; all = λ e b. are.all e b ∙ sym (same e b) }, long ∙ sym number))
+    ∥∥₁_map count (λ (pages, are, long). (pages, record { once = are.once; numbered = are.numbered; all = λ e b. are.all e b ∙ sym (same e b) }, long ∙ sym number))
 
 -- one page more passes
-pub count_added : (test now : ℕ → ℕ → Bool) (d a n m : ℕ) → test d a ≡ false → ((e b : ℕ) → now e b ≡ (if (d == e) && (a == b) then true else test e b)) → m ≡ n + 1
+pub count_added : (test now : ℕ → ℕ → Bool) (d a n m : ℕ) → d < 2 ^ 32 → a < 2 ^ 64 → test d a ≡ false → ((e b : ℕ) → now e b ≡ (if (d == e) && (a == b) then true else test e b)) → m ≡ n + 1
     → IsCountOf test n → IsCountOf now m
-count_added test now d a n m new more number count = ∥∥₁_map count one_more
+count_added test now d a n m device page new more number count = ∥∥₁_map count one_more
   where
     by : (e b : ℕ) (was : Bool) → was ≡ test e b → (t : Bool) → (t || was) ≡ (if t then true else test e b)
     by e b was is true = refl
@@ -76,7 +84,7 @@ count_added test now d a n m new more number count = ∥∥₁_map count one_mor
     one_more : (pages : List (ℕ × ℕ)) × ArePages test pages × (length pages ≡ n) → (pages : List (ℕ × ℕ)) × ArePages now pages × (length pages ≡ m)
     one_more (pages, are, long) = (
       (d, a) ∷ pages,
-      record { once = (are.all d a ∙ new, are.once); all = λ e b. by e b (has_page pages e b) (are.all e b) ((d == e) && (a == b)) ∙ sym (more e b) },
+      record { once = (are.all d a ∙ new, are.once); numbered = (device, page, are.numbered); all = λ e b. by e b (has_page pages e b) (are.all e b) ((d == e) && (a == b)) ∙ sym (more e b) },
       omega arith,
     )
 
@@ -91,6 +99,7 @@ count_dropped test now d a n m old less number count = ∥∥₁_map count one_l
           without d a pages,
           record {
             once = once-without d a pages are.once;
+            numbered = numbered-without d a pages are.numbered;
             all = λ e b. among-without d a e b pages are.once ∙ ap (λ was. if (d == e) && (a == b) then false else was) (are.all e b) ∙ sym (less e b);
           },
           omega arith,
@@ -151,9 +160,9 @@ at_page devices d a x b f v is same =
     ap (λ y. names_frame (row_at devices y b) f) (sym (eqb-true d x parts.0)) ∙ ap (λ y. names_frame (row_at devices d y) f) (sym (eqb-true a b parts.1)) ∙ is
 
 -- a page that had no row has one, and its frame's count is one higher
-pub AreCounted-granted : (old new : Devices) (c e : List ℕ) (d a : ℕ) (row : Row) → row_at old d a ≡ None → SetsRow old new d a row → RaisesCount c e row.frame
+pub AreCounted-granted : (old new : Devices) (c e : List ℕ) (d a : ℕ) (row : Row) → d < 2 ^ 32 → a < 2 ^ 64 → row_at old d a ≡ None → SetsRow old new d a row → RaisesCount c e row.frame
     → AreCounted old c → AreCounted new e
-AreCounted-granted old new c e d a row absent sets raises counted f = by (row.frame == f) refl (raises f)
+AreCounted-granted old new c e d a row device page absent sets raises counted f = by (row.frame == f) refl (raises f)
   where
     named : (t : Bool) (was : Option Row) → (row.frame == f) ≡ true → names_frame (if t then Some row else was) f ≡ (if t then true else names_frame was f)
     named true was own = own
@@ -161,7 +170,7 @@ AreCounted-granted old new c e d a row absent sets raises counted f = by (row.fr
 
     by : (own : Bool) → (row.frame == f) ≡ own → count_of e f ≡ (if own then count_of c f + 1 else count_of c f) → IsCountOf (naming new f) (count_of e f)
     by true own number =
-        count_added (naming old f) (naming new f) d a (count_of c f) (count_of e f) (ap (λ r. names_frame r f) absent)
+        count_added (naming old f) (naming new f) d a (count_of c f) (count_of e f) device page (ap (λ r. names_frame r f) absent)
         (λ x b. ap (λ r. names_frame r f) (sets x b) ∙ named ((d == x) && (a == b)) (row_at old x b) own) number (counted f)
     by false other number =
         count_same (naming old f) (naming new f) (count_of c f) (count_of e f)
@@ -206,7 +215,7 @@ count_from_no_row devices c f counted none = count_none (naming devices f) (coun
 
 -- no rows and counts of 0
 pub AreCounted-none : (devices : Devices) (c : List ℕ) → ((d a : ℕ) → row_at devices d a ≡ None) → ((f : ℕ) → count_of c f ≡ 0) → AreCounted devices c
-AreCounted-none devices c rows counts f = ∣ ([], record { once = tt; all = λ d a. sym (ap (λ r. names_frame r f) (rows d a)) }, sym (counts f)) ∣₁
+AreCounted-none devices c rows counts f = ∣ ([], record { once = tt; numbered = tt; all = λ d a. sym (ap (λ r. names_frame r f) (rows d a)) }, sym (counts f)) ∣₁
 
 pub count_of-replicate : (n f : ℕ) → count_of (replicate n 0) f ≡ 0
 count_of-replicate zero f = refl

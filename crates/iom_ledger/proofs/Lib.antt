@@ -1,6 +1,8 @@
 pub mod RowLemmas
 pub mod PendingLemmas
+pub mod RingLemmas
 pub mod CountLemmas
 pub mod AgreementLemmas
-pub mod PoolLemmas
+pub mod FreeLemmas
+pub mod PageNumbers
 pub mod UnknownTickets

@@ -11,18 +11,7 @@ use Rattle.iom_ledger.specs.declared.row.Row.{Row}
 use Rattle.iom_ledger.specs.declared.row.Pending.{Pending}
 use Rattle.iom_ledger.specs.Rows.{Devices, row_at, waits_for, names, ticket_of, is_named, AllNamed}
 use Rattle.iom_ledger.specs.RowChanges.{unless_waiting, released_row_if_any, ticket_after, DropsRows}
-
--- whether one of the releases is of this page, under the ticket
-abbrev pub any_names : List Pending → ℕ → ℕ → ℕ → Bool
-any_names releases device page ticket = list_any (λ release. names release device page ticket) releases
-
--- what is left of a row, where it is named by a release that is confirmed
-abbrev pub dropped : Bool → Option Row → ℕ → Option Row
-dropped named row ticket = if named then unless_waiting row ticket else row
-
--- whether the release stays once the ticket is confirmed
-abbrev pub is_other : ℕ → Pending → Bool
-is_other ticket release = not (ticket == release.ticket)
+use Rattle.iom_ledger.specs.Ring.{is_other, any_names, dropped}
 
 -- a row that was dropped, or wasn't, is dropped no further
 unless_waiting-twice : (row : Option Row) (ticket : ℕ) → unless_waiting (unless_waiting row ticket) ticket ≡ unless_waiting row ticket
@@ -34,7 +23,7 @@ unless_waiting-twice (Some row) ticket = by (waits_for row.ticket ticket) refl
     by false e = rw e refl
 
 -- one more release is confirmed
-dropped_more : (before named : Bool) (old now new : Option Row) (ticket : ℕ)
+pub dropped_more : (before named : Bool) (old now new : Option Row) (ticket : ℕ)
     → now ≡ dropped before old ticket → new ≡ (if named then unless_waiting now ticket else now) → new ≡ dropped (before || named) old ticket
 dropped_more true true old now new ticket was is = is ∙ ap (λ row. unless_waiting row ticket) was ∙ unless_waiting-twice old ticket
 dropped_more true false old now new ticket was is = is ∙ was

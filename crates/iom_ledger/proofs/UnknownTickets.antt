@@ -1,26 +1,17 @@
--- A confirmation of a ticket that doesn't wait changes nothing.
+-- A confirmation of a ticket that isn't pending changes nothing.
 use Rattle.std.proofs.Common.{◌≡◌, ℕ, Bool, true, false, ◌==◌, ◌||◌, List, [], ◌∷◌, filter, map, Contains, nat_eq, Option, None, Some, if◌then◌else◌, refl, sym, ap, ◌∙◌, subst}
 use Rattle.std.specs.List.{list_any}
 use Rattle.std.proofs.lemmas.Bool.{eqb-true, eq-eqb, and_parts, or_parts, or_left, or_right, false≢true}
 use Rattle.indexmap.proofs.CallerLemmas.{Contains-list_any}
 use Rattle.iom_base.specs.declared.rights.Rights.{Rights}
-use Rattle.iom_frame_set.specs.Sets.{has}
 use Rattle.iom_ledger.specs.declared.row.Row.{Row}
 use Rattle.iom_ledger.specs.declared.row.Pending.{Pending}
 use Rattle.iom_ledger.specs.declared.ledger.Ledger.{Ledger}
 use Rattle.iom_ledger.specs.Rows.{row_at, held_of, released_of, names, ticket_of, is_named, AllNamed}
 use Rattle.iom_ledger.specs.RowChanges.{unless_waiting, DropsRows}
-use Rattle.iom_ledger.specs.Shown.{held_in, released_in, pending_in, is_pooled}
+use Rattle.iom_ledger.specs.Shown.{held_in, released_in, pending_in}
 use Rattle.iom_ledger.specs.Changes.{IsUnchanged}
-use Rattle.iom_ledger.proofs.PendingLemmas.{any_names, is_other}
-
--- the tickets of the releases
-abbrev tickets : List Pending → List ℕ
-tickets releases = map (λ release. release.ticket) releases
-
--- whether the ticket is one of these
-abbrev is_among : ℕ → List ℕ → Bool
-is_among ticket ts = list_any (nat_eq ticket) ts
+use Rattle.iom_ledger.specs.Ring.{tickets, is_among, is_other, any_names}
 
 -- a ticket that isn't contained is found nowhere
 not_among : (ticket : ℕ) (ts : List ℕ) → (Contains ts ticket → ⊥) → is_among ticket ts ≡ false
@@ -31,14 +22,14 @@ not_among ticket ts absent = by (is_among ticket ts) refl
     by false found = refl
 
 -- where no release is under the ticket, each stays
-filter_absent : (ticket : ℕ) (s : List Pending) → is_among ticket (tickets s) ≡ false → filter (is_other ticket) s ≡ s
+pub filter_absent : (ticket : ℕ) (s : List Pending) → is_among ticket (tickets s) ≡ false → filter (is_other ticket) s ≡ s
 filter_absent ticket [] absent = refl
 filter_absent ticket (p ∷ s) absent =
     let parts = or_parts (nat_eq ticket p.ticket) (is_among ticket (tickets s)) absent in
     rw parts.0 (ap (λ rest. p ∷ rest) (filter_absent ticket s parts.1))
 
 -- a release that names a page under a ticket has that ticket
-among_from_names : (s : List Pending) (d a ticket : ℕ) → any_names s d a ticket ≡ true → is_among ticket (tickets s) ≡ true
+pub among_from_names : (s : List Pending) (d a ticket : ℕ) → any_names s d a ticket ≡ true → is_among ticket (tickets s) ≡ true
 among_from_names [] d a ticket named = named
 among_from_names (p ∷ s) d a ticket named = by (names p d a ticket) refl named (among_from_names s d a ticket)
   where
@@ -67,17 +58,14 @@ unless_waiting-absent s d a ticket (Some row) absent named = own row.ticket row.
     own (Some t) frame rights named = waits t frame rights (ticket == t) refl named
 
 pub IsUnchanged-confirmed : (old new : Ledger) (ticket : ℕ) → AllNamed old.devices old.pending.items → DropsRows old.devices new.devices ticket
-    → new.pending.items ≡ filter (is_other ticket) old.pending.items → new.counts.pool ≡ old.counts.pool → (Contains (pending_in old) ticket → ⊥) → IsUnchanged old new
-unfolding held_in released_in pending_in is_pooled
-IsUnchanged-confirmed old new ticket named drops items same_pool absent =
+    → new.pending.items ≡ filter (is_other ticket) old.pending.items → (Contains (pending_in old) ticket → ⊥) → IsUnchanged old new
+unfolding held_in released_in pending_in
+IsUnchanged-confirmed old new ticket named drops items absent =
     let none = not_among ticket (tickets old.pending.items) absent in
     let same : (d a : ℕ) → row_at new.devices d a ≡ row_at old.devices d a =
     λ d a. drops d a ∙ unless_waiting-absent old.pending.items d a ticket (row_at old.devices d a) none (named d a) in
     record {
-      shown = record {
-        held = λ d a. ap held_of (same d a);
-        lingering = λ d a. ap released_of (same d a);
-        pending = ap tickets (items ∙ filter_absent ticket old.pending.items none);
-      };
-      pool = λ f. ap (λ pool. has pool f) same_pool;
+      held = λ d a. ap held_of (same d a);
+      lingering = λ d a. ap released_of (same d a);
+      pending = ap tickets (items ∙ filter_absent ticket old.pending.items none);
     }

@@ -1,7 +1,7 @@
 -- How many rows name each frame.
-use Rattle.std.specs.Prelude.{◌≡◌, ℕ, ◌-◌, ◌+◌, ◌<◌, Bool, true, false, ◌==◌, ◌&&◌, List, [], ◌∷◌, length, ⊤, Option, None, Some, slice_index, if◌then◌else◌}
+use Rattle.std.specs.Prelude.{◌≡◌, ℕ, ◌-◌, ◌+◌, ◌^◌, ◌<◌, ◌≤◌, Bool, true, false, ◌==◌, ◌&&◌, List, [], ◌∷◌, length, ⊤, Option, None, Some, slice_index, if◌then◌else◌}
 use Rattle.std.specs.List.{list_any}
-use Rattle.iom_frame_set.specs.Sets.{has, room}
+use Rattle.iom_frame_set.specs.Sets.{Words, has, room}
 use Rattle.iom_ledger.specs.declared.row.Row.{Row}
 use Rattle.iom_ledger.specs.Rows.{Devices, row_at}
 
@@ -19,9 +19,15 @@ abbrev pub AreOnceEach : List (ℕ × ℕ) → Type 0
 AreOnceEach [] = ⊤
 AreOnceEach (p ∷ pages) = (has_page pages p.0 p.1 ≡ false) × AreOnceEach pages
 
+-- the number of each device has 32 bits, and that of each page 64
+abbrev pub AreNumbered : List (ℕ × ℕ) → Type 0
+AreNumbered [] = ⊤
+AreNumbered (p ∷ pages) = (p.0 < 2 ^ 32) × (p.1 < 2 ^ 64) × AreNumbered pages
+
 -- these are the pages of devices that pass the test, each once
 pub record ArePages (test : ℕ → ℕ → Bool) (pages : List (ℕ × ℕ)) : Type 0 where
   pub once : AreOnceEach pages
+  pub numbered : AreNumbered pages
   pub all : (device page : ℕ) → has_page pages device page ≡ test device page
 
 -- so many pages of devices pass the test
@@ -49,7 +55,7 @@ RaisesCount old new frame = (f : ℕ) → count_of new f ≡ (if frame == f then
 abbrev pub LowersCount : List ℕ → List ℕ → ℕ → Type 0
 LowersCount old new frame = (f : ℕ) → count_of new f ≡ (if frame == f then count_of old f - 1 else count_of old f)
 
--- the set has the frames of the pool whose counts are 0, and room for each frame of the pool
-pub record IsFreeSet (counts pool free : List ℕ) : Type 0 where
-  pub has_free : (f : ℕ) → has free f ≡ (has pool f && (count_of counts f == 0))
-  pub roomy : (f : ℕ) → has pool f ≡ true → f < room free
+-- the set has the frames whose counts are 0, and room for each frame that is counted
+pub record IsFreeSet (counts : List ℕ) (free : Words) : Type 0 where
+  pub has_free : (f : ℕ) → has free f ≡ (count_of counts f == 0)
+  pub roomy : length counts ≤ room free

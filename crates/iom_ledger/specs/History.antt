@@ -84,5 +84,5 @@ May history device frame kind =
     × (allows rights kind ≡ true)
 
 -- no device may reach the frame: it is free, by the ledger alone
-abbrev pub IsFree : History → ℕ → Type 0
-IsFree history frame = (device : ℕ) (kind : AccessKind) → ¬ May history device frame kind
+abbrev pub NoneMayReach : History → ℕ → Type 0
+NoneMayReach history frame = (device : ℕ) (kind : AccessKind) → ¬ May history device frame kind

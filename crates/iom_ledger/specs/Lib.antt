@@ -3,6 +3,7 @@ pub mod Refusals
 pub mod Pending
 pub mod Rows
 pub mod RowChanges
+pub mod Ring
 pub mod Counts
 pub mod Shown
 pub mod Changes

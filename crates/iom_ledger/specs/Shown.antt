@@ -1,7 +1,6 @@
 -- What a ledger shows, and when that is what a history says.
-use Rattle.std.specs.Prelude.{◌≡◌, ◌≢◌, ℕ, ◌<◌, Bool, true, List, Option, Some, map}
+use Rattle.std.specs.Prelude.{◌≡◌, ◌≢◌, ℕ, List, Option, Some, map}
 use Rattle.std.specs.Option.{option_map, option_to_list}
-use Rattle.iom_frame_set.specs.Sets.{has}
 use Rattle.iom_base.specs.declared.rights.Rights.{Rights}
 use Rattle.iom_ledger.specs.declared.ledger.Ledger.{Ledger}
 use Rattle.iom_ledger.specs.History.{History, Pair, held_at, lingering_at}
@@ -24,10 +23,6 @@ lingering_in ledger device page = option_map (λ released. released.1) (released
 unfoldable pub pending_in : Ledger → List ℕ
 pending_in ledger = map (λ release. release.ticket) ledger.pending.items
 
--- whether the frame is in the pool: a frame of memory that isn't reserved
-unfoldable pub is_pooled : Ledger → ℕ → Bool
-is_pooled ledger frame = has ledger.counts.pool frame
-
 -- at the page this pair is held, or this one lingers with its ticket, and the history says so
 pub record AgreesAt (held : Option Pair) (released : Option (ℕ × Pair)) (history : History) (device page : ℕ) : Type 0 where
   pub holds : held_at history device page ≡ held
@@ -42,19 +37,3 @@ pub record Agrees (ledger : Ledger) (history : History) : Type 0 where
 abbrev pub IsFreeIn : Ledger → ℕ → Type 0
 IsFreeIn ledger frame = (device page : ℕ) (rights : Rights)
     → (held_in ledger device page ≢ Some (frame, rights)) × (lingering_in ledger device page ≢ Some (frame, rights))
-
--- the frame is offered: it is in the pool, no pair that is held or lingers names it, and it isn't the named one, if one is
-pub record IsOffered (ledger : Ledger) (named : Option ℕ) (frame : ℕ) : Type 0 where
-  pub other : named ≢ Some frame
-  pub pooled : is_pooled ledger frame ≡ true
-  pub ungranted : IsFreeIn ledger frame
-
--- no frame below the limit is offered
-abbrev pub NoneIsOffered : Ledger → Option ℕ → ℕ → Type 0
-NoneIsOffered ledger named limit = (frame : ℕ) → frame < limit → ¬ IsOffered ledger named frame
-
--- this frame below the limit is offered, and none above it is
-pub record IsHighestOffered (ledger : Ledger) (named : Option ℕ) (limit frame : ℕ) : Type 0 where
-  pub below : frame < limit
-  pub offered : IsOffered ledger named frame
-  pub highest : (higher : ℕ) → frame < higher → higher < limit → ¬ IsOffered ledger named higher

@@ -1,69 +1,58 @@
-//! How many rows name each frame, and which frames are free.
-ghost use Rattle.std.specs.Prelude.{◌≡◌, ◌-◌, ◌<◌, ◌^◌, ℕ, nat_lt, IfOk, OnOk, MatchOption, length, replicate};
-ghost use Rattle.iom_frame_set.specs.Sets.{has, Removes, NoneIsMember, IsHighestMember};
+//! How many rows name each frame, and which frames none does.
+ghost use Rattle.std.specs.Prelude.{◌≡◌, ◌-◌, ◌+◌, ◌<◌, ◌≤◌, ◌^◌, IfOk, OnOk, length, max, replicate};
 ghost use Rattle.iom_ledger.specs.Counts.{count_of, KeepsCounts, RaisesCount, LowersCount, IsFreeSet};
 
 use iom_frame_set::FrameSet;
 use std::alloc::{AllocError, Global};
 
-/// How many rows name each frame, the pool of frames that aren't reserved, and those of the pool that no
-/// row names. A frame beyond the last that is counted is named by none.
+/// How many rows name each frame, and the set of those that none names. A frame beyond the last that is
+/// counted is named by none. A device has a page for each number of 64 bits at most, and the number of a
+/// device has 32: so a count of 128 bits has room for each row that there may be.
 #[derive(Drop)]
 pub(crate) struct RowCounts {
-    counts: Vec<u64>,
-    pool: FrameSet,
+    counts: Vec<u128>,
     free: FrameSet,
-    ghost is_free: { IsFreeSet counts.items pool free },
+    ghost is_free: { IsFreeSet counts.items free },
 }
 
 impl RowCounts {
-    /// Counts of 0 for so many frames, and all of them in the pool.
+    /// Counts of 0 for so many frames.
     pub(crate) fn new(alloc: Global, frames: u32) -> Result<RowCounts, AllocError>
-        ensures counts { IfOk result (λ counts. counts.counts.items ≡ replicate frames 0) }
-        ensures pool { IfOk result (λ counts. (f : ℕ) → has counts.pool f ≡ nat_lt f frames) }
+        ensures { IfOk result (λ counts. counts.counts.items ≡ replicate frames 0) }
     {
         let mut counts = Vec::with_capacity(alloc, frames as usize)?;
-        let mut pool = FrameSet::new(alloc);
-        let mut free = FrameSet::new(alloc);
-        pool.make_room(frames)?;
+        let mut free = FrameSet::full(alloc);
         free.make_room(frames)?;
         for frame in 0..frames {
             counts.push(0)?;
-            pool.insert(frame);
-            free.insert(frame);
         }
-        Ok(RowCounts { counts, pool, free })
+        Ok(RowCounts { counts, free })
     }
 
     /// How many rows name the frame.
-    pub(crate) fn count(&self, frame: u32) -> u64
+    pub(crate) fn count(&self, frame: u32) -> u128
         ensures { result ≡ count_of self.now.counts.items frame }
     {
-        match self.counts.get(frame as usize) {
-            None => 0,
-            Some(count) => *count,
-        }
+        self.counts.get(frame as usize).copied().unwrap_or(0)
     }
 
-    /// The highest frame of the pool below the limit that no row names and that isn't the named one.
-    pub(crate) fn highest_free(&self, limit: u32, named: Option<u32>) -> Option<u32>
-        ensures { MatchOption result (NoneIsMember self.now.free named limit) (IsHighestMember self.now.free named limit) }
+    /// The frames that no row names.
+    pub(crate) fn free_frames(&self) -> &FrameSet
+        ensures { result.now ≡ self.now.free }
     {
-        self.free.highest_below(limit, named)
+        &self.free
     }
 
-    /// Makes room for one more row of the frame. That many rows that the count is full fit in no memory.
+    /// Makes room for the count of the frame and of those below it, and of no other. Only new memory can be
+    /// refused.
     pub(crate) fn make_room(&mut self, frame: u32) -> Result<(), AllocError>
         ensures within { OnOk result (frame < length self.new.counts.items) }
-        ensures below { OnOk result (count_of self.new.counts.items frame < 2 ^ 64 - 1) }
+        ensures no_further { length self.new.counts.items ≤ max (length self.old.counts.items) (frame + 1) }
         ensures kept { KeepsCounts self.old.counts.items self.new.counts.items }
-        ensures pool { self.new.pool ≡ self.old.pool }
     {
+        self.free.make_room(frame)?;
         for counted in self.counts.len()..frame as usize + 1 {
             self.counts.push(0)?;
-        }
-        if self.count(frame) == u64::MAX {
-            return Err(AllocError);
         }
         Ok(())
     }
@@ -71,9 +60,8 @@ impl RowCounts {
     /// Counts one more row of the frame.
     pub(crate) fn raise(&mut self, frame: u32)
         requires within { frame < length self.old.counts.items }
-        requires below { count_of self.old.counts.items frame < 2 ^ 64 - 1 }
-        ensures raised { RaisesCount self.old.counts.items self.new.counts.items frame }
-        ensures pool { self.new.pool ≡ self.old.pool }
+        requires below { count_of self.old.counts.items frame + 1 < 2 ^ 128 }
+        ensures { RaisesCount self.old.counts.items self.new.counts.items frame }
     {
         self.counts[frame as usize] += 1;
         self.free.remove(frame);
@@ -82,22 +70,12 @@ impl RowCounts {
     /// Counts one row of the frame less.
     pub(crate) fn lower(&mut self, frame: u32)
         requires { 0 < count_of self.old.counts.items frame }
-        ensures lowered { LowersCount self.old.counts.items self.new.counts.items frame }
-        ensures pool { self.new.pool ≡ self.old.pool }
+        ensures { LowersCount self.old.counts.items self.new.counts.items frame }
     {
         let left = self.counts[frame as usize] - 1;
         self.counts[frame as usize] = left;
-        if left == 0 && self.pool.contains(frame) {
+        if left == 0 {
             self.free.insert(frame);
         }
-    }
-
-    /// Takes the frame out of the pool.
-    pub(crate) fn reserve(&mut self, frame: u32)
-        ensures counts { self.new.counts.items ≡ self.old.counts.items }
-        ensures pool { Removes self.old.pool self.new.pool frame }
-    {
-        self.pool.remove(frame);
-        self.free.remove(frame);
     }
 }

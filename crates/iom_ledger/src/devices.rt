@@ -102,7 +102,6 @@ pub(crate) fn grant_in(
     requires absent { row_at devices.old device page ≡ None }
     requires counted { AreCounted devices.old counts.old.counts.items }
     ensures counted { AreCounted devices.new counts.new.counts.items }
-    ensures pool { counts.new.pool ≡ counts.old.pool }
     ensures ok { OnOk result (SetsRow devices.old devices.new device page row) }
     ensures err { OnErr result (KeepsRows devices.old devices.new) }
 {
@@ -162,7 +161,6 @@ fn drop_waiting_row(
 )
     requires { AreCounted devices.old counts.old.counts.items }
     ensures counted { AreCounted devices.new counts.new.counts.items }
-    ensures pool { counts.new.pool ≡ counts.old.pool }
     ensures rows { DropsSome devices.old devices.new device ticket }
     ensures looked { NoneWaitsFrom (entries_of devices.old device) (index + 1) ticket → NoneWaitsFrom (entries_of devices.new device) index ticket }
 {
@@ -175,7 +173,6 @@ fn drop_waiting_row(
 fn drop_waiting(devices: &mut Devices, counts: &mut RowCounts, device: DeviceId, ticket: u32)
     requires { AreCounted devices.old counts.old.counts.items }
     ensures counted { AreCounted devices.new counts.new.counts.items }
-    ensures pool { counts.new.pool ≡ counts.old.pool }
     ensures rows { (d a : ℕ) → row_at devices.new d a ≡ (if device == d then unless_waiting (row_at devices.old d a) ticket else row_at devices.old d a) }
 {
     let rows = match devices.get(&device) {
@@ -197,7 +194,6 @@ fn drop_waiting_at(
 )
     requires { AreCounted devices.old counts.old.counts.items }
     ensures counted { AreCounted devices.new counts.new.counts.items }
-    ensures pool { counts.new.pool ≡ counts.old.pool }
     ensures rows { (d a : ℕ)
         → row_at devices.new d a ≡ (if (device == d) && (page == a) then unless_waiting (row_at devices.old d a) ticket else row_at devices.old d a) }
 {
@@ -210,7 +206,6 @@ fn drop_waiting_at(
 pub(crate) fn drop_named_in(devices: &mut Devices, counts: &mut RowCounts, release: Pending)
     requires { AreCounted devices.old counts.old.counts.items }
     ensures counted { AreCounted devices.new counts.new.counts.items }
-    ensures pool { counts.new.pool ≡ counts.old.pool }
     ensures rows { DropsNamed devices.old devices.new release release.ticket }
 {
     match release.page {

@@ -1,18 +1,20 @@
-#![tactic(auto, unfolding(crate::specs::Shown::held_in, crate::specs::Shown::released_in, crate::specs::Shown::pending_in, crate::specs::Shown::is_pooled))]
+#![tactic(auto, unfolding(crate::specs::Shown::held_in, crate::specs::Shown::released_in, crate::specs::Shown::pending_in))]
 
-ghost use Rattle.std.specs.Prelude.{◌≡◌};
-ghost use Rattle.iom_ledger.specs.declared.ledger.TheConstants.{MAX_PENDING};
+ghost use Rattle.std.specs.Prelude.{◌≡◌, true};
 ghost use Rattle.iom_ledger.specs.Counts.{AreCounted};
+ghost use Rattle.iom_ledger.specs.Pending.{pending_limit};
+ghost use Rattle.iom_ledger.specs.Ring.{is_ascending};
 ghost use Rattle.iom_ledger.specs.Rows.{AllGranted, AllNamed};
 
 use crate::counts::RowCounts;
 use crate::devices::{Devices, grant_in, release_all_in, release_in, row_in};
 use crate::lookups::{holds_anything_in, lingers_anything_in};
-use crate::ring::{Ring, confirm_in, note};
+use crate::ring::{Ring, confirm_in, note, still_ascend};
 use crate::row::{Pending, Row};
 use circular_buffer::HeapCircularBuffer;
 use indexmap::IndexMap;
 use iom_base::{DeviceId, Rights};
+use iom_frame_set::FrameSet;
 use std::alloc::{AllocError, Global};
 
 /// The most tickets that are pending at a time.
@@ -26,34 +28,37 @@ pub struct Ledger {
     devices: Devices,
     counts: RowCounts,
     pending: Ring,
+    /// Whether no ticket of the ring is below an earlier one.
+    ascending: bool,
     ghost granted: { AllGranted devices },
     ghost named: { AllNamed devices pending.items },
     ghost counted: { AreCounted devices counts.counts.items },
-    ghost room: { pending.capacity ≡ MAX_PENDING },
+    ghost ordered: { ascending ≡ true → is_ascending pending.items ≡ true },
+    ghost room: { pending.capacity ≡ pending_limit },
 }
 
 impl Ledger {
-    ghost use Rattle.std.specs.Prelude.{◌↔◌, ◌<◌, ◌≤◌, ℕ, List, [], ◌∷◌, Contains, length, nat_lt, false, not};
-    ghost use Rattle.std.specs.Prelude.{IsTrue, IsSome, IfOk, OnOk, OnErr, MatchOption, Some, None};
+    ghost use Rattle.std.specs.Prelude.{◌↔◌, ◌<◌, ◌≤◌, ℕ, List, [], ◌∷◌, Contains, length, false, not};
+    ghost use Rattle.std.specs.Prelude.{IsTrue, IsSome, IfOk, OnOk, OnErr, Some, None};
     ghost use Rattle.iom_ledger.specs.declared.entry.HistoryEntry.TheVariants.{Granted, Released, AllReleased, Confirmed};
-    ghost use Rattle.iom_ledger.specs.History.{History, Pair, confirms, held_at, lingering_at, Holds, Lingers, IsFree};
-    ghost use Rattle.iom_ledger.specs.Pending.{pending_of};
-    ghost use Rattle.iom_ledger.specs.Shown.{Agrees, IsFreeIn, NoneIsOffered, IsHighestOffered};
+    ghost use Rattle.iom_ledger.specs.History.{History, Pair, confirms, held_at, lingering_at, Holds, Lingers, NoneMayReach};
+    ghost use Rattle.iom_ledger.specs.Pending.{pending_of, pending_limit};
+    ghost use Rattle.iom_ledger.specs.Shown.{Agrees, IsFreeIn};
     ghost use Rattle.iom_base.specs.Rights.{IsGrantable};
-    ghost use Rattle.iom_ledger.specs.Shown.{held_in, released_in, lingering_in, pending_in, is_pooled};
-    ghost use Rattle.iom_ledger.specs.Changes.{IsUnchanged, Grants, Releases, ReleasesAll, Confirms, Reserves};
+    ghost use Rattle.iom_frame_set.specs.Sets.{has};
+    ghost use Rattle.iom_ledger.specs.Shown.{held_in, released_in, lingering_in, pending_in};
+    ghost use Rattle.iom_ledger.specs.Changes.{IsUnchanged, ShowsGrant, ShowsRelease, ShowsReleaseOfAll, ShowsConfirmation};
 
-    /// A ledger of no grants, whose pool is all of so many frames. Makes the room of [`MAX_PENDING`]
-    /// tickets, so that no release takes memory, and of a count for each of the frames. A grant of a frame
-    /// beyond makes more.
+    /// A ledger of no grants. Makes the room of [`MAX_PENDING`] tickets, so that no release takes memory, and
+    /// of a count for each of so many frames. A grant of a frame beyond makes more.
     pub fn new(alloc: Global, frames: u32) -> Result<Ledger, AllocError>
-        ensures agrees { IfOk result (λ ledger. Agrees ledger []) }
-        ensures pool { IfOk result (λ ledger. (f : ℕ) → is_pooled ledger f ≡ nat_lt f frames) }
+        ensures { IfOk result (λ ledger. Agrees ledger []) }
     {
         Ok(Ledger {
             devices: IndexMap::new(alloc),
             counts: RowCounts::new(alloc, frames)?,
             pending: HeapCircularBuffer::with_capacity(alloc, MAX_PENDING)?,
+            ascending: true,
         })
     }
 
@@ -94,17 +99,17 @@ impl Ledger {
     /// Whether no device holds or lingers on the frame, so that none may reach it. Looks at one count.
     pub fn is_free(&self, frame: u32) -> bool
         ensures shown { IsTrue result ↔ IsFreeIn self.now frame }
-        ensures free { (h : History) → Agrees self.now h → IsTrue result ↔ IsFree h frame }
+        ensures free { (h : History) → Agrees self.now h → IsTrue result ↔ NoneMayReach h frame }
     {
         self.counts.count(frame) == 0
     }
 
-    /// The highest frame below the limit, but not the named one, that is in the pool and that no device
-    /// holds or lingers on. Looks at no row and no count.
-    pub fn highest_free(&self, limit: u32, named: Option<u32>) -> Option<u32>
-        ensures { MatchOption result (NoneIsOffered self.now named limit) (IsHighestOffered self.now named limit) }
+    /// The frames that no device holds or lingers on, of all there may be: the ledger knows neither how
+    /// large memory is nor which of its frames are reserved. Looks at no row and no count.
+    pub fn free_frames(&self) -> &FrameSet
+        ensures { (frame : ℕ) → IsTrue (has result.now frame) ↔ IsFreeIn self.now frame }
     {
-        self.counts.highest_free(limit, named)
+        self.counts.free_frames()
     }
 
     /// Whether the device holds some page.
@@ -127,7 +132,7 @@ impl Ledger {
     pub fn pending(&self) -> usize
         ensures shown { result ≡ length (pending_in self.now) }
         ensures pending { (h : History) → Agrees self.now h → result ≡ length (pending_of h) }
-        ensures within { result ≤ MAX_PENDING }
+        ensures within { result ≤ pending_limit }
     {
         self.pending.len()
     }
@@ -146,7 +151,7 @@ impl Ledger {
         requires not_lingering { lingering_in self.old device page ≡ None }
         requires right { IsGrantable rights }
         ensures agrees { OnOk result ((h : History) → Agrees self.old h → Agrees self.new (Granted device page frame rights ∷ h)) }
-        ensures granted { OnOk result (Grants self.old self.new device page (frame, rights)) }
+        ensures granted { OnOk result (ShowsGrant self.old self.new device page (frame, rights)) }
         ensures refused { OnErr result (IsUnchanged self.old self.new) }
         ensures refused_agrees { OnErr result ((h : History) → Agrees self.old h → Agrees self.new h) }
     {
@@ -162,9 +167,9 @@ impl Ledger {
     /// memory. That the device holds there is the caller's premise: what is ensured is proved without it.
     pub fn release(&mut self, device: DeviceId, page: u64, ticket: u32)
         requires held { IsSome (held_in self.old device page) }
-        requires room { length (pending_in self.old) < MAX_PENDING }
+        requires room { length (pending_in self.old) < pending_limit }
         ensures agrees { (h : History) → Agrees self.old h → confirms h ticket ≡ false → Agrees self.new (Released device page ticket ∷ h) }
-        ensures released { Releases self.old self.new device page ticket }
+        ensures released { ShowsRelease self.old self.new device page ticket }
     {
         release_in(&mut self.devices, device, page, ticket);
         let release = Pending {
@@ -172,15 +177,16 @@ impl Ledger {
             device,
             page: Some(page),
         };
+        self.ascending = still_ascend(&self.pending, self.ascending, release);
         note(&mut self.pending, release);
     }
 
     /// Releases all that the device holds, under a ticket that isn't confirmed yet. It is pending
     /// even where the device holds nothing. Takes no memory.
     pub fn release_all(&mut self, device: DeviceId, ticket: u32)
-        requires { length (pending_in self.old) < MAX_PENDING }
+        requires { length (pending_in self.old) < pending_limit }
         ensures agrees { (h : History) → Agrees self.old h → confirms h ticket ≡ false → Agrees self.new (AllReleased device ticket ∷ h) }
-        ensures released { ReleasesAll self.old self.new device ticket }
+        ensures released { ShowsReleaseOfAll self.old self.new device ticket }
     {
         release_all_in(&mut self.devices, device, ticket);
         let release = Pending {
@@ -188,6 +194,7 @@ impl Ledger {
             device,
             page: None,
         };
+        self.ascending = still_ascend(&self.pending, self.ascending, release);
         note(&mut self.pending, release);
     }
 
@@ -195,23 +202,15 @@ impl Ledger {
     /// no memory.
     pub fn confirm(&mut self, ticket: u32)
         ensures agrees { (h : History) → Agrees self.old h → Agrees self.new (Confirmed ticket ∷ h) }
-        ensures confirmed { Confirms self.old self.new ticket }
+        ensures confirmed { ShowsConfirmation self.old self.new ticket }
         ensures unknown { ¬ Contains (pending_in self.old) ticket → IsUnchanged self.old self.new }
     {
         confirm_in(
             &mut self.devices,
             &mut self.counts,
             &mut self.pending,
+            self.ascending,
             ticket,
         );
-    }
-
-    /// Takes the frame out of the pool, so that it is never offered. Nothing else changes, and no memory is
-    /// taken.
-    pub fn reserve(&mut self, frame: u32)
-        ensures reserved { Reserves self.old self.new frame }
-        ensures agrees { (h : History) → Agrees self.old h → Agrees self.new h }
-    {
-        self.counts.reserve(frame);
     }
 }

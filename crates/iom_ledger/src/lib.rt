@@ -10,8 +10,8 @@
 //! (`specs/Shown.antt`).
 //!
 //! Beside the rows it counts how many of them name each frame, so that whether a frame is free is one
-//! look at a count. The frames of memory that aren't reserved are its *pool*; of those it keeps the set of
-//! the free ones, so that the highest free frame is found without a look at rows or counts.
+//! look at a count. Of the frames that no row names it keeps a set (`Ledger::free_frames`), in which whoever
+//! knows what else is taken looks for one. That the set is right is a fact that each ledger carries.
 #![tactic(auto)]
 
 mod counts;

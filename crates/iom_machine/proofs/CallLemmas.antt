@@ -1,10 +1,10 @@
 -- Calls of the driver that are lawful.
 use Rattle.std.proofs.Common.{◌≡◌, ◌↔◌, ℕ, suc, ◌-◌, Bool, false, List, ◌∷◌, All, Option, None, Some, is_some, slice_get, slice_set, refl, sym, ◌∙◌, subst}
-use Rattle.iom_base.specs.declared.rights.Rights.{Rights}
+use Rattle.iom_base.specs.declared.grant_rights.GrantRights.{GrantRights}
 use Rattle.iom_ledger.specs.declared.entry.HistoryEntry.TheVariants as entries
 use Rattle.iom_ledger.specs.declared.refusal.Refusal.{Refusal}
 use Rattle.iom_ledger.specs.History.{History}
-use Rattle.iom_base.specs.Rights.{IsGrantable}
+use Rattle.iom_base.specs.GrantRights.{rights_of}
 use Rattle.iom_machine.specs.declared.outcome.Outcome.TheVariants.{Done, Confirmed}
 use Rattle.iom_machine.specs.declared.state.Attachment.TheVariants.{Attached}
 use Rattle.iom_machine.specs.declared.state.Device.{Device}
@@ -25,15 +25,15 @@ pub none_if_not_some : (o : Option Refusal) → is_some o ≡ false → o ≡ No
 none_if_not_some None e = refl
 none_if_not_some (Some x) e = cc
 
-pub granted_as : (taken : List ℕ) (old : State) (id page frame : ℕ) (rights : Rights) (history : History) (frames : List Frame)
-    → NoneApplies (grant_reasons old id page frame) → IsGrantable rights → All (IsFreeBesides old (Some frame)) taken
-    → history ≡ entries.Granted id page frame rights ∷ old.history → frames ≡ reserved_for (OneDevice id) taken old.frames
+pub granted_as : (taken : List ℕ) (old : State) (id page frame : ℕ) (rights : GrantRights) (history : History) (frames : List Frame)
+    → NoneApplies (grant_reasons old id page frame) → All (IsFreeBesides old (Some frame)) taken
+    → history ≡ entries.Granted id page frame (rights_of rights) ∷ old.history → frames ≡ reserved_for (OneDevice id) taken old.frames
     → (new : State) → (◌≡◌ {A = Option State} (Some (record { levels = old.levels; frames = frames; history = history; last_ticket = old.last_ticket; devices = old.devices })) (Some new)) ↔ Grants taken old id page frame rights Done new
-granted_as taken old id page frame rights history frames none right free h f new =
+granted_as taken old id page frame rights history frames none free h f new =
     let next : State = record { levels = old.levels; frames = frames; history = history; last_ticket = old.last_ticket; devices = old.devices } in
-    let is : next ≡ record old { history = entries.Granted id page frame rights ∷ old.history; frames = reserved_for (OneDevice id) taken old.frames } = rw (h, f) refl in (
-      (λ same. (none, right, free, sym (only_state next new same) ∙ is)),
-      (λ step. some_state next new (is ∙ sym step.3)),
+    let is : next ≡ record old { history = entries.Granted id page frame (rights_of rights) ∷ old.history; frames = reserved_for (OneDevice id) taken old.frames } = rw (h, f) refl in (
+      (λ same. (none, free, sym (only_state next new same) ∙ is)),
+      (λ step. some_state next new (is ∙ sym step.2)),
     )
 
 -- the state after an attach

@@ -1,5 +1,5 @@
 -- Lists of frames.
-use Rattle.std.proofs.Common.{◌≡◌, ℕ, ◌+◌, ◌<◌, inl, inr, Bool, false, true, List, [], ◌∷◌, ◌++◌, length, length-append, All, Contains, nat_eq, Option, None, refl, sym, ap, ◌∙◌, subst, arith}
+use Rattle.std.proofs.Common.{◌≡◌, ℕ, ◌+◌, ◌*◌, ◌/◌, ◌<◌, inl, inr, Bool, false, true, List, [], ◌∷◌, ◌++◌, length, length-append, All, Contains, nat_eq, Option, None, refl, sym, ap, ◌∙◌, subst, arith}
 use Rattle.std.specs.Cmp.{nat_eq_equiv}
 use Rattle.std.specs.List.{IsDistinct, list_any}
 use Rattle.std.proofs.lemmas.Bool.{cases_eq, eqb-true, eq-eqb}
@@ -7,7 +7,7 @@ use Rattle.std.proofs.lemmas.List.Elements.{All-nil, All-push, All-weaker, All-c
 use Rattle.std.proofs.lemmas.Map.Keys.{IsDistinct-push}
 use Rattle.iom_machine.specs.Judging.{ListsAll, CountsAll}
 use Rattle.iom_machine.proofs.JudgeLemmas.{passing_element, some_passes, fewer_than}
-use Rattle.iom_machine.specs.Frames.{IsFree, FewerThan, IsFreeBesides}
+use Rattle.iom_machine.specs.Frames.{IsFree, FewerThan, IsFreeBesides, IsFreeRun}
 use Rattle.iom_machine.specs.declared.state.State.{State}
 
 -- a number above all of a list is none of it
@@ -52,6 +52,16 @@ fewer_free state named count n (found, (once, each, whole), many) =
     let decided = fewer_than (IsFreeBesides state named) found n once
     (All-weaker (λ x. (x < length state.frames) × IsFreeBesides state named x) (IsFreeBesides state named) (λ x h. h.1) found each)
     (λ x p. some_passes (nat_eq x) found x (whole x p.0.0 p) (eq-eqb x x refl)) in
+    ((λ short. decided.0 (omega (arith, many))), (λ fewer. let short : length found < n = decided.1 fewer in omega (arith, many)))
+
+-- and so many runs, since the last frame of each lies in memory
+pub fewer_runs_free : (state : State) (count n : ℕ) → CountsAll count (length state.frames / 4) (IsFreeRun state)
+    → (count < n → FewerThan n (IsFreeRun state)) × (FewerThan n (IsFreeRun state) → count < n)
+fewer_runs_free state count n (found, (once, each, whole), many) =
+    let decided = fewer_than (IsFreeRun state) found n once
+    (All-weaker (λ x. (x < length state.frames / 4) × IsFreeRun state x) (IsFreeRun state) (λ x h. h.1) found each)
+    (λ x p. let last : 4 * x + 3 < length state.frames = p.3.0 in
+    some_passes (nat_eq x) found x (whole x (omega (arith, last)) p) (eq-eqb x x refl)) in
     ((λ short. decided.0 (omega (arith, many))), (λ fewer. let short : length found < n = decided.1 fewer in omega (arith, many)))
 
 -- where none is named, these are the free frames

@@ -17,22 +17,19 @@ use Rattle.iom_machine.specs.declared.event.Event.TheVariants as events
 use Rattle.iom_machine.specs.declared.outcome.Outcome.{Outcome}
 use Rattle.iom_machine.specs.declared.outcome.Outcome.TheVariants.{Refused, Accepted, Busy, BadSpan, Fault, Read, Wrote, NothingInFlight}
 use Rattle.iom_machine.specs.declared.state.Access.{Access}
-use Rattle.iom_machine.specs.declared.state.Attachment.{Attachment}
-use Rattle.iom_machine.specs.declared.state.Attachment.TheVariants.{Detached, Attached, Quarantined, Leaving}
 use Rattle.iom_machine.specs.declared.state.Device.{Device}
 use Rattle.iom_machine.specs.declared.state.Frame.{Frame}
 use Rattle.iom_machine.specs.declared.state.AcceptedAccess.{AcceptedAccess}
-use Rattle.iom_machine.specs.declared.state.Mode.TheVariants.{First, Second, Both}
 use Rattle.iom_machine.specs.declared.state.State.{State}
 use Rattle.iom_machine.specs.Frames.{bytes_of, stored}
 use Rattle.iom_machine.specs.Devices.{device_of, IsPlugged, EachInFlightMay}
 use Rattle.iom_machine.specs.Tickets.{confirmed_from}
-use Rattle.iom_machine.specs.Requests.{offset_of, IsWithinPage, IsBusy, HoldsFor, MayAccept, MayFault, MayAnswer, state_after, with_accepted}
+use Rattle.iom_machine.specs.Requests.{read_of, write_of, offset_of, IsWithinPage, IsBusy, HoldsFor, MayAcceptInOneStage, MayAccept, MayFault, MayAnswer, state_after, with_accepted}
 use Rattle.iom_machine.specs.Machine.{Requests, Makes, Step, Run, with_oldest_made}
 use Rattle.iom_machine.specs.Headline.{IsReached, byte_in, IsOldest, IsOutside, AreNamedBytes, TouchesItsOwn, AsksFor, IsOneStage, GrantsFrame, NoneGrants, TouchesFrame}
 use Rattle.iom_machine.proofs.ReachLemmas.{NamesFrame, reach_before}
 use Rattle.iom_machine.proofs.ByteLemmas.{slice_get-set_same, slice_get-set_other, slice_get-written_inside, slice_get-written_outside, slice_get-range, length-range}
-use Rattle.iom_machine.proofs.InFlightLemmas.{match_cases, some_case, All-at, AllInFlight-of, found_device}
+use Rattle.iom_machine.proofs.InFlightLemmas.{match_cases, some_case, All-at, AllInFlight-of, found_device, asked_parts}
 use Rattle.iom_machine.proofs.SoundLemmas.{IsSound, IsWhole, Change, change-step, sound_if_reached}
 
 pub in_flight_may : (state : State) → IsReached state → EachInFlightMay state
@@ -163,25 +160,25 @@ touches-makes old new id (Wrote len) sound device at makes =
 touches-makes old new id NothingInFlight sound device at makes = ap (λ (s : State). s.frames) makes.1
 touches-makes old new id _ sound device at makes = absurd makes
 
-pub touches_its_own : (old new : State) (id : ℕ) (outcome : Outcome) → IsReached old → Step old (events.Commit id) outcome new → TouchesItsOwn old id outcome new
-touches_its_own old new id outcome reached (choice, step) = elim (match_cases (device_of old id) _ _ step) [
+pub touches_its_own : (old new : State) (id : ℕ) (outcome : Outcome) → IsSound old → Step old (events.Commit id) outcome new → TouchesItsOwn old id outcome new
+touches_its_own old new id outcome sound (choice, step) = elim (match_cases (device_of old id) _ _ step) [
   | inl (none, refused) ↦ subst (λ o. TouchesItsOwn old id o new) (sym refused.0) (ap (λ (s : State). s.frames) refused.1)
-  | inr (device, at, makes) ↦ touches-makes old new id outcome (sound_if_reached old reached) device at makes
+  | inr (device, at, makes) ↦ touches-makes old new id outcome sound device at makes
 ]
 
--- a held page may be accepted on its frame alone
-accepted_where_held : (attachment : Attachment) (state : State) (id : ℕ) (access : Access) (frame chosen : ℕ)
-    → HoldsFor state.history id access frame → MayAccept attachment state id access chosen → chosen ≡ frame
-accepted_where_held (Attached First ats) state id access frame chosen held (inl other) =
+-- a held page may be accepted on its frame alone, of a device that is attached in one stage
+accepted_in_one_stage : (history : History) (id : ℕ) (access : Access) (frame chosen : ℕ)
+    → HoldsFor history id access frame → MayAcceptInOneStage history id access chosen → chosen ≡ frame
+accepted_in_one_stage history id access frame chosen held (inl other) =
     let pairs : ◌≡◌ {A = Pair} (chosen, other.0) (frame, held.0) = cc in ap (λ (p : Pair). p.0) pairs
-accepted_where_held (Attached First ats) state id access frame chosen held (inr (none, lingers)) = absurd (none frame held)
-accepted_where_held (Attached Second ats) state id access frame chosen held (inl other) =
-    let pairs : ◌≡◌ {A = Pair} (chosen, other.0) (frame, held.0) = cc in ap (λ (p : Pair). p.0) pairs
-accepted_where_held (Attached Second ats) state id access frame chosen held (inr (none, lingers)) = absurd (none frame held)
-accepted_where_held (Attached Both ats) state id access frame chosen held may = absurd may
-accepted_where_held Detached state id access frame chosen held may = absurd may
-accepted_where_held (Quarantined ticket mode ats) state id access frame chosen held may = absurd may
-accepted_where_held (Leaving ticket mode ats) state id access frame chosen held may = absurd may
+accepted_in_one_stage history id access frame chosen held (inr (none, lingers)) = absurd (none frame held)
+
+accepted_where_held : (device : Device) (state : State) (id : ℕ) (access : Access) (frame chosen : ℕ) → IsOneStage device
+    → HoldsFor state.history id access frame → MayAccept device.attachment state id access chosen → chosen ≡ frame
+accepted_where_held device state id access frame chosen (ats, inl first) held may =
+    accepted_in_one_stage state.history id access frame chosen held (subst (λ a. MayAccept a state id access chosen) first may)
+accepted_where_held device state id access frame chosen (ats, inr second) held may =
+    accepted_in_one_stage state.history id access frame chosen held (subst (λ a. MayAccept a state id access chosen) second may)
 
 -- a held page faults for no device that is attached in one stage
 no_fault_where_held : (device : Device) (state : State) (id : ℕ) (access : Access) (frame : ℕ) (cause : Cause) → IsOneStage device
@@ -199,7 +196,7 @@ answered_where_held chosen old new frame device access (Fault cause) answer next
     absurd (no_fault_where_held device old device.id access frame cause one held answer.1)
 answered_where_held chosen old new frame device access (Accepted number) answer next one within room held = (
   ap (λ n. Accepted n) answer.2,
-  next ∙ ap (λ f. with_accepted old device access f) (accepted_where_held device.attachment old device.id access frame chosen held answer.1),
+  next ∙ ap (λ f. with_accepted old device access f) (accepted_where_held device old device.id access frame chosen one held answer.1),
 )
 answered_where_held chosen old new frame device access _ answer next one within room held = absurd answer
 
@@ -216,52 +213,54 @@ pub accepted_on_its_frame : (old new : State) (event : Event) (outcome : Outcome
     → Step old event outcome new → AsksFor event id access → IsPlugged old id device → IsOneStage device → IsWithinPage access → ¬ IsBusy device.in_flight
     → HoldsFor old.history id access frame
     → (outcome ≡ Accepted (device.accepted + 1)) × (new ≡ with_accepted old device access frame)
-accepted_on_its_frame old new (events.Read d address len) outcome id frame device access (choice, step) (who, what) there one within room held =
+accepted_on_its_frame old new (events.Read d address len) outcome id frame device access (choice, step) asks there one within room held =
+    let asked = asked_parts d id (read_of address len) access asks in
     asked_where_held choice.frame old new id frame device access outcome
-    (subst (λ i. Requests choice.frame old i access outcome new) who (subst (λ x. Requests choice.frame old d x outcome new) (sym what) step)) there one within room held
-accepted_on_its_frame old new (events.Write d address bytes) outcome id frame device access (choice, step) (who, what) there one within room held =
+    (subst (λ i. Requests choice.frame old i access outcome new) asked.0 (subst (λ x. Requests choice.frame old d x outcome new) asked.1 step)) there one within room held
+accepted_on_its_frame old new (events.Write d address bytes) outcome id frame device access (choice, step) asks there one within room held =
+    let asked = asked_parts d id (write_of address bytes) access asks in
     asked_where_held choice.frame old new id frame device access outcome
-    (subst (λ i. Requests choice.frame old i access outcome new) who (subst (λ x. Requests choice.frame old d x outcome new) (sym what) step)) there one within room held
-accepted_on_its_frame old new _ outcome id frame device access step asks there one within room held = absurd asks
+    (subst (λ i. Requests choice.frame old i access outcome new) asked.0 (subst (λ x. Requests choice.frame old d x outcome new) asked.1 step)) there one within room held
+accepted_on_its_frame old new _ outcome id frame device access step asks there one within room held = cc
 
 -- a frame that is free stays so, after an entry that doesn't grant it
-free_after : (entry : HistoryEntry) (h : History) (frame : ℕ) → ¬ NamesFrame entry frame → ledger.IsFree h frame → ledger.IsFree (entry ∷ h) frame
+free_after : (entry : HistoryEntry) (h : History) (frame : ℕ) → ¬ NamesFrame entry frame → ledger.NoneMayReach h frame → ledger.NoneMayReach (entry ∷ h) frame
 free_after entry h frame other free device kind may = elim (reach_before entry h device frame kind may) [
   | inl named ↦ other named
   | inr before ↦ free device kind before
 ]
 
-free_confirmed : (first n : ℕ) (h : History) (frame : ℕ) → ledger.IsFree h frame → ledger.IsFree (confirmed_from first n h) frame
+free_confirmed : (first n : ℕ) (h : History) (frame : ℕ) → ledger.NoneMayReach h frame → ledger.NoneMayReach (confirmed_from first n h) frame
 free_confirmed first zero h frame free = free
 free_confirmed first (suc n) h frame free = free_after (entries.Confirmed (first + n)) (confirmed_from first n h) frame (λ x. x) (free_confirmed first n h frame free)
 
 -- a frame that is free stays so, after a step that doesn't grant it
-free-change : (event : Event) (outcome : Outcome) (old new : State) (frame : ℕ) → Change event outcome old new → ¬ GrantsFrame event outcome frame
-    → ledger.IsFree old.history frame → ledger.IsFree new.history frame
-free-change event outcome old new frame (Change.ledger_stays stays) other free = subst (λ h. ledger.IsFree h frame) (sym stays.0) free
+pub free-change : (event : Event) (outcome : Outcome) (old new : State) (frame : ℕ) → Change event outcome old new → ¬ GrantsFrame event outcome frame
+    → ledger.NoneMayReach old.history frame → ledger.NoneMayReach new.history frame
+free-change event outcome old new frame (Change.ledger_stays stays) other free = subst (λ h. ledger.NoneMayReach h frame) (sym stays.0) free
 free-change event outcome old new frame (Change.grants id page named rights granted low empty extended tickets) other free =
-    subst (λ h. ledger.IsFree h frame) (sym extended)
+    subst (λ h. ledger.NoneMayReach h frame) (sym extended)
     (free_after (entries.Granted id page named rights) old.history frame (λ same. other (subst (GrantsFrame event outcome) same granted)) free)
 free-change event outcome old new frame (Change.releases id page extended next) other free =
-    subst (λ h. ledger.IsFree h frame) (sym extended) (free_after (entries.Released id page new.last_ticket) old.history frame (λ x. x) free)
+    subst (λ h. ledger.NoneMayReach h frame) (sym extended) (free_after (entries.Released id page new.last_ticket) old.history frame (λ x. x) free)
 free-change event outcome old new frame (Change.confirms_some first n most extended tickets reaches) other free =
-    subst (λ h. ledger.IsFree h frame) (sym extended) (free_confirmed first n old.history frame free)
+    subst (λ h. ledger.NoneMayReach h frame) (sym extended) (free_confirmed first n old.history frame free)
 
 -- over a run in which no event grants it
 pub free-run : (old new : State) (events : List Event) (outcomes : List Outcome) (frame : ℕ) → Run old events outcomes new → NoneGrants events outcomes frame
-    → ledger.IsFree old.history frame → ledger.IsFree new.history frame
-free-run old new [] [] frame run none free = subst (λ (s : State). ledger.IsFree s.history frame) (sym run) free
+    → ledger.NoneMayReach old.history frame → ledger.NoneMayReach new.history frame
+free-run old new [] [] frame run none free = subst (λ (s : State). ledger.NoneMayReach s.history frame) (sym run) free
 free-run old new (event ∷ events) (outcome ∷ outcomes) frame (mid, step, run) (other, none) free =
     free-run mid new events outcomes frame run none (free-change event outcome old mid frame (change-step old mid event outcome step) other free)
 free-run old new [] (outcome ∷ outcomes) frame run none free = absurd run
 free-run old new (event ∷ events) [] frame run none free = absurd run
 
 -- what a commit makes may be reached
-made_may : (old new : State) (id frame : ℕ) (outcome : Outcome) (made : AcceptedAccess) → IsSound old → IsOldest old id made → made.frame ≡ frame → ledger.IsFree old.history frame → ⊥
+made_may : (old new : State) (id frame : ℕ) (outcome : Outcome) (made : AcceptedAccess) → IsSound old → IsOldest old id made → made.frame ≡ frame → ledger.NoneMayReach old.history frame → ⊥
 made_may old new id frame outcome made sound (device, at, first) on free =
     free device.id made.access.kind (subst (λ f. May old.history device.id f made.access.kind) on (made_facts old sound id device made at first).1)
 
-pub untouched : (old new : State) (event : Event) (outcome : Outcome) (frame : ℕ) → IsSound old → ledger.IsFree old.history frame → TouchesFrame old event outcome frame → ⊥
+pub untouched : (old new : State) (event : Event) (outcome : Outcome) (frame : ℕ) → IsSound old → ledger.NoneMayReach old.history frame → TouchesFrame old event outcome frame → ⊥
 untouched old new (events.Commit id) (Read bytes) frame sound free (made, oldest, on) = made_may old new id frame (Read bytes) made sound oldest on free
 untouched old new (events.Commit id) (Wrote len) frame sound free (made, oldest, on) = made_may old new id frame (Wrote len) made sound oldest on free
 untouched old new _ _ frame sound free touches = absurd touches

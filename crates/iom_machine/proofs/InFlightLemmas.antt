@@ -15,12 +15,13 @@ use Rattle.iom_machine.specs.declared.state.Attachment.{Attachment}
 use Rattle.iom_machine.specs.declared.state.Attachment.TheVariants.{Detached, Attached, Quarantined, Leaving}
 use Rattle.iom_machine.specs.declared.state.Device.{Device}
 use Rattle.iom_machine.specs.declared.state.AcceptedAccess.{AcceptedAccess}
+use Rattle.iom_machine.specs.declared.state.Mode.{Mode}
 use Rattle.iom_machine.specs.declared.state.Mode.TheVariants.{First, Second, Both}
 use Rattle.iom_machine.specs.declared.state.State.{State}
 use Rattle.iom_machine.specs.Devices.{device_of, replaced_device}
-use Rattle.iom_machine.specs.Requests.{read_of, write_of, page_of, IsWithinPage, MayAccept, MayAnswer, state_after}
+use Rattle.iom_machine.specs.Requests.{read_of, write_of, page_of, IsWithinPage, MayAcceptFormerly, MayAccept, MayAnswer, state_after}
 use Rattle.iom_machine.specs.Machine.{Requests, Makes, Commits, Step}
-use Rattle.iom_machine.specs.Headline.{AsksFor, IsAccepted}
+use Rattle.iom_machine.specs.Headline.{AsksFor}
 use Rattle.iom_machine.proofs.ReachLemmas.{contains_head, contains_tail}
 
 -- a fact by cases of an option, with the case that it is
@@ -80,21 +81,37 @@ pub AllInFlight-weaker : (P Q : ℕ → AcceptedAccess → Type 0) → ((id : �
 AllInFlight-weaker P Q says devices all =
     All-weaker (λ (d : Device). All (P d.id) d.in_flight) (λ (d : Device). All (Q d.id) d.in_flight) (λ d h. All-weaker (P d.id) (Q d.id) (says d.id) d.in_flight h) devices all
 
+-- what may be accepted as in the former mode lingers
+formerly_reach : (mode : Mode) (history : History) (id : ℕ) (access : Access) (frame : ℕ) → MayAcceptFormerly mode history id access frame → May history id frame access.kind
+formerly_reach First history id access frame lingers = (page_of access, lingers.0, inr lingers.1, lingers.2)
+formerly_reach Second history id access frame lingers = (page_of access, lingers.0, inr lingers.1, lingers.2)
+formerly_reach Both history id access frame lingers = (lingers.0, lingers.1, inr lingers.2, lingers.3)
+
 -- what may be accepted may be reached
 accepted_reach : (attachment : Attachment) (state : State) (id : ℕ) (access : Access) (frame : ℕ) → MayAccept attachment state id access frame → May state.history id frame access.kind
 accepted_reach (Attached First ats) state id access frame (inl holds) = (page_of access, holds.0, inl holds.1, holds.2)
 accepted_reach (Attached First ats) state id access frame (inr (none, lingers)) = (page_of access, lingers.0, inr lingers.1, lingers.2)
 accepted_reach (Attached Second ats) state id access frame (inl holds) = (page_of access, holds.0, inl holds.1, holds.2)
 accepted_reach (Attached Second ats) state id access frame (inr (none, lingers)) = (page_of access, lingers.0, inr lingers.1, lingers.2)
-accepted_reach (Attached Both ats) state id access frame may = absurd may
+accepted_reach (Attached Both ats) state id access frame may = may
 accepted_reach Detached state id access frame may = absurd may
-accepted_reach (Quarantined ticket mode ats) state id access frame may = absurd may
-accepted_reach (Leaving ticket mode ats) state id access frame may = absurd may
+accepted_reach (Quarantined ticket mode ats) state id access frame (unconfirmed, formerly) = formerly_reach mode state.history id access frame formerly
+accepted_reach (Leaving ticket mode ats) state id access frame (unconfirmed, formerly) = formerly_reach mode state.history id access frame formerly
 
 -- the outcome says that a request is accepted
 abbrev pub IsAcceptance : Outcome → Type 0
 IsAcceptance (Accepted number) = ⊤
 IsAcceptance _ = ⊥
+
+-- a device that asks for an access is the one that asks for it, and the access the one that it asks for
+pub asked_parts : (d id : ℕ) (asked access : Access) → ◌≡◌ {A = Option (ℕ × Access)} (Some (d, asked)) (Some (id, access)) → (d ≡ id) × (asked ≡ access)
+asked_parts d id asked access same =
+    let pairs : ◌≡◌ {A = ℕ × Access} (d, asked) (id, access) = cc in (ap (λ (p : ℕ × Access). p.0) pairs, ap (λ (p : ℕ × Access). p.1) pairs)
+
+-- the event asked for the access, and was answered that it is accepted
+abbrev pub IsAccepted : Event → Outcome → ℕ → Access → Type 0
+IsAccepted event (Accepted number) id access = AsksFor event id access
+IsAccepted event _ id access = ⊥
 
 pub accepted_if : (event : Event) (outcome : Outcome) (id : ℕ) (access : Access) → AsksFor event id access → IsAcceptance outcome → IsAccepted event outcome id access
 accepted_if event (Accepted number) id access asks accepts = asks
@@ -155,16 +172,16 @@ devices_stay P old new same all = subst (AllInFlight P) (sym same) all
 pub in_flight-step : (P : ℕ → AcceptedAccess → Type 0) (old new : State) (event : Event) (outcome : Outcome) → Step old event outcome new
     → ((id : ℕ) (flight : AcceptedAccess) → IsAccepted event outcome id flight.access → IsWithinPage flight.access → StillMay old.history id flight → P id flight)
     → AllInFlight P old.devices → AllInFlight P new.devices
-in_flight-step P old new (events.PlugRaw id) Done (choice, step) enters all =
+in_flight-step P old new (events.Plug id kind) Done (choice, step) enters all =
     subst (λ (s : State). AllInFlight P s.devices) (sym step.1) (All-push (λ (d : Device). All (P d.id) d.in_flight) old.devices _ all (All-nil (P id)))
-in_flight-step P old new (events.PlugRaw id) (Refused why) (choice, step) enters all = devices_stay P old new (ap (λ (s : State). s.devices) step.1) all
-in_flight-step P old new (events.PlugRaw id) _ (choice, step) enters all = absurd step
-in_flight-step P old new (events.AttachFirst id) Done (choice, step) enters all =
+in_flight-step P old new (events.Plug id kind) (Refused why) (choice, step) enters all = devices_stay P old new (ap (λ (s : State). s.devices) step.1) all
+in_flight-step P old new (events.Plug id kind) _ (choice, step) enters all = absurd step
+in_flight-step P old new (events.Attach id mode ats) Done (choice, step) enters all =
     let found = some_case (device_of old id) _ step.2 in
     subst (λ (s : State). AllInFlight P s.devices) (sym found.2) (AllInFlight-with P old.devices found.0.id _ all (AllInFlight-of P old.devices id found.0 found.1 all))
-in_flight-step P old new (events.AttachFirst id) (Refused why) (choice, step) enters all = devices_stay P old new (ap (λ (s : State). s.devices) step.1) all
-in_flight-step P old new (events.AttachFirst id) _ (choice, step) enters all = absurd step
-in_flight-step P old new (events.Grant id page frame rights) Done (choice, step) enters all = devices_stay P old new (ap (λ (s : State). s.devices) step.3) all
+in_flight-step P old new (events.Attach id mode ats) (Refused why) (choice, step) enters all = devices_stay P old new (ap (λ (s : State). s.devices) step.1) all
+in_flight-step P old new (events.Attach id mode ats) _ (choice, step) enters all = absurd step
+in_flight-step P old new (events.Grant id page frame rights) Done (choice, step) enters all = devices_stay P old new (ap (λ (s : State). s.devices) step.2) all
 in_flight-step P old new (events.Grant id page frame rights) (Refused why) (choice, step) enters all = devices_stay P old new (ap (λ (s : State). s.devices) step.1) all
 in_flight-step P old new (events.Grant id page frame rights) _ (choice, step) enters all = absurd step
 in_flight-step P old new (events.Release id page) (Ticket ticket) (choice, step) enters all = devices_stay P old new (ap (λ (s : State). s.devices) step.2) all
@@ -177,10 +194,10 @@ in_flight-step P old new events.Poll NoneConfirmed (choice, step) enters all = d
 in_flight-step P old new events.Poll _ (choice, step) enters all = absurd step
 in_flight-step P old new (events.Read id address len) outcome (choice, step) enters all =
     in_flight-requests P choice.frame old new id (read_of address len) outcome step
-    (λ accepts within may. enters id _ (accepted_if (events.Read id address len) outcome id (read_of address len) (refl, refl) accepts) within may) all
+    (λ accepts within may. enters id _ (accepted_if (events.Read id address len) outcome id (read_of address len) refl accepts) within may) all
 in_flight-step P old new (events.Write id address bytes) outcome (choice, step) enters all =
     in_flight-requests P choice.frame old new id (write_of address bytes) outcome step
-    (λ accepts within may. enters id _ (accepted_if (events.Write id address bytes) outcome id (write_of address bytes) (refl, refl) accepts) within may) all
+    (λ accepts within may. enters id _ (accepted_if (events.Write id address bytes) outcome id (write_of address bytes) refl accepts) within may) all
 in_flight-step P old new (events.Commit id) outcome (choice, step) enters all = in_flight-commits P old new id outcome step all
 
 -- all elements are so where the first one is, and the later ones are

@@ -18,8 +18,8 @@ use Rattle.std.proofs.lemmas.List.Elements.{All-contains}
 use Rattle.iom_machine.specs.Frames.{FewerThan}
 use Rattle.iom_ledger.specs.declared.entry.HistoryEntry.{HistoryEntry}
 use Rattle.iom_ledger.specs.declared.entry.HistoryEntry.TheVariants.{Granted, Released, AllReleased, Confirmed}
-use Rattle.iom_ledger.specs.History.{History, Pair, is_about, granted_by, held_at, released_by, released_at, confirms, Holds, Lingers, May, IsFree, serves}
-use Rattle.iom_machine.specs.Judging.{holds_for, still_serves, lingers_for, reaches_in, anyone_reaches_in}
+use Rattle.iom_ledger.specs.History.{History, Pair, is_about, granted_by, held_at, released_by, released_at, confirms, Holds, Lingers, May, NoneMayReach, serves}
+use Rattle.iom_machine.specs.Judging.{holds_for, still_serves, lingers_for, lingers_among, reaches_in, anyone_reaches_in}
 use Rattle.iom_machine.proofs.ReachLemmas.{cons_cases, contains_head, contains_tail, contains_from_filter, contains_filter, released_was_held}
 
 -- a test that some element passes, and the element
@@ -194,6 +194,44 @@ may_if_reaches all (Released x p ticket ∷ h) d frame kind e = may_if_reaches a
 may_if_reaches all (AllReleased x ticket ∷ h) d frame kind e = may_if_reaches all h d frame kind e
 may_if_reaches all (Confirmed ticket ∷ h) d frame kind e = may_if_reaches all h d frame kind e
 
+-- the frame lingers at some page, with such a right
+abbrev pub LingersSomewhere : History → ℕ → ℕ → AccessKind → Type 0
+LingersSomewhere history id frame kind =
+    (page : ℕ) × (rights : Rights) × Lingers history id page (frame, rights) × (allows rights kind ≡ true)
+
+-- a page that is granted is looked at for what lingers
+lingering_looked_at : (all h : History) (d page frame : ℕ) (kind : AccessKind) → grants_at h d page ≡ true
+    → lingers_for all all d page kind frame ≡ true → lingers_among all h d frame kind ≡ true
+lingering_looked_at all [] d page frame kind granted passes = absurd (false≢true granted)
+lingering_looked_at all (Granted x p f rights ∷ h) d page frame kind granted passes = by ((x == d) && (p == page)) refl granted (λ g. lingering_looked_at all h d page frame kind g passes)
+  where
+    by : (b : Bool) → ((x == d) && (p == page)) ≡ b → (b || grants_at h d page) ≡ true → (grants_at h d page ≡ true → lingers_among all h d frame kind ≡ true)
+        → lingers_among all (Granted x p f rights ∷ h) d frame kind ≡ true
+    by true e g rest = or_left (lingers_for all all d p kind frame) (lingers_among all h d frame kind)
+        (subst (λ q. lingers_for all all d q kind frame ≡ true) (sym (eqb-true p page (and_parts (x == d) (p == page) e).1)) passes)
+    by false e g rest = or_right (lingers_for all all d p kind frame) (lingers_among all h d frame kind) (rest g)
+lingering_looked_at all (Released x p ticket ∷ h) d page frame kind granted passes = lingering_looked_at all h d page frame kind granted passes
+lingering_looked_at all (AllReleased x ticket ∷ h) d page frame kind granted passes = lingering_looked_at all h d page frame kind granted passes
+lingering_looked_at all (Confirmed ticket ∷ h) d page frame kind granted passes = lingering_looked_at all h d page frame kind granted passes
+
+pub among_if_somewhere : (h : History) (d frame : ℕ) (kind : AccessKind) → LingersSomewhere h d frame kind → lingers_among h h d frame kind ≡ true
+among_if_somewhere h d frame kind (page, rights, lingers, allowed) =
+    lingering_looked_at h h d page frame kind
+    (released_was_granted h d page (lingers.0, (frame, rights)) (contains_from_filter (λ r. not (confirms h r.0)) (released_at h d page) (lingers.0, (frame, rights)) lingers.1).0)
+    (LingersFor-test h d page kind frame (rights, lingers, allowed))
+
+pub somewhere_if_among : (all h : History) (d frame : ℕ) (kind : AccessKind) → lingers_among all h d frame kind ≡ true → LingersSomewhere all d frame kind
+somewhere_if_among all [] d frame kind e = absurd (false≢true e)
+somewhere_if_among all (Granted x p f rights ∷ h) d frame kind e = by (lingers_for all all d p kind frame) refl e (somewhere_if_among all h d frame kind)
+  where
+    by : (b : Bool) → lingers_for all all d p kind frame ≡ b → (b || lingers_among all h d frame kind) ≡ true
+        → (lingers_among all h d frame kind ≡ true → LingersSomewhere all d frame kind) → LingersSomewhere all d frame kind
+    by true lingers x rest = let found = LingersFor-from all d p kind frame lingers in (p, found.0, found.1, found.2)
+    by false lingers x rest = rest x
+somewhere_if_among all (Released x p ticket ∷ h) d frame kind e = somewhere_if_among all h d frame kind e
+somewhere_if_among all (AllReleased x ticket ∷ h) d frame kind e = somewhere_if_among all h d frame kind e
+somewhere_if_among all (Confirmed ticket ∷ h) d frame kind e = somewhere_if_among all h d frame kind e
+
 -- where a pair is held, nothing serves exactly where its right doesn't allow the kind
 pub HoldsNoneFor-by_right : (h : History) (id page : ℕ) (kind : AccessKind) (pair : Pair) → held_at h id page ≡ Some pair
     → (not (allows pair.1 kind) ≡ true → HoldsNoneFor h id page kind) × (HoldsNoneFor h id page kind → not (allows pair.1 kind) ≡ true)
@@ -227,10 +265,10 @@ may_if_anyone all (Released x p ticket ∷ h) frame e = may_if_anyone all h fram
 may_if_anyone all (AllReleased x ticket ∷ h) frame e = may_if_anyone all h frame e
 may_if_anyone all (Confirmed ticket ∷ h) frame e = may_if_anyone all h frame e
 
-pub out_of_reach_test : (h : History) (frame : ℕ) → (not (anyone_reaches_in h h frame) ≡ true → IsFree h frame) × (IsFree h frame → not (anyone_reaches_in h h frame) ≡ true)
+pub out_of_reach_test : (h : History) (frame : ℕ) → (not (anyone_reaches_in h h frame) ≡ true → NoneMayReach h frame) × (NoneMayReach h frame → not (anyone_reaches_in h h frame) ≡ true)
 out_of_reach_test h frame = ((λ none device kind may. false≢true (ap not (sym (anyone_if_may h device frame kind may)) ∙ none)), by (anyone_reaches_in h h frame) refl)
   where
-    by : (b : Bool) → anyone_reaches_in h h frame ≡ b → IsFree h frame → not b ≡ true
+    by : (b : Bool) → anyone_reaches_in h h frame ≡ b → NoneMayReach h frame → not b ≡ true
     by false e out = refl
     by true e out = let found = may_if_anyone h h frame e in absurd (out found.0 Read found.1)
 

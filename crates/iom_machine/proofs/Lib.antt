@@ -1,6 +1,7 @@
 pub mod ReachLemmas
 pub mod ByteLemmas
 pub mod InFlightLemmas
+pub mod DeviceLemmas
 pub mod SoundLemmas
 pub mod HeadlineLemmas
 pub mod ReclaimLemmas

@@ -10,6 +10,7 @@ use Rattle.iom_base.specs.Bytes.{with_bytes}
 use Rattle.iom_base.specs.declared.access.AccessKind.{AccessKind}
 use Rattle.iom_base.specs.declared.access.AccessKind.TheVariants as kinds
 use Rattle.iom_base.specs.declared.rights.Rights.{Rights}
+use Rattle.iom_base.specs.GrantRights.{rights_of}
 use Rattle.iom_ledger.specs.declared.entry.HistoryEntry.{HistoryEntry}
 use Rattle.iom_ledger.specs.declared.entry.HistoryEntry.TheVariants as entries
 use Rattle.iom_ledger.specs.declared.refusal.Refusal.{Refusal}
@@ -32,10 +33,10 @@ use Rattle.iom_machine.specs.Refusals.{NoneApplies, first_that_applies, grant_re
 use Rattle.iom_machine.specs.Requests.{read_of, write_of, offset_of, IsWithinPage, state_after}
 use Rattle.iom_machine.specs.Machine.{Requests, Makes, Commits, Step, Run}
 use Rattle.iom_machine.specs.PowerOn.{opening, empty_frame}
-use Rattle.iom_machine.specs.Headline.{GrantsFrame, AsksFor, IsAccepted, WasAccepted, IsReached, IsReachedBy}
+use Rattle.iom_machine.specs.Headline.{GrantsFrame, AsksFor, IsReached}
 use Rattle.iom_machine.proofs.ReachLemmas.{NamesFrame, reach_before, reach_after_grant, reach_after_release}
 use Rattle.iom_machine.proofs.ByteLemmas.{length-with_bytes}
-use Rattle.iom_machine.proofs.InFlightLemmas.{match_cases, some_case, All-at, AllInFlight, AllInFlight-of, AllInFlight-weaker, StillMay, in_flight-step}
+use Rattle.iom_machine.proofs.InFlightLemmas.{match_cases, some_case, All-at, AllInFlight, AllInFlight-of, AllInFlight-weaker, StillMay, IsAccepted, asked_parts, in_flight-step}
 
 -- an access that stays within its page, and a write with as many bytes as it names
 abbrev pub IsWhole : ℕ → AcceptedAccess → Type 0
@@ -169,15 +170,15 @@ unchanged : (event : Event) (outcome : Outcome) (old new : State) → new ≡ ol
 unchanged event outcome old new same = Change.ledger_stays (all_same old new same)
 
 pub change-step : (old new : State) (event : Event) (outcome : Outcome) → Step old event outcome new → Change event outcome old new
-change-step old new (events.PlugRaw id) Done (choice, step) = Change.ledger_stays (ap (λ (s : State). s.history) step.1, ap (λ (s : State). s.last_ticket) step.1)
-change-step old new (events.PlugRaw id) (Refused why) (choice, step) = unchanged _ _ old new step.1
-change-step old new (events.PlugRaw id) _ (choice, step) = absurd step
-change-step old new (events.AttachFirst id) Done (choice, step) =
+change-step old new (events.Plug id kind) Done (choice, step) = Change.ledger_stays (ap (λ (s : State). s.history) step.1, ap (λ (s : State). s.last_ticket) step.1)
+change-step old new (events.Plug id kind) (Refused why) (choice, step) = unchanged _ _ old new step.1
+change-step old new (events.Plug id kind) _ (choice, step) = absurd step
+change-step old new (events.Attach id mode ats) Done (choice, step) =
     let found = some_case (device_of old id) _ step.2 in Change.ledger_stays (ap (λ (s : State). s.history) found.2, ap (λ (s : State). s.last_ticket) found.2)
-change-step old new (events.AttachFirst id) (Refused why) (choice, step) = unchanged _ _ old new step.1
-change-step old new (events.AttachFirst id) _ (choice, step) = absurd step
+change-step old new (events.Attach id mode ats) (Refused why) (choice, step) = unchanged _ _ old new step.1
+change-step old new (events.Attach id mode ats) _ (choice, step) = absurd step
 change-step old new (events.Grant id page frame rights) Done (choice, step) =
-    Change.grants id page frame rights refl (grant_in_memory old id page frame step.0) (grant_finds_nothing old id page frame step.0) (ap (λ (s : State). s.history) step.3) (ap (λ (s : State). s.last_ticket) step.3)
+    Change.grants id page frame (rights_of rights) refl (grant_in_memory old id page frame step.0) (grant_finds_nothing old id page frame step.0) (ap (λ (s : State). s.history) step.2) (ap (λ (s : State). s.last_ticket) step.2)
 change-step old new (events.Grant id page frame rights) (Refused why) (choice, step) = unchanged _ _ old new step.1
 change-step old new (events.Grant id page frame rights) _ (choice, step) = absurd step
 change-step old new (events.Release id page) (Ticket ticket) (choice, step) =
@@ -291,16 +292,16 @@ frames-commits W P written old new id outcome all step its = elim (match_cases (
 -- A step keeps what reserving frames keeps, and making the writes in flight.
 pub frames-step : (W : AcceptedAccess → Type 0) (P : List Frame → Type 0) → KeptByOwners P → KeptByWrites W P
     → (old new : State) (event : Event) (outcome : Outcome) → AllInFlight (λ id flight. W flight) old.devices → Step old event outcome new → P old.frames → P new.frames
-frames-step W P owned written old new (events.PlugRaw id) Done all (choice, step) its = subst P (sym (ap (λ (s : State). s.frames) step.1)) its
-frames-step W P owned written old new (events.PlugRaw id) (Refused why) all (choice, step) its = subst P (sym (ap (λ (s : State). s.frames) step.1)) its
-frames-step W P owned written old new (events.PlugRaw id) _ all (choice, step) its = absurd step
-frames-step W P owned written old new (events.AttachFirst id) Done all (choice, step) its =
+frames-step W P owned written old new (events.Plug id kind) Done all (choice, step) its = subst P (sym (ap (λ (s : State). s.frames) step.1)) its
+frames-step W P owned written old new (events.Plug id kind) (Refused why) all (choice, step) its = subst P (sym (ap (λ (s : State). s.frames) step.1)) its
+frames-step W P owned written old new (events.Plug id kind) _ all (choice, step) its = absurd step
+frames-step W P owned written old new (events.Attach id mode ats) Done all (choice, step) its =
     let found = some_case (device_of old id) _ step.2 in
     subst P (sym (ap (λ (s : State). s.frames) found.2)) (kept-reserved P owned (OneDevice id) choice.taken old.frames its)
-frames-step W P owned written old new (events.AttachFirst id) (Refused why) all (choice, step) its = subst P (sym (ap (λ (s : State). s.frames) step.1)) its
-frames-step W P owned written old new (events.AttachFirst id) _ all (choice, step) its = absurd step
+frames-step W P owned written old new (events.Attach id mode ats) (Refused why) all (choice, step) its = subst P (sym (ap (λ (s : State). s.frames) step.1)) its
+frames-step W P owned written old new (events.Attach id mode ats) _ all (choice, step) its = absurd step
 frames-step W P owned written old new (events.Grant id page frame rights) Done all (choice, step) its =
-    subst P (sym (ap (λ (s : State). s.frames) step.3)) (kept-reserved P owned (OneDevice id) choice.taken old.frames its)
+    subst P (sym (ap (λ (s : State). s.frames) step.2)) (kept-reserved P owned (OneDevice id) choice.taken old.frames its)
 frames-step W P owned written old new (events.Grant id page frame rights) (Refused why) all (choice, step) its = subst P (sym (ap (λ (s : State). s.frames) step.1)) its
 frames-step W P owned written old new (events.Grant id page frame rights) _ all (choice, step) its = absurd step
 frames-step W P owned written old new (events.Release id page) (Ticket ticket) all (choice, step) its = subst P (sym (ap (λ (s : State). s.frames) step.2)) its
@@ -351,9 +352,11 @@ named_bytes : (event : Event) (outcome : Outcome) (id : ℕ) (access : Access) �
 named_bytes event (Accepted number) id access accepted write = by event accepted
   where
     by : (event : Event) → AsksFor event id access → length access.bytes ≡ access.len
-    by (events.Read d address len) asks = let same : kinds.Read ≡ kinds.Write = sym (ap (λ (a : Access). a.kind) asks.1) ∙ write in cc
-    by (events.Write d address bytes) asks = subst (λ (a : Access). length a.bytes ≡ a.len) (sym asks.1) refl
-    by _ asks = absurd asks
+    by (events.Read d address len) asks =
+        let what : read_of address len ≡ access = (asked_parts d id (read_of address len) access asks).1 in
+        let same : kinds.Read ≡ kinds.Write = ap (λ (a : Access). a.kind) what ∙ write in cc
+    by (events.Write d address bytes) asks = subst (λ (a : Access). length a.bytes ≡ a.len) (asked_parts d id (write_of address bytes) access asks).1 refl
+    by _ asks = cc
 named_bytes event _ id access accepted write = absurd accepted
 
 pub sound-step : (old new : State) (event : Event) (outcome : Outcome) → IsSound old → Step old event outcome new → IsSound new
@@ -393,32 +396,3 @@ sound-opening frames levels = record {
 -- every state that is reached is sound
 pub sound_if_reached : (state : State) → IsReached state → IsSound state
 sound_if_reached state (events, outcomes, (frames, levels, run)) = sound-run (opening frames levels) state events outcomes (sound-opening frames levels) run
-
--- what is in flight was in flight before, or was accepted since
-accepted-run : (P : ℕ → AcceptedAccess → Type 0) (old new : State) (events : List Event) (outcomes : List Outcome) → Run old events outcomes new → AllInFlight P old.devices
-    → AllInFlight (λ id flight. P id flight ⊎ WasAccepted events outcomes id flight.access) new.devices
-accepted-run P old new [] [] run all = AllInFlight-weaker P (λ id flight. P id flight ⊎ ⊥) (λ id flight its. inl its) new.devices (subst (λ (s : State). AllInFlight P s.devices) (sym run) all)
-accepted-run P old new (event ∷ events) (outcome ∷ outcomes) (mid, step, run) all =
-    let entered = in_flight-step (λ id flight. P id flight ⊎ IsAccepted event outcome id flight.access) old mid event outcome step
-    (λ id flight accepted within may. inr accepted) (AllInFlight-weaker P (λ id flight. P id flight ⊎ IsAccepted event outcome id flight.access) (λ id flight its. inl its) old.devices all) in
-    AllInFlight-weaker (λ id flight. (P id flight ⊎ IsAccepted event outcome id flight.access) ⊎ WasAccepted events outcomes id flight.access)
-    (λ id flight. P id flight ⊎ WasAccepted (event ∷ events) (outcome ∷ outcomes) id flight.access) (λ id flight found. by id flight found) new.devices
-    (accepted-run (λ id flight. P id flight ⊎ IsAccepted event outcome id flight.access) mid new events outcomes run entered)
-  where
-    by : (id : ℕ) (flight : AcceptedAccess) → (P id flight ⊎ IsAccepted event outcome id flight.access) ⊎ WasAccepted events outcomes id flight.access
-        → P id flight ⊎ WasAccepted (event ∷ events) (outcome ∷ outcomes) id flight.access
-    by id flight (inl (inl before)) = inl before
-    by id flight (inl (inr now)) = inr (inl now)
-    by id flight (inr later) = inr (inr later)
-accepted-run P old new [] (outcome ∷ outcomes) run all = absurd run
-accepted-run P old new (event ∷ events) [] run all = absurd run
-
-pub in_flight_was_accepted : (state : State) (events : List Event) (outcomes : List Outcome) → IsReachedBy events outcomes state
-    → AllInFlight (λ id flight. WasAccepted events outcomes id flight.access) state.devices
-in_flight_was_accepted state events outcomes (frames, levels, run) =
-    AllInFlight-weaker (λ id flight. ⊥ ⊎ WasAccepted events outcomes id flight.access) (λ id flight. WasAccepted events outcomes id flight.access) (λ id flight found. by id flight found) state.devices
-    (accepted-run (λ id flight. ⊥) (opening frames levels) state events outcomes run (All-nil (λ (d : Device). All (λ flight. ⊥) d.in_flight)))
-  where
-    by : (id : ℕ) (flight : AcceptedAccess) → ⊥ ⊎ WasAccepted events outcomes id flight.access → WasAccepted events outcomes id flight.access
-    by id flight (inl never) = absurd never
-    by id flight (inr found) = found

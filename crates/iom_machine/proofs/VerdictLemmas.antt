@@ -1,10 +1,11 @@
 -- What the judge finds of the first line and of the later ones.
-use Rattle.std.proofs.Common.{◌≡◌, ◌↔◌, ℕ, zero, suc, ◌+◌, ◌-◌, ◌<◌, List, [], ◌∷◌, map, length, take, drop, Option, None, Some, Result, Ok, Err, IfOk, IfSome, slice_get, refl, sym, ap, ◌∙◌, subst, arith}
+use Rattle.std.proofs.Common.{◌≡◌, ◌↔◌, ℕ, zero, suc, ◌+◌, ◌≤◌, List, [], ◌∷◌, map, length, drop, Option, None, Some, Result, Ok, Err, IfOk, IfSome, slice_get, refl, sym, ap, ◌∙◌, subst, arith}
 use Rattle.std.proofs.lemmas.Grind.{common_steps}
 use Rattle.std.specs.declared.alloc.AllocError.{AllocError}
 use Rattle.iom_machine.specs.declared.choice.Choice.{Choice}
 use Rattle.iom_machine.specs.declared.event.Event.{Event}
 use Rattle.iom_machine.specs.declared.line.Line.{Line}
+use Rattle.iom_machine.specs.declared.line.Verdict.{Verdict}
 use Rattle.iom_machine.specs.declared.line.Verdict.TheVariants.{Lawful, Unlawful}
 use Rattle.iom_machine.specs.declared.outcome.Outcome.{Outcome}
 use Rattle.iom_machine.specs.declared.state.State.{State}
@@ -20,20 +21,6 @@ pub same_size_if_ok : (result : Result (Option State) AllocError) (choice : Choi
 same_size_if_ok (Ok None) choice old event outcome decides = tt
 same_size_if_ok (Ok (Some new)) choice old event outcome decides = same_size-step old new event outcome (choice, (decides new).0 refl)
 same_size_if_ok (Err e) choice old event outcome decides = decides
-
--- the lines, as a slice pattern has them
-pub lines_of : (lines : List Line) (line : Line) → slice_get lines 0 ≡ Some line → line ∷ take (length lines - 1) (drop 1 lines) ≡ lines
-lines_of [] line at = cc
-lines_of (first ∷ later) line at =
-    let same : first ≡ line = cc in
-    let rest : take (length (first ∷ later) - 1) (drop 1 (first ∷ later)) ≡ later = grind (arith, common_steps) in
-    ap (λ (l : Line). l ∷ take (length (first ∷ later) - 1) (drop 1 (first ∷ later))) (sym same) ∙ ap (λ (ls : List Line). first ∷ ls) rest
-
--- the line that may not come is one of them
-pub stops_below : (k : ℕ) (old : State) (lines : List Line) → FirstUnlawfulAt k old lines → k < length lines
-stops_below k old [] stops = absurd stops
-stops_below zero old (line ∷ lines) stops = omega arith
-stops_below (suc k) old (line ∷ lines) (mid, step, stops) = let below : k < length lines = stops_below k mid lines stops in omega arith
 
 -- the line decides the next state
 abbrev pub Leaves : State → Line → State → Type 0
@@ -76,6 +63,75 @@ verdict_unlawful old next place line later leaves (runs, stops) = (
     backward (suc k) (mid, step, stop) =
         let same : Unlawful place ≡ Unlawful k = (stops k).1 (subst (λ s. FirstUnlawfulAt k s later) (left_state old next line mid leaves step) stop) in
         let numbers : place ≡ k = cc in ap (λ n. Unlawful n) (one_more ∙ ap suc numbers)
+
+-- the verdict on a list of lines, by that on the list without its first so many
+abbrev pub later_by : ℕ → Verdict → Verdict
+later_by count (Lawful last) = Lawful last
+later_by count (Unlawful place) = Unlawful (count + place)
+
+-- the first so many lines lead to a state: what is found of the others there is found of all
+abbrev pub LeadsTo : State → List Line → ℕ → State → Type 0
+LeadsTo old lines count reached =
+    (verdict : Verdict) → IsVerdict reached (drop count lines) verdict → IsVerdict old lines (later_by count verdict)
+
+pub leads_to_none : (old : State) (lines : List Line) → LeadsTo old lines 0 old
+leads_to_none old lines (Lawful last) is = is
+leads_to_none old lines (Unlawful place) is = let none : place ≡ 0 + place = omega arith in subst (λ n. IsVerdict old lines (Unlawful n)) none is
+
+-- the others, from a line on
+pub drop_at : (lines : List Line) (count : ℕ) (line : Line) → slice_get lines count ≡ Some line → drop count lines ≡ line ∷ drop (suc count) lines
+drop_at [] count line at = cc
+drop_at (first ∷ later) zero line at = let same : first ≡ line = cc in ap (λ (l : Line). l ∷ later) same
+drop_at (first ∷ later) (suc count) line at = drop_at later count line at
+
+-- one line more leads on
+pub leads_to_next : (old reached next : State) (lines : List Line) (count : ℕ) (line : Line)
+    → slice_get lines count ≡ Some line → Leaves reached line next → LeadsTo old lines count reached → LeadsTo old lines (count + 1) next
+leads_to_next old reached next lines count line at leaves leads (Lawful last) is =
+    leads (Lawful last) (subst (λ ls. IsVerdict reached ls (Lawful last)) (sym (drop_at lines count line at)) (verdict_lawful reached next last line _ leaves (as_later count is)))
+  where
+    as_later : (n : ℕ) → IsVerdict next (drop (n + 1) lines) (Lawful last) → IsVerdict next (drop (suc n) lines) (Lawful last)
+    as_later n found = let one_more : n + 1 ≡ suc n = omega arith in subst (λ m. IsVerdict next (drop m lines) (Lawful last)) one_more found
+leads_to_next old reached next lines count line at leaves leads (Unlawful place) is =
+    let numbers : count + (place + 1) ≡ count + 1 + place = omega arith in
+    subst (λ n. IsVerdict old lines (Unlawful n)) numbers
+    (leads (Unlawful (place + 1)) (subst (λ ls. IsVerdict reached ls (Unlawful (place + 1))) (sym (drop_at lines count line at)) (verdict_unlawful reached next place line _ leaves (as_later count is))))
+  where
+    as_later : (n : ℕ) → IsVerdict next (drop (n + 1) lines) (Unlawful place) → IsVerdict next (drop (suc n) lines) (Unlawful place)
+    as_later n found = let one_more : n + 1 ≡ suc n = omega arith in subst (λ m. IsVerdict next (drop m lines) (Unlawful place)) one_more found
+
+-- a line that may not come is the first such one
+pub stops_at : (old reached : State) (lines : List Line) (count : ℕ) (line : Line)
+    → slice_get lines count ≡ Some line → ((new : State) → ¬ LineStep reached line new) → LeadsTo old lines count reached → IsVerdict old lines (Unlawful count)
+stops_at old reached lines count line at never leads =
+    let none : count + 0 ≡ count = omega arith in
+    subst (λ n. IsVerdict old lines (Unlawful n)) none
+    (leads (Unlawful 0) (subst (λ ls. IsVerdict reached ls (Unlawful 0)) (sym (drop_at lines count line at)) first))
+  where
+    later : List Line
+    later = drop (suc count) lines
+
+    forward : (k : ℕ) → Unlawful 0 ≡ Unlawful k → FirstUnlawfulAt k reached (line ∷ later)
+    forward k same = let numbers : 0 ≡ k = cc in subst (λ n. FirstUnlawfulAt n reached (line ∷ later)) numbers never
+
+    backward : (k : ℕ) → FirstUnlawfulAt k reached (line ∷ later) → Unlawful 0 ≡ Unlawful k
+    backward zero stop = refl
+    backward (suc k) (mid, step, stop) = absurd (never mid step)
+
+    first : IsVerdict reached (line ∷ later) (Unlawful 0)
+    first = ((λ new. ((λ same. cc), (λ run. absurd (never run.0 run.1)))), (λ k. (forward k, backward k)))
+
+-- after the last line
+pub ends_at : (old reached : State) (lines : List Line) (count : ℕ) → length lines ≤ count → LeadsTo old lines count reached → IsVerdict old lines (Lawful reached)
+ends_at old reached lines count all leads = leads (Lawful reached) (subst (λ ls. IsVerdict reached ls (Lawful reached)) (sym (nothing lines count all)) empty)
+  where
+    nothing : (ls : List Line) (n : ℕ) → length ls ≤ n → drop n ls ≡ []
+    nothing [] n all = grind (arith, common_steps)
+    nothing (first ∷ later) zero all = absurd (omega (arith, all))
+    nothing (first ∷ later) (suc n) all = nothing later n (omega (arith, all))
+
+    empty : IsVerdict reached [] (Lawful reached)
+    empty = ((λ new. ((λ same. let h : reached ≡ new = cc in sym h), (λ run. ap (λ s. Lawful s) (sym run)))), (λ k. ((λ same. cc), (λ stop. absurd stop))))
 
 -- a run, line by line
 pub lines_of_run : (old new : State) (events : List Event) (outcomes : List Outcome) → Run old events outcomes new

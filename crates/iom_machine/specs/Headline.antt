@@ -1,11 +1,12 @@
 -- After any list of events from power-on: what a made access touched, what was accepted and on which frame, and what no device touched.
-use Rattle.std.specs.Prelude.{◌≡◌, ◌≢◌, ℕ, ◌+◌, ◌<◌, ◌≤◌, ◌⊎◌, Bool, List, ◌∷◌, length, All, Option, Some, slice_get, ⊤}
+use Rattle.std.specs.Prelude.{◌≡◌, ◌≢◌, ℕ, ◌+◌, ◌<◌, ◌≤◌, ◌⊎◌, ◌==◌, Bool, List, [], ◌∷◌, ◌++◌, length, map, All, Option, None, Some, if◌then◌else◌, slice_get, ⊤}
+use Rattle.std.specs.Option.{option_map_or}
 use Rattle.iom_base.specs.declared.access.AccessKind.TheVariants as kinds
 use Rattle.iom_ledger.specs.History.{May}
 use Rattle.iom_machine.specs.declared.event.Event.{Event}
 use Rattle.iom_machine.specs.declared.event.Event.TheVariants as events
 use Rattle.iom_machine.specs.declared.outcome.Outcome.{Outcome}
-use Rattle.iom_machine.specs.declared.outcome.Outcome.TheVariants.{Done, Accepted, Read, Wrote}
+use Rattle.iom_machine.specs.declared.outcome.Outcome.TheVariants.{Done, Refused, Ticket, Confirmed, NoneConfirmed, Fetched, Accepted, Busy, BadSpan, Fault, Read, Wrote, NothingInFlight}
 use Rattle.iom_machine.specs.declared.state.Access.{Access}
 use Rattle.iom_machine.specs.declared.state.Attachment.TheVariants.{Attached}
 use Rattle.iom_machine.specs.declared.state.Device.{Device}
@@ -58,24 +59,77 @@ TouchesItsOwn old id (Wrote len) new =
     (made : AcceptedAccess) × IsOldest old id made × May old.history id made.frame kinds.Write
     × (len ≡ made.access.len) × AreNamedBytes new.frames made made.access.bytes
     × ((frame offset : ℕ) → IsOutside made frame offset → byte_in new.frames frame offset ≡ byte_in old.frames frame offset)
-TouchesItsOwn old id _ new = new.frames ≡ old.frames
+TouchesItsOwn old id NothingInFlight new = new.frames ≡ old.frames
+TouchesItsOwn old id (Refused why) new = new.frames ≡ old.frames
+-- no other outcome comes of a commit
+TouchesItsOwn old id _ new = ⊥
+
+-- the access that the event asks for, with the device that asks
+abbrev pub asked_by : Event → Option (ℕ × Access)
+asked_by (events.Read id address len) = Some (id, read_of address len)
+asked_by (events.Write id address bytes) = Some (id, write_of address bytes)
+asked_by (events.Plug id kind) = None
+asked_by (events.Attach id mode ats) = None
+asked_by (events.Grant id page frame rights) = None
+asked_by (events.Release id page) = None
+asked_by events.Fetch = None
+asked_by events.Poll = None
+asked_by (events.Commit id) = None
 
 -- the event asks for this access of this device
 abbrev pub AsksFor : Event → ℕ → Access → Type 0
-AsksFor (events.Read d address len) id access = (d ≡ id) × (access ≡ read_of address len)
-AsksFor (events.Write d address bytes) id access = (d ≡ id) × (access ≡ write_of address bytes)
-AsksFor _ id access = ⊥
+AsksFor event id access = asked_by event ≡ Some (id, access)
 
--- the event asked for the access, and was answered that it is accepted
-abbrev pub IsAccepted : Event → Outcome → ℕ → Access → Type 0
-IsAccepted event (Accepted number) id access = AsksFor event id access
-IsAccepted event _ id access = ⊥
+-- the access of the device that is accepted at the event, if one is
+abbrev pub accepted_by : Event → Outcome → ℕ → List Access
+accepted_by event (Accepted number) id = option_map_or (λ asked. if asked.0 == id then asked.1 ∷ [] else []) (asked_by event) []
+accepted_by event Done id = []
+accepted_by event (Refused why) id = []
+accepted_by event (Ticket ticket) id = []
+accepted_by event (Confirmed first last) id = []
+accepted_by event NoneConfirmed id = []
+accepted_by event (Fetched result) id = []
+accepted_by event Busy id = []
+accepted_by event BadSpan id = []
+accepted_by event (Fault cause) id = []
+accepted_by event (Read bytes) id = []
+accepted_by event (Wrote len) id = []
+accepted_by event NothingInFlight id = []
 
--- one of the events asked for the access, and was accepted
-abbrev pub WasAccepted : List Event → List Outcome → ℕ → Access → Type 0
-WasAccepted (event ∷ events) (outcome ∷ outcomes) id access =
-    IsAccepted event outcome id access ⊎ WasAccepted events outcomes id access
-WasAccepted _ _ id access = ⊥
+-- the accesses of the device that are accepted at the events, in order
+abbrev pub accepted_in : List Event → List Outcome → ℕ → List Access
+accepted_in (event ∷ events) (outcome ∷ outcomes) id = accepted_by event outcome id ++ accepted_in events outcomes id
+accepted_in _ _ id = []
+
+-- how many accesses of the device the event makes
+abbrev pub made_by : Event → Outcome → ℕ → ℕ
+made_by (events.Commit d) (Read bytes) id = if d == id then 1 else 0
+made_by (events.Commit d) (Wrote len) id = if d == id then 1 else 0
+made_by (events.Commit d) NothingInFlight id = 0
+made_by (events.Commit d) (Refused why) id = 0
+-- no other outcome comes of a commit
+made_by (events.Commit d) _ id = 0
+made_by (events.Plug d kind) outcome id = 0
+made_by (events.Attach d mode ats) outcome id = 0
+made_by (events.Grant d page frame rights) outcome id = 0
+made_by (events.Release d page) outcome id = 0
+made_by events.Fetch outcome id = 0
+made_by events.Poll outcome id = 0
+made_by (events.Read d address len) outcome id = 0
+made_by (events.Write d address bytes) outcome id = 0
+
+-- and the events
+abbrev pub made_in : List Event → List Outcome → ℕ → ℕ
+made_in (event ∷ events) (outcome ∷ outcomes) id = made_by event outcome id + made_in events outcomes id
+made_in _ _ id = 0
+
+-- The accesses of the device that were accepted at these events are, in order, those that were made, and then those that are in flight; and the device
+-- counts them.
+pub record WereAccepted (events : List Event) (outcomes : List Outcome) (device : Device) : Type 0 where
+  pub made : List Access
+  pub as_many : length made ≡ made_in events outcomes device.id
+  pub in_order : accepted_in events outcomes device.id ≡ made ++ map (λ flight. flight.access) device.in_flight
+  pub counted : device.accepted ≡ length (accepted_in events outcomes device.id)
 
 -- attached in one stage, with ATS or without
 abbrev pub IsOneStage : Device → Type 0
@@ -84,7 +138,17 @@ IsOneStage device = (ats : Bool) × ((device.attachment ≡ Attached First ats) 
 -- the event grants the frame to a device
 abbrev pub GrantsFrame : Event → Outcome → ℕ → Type 0
 GrantsFrame (events.Grant id page named rights) Done frame = named ≡ frame
-GrantsFrame _ _ frame = ⊥
+GrantsFrame (events.Grant id page named rights) (Refused why) frame = ⊥
+-- no other outcome comes of a grant
+GrantsFrame (events.Grant id page named rights) _ frame = ⊥
+GrantsFrame (events.Plug id kind) outcome frame = ⊥
+GrantsFrame (events.Attach id mode ats) outcome frame = ⊥
+GrantsFrame (events.Release id page) outcome frame = ⊥
+GrantsFrame events.Fetch outcome frame = ⊥
+GrantsFrame events.Poll outcome frame = ⊥
+GrantsFrame (events.Read id address len) outcome frame = ⊥
+GrantsFrame (events.Write id address bytes) outcome frame = ⊥
+GrantsFrame (events.Commit id) outcome frame = ⊥
 
 -- no event grants the frame
 abbrev pub NoneGrants : List Event → List Outcome → ℕ → Type 0
@@ -95,7 +159,18 @@ NoneGrants _ _ frame = ⊤
 abbrev pub TouchesFrame : State → Event → Outcome → ℕ → Type 0
 TouchesFrame old (events.Commit id) (Read bytes) frame = (made : AcceptedAccess) × IsOldest old id made × (made.frame ≡ frame)
 TouchesFrame old (events.Commit id) (Wrote len) frame = (made : AcceptedAccess) × IsOldest old id made × (made.frame ≡ frame)
-TouchesFrame old _ _ frame = ⊥
+TouchesFrame old (events.Commit id) NothingInFlight frame = ⊥
+TouchesFrame old (events.Commit id) (Refused why) frame = ⊥
+-- no other outcome comes of a commit
+TouchesFrame old (events.Commit id) _ frame = ⊥
+TouchesFrame old (events.Plug id kind) outcome frame = ⊥
+TouchesFrame old (events.Attach id mode ats) outcome frame = ⊥
+TouchesFrame old (events.Grant id page named rights) outcome frame = ⊥
+TouchesFrame old (events.Release id page) outcome frame = ⊥
+TouchesFrame old events.Fetch outcome frame = ⊥
+TouchesFrame old events.Poll outcome frame = ⊥
+TouchesFrame old (events.Read id address len) outcome frame = ⊥
+TouchesFrame old (events.Write id address bytes) outcome frame = ⊥
 
 -- An access that is made touches exactly its named bytes, in a frame that the history then shows held by that device with that right,
 -- or released by it so and unconfirmed.
@@ -137,11 +212,11 @@ FreeFramesAreNotTouched =
 abbrev pub AccessesInFlightMay : Type 0
 AccessesInFlightMay = (state : State) → IsReached state → EachInFlightMay state
 
--- Every access in flight was asked for by an earlier event of its device, with that address, length and bytes, and accepted.
+-- Every access in flight was asked for by an earlier event of its own, of its device, with that address, length and bytes, and accepted.
 abbrev pub AccessesInFlightWereAccepted : Type 0
 AccessesInFlightWereAccepted =
     (state : State) (events : List Event) (outcomes : List Outcome) → IsReachedBy events outcomes state
-    → All (λ device. All (λ flight. WasAccepted events outcomes device.id flight.access) device.in_flight) state.devices
+    → All (WereAccepted events outcomes) state.devices
 
 -- A commit is always answered: what is in flight is made, and nothing is kept back.
 abbrev pub CommitsAreAnswered : Type 0

@@ -31,6 +31,15 @@ reaches_in all (Released d page ticket ∷ before) device frame kind = reaches_i
 reaches_in all (AllReleased d ticket ∷ before) device frame kind = reaches_in all before device frame kind
 reaches_in all (Confirmed ticket ∷ before) device frame kind = reaches_in all before device frame kind
 
+-- whether the frame lingers at one of the pages that these entries grant, with such a right
+abbrev pub lingers_among : History → History → ℕ → ℕ → AccessKind → Bool
+lingers_among all [] device frame kind = false
+lingers_among all (Granted d page f rights ∷ before) device frame kind =
+    lingers_for all all device page kind frame || lingers_among all before device frame kind
+lingers_among all (Released d page ticket ∷ before) device frame kind = lingers_among all before device frame kind
+lingers_among all (AllReleased d ticket ∷ before) device frame kind = lingers_among all before device frame kind
+lingers_among all (Confirmed ticket ∷ before) device frame kind = lingers_among all before device frame kind
+
 -- whether a device to which these entries grant anything reaches the frame
 abbrev pub anyone_reaches_in : History → History → ℕ → Bool
 anyone_reaches_in all [] frame = false

@@ -1,11 +1,11 @@
 -- The ledger machine: what may come of each event, and the state after it.
 use Rattle.std.specs.Prelude.{◌≡◌, ℕ, ◌+◌, Bool, false, List, [], ◌∷◌, ◌++◌, All, Some, MatchOption, IsSomeAnd, slice_get, slice_range, drop, ⊤}
 use Rattle.iom_base.specs.declared.access.AccessKind.TheVariants as kinds
-use Rattle.iom_base.specs.declared.rights.Rights.{Rights}
+use Rattle.iom_base.specs.declared.grant_rights.GrantRights.{GrantRights}
 use Rattle.iom_ledger.specs.declared.entry.HistoryEntry.TheVariants as entry
 use Rattle.iom_ledger.specs.declared.refusal.Refusal.TheVariants.{NoSuchDevice}
 use Rattle.iom_ledger.specs.History.{May}
-use Rattle.iom_base.specs.Rights.{IsGrantable}
+use Rattle.iom_base.specs.GrantRights.{rights_of}
 use Rattle.iom_machine.specs.declared.choice.Choice.{Choice}
 use Rattle.iom_machine.specs.declared.event.Event.{Event}
 use Rattle.iom_machine.specs.declared.event.Event.TheVariants as events
@@ -27,10 +27,18 @@ use Rattle.iom_machine.specs.Tickets.{AreNextTickets, with_confirmed}
 use Rattle.iom_machine.specs.Refusals.{NoneApplies, IsRefusedBy, MayRefusePlug, MayRefuseAttach, MayRefuseGrant, MayRefuseRelease, plug_reasons, attach_reasons, grant_reasons, release_reasons}
 use Rattle.iom_machine.specs.Requests.{read_of, write_of, offset_of, MayAnswer, state_after}
 
--- the event can come: a right that is to be granted is R or RW
+-- The event can come, so far: of devices raw ones alone, and of attachments those in the first stage without ATS. The steps below say what the others
+-- lead to all the same; nothing that asks for this takes them yet.
 abbrev pub IsEvent : Event → Type 0
-IsEvent (events.Grant id page frame rights) = IsGrantable rights
-IsEvent _ = ⊤
+IsEvent (events.Plug id kind) = kind ≡ Raw
+IsEvent (events.Attach id mode ats) = (mode ≡ First) × (ats ≡ false)
+IsEvent (events.Grant id page frame rights) = ⊤
+IsEvent (events.Release id page) = ⊤
+IsEvent events.Fetch = ⊤
+IsEvent events.Poll = ⊤
+IsEvent (events.Read id address len) = ⊤
+IsEvent (events.Write id address bytes) = ⊤
+IsEvent (events.Commit id) = ⊤
 
 -- a device as it is plugged in: detached, with nothing in flight
 abbrev pub plugged_device : ℕ → DeviceKind → Device
@@ -57,12 +65,11 @@ Attaches taken old id mode ats (Refused why) new =
 Attaches taken old id mode ats _ new = ⊥
 
 -- A device gets a frame at a page. Some other free frames become its tables.
-abbrev pub Grants : List ℕ → State → ℕ → ℕ → ℕ → Rights → Outcome → State → Type 0
+abbrev pub Grants : List ℕ → State → ℕ → ℕ → ℕ → GrantRights → Outcome → State → Type 0
 Grants taken old id page frame rights Done new =
-    NoneApplies (grant_reasons old id page frame) × IsGrantable rights
-    × All (IsFreeBesides old (Some frame)) taken
+    NoneApplies (grant_reasons old id page frame) × All (IsFreeBesides old (Some frame)) taken
     × (new ≡ record old {
-      history = entry.Granted id page frame rights ∷ old.history;
+      history = entry.Granted id page frame (rights_of rights) ∷ old.history;
       frames = reserved_for (OneDevice id) taken old.frames;
     })
 Grants taken old id page frame rights (Refused why) new =
@@ -132,8 +139,8 @@ Commits old id outcome new = Acts (λ device. Makes old device outcome new) old 
 
 -- The event may have this outcome, and leave this state, where what the outcome doesn't show is chosen so.
 abbrev pub ChosenStep : Choice → State → Event → Outcome → State → Type 0
-ChosenStep choice old (events.PlugRaw id) outcome new = Plugs old id Raw outcome new
-ChosenStep choice old (events.AttachFirst id) outcome new = Attaches choice.taken old id First false outcome new
+ChosenStep choice old (events.Plug id kind) outcome new = Plugs old id kind outcome new
+ChosenStep choice old (events.Attach id mode ats) outcome new = Attaches choice.taken old id mode ats outcome new
 ChosenStep choice old (events.Grant id page frame rights) outcome new = Grants choice.taken old id page frame rights outcome new
 ChosenStep choice old (events.Release id page) outcome new = Releases old id page outcome new
 ChosenStep choice old events.Fetch outcome new = Fetches old outcome new

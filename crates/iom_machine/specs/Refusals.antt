@@ -12,7 +12,7 @@ use Rattle.iom_machine.specs.declared.state.Mode.TheVariants.{First, Second, Bot
 use Rattle.iom_machine.specs.declared.state.Attachment.{Attachment}
 use Rattle.iom_machine.specs.declared.state.Attachment.TheVariants.{Detached, Quarantined, Leaving}
 use Rattle.iom_machine.specs.declared.state.State.{State}
-use Rattle.iom_machine.specs.Frames.{is_reserved, IsFree, IsFreeBesides, FewerThan}
+use Rattle.iom_machine.specs.Frames.{is_reserved, IsFree, IsFreeBesides, IsFreeRun, FewerThan}
 use Rattle.iom_machine.specs.Devices.{device_of}
 use Rattle.iom_machine.specs.Tickets.{pending_tickets}
 
@@ -126,12 +126,12 @@ abbrev pub MayRefusePlug : Refusal → Type 0
 MayRefusePlug Memory = ⊤
 MayRefusePlug _ = ⊥
 
--- An attach in the mode may find too few free frames. In the first stage it takes at most three, for two pages of the device directory and a root.
--- No step leads to the second or both stages yet, so nothing is said of them.
+-- An attach in the mode may find too few free frames. In the first stage it takes at most three, for two pages of the device directory and a root. In the
+-- others those two pages may break two of the free runs, one of which its root would take.
 abbrev pub MayLackFrames : State → Mode → Type 0
 MayLackFrames state First = FewerThan 3 (IsFree state)
-MayLackFrames state Second = ⊥
-MayLackFrames state Both = ⊥
+MayLackFrames state Second = FewerThan 3 (IsFreeRun state)
+MayLackFrames state Both = FewerThan 3 (IsFreeRun state)
 
 -- an attach may find too few free frames for its tables, or no memory
 abbrev pub MayRefuseAttach : State → Mode → Refusal → Type 0

@@ -1,5 +1,5 @@
 -- What a device's request may be answered: the first of a bad span, eight in flight, and what the history says of the page.
-use Rattle.std.specs.Prelude.{◌≡◌, ℕ, ◌+◌, ◌/◌, ◌%◌, ◌≤◌, ◌⊎◌, true, List, [], ◌∷◌, ◌++◌, length, if◌then◌else◌}
+use Rattle.std.specs.Prelude.{◌≡◌, ℕ, ◌+◌, ◌/◌, ◌%◌, ◌≤◌, ◌⊎◌, true, false, List, [], ◌∷◌, ◌++◌, length, if◌then◌else◌}
 use Rattle.iom_base.specs.declared.access.AccessKind.{AccessKind}
 use Rattle.iom_base.specs.declared.access.AccessKind.TheVariants.{Read, Write}
 use Rattle.iom_base.specs.declared.cause.Cause.{Cause}
@@ -8,13 +8,14 @@ use Rattle.iom_base.specs.declared.rights.Rights.{Rights}
 use Rattle.iom_base.specs.Causes.{page_fault_of, guest_page_fault_of}
 use Rattle.iom_base.specs.Rights.{allows}
 use Rattle.iom_base.specs.Spans.{FitsInPage}
-use Rattle.iom_ledger.specs.History.{History, Holds, Lingers}
+use Rattle.iom_ledger.specs.History.{History, Holds, Lingers, May, confirms}
 use Rattle.iom_machine.specs.declared.outcome.Outcome.{Outcome}
 use Rattle.iom_machine.specs.declared.outcome.Outcome.TheVariants.{Accepted, Busy, BadSpan, Fault}
 use Rattle.iom_machine.specs.declared.state.Access.{Access}
 use Rattle.iom_machine.specs.declared.state.Attachment.{Attachment}
 use Rattle.iom_machine.specs.declared.state.Attachment.TheVariants.{Detached, Attached, Quarantined, Leaving}
 use Rattle.iom_machine.specs.declared.state.Device.{Device}
+use Rattle.iom_machine.specs.declared.state.Mode.{Mode}
 use Rattle.iom_machine.specs.declared.state.Mode.TheVariants.{First, Second, Both}
 use Rattle.iom_machine.specs.declared.state.State.{State}
 use Rattle.iom_machine.specs.Devices.{with_device}
@@ -68,26 +69,56 @@ abbrev pub MayFaultInOneStage : (AccessKind → Cause) → History → ℕ → A
 MayFaultInOneStage fault_of history id access cause =
     HoldsNoneFor history id access × (cause ≡ fault_of access.kind)
 
--- The IOMMU may accept the access, on the frame.
--- No step leads to both stages, quarantine or leaving yet, so nothing is said of them.
+-- the frame lingers at some page of the device, with a right that allows the kind
+abbrev pub LingersSomewhere : History → ℕ → ℕ → AccessKind → Type 0
+LingersSomewhere history id frame kind =
+    (page : ℕ) × (rights : Rights) × Lingers history id page (frame, rights) × (allows rights kind ≡ true)
+
+-- What the IOMMU still has of a device's former mode may serve the access on the frame: where no page counts as held, only what lingers. In both stages
+-- the guest's own tables say which of its pages that is.
+abbrev pub MayAcceptFormerly : Mode → History → ℕ → Access → ℕ → Type 0
+MayAcceptFormerly First history id access frame = LingersFor history id access frame
+MayAcceptFormerly Second history id access frame = LingersFor history id access frame
+MayAcceptFormerly Both history id access frame = LingersSomewhere history id frame access.kind
+
+-- the cause is a page fault of the mode: of its stage, or, in both stages, of either
+abbrev pub IsPageFaultOf : Mode → AccessKind → Cause → Type 0
+IsPageFaultOf First kind cause = cause ≡ page_fault_of kind
+IsPageFaultOf Second kind cause = cause ≡ guest_page_fault_of kind
+IsPageFaultOf Both kind cause = (cause ≡ page_fault_of kind) ⊎ (cause ≡ guest_page_fault_of kind)
+
+-- The cause where no device context is found (IOMMU specification, "Process to translate an IOVA"): the directory can't name the id, or its entry
+-- isn't valid.
+abbrev pub cause_without_context : State → ℕ → Cause
+cause_without_context state id = if is_too_wide state id then TransactionTypeDisallowed else DirectoryEntryNotValid
+
+-- a device that was cut off under the ticket may be served as in its former mode until the ticket is confirmed
+abbrev pub MayAcceptCutOff : ℕ → Mode → History → ℕ → Access → ℕ → Type 0
+MayAcceptCutOff ticket mode history id access frame =
+    (confirms history ticket ≡ false) × MayAcceptFormerly mode history id access frame
+
+-- it may have no context at any time, and until then a page fault of its former mode
+abbrev pub MayFaultCutOff : ℕ → Mode → State → ℕ → Access → Cause → Type 0
+MayFaultCutOff ticket mode state id access cause =
+    (cause ≡ cause_without_context state id) ⊎ ((confirms state.history ticket ≡ false) × IsPageFaultOf mode access.kind cause)
+
+-- The IOMMU may accept the access, on the frame. In both stages that is any frame that the device may reach.
 abbrev pub MayAccept : Attachment → State → ℕ → Access → ℕ → Type 0
 MayAccept Detached state id access frame = ⊥
 MayAccept (Attached First ats) state id access frame = MayAcceptInOneStage state.history id access frame
 MayAccept (Attached Second ats) state id access frame = MayAcceptInOneStage state.history id access frame
-MayAccept (Attached Both ats) state id access frame = ⊥
-MayAccept (Quarantined ticket mode ats) state id access frame = ⊥
-MayAccept (Leaving ticket mode ats) state id access frame = ⊥
+MayAccept (Attached Both ats) state id access frame = May state.history id frame access.kind
+MayAccept (Quarantined ticket mode ats) state id access frame = MayAcceptCutOff ticket mode state.history id access frame
+MayAccept (Leaving ticket mode ats) state id access frame = MayAcceptCutOff ticket mode state.history id access frame
 
--- The IOMMU may refuse the access, with the cause.
--- No step leads to both stages, quarantine or leaving yet, so nothing is said of them.
+-- the IOMMU may refuse the access, with the cause
 abbrev pub MayFault : Attachment → State → ℕ → Access → Cause → Type 0
-MayFault Detached state id access cause =
-    cause ≡ (if is_too_wide state id then TransactionTypeDisallowed else DirectoryEntryNotValid)
+MayFault Detached state id access cause = cause ≡ cause_without_context state id
 MayFault (Attached First ats) state id access cause = MayFaultInOneStage page_fault_of state.history id access cause
 MayFault (Attached Second ats) state id access cause = MayFaultInOneStage guest_page_fault_of state.history id access cause
-MayFault (Attached Both ats) state id access cause = ⊥
-MayFault (Quarantined ticket mode ats) state id access cause = ⊥
-MayFault (Leaving ticket mode ats) state id access cause = ⊥
+MayFault (Attached Both ats) state id access cause = IsPageFaultOf Both access.kind cause
+MayFault (Quarantined ticket mode ats) state id access cause = MayFaultCutOff ticket mode state id access cause
+MayFault (Leaving ticket mode ats) state id access cause = MayFaultCutOff ticket mode state id access cause
 
 -- the request comes before the IOMMU: it stays within its page, and the device, with these in flight, isn't busy
 abbrev pub IsForwarded : {X : Type 0} → List X → ℕ → ℕ → Type 0
@@ -113,4 +144,8 @@ with_accepted state device access frame = with_device state (record device {
 -- the state after this answer
 abbrev pub state_after : State → Device → Access → ℕ → Outcome → State
 state_after state device access frame (Accepted number) = with_accepted state device access frame
+state_after state device access frame BadSpan = state
+state_after state device access frame Busy = state
+state_after state device access frame (Fault cause) = state
+-- no other answer comes
 state_after state device access frame _ = state

@@ -1,23 +1,27 @@
 use crate::sequence::Sequence;
-use iom_base::{DeviceId, Rights};
+use crate::state::{DeviceKind, Mode};
+use iom_base::{DeviceId, GrantRights};
 
 /// One thing that happens: a call of the driver, an act of a device or a step of the IOMMU.
 #[derive(Drop)]
 pub enum Event {
-    /// A raw device is plugged in.
-    PlugRaw {
+    /// A device of the kind is plugged in.
+    Plug {
         device: DeviceId,
+        kind: DeviceKind,
     },
-    /// The driver is asked to attach the device with first-stage translation alone.
-    AttachFirst {
+    /// The driver is asked to attach the device in the mode, with ATS or without.
+    Attach {
         device: DeviceId,
+        mode: Mode,
+        ats: bool,
     },
     /// The driver is asked to grant the device the frame at the page, with the right.
     Grant {
         device: DeviceId,
         page: u64,
         frame: u64,
-        rights: Rights,
+        rights: GrantRights,
     },
     /// The driver is asked to release what the device holds at the page.
     Release {

@@ -5,6 +5,7 @@ pub mod Upper
 pub mod Steps
 pub mod Mapping
 pub mod Words
+pub mod Written
 pub mod Pages
 pub mod Whole
 pub mod Walks

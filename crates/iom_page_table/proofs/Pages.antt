@@ -1,10 +1,10 @@
 -- The indices of pages in Sv39.
-use Rattle.std.proofs.Common.{zero, suc, ◌≡◌, ◌≢◌, ◌+◌, ◌*◌, ◌/◌, ◌%◌, ◌^◌, ◌<◌, ◌≤◌, ◌++◌, ◌∙◌, ◌⊎◌, inl, inr, ℕ, Bool, true, false, List, [], ◌∷◌, length, get_or, slice_index, Option, None, refl, sym, ap, subst, arith, length-append}
+use Rattle.std.proofs.Common.{zero, suc, ◌≡◌, ◌≢◌, ◌+◌, ◌*◌, ◌/◌, ◌%◌, ◌^◌, ◌<◌, ◌≤◌, ◌++◌, ◌∙◌, ◌⊎◌, inl, inr, ℕ, Bool, true, false, List, [], ◌∷◌, length, Option, None, refl, sym, ap, subst, arith, length-append}
 use Rattle.std.proofs.lemmas.Bool.Decides.{eqb_tells}
 use Rattle.iom_stage_walk.specs.Entries.{entries}
 use Rattle.iom_page_table.specs.Leaves.{leaf_under}
 use Rattle.iom_page_table.specs.Trees.{InShape}
-use Rattle.iom_page_table.specs.Building.{AllNarrow, IsPage, SameLeaf}
+use Rattle.iom_page_table.specs.Building.{IsPage, SameLeaf}
 use Rattle.iom_page_table.specs.declared.leaf.PageLeaf.{PageLeaf}
 use Rattle.std.specs.Prelude.{◌==◌, ◌||◌, nat_lt, nat_le, if◌then◌else◌}
 use Rattle.std.proofs.lemmas.Bool.{ltb-true, leb-true, lt-ltb}
@@ -21,17 +21,6 @@ is_page page last upper e =
       inside = subst (λ l. InShape sv39 l) (sym e) (omega arith, (omega arith, (omega arith, tt)));
       long = omega (arith, n, length-append upper (last ∷ []));
     }
-
-small_in : (ws p b : List ℕ) (i : ℕ) → AllNarrow ws → InShape ws (p ++ b) → i < length p → get_or p i 0 < 4096
-small_in [] [] b i n h lt = absurd (omega arith)
-small_in [] (x ∷ p) b i n h lt = absurd h
-small_in (w ∷ ws) [] b i n h lt = absurd (omega arith)
-small_in (w ∷ ws) (x ∷ p) b zero n h lt = omega (arith, h.0, n.0)
-small_in (w ∷ ws) (x ∷ p) b (suc i) n h lt = small_in ws p b i n.1 h.1 (omega arith)
-
--- the indices above the last level are small
-pub small_upper : (page last : ℕ) (upper : List ℕ) → upper ++ last ∷ [] ≡ path_of sv39 page → (i : ℕ) → i < length upper → slice_index upper i < 4096
-small_upper page last upper e i lt = small_in sv39 upper (last ∷ []) i (omega arith, (omega arith, (omega arith, tt))) (is_page page last upper e).inside lt
 
 pub path_shaped : (page : ℕ) → InShape sv39 (path_of sv39 page)
 path_shaped page = (omega arith, (omega arith, (omega arith, tt)))

@@ -1,7 +1,7 @@
 -- Trees that stay, and trees of a zeroed frame.
 use Rattle.std.proofs.Common.{◌≡◌, ◌+◌, ◌*◌, ◌/◌, ◌%◌, ◌<◌, ◌++◌, ◌∙◌, ℕ, Bool, true, false, List, [], ◌∷◌, slice_get, Option, Some, None, refl, sym, ap, subst, arith}
 use Rattle.iom_stage_walk.specs.Entries.{Entries, entries, slot}
-use Rattle.iom_stage_walk.specs.declared.entry.Entry.TheVariants.{Faulty}
+use Rattle.iom_stage_walk.specs.declared.entry.Entry.TheVariants.{Invalid}
 use Rattle.iom_page_table.specs.Trees.{InShape, IsTableAt, IsUpper, IsLowest, IsTree, IsFrameOf}
 use Rattle.iom_page_table.specs.declared.leaf.PageLeaf.{PageLeaf}
 use Rattle.std.specs.Prelude.{◌↔◌, if◌then◌else◌}
@@ -29,7 +29,7 @@ stays old new root tree same =
       leaves = λ page. ap (λ x. if is_translated 3 page then x else None) (alike_leaves sv39 (entries old) (entries new) root on (path_of sv39 page) (path_shaped page));
     }
 
-only_root : (e : Entries) (f w : ℕ) (ws p : List ℕ) (i t : ℕ) → ((j : ℕ) → j < w → e (slot f j) ≡ Faulty) → InShape (w ∷ ws) (p ++ i ∷ []) → IsTableAt e f p t → (p ≡ []) × (t ≡ f) × (i < w)
+only_root : (e : Entries) (f w : ℕ) (ws p : List ℕ) (i t : ℕ) → ((j : ℕ) → j < w → e (slot f j) ≡ Invalid) → InShape (w ∷ ws) (p ++ i ∷ []) → IsTableAt e f p t → (p ≡ []) × (t ≡ f) × (i < w)
 only_root e f w ws [] i t none inside tab = (refl, tab, inside.0)
 only_root e f w ws (x ∷ p) i t none inside tab = let z = none x inside.0 in let no : ⊥ = cc (z, tab.1) in absurd no
 
@@ -37,7 +37,7 @@ same_index : (f i j : ℕ) → slot f i ≡ slot f j → i ≡ j
 same_index f i j e = omega (arith, e)
 
 -- a root whose entries lead nowhere is a tree
-pub root_tree : (e : Entries) (f w : ℕ) (ws : List ℕ) → ((j : ℕ) → j < w → e (slot f j) ≡ Faulty) → IsTree (w ∷ ws) e f
+pub root_tree : (e : Entries) (f w : ℕ) (ws : List ℕ) → ((j : ℕ) → j < w → e (slot f j) ≡ Invalid) → IsTree (w ∷ ws) e f
 root_tree e f w ws none =
     record {
       apart = λ p q i j s a b.

@@ -4,7 +4,7 @@ use Rattle.iom_base.specs.declared.access.AccessKind.{AccessKind}
 use Rattle.iom_base.specs.declared.rights.Rights.{Rights}
 use Rattle.iom_stage_walk.specs.Entries.{Entries, entries, slot}
 use Rattle.iom_stage_walk.specs.declared.entry.Entry.{Entry}
-use Rattle.iom_stage_walk.specs.declared.entry.Entry.TheVariants.{Outside, Faulty, Pointer, Leaf}
+use Rattle.iom_stage_walk.specs.declared.entry.Entry.TheVariants.{Outside, Invalid, Pointer, Leaf}
 use Rattle.iom_page_table.specs.Leaves.{leaf_here, leaf_under}
 use Rattle.iom_page_table.specs.Trees.{InShape, IsTableAt, IsFrameOf, IsUpper, IsLowest, IsTree}
 use Rattle.iom_page_table.specs.declared.leaf.PageLeaf.{PageLeaf}
@@ -45,7 +45,7 @@ same_leaf a b e = (ap (λ (l : PageLeaf). l.frame) e, ap (λ (l : PageLeaf). l.r
 reach_step : (e : Entries) (kind : AccessKind) (t i : ℕ) (is : List ℕ) (l : PageLeaf) (x : Entry) → e (slot t i) ≡ x → leaf_here x is (λ next. leaf_under e next is) ≡ Some l → allows l.rights kind ≡ true
     → ((next : ℕ) → leaf_under e next is ≡ Some l → Reaches e kind next is l.frame l.rights) → Reaches e kind t (i ∷ is) l.frame l.rights
 reach_step e kind t i is l Outside at h ok go = let no : ⊥ = cc in absurd no
-reach_step e kind t i is l Faulty at h ok go = let no : ⊥ = cc in absurd no
+reach_step e kind t i is l Invalid at h ok go = let no : ⊥ = cc in absurd no
 reach_step e kind t i is l (Pointer next) at h ok go = inl (next, at, go next h)
 reach_step e kind t i is l (Leaf base rights) at h ok go =
     let found : PageLeaf = record { frame = base + page_in is; rights = rights } in
@@ -94,7 +94,7 @@ leaf_translated frames root page l h = taken (is_translated 3 page) (leaf_under 
 
 stop_last : (e : Entries) (kind : AccessKind) (t i : ℕ) (x : Entry) → e (slot t i) ≡ x → IsLowest x → ((l : PageLeaf) → leaf_here x [] (λ next. None) ≡ Some l → allows l.rights kind ≡ false) → Stops e kind t (i ∷ []) (page_fault_of kind)
 stop_last e kind t i Outside at u none = absurd u
-stop_last e kind t i Faulty at u none = inr (inr (inl (at, refl)))
+stop_last e kind t i Invalid at u none = inr (inr (inl (at, refl)))
 stop_last e kind t i (Pointer next) at u none = absurd u
 stop_last e kind t i (Leaf base rights) at u none =
     let whole : base % 1 ≡ 0 = omega arith in
@@ -102,7 +102,7 @@ stop_last e kind t i (Leaf base rights) at u none =
 
 stop_upper : (e : Entries) (kind : AccessKind) (t i : ℕ) (is : List ℕ) (x : Entry) → e (slot t i) ≡ x → IsUpper x → ((next : ℕ) → e (slot t i) ≡ Pointer next → Stops e kind next is (page_fault_of kind)) → Stops e kind t (i ∷ is) (page_fault_of kind)
 stop_upper e kind t i is Outside at u go = absurd u
-stop_upper e kind t i is Faulty at u go = inr (inr (inl (at, refl)))
+stop_upper e kind t i is Invalid at u go = inr (inr (inl (at, refl)))
 stop_upper e kind t i is (Pointer next) at u go = inl (next, at, go next at)
 stop_upper e kind t i is (Leaf base rights) at u go = absurd u
 
@@ -125,7 +125,7 @@ all_none P = λ k d lt. absurd (omega arith)
 -- the frames after an entry are tables of the root
 after_tables : (P : ℕ → Type 0) (x : Entry) (follow : ℕ → List ℕ) → ((next : ℕ) → x ≡ Pointer next → All P (follow next)) → All P (after_pointer x follow)
 after_tables P Outside follow go = all_none P
-after_tables P Faulty follow go = all_none P
+after_tables P Invalid follow go = all_none P
 after_tables P (Pointer next) follow go = go next refl
 after_tables P (Leaf base rights) follow go = all_none P
 

@@ -3,7 +3,7 @@ use Rattle.std.proofs.Common.{◌≡◌, ◌+◌, ◌*◌, ◌/◌, ◌%◌, ◌
 use Rattle.iom_base.specs.declared.rights.Rights.{Rights}
 use Rattle.iom_stage_walk.specs.Entries.{entries, slot}
 use Rattle.iom_stage_walk.specs.declared.entry.Entry.{Entry}
-use Rattle.iom_stage_walk.specs.declared.entry.Entry.TheVariants.{Outside, Faulty, Pointer, Leaf}
+use Rattle.iom_stage_walk.specs.declared.entry.Entry.TheVariants.{Outside, Invalid, Pointer, Leaf}
 use Rattle.iom_page_table.specs.Leaves.{leaf_here, leaf_under}
 use Rattle.iom_page_table.specs.Trees.{IsTableAt, IsSlotAt, IsLowest, IsTree, IsFrameOf, IsLastEntry}
 use Rattle.iom_page_table.specs.Building.{InFrames, Puts, PutsWord, Built, FillsAlong}
@@ -83,7 +83,7 @@ mapped_here x base rights e =
 
 pub nothing_here : (x : Entry) → IsLowest x → ((base : ℕ) (rights : Rights) → x ≡ Leaf base rights → ⊥) → is_some (leaf_here x [] (λ next. None)) ≡ false
 nothing_here Outside low other = absurd low
-nothing_here Faulty low other = refl
+nothing_here Invalid low other = refl
 nothing_here (Pointer next) low other = absurd low
 nothing_here (Leaf base rights) low other = absurd (other base rights refl)
 
@@ -95,9 +95,9 @@ pub record Maps (old new : List (List ℕ)) (root page : ℕ) (leaf : PageLeaf) 
   pub others : (f : ℕ) → (IsFrameOf sv39 (entries new) root f → ⊥) → slice_get new f ≡ slice_get old f
 
 -- an entry at the last level that gives no leaf leads nowhere
-lowest_nowhere : (x : Entry) → IsLowest x → leaf_here x [] (λ next. None) ≡ None → x ≡ Faulty
+lowest_nowhere : (x : Entry) → IsLowest x → leaf_here x [] (λ next. None) ≡ None → x ≡ Invalid
 lowest_nowhere Outside low none = absurd low
-lowest_nowhere Faulty low none = refl
+lowest_nowhere Invalid low none = refl
 lowest_nowhere (Pointer next) low none = absurd low
 lowest_nowhere (Leaf base rights) low none =
     let some : is_some (leaf_here (Leaf base rights) [] (λ next. None)) ≡ true = mapped_here (Leaf base rights) base rights refl in
@@ -148,6 +148,6 @@ maps_bytes old mid new root page table upper frames leaf low b splits free put w
     ∙ sym (translated_leaf old root page (translated_low page low))
     ∙ free in
     let none : leaf_here (entries mid s) [] (λ next. None) ≡ None = sym (leaf_found mid root page table upper low splits at) ∙ before in
-    let nowhere : entries mid s ≡ Faulty = lowest_nowhere (entries mid s) (b.tree.lowest upper last s here p.long) none in
+    let nowhere : entries mid s ≡ Invalid = lowest_nowhere (entries mid s) (b.tree.lowest upper last s here p.long) none in
     let fills : FillsAlong sv39 old mid root upper = subst (λ l. FillsAlong sv39 old mid root l) (take_all (length upper) upper (omega arith)) b.bytes in
     subst (λ path. FillsAlong sv39 old new root path) splits (fills_next sv39 old mid new root upper last s fills set.stays here (b.nowhere s nowhere) word)

@@ -3,10 +3,11 @@ use Rattle.std.specs.Prelude.{◌≡◌, ◌↔◌, ℕ, ◌/◌, true, false, L
 use Rattle.std.specs.List.{All}
 use Rattle.iom_base.specs.Causes.{page_fault_of}
 use Rattle.iom_base.specs.Rights.{allows}
+use Rattle.iom_base.specs.Sizes.{page_size}
 use Rattle.iom_base.specs.declared.access.AccessKind.{AccessKind}
 use Rattle.iom_phys_mem.specs.Words.{zeroed}
 use Rattle.iom_stage_walk.specs.Entries.{entries}
-use Rattle.iom_stage_walk.specs.Paths.{ReachesFirst, StopsFirst, IsInMemory}
+use Rattle.iom_stage_walk.specs.Paths.{first_levels, ReachesFirst, StopsFirst, IsInMemory}
 use Rattle.iom_stage_walk.specs.Through.{first_through}
 use Rattle.iom_stage_walk.specs.declared.walked.Walked.{Walked}
 use Rattle.iom_page_table.specs.Leaves.{leaf_of}
@@ -17,25 +18,25 @@ use Rattle.iom_page_table.specs.declared.leaf.PageLeaf.{PageLeaf}
 -- the walk of an address reaches exactly the leaf of its page, where that allows the access and its frame lies in memory
 abbrev pub WalkReachesLeaf : Type 0
 WalkReachesLeaf = (frames : List (List ℕ)) (root address : ℕ) (kind : AccessKind) (walked : Walked)
-    → ReachesFirst 3 frames root address kind walked
-    ↔ ((leaf_of 3 frames root (address / 4096) ≡ Some record { frame = walked.frame; rights = walked.rights })
+    → ReachesFirst first_levels frames root address kind walked
+    ↔ ((leaf_of first_levels frames root (address / page_size) ≡ Some record { frame = walked.frame; rights = walked.rights })
     × (allows walked.rights kind ≡ true) × IsInMemory frames walked.frame × (walked.guest_frames ≡ replicate 4 None))
 
 -- the walk of an address loads its entries from the root's tables alone
 abbrev pub WalkThroughTables : Type 0
-WalkThroughTables = (frames : List (List ℕ)) (root address : ℕ) → All (HasTable frames root) (first_through 3 frames root address)
+WalkThroughTables = (frames : List (List ℕ)) (root address : ℕ) → All (HasTable frames root) (first_through first_levels frames root address)
 
 -- in a tree the walk of an address whose page has no leaf that allows the access stops with a page fault
 abbrev pub WalkFaultsElse : Type 0
 WalkFaultsElse = (frames : List (List ℕ)) (root address : ℕ) (kind : AccessKind) → IsRoot frames root
-    → ((leaf : PageLeaf) → leaf_of 3 frames root (address / 4096) ≡ Some leaf → allows leaf.rights kind ≡ false)
-    → StopsFirst 3 frames root address kind record { cause = page_fault_of kind; gpa = 0; implicit = false }
+    → ((leaf : PageLeaf) → leaf_of first_levels frames root (address / page_size) ≡ Some leaf → allows leaf.rights kind ≡ false)
+    → StopsFirst first_levels frames root address kind record { cause = page_fault_of kind; gpa = 0; implicit = false }
 
 -- the root is a tree as before, of the same frames, and every page has the leaf that it had
 pub record SameTree (old new : List (List ℕ)) (root : ℕ) : Type 0 where
   pub tree : IsRoot new root
   pub tables : (f : ℕ) → HasTable new root f ↔ HasTable old root f
-  pub leaves : (page : ℕ) → leaf_of 3 new root page ≡ leaf_of 3 old root page
+  pub leaves : (page : ℕ) → leaf_of first_levels new root page ≡ leaf_of first_levels old root page
 
 -- what changes no frame of a tree, as a store outside it, leaves the tree and all that it reaches
 abbrev pub TreeStays : Type 0
@@ -53,7 +54,7 @@ abbrev pub ZeroedTree : Type 0
 ZeroedTree = (frames : List (List ℕ)) (root : ℕ) → slice_get frames root ≡ Some zeroed
     → IsRoot frames root
     × ((f : ℕ) → HasTable frames root f ↔ (f ≡ root))
-    × ((page : ℕ) → leaf_of 3 frames root page ≡ None)
+    × ((page : ℕ) → leaf_of first_levels frames root page ≡ None)
 
 -- different prefixes of a tree have tables in different frames
 abbrev pub DifferentTables : Type 0

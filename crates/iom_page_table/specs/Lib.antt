@@ -1,5 +1,6 @@
 pub mod Leaves
 pub mod Trees
+pub mod Written
 pub mod Sv39
 pub mod Building
 pub mod Laws

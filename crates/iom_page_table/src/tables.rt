@@ -1,40 +1,43 @@
-ghost use Rattle.std.specs.Prelude.{◌≡◌, ◌⊎◌, ◌↔◌, ℕ, ◌*◌, ◌/◌, ◌%◌, ◌<◌, ◌^◌, [], ◌∷◌, ◌++◌, length, Some, None, is_some};
+ghost use Rattle.std.specs.Prelude.{◌≡◌, ◌⊎◌, ◌↔◌, ℕ, ◌*◌, ◌/◌, ◌%◌, ◌<◌, [], ◌∷◌, ◌++◌, length, Some, None, is_some};
 ghost use Rattle.std.specs.List.{Contains};
 ghost use Rattle.iom_base.specs.Rights.{r, rw};
+ghost use Rattle.iom_base.specs.Sizes.{entry_size, table_entries, page_limit};
 ghost use Rattle.iom_phys_mem.specs.Words.{word_at, byte_at};
-ghost use Rattle.iom_stage_walk.specs.Paths.{path_of};
+ghost use Rattle.iom_stage_walk.specs.Paths.{path_of, first_levels};
 ghost use Rattle.iom_page_table.specs.Leaves.{leaf_of};
-ghost use Rattle.iom_page_table.specs.Sv39.{IsRoot, HasTable, missing_for, IsLeafEntry, FillsEntry, ChangesLeaf, KeepsOutside};
+ghost use Rattle.iom_page_table.specs.Sv39.{IsRoot, HasTable, missing_for, IsLeafEntry, FillsEntry, ChangesLeaf, KeepsOutside, mapped, unmapped};
 ghost use Rattle.iom_page_table.specs.Trees.{sv39, AreFresh};
 
-use crate::build::{build, count_lacking, leaf_word, put, table_under};
+use crate::build::{build, count_missing, leaf_word, put, table_under};
 use crate::leaf::PageLeaf;
+use iom_base::TABLE_ENTRIES;
 use iom_phys_mem::Bytes;
-use iom_stage_walk::{Entry, entry_at};
+use iom_stage_walk::{Entry, entry_at, first_indices};
 
 /// The indices of a page in the tables above the last.
-fn upper_of(page: u64) -> [u64; 2]
-    ensures { result ++ page % 512 ∷ [] ≡ path_of sv39 page }
+fn upper_of(page: u64) -> [u16; 2]
+    ensures { result ++ page % table_entries ∷ [] ≡ path_of sv39 page }
 {
-    [page / 262_144 % 512, page / 512 % 512]
+    let [root, middle, _] = first_indices(page);
+    [root, middle]
 }
 
-/// How many tables a leaf for the page lacks, 0 to 2. Of the page's number the low 27 bits count. At most
+/// How many tables are missing for a leaf of the page, 0 to 2. Of the page's number the low 27 bits count. At most
 /// two loads.
 pub fn missing<B: Bytes>(memory: &B, root: u32, page: u64) -> usize
     ensures { result ≡ missing_for (B.frames_of memory.now) root page }
 {
-    count_lacking(memory, root as u64, &upper_of(page))
+    count_missing(memory, root, &upper_of(page))
 }
 
 /// Whether the page has a leaf. At most three loads.
 pub fn is_mapped<B: Bytes>(memory: &B, root: u32, page: u64) -> bool
-    requires page { page < 2 ^ 26 }
+    requires page { page < page_limit }
     requires tree { IsRoot (B.frames_of memory.now) root }
-    ensures { result ≡ is_some (leaf_of 3 (B.frames_of memory.now) root page) }
+    ensures { result ≡ is_some (leaf_of first_levels (B.frames_of memory.now) root page) }
 {
-    match table_under(memory, root as u64, &upper_of(page)) {
-        Some(table) => match entry_at(memory, table, page % 512) {
+    match table_under(memory, root, &upper_of(page)) {
+        Some(table) => match entry_at(memory, table, (page % TABLE_ENTRIES) as u16) {
             Entry::Leaf(_, _) => true,
             _ => false,
         },
@@ -47,44 +50,50 @@ pub fn is_mapped<B: Bytes>(memory: &B, root: u32, page: u64) -> bool
 /// tables of the root. Two loads, and one store more than there are frames: a byte changes only in an entry on
 /// the page's path that led nowhere.
 pub fn map<B: Bytes>(memory: &mut B, root: u32, page: u64, leaf: PageLeaf, frames: &[u32])
-    requires page { page < 2 ^ 26 }
+    requires page { page < page_limit }
     requires rights { (leaf.rights ≡ r) ⊎ (leaf.rights ≡ rw) }
     requires tree { IsRoot (B.frames_of memory.old) root }
-    requires free { leaf_of 3 (B.frames_of memory.old) root page ≡ None }
+    requires free { leaf_of first_levels (B.frames_of memory.old) root page ≡ None }
     requires count { length frames.now ≡ missing_for (B.frames_of memory.old) root page }
     requires fresh { AreFresh sv39 (B.frames_of memory.old) root frames.now }
     ensures tree { IsRoot (B.frames_of memory.new) root }
     ensures tables { (f : ℕ) → HasTable (B.frames_of memory.new) root f
         ↔ (HasTable (B.frames_of memory.old) root f ⊎ Contains frames.now f) }
     ensures leaf { ChangesLeaf (B.frames_of memory.old) (B.frames_of memory.new) root page (Some leaf) }
-    ensures other_bytes { (a : ℕ) → (FillsEntry (B.frames_of memory.old) (B.frames_of memory.new) root page (a / 8) → ⊥)
+    ensures other_bytes { (a : ℕ) → (FillsEntry (B.frames_of memory.old) (B.frames_of memory.new) root page (a / entry_size) → ⊥)
         → byte_at (B.frames_of memory.new) a ≡ byte_at (B.frames_of memory.old) a }
     ensures outside { KeepsOutside (B.frames_of memory.old) (B.frames_of memory.new) root }
     ensures size { length (B.frames_of memory.new) ≡ length (B.frames_of memory.old) }
+
+    // What the clauses above follow from, as one equation.
+    ensures whole { B.frames_of memory.new ≡ mapped (B.frames_of memory.old) root page leaf frames.now }
 {
-    let last = page % 512;
-    let table = build(memory, root as u64, &upper_of(page), last, frames);
+    let last = (page % TABLE_ENTRIES) as u16;
+    let table = build(memory, root, &upper_of(page), last, frames);
     put(memory, table, last, leaf_word(leaf));
 }
 
 /// Clears the leaf of a page: its eight bytes are zero, and no other byte changes. A page that has no last
 /// table has nothing to clear.
 pub fn unmap<B: Bytes>(memory: &mut B, root: u32, page: u64)
-    requires page { page < 2 ^ 26 }
+    requires page { page < page_limit }
     requires tree { IsRoot (B.frames_of memory.old) root }
     ensures tree { IsRoot (B.frames_of memory.new) root }
     ensures tables { (f : ℕ) → HasTable (B.frames_of memory.new) root f
         ↔ HasTable (B.frames_of memory.old) root f }
     ensures leaf { ChangesLeaf (B.frames_of memory.old) (B.frames_of memory.new) root page None }
     ensures cleared { (s : ℕ) → IsLeafEntry (B.frames_of memory.old) root page s
-        → word_at 8 (B.frames_of memory.new) (8 * s) ≡ Some 0 }
-    ensures other_bytes { (a : ℕ) → (IsLeafEntry (B.frames_of memory.old) root page (a / 8) → ⊥)
+        → word_at entry_size (B.frames_of memory.new) (entry_size * s) ≡ Some 0 }
+    ensures other_bytes { (a : ℕ) → (IsLeafEntry (B.frames_of memory.old) root page (a / entry_size) → ⊥)
         → byte_at (B.frames_of memory.new) a ≡ byte_at (B.frames_of memory.old) a }
     ensures outside { KeepsOutside (B.frames_of memory.old) (B.frames_of memory.new) root }
     ensures size { length (B.frames_of memory.new) ≡ length (B.frames_of memory.old) }
+
+    // What the clauses above follow from, as one equation.
+    ensures whole { B.frames_of memory.new ≡ unmapped (B.frames_of memory.old) root page }
 {
-    match table_under(memory, root as u64, &upper_of(page)) {
-        Some(table) => put(memory, table, page % 512, 0),
+    match table_under(memory, root, &upper_of(page)) {
+        Some(table) => put(memory, table, (page % TABLE_ENTRIES) as u16, 0),
         None => {}
     }
 }

@@ -2,11 +2,11 @@
 use Rattle.std.proofs.Common.{◌≡◌, ◌≢◌, ◌+◌, ◌%◌, ◌≤◌, ◌++◌, ◌∙◌, ℕ, inl, inr, Bool, true, false, List, [], ◌∷◌, length, All, Option, Some, None, MatchOption, unwrap_or, if◌then◌else◌, refl, sym, ap, subst, arith}
 use Rattle.std.proofs.lemmas.Bool.{cases_lt}
 use Rattle.std.proofs.lemmas.List.Elements.{All-nil, All-tail, All-head}
-use Rattle.iom_base.specs.declared.cause.Cause.{Cause}
-use Rattle.iom_base.specs.declared.cause.Cause.TheVariants.{DirectoryEntryNotValid, TransactionTypeDisallowed}
-use Rattle.iom_base.specs.Causes.{page_fault_of}
+use Rattle.iom_base.specs.Causes.{page_fault_of, guest_page_fault_of}
 use Rattle.iom_base.specs.Rights.{allows}
+use Rattle.iom_base.specs.declared.grant_rights.GrantRights.{GrantRights}
 use Rattle.iom_base.specs.declared.rights.Rights.{Rights}
+use Rattle.iom_base.specs.GrantRights.{rights_of}
 use Rattle.iom_ledger.specs.declared.entry.HistoryEntry.TheVariants as entry
 use Rattle.iom_ledger.specs.declared.refusal.Refusal.{Refusal}
 use Rattle.iom_ledger.specs.declared.refusal.Refusal.TheVariants.{NoSuchDevice}
@@ -20,19 +20,19 @@ use Rattle.iom_machine.specs.declared.state.Access.{Access}
 use Rattle.iom_machine.specs.declared.state.Attachment.{Attachment}
 use Rattle.iom_machine.specs.declared.state.Attachment.TheVariants.{Detached, Attached, Quarantined, Leaving}
 use Rattle.iom_machine.specs.declared.state.Device.{Device}
+use Rattle.iom_machine.specs.declared.state.Mode.{Mode}
 use Rattle.iom_machine.specs.declared.state.Mode.TheVariants.{First, Second, Both}
 use Rattle.iom_machine.specs.declared.state.State.{State}
 use Rattle.iom_machine.specs.Devices.{device_of, with_device}
 use Rattle.iom_machine.specs.Frames.{IsFree}
 use Rattle.iom_machine.specs.Headline.{IsReached}
-use Rattle.iom_machine.specs.Machine.{IsEvent, Step, Requests, Run, plugged_device}
+use Rattle.iom_machine.specs.Machine.{Step, Requests, Run, plugged_device}
 use Rattle.iom_machine.specs.PowerOn.{opening}
-use Rattle.iom_machine.specs.declared.state.DeviceKind.TheVariants.{Raw}
+use Rattle.iom_machine.specs.declared.state.DeviceKind.{DeviceKind}
 use Rattle.iom_machine.specs.Refusals.{first_that_applies, IsRefusedBy, MayRefusePlug, MayRefuseAttach, MayRefuseGrant, MayRefuseRelease, plug_reasons, attach_reasons, grant_reasons, release_reasons, is_too_wide}
-use Rattle.iom_machine.specs.Requests.{read_of, write_of, page_of, HoldsFor, HoldsNoneFor, MayAccept, MayFault, MayAnswer, IsForwarded, state_after}
+use Rattle.iom_machine.specs.Requests.{read_of, write_of, page_of, cause_without_context, HoldsFor, HoldsNoneFor, MayAccept, MayFault, MayAnswer, IsForwarded, state_after}
 use Rattle.iom_machine.proofs.HeadlineLemmas.{commits_are_answered}
 use Rattle.iom_world.proofs.RunLemmas.{no_choice, frame_chosen, run_more}
-use Rattle.iom_runner.proofs.AttachmentLemmas.{IsFirstOrNone, AreFirstOrNone, found_first, first_or_none-step}
 
 -- the event has an answer in the state
 abbrev IsAnswered : State → Event → Type 0
@@ -42,36 +42,36 @@ IsAnswered state event = (outcome : Outcome) × (new : State) × Step state even
 refused_first : (reasons : List (Bool × Refusal)) (MayCome : Refusal → Type 0) (why : Refusal) → first_that_applies reasons ≡ Some why → IsRefusedBy reasons MayCome why
 refused_first reasons MayCome why some = subst (λ found. MatchOption found (MayCome why) (λ first. why ≡ first)) (sym some) refl
 
-plug_is_answered : (state : State) (id : ℕ) → IsAnswered state (events.PlugRaw id)
-plug_is_answered state id = by (first_that_applies (plug_reasons state id)) refl
+plug_is_answered : (state : State) (id : ℕ) (kind : DeviceKind) → IsAnswered state (events.Plug id kind)
+plug_is_answered state id kind = by (first_that_applies (plug_reasons state id)) refl
   where
-    by : (found : Option Refusal) → first_that_applies (plug_reasons state id) ≡ found → IsAnswered state (events.PlugRaw id)
-    by None none = (Done, record state { devices = state.devices ++ plugged_device id Raw ∷ [] }, (no_choice, (none, refl)))
+    by : (found : Option Refusal) → first_that_applies (plug_reasons state id) ≡ found → IsAnswered state (events.Plug id kind)
+    by None none = (Done, record state { devices = state.devices ++ plugged_device id kind ∷ [] }, (no_choice, (none, refl)))
     by (Some why) some = (Refused why, state, (no_choice, (refused_first (plug_reasons state id) MayRefusePlug why some, refl)))
 
-attach_is_answered : (state : State) (id : ℕ) → IsAnswered state (events.AttachFirst id)
-attach_is_answered state id = found (device_of state id) refl
+attach_is_answered : (state : State) (id : ℕ) (mode : Mode) (ats : Bool) → IsAnswered state (events.Attach id mode ats)
+attach_is_answered state id mode ats = found (device_of state id) refl
   where
-    by : (device : Device) → device_of state id ≡ Some device → (reason : Option Refusal) → first_that_applies (attach_reasons state id false) ≡ reason → IsAnswered state (events.AttachFirst id)
+    by : (device : Device) → device_of state id ≡ Some device → (reason : Option Refusal) → first_that_applies (attach_reasons state id ats) ≡ reason → IsAnswered state (events.Attach id mode ats)
     by device there None none = (
       Done,
-      with_device state (record device { attachment = Attached First false }),
+      with_device state (record device { attachment = Attached mode ats }),
       (no_choice, (none, All-nil (IsFree state), rw there refl)),
     )
-    by device there (Some why) some = (Refused why, state, (no_choice, (refused_first (attach_reasons state id false) (MayRefuseAttach state First) why some, refl)))
+    by device there (Some why) some = (Refused why, state, (no_choice, (refused_first (attach_reasons state id ats) (MayRefuseAttach state mode) why some, refl)))
 
-    found : (o : Option Device) → device_of state id ≡ o → IsAnswered state (events.AttachFirst id)
-    found None absent = (Refused NoSuchDevice, state, (no_choice, (refused_first (attach_reasons state id false) (MayRefuseAttach state First) NoSuchDevice (rw absent refl), refl)))
-    found (Some device) there = by device there (first_that_applies (attach_reasons state id false)) refl
+    found : (o : Option Device) → device_of state id ≡ o → IsAnswered state (events.Attach id mode ats)
+    found None absent = (Refused NoSuchDevice, state, (no_choice, (refused_first (attach_reasons state id ats) (MayRefuseAttach state mode) NoSuchDevice (rw absent refl), refl)))
+    found (Some device) there = by device there (first_that_applies (attach_reasons state id ats)) refl
 
-grant_is_answered : (state : State) (id page frame : ℕ) (rights : Rights) → IsEvent (events.Grant id page frame rights) → IsAnswered state (events.Grant id page frame rights)
-grant_is_answered state id page frame rights can_come = by (first_that_applies (grant_reasons state id page frame)) refl
+grant_is_answered : (state : State) (id page frame : ℕ) (rights : GrantRights) → IsAnswered state (events.Grant id page frame rights)
+grant_is_answered state id page frame rights = by (first_that_applies (grant_reasons state id page frame)) refl
   where
     by : (found : Option Refusal) → first_that_applies (grant_reasons state id page frame) ≡ found → IsAnswered state (events.Grant id page frame rights)
     by None none = (
       Done,
-      record state { history = entry.Granted id page frame rights ∷ state.history },
-      (no_choice, (none, can_come, All-nil (λ (number : ℕ). IsFree state number × (number ≢ frame)), refl)),
+      record state { history = entry.Granted id page frame (rights_of rights) ∷ state.history },
+      (no_choice, (none, All-nil (λ (number : ℕ). IsFree state number × (number ≢ frame)), refl)),
     )
     by (Some why) some = (Refused why, state, (no_choice, (refused_first (grant_reasons state id page frame) (MayRefuseGrant state frame) why some, refl)))
 
@@ -109,58 +109,65 @@ held_reply state device access forwarded accepts faults = held (held_at state.hi
     held None none = faults (λ other its. let same : ◌≡◌ {A = Option Pair} None (Some (other, its.0)) = sym none ∙ its.1 in cc)
     held (Some (frame, rights)) holds = by frame rights holds (allows rights access.kind) refl
 
--- the cause of a device that isn't attached
-abbrev cause_unattached : State → ℕ → Cause
-cause_unattached state id = if is_too_wide state id then TransactionTypeDisallowed else DirectoryEntryNotValid
+-- no context is found
+without_context : (state : State) (device : Device) (access : Access) → IsForwarded device.in_flight access.address access.len
+    → MayFault device.attachment state device.id access (cause_without_context state device.id) → HasReply state device access
+without_context state device access forwarded may = (0, Fault (cause_without_context state device.id), (forwarded, may))
 
-forwarded_reply : (state : State) (device : Device) (access : Access) → IsForwarded device.in_flight access.address access.len → (attachment : Attachment) → device.attachment ≡ attachment → IsFirstOrNone attachment
+forwarded_reply : (state : State) (device : Device) (access : Access) → IsForwarded device.in_flight access.address access.len → (attachment : Attachment) → device.attachment ≡ attachment
     → HasReply state device access
-forwarded_reply state device access forwarded Detached is usual =
-    (0, Fault (cause_unattached state device.id), (forwarded, subst (λ a. MayFault a state device.id access (cause_unattached state device.id)) (sym is) refl))
-forwarded_reply state device access forwarded (Attached First ats) is usual =
+forwarded_reply state device access forwarded Detached is =
+    without_context state device access forwarded (subst (λ a. MayFault a state device.id access (cause_without_context state device.id)) (sym is) refl)
+forwarded_reply state device access forwarded (Attached First ats) is =
     held_reply state device access forwarded
     (λ frame holds. (frame, Accepted (device.accepted + 1), (forwarded, subst (λ a. MayAccept a state device.id access frame) (sym is) (inl holds), refl)))
     (λ none. (0, Fault (page_fault_of access.kind), (forwarded, subst (λ a. MayFault a state device.id access (page_fault_of access.kind)) (sym is) (none, refl))))
-forwarded_reply state device access forwarded (Attached Second ats) is usual = absurd usual
-forwarded_reply state device access forwarded (Attached Both ats) is usual = absurd usual
-forwarded_reply state device access forwarded (Quarantined ticket mode ats) is usual = absurd usual
-forwarded_reply state device access forwarded (Leaving ticket mode ats) is usual = absurd usual
+forwarded_reply state device access forwarded (Attached Second ats) is =
+    held_reply state device access forwarded
+    (λ frame holds. (frame, Accepted (device.accepted + 1), (forwarded, subst (λ a. MayAccept a state device.id access frame) (sym is) (inl holds), refl)))
+    (λ none. (0, Fault (guest_page_fault_of access.kind), (forwarded, subst (λ a. MayFault a state device.id access (guest_page_fault_of access.kind)) (sym is) (none, refl))))
+forwarded_reply state device access forwarded (Attached Both ats) is =
+    (0, Fault (page_fault_of access.kind), (forwarded, subst (λ a. MayFault a state device.id access (page_fault_of access.kind)) (sym is) (inl refl)))
+forwarded_reply state device access forwarded (Quarantined ticket mode ats) is =
+    without_context state device access forwarded (subst (λ a. MayFault a state device.id access (cause_without_context state device.id)) (sym is) (inl refl))
+forwarded_reply state device access forwarded (Leaving ticket mode ats) is =
+    without_context state device access forwarded (subst (λ a. MayFault a state device.id access (cause_without_context state device.id)) (sym is) (inl refl))
 
-reply : (state : State) (device : Device) (access : Access) → IsFirstOrNone device.attachment → HasReply state device access
-reply state device access usual =
+reply : (state : State) (device : Device) (access : Access) → HasReply state device access
+reply state device access =
     elim (cases_lt access.len 1) [
       | inl empty ↦ (0, BadSpan, λ within. let some : 1 ≤ access.len = within.0 in omega arith)
       | inr some ↦ elim (cases_lt 4096 (access.address % 4096 + access.len)) [
         | inl past ↦ (0, BadSpan, λ within. let fits : access.address % 4096 + access.len ≤ 4096 = within.1 in omega arith)
         | inr fits ↦ elim (cases_lt (length device.in_flight) 8) [
-          | inl room ↦ forwarded_reply state device access ((some, fits), λ busy. let full : 8 ≤ length device.in_flight = busy in omega arith) device.attachment refl usual
+          | inl room ↦ forwarded_reply state device access ((some, fits), λ busy. let full : 8 ≤ length device.in_flight = busy in omega arith) device.attachment refl
           | inr busy ↦ (0, Busy, ((some, fits), busy))
         ]
       ]
     ]
 
-request_is_answered : (state : State) (id : ℕ) (access : Access) → AreFirstOrNone state.devices → (frame : ℕ) × (outcome : Outcome) × (new : State) × Requests frame state id access outcome new
-request_is_answered state id access usual = by (device_of state id) refl
+request_is_answered : (state : State) (id : ℕ) (access : Access) → (frame : ℕ) × (outcome : Outcome) × (new : State) × Requests frame state id access outcome new
+request_is_answered state id access = by (device_of state id) refl
   where
     by : (found : Option Device) → device_of state id ≡ found → (frame : ℕ) × (outcome : Outcome) × (new : State) × Requests frame state id access outcome new
     by None absent = (0, Refused NoSuchDevice, state, rw absent (refl, refl))
     by (Some device) there =
-        let told = reply state device access (found_first state id device there usual) in
+        let told = reply state device access in
         (told.0, told.1, state_after state device access told.0 told.1, rw there (told.2, refl))
 
 -- every event is answered
-is_answered : (state : State) (event : Event) → AreFirstOrNone state.devices → IsReached state → IsEvent event → IsAnswered state event
-is_answered state (events.PlugRaw id) usual reached can_come = plug_is_answered state id
-is_answered state (events.AttachFirst id) usual reached can_come = attach_is_answered state id
-is_answered state (events.Grant id page frame rights) usual reached can_come = grant_is_answered state id page frame rights can_come
-is_answered state (events.Release id page) usual reached can_come = release_is_answered state id page
-is_answered state events.Fetch usual reached can_come = (Fetched Empty, state, (no_choice, refl))
-is_answered state events.Poll usual reached can_come = (NoneConfirmed, state, (no_choice, refl))
-is_answered state (events.Read id address len) usual reached can_come =
-    let told = request_is_answered state id (read_of address len) usual in (told.1, told.2, (frame_chosen told.0, told.3))
-is_answered state (events.Write id address bytes) usual reached can_come =
-    let told = request_is_answered state id (write_of address bytes) usual in (told.1, told.2, (frame_chosen told.0, told.3))
-is_answered state (events.Commit id) usual reached can_come = commits_are_answered state id reached
+is_answered : (state : State) (event : Event) → IsReached state → IsAnswered state event
+is_answered state (events.Plug id kind) reached = plug_is_answered state id kind
+is_answered state (events.Attach id mode ats) reached = attach_is_answered state id mode ats
+is_answered state (events.Grant id page frame rights) reached = grant_is_answered state id page frame rights
+is_answered state (events.Release id page) reached = release_is_answered state id page
+is_answered state events.Fetch reached = (Fetched Empty, state, (no_choice, refl))
+is_answered state events.Poll reached = (NoneConfirmed, state, (no_choice, refl))
+is_answered state (events.Read id address len) reached =
+    let told = request_is_answered state id (read_of address len) in (told.1, told.2, (frame_chosen told.0, told.3))
+is_answered state (events.Write id address bytes) reached =
+    let told = request_is_answered state id (write_of address bytes) in (told.1, told.2, (frame_chosen told.0, told.3))
+is_answered state (events.Commit id) reached = commits_are_answered state id reached
 
 -- a state that is reached, after one more step
 reached-step : (old new : State) (event : Event) (outcome : Outcome) → IsReached old → Step old event outcome new → IsReached new
@@ -168,18 +175,12 @@ reached-step old new event outcome (events, outcomes, (frames, levels, run)) ste
     (events ++ event ∷ [], outcomes ++ outcome ∷ [], (frames, levels, run_more (opening frames levels) old new events outcomes event outcome run step))
 
 -- every list of events has a run
-has_run : (state : State) (events : List Event) → AreFirstOrNone state.devices → IsReached state → All IsEvent events → (outcomes : List Outcome) × (last : State) × Run state events outcomes last
-has_run state [] usual reached can_come = ([], state, refl)
-has_run state (event ∷ events) usual reached can_come =
-    let told = is_answered state event usual reached (All-head IsEvent event events can_come) in
-    let rest = has_run told.1 events (first_or_none-step state told.1 event told.0 told.2 usual) (reached-step state told.1 event told.0 reached told.2) (All-tail IsEvent event events can_come) in
+has_run : (state : State) (events : List Event) → IsReached state → (outcomes : List Outcome) × (last : State) × Run state events outcomes last
+has_run state [] reached = ([], state, refl)
+has_run state (event ∷ events) reached =
+    let told = is_answered state event reached in
+    let rest = has_run told.1 events (reached-step state told.1 event told.0 reached told.2) in
     (told.0 ∷ rest.0, rest.1, (told.1, told.2, rest.2))
-
-first_or_none-run : (old new : State) (events : List Event) (outcomes : List Outcome) → Run old events outcomes new → AreFirstOrNone old.devices → AreFirstOrNone new.devices
-first_or_none-run old new [] [] run usual = subst (λ (s : State). AreFirstOrNone s.devices) (sym run) usual
-first_or_none-run old new (event ∷ events) (outcome ∷ outcomes) (mid, step, run) usual = first_or_none-run mid new events outcomes run (first_or_none-step old mid event outcome step usual)
-first_or_none-run old new [] (outcome ∷ outcomes) run usual = absurd run
-first_or_none-run old new (event ∷ events) [] run usual = absurd run
 
 -- a run, and then another
 run-append : (old mid new : State) (events later : List Event) (outcomes told : List Outcome) → Run old events outcomes mid → Run mid later told new → Run old (events ++ later) (outcomes ++ told) new
@@ -189,8 +190,8 @@ run-append old mid new (event ∷ events) later [] told run rest = absurd run
 run-append old mid new (event ∷ events) later (outcome ∷ outcomes) told (next, step, run) rest = (next, step, run-append next mid new events later outcomes told run rest)
 
 -- each run from power-on over some events goes on over later ones
-pub goes_on : (frames levels : ℕ) (mid : State) (events later : List Event) (outcomes : List Outcome) → Run (opening frames levels) events outcomes mid → All IsEvent later
+pub goes_on : (frames levels : ℕ) (mid : State) (events later : List Event) (outcomes : List Outcome) → Run (opening frames levels) events outcomes mid
     → (told : List Outcome) × (last : State) × Run (opening frames levels) (events ++ later) (outcomes ++ told) last
-goes_on frames levels mid events later outcomes run can_come =
-    let rest = has_run mid later (first_or_none-run (opening frames levels) mid events outcomes run (All-nil (λ (d : Device). IsFirstOrNone d.attachment))) (events, outcomes, (frames, levels, run)) can_come in
+goes_on frames levels mid events later outcomes run =
+    let rest = has_run mid later (events, outcomes, (frames, levels, run)) in
     (rest.0, rest.1, run-append (opening frames levels) mid rest.1 events later outcomes rest.0 run rest.2)

@@ -1,6 +1,5 @@
 pub mod WritingLemmas
 pub mod ReadingLemmas
-pub mod AttachmentLemmas
 pub mod AnswerLemmas
 pub mod RunLemmas
 pub mod TextLemmas

@@ -2,13 +2,13 @@
 use Rattle.std.proofs.Common.{◌≡◌, ◌+◌, ◌++◌, ◌∙◌, ℕ, List, [], ◌∷◌, length, take, drop, All, Option, refl, sym, ap, subst, append_assoc, arith}
 use Rattle.std.specs.Io.KnownBytes.{Appends}
 use Rattle.std.proofs.lemmas.List.{take_all, take-append-drop}
-use Rattle.std.proofs.lemmas.List.Elements.{All-drop}
 use Rattle.std.proofs.lemmas.List.Concat.{flat_map-append}
 use Rattle.iom_machine.specs.declared.event.Event.{Event}
 use Rattle.iom_machine.specs.declared.outcome.Outcome.{Outcome}
 use Rattle.iom_machine.specs.declared.outcome.Outcome.TheVariants.{Done}
 use Rattle.iom_machine.specs.declared.state.State.{State}
-use Rattle.iom_machine.specs.Machine.{IsEvent, Run}
+use Rattle.iom_machine.specs.Headline.{IsReached}
+use Rattle.iom_machine.specs.Machine.{Run}
 use Rattle.iom_machine.specs.PowerOn.{opening}
 use Rattle.iom_machine.proofs.ReclaimLemmas.{reclaims}
 use Rattle.iom_script.specs.Lines.{line_of, lines_of}
@@ -16,38 +16,43 @@ use Rattle.iom_world.specs.declared.world.World.{World}
 use Rattle.iom_world.specs.Queue.{no_commands}
 use Rattle.iom_world.specs.Runs.{AreOutcomes, RunsTo, FailsAfter}
 use Rattle.iom_world.specs.Shows.{Shows}
+use Rattle.iom_world.proofs.RunLemmas.{are_outcomes}
 use Rattle.iom_runner.specs.declared.writing.LineWriter.{LineWriter}
 use Rattle.iom_runner.specs.Text.{TellsWorld, WritesRun, BeginsRun, BeginsRunSoFar}
-use Rattle.iom_runner.specs.Writing.{AppendsFront, KeepsWriter, TakesText, TakesLine, FailsWriting}
+use Rattle.iom_runner.specs.Writing.{AppendsFront, AppendsPart, KeepsWriter, TakesText, TakesLine, FailsWriting}
 use Rattle.iom_runner.proofs.AnswerLemmas.{goes_on}
-use Rattle.iom_runner.proofs.WritingLemmas.{front-longer, takes-more, takes-lines, all_written, front_written}
+use Rattle.iom_runner.proofs.WritingLemmas.{front-longer, part-front, part-longer, takes-more, takes-lines, all_written, part_written}
+
+-- power-on is reached, by no events
+power_on_is_reached : (frames levels : ℕ) → IsReached (opening frames levels)
+power_on_is_reached frames levels = ([], [], (frames, levels, refl))
 
 -- the text of a run over the first events is a beginning of one over all, as every event has an answer
 tells_more : (frames levels : ℕ) (events : List Event) (count : ℕ) (outcomes : List Outcome) (last : State) (old new : Option (List ℕ))
-    → Run (opening frames levels) (take count events) outcomes last → All IsEvent events → AppendsFront old new (line_of Done ++ lines_of outcomes)
+    → Run (opening frames levels) (take count events) outcomes last → AppendsFront old new (line_of Done ++ lines_of outcomes)
     → BeginsRun (opening frames levels) events old new
-tells_more frames levels events count outcomes last old new ran can_come front =
-    let rest = goes_on frames levels last (take count events) (drop count events) outcomes ran (All-drop IsEvent count events can_come) in
+tells_more frames levels events count outcomes last old new ran front =
+    let rest = goes_on frames levels last (take count events) (drop count events) outcomes ran in
     let whole : Run (opening frames levels) events (outcomes ++ rest.0) rest.1 =
     subst (λ (es : List Event). Run (opening frames levels) es (outcomes ++ rest.0) rest.1) (take-append-drop count events) rest.2 in
     let lines : line_of Done ++ lines_of (outcomes ++ rest.0) ≡ (line_of Done ++ lines_of outcomes) ++ lines_of rest.0 =
     ap (λ l. line_of Done ++ l) (flat_map-append line_of outcomes rest.0) ∙ sym (append_assoc (line_of Done) (lines_of outcomes) (lines_of rest.0)) in (
       line_of Done ++ lines_of (outcomes ++ rest.0),
-      (outcomes ++ rest.0, rest.1, whole, (reclaims frames levels events (outcomes ++ rest.0) rest.1 whole, refl)),
+      (outcomes ++ rest.0, rest.1, whole, reclaims (opening frames levels) events (outcomes ++ rest.0) rest.1 (power_on_is_reached frames levels) whole, refl),
       subst (AppendsFront old new) (sym lines) (front-longer old new (line_of Done ++ lines_of outcomes) (lines_of rest.0) front),
     )
 
 -- nothing of a run is told
-pub tells_none : (frames levels : ℕ) (events : List Event) (old new : Option (List ℕ)) → All IsEvent events → AppendsFront old new []
+pub tells_none : (frames levels : ℕ) (events : List Event) (old new : Option (List ℕ)) → AppendsFront old new []
     → BeginsRun (opening frames levels) events old new
-tells_none frames levels events old new can_come front =
-    tells_more frames levels events 0 [] (opening frames levels) old new refl can_come (front-longer old new [] (line_of Done ++ []) front)
+tells_none frames levels events old new front =
+    tells_more frames levels events 0 [] (opening frames levels) old new refl (front-longer old new [] (line_of Done ++ []) front)
 
--- a beginning of a text of the first events is one of a text of all
-pub begins_whole : (frames levels : ℕ) (events : List Event) (old new : Option (List ℕ)) → All IsEvent events
+-- a part of a text of the first events is a beginning of a text of all
+pub begins_whole : (frames levels : ℕ) (events : List Event) (old new : Option (List ℕ))
     → BeginsRunSoFar (opening frames levels) events old new → BeginsRun (opening frames levels) events old new
-begins_whole frames levels events old new can_come (text, (count, (world, end, outcomes, last, shows, none, are, (reclaim, is))), front) =
-    tells_more frames levels events count outcomes last old new are.run can_come (subst (AppendsFront old new) is front)
+begins_whole frames levels events old new (text, (count, (world, end, outcomes, last, shows, none, are, reclaim, is)), part) =
+    tells_more frames levels events count outcomes last old new are.run (subst (AppendsFront old new) is (part-front old new text part))
 
 -- what a sink that had nothing takes of the line of the world and the lines of a run
 takes_run : {W : Type 0} (contents : W → Option (List ℕ)) (old opened new : LineWriter W) (state : State) (events : List Event) (first world : World)
@@ -60,7 +65,7 @@ tells_world : (frames levels : ℕ) (events : List Event) (outcomes : List Outco
     → Shows world (opening frames levels) → world.commands ≡ no_commands → AreOutcomes (opening frames levels) world events outcomes last new
     → TellsWorld (opening frames levels) events (line_of Done ++ lines_of outcomes)
 tells_world frames levels events outcomes last world new shows none are =
-    (world, new, outcomes, last, shows, none, are, (reclaims frames levels events outcomes last are.run, refl))
+    (world, new, outcomes, last, shows, none, are, are.reclaim (power_on_is_reached frames levels), refl)
 
 -- a run whose lines are all written is told
 pub told_whole : {W : Type 0} (contents : W → Option (List ℕ)) (frames levels : ℕ) (events : List Event) (old opened mid new : LineWriter W) (first world : World)
@@ -74,28 +79,28 @@ told_whole contents frames levels events old opened mid new first world empty pu
   all_written contents old mid (contents new.writer.now) (line_of Done ++ lines_of ran.0) empty (takes_run contents old opened mid (opening frames levels) events first world put ran) wrote,
 )
 
--- nothing of a run is told, and no event came
+-- of the line of the world a part is written, and no event came
 pub so_far_none : (frames levels : ℕ) (events : List Event) (old new : Option (List ℕ)) (world : World)
-    → Shows world (opening frames levels) → world.commands ≡ no_commands → AppendsFront old new [] → BeginsRunSoFar (opening frames levels) events old new
-so_far_none frames levels events old new world shows none front =
-    let are : AreOutcomes (opening frames levels) world [] [] (opening frames levels) world = record { run = refl; through = (shows, refl) } in (
+    → Shows world (opening frames levels) → world.commands ≡ no_commands → AppendsPart old new [] → BeginsRunSoFar (opening frames levels) events old new
+so_far_none frames levels events old new world shows none part =
+    let are = are_outcomes (opening frames levels) (opening frames levels) world world [] [] refl (shows, refl) in (
       line_of Done ++ [],
       (0, tells_world frames levels [] [] (opening frames levels) world world shows none are),
-      front-longer old new [] (line_of Done ++ []) front,
+      part-longer old new [] (line_of Done ++ []) part,
     )
 
--- a run of which a beginning is written at the end
+-- a run of which a part is written at the end
 pub told_in_part : {W : Type 0} (contents : W → Option (List ℕ)) (frames levels : ℕ) (events : List Event) (old opened mid new : LineWriter W) (first world : World)
     → old.buffer ≡ [] → TakesLine contents old Done opened → Shows first (opening frames levels) → first.commands ≡ no_commands
     → RunsTo (TakesLine contents) (opening frames levels) first events opened mid world
-    → AppendsFront (contents mid.writer.now) (contents new.writer.now) mid.buffer
+    → AppendsPart (contents mid.writer.now) (contents new.writer.now) mid.buffer
     → BeginsRunSoFar (opening frames levels) events (contents old.writer.now) (contents new.writer.now)
 told_in_part contents frames levels events old opened mid new first world empty put shows none ran wrote =
     let all : take (length events) events ≡ events = take_all (length events) events (omega arith) in
     let are = subst (λ (es : List Event). AreOutcomes (opening frames levels) first es ran.0 ran.1 world) (sym all) ran.2 in (
       line_of Done ++ lines_of ran.0,
       (length events, tells_world frames levels (take (length events) events) ran.0 ran.1 first world shows none are),
-      front_written contents old mid (contents new.writer.now) (line_of Done ++ lines_of ran.0) empty (takes_run contents old opened mid (opening frames levels) events first world put ran) wrote,
+      part_written contents old mid (contents new.writer.now) (line_of Done ++ lines_of ran.0) empty (takes_run contents old opened mid (opening frames levels) events first world put ran) wrote,
     )
 
 -- a run that ends where the sink fails
@@ -107,11 +112,11 @@ told_until_failure contents frames levels events old opened new first world empt
     let all = outcomes ++ last ∷ [] in
     let lines : line_of Done ++ lines_of all ≡ (line_of Done ++ lines_of outcomes) ++ lines_of (last ∷ []) =
     ap (λ l. line_of Done ++ l) (flat_map-append line_of outcomes (last ∷ [])) ∙ sym (append_assoc (line_of Done) (lines_of outcomes) (lines_of (last ∷ []))) in
-    let front = front_written contents old middle (contents new.writer.now) (line_of Done ++ lines_of outcomes) empty
+    let part = part_written contents old middle (contents new.writer.now) (line_of Done ++ lines_of outcomes) empty
     (takes-more contents old opened middle (line_of Done) (lines_of outcomes) put (takes-lines contents opened middle outcomes took)) failed.1 in (
       line_of Done ++ lines_of all,
       (length outcomes + 1, tells_world frames levels (take (length outcomes + 1) events) all next first world shows none ran),
-      subst (AppendsFront (contents old.writer.now) (contents new.writer.now)) (sym lines) (front-longer _ _ _ (lines_of (last ∷ [])) front),
+      subst (AppendsPart (contents old.writer.now) (contents new.writer.now)) (sym lines) (part-longer _ _ _ (lines_of (last ∷ [])) part),
     )
 
 -- the sink writes to the same writer, where the run goes to its end

@@ -1,13 +1,13 @@
 -- What is written, a part after another.
-use Rattle.std.proofs.Common.{◌≡◌, ◌-◌, ◌++◌, ◌∙◌, ℕ, List, [], ◌∷◌, length, take, drop, Option, None, Some, Result, Ok, Err, OnErr, refl, sym, ap, subst, append_assoc, append-nil, arith, length-drop, take-append-drop}
+use Rattle.std.proofs.Common.{◌≡◌, ◌-◌, ◌<◌, ◌++◌, ◌∙◌, ℕ, List, [], ◌∷◌, length, take, drop, Option, None, Some, Result, Ok, Err, OnErr, refl, sym, ap, subst, append_assoc, append-nil, arith, length-drop, take-append-drop}
 use Rattle.std.proofs.lemmas.List.{take_all}
 use Rattle.std.specs.Io.KnownBytes.{Appends, Keeps}
-use Rattle.std.proofs.KnownBytes.{Appends-nil, Appends-trans}
+use Rattle.std.proofs.KnownBytes.{Appends-nil, Appends-trans, Appends-kept}
 use Rattle.iom_machine.specs.declared.outcome.Outcome.{Outcome}
 use Rattle.iom_script.specs.Lines.{line_of, lines_of}
 use Rattle.iom_world.specs.Runs.{TakesAll}
 use Rattle.iom_runner.specs.declared.writing.LineWriter.{LineWriter}
-use Rattle.iom_runner.specs.Writing.{AppendsFront, TakesText, TakesLine}
+use Rattle.iom_runner.specs.Writing.{AppendsFront, AppendsPart, TakesText, TakesLine}
 
 -- nothing is written of a text
 pub front-none : (known : Option (List ℕ)) (text : List ℕ) → AppendsFront known known text
@@ -22,12 +22,26 @@ pub front-longer : (old new : Option (List ℕ)) (text more : List ℕ) → Appe
 front-longer old new text more (front, rest, is, wrote) =
     (front, rest ++ more, ap (λ l. l ++ more) is ∙ append_assoc front rest more, wrote)
 
--- some is written, and then a beginning of the rest
-pub front-after : (old mid new : Option (List ℕ)) (written text : List ℕ) → Appends old mid written → AppendsFront mid new text → AppendsFront old new (written ++ text)
-front-after old mid new written text first (front, rest, is, wrote) = (
+-- a part is a beginning
+pub part-front : (old new : Option (List ℕ)) (text : List ℕ) → AppendsPart old new text → AppendsFront old new text
+part-front old new text (front, next, rest, is, wrote) = (front, next ∷ rest, is, wrote)
+
+-- nothing is written of a text that has a byte
+pub part-none : (known : Option (List ℕ)) (next : ℕ) (rest : List ℕ) → AppendsPart known known (next ∷ rest)
+part-none known next rest = ([], next, rest, refl, Appends-nil known)
+
+-- a part of a text is one of a longer text
+pub part-longer : (old new : Option (List ℕ)) (text more : List ℕ) → AppendsPart old new text → AppendsPart old new (text ++ more)
+part-longer old new text more (front, next, rest, is, wrote) =
+    (front, next, rest ++ more, ap (λ l. l ++ more) is ∙ append_assoc front (next ∷ rest) more, wrote)
+
+-- some is written, and then a part of the rest
+pub part-after : (old mid new : Option (List ℕ)) (written text : List ℕ) → Appends old mid written → AppendsPart mid new text → AppendsPart old new (written ++ text)
+part-after old mid new written text first (front, next, rest, is, wrote) = (
   written ++ front,
+  next,
   rest,
-  ap (λ l. written ++ l) is ∙ sym (append_assoc written front rest),
+  ap (λ l. written ++ l) is ∙ sym (append_assoc written front (next ∷ rest)),
   Appends-trans old mid new written front first wrote,
 )
 
@@ -50,17 +64,17 @@ takes-lines contents old new [] all =
 takes-lines contents old new (outcome ∷ outcomes) (mid, put, all) =
     takes-more contents old mid new (line_of outcome) (lines_of outcomes) put (takes-lines contents mid new outcomes all)
 
--- a sink that had nothing took a text, and then all that waits is written
+-- a sink that had nothing took a text, and then all of the buffer is written
 pub all_written : {W : Type 0} (contents : W → Option (List ℕ)) (old mid : LineWriter W) (new : Option (List ℕ)) (text : List ℕ)
     → old.buffer ≡ [] → TakesText contents old text mid → Appends (contents mid.writer.now) new mid.buffer → Appends (contents old.writer.now) new text
 all_written contents old mid new text empty (same, written, wrote, is) last =
     subst (Appends (contents old.writer.now) new) (sym (sym (ap (λ l. l ++ text) empty) ∙ is)) (Appends-trans _ _ new written mid.buffer wrote last)
 
--- a sink that had nothing took a text, and then a beginning of what waits is written
-pub front_written : {W : Type 0} (contents : W → Option (List ℕ)) (old mid : LineWriter W) (new : Option (List ℕ)) (text : List ℕ)
-    → old.buffer ≡ [] → TakesText contents old text mid → AppendsFront (contents mid.writer.now) new mid.buffer → AppendsFront (contents old.writer.now) new text
-front_written contents old mid new text empty (same, written, wrote, is) last =
-    subst (AppendsFront (contents old.writer.now) new) (sym (sym (ap (λ l. l ++ text) empty) ∙ is)) (front-after _ _ new written mid.buffer wrote last)
+-- a sink that had nothing took a text, and then a part of the buffer is written
+pub part_written : {W : Type 0} (contents : W → Option (List ℕ)) (old mid : LineWriter W) (new : Option (List ℕ)) (text : List ℕ)
+    → old.buffer ≡ [] → TakesText contents old text mid → AppendsPart (contents mid.writer.now) new mid.buffer → AppendsPart (contents old.writer.now) new text
+part_written contents old mid new text empty (same, written, wrote, is) last =
+    subst (AppendsPart (contents old.writer.now) new) (sym (sym (ap (λ l. l ++ text) empty) ∙ is)) (part-after _ _ new written mid.buffer wrote last)
 
 -- what is so anyway is so at an error
 pub at_err : {T E P : Type 0} (result : Result T E) → P → OnErr result P
@@ -72,10 +86,14 @@ pub at_fault : {T E P : Type 0} (result : Result T E) (fault : E) → result ≡
 at_fault (Ok x) fault is fact = cc
 at_fault (Err e) fault is fact = fact
 
+-- what is left of the bytes, where the first are written
+abbrev pub IsLeft : Option (List ℕ) → Option (List ℕ) → List ℕ → List ℕ → Type 0
+IsLeft old mid bytes rest = (written : List ℕ) × Appends old mid written × (bytes ≡ written ++ rest)
+
 -- some of what is left is written
-pub writes_some : (old mid new : Option (List ℕ)) (bytes written rest : List ℕ) (count : ℕ) → Appends old mid written → bytes ≡ written ++ rest → Appends mid new (take count rest)
-    → (after : List ℕ) × Appends old new after × (bytes ≡ after ++ take (length rest - count) (drop count rest))
-writes_some old mid new bytes written rest count wrote is more =
+pub left_after : (old mid new : Option (List ℕ)) (bytes rest : List ℕ) (count : ℕ) → IsLeft old mid bytes rest → Appends mid new (take count rest)
+    → IsLeft old new bytes (take (length rest - count) (drop count rest))
+left_after old mid new bytes rest count (written, wrote, is) more =
     let left : take (length rest - count) (drop count rest) ≡ drop count rest = take_all (length rest - count) (drop count rest) (simp length-drop (omega arith)) in (
       written ++ take count rest,
       Appends-trans old mid new written (take count rest) wrote more,
@@ -83,10 +101,13 @@ writes_some old mid new bytes written rest count wrote is more =
           ∙ sym (append_assoc written (take count rest) (take (length rest - count) (drop count rest))),
     )
 
--- none is
-pub writes_none : (old mid new : Option (List ℕ)) (bytes written rest : List ℕ) → Appends old mid written → bytes ≡ written ++ rest → Keeps mid new
-    → (after : List ℕ) × Appends old new after × (bytes ≡ after ++ rest)
-writes_none None mid new bytes written rest wrote is same = (written, tt, is)
-writes_none (Some xs) None new bytes written rest wrote is same = absurd wrote
-writes_none (Some xs) (Some ys) None bytes written rest wrote is same = absurd same
-writes_none (Some xs) (Some ys) (Some zs) bytes written rest wrote is same = (written, same ∙ wrote, is)
+-- where something is left, and no more is written, a part is
+pub left_is_part : (old mid new : Option (List ℕ)) (bytes rest : List ℕ) → IsLeft old mid bytes rest → 0 < length rest → Keeps mid new → AppendsPart old new bytes
+left_is_part old mid new bytes [] left some same = absurd (omega arith)
+left_is_part old mid new bytes (next ∷ rest) (written, wrote, is) some same = (written, next, rest, is, Appends-kept old mid new written wrote same)
+
+-- a write of no bytes writes nothing
+pub none_written : (old new : Option (List ℕ)) (rest : List ℕ) (count : ℕ) → count ≡ 0 → Appends old new (take count rest) → Keeps old new
+none_written None new rest count zero_is more = tt
+none_written (Some xs) None rest count zero_is more = absurd more
+none_written (Some xs) (Some ys) rest count zero_is more = more ∙ ap (λ n. xs ++ take n rest) zero_is ∙ append-nil xs

@@ -7,11 +7,11 @@ use Rattle.iom_script.specs.declared.parser.ScriptFault.TheVariants as script_fa
 use Rattle.iom_script.specs.Grammar.{IsFirstBadLine}
 
 -- the bytes weren't parsed: for want of memory, or since this line is the first that isn't in the grammar
-abbrev pub Explains : List ℕ → RunFault → Type 0
-Explains bytes (Script number) = IsFirstBadLine bytes number
-Explains bytes Memory = ⊤
-Explains bytes Reading = ⊥
-Explains bytes Writing = ⊥
+abbrev pub ExplainsUnparsed : List ℕ → RunFault → Type 0
+ExplainsUnparsed bytes (Script number) = IsFirstBadLine bytes number
+ExplainsUnparsed bytes Memory = ⊤
+ExplainsUnparsed bytes Reading = ⊥
+ExplainsUnparsed bytes Writing = ⊥
 
 -- the fault of a run whose script has this fault
 abbrev pub run_fault_of : ScriptFault → RunFault

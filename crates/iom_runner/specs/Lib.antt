@@ -1,3 +1,4 @@
+pub mod Reading
 pub mod Statuses
 pub mod Writing
 pub mod Text

@@ -1,18 +1,15 @@
--- The statuses that the program ends with.
+-- The statuses that the program ends with, where it doesn't end well.
 use Rattle.std.specs.Prelude.{ℕ}
-use Rattle.iom_runner.specs.declared.faults.ArgsFault.{ArgsFault}
 use Rattle.iom_runner.specs.declared.faults.ArgsFault.TheVariants as args_faults
-use Rattle.iom_runner.specs.declared.faults.RunFault.{RunFault}
-use Rattle.iom_runner.specs.declared.faults.RunFault.TheVariants as faults
+use Rattle.iom_runner.specs.declared.faults.RunFault.TheVariants as run_faults
+use Rattle.iom_runner.specs.declared.faults.ProgramFault.{ProgramFault}
+use Rattle.iom_runner.specs.declared.faults.ProgramFault.TheVariants.{Args, Run}
 
--- 2 where the script isn't in the grammar, else 1
-abbrev pub status_of : RunFault → ℕ
-status_of (faults.Script number) = 2
-status_of faults.Reading = 1
-status_of faults.Writing = 1
-status_of faults.Memory = 1
-
--- 3 where the command line isn't lawful, else 1
-abbrev pub args_status_of : ArgsFault → ℕ
-args_status_of args_faults.Bad = 3
-args_status_of args_faults.Memory = 1
+-- 3 where the command line isn't lawful, 2 where the script isn't in the grammar, else 1
+abbrev pub status_of : ProgramFault → ℕ
+status_of (Args args_faults.Bad) = 3
+status_of (Args args_faults.Memory) = 1
+status_of (Run (run_faults.Script number)) = 2
+status_of (Run run_faults.Reading) = 1
+status_of (Run run_faults.Writing) = 1
+status_of (Run run_faults.Memory) = 1

@@ -15,30 +15,29 @@ use Rattle.iom_world.specs.declared.world.World.{World}
 use Rattle.iom_world.specs.Queue.{no_commands}
 use Rattle.iom_world.specs.Runs.{AreOutcomes}
 use Rattle.iom_world.specs.Shows.{Shows}
-use Rattle.iom_runner.specs.Writing.{AppendsFront}
+use Rattle.iom_runner.specs.Writing.{AppendsFront, AppendsPart}
 
 -- the state at power-on
 abbrev pub power_on : WorldSize → State
 power_on size = opening size.frames size.levels
 
--- a line for the world, `ok`, and one for each outcome of a run over the events, of which the sentences of the headline hold
-abbrev pub TellsOutcomes : State → List Event → List Outcome → State → List ℕ → Type 0
-TellsOutcomes first events outcomes last text =
-    Reclaims first events outcomes last × (text ≡ line_of Done ++ lines_of outcomes)
+-- a line for the world, `ok`, and one for each outcome
+abbrev pub run_text : List Outcome → List ℕ
+run_text outcomes = line_of Done ++ lines_of outcomes
 
--- the text of a run over the events from the first state
+-- the text of a run over the events from the first state, of which the sentences of the headline hold
 abbrev pub TellsRun : State → List Event → List ℕ → Type 0
 TellsRun first events text =
-    (outcomes : List Outcome) × (last : State)
-    × Run first events outcomes last × TellsOutcomes first events outcomes last text
+    (outcomes : List Outcome) × (last : State) × (run : Run first events outcomes last)
+    × Reclaims first events outcomes last run × (text ≡ run_text outcomes)
 
--- the text of a run that a world goes through: at first it shows the first state, and no command waits in it; and each event also does to it what the
+-- the text of such a run that a world goes through: at first it shows the first state, and no command waits in it; and each event also does to it what the
 -- machine doesn't see
 abbrev pub TellsWorld : State → List Event → List ℕ → Type 0
 TellsWorld first events text =
     (world new : World) × (outcomes : List Outcome) × (last : State)
-    × Shows world first × (world.commands ≡ no_commands)
-    × AreOutcomes first world events outcomes last new × TellsOutcomes first events outcomes last text
+    × Shows world first × (world.commands ≡ no_commands) × (are : AreOutcomes first world events outcomes last new)
+    × Reclaims first events outcomes last are.run × (text ≡ run_text outcomes)
 
 -- the text of such a run over some of the events, from the first on
 abbrev pub TellsSoFar : State → List Event → List ℕ → Type 0
@@ -52,9 +51,9 @@ WritesRun first events old new = (text : List ℕ) × TellsWorld first events te
 abbrev pub BeginsRun : State → List Event → Option (List ℕ) → Option (List ℕ) → Type 0
 BeginsRun first events old new = (text : List ℕ) × TellsRun first events text × AppendsFront old new text
 
--- known contents grow by a beginning of the text of a run over the first events that a world goes through
+-- known contents grow by a beginning, but not by all, of the text of a run over the first events that a world goes through
 abbrev pub BeginsRunSoFar : State → List Event → Option (List ℕ) → Option (List ℕ) → Type 0
-BeginsRunSoFar first events old new = (text : List ℕ) × TellsSoFar first events text × AppendsFront old new text
+BeginsRunSoFar first events old new = (text : List ℕ) × TellsSoFar first events text × AppendsPart old new text
 
 -- The text of a script, by what tells the text of events from a state: nothing where the script says nothing; else that of its events from power-on.
 abbrev pub IsTextOf : (State → List Event → List ℕ → Type 0) → Script → List ℕ → Type 0
@@ -68,6 +67,6 @@ WritesText script old new = (text : List ℕ) × IsTextOf TellsWorld script text
 abbrev pub BeginsText : Script → Option (List ℕ) → Option (List ℕ) → Type 0
 BeginsText script old new = (text : List ℕ) × IsTextOf TellsRun script text × AppendsFront old new text
 
--- known contents grow by a beginning of a text of the script's first events, told of a run that a world goes through
+-- known contents grow by a beginning, but not by all, of a text of the script's first events, told of a run that a world goes through
 abbrev pub BeginsTextSoFar : Script → Option (List ℕ) → Option (List ℕ) → Type 0
-BeginsTextSoFar script old new = (text : List ℕ) × IsTextOf TellsSoFar script text × AppendsFront old new text
+BeginsTextSoFar script old new = (text : List ℕ) × IsTextOf TellsSoFar script text × AppendsPart old new text

@@ -1,5 +1,5 @@
 -- What is written where writing may fail half way, and what a sink of lines does with a text.
-use Rattle.std.specs.Prelude.{◌≡◌, ℕ, List, ◌++◌, Option}
+use Rattle.std.specs.Prelude.{◌≡◌, ℕ, List, ◌∷◌, ◌++◌, Option}
 use Rattle.std.specs.Io.KnownBytes.{Appends}
 use Rattle.iom_machine.specs.declared.outcome.Outcome.{Outcome}
 use Rattle.iom_script.specs.Lines.{line_of}
@@ -9,11 +9,16 @@ use Rattle.iom_runner.specs.declared.writing.LineWriter.{LineWriter}
 abbrev pub AppendsFront : Option (List ℕ) → Option (List ℕ) → List ℕ → Type 0
 AppendsFront old new text = (front rest : List ℕ) × (text ≡ front ++ rest) × Appends old new front
 
+-- known contents grow by a beginning of the text, and of the text at least a byte is left
+abbrev pub AppendsPart : Option (List ℕ) → Option (List ℕ) → List ℕ → Type 0
+AppendsPart old new text =
+    (front : List ℕ) × (next : ℕ) × (rest : List ℕ) × (text ≡ front ++ next ∷ rest) × Appends old new front
+
 -- the sink writes to the same writer
 abbrev pub KeepsWriter : {W : Type 0} → LineWriter W → LineWriter W → Type 0
 KeepsWriter old new = new.writer.ghost_name ≡ old.writer.ghost_name
 
--- the sink takes the text: of what waited and the text a beginning is written, and the rest waits
+-- the sink takes the text: of what was in the buffer and the text a beginning is written, and the rest is in the buffer
 abbrev pub TakesText : {W : Type 0} → (W → Option (List ℕ)) → LineWriter W → List ℕ → LineWriter W → Type 0
 TakesText contents old text new =
     KeepsWriter old new
@@ -23,7 +28,7 @@ TakesText contents old text new =
 abbrev pub TakesLine : {W : Type 0} → (W → Option (List ℕ)) → LineWriter W → Outcome → LineWriter W → Type 0
 TakesLine contents old outcome new = TakesText contents old (line_of outcome) new
 
--- the sink fails: of what waited a beginning is written
+-- the sink fails: of what was in the buffer a beginning is written, and not all
 abbrev pub FailsWriting : {W : Type 0} → (W → Option (List ℕ)) → LineWriter W → Outcome → LineWriter W → Type 0
 FailsWriting contents old outcome new =
-    KeepsWriter old new × AppendsFront (contents old.writer.now) (contents new.writer.now) old.buffer
+    KeepsWriter old new × AppendsPart (contents old.writer.now) (contents new.writer.now) old.buffer

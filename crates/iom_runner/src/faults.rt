@@ -1,7 +1,7 @@
 // What keeps a script from being run, and the status that the program then ends with.
 ghost use Rattle.std.specs.Prelude.{◌≡◌};
 ghost use Rattle.iom_runner.specs.Bytes.{run_fault_of};
-ghost use Rattle.iom_runner.specs.Statuses.{status_of, args_status_of};
+ghost use Rattle.iom_runner.specs.Statuses.{status_of};
 
 use iom_script::ScriptFault;
 use thiserror::Error;
@@ -43,24 +43,46 @@ pub enum ArgsFault {
     Memory,
 }
 
-/// The status with which the program ends after the fault: 2 for a script that isn't in the grammar, 1
-/// for any other.
-pub fn exit_status(fault: &RunFault) -> u8
-    ensures { result ≡ status_of fault.now }
-{
-    match fault {
-        RunFault::Script(_) => 2,
-        RunFault::Reading | RunFault::Writing | RunFault::Memory => 1,
+/// Why the program doesn't end well.
+#[derive(Debug, Drop, Error)]
+pub enum ProgramFault {
+    #[error("{0}")]
+    Args(ArgsFault),
+    #[error("{0}")]
+    Run(RunFault),
+}
+
+impl From<ArgsFault> for ProgramFault {
+    ghost use Rattle.iom_runner.specs.declared.faults.ProgramFault.TheVariants.{Args};
+
+    ghost from_gives = { λ fault program. program ≡ Args fault };
+
+    fn from(fault: ArgsFault) -> ProgramFault {
+        ProgramFault::Args(fault)
     }
 }
 
-/// The status with which the program ends after the fault: 3 for a bad command line, 1 for want of
-/// memory.
-pub fn args_status(fault: &ArgsFault) -> u8
-    ensures { result ≡ args_status_of fault.now }
-{
-    match fault {
-        ArgsFault::Bad => 3,
-        ArgsFault::Memory => 1,
+impl From<RunFault> for ProgramFault {
+    ghost use Rattle.iom_runner.specs.declared.faults.ProgramFault.TheVariants.{Run};
+
+    ghost from_gives = { λ fault program. program ≡ Run fault };
+
+    fn from(fault: RunFault) -> ProgramFault {
+        ProgramFault::Run(fault)
+    }
+}
+
+impl ProgramFault {
+    /// The status with which the program ends: 3 for a bad command line, 2 for a script that isn't in
+    /// the grammar, and 1 where reading, writing or memory failed.
+    pub fn status(&self) -> u8
+        ensures { result ≡ status_of self.now }
+    {
+        match self {
+            ProgramFault::Args(ArgsFault::Bad) => 3,
+            ProgramFault::Run(RunFault::Script(_)) => 2,
+            ProgramFault::Args(ArgsFault::Memory)
+            | ProgramFault::Run(RunFault::Reading | RunFault::Writing | RunFault::Memory) => 1,
+        }
     }
 }

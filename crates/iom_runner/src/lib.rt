@@ -1,5 +1,5 @@
-//! Scripts run: from the bytes of a script to the bytes of its lines, over any reader and writer, and
-//! what the program's command line says.
+//! Scripts run: from the bytes of a script to the bytes of its lines, over any reader and writer; and
+//! the program `iommu-run`, from its command line to its exit status.
 //!
 //! A script is in the language of [`iom_script`]; its events happen in a [`iom_world::World`], which is
 //! a model of an IOMMU with its driver (RISC-V IOMMU Architecture Specification 1.0). `specs/Text.antt`
@@ -8,15 +8,18 @@
 //!
 //! The layer above may rely on this: [`run`] writes the right text of the script that it reads and
 //! nothing else, or names the script's first bad line and writes nothing; where reading, writing or
-//! memory fails, what was written is a beginning of such a text.
+//! memory fails, what was written is a beginning of such a text. [`ProgramFault::status`] gives each
+//! fault its exit status.
 #![tactic(auto)]
 
 mod arguments;
 mod faults;
+mod program;
 mod reading;
 mod runner;
 mod writing;
 
 pub use arguments::{Args, read_words};
-pub use faults::{ArgsFault, RunFault, args_status, exit_status};
+pub use faults::{ArgsFault, ProgramFault, RunFault};
+pub use program::{run_words, start};
 pub use runner::run;

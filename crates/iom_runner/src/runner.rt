@@ -7,7 +7,8 @@ ghost use Rattle.iom_script.specs.declared.script.Script.{Script};
 ghost use Rattle.iom_script.specs.Grammar.{IsScript, IsFirstBadLine, IsWorldSize};
 ghost use Rattle.iom_world.specs.Queue.{no_commands};
 ghost use Rattle.iom_world.specs.Shows.{Shows};
-ghost use Rattle.iom_runner.specs.Bytes.{Explains};
+ghost use Rattle.iom_runner.specs.Bytes.{ExplainsUnparsed};
+ghost use Rattle.iom_runner.specs.Reading.{ConsumesAtMost};
 ghost use Rattle.iom_runner.specs.Text.{power_on, WritesRun, BeginsRun, BeginsRunSoFar, WritesText, BeginsText, BeginsTextSoFar};
 ghost use Rattle.iom_runner.specs.Writing.{KeepsWriter};
 
@@ -25,7 +26,7 @@ fn script_of(alloc: Global, bytes: &[u8]) -> Result<Script, RunFault>
     ensures script { IfOk result (IsScript bytes.now) }
     ensures events { IfOk result (λ script. All IsEvent script.events) }
     ensures world { IfOk result (λ script. IfSome script.world IsWorldSize) }
-    ensures fault { IfErr result (Explains bytes.now) }
+    ensures fault { IfErr result (ExplainsUnparsed bytes.now) }
 {
     Ok(parse(alloc, bytes)?)
 }
@@ -98,7 +99,7 @@ fn tell_run<W: Write>(
 fn tell<W: Write>(alloc: Global, script: &Script, writer: &mut W) -> Result<(), RunFault>
     requires events { All IsEvent script.now.events }
     requires world { IfSome script.now.world IsWorldSize }
-    ensures silent { script.now.world ≡ None → result ≡ Ok tt }
+    ensures silent { script.now.world ≡ None → Keeps (W.contents writer.old) (W.contents writer.new) × (result ≡ Ok tt) }
     ensures memory { result ≡ Err RunFault.Memory → Keeps (W.contents writer.old) (W.contents writer.new) }
     ensures told { OnOk result (WritesText script.now (W.contents writer.old) (W.contents writer.new)) }
     ensures front { OnErr result (BeginsText script.now (W.contents writer.old) (W.contents writer.new)) }
@@ -129,6 +130,13 @@ pub fn run<R: Read, W: Write>(alloc: Global, reader: &mut R, writer: &mut W) -> 
     ensures named { (number : ℕ) → result ≡ Err (RunFault.Script number)
         → IfSome (R.remaining reader.old) (λ input. IsFirstBadLine input number) × Keeps (W.contents writer.old) (W.contents writer.new) }
 
+    // Of the reader at most one byte more is taken than a script may have.
+    ensures consumed { ConsumesAtMost 1048577 (R.remaining reader.old) (R.remaining reader.new) }
+
+    // For a script that says nothing nothing is written, and only reading and memory may fail.
+    ensures silent { IfSome (R.remaining reader.old) (λ input. (script : Script) → IsScript input script → script.world ≡ None
+        → Keeps (W.contents writer.old) (W.contents writer.new) × ((result ≡ Ok tt) ⊎ (result ≡ Err RunFault.Reading) ⊎ (result ≡ Err RunFault.Memory))) }
+
     // Where reading fails, or memory, nothing is written.
     ensures reading { result ≡ Err RunFault.Reading → Keeps (W.contents writer.old) (W.contents writer.new) }
     ensures memory { result ≡ Err RunFault.Memory → Keeps (W.contents writer.old) (W.contents writer.new) }
@@ -137,7 +145,7 @@ pub fn run<R: Read, W: Write>(alloc: Global, reader: &mut R, writer: &mut W) -> 
     ensures front { OnErr result (IfSome (R.remaining reader.old) (λ input. (script : Script) → IsScript input script
         → BeginsText script (W.contents writer.old) (W.contents writer.new))) }
 
-    // Where writing fails, it is one of the text of some first events, told of a run that a world goes through.
+    // Where writing fails, it is one of the text of some first events, told of a run that a world goes through, and not all of that text.
     ensures so_far { result ≡ Err RunFault.Writing → IfSome (R.remaining reader.old) (λ input. (script : Script) → IsScript input script
         → BeginsTextSoFar script (W.contents writer.old) (W.contents writer.new)) }
 {

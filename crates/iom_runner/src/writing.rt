@@ -1,8 +1,9 @@
 // Lines on their way out: gathered in a buffer, and written to a writer.
 ghost use Rattle.std.specs.Prelude.{◌≡◌, ◌≢◌, [], OnOk, OnErr, IfErr};
+ghost use Rattle.std.specs.Io.{WritesAtMost};
 ghost use Rattle.std.specs.IoError.{error_kind};
-ghost use Rattle.std.specs.Io.KnownBytes.{Appends};
-ghost use Rattle.iom_runner.specs.Writing.{AppendsFront, KeepsWriter, TakesLine, FailsWriting};
+ghost use Rattle.std.specs.Io.KnownBytes.{Appends, WriteAppends};
+ghost use Rattle.iom_runner.specs.Writing.{AppendsPart, KeepsWriter, TakesLine, FailsWriting};
 
 use iom_machine::{Outcome, Sink};
 use iom_script::LineBuffer;
@@ -18,21 +19,15 @@ impl From<io::Error> for WriteFault {
     }
 }
 
-/// Writes all the bytes, in as many calls as that takes. A write that is interrupted is tried again; one
-/// of no bytes is a fault. At a fault a beginning of the bytes was written.
-pub(crate) fn write_all<W: Write>(writer: &mut W, bytes: &[u8]) -> io::Result<()>
-    ensures all { OnOk result (Appends (W.contents writer.old) (W.contents writer.new) bytes.now) }
-    ensures front { OnErr result (AppendsFront (W.contents writer.old) (W.contents writer.new) bytes.now) }
+/// One write. A write that is interrupted is tried again, and no other.
+fn write_once<W: Write>(writer: &mut W, bytes: &[u8]) -> io::Result<usize>
+    ensures bound { WritesAtMost result bytes.now }
+    ensures bytes { WriteAppends (W.contents writer.old) (W.contents writer.new) result bytes.now }
     ensures retried { IfErr result (λ error. error_kind error ≢ ErrorKind.Interrupted) }
 {
-    let mut rest = bytes;
     for _ in 0..u64::MAX {
-        if rest.is_empty() {
-            return Ok(());
-        }
-        match writer.write(rest) {
-            Ok(0) => return Err(io::Error::from(ErrorKind::WriteZero)),
-            Ok(count) => rest = &rest[count..],
+        match writer.write(bytes) {
+            Ok(count) => return Ok(count),
             Err(error) => {
                 if error.kind() != ErrorKind::Interrupted {
                     return Err(error);
@@ -41,6 +36,24 @@ pub(crate) fn write_all<W: Write>(writer: &mut W, bytes: &[u8]) -> io::Result<()
         }
     }
     Err(io::Error::from(ErrorKind::Other))
+}
+
+/// Writes all the bytes, in as many calls as that takes. A write of no bytes is a fault. At a fault a
+/// beginning of the bytes was written, and not all of them.
+pub(crate) fn write_all<W: Write>(writer: &mut W, bytes: &[u8]) -> io::Result<()>
+    ensures all { OnOk result (Appends (W.contents writer.old) (W.contents writer.new) bytes.now) }
+    ensures part { OnErr result (AppendsPart (W.contents writer.old) (W.contents writer.new) bytes.now) }
+    ensures retried { IfErr result (λ error. error_kind error ≢ ErrorKind.Interrupted) }
+{
+    let mut rest = bytes;
+    while !rest.is_empty() {
+        let count = write_once(writer, rest)?;
+        if count == 0 {
+            return Err(io::Error::from(ErrorKind::WriteZero));
+        }
+        rest = &rest[count..];
+    }
+    Ok(())
 }
 
 /// A sink that puts the line of each outcome into a buffer, and writes the buffer out when it is nearly
@@ -59,12 +72,12 @@ impl<'a, W: Write> LineWriter<'a, W> {
         LineWriter { buffer, writer }
     }
 
-    /// Writes out the lines that wait. At a fault a beginning of them was written.
+    /// Writes out the lines in the buffer. At a fault a beginning of them was written, and not all.
     pub(crate) fn write_out(&mut self) -> Result<(), WriteFault>
         ensures same_writer { KeepsWriter self.old self.new }
         ensures empty { OnOk result (self.new.buffer ≡ []) }
         ensures all { OnOk result (Appends (W.contents self.old.writer.now) (W.contents self.new.writer.now) self.old.buffer) }
-        ensures front { OnErr result (AppendsFront (W.contents self.old.writer.now) (W.contents self.new.writer.now) self.old.buffer) }
+        ensures part { OnErr result (AppendsPart (W.contents self.old.writer.now) (W.contents self.new.writer.now) self.old.buffer) }
     {
         write_all(self.writer, self.buffer.as_slice())?;
         self.buffer.clear();

@@ -1,59 +1,53 @@
 -- A line is read by its first word.
-use Rattle.std.proofs.Common.{◌≡◌, ℕ, ◌≤◌, List, Option, Some, None, codes, ap, sym, subst, refl, ◌∙◌, arith, rules}
+use Rattle.std.proofs.Common.{◌≡◌, inl, inr, ◌++◌, ℕ, ◌≤◌, List, Option, Some, None, codes, ap, sym, subst, refl, ◌∙◌, arith, rules}
 use Rattle.iom_machine.specs.declared.event.Event.{Event}
 use Rattle.iom_machine.specs.declared.event.Event.TheVariants as events
-use Rattle.iom_script.specs.declared.events.Keyword.{Keyword}
-use Rattle.iom_script.specs.declared.events.Keyword.TheVariants.{Device, Attach, Grant, Release, Read, Write, Commit}
 use Rattle.iom_script.specs.declared.script.WorldSize.{WorldSize}
-use Rattle.iom_script.specs.Keywords.{spelling}
-use Rattle.iom_script.specs.Words.{Reads, IsWithout, ◌␣◌, IsNumber}
-use Rattle.iom_script.specs.Cuts.{IsCut, Begins}
+use Rattle.iom_script.specs.Words.{Reads, ◌␣◌, IsNumber}
+use Rattle.iom_script.specs.Cuts.{IsCut, Begins, IsSingle}
 use Rattle.iom_script.specs.Grammar.{IsEventLine, IsWorldLine}
 use Rattle.iom_script.proofs.ReadsLemmas.{reads_some, reads_none, read_holds, read_only, read_nothing}
-use Rattle.iom_script.proofs.CutLemmas.{cut_is_one, cut_has_separator}
+use Rattle.iom_script.proofs.CutLemmas.{cut_is_one}
 use Rattle.iom_script.proofs.FieldLemmas.{CutOf, FirstOf}
+use Rattle.iom_script.proofs.SameLemmas.{event_same}
 
--- no keyword has a space
-spaceless : (k : Keyword) → IsWithout 32 (spelling k)
-spaceless Device = search (rules, arith)
-spaceless Attach = search (rules, arith)
-spaceless Grant = search (rules, arith)
-spaceless Release = search (rules, arith)
-spaceless Read = search (rules, arith)
-spaceless Write = search (rules, arith)
-spaceless Commit = search (rules, arith)
+-- a line that begins with a word and a space is read by what follows
+pub keyword_line : (line start rest : List ℕ) (result : Option Event) → Reads (Some rest) (λ more. line ≡ start ++ more)
+    → Reads result (IsEventLine (start ++ rest)) → Reads result (IsEventLine line)
+keyword_line line start rest result begun reads =
+    subst (λ l. Reads result (IsEventLine l)) (sym (read_holds (λ more. line ≡ start ++ more) rest begun)) reads
 
--- the first word of a line is this keyword, where the line begins with the keyword and a space
-begins_with : (k : Keyword) (line word rest more : List ℕ) → IsCut line 32 word rest → line ≡ spelling k ␣ more → word ≡ spelling k
-begins_with k line word rest more cut e = (cut_is_one 32 word (spelling k) rest more cut.0 (spaceless k) (sym cut.1 ∙ e)).0
+-- the line doesn't begin so
+abbrev pub BeginsNot : List ℕ → List ℕ → Type 0
+BeginsNot line start = Reads None (λ more. line ≡ start ++ more)
 
--- the first word of an event's line that has a space is a keyword
-event_keyword : (line word rest : List ℕ) → IsCut line 32 word rest → (event : Event) → IsEventLine line event → (k : Keyword) × (word ≡ spelling k)
-event_keyword line word rest cut (events.PlugRaw device) q = (Device, begins_with Device line word rest (q.0 ␣ codes "raw") cut q.2)
-event_keyword line word rest cut (events.AttachFirst device) q = (Attach, begins_with Attach line word rest (q.0 ␣ codes "first") cut q.2)
-event_keyword line word rest cut (events.Grant device page frame rights) q = (Grant, begins_with Grant line word rest (q.0 ␣ q.1 ␣ q.2 ␣ q.3) cut q.8)
-event_keyword line word rest cut (events.Release device page) q = (Release, begins_with Release line word rest (q.0 ␣ q.1) cut q.4)
-event_keyword line word rest cut events.Fetch q = absurd (cut_has_separator 32 (codes "fetch") word rest (search (rules, arith)) (sym q ∙ cut.1))
-event_keyword line word rest cut events.Poll q = absurd (cut_has_separator 32 (codes "poll") word rest (search (rules, arith)) (sym q ∙ cut.1))
-event_keyword line word rest cut (events.Read device address len) q = (Read, begins_with Read line word rest (q.0 ␣ q.1 ␣ q.2) cut q.6)
-event_keyword line word rest cut (events.Write device address bytes) q = (Write, begins_with Write line word rest (q.0 ␣ q.1 ␣ q.2) cut q.6)
-event_keyword line word rest cut (events.Commit device) q = (Commit, begins_with Commit line word rest q.0 cut q.2)
+-- a line that begins with no keyword says the event of one word, if any
+pub single_line : (line : List ℕ) → BeginsNot line (codes "read ") → BeginsNot line (codes "commit ") → BeginsNot line (codes "write ") → BeginsNot line (codes "grant ")
+    → BeginsNot line (codes "release ") → BeginsNot line (codes "device ") → BeginsNot line (codes "attach ")
+    → (event : Event) → IsEventLine line event → IsSingle line event
+single_line line re co wr gr rel de at (events.Plug device kind) q = absurd (read_nothing (λ more. line ≡ codes "device " ++ more) (q.0 ␣ codes "raw") de q.3)
+single_line line re co wr gr rel de at (events.Attach device mode ats) q = absurd (read_nothing (λ more. line ≡ codes "attach " ++ more) (q.0 ␣ codes "first") at q.4)
+single_line line re co wr gr rel de at (events.Grant device page frame rights) q = absurd (read_nothing (λ more. line ≡ codes "grant " ++ more) (q.0 ␣ q.1 ␣ q.2 ␣ q.3) gr q.8)
+single_line line re co wr gr rel de at (events.Release device page) q = absurd (read_nothing (λ more. line ≡ codes "release " ++ more) (q.0 ␣ q.1) rel q.4)
+single_line line re co wr gr rel de at events.Fetch q = inl (q, refl)
+single_line line re co wr gr rel de at events.Poll q = inr (q, refl)
+single_line line re co wr gr rel de at (events.Read device address len) q = absurd (read_nothing (λ more. line ≡ codes "read " ++ more) (q.0 ␣ q.1 ␣ q.2) re q.6)
+single_line line re co wr gr rel de at (events.Write device address bytes) q = absurd (read_nothing (λ more. line ≡ codes "write " ++ more) (q.0 ␣ q.1 ␣ q.2) wr q.6)
+single_line line re co wr gr rel de at (events.Commit device) q = absurd (read_nothing (λ more. line ≡ codes "commit " ++ more) q.0 co q.2)
 
--- a line whose first word is no keyword says no event
-pub no_keyword : (line word rest : List ℕ) → Reads {X = List ℕ × List ℕ} (Some (word, rest)) (CutOf line) → Reads None (λ k. word ≡ spelling k) → Reads None (IsEventLine line)
-no_keyword line word rest cut none =
-    let parts : List ℕ × List ℕ = (word, rest) in
-    let c = read_holds (CutOf line) parts cut in
-    reads_none (IsEventLine line) (λ event q. let k = event_keyword line word rest c event q in read_nothing (λ k. word ≡ spelling k) k.0 none k.1)
+-- a line of one word is read
+pub single_read : (line : List ℕ) (event : Event) → Reads (Some event) (IsSingle line) → Reads (Some event) (IsEventLine line)
+single_read line event reads =
+    let says = said event (read_holds (IsSingle line) event reads) in
+    reads_some (IsEventLine line) event says (λ other q. event_same line event other says q)
+  where
+    said : (e : Event) → IsSingle line e → IsEventLine line e
+    said e (inl q) = rw q.1 q.0
+    said e (inr q) = rw q.1 q.0
 
--- a line whose first word is a keyword is read by what follows it
-pub keyword_line : (line word rest : List ℕ) (k : Keyword) (result : Option Event) → Reads {X = List ℕ × List ℕ} (Some (word, rest)) (CutOf line) → Reads (Some k) (λ k. word ≡ spelling k)
-    → Reads result (IsEventLine (spelling k ␣ rest)) → Reads result (IsEventLine line)
-keyword_line line word rest k result cut spelled reads =
-    let parts : List ℕ × List ℕ = (word, rest) in
-    let c = read_holds (CutOf line) parts cut in
-    let is = read_holds (λ k. word ≡ spelling k) k spelled in
-    subst (λ l. Reads result (IsEventLine l)) (sym (c.1 ∙ ap (λ w. w ␣ rest) is)) reads
+-- a line that says no event of one word, nor one of those that it might begin, says none
+pub no_line : (line : List ℕ) → ((event : Event) → IsEventLine line event → IsSingle line event) → Reads None (IsSingle line) → Reads None (IsEventLine line)
+no_line line single none = reads_none (IsEventLine line) (λ event q. read_nothing (IsSingle line) event none (single event q))
 
 -- the words of the line that says how large the world is
 pub world_parts : (line word rest : List ℕ) → IsCut line 32 word rest → (size : WorldSize) → IsWorldLine line size

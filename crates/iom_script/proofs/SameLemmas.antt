@@ -5,7 +5,7 @@ use Rattle.std.proofs.lemmas.Str.Parse.{IsNumeralModel, numerals_by_value, tells
 use Rattle.std.proofs.lemmas.Fmt.{digits_value-decimal}
 use Rattle.std.proofs.lemmas.List.{append_cancel_left, append_cancel_right}
 use Rattle.iom_machine.specs.declared.event.Event.{Event}
-use Rattle.iom_machine.specs.declared.event.Event.TheVariants.{PlugRaw, AttachFirst, Grant, Release, Fetch, Poll, Read, Write, Commit}
+use Rattle.iom_machine.specs.declared.event.Event.TheVariants.{Plug, Attach, Grant, Release, Fetch, Poll, Read, Write, Commit}
 use Rattle.iom_script.specs.declared.script.WorldSize.{WorldSize}
 use Rattle.iom_script.specs.declared.script.Script.{Script}
 use Rattle.iom_script.specs.Digits.{hex_digits}
@@ -17,7 +17,7 @@ use Rattle.iom_script.proofs.HexBytesLemmas.{same_hex_of}
 use Rattle.iom_script.proofs.DecimalLemmas.{number_without_space}
 use Rattle.iom_script.proofs.WordLemmas.{device_without_space, address_without_space}
 use Rattle.iom_script.proofs.FieldLemmas.{HasNoSpace, Followed}
-use Rattle.iom_script.proofs.EventLemmas.{IsWord, byte_of_first, device_event, device_from, PlugRawWords, attach_event, attach_from, AttachFirstWords, grant_event, grant_from, GrantWords, release_event, release_from, ReleaseWords, read_event, read_from, ReadWords, write_event, write_from, WriteWords, commit_event, commit_from}
+use Rattle.iom_script.proofs.EventLemmas.{IsWord, other_line, device_event, device_from, PlugWords, attach_event, attach_from, AttachWords, grant_event, grant_from, GrantWords, release_event, release_from, ReleaseWords, read_event, read_from, ReadWords, write_event, write_from, WriteWords, commit_event, commit_from}
 
 -- the text says one value
 abbrev SaysOne : {X : Type 0} → (List ℕ → X → Type 0) → Type 0
@@ -32,7 +32,7 @@ own = numerals_by_value (AllDigits 10) tells_digits
 number_same : SaysOne IsNumber
 number_same text x y p q = sym (digits_value-decimal own x p.0) ∙ ap (digits_value 10) (sym p.1 ∙ q.1) ∙ digits_value-decimal own y q.0
 
-address_same : SaysOne IsAddress
+pub address_same : SaysOne IsAddress
 address_same text x y p q =
     let count : p.0 ≡ q.0 = omega (arith, ap length p.4, ap length q.4, length_hex p.0 x, length_hex q.0 y) in
     let digits : hex_digits p.0 x ≡ hex_digits q.0 y = ap (drop 2) (sym p.4 ∙ q.4) in
@@ -65,22 +65,22 @@ event_by_words {V} f R a b one p q = sym p.2 ∙ ap f (one p.0 q.0 p.1 q.1) ∙ 
 
 fetch_same : (b : Event) → IsEventLine (codes "fetch") b → Fetch ≡ b
 fetch_same Fetch q = refl
-fetch_same b q = absurd (omega (arith, byte_of_first 0 (codes "fetch") b (omega arith) q))
+fetch_same b q = absurd (other_line (codes "fetch") [] b refl q)
 
 poll_same : (b : Event) → IsEventLine (codes "poll") b → Poll ≡ b
 poll_same Poll q = refl
-poll_same b q = absurd (omega (arith, byte_of_first 0 (codes "poll") b (omega arith) q))
+poll_same b q = absurd (other_line (codes "poll") [] b refl q)
 
 -- a line says one event
 pub event_same : (line : List ℕ) (a b : Event) → IsEventLine line a → IsEventLine line b → a ≡ b
-event_same line (PlugRaw device) b p q =
+event_same line (Plug device kind) b p q =
     let text = p.0 ␣ codes "raw" in
-    event_by_words device_event (PlugRawWords text) (PlugRaw device) b (followed_same IsDevice (IsWord (codes "raw")) device_without_space device_same (nothing_same (codes "raw")) text)
-    (device_from text (PlugRaw device) (p.0, p.1, refl)) (device_from text b (subst (λ l. IsEventLine l b) p.2 q))
-event_same line (AttachFirst device) b p q =
+    event_by_words device_event (PlugWords text) (Plug device kind) b (followed_same IsDevice (IsWord (codes "raw")) device_without_space device_same (nothing_same (codes "raw")) text)
+    (device_from text (Plug device kind) (p.0, p.1, p.2, refl)) (device_from text b (subst (λ l. IsEventLine l b) p.3 q))
+event_same line (Attach device mode ats) b p q =
     let text = p.0 ␣ codes "first" in
-    event_by_words attach_event (AttachFirstWords text) (AttachFirst device) b (followed_same IsDevice (IsWord (codes "first")) device_without_space device_same (nothing_same (codes "first")) text)
-    (attach_from text (AttachFirst device) (p.0, p.1, refl)) (attach_from text b (subst (λ l. IsEventLine l b) p.2 q))
+    event_by_words attach_event (AttachWords text) (Attach device mode ats) b (followed_same IsDevice (IsWord (codes "first")) device_without_space device_same (nothing_same (codes "first")) text)
+    (attach_from text (Attach device mode ats) (p.0, p.1, p.2, p.3, refl)) (attach_from text b (subst (λ l. IsEventLine l b) p.4 q))
 event_same line (Grant device page frame rights) b p q =
     let text = p.0 ␣ p.1 ␣ p.2 ␣ p.3 in
     event_by_words grant_event (GrantWords text) (Grant device page frame rights) b

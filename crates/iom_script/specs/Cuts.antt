@@ -1,11 +1,18 @@
--- A line taken apart from the left: what the functions between the words and the events return.
-use Rattle.std.specs.Prelude.{◌≡◌, ℕ, List, ◌∷◌, ◌++◌, Option, option_map}
+-- A line taken apart from the left: what the private functions between the words and the events return. No public contract cites it.
+use Rattle.std.specs.Prelude.{◌≡◌, ◌≢◌, ℕ, ◌^◌, ◌<◌, ◌≤◌, List, ◌∷◌, ◌++◌, ◌⊎◌, codes, length, take, slice_index, Option, option_map}
 use Rattle.std.specs.Borrow.{Bor}
+use Rattle.iom_machine.specs.declared.event.Event.{Event}
+use Rattle.iom_machine.specs.declared.event.Event.TheVariants.{Fetch, Poll}
 use Rattle.iom_script.specs.Words.{◌␣◌, IsWithout}
+use Rattle.iom_script.specs.Digits.{hex_digit, hex_digits}
 
 -- what a pair of slices shows
 abbrev pub shown : Option (Bor (List ℕ) × Bor (List ℕ)) → Option (List ℕ × List ℕ)
 shown result = option_map (λ parts. (parts.0.now, parts.1.now)) result
+
+-- what a slice shows
+abbrev pub shown_rest : Option (Bor (List ℕ)) → Option (List ℕ)
+shown_rest result = option_map (λ rest. rest.now) result
 
 -- what a value and a slice show
 abbrev pub with_rest : Option (ℕ × Bor (List ℕ)) → Option (ℕ × List ℕ)
@@ -15,6 +22,22 @@ with_rest result = option_map (λ found. (found.0, found.1.now)) result
 abbrev pub IsCut : List ℕ → ℕ → List ℕ → List ℕ → Type 0
 IsCut bytes separator before after = IsWithout separator before × (bytes ≡ before ++ separator ∷ after)
 
+-- at that index stands the first space
+abbrev pub IsFirstSpace : List ℕ → ℕ → Type 0
+IsFirstSpace text i = (i < length text) × (slice_index text i ≡ 32) × ((k : ℕ) → k < i → slice_index text k ≢ 32)
+
 -- the text begins with a word that says the value, and this follows it
 abbrev pub Begins : (List ℕ → ℕ → Type 0) → List ℕ → ℕ → List ℕ → Type 0
 Begins Says text value rest = (word : List ℕ) × Says word value × (text ≡ word ␣ rest)
+
+-- The first so many bytes are hexadecimal digits, 16 at most, and say the number; no more of them could be read.
+pub record LeadsWithHex (text : List ℕ) (number count : ℕ) : Type 0 where
+  pub few : count ≤ 16
+  pub within : count ≤ length text
+  pub below : number < 16 ^ count
+  pub read : take count text ≡ hex_digits count number
+  pub stops : count < 16 → count < length text → (value : ℕ) → value < 16 → slice_index text count ≢ hex_digit value
+
+-- the line of one word says the event
+abbrev pub IsSingle : List ℕ → Event → Type 0
+IsSingle line event = ((line ≡ codes "fetch") × (event ≡ Fetch)) ⊎ ((line ≡ codes "poll") × (event ≡ Poll))

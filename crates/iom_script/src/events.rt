@@ -1,41 +1,14 @@
-ghost use Rattle.std.specs.Prelude.{◌≡◌, ◌≤◌, ◌↔◌, ◌∷◌, ◌++◌, codes, IfOk, IsTrue};
-ghost use Rattle.iom_script.specs.Words.{Reads, IsWithout, ◌␣◌};
-ghost use Rattle.iom_script.specs.Keywords.{spelling};
+ghost use Rattle.std.specs.Prelude.{◌≡◌, ◌≤◌, ◌↔◌, codes, IfOk, IsTrue};
+ghost use Rattle.iom_script.specs.Words.{Reads, ◌␣◌};
+ghost use Rattle.iom_script.specs.Cuts.{IsSingle};
 ghost use Rattle.iom_script.specs.Grammar.{IsEventLine, IsWorldLine};
 
 use crate::script::WorldSize;
 use crate::words::{
-    address_and, address_of, bytes_of, cut, device_and, device_of, number_and, number_of, right_of,
+    address_and, after, bytes_of, device_and, device_of, number_and, number_of, right_of, word_and,
 };
-use iom_machine::Event;
+use iom_machine::{DeviceKind, Event, Mode};
 use std::alloc::{AllocError, Global};
-
-/// The first word of a line that has more.
-#[derive(Clone, Copy, PartialEq, Eq, Debug)]
-enum Keyword {
-    Device,
-    Attach,
-    Grant,
-    Release,
-    Read,
-    Write,
-    Commit,
-}
-
-fn keyword_of(word: &[u8]) -> Option<Keyword>
-    ensures { Reads result (λ keyword. word.now ≡ spelling keyword) }
-{
-    match word {
-        b"read" => Some(Keyword::Read),
-        b"write" => Some(Keyword::Write),
-        b"grant" => Some(Keyword::Grant),
-        b"commit" => Some(Keyword::Commit),
-        b"device" => Some(Keyword::Device),
-        b"attach" => Some(Keyword::Attach),
-        b"release" => Some(Keyword::Release),
-        _ => None,
-    }
-}
 
 /// What follows `device`.
 fn plug(arguments: &[u8]) -> Option<Event>
@@ -45,7 +18,10 @@ fn plug(arguments: &[u8]) -> Option<Event>
     if kind != b"raw".as_slice() {
         return None;
     }
-    Some(Event::PlugRaw { device })
+    Some(Event::Plug {
+        device,
+        kind: DeviceKind::Raw,
+    })
 }
 
 /// What follows `attach`.
@@ -56,7 +32,11 @@ fn attach(arguments: &[u8]) -> Option<Event>
     if mode != b"first".as_slice() {
         return None;
     }
-    Some(Event::AttachFirst { device })
+    Some(Event::Attach {
+        device,
+        mode: Mode::First,
+        ats: false,
+    })
 }
 
 /// What follows `grant`.
@@ -127,16 +107,13 @@ fn commit(arguments: &[u8]) -> Option<Event>
 }
 
 /// What a line of one word says.
-fn single(word: &[u8]) -> Option<Event>
-    requires { IsWithout 32 word.now }
-    ensures { Reads result (IsEventLine word.now) }
+fn single(line: &[u8]) -> Option<Event>
+    ensures { Reads result (IsSingle line.now) }
 {
-    if word == b"fetch".as_slice() {
-        Some(Event::Fetch)
-    } else if word == b"poll".as_slice() {
-        Some(Event::Poll)
-    } else {
-        None
+    match line {
+        b"poll" => Some(Event::Poll),
+        b"fetch" => Some(Event::Fetch),
+        _ => None,
     }
 }
 
@@ -144,35 +121,51 @@ fn single(word: &[u8]) -> Option<Event>
 pub(crate) fn event_of(alloc: Global, line: &[u8]) -> Result<Option<Event>, AllocError>
     ensures { IfOk result (λ event. Reads event (IsEventLine line.now)) }
 {
-    let Some((word, arguments)) = cut(line, b' ') else {
-        return Ok(single(line));
-    };
-    let Some(keyword) = keyword_of(word) else {
-        return Ok(None);
-    };
-    match keyword {
-        Keyword::Device => Ok(plug(arguments)),
-        Keyword::Attach => Ok(attach(arguments)),
-        Keyword::Grant => Ok(grant(arguments)),
-        Keyword::Release => Ok(release(arguments)),
-        Keyword::Read => Ok(read(arguments)),
-        Keyword::Write => write(alloc, arguments),
-        Keyword::Commit => Ok(commit(arguments)),
+    if let Some(event) = single(line) {
+        return Ok(Some(event));
     }
+    if let Some(arguments) = after(line, b"read ") {
+        return Ok(read(arguments));
+    }
+    if let Some(arguments) = after(line, b"commit ") {
+        return Ok(commit(arguments));
+    }
+    if let Some(arguments) = after(line, b"write ") {
+        return write(alloc, arguments);
+    }
+    if let Some(arguments) = after(line, b"grant ") {
+        return Ok(grant(arguments));
+    }
+    if let Some(arguments) = after(line, b"release ") {
+        return Ok(release(arguments));
+    }
+    if let Some(arguments) = after(line, b"device ") {
+        return Ok(plug(arguments));
+    }
+    if let Some(arguments) = after(line, b"attach ") {
+        return Ok(attach(arguments));
+    }
+    Ok(None)
 }
+
+/// The frames of the smallest world.
+const FEWEST_FRAMES: u64 = 64;
+
+/// The frames of the largest world.
+const MOST_FRAMES: u64 = 4096;
 
 /// Whether a world can have so many frames.
 fn is_frame_count(frames: u64) -> bool
     ensures { IsTrue result ↔ ((64 ≤ frames) × (frames ≤ 4096)) }
 {
-    (64..=4096).contains(&frames)
+    (FEWEST_FRAMES..=MOST_FRAMES).contains(&frames)
 }
 
 /// The size of the world that a line says.
 pub(crate) fn world_of(line: &[u8]) -> Option<WorldSize>
     ensures { Reads result (IsWorldLine line.now) }
 {
-    let (word, rest) = cut(line, b' ')?;
+    let (word, rest) = word_and(line)?;
     if word != b"world".as_slice() {
         return None;
     }

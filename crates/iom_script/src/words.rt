@@ -1,34 +1,83 @@
-ghost use Rattle.std.specs.Prelude.{◌≡◌, ℕ, ◌+◌, ◌*◌, ◌/◌, ◌%◌, ◌^◌, ◌<◌, ◌≤◌, ◌↔◌, ◌∷◌, ◌++◌, List, length, Some, IfOk};
+ghost use Rattle.std.specs.Prelude.{◌≡◌, ◌≢◌, MatchOption, slice_index, ℕ, ◌+◌, ◌*◌, ◌/◌, ◌%◌, ◌^◌, ◌<◌, ◌≤◌, ◌↔◌, ◌∷◌, ◌++◌, List, length, Some, IfOk};
 ghost use Rattle.std.specs.Str.Parse.{AllDigits, digits_value};
 ghost use Rattle.iom_script.specs.Digits.{hex_digit, hex_digits};
 ghost use Rattle.iom_script.specs.Words.{Reads, IsWithout, IsDevice, IsNumber, IsAddress, IsRight, IsHex, ◌␣◌};
-ghost use Rattle.iom_script.specs.Cuts.{shown, with_rest, IsCut, Begins};
+ghost use Rattle.iom_script.specs.Cuts.{shown, shown_rest, with_rest, IsCut, IsFirstSpace, Begins, LeadsWithHex};
 
-use iom_base::{DeviceId, Rights};
+use iom_base::{DeviceId, GrantRights};
 use iom_machine::Sequence;
+use memchr::memchr;
 use std::alloc::{AllocError, Global};
 
 /// The bytes before the first separator, and those behind it.
+#[inline(always)]
 pub(crate) fn cut(bytes: &[u8], separator: u8) -> Option<(&[u8], &[u8])>
     ensures { Reads (shown result) (λ parts. IsCut bytes.now separator parts.0 parts.1) }
 {
-    for (i, byte) in bytes.iter().enumerate() {
-        if *byte == separator {
-            return Some((&bytes[..i], &bytes[i + 1..]));
-        }
-    }
-    None
+    let place = memchr(separator, bytes)?;
+    Some((&bytes[..place], &bytes[place + 1..]))
 }
+
+/// The first word, which a space ends, and what follows it. Words are short: they are looked through
+/// byte by byte.
+#[inline(always)]
+pub(crate) fn word_and(text: &[u8]) -> Option<(&[u8], &[u8])>
+    ensures { Reads (shown result) (λ parts. IsCut text.now 32 parts.0 parts.1) }
+{
+    let end = space_in(text)?;
+    Some((&text[..end], &text[end + 1..]))
+}
+
+/// Where the first space is.
+#[inline(always)]
+fn space_in(text: &[u8]) -> Option<usize>
+    ensures { MatchOption result ((k : ℕ) → k < length text.now → slice_index text.now k ≢ 32) (IsFirstSpace text.now) }
+{
+    text.iter().position(|byte| *byte == b' ')
+}
+
+/// What follows, where the text begins so.
+#[inline(always)]
+pub(crate) fn after<'a>(text: &'a [u8], start: &[u8]) -> Option<&'a [u8]>
+    ensures { Reads (shown_rest result) (λ rest. text.now ≡ start.now ++ rest) }
+{
+    let (front, rest) = text.split_at_checked(start.len())?;
+    if front != start {
+        return None;
+    }
+    Some(rest)
+}
+
+/// No digit's value.
+const NO: u8 = 255;
+
+/// The value of each byte as a lower-case hexadecimal digit, or none.
+#[rattlefmt::skip]
+const HEX_VALUES: [u8; 256] = [
+    NO, NO, NO, NO, NO, NO, NO, NO, NO, NO, NO, NO, NO, NO, NO, NO,
+    NO, NO, NO, NO, NO, NO, NO, NO, NO, NO, NO, NO, NO, NO, NO, NO,
+    NO, NO, NO, NO, NO, NO, NO, NO, NO, NO, NO, NO, NO, NO, NO, NO,
+    0, 1, 2, 3, 4, 5, 6, 7, 8, 9, NO, NO, NO, NO, NO, NO, // 0 to ?
+    NO, NO, NO, NO, NO, NO, NO, NO, NO, NO, NO, NO, NO, NO, NO, NO, // @ to O
+    NO, NO, NO, NO, NO, NO, NO, NO, NO, NO, NO, NO, NO, NO, NO, NO,
+    NO, 10, 11, 12, 13, 14, 15, NO, NO, NO, NO, NO, NO, NO, NO, NO, // ` to o
+    NO, NO, NO, NO, NO, NO, NO, NO, NO, NO, NO, NO, NO, NO, NO, NO,
+    NO, NO, NO, NO, NO, NO, NO, NO, NO, NO, NO, NO, NO, NO, NO, NO,
+    NO, NO, NO, NO, NO, NO, NO, NO, NO, NO, NO, NO, NO, NO, NO, NO,
+    NO, NO, NO, NO, NO, NO, NO, NO, NO, NO, NO, NO, NO, NO, NO, NO,
+    NO, NO, NO, NO, NO, NO, NO, NO, NO, NO, NO, NO, NO, NO, NO, NO,
+    NO, NO, NO, NO, NO, NO, NO, NO, NO, NO, NO, NO, NO, NO, NO, NO,
+    NO, NO, NO, NO, NO, NO, NO, NO, NO, NO, NO, NO, NO, NO, NO, NO,
+    NO, NO, NO, NO, NO, NO, NO, NO, NO, NO, NO, NO, NO, NO, NO, NO,
+    NO, NO, NO, NO, NO, NO, NO, NO, NO, NO, NO, NO, NO, NO, NO, NO,
+];
 
 /// The value of a lower-case hexadecimal digit.
 fn hex_value(digit: u8) -> Option<u8>
     ensures { Reads result (λ value. (value < 16) × (digit ≡ hex_digit value)) }
 {
-    match digit {
-        b'0'..=b'9' => Some(digit - b'0'),
-        b'a'..=b'f' => Some(digit - b'a' + 10),
-        _ => None,
-    }
+    let value = HEX_VALUES[usize::from(digit)];
+    if value < 16 { Some(value) } else { None }
 }
 
 /// The number that so many hexadecimal digits say.
@@ -43,6 +92,21 @@ fn hex_number(text: &[u8]) -> Option<u64>
     Some(number)
 }
 
+/// The number that the first hexadecimal digits say, 16 at most, and how many they are.
+fn leading_hex(text: &[u8]) -> (u64, usize)
+    ensures { LeadsWithHex text.now result.0 result.1 }
+{
+    let most = text.len().min(16);
+    let mut number = 0u64;
+    for count in 0..most {
+        match hex_value(text[count]) {
+            Some(value) => number = number * 16 + u64::from(value),
+            None => return (number, count),
+        }
+    }
+    (number, most)
+}
+
 /// The device that the word names.
 pub(crate) fn device_of(text: &[u8]) -> Option<DeviceId>
     ensures { Reads result (IsDevice text.now) }
@@ -52,16 +116,6 @@ pub(crate) fn device_of(text: &[u8]) -> Option<DeviceId>
     }
     let number = hex_number(text)?;
     Some(number as u32)
-}
-
-/// The address that the word says.
-pub(crate) fn address_of(text: &[u8]) -> Option<u64>
-    ensures { Reads result (IsAddress text.now) }
-{
-    if text.len() < 3 || text.len() > 18 || text[0] != b'0' || text[1] != b'x' {
-        return None;
-    }
-    hex_number(&text[2..])
 }
 
 /// The number below 2^64 that decimal digits say, with leading zeros or without.
@@ -91,13 +145,13 @@ pub(crate) fn number_of(text: &[u8]) -> Option<u64>
 }
 
 /// The right that the word says.
-pub(crate) fn right_of(text: &[u8]) -> Option<Rights>
+pub(crate) fn right_of(text: &[u8]) -> Option<GrantRights>
     ensures { Reads result (IsRight text.now) }
 {
     if text == b"r".as_slice() {
-        Some(Rights::R)
+        Some(GrantRights::ReadOnly)
     } else if text == b"rw".as_slice() {
-        Some(Rights::RW)
+        Some(GrantRights::ReadWrite)
     } else {
         None
     }
@@ -134,16 +188,18 @@ pub(crate) fn bytes_of(alloc: Global, text: &[u8]) -> Result<Option<Sequence<u8>
 pub(crate) fn device_and(text: &[u8]) -> Option<(DeviceId, &[u8])>
     ensures { Reads (with_rest result) (λ found. Begins IsDevice text.now found.0 found.1) }
 {
-    let (word, rest) = cut(text, b' ')?;
-    let device = device_of(word)?;
-    Some((device, rest))
+    if text.len() < 7 || text[6] != b' ' {
+        return None;
+    }
+    let device = device_of(&text[..6])?;
+    Some((device, &text[7..]))
 }
 
 /// The number that the first word says, and what follows it.
 pub(crate) fn number_and(text: &[u8]) -> Option<(u64, &[u8])>
     ensures { Reads (with_rest result) (λ found. Begins IsNumber text.now found.0 found.1) }
 {
-    let (word, rest) = cut(text, b' ')?;
+    let (word, rest) = word_and(text)?;
     let number = number_of(word)?;
     Some((number, rest))
 }
@@ -152,7 +208,10 @@ pub(crate) fn number_and(text: &[u8]) -> Option<(u64, &[u8])>
 pub(crate) fn address_and(text: &[u8]) -> Option<(u64, &[u8])>
     ensures { Reads (with_rest result) (λ found. Begins IsAddress text.now found.0 found.1) }
 {
-    let (word, rest) = cut(text, b' ')?;
-    let address = address_of(word)?;
-    Some((address, rest))
+    let digits = after(text, b"0x")?;
+    let (address, count) = leading_hex(digits);
+    if count == 0 || count == digits.len() || digits[count] != b' ' {
+        return None;
+    }
+    Some((address, &digits[count + 1..]))
 }

@@ -9,7 +9,7 @@ use Rattle.iom_stage_walk.specs.Entries.{Entries, entries, slot}
 use Rattle.iom_stage_walk.specs.Paths.{Reaches, Stops}
 use Rattle.iom_stage_walk.specs.Through.{after_pointer, through}
 use Rattle.iom_stage_walk.specs.declared.entry.Entry.{Entry}
-use Rattle.iom_stage_walk.specs.declared.entry.Entry.TheVariants.{Outside, Faulty, Pointer, Leaf}
+use Rattle.iom_stage_walk.specs.declared.entry.Entry.TheVariants.{Outside, Invalid, Pointer, Leaf}
 
 -- the two say the same at each entry that the path from the table along the indices loads
 abbrev pub Alike : Entries → Entries → ℕ → List ℕ → Type 0
@@ -45,7 +45,7 @@ alike_stops old new table (i ∷ is) kind c u h =
 through_entry : (old new : Entries) (x : Entry) (is : List ℕ) → ((next : ℕ) → x ≡ Pointer next → Alike old new next is) → ((next : ℕ) → Alike old new next is → through new next is ≡ through old next is)
     → after_pointer x (λ next. through new next is) ≡ after_pointer x (λ next. through old next is)
 through_entry old new Outside is u go = refl
-through_entry old new Faulty is u go = refl
+through_entry old new Invalid is u go = refl
 through_entry old new (Pointer next) is u go = go next (u next refl)
 through_entry old new (Leaf base rights) is u go = refl
 

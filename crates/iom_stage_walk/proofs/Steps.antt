@@ -7,7 +7,7 @@ use Rattle.iom_base.specs.declared.cause.Cause.{Cause}
 use Rattle.iom_base.specs.declared.rights.Rights.{Rights}
 use Rattle.iom_stage_walk.specs.Entries.{Entries, slot}
 use Rattle.iom_stage_walk.specs.Paths.{IsLawfulLeaf, IsUnlawfulLeaf, Reaches, Stops}
-use Rattle.iom_stage_walk.specs.declared.entry.Entry.TheVariants.{Outside, Faulty, Pointer, Leaf}
+use Rattle.iom_stage_walk.specs.declared.entry.Entry.TheVariants.{Outside, Invalid, Pointer, Leaf}
 use Rattle.iom_stage_walk.specs.declared.walk.Reached.{Reached}
 
 -- the rest from index k on begins with index k
@@ -28,8 +28,8 @@ module _ (e : Entries) (kind : AccessKind) (table k d : ℕ) (is : List ℕ) (lt
   pub stops_outside : Outside ≡ e (slot table (get_or is k d)) → Stops e kind table (drop k is) (access_fault_of kind)
   stops_outside at = rw (rest_is is k d lt) (inr (inl (sym at, refl)))
 
-  pub stops_faulty : Faulty ≡ e (slot table (get_or is k d)) → Stops e kind table (drop k is) (page_fault_of kind)
-  stops_faulty at = rw (rest_is is k d lt) (inr (inr (inl (sym at, refl))))
+  pub stops_invalid : Invalid ≡ e (slot table (get_or is k d)) → Stops e kind table (drop k is) (page_fault_of kind)
+  stops_invalid at = rw (rest_is is k d lt) (inr (inr (inl (sym at, refl))))
 
   pub leaf_ok : (base : ℕ) (rights : Rights) (x : Result Reached Cause) → Leaf base rights ≡ e (slot table (get_or is k d))
       → IfOk x (λ leaf. IsLawfulLeaf kind base rights (take (length is - (k + 1)) (drop (k + 1) is)) leaf.frame leaf.rights)

@@ -3,18 +3,19 @@
 use Rattle.std.specs.Prelude.{◌≡◌, ◌≢◌, ℕ, ◌+◌, ◌*◌, ◌/◌, ◌%◌, ◌^◌, ◌<◌, ◌≤◌, ◌⊎◌, true, false, List, [], ◌∷◌, length, replicate, None}
 use Rattle.iom_base.specs.Causes.{page_fault_of, access_fault_of}
 use Rattle.iom_base.specs.Rights.{allows}
+use Rattle.iom_base.specs.Sizes.{page_size, table_entries}
 use Rattle.iom_base.specs.declared.access.AccessKind.{AccessKind}
 use Rattle.iom_base.specs.declared.cause.Cause.{Cause}
 use Rattle.iom_base.specs.declared.rights.Rights.{Rights}
 use Rattle.iom_stage_walk.specs.Entries.{Entries, entries, slot}
-use Rattle.iom_stage_walk.specs.declared.entry.Entry.TheVariants.{Outside, Faulty, Pointer, Leaf}
+use Rattle.iom_stage_walk.specs.declared.entry.Entry.TheVariants.{Outside, Invalid, Pointer, Leaf}
 use Rattle.iom_stage_walk.specs.declared.walked.Walked.{Walked}
 use Rattle.iom_stage_walk.specs.declared.walked.WalkFault.{WalkFault}
 
--- how many pages a leaf spans whose table is followed by these indices: 512 for each level below
+-- how many pages a leaf spans whose table is followed by these indices: a table's entries for each level below
 abbrev pub pages_spanned : List ℕ → ℕ
 pages_spanned [] = 1
-pages_spanned (i ∷ is) = 512 * pages_spanned is
+pages_spanned (i ∷ is) = table_entries * pages_spanned is
 
 -- which of those pages the indices name
 abbrev pub page_in : List ℕ → ℕ
@@ -50,7 +51,7 @@ Stops e kind table [] cause = cause ≡ page_fault_of kind
 Stops e kind table (i ∷ below) cause =
     ((next : ℕ) × (e (slot table i) ≡ Pointer next) × Stops e kind next below cause)
     ⊎ (((e (slot table i) ≡ Outside) × (cause ≡ access_fault_of kind))
-    ⊎ (((e (slot table i) ≡ Faulty) × (cause ≡ page_fault_of kind))
+    ⊎ (((e (slot table i) ≡ Invalid) × (cause ≡ page_fault_of kind))
     ⊎ ((base : ℕ) × (rights : Rights) × (e (slot table i) ≡ Leaf base rights) × (cause ≡ page_fault_of kind)
     × IsUnlawfulLeaf kind base rights below)))
 
@@ -58,15 +59,19 @@ Stops e kind table (i ∷ below) cause =
 -- more in a root that is wider
 abbrev pub path_of : List ℕ → ℕ → List ℕ
 path_of [] page = []
-path_of (width ∷ widths) page = page / 512 ^ length widths % width ∷ path_of widths page
+path_of (width ∷ widths) page = page / table_entries ^ length widths % width ∷ path_of widths page
 
--- the tables of a first stage of so many levels, three in Sv39: each a frame of 512 entries
+-- the levels of a first stage, Sv39
+abbrev pub first_levels : ℕ
+first_levels = 3
+
+-- the widths of the tables of a first stage of so many levels: each is a frame of entries
 abbrev pub first_widths : ℕ → List ℕ
-first_widths levels = replicate levels 512
+first_widths levels = replicate levels table_entries
 
 -- the indices of an address in such tables
 abbrev pub first_path : ℕ → ℕ → List ℕ
-first_path levels address = path_of (first_widths levels) (address / 4096)
+first_path levels address = path_of (first_widths levels) (address / page_size)
 
 -- the highest bit that such tables translate, 38 in Sv39, equals all higher bits of the 64
 abbrev pub IsCanonical : ℕ → ℕ → Type 0

@@ -1,22 +1,23 @@
 -- The frames that a path goes through, and memories that are alike on them.
 use Rattle.std.specs.Prelude.{◌≡◌, ℕ, ◌/◌, List, [], ◌∷◌, length, slice_get}
 use Rattle.std.specs.List.{All}
+use Rattle.iom_base.specs.Sizes.{table_entries}
 use Rattle.iom_stage_walk.specs.Entries.{Entries, entries, slot}
 use Rattle.iom_stage_walk.specs.Paths.{first_path}
 use Rattle.iom_stage_walk.specs.declared.entry.Entry.{Entry}
-use Rattle.iom_stage_walk.specs.declared.entry.Entry.TheVariants.{Outside, Faulty, Pointer, Leaf}
+use Rattle.iom_stage_walk.specs.declared.entry.Entry.TheVariants.{Outside, Invalid, Pointer, Leaf}
 
 -- what follows the table that the entry names; nothing where it names none
 abbrev pub after_pointer : Entry → (ℕ → List ℕ) → List ℕ
 after_pointer Outside follow = []
-after_pointer Faulty follow = []
+after_pointer Invalid follow = []
 after_pointer (Pointer next) follow = follow next
 after_pointer (Leaf base rights) follow = []
 
 -- the frames from which the path along the indices loads its entries, one a level, the table's first
 abbrev pub through : Entries → ℕ → List ℕ → List ℕ
 through e table [] = []
-through e table (i ∷ below) = slot table i / 512 ∷ after_pointer (e (slot table i)) (λ next. through e next below)
+through e table (i ∷ below) = slot table i / table_entries ∷ after_pointer (e (slot table i)) (λ next. through e next below)
 
 -- the frames that the path of an address from the root of a first stage goes through
 abbrev pub first_through : ℕ → List (List ℕ) → ℕ → ℕ → List ℕ

@@ -15,5 +15,5 @@ mod walked;
 
 pub use entry::{Entry, entry_at};
 pub use pte::{Pte, PteFlags};
-pub use walk::walk_first;
+pub use walk::{FIRST_LEVELS, first_indices, walk_first};
 pub use walked::{WalkFault, Walked};

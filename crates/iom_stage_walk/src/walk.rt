@@ -2,16 +2,26 @@ ghost use Rattle.std.specs.Prelude.{◌≡◌, ◌≢◌, ◌↔◌, ℕ, ◌+�
 ghost use Rattle.std.specs.Prelude.{slice_index, EachIndex, true, false};
 ghost use Rattle.iom_base.specs.Causes.{page_fault_of};
 ghost use Rattle.iom_base.specs.Rights.{allows};
+ghost use Rattle.iom_base.specs.Sizes.{page_size};
 ghost use Rattle.iom_stage_walk.specs.Entries.{Entries, IsBounded, entries, slot};
 ghost use Rattle.iom_stage_walk.specs.Paths.{pages_spanned, page_in, IsLawfulLeaf, IsUnlawfulLeaf, Reaches, Stops, StopsAt, path_of};
-ghost use Rattle.iom_stage_walk.specs.Paths.{first_widths, IsCanonical, ReachesFirst, StopsFirst};
+ghost use Rattle.iom_stage_walk.specs.Paths.{first_levels, first_widths, IsCanonical, ReachesFirst, StopsFirst};
 ghost use Rattle.iom_stage_walk.specs.declared.walked.Walked.{Walked};
 ghost use Rattle.iom_stage_walk.specs.declared.walked.WalkFault.{WalkFault};
 
 use crate::entry::{Entry, entry_at};
 use crate::walked::{WalkFault, Walked};
-use iom_base::{AccessKind, Cause, Rights};
+use iom_base::{AccessKind, Cause, PAGE_SIZE, Rights, TABLE_ENTRIES};
 use iom_phys_mem::Bytes;
+
+/// The levels of a first stage, Sv39.
+pub const FIRST_LEVELS: usize = 3;
+
+/// The pages that two levels of tables span.
+const SPAN_OF_TWO: u64 = TABLE_ENTRIES * TABLE_ENTRIES;
+
+/// The pages that three levels of tables span.
+const SPAN_OF_THREE: u64 = SPAN_OF_TWO * TABLE_ENTRIES;
 
 /// What a walk loads its entries from: memory, or with two stages a guest's memory.
 pub(crate) trait Tables {
@@ -19,9 +29,7 @@ pub(crate) trait Tables {
     ghost entries: { Self → Entries };
 
     /// The entry at an index of the table that begins at a frame.
-    fn entry(&self, table: u64, index: u64) -> Entry
-        requires table { table < 2 ^ 44 }
-        requires index { index < 4096 }
+    fn entry(&self, table: u64, index: u16) -> Entry
         ensures value { result ≡ entries self.now (slot table index) }
         ensures bounded { IsBounded result };
 }
@@ -29,7 +37,7 @@ pub(crate) trait Tables {
 impl<B: Bytes> Tables for B {
     ghost entries = { λ memory. entries (B.frames_of memory) };
 
-    fn entry(&self, table: u64, index: u64) -> Entry {
+    fn entry(&self, table: u64, index: u16) -> Entry {
         entry_at(self, table, index)
     }
 }
@@ -42,27 +50,28 @@ pub(crate) struct Reached {
 }
 
 /// How many pages a leaf spans above these indices, and which of them they name.
-fn page_below(below: &[u64]) -> (u64, u64)
-    requires small { EachIndex below.now (λ k. slice_index below.now k < 4096) }
-    requires short { length below.now ≤ 3 }
+fn page_below(below: &[u16]) -> (u64, u64)
+    requires { length below.now ≤ 3 }
     ensures span { result.0 ≡ pages_spanned below.now }
     ensures page { result.1 ≡ page_in below.now }
     ensures positive { 0 < result.0 }
-    ensures fits { result.1 < 2 ^ 50 }
+    ensures fits { result.1 < 2 ^ 44 }
 {
     match below {
         [] => (1, 0),
-        [a] => (512, *a),
-        [a, b] => (262_144, 512 * *a + *b),
-        [a, b, c] => (134_217_728, 262_144 * *a + 512 * *b + *c),
+        [a] => (TABLE_ENTRIES, u64::from(*a)),
+        [a, b] => (SPAN_OF_TWO, TABLE_ENTRIES * u64::from(*a) + u64::from(*b)),
+        [a, b, c] => (
+            SPAN_OF_THREE,
+            SPAN_OF_TWO * u64::from(*a) + TABLE_ENTRIES * u64::from(*b) + u64::from(*c),
+        ),
         _ => unreachable!(),
     }
 }
 
 /// What a leaf gives to an access of the page that the indices below it name.
-fn judge_leaf(kind: AccessKind, base: u64, rights: Rights, below: &[u64]) -> Result<Reached, Cause>
+fn judge_leaf(kind: AccessKind, base: u64, rights: Rights, below: &[u16]) -> Result<Reached, Cause>
     requires base { base < 2 ^ 44 }
-    requires small { EachIndex below.now (λ k. slice_index below.now k < 4096) }
     requires short { length below.now ≤ 3 }
     ensures ok { IfOk result (λ leaf. IsLawfulLeaf kind base rights below.now leaf.frame leaf.rights) }
     ensures err { IfErr result (λ cause. (cause ≡ page_fault_of kind) × IsUnlawfulLeaf kind base rights below.now) }
@@ -81,21 +90,19 @@ fn judge_leaf(kind: AccessKind, base: u64, rights: Rights, below: &[u64]) -> Res
 pub(crate) fn walk<T: Tables>(
     tables: &T,
     root: u64,
-    indices: &[u64],
+    indices: &[u16],
     kind: AccessKind,
 ) -> Result<Reached, Cause>
-    requires root { root < 2 ^ 44 }
-    requires small { EachIndex indices.now (λ k. slice_index indices.now k < 4096) }
-    requires short { length indices.now ≤ 4 }
+    requires { length indices.now ≤ 4 }
     ensures ok { IfOk result (λ leaf. Reaches (T.entries tables.now) kind root indices.now leaf.frame leaf.rights) }
     ensures err { IfErr result (λ cause. Stops (T.entries tables.now) kind root indices.now cause) }
 {
     let mut table = root;
-    for k in 0..indices.len() {
-        match tables.entry(table, indices[k]) {
+    for (k, index) in indices.iter().enumerate() {
+        match tables.entry(table, *index) {
             Entry::Pointer(next) => table = next,
             Entry::Leaf(base, rights) => return judge_leaf(kind, base, rights, &indices[k + 1..]),
-            Entry::Faulty => return Err(Cause::page_fault(kind)),
+            Entry::Invalid => return Err(Cause::page_fault(kind)),
             Entry::Outside => return Err(Cause::access_fault(kind)),
         }
     }
@@ -116,12 +123,11 @@ fn walk_levels<B: Bytes>(
     memory: &B,
     root: u64,
     address: u64,
-    indices: &[u64],
+    indices: &[u16],
     kind: AccessKind,
 ) -> Result<Walked, Cause>
-    requires root { root < 2 ^ 44 }
     requires short { length indices.now ≤ 4 }
-    requires path { indices.now ≡ path_of (first_widths (length indices.now)) (address / 4096) }
+    requires path { indices.now ≡ path_of (first_widths (length indices.now)) (address / page_size) }
     ensures ok { IfOk result (ReachesFirst (length indices.now) (B.frames_of memory.now) root address kind) }
     ensures err { IfErr result (StopsAt (length indices.now) (B.frames_of memory.now) root address kind) }
 {
@@ -139,21 +145,30 @@ fn walk_levels<B: Bytes>(
     })
 }
 
+/// The indices of a page in the three levels of Sv39, the root's first: nine bits of its number each.
+pub fn first_indices(page: u64) -> [u16; FIRST_LEVELS]
+    ensures { result ≡ path_of (first_widths first_levels) page }
+{
+    [
+        (page / SPAN_OF_TWO % TABLE_ENTRIES) as u16,
+        (page / TABLE_ENTRIES % TABLE_ENTRIES) as u16,
+        (page % TABLE_ENTRIES) as u16,
+    ]
+}
+
 /// The walk of a first stage of three levels, Sv39, whose root table is at the page number `root`:
-/// Ok exactly where the path of the address reaches, with its leaf; else the cause with which it stops.
-/// At most three loads.
+/// Ok exactly where the path of the address reaches, with its leaf; else the cause with which it stops. A
+/// root outside memory gives an access fault. At most three loads.
 pub fn walk_first<B: Bytes>(
     memory: &B,
     root: u64,
     address: u64,
     kind: AccessKind,
 ) -> Result<Walked, WalkFault>
-    requires { root < 2 ^ 44 }
-    ensures reached { (walked : Walked) → (result ≡ Ok walked) ↔ ReachesFirst 3 (B.frames_of memory.now) root address kind walked }
-    ensures stopped { (fault : WalkFault) → (result ≡ Err fault) ↔ StopsFirst 3 (B.frames_of memory.now) root address kind fault }
+    ensures reached { (walked : Walked) → (result ≡ Ok walked) ↔ ReachesFirst first_levels (B.frames_of memory.now) root address kind walked }
+    ensures stopped { (fault : WalkFault) → (result ≡ Err fault) ↔ StopsFirst first_levels (B.frames_of memory.now) root address kind fault }
 {
-    let page = address / 4096;
-    let indices = [page / 262_144 % 512, page / 512 % 512, page % 512];
+    let indices = first_indices(address / PAGE_SIZE);
     match walk_levels(memory, root, address, &indices, kind) {
         Ok(walked) => Ok(walked),
         Err(cause) => Err(WalkFault {

@@ -1,1 +1,3 @@
+pub mod ChoiceLemmas
+pub mod GivingLemmas
 pub mod MarkLemmas

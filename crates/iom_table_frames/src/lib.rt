@@ -3,10 +3,10 @@
 //!
 //! A frame that a page table of the IOMMU lies in must be written by nobody but the driver (RISC-V
 //! IOMMU Architecture Specification, section 2, "Data Structures"): so a table takes a frame that is
-//! neither reserved nor held, nor still reached, by any device. The layer above may rely on the
-//! highest such frame being the one that is found, and on a reservation changing one mark, the bytes of
-//! one frame, to zero, and the pool of the ledger, which that frame leaves. The frames that aren't
-//! reserved are those of the pool as long as each reservation is made here (`OffersUnreserved`).
+//! neither reserved nor held, nor still reached, by any device. Whether a frame is reserved is said here
+//! and nowhere else. The layer above may rely on the highest such frame being the one that is found,
+//! whatever ledger is lent, and on a frame that is taken or given back changing its own mark and bytes
+//! alone; the ledger is only read.
 #![tactic(auto)]
 
 mod table_frames;

@@ -1,21 +1,24 @@
-ghost use Rattle.std.specs.Prelude.{◌≡◌, ◌+◌, ◌-◌, ◌<◌, ◌≤◌, ℕ, nat_lt, length, replicate, IfOk, None, Some, slice_set, MatchOption};
+ghost use Rattle.std.specs.Prelude.{◌≡◌, ◌↔◌, ◌+◌, ◌-◌, ◌^◌, ◌<◌, ◌≤◌, length, replicate, IfOk, IsTrue, None, Some, slice_get, slice_set, MatchOption};
+ghost use Rattle.std.specs.Option.{option_map_or};
 ghost use Rattle.iom_phys_mem.specs.Words.{zeroed};
-ghost use Rattle.iom_ledger.specs.History.{History};
-ghost use Rattle.iom_ledger.specs.Shown.{Agrees, is_pooled};
-ghost use Rattle.iom_ledger.specs.Changes.{ShowsSame, Reserves};
-ghost use Rattle.iom_table_frames.specs.Marks.{is_reserved, opening_marks, OffersUnreserved, NoneIsFree, IsHighestFree};
-ghost use Rattle.iom_base.specs.declared.owner.Owner.TheVariants as owner;
+ghost use Rattle.iom_table_frames.specs.Marks.{is_marked, opening_marks, NoneIsFree, IsHighestFree, HasFree, GivesBack};
 
-use iom_base::{DeviceId, Owner};
+use iom_base::{FRAME_SIZE, Owner};
+use iom_frame_set::FrameSet;
 use iom_ledger::Ledger;
 use iom_phys_mem::{Bytes, Memory};
 use std::alloc::{AllocError, Global};
 use std::marker::Model;
 
-/// The mark of each frame: its owner, where it is reserved.
+/// How many frames at the end of memory are the system's from the start.
+const SYSTEM_FRAMES: u32 = 4;
+
+/// The mark of each frame: its owner, where it is reserved. Beside the marks stands the set of the frames
+/// that aren't.
 #[derive(Drop)]
 pub struct TableFrames {
     marks: Vec<Option<Owner>>,
+    unreserved: FrameSet,
 }
 
 impl Model for TableFrames {
@@ -25,33 +28,34 @@ impl Model for TableFrames {
     ghost Value = { List (Option Owner) };
 
     ghost view = { λ t. t.marks.items };
+
+    ghost use Rattle.iom_table_frames.specs.Unreserved.{IsUnreservedSet};
+
+    ghost invariant = { λ t. IsUnreservedSet t.marks.items t.unreserved };
 }
 
 impl TableFrames {
-    /// The marks of so many frames: the last four are the system's, and leave the ledger's pool. Takes all
-    /// its memory here. Where that is refused, the ledger shows the same.
-    pub fn new(alloc: Global, frames: u32, ledger: &mut Ledger) -> Result<TableFrames, AllocError>
-        requires fixed { 4 ≤ frames }
-        requires pool { (f : ℕ) → is_pooled ledger.old f ≡ nat_lt f frames }
-        ensures marks { IfOk result (λ marks. marks ≡ opening_marks frames) }
-        ensures offers { IfOk result (λ marks. OffersUnreserved marks ledger.new) }
-        ensures shows { ShowsSame ledger.old ledger.new }
-        ensures agrees { (h : History) → Agrees ledger.old h → Agrees ledger.new h }
+    /// The marks of so many frames: the last four are the system's. Takes all its memory here.
+    pub fn new(alloc: Global, frames: u32) -> Result<TableFrames, AllocError>
+        requires { 4 ≤ frames }
+        ensures { IfOk result (λ marks. marks ≡ opening_marks frames) }
     {
         let mut marks = Vec::with_capacity(alloc, frames as usize)?;
-        for free in 0..frames {
+        let mut unreserved = FrameSet::empty(alloc);
+        unreserved.make_room(frames)?;
+        for frame in 0..frames - SYSTEM_FRAMES {
             marks.push(None)?;
+            unreserved.insert(frame);
         }
-        for fixed in 0..4u32 {
-            marks[(frames - 4 + fixed) as usize] = Some(Owner::System);
-            ledger.reserve(frames - 4 + fixed);
+        for fixed in 0..SYSTEM_FRAMES {
+            marks.push(Some(Owner::System))?;
         }
-        Ok(TableFrames { marks })
+        Ok(TableFrames { marks, unreserved })
     }
 
     /// Whether the frame is reserved; false outside memory.
     pub fn is_reserved(&self, frame: u32) -> bool
-        ensures { result ≡ is_reserved self.now frame }
+        ensures { result ≡ is_marked self.now frame }
     {
         match self.marks.get(frame as usize) {
             None => false,
@@ -62,33 +66,102 @@ impl TableFrames {
     /// The highest free frame below the limit, which isn't the named one: free is what is neither
     /// reserved nor held, nor released and not confirmed, by any device.
     pub fn highest_free(&self, ledger: &Ledger, limit: u32, named: Option<u32>) -> Option<u32>
-        requires limit { limit ≤ length self.now }
-        requires offers { OffersUnreserved self.now ledger.now }
+        requires { limit ≤ length self.now }
         ensures { MatchOption result (NoneIsFree self.now ledger.now named 0 limit) (IsHighestFree self.now ledger.now named limit) }
     {
-        ledger.highest_free(limit, named)
+        self.unreserved
+            .highest_in_both(ledger.free_frames(), limit, named)
     }
 
-    /// Reserves the frame for the device's tables, so that it leaves the ledger's pool, and makes its bytes
-    /// zero.
-    pub fn reserve(
-        &mut self,
-        memory: &mut Memory,
-        ledger: &mut Ledger,
-        frame: u32,
-        device: DeviceId,
-    )
+    /// Whether so many frames are free besides the named one.
+    pub fn has_free(&self, ledger: &Ledger, count: u32, named: Option<u32>) -> bool
+        requires { length self.now < 2 ^ 32 }
+        ensures { IsTrue result ↔ HasFree self.now ledger.now named count (length self.now) }
+    {
+        let mut limit = self.marks.len() as u32;
+        for counted in 0..count {
+            match self.highest_free(ledger, limit, named) {
+                None => return false,
+                Some(frame) => limit = frame,
+            }
+        }
+        true
+    }
+
+    /// Reserves the frame for the owner, and makes its bytes zero.
+    pub fn reserve(&mut self, memory: &mut Memory, frame: u32, owner: Owner)
         requires marked { frame < length self.old }
         requires inside { frame < length memory.old }
-        ensures mark { self.new ≡ slice_set self.old frame (Some (owner.OneDevice device)) }
+        ensures mark { self.new ≡ slice_set self.old frame (Some owner) }
         ensures zero { memory.new ≡ slice_set memory.old frame zeroed }
-        ensures ledger { Reserves ledger.old ledger.new frame }
-        ensures agrees { (h : History) → Agrees ledger.old h → Agrees ledger.new h }
     {
-        self.marks[frame as usize] = Some(Owner::OneDevice(device));
-        ledger.reserve(frame);
-        if let Some(bytes) = memory.frame_mut(frame) {
-            *bytes = [0; 4096];
+        self.marks[frame as usize] = Some(owner);
+        self.unreserved.remove(frame);
+        clear(memory, frame);
+    }
+
+    /// The highest free frame, besides the named one, becomes the owner's, and its bytes zero. Where there is
+    /// none, nothing changes.
+    pub fn take(
+        &mut self,
+        memory: &mut Memory,
+        ledger: &Ledger,
+        owner: Owner,
+        named: Option<u32>,
+    ) -> Option<u32>
+        requires { length self.old ≡ length memory.old }
+        ensures found { MatchOption result (NoneIsFree self.old ledger.now named 0 (length self.old))
+            (IsHighestFree self.old ledger.now named (length self.old)) }
+        ensures marks { self.new ≡ option_map_or (λ frame. slice_set self.old frame (Some owner)) result self.old }
+        ensures memory { memory.new ≡ option_map_or (λ frame. slice_set memory.old frame zeroed) result memory.old }
+        ensures size { (length self.new ≡ length self.old) × (length memory.new ≡ length memory.old) }
+    {
+        let frame = self.highest_free(ledger, memory.frames(), named)?;
+        self.reserve(memory, frame, owner);
+        Some(frame)
+    }
+
+    /// Whether the frame is the owner's.
+    fn is_owned_by(&self, frame: u32, owner: Owner) -> bool
+        ensures { IsTrue result ↔ (slice_get self.now frame ≡ Some (Some owner)) }
+    {
+        match self.marks.get(frame as usize) {
+            Some(Some(own)) => *own == owner,
+            _ => false,
         }
+    }
+
+    /// Takes the owner off the frame, and makes its bytes zero.
+    fn release(&mut self, memory: &mut Memory, frame: u32)
+        requires marked { frame < length self.old }
+        requires inside { frame < length memory.old }
+        ensures mark { self.new ≡ slice_set self.old frame None }
+        ensures zero { memory.new ≡ slice_set memory.old frame zeroed }
+    {
+        self.marks[frame as usize] = None;
+        self.unreserved.insert(frame);
+        clear(memory, frame);
+    }
+
+    /// The frames of the owner are reserved no more, and their bytes become zero. Looks at each mark.
+    pub fn give_back(&mut self, memory: &mut Memory, owner: Owner)
+        requires { length self.old ≡ length memory.old }
+        ensures { GivesBack owner self.old self.new memory.old memory.new }
+    {
+        for frame in 0..memory.frames() {
+            if self.is_owned_by(frame, owner) {
+                self.release(memory, frame);
+            }
+        }
+    }
+}
+
+/// Makes the bytes of the frame zero.
+fn clear(memory: &mut Memory, frame: u32)
+    requires { frame < length memory.old }
+    ensures { memory.new ≡ slice_set memory.old frame zeroed }
+{
+    if let Some(bytes) = memory.frame_mut(frame) {
+        *bytes = [0; FRAME_SIZE];
     }
 }

@@ -3,8 +3,8 @@
 ghost use Rattle.std.specs.Prelude.{◌<◌, IfOk};
 ghost use Rattle.iom_machine.specs.Machine.{IsEvent};
 
-use iom_base::{DeviceId, Rights};
-use iom_machine::{Choice, Event, Outcome, Sequence, judge, power_on};
+use iom_base::{DeviceId, GrantRights};
+use iom_machine::{Choice, DeviceKind, Event, Mode, Outcome, Sequence, judge, power_on};
 use iom_world::World;
 use std::alloc::{AllocError, Global};
 use std::test::Fail;
@@ -53,19 +53,26 @@ impl Draw {
         let address = page * 4096 + self.below(4096);
         let len = 1 + self.below(16);
         match self.below(12) {
-            0 => Ok(Event::PlugRaw { device }),
-            1 => Ok(Event::AttachFirst { device }),
+            0 => Ok(Event::Plug {
+                device,
+                kind: DeviceKind::Raw,
+            }),
+            1 => Ok(Event::Attach {
+                device,
+                mode: Mode::First,
+                ats: false,
+            }),
             2 => Ok(Event::Grant {
                 device,
                 page,
                 frame,
-                rights: Rights::R,
+                rights: GrantRights::ReadOnly,
             }),
             3 => Ok(Event::Grant {
                 device,
                 page,
                 frame,
-                rights: Rights::RW,
+                rights: GrantRights::ReadWrite,
             }),
             4 => Ok(Event::Release { device, page }),
             5 | 6 => Ok(Event::Fetch),
@@ -153,7 +160,7 @@ impl Known {
         let mut taken = Sequence::new(alloc);
         let mut frame = 0;
         match (event, outcome) {
-            (Event::AttachFirst { .. }, Outcome::Done) => taken = self.take(alloc, 1)?,
+            (Event::Attach { .. }, Outcome::Done) => taken = self.take(alloc, 1)?,
             (
                 Event::Grant {
                     device,

@@ -1,9 +1,9 @@
 use arrayvec::ArrayVec;
-use iom_base::{Cause, DeviceId, Rights};
+use iom_base::{Cause, DeviceId, GrantRights};
 use iom_ledger::Refusal;
 use iom_machine::{
-    Choice, CommandName, Event, Fetched, Line, Outcome, Sequence, Verdict, judge, judge_run,
-    lawful_runs_have_choices, power_on, reclaim_theorem,
+    Choice, CommandName, DeviceKind, Event, Fetched, Line, Mode, Outcome, Sequence, Verdict, judge,
+    judge_run, lawful_runs_have_choices, power_on, reclaim_theorem,
 };
 use std::alloc::Global;
 use std::test::Fail;
@@ -13,7 +13,7 @@ use std::test::Fail;
 enum Does<'a> {
     Plug(DeviceId),
     Attach(DeviceId, &'a [u32]),
-    Grant(DeviceId, u64, u64, Rights, &'a [u32]),
+    Grant(DeviceId, u64, u64, GrantRights, &'a [u32]),
     Release(DeviceId, u64),
     Fetch,
     Poll,
@@ -58,8 +58,15 @@ fn numbers_of(alloc: Global, numbers: &[u32]) -> Result<Sequence<u32>, Fail> {
 
 fn event_of(alloc: Global, does: Does) -> Result<Event, Fail> {
     Ok(match does {
-        Does::Plug(device) => Event::PlugRaw { device },
-        Does::Attach(device, _) => Event::AttachFirst { device },
+        Does::Plug(device) => Event::Plug {
+            device,
+            kind: DeviceKind::Raw,
+        },
+        Does::Attach(device, _) => Event::Attach {
+            device,
+            mode: Mode::First,
+            ats: false,
+        },
         Does::Grant(device, page, frame, rights, _) => Event::Grant {
             device,
             page,
@@ -147,7 +154,10 @@ fn first_unlawful(alloc: Global, lines: &[(Does, Comes)]) -> Result<Option<usize
 const FIRST_PATH: [(Does, Comes); 11] = [
     (Does::Plug(1), Comes::Done),
     (Does::Attach(1, &[59]), Comes::Done),
-    (Does::Grant(1, 3, 5, Rights::RW, &[58, 57]), Comes::Done),
+    (
+        Does::Grant(1, 3, 5, GrantRights::ReadWrite, &[58, 57]),
+        Comes::Done,
+    ),
     (Does::Read(1, 0x3ffc, 4), Comes::Accepted(1, 5)),
     (Does::Read(1, 0x3ffc, 5), Comes::BadSpan),
     (Does::Commit(1), Comes::Read(&[0, 0, 0, 0])),
@@ -168,7 +178,10 @@ const FIRST_PATH: [(Does, Comes); 11] = [
 const BUSY: [(Does, Comes); 12] = [
     (Does::Plug(1), Comes::Done),
     (Does::Attach(1, &[59]), Comes::Done),
-    (Does::Grant(1, 3, 5, Rights::RW, &[58, 57]), Comes::Done),
+    (
+        Does::Grant(1, 3, 5, GrantRights::ReadWrite, &[58, 57]),
+        Comes::Done,
+    ),
     (Does::Read(1, 0x3000, 1), Comes::Accepted(1, 5)),
     (Does::Read(1, 0x3000, 1), Comes::Accepted(2, 5)),
     (Does::Read(1, 0x3000, 1), Comes::Accepted(3, 5)),
@@ -184,25 +197,28 @@ const BUSY: [(Does, Comes); 12] = [
 const GRANT_BOUNDARIES: [(Does, Comes); 11] = [
     (Does::Plug(1), Comes::Done),
     (Does::Attach(1, &[59]), Comes::Done),
-    (Does::Grant(1, 3, 5, Rights::RW, &[58, 57]), Comes::Done),
     (
-        Does::Grant(1, 67108863, 5, Rights::R, &[56, 55]),
+        Does::Grant(1, 3, 5, GrantRights::ReadWrite, &[58, 57]),
         Comes::Done,
     ),
     (
-        Does::Grant(1, 67108864, 5, Rights::R, &[]),
+        Does::Grant(1, 67108863, 5, GrantRights::ReadOnly, &[56, 55]),
+        Comes::Done,
+    ),
+    (
+        Does::Grant(1, 67108864, 5, GrantRights::ReadOnly, &[]),
         Comes::Refused(Refusal::IovaOutOfRange),
     ),
     (
-        Does::Grant(1, 4, 60, Rights::R, &[]),
+        Does::Grant(1, 4, 60, GrantRights::ReadOnly, &[]),
         Comes::Refused(Refusal::FrameReserved),
     ),
     (
-        Does::Grant(1, 4, 64, Rights::R, &[]),
+        Does::Grant(1, 4, 64, GrantRights::ReadOnly, &[]),
         Comes::Refused(Refusal::FrameOutOfRange),
     ),
     (
-        Does::Grant(1, 3, 6, Rights::R, &[]),
+        Does::Grant(1, 3, 6, GrantRights::ReadOnly, &[]),
         Comes::Refused(Refusal::IovaBusy),
     ),
     (Does::Read(1, 0x3ffffff000, 1), Comes::Accepted(1, 5)),
@@ -221,7 +237,10 @@ const GRANT_BOUNDARIES: [(Does, Comes); 11] = [
 const STALE_BUT_LAWFUL: [(Does, Comes); 9] = [
     (Does::Plug(1), Comes::Done),
     (Does::Attach(1, &[59]), Comes::Done),
-    (Does::Grant(1, 3, 5, Rights::RW, &[58, 57]), Comes::Done),
+    (
+        Does::Grant(1, 3, 5, GrantRights::ReadWrite, &[58, 57]),
+        Comes::Done,
+    ),
     (Does::Read(1, 0x3000, 1), Comes::Accepted(1, 5)),
     (Does::Commit(1), Comes::Read(&[0])),
     (Does::Release(1, 3), Comes::Ticket(1)),
@@ -246,7 +265,10 @@ fn the_worked_rows_are_lawful(rt: HostRuntime) -> Result<(), Fail> {
 const BASE: [(Does, Comes); 17] = [
     (Does::Plug(1), Comes::Done),
     (Does::Attach(1, &[59]), Comes::Done),
-    (Does::Grant(1, 3, 5, Rights::RW, &[58, 57]), Comes::Done),
+    (
+        Does::Grant(1, 3, 5, GrantRights::ReadWrite, &[58, 57]),
+        Comes::Done,
+    ),
     (Does::Read(1, 0x3ffc, 4), Comes::Accepted(1, 5)),
     (Does::Read(1, 0x3ffc, 5), Comes::BadSpan),
     (Does::Commit(1), Comes::Read(&[0, 0, 0, 0])),
@@ -290,29 +312,53 @@ const CHANGED_CALLS: [(usize, Does, Comes); 20] = [
     // attached twice
     (2, Does::Attach(1, &[]), Comes::Done),
     // a grant to a device that isn't attached
-    (1, Does::Grant(1, 3, 5, Rights::RW, &[]), Comes::Done),
+    (
+        1,
+        Does::Grant(1, 3, 5, GrantRights::ReadWrite, &[]),
+        Comes::Done,
+    ),
     // a reserved frame granted
-    (2, Does::Grant(1, 3, 59, Rights::RW, &[]), Comes::Done),
+    (
+        2,
+        Does::Grant(1, 3, 59, GrantRights::ReadWrite, &[]),
+        Comes::Done,
+    ),
     // a reserved frame comes before a page that is out of range
     (
         2,
-        Does::Grant(1, 67108864, 60, Rights::RW, &[]),
+        Does::Grant(1, 67108864, 60, GrantRights::ReadWrite, &[]),
         Comes::Refused(Refusal::IovaOutOfRange),
     ),
     // the granted frame becomes a table
-    (2, Does::Grant(1, 3, 5, Rights::RW, &[5]), Comes::Done),
+    (
+        2,
+        Does::Grant(1, 3, 5, GrantRights::ReadWrite, &[5]),
+        Comes::Done,
+    ),
     // plenty of free frames
     (
         2,
-        Does::Grant(1, 3, 5, Rights::RW, &[]),
+        Does::Grant(1, 3, 5, GrantRights::ReadWrite, &[]),
         Comes::Refused(Refusal::NoFrames),
     ),
     // a granted frame becomes a table
-    (3, Does::Grant(1, 4, 6, Rights::RW, &[5]), Comes::Done),
+    (
+        3,
+        Does::Grant(1, 4, 6, GrantRights::ReadWrite, &[5]),
+        Comes::Done,
+    ),
     // a held page
-    (3, Does::Grant(1, 3, 6, Rights::R, &[]), Comes::Done),
+    (
+        3,
+        Does::Grant(1, 3, 6, GrantRights::ReadOnly, &[]),
+        Comes::Done,
+    ),
     // a lingering page
-    (9, Does::Grant(1, 3, 6, Rights::R, &[]), Comes::Done),
+    (
+        9,
+        Does::Grant(1, 3, 6, GrantRights::ReadOnly, &[]),
+        Comes::Done,
+    ),
     // a page that isn't held
     (8, Does::Release(1, 4), Comes::Ticket(1)),
     // another ticket than the next

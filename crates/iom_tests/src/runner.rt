@@ -1,12 +1,12 @@
 ghost use Rattle.std.specs.Prelude.{Some};
 
-use iom_runner::{ArgsFault, RunFault, args_status, exit_status, read_words, run};
+use iom_runner::{ArgsFault, ProgramFault, RunFault, read_words, run, run_words};
 use std::alloc::Global;
 use std::io::{self, ErrorKind, Read, Write};
 use std::test::Fail;
 
-/// A reader that gives at most so many bytes a call, is interrupted at every other call, and fails once
-/// its calls are used up.
+/// A reader that gives at most so many bytes a call, is interrupted at every other call, and fails at
+/// one: after so many calls. After that it goes on.
 #[derive(Drop)]
 struct Slow<'a> {
     rest: &'a [u8],
@@ -31,6 +31,7 @@ impl Read for Slow<'_> {
 
     fn read(&mut self, buf: &mut [u8]) -> io::Result<usize> {
         if self.calls == 0 {
+            self.calls = usize::MAX;
             return Err(io::Error::from(ErrorKind::Other));
         }
         self.calls -= 1;
@@ -46,8 +47,8 @@ impl Read for Slow<'_> {
     }
 }
 
-/// A writer that takes at most so many bytes a call, is interrupted at every other call, and fails, or
-/// takes nothing, once its room is used up.
+/// A writer that takes at most so many bytes a call, is interrupted at every other call, and fails at one
+/// call, or takes nothing: when its room is used up. After that it goes on.
 #[derive(Drop)]
 struct Stingy {
     got: Vec<u8>,
@@ -77,10 +78,11 @@ impl Write for Stingy {
         if self.interrupted {
             return Err(io::Error::from(ErrorKind::Interrupted));
         }
-        if self.room == 0 && self.takes_nothing {
-            return Ok(0);
-        }
         if self.room == 0 {
+            self.room = usize::MAX;
+            if self.takes_nothing {
+                return Ok(0);
+            }
             return Err(io::Error::from(ErrorKind::Other));
         }
         let count = buf.len().min(self.at_once).min(self.room);
@@ -98,7 +100,7 @@ impl Write for Stingy {
 fn status(done: Result<(), RunFault>) -> u8 {
     match done {
         Ok(()) => 0,
-        Err(fault) => exit_status(&fault),
+        Err(fault) => ProgramFault::Run(fault).status(),
     }
 }
 
@@ -255,6 +257,17 @@ fn a_megabyte_of_lines_is_told(rt: HostRuntime) -> Result<(), Fail> {
 }
 
 #[test]
+fn many_short_writes_are_continued(rt: HostRuntime) -> Result<(), Fail> {
+    // More than a whole buffer of lines, a byte at a time.
+    let script = many(rt.alloc(), b"world 64 1\n", b"poll\n", 7000)?;
+    let lines = many(rt.alloc(), b"ok\n", b"confirmed -\n", 7000)?;
+    let mut out = Stingy::new(rt.alloc(), 1, usize::MAX);
+    run(rt.alloc(), &mut script.as_slice(), &mut out)?;
+    assert!(rt; out.got.as_slice() == lines.as_slice());
+    Ok(())
+}
+
+#[test]
 fn one_line_too_many_is_named(rt: HostRuntime) -> Result<(), Fail> {
     let script = many(rt.alloc(), b"world 64 1\n", b"poll\n", 209714)?;
     let mut out = Vec::new(rt.alloc());
@@ -269,23 +282,40 @@ fn one_line_too_many_is_named(rt: HostRuntime) -> Result<(), Fail> {
 #[test]
 fn faults_have_texts_and_statuses(rt: HostRuntime) -> Result<(), Fail> {
     let faults = [
-        (RunFault::Reading, "reading failed", 1u8),
-        (RunFault::Writing, "writing failed", 1),
-        (RunFault::Memory, "out of memory", 1),
-        (RunFault::Script(18), "line 18: bad script", 2),
+        (ProgramFault::Run(RunFault::Reading), "reading failed", 1u8),
+        (ProgramFault::Run(RunFault::Writing), "writing failed", 1),
+        (ProgramFault::Run(RunFault::Memory), "out of memory", 1),
+        (
+            ProgramFault::Run(RunFault::Script(18)),
+            "line 18: bad script",
+            2,
+        ),
+        (ProgramFault::Args(ArgsFault::Bad), "bad command line", 3),
+        (ProgramFault::Args(ArgsFault::Memory), "out of memory", 1),
     ];
-    for (fault, text, code) in faults {
+    for (fault, text, status) in faults {
         assert_eq!(rt; format!(in rt.alloc(); "{fault}")?.as_str(), text);
-        assert_eq!(rt; exit_status(&fault), code);
+        assert_eq!(rt; fault.status(), status);
     }
-    let faults = [
-        (ArgsFault::Bad, "bad command line", 3u8),
-        (ArgsFault::Memory, "out of memory", 1),
-    ];
-    for (fault, text, code) in faults {
-        assert_eq!(rt; format!(in rt.alloc(); "{fault}")?.as_str(), text);
-        assert_eq!(rt; args_status(&fault), code);
+    Ok(())
+}
+
+#[test]
+fn a_file_that_is_absent_is_not_read(rt: HostRuntime) -> Result<(), Fail> {
+    let mut out = Vec::new(rt.alloc());
+    match run_words(
+        &rt,
+        rt.alloc(),
+        &["absent.iommu"],
+        &mut FIRST_PATH,
+        &mut out,
+    ) {
+        Err(ProgramFault::Run(RunFault::Reading)) => {}
+        _ => return Err(Fail::new("no fault of reading")),
     }
+    assert!(rt; out.is_empty());
+    run_words(&rt, rt.alloc(), &[], &mut FIRST_PATH, &mut out)?;
+    assert_eq!(rt; out.as_slice(), FIRST_PATH_LINES);
     Ok(())
 }
 
@@ -294,6 +324,7 @@ fn command_lines_are_read(rt: HostRuntime) -> Result<(), Fail> {
     assert!(rt; read_words(rt.alloc(), &[])?.file.is_none());
     assert_eq!(rt; read_words(rt.alloc(), &["a"])?.file, Some("a"));
     assert_eq!(rt; read_words(rt.alloc(), &["a b-c"])?.file, Some("a b-c"));
+    assert_eq!(rt; read_words(rt.alloc(), &["/"])?.file, Some("/"));
     assert_eq!(rt;
         read_words(rt.alloc(), &["\u{e9}=\u{1f600}"])?.file,
         Some("\u{e9}=\u{1f600}")
@@ -304,7 +335,7 @@ fn command_lines_are_read(rt: HostRuntime) -> Result<(), Fail> {
         &["-"],
         &["--"],
         &["--help"],
-        &["-V"],
+        &["-h"],
         &["a", "b"],
         &["--", "a"],
     ];

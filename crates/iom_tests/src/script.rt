@@ -1,5 +1,5 @@
 use arrayvec::ArrayVec;
-use iom_base::{Cause, Rights};
+use iom_base::{Cause, GrantRights};
 use iom_ledger::Refusal;
 use iom_machine::{CommandName, Event, Fetched, Outcome};
 use iom_script::{LineBuffer, ScriptFault, parse};
@@ -129,7 +129,7 @@ fn the_first_path_is_read(rt: HostRuntime) -> Result<(), Fail> {
                 frame: 5,
                 rights,
             },
-        ) => assert!(rt; *rights == Rights::RW),
+        ) => assert!(rt; *rights == GrantRights::ReadWrite),
         _ => return Err(Fail::new("another grant")),
     }
     match events.get(10) {
@@ -162,7 +162,7 @@ fn boundaries_are_read(rt: HostRuntime) -> Result<(), Fail> {
                 frame: 0,
                 rights,
             },
-        ) => assert!(rt; *rights == Rights::R),
+        ) => assert!(rt; *rights == GrantRights::ReadOnly),
         _ => return Err(Fail::new("another grant")),
     }
     match script.events.as_slice().get(1) {

@@ -1,8 +1,8 @@
 ghost use Rattle.std.specs.Prelude.{◌≡◌, ◌+◌, IfOk, length};
 ghost use Rattle.iom_machine.specs.Machine.{IsEvent};
 
-use iom_base::{Cause, Rights};
-use iom_machine::{CommandName, Event, Fetched, Outcome, Sink};
+use iom_base::{Cause, DeviceId, GrantRights};
+use iom_machine::{CommandName, DeviceKind, Event, Fetched, Mode, Outcome, Sink};
 use iom_world::World;
 use std::alloc::Global;
 use std::test::Fail;
@@ -29,6 +29,27 @@ impl Sink for Room {
     }
 }
 
+/// A raw device is plugged in.
+fn plug(device: DeviceId) -> Event
+    ensures { IsEvent result }
+{
+    Event::Plug {
+        device,
+        kind: DeviceKind::Raw,
+    }
+}
+
+/// The device is attached in its first stage.
+fn attach(device: DeviceId) -> Event
+    ensures { IsEvent result }
+{
+    Event::Attach {
+        device,
+        mode: Mode::First,
+        ats: false,
+    }
+}
+
 /// A world in which device 1 holds frame 5 at page 3.
 fn granted(alloc: Global) -> Result<World, Fail>
     ensures { IfOk result (λ world. world.events ≡ 3) }
@@ -38,10 +59,10 @@ fn granted(alloc: Global) -> Result<World, Fail>
         device: 1,
         page: 3,
         frame: 5,
-        rights: Rights::RW,
+        rights: GrantRights::ReadWrite,
     };
-    world.step(&Event::PlugRaw { device: 1 });
-    world.step(&Event::AttachFirst { device: 1 });
+    world.step(&plug(1));
+    world.step(&attach(1));
     world.step(&grant);
     Ok(world)
 }
@@ -162,12 +183,7 @@ impl Sink for Kept {
 fn a_list_takes_each_outcome(rt: HostRuntime) -> Result<(), Fail> {
     let mut world = World::new(rt.alloc(), 64, 1)?;
     let device = 1;
-    let events = [
-        Event::AttachFirst { device },
-        Event::PlugRaw { device },
-        Event::PlugRaw { device },
-        Event::AttachFirst { device },
-    ];
+    let events = [attach(device), plug(device), plug(device), attach(device)];
     let mut kept = Kept {
         refused: Vec::new(rt.alloc()),
     };

@@ -6,12 +6,22 @@
 //! and who confirmed it. The first line names the columns.
 #![tactic(auto)]
 
-ghost use Rattle.std.specs.Prelude.{◌^◌, ◌<◌, IfSome};
-
-use iom_base::AccessKind;
+use iom_base::{AccessKind, PAGE_SIZE};
 use iom_phys_mem::{Bytes, Memory};
 use iom_stage_walk::{WalkFault, Walked, walk_first};
 use std::fs;
+
+/// Page numbers are below this: they have 44 bits.
+const PAGE_NUMBERS: u64 = 1 << 44;
+
+/// The bytes of a context of the base format.
+const CONTEXT_SIZE: u64 = 32;
+
+/// The mode of a directory of one level, in `ddtp`.
+const ONE_LEVEL: u64 = 2;
+
+/// The mode of a first stage of Sv39, in a context's `fsc`.
+const SV39: u64 = 8;
 
 /// A translation, and the answer that is wanted.
 #[derive(Clone, Copy)]
@@ -75,18 +85,17 @@ fn store_words(memory: &mut Memory, words: &str, clear: bool) -> Option<()> {
 
 /// The root of the first stage of the device, by its context in a directory of one level; None where that has
 /// another form (IOMMU specification, sections 2.1 and 2.2).
-fn root_of(memory: &Memory, ddtp: u64, device: u64) -> Option<u64>
-    ensures { IfSome result (λ root. root < 2 ^ 44) }
-{
-    if ddtp % 16 != 2 || device >= 128 {
+fn root_of(memory: &Memory, ddtp: u64, device: u64) -> Option<u64> {
+    if ddtp % 16 != ONE_LEVEL || device >= PAGE_SIZE / CONTEXT_SIZE {
         return None;
     }
-    let context = (ddtp >> 10) % (1 << 44) * 4096 + 32 * device;
+    let directory = (ddtp >> 10) % PAGE_NUMBERS;
+    let context = directory * PAGE_SIZE + CONTEXT_SIZE * device;
     let translation_control = memory.load_u64(context)?;
     let second_stage = memory.load_u64(context + 8)?;
     let first_stage = memory.load_u64(context + 24)?;
-    if translation_control == 1 && second_stage == 0 && first_stage >> 60 == 8 {
-        Some(first_stage % (1 << 44))
+    if translation_control == 1 && second_stage == 0 && first_stage >> 60 == SV39 {
+        Some(first_stage % PAGE_NUMBERS)
     } else {
         None
     }
@@ -96,7 +105,8 @@ fn root_of(memory: &Memory, ddtp: u64, device: u64) -> Option<u64>
 fn is_wanted(answer: Result<Walked, WalkFault>, case: Case<'_>) -> bool {
     match answer {
         Ok(walked) => match case.want.strip_prefix("at ") {
-            Some(place) => hex(place) == Some(4096 * u64::from(walked.frame) + case.address % 4096),
+            Some(place) => hex(place)
+                == Some(PAGE_SIZE * u64::from(walked.frame) + case.address % PAGE_SIZE),
             None => false,
         },
         Err(fault) => match case.want.strip_prefix("cause ") {

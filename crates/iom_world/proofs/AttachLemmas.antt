@@ -28,10 +28,10 @@ get_set xs i k x y lt at =
     ]
 
 -- a frame that isn't marked has no mark
-pub unmarked : (marked : List (Option Owner)) (n : ℕ) → n < length marked → marks.is_reserved marked n ≡ false → slice_get marked n ≡ Some None
+pub unmarked : (marked : List (Option Owner)) (n : ℕ) → n < length marked → marks.is_marked marked n ≡ false → slice_get marked n ≡ Some None
 unmarked marked n lt free = by (get_there marked n lt) free
   where
-    by : (m : Option Owner) × (slice_get marked n ≡ Some m) → marks.is_reserved marked n ≡ false → slice_get marked n ≡ Some None
+    by : (m : Option Owner) × (slice_get marked n ≡ Some m) → marks.is_marked marked n ≡ false → slice_get marked n ≡ Some None
     by (None, at) free = at
     by (Some owner, at) free = absurd (contra (rw at at free))
       where

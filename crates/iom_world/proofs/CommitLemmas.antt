@@ -104,7 +104,7 @@ shown_rest (first ∷ later) = refl
 abbrev pub without_oldest : Device → Device
 without_oldest device = record device { in_flight = drop 1 device.in_flight }
 
-still_made : (device now : Device) → now ≡ without_oldest device → IsStill device now
+pub still_made : (device now : Device) → now ≡ without_oldest device → IsStill device now
 still_made device now is = rw is (record { id = refl; root = refl })
 
 rest_covered : (ledger : Ledger) (completed id : ℕ) (flights : List Flight) → AllCovered ledger completed id flights → AllCovered ledger completed id (drop 1 flights)

@@ -6,25 +6,25 @@ use Rattle.iom_ledger.specs.declared.entry.HistoryEntry.TheVariants.{Confirmed}
 use Rattle.iom_ledger.specs.declared.ledger.Ledger.{Ledger}
 use Rattle.iom_ledger.specs.History.{History, Pair}
 use Rattle.iom_ledger.specs.Shown.{Agrees}
-use Rattle.iom_ledger.specs.Changes.{Confirms, unless_under}
+use Rattle.iom_ledger.specs.Changes.{ShowsConfirmation, unless_under}
 use Rattle.iom_machine.specs.Tickets.{confirmed_from}
-use Rattle.iom_world.specs.Confirmed.{is_among, unless_among, ConfirmsFrom}
+use Rattle.iom_world.specs.Confirmed.{is_among_next, unless_among, ConfirmsFrom}
 
 -- tickets within the row, below it and above it
-pub among_yes : (first n t : ℕ) → first ≤ t → t < first + n → is_among first n t ≡ true
+pub among_yes : (first n t : ℕ) → first ≤ t → t < first + n → is_among_next first n t ≡ true
 among_yes first n t low high = and_from _ _ (le-leb first t low) (lt-ltb t (first + n) high)
 
-pub among_below : (first n t : ℕ) → t < first → is_among first n t ≡ false
+pub among_below : (first n t : ℕ) → t < first → is_among_next first n t ≡ false
 among_below first n t low = and_left _ _ (lt-leb first t low)
 
-pub among_above : (first n t : ℕ) → first + n ≤ t → is_among first n t ≡ false
+pub among_above : (first n t : ℕ) → first + n ≤ t → is_among_next first n t ≡ false
 among_above first n t high = and_right _ _ (le-ltb t (first + n) high)
 
 -- one more ticket is that one, or one of those before
-among_more : (first n t : ℕ) → is_among first (suc n) t ≡ ((first + n == t) || is_among first n t)
+among_more : (first n t : ℕ) → is_among_next first (suc n) t ≡ ((first + n == t) || is_among_next first n t)
 among_more first n t = by (first + n == t) (nat_lt t first) (nat_lt t (first + n)) refl refl refl
   where
-    by : (b low high : Bool) → (first + n == t) ≡ b → nat_lt t first ≡ low → nat_lt t (first + n) ≡ high → is_among first (suc n) t ≡ (b || is_among first n t)
+    by : (b low high : Bool) → (first + n == t) ≡ b → nat_lt t first ≡ low → nat_lt t (first + n) ≡ high → is_among_next first (suc n) t ≡ (b || is_among_next first n t)
     by true low high e f g = let same : first + n ≡ t = eqb-true (first + n) t e in among_yes first (suc n) t (omega arith) (omega arith)
     by false true high e f g = let below : t < first = grind (arith, nat_tests) in among_below first (suc n) t below ∙ sym (among_below first n t below)
     by false false true e f g =
@@ -38,9 +38,9 @@ among_more first n t = by (first + n == t) (nat_lt t first) (nat_lt t (first + n
 -- what lingers after one more
 unless_more : (first n : ℕ) (released : Option (ℕ × Pair)) → unless_under (first + n) (unless_among first n released) ≡ unless_among first (suc n) released
 unless_more first n None = refl
-unless_more first n (Some released) = by (is_among first n released.0) (first + n == released.0) refl refl
+unless_more first n (Some released) = by (is_among_next first n released.0) (first + n == released.0) refl refl
   where
-    by : (among own : Bool) → is_among first n released.0 ≡ among → (first + n == released.0) ≡ own
+    by : (among own : Bool) → is_among_next first n released.0 ≡ among → (first + n == released.0) ≡ own
         → unless_under (first + n) (unless_among first n (Some released)) ≡ unless_among first (suc n) (Some released)
     by true true e f = rw (among_more first n released.0, f, e) refl
     by true false e f = rw (among_more first n released.0, f, e) refl
@@ -49,13 +49,13 @@ unless_more first n (Some released) = by (is_among first n released.0) (first + 
 
 -- what waits after one more
 waiting_more : (first n : ℕ) (ts : List ℕ)
-    → filter (λ t. not (first + n == t)) (filter (λ t. not (is_among first n t)) ts) ≡ filter (λ t. not (is_among first (suc n) t)) ts
+    → filter (λ t. not (first + n == t)) (filter (λ t. not (is_among_next first n t)) ts) ≡ filter (λ t. not (is_among_next first (suc n) t)) ts
 waiting_more first n [] = refl
-waiting_more first n (t ∷ ts) = by (is_among first n t) (first + n == t) refl refl (waiting_more first n ts)
+waiting_more first n (t ∷ ts) = by (is_among_next first n t) (first + n == t) refl refl (waiting_more first n ts)
   where
-    by : (among own : Bool) → is_among first n t ≡ among → (first + n == t) ≡ own
-        → filter (λ x. not (first + n == x)) (filter (λ x. not (is_among first n x)) ts) ≡ filter (λ x. not (is_among first (suc n) x)) ts
-        → filter (λ x. not (first + n == x)) (filter (λ x. not (is_among first n x)) (t ∷ ts)) ≡ filter (λ x. not (is_among first (suc n) x)) (t ∷ ts)
+    by : (among own : Bool) → is_among_next first n t ≡ among → (first + n == t) ≡ own
+        → filter (λ x. not (first + n == x)) (filter (λ x. not (is_among_next first n x)) ts) ≡ filter (λ x. not (is_among_next first (suc n) x)) ts
+        → filter (λ x. not (first + n == x)) (filter (λ x. not (is_among_next first n x)) (t ∷ ts)) ≡ filter (λ x. not (is_among_next first (suc n) x)) (t ∷ ts)
     by true true e f rest = rw (among_more first n t, f, e) rest
     by true false e f rest = rw (among_more first n t, f, e) rest
     by false true e f rest = rw (among_more first n t, e, f) rest
@@ -70,11 +70,11 @@ unless_none first (Some released) = by (nat_lt released.0 first) refl
     by true e = let below : released.0 < first = grind (arith, nat_tests) in rw (among_below first 0 released.0 below) refl
     by false e = let above : first + 0 ≤ released.0 = grind (arith, nat_tests) in rw (among_above first 0 released.0 above) refl
 
-waiting_none : (first : ℕ) (ts : List ℕ) → ts ≡ filter (λ t. not (is_among first 0 t)) ts
+waiting_none : (first : ℕ) (ts : List ℕ) → ts ≡ filter (λ t. not (is_among_next first 0 t)) ts
 waiting_none first [] = refl
 waiting_none first (t ∷ ts) = by (nat_lt t first) refl (waiting_none first ts)
   where
-    by : (low : Bool) → nat_lt t first ≡ low → ts ≡ filter (λ x. not (is_among first 0 x)) ts → (t ∷ ts) ≡ filter (λ x. not (is_among first 0 x)) (t ∷ ts)
+    by : (low : Bool) → nat_lt t first ≡ low → ts ≡ filter (λ x. not (is_among_next first 0 x)) ts → (t ∷ ts) ≡ filter (λ x. not (is_among_next first 0 x)) (t ∷ ts)
     by true e rest = let below : t < first = grind (arith, nat_tests) in rw (among_below first 0 t below) (ap (λ xs. t ∷ xs) rest)
     by false e rest = let above : first + 0 ≤ t = grind (arith, nat_tests) in rw (among_above first 0 t above) (ap (λ xs. t ∷ xs) rest)
 
@@ -85,10 +85,10 @@ confirms_none ledger first n none = subst (λ m. ConfirmsFrom ledger ledger firs
   pending = waiting_none first _;
 }
 
-pub confirms_more : (old now new : Ledger) (first n ticket more : ℕ) → ticket ≡ first + n → more ≡ suc n → ConfirmsFrom old now first n → Confirms now new ticket
+pub confirms_more : (old now new : Ledger) (first n ticket more : ℕ) → ticket ≡ first + n → more ≡ suc n → ConfirmsFrom old now first n → ShowsConfirmation now new ticket
     → ConfirmsFrom old new first more
 confirms_more old now new first n ticket more next is before confirmed =
-    let last : Confirms now new (first + n) = subst (λ t. Confirms now new t) next confirmed in
+    let last : ShowsConfirmation now new (first + n) = subst (λ t. ShowsConfirmation now new t) next confirmed in
     subst (λ m. ConfirmsFrom old new first m) (sym is) record {
       held = λ d a. last.held d a ∙ before.held d a;
       lingering = λ d a. last.lingering d a ∙ ap (unless_under (first + n)) (before.lingering d a) ∙ unless_more first n _;

@@ -73,7 +73,7 @@ shows_kept memory memory' marked frames shows same size = record {
 }
 
 -- a frame is reserved in the machine exactly where it is marked
-pub reserved_shown : (memory : List (List ℕ)) (marked : List (Option Owner)) (frames : List Frame) (n : ℕ) → ShowsFrames memory marked frames → is_reserved frames n ≡ marks.is_reserved marked n
+pub reserved_shown : (memory : List (List ℕ)) (marked : List (Option Owner)) (frames : List Frame) (n : ℕ) → ShowsFrames memory marked frames → is_reserved frames n ≡ marks.is_marked marked n
 reserved_shown memory marked frames n shows = by (slice_get frames n) (slice_get marked n) (shows.owners n)
   where
     by : (f : Option Frame) (m : Option (Option Owner)) → option_map (λ (g : Frame). g.owner) f ≡ m

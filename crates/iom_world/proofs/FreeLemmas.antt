@@ -7,12 +7,12 @@ use Rattle.iom_ledger.proofs.AgreementLemmas.{some_row_from_May, May_from_some_r
 use Rattle.iom_machine.specs.declared.state.State.{State}
 use Rattle.iom_machine.specs.Frames.{IsFree}
 use Rattle.iom_base.specs.declared.owner.Owner.{Owner}
-use Rattle.iom_table_frames.specs.Marks.{is_reserved, IsFreeBesides}
+use Rattle.iom_table_frames.specs.Marks.{is_marked, IsFreeForTable}
 use Rattle.iom_world.specs.Frames.{ShowsFrames}
 use Rattle.iom_world.proofs.FrameLemmas.{reserved_shown}
 
 pub free_in_machine : (memory : List (List ℕ)) (marks : List (Option Owner)) (ledger : Ledger) (state : State) (n : ℕ) → Agrees ledger state.history → ShowsFrames memory marks state.frames
-    → n < length memory → is_reserved marks n ≡ false → IsFreeIn ledger n → IsFree state n
+    → n < length memory → is_marked marks n ≡ false → IsFreeIn ledger n → IsFree state n
 free_in_machine memory marks ledger state n agrees shows inside unmarked free = (
   subst (λ m. n < m) (sym shows.size) inside,
   reserved_shown memory marks state.frames n shows ∙ unmarked,
@@ -20,7 +20,7 @@ free_in_machine memory marks ledger state n agrees shows inside unmarked free = 
 )
 
 pub free_in_world : (memory : List (List ℕ)) (marks : List (Option Owner)) (ledger : Ledger) (state : State) (named : Option ℕ) (n : ℕ) → Agrees ledger state.history → ShowsFrames memory marks state.frames
-    → named ≢ Some n → IsFree state n → (n < length memory) × IsFreeBesides marks ledger named n
+    → named ≢ Some n → IsFree state n → (n < length memory) × IsFreeForTable marks ledger named n
 free_in_world memory marks ledger state named n agrees shows other free = (
   subst (λ m. n < m) shows.size free.0,
   record {

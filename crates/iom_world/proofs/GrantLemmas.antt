@@ -9,9 +9,10 @@ use Rattle.iom_ledger.specs.Changes as changes
 use Rattle.iom_ledger.specs.History.{Pair, serves}
 use Rattle.iom_ledger.specs.Shown.{held_in, lingering_in, released_in}
 use Rattle.iom_base.specs.declared.owner.Owner.{Owner}
-use Rattle.iom_table_frames.specs.Marks.{IsFreeBesides}
+use Rattle.iom_table_frames.specs.Marks.{IsFreeForTable}
 use Rattle.iom_world.specs.declared.device.Device.{Device}
-use Rattle.iom_world.specs.Admission.{IsRootOf, MayBeGranted, marked_for}
+use Rattle.iom_world.specs.Admission.{MayBeGranted, marked_for}
+use Rattle.iom_world.specs.Roots.{IsRootOf}
 use Rattle.iom_world.specs.Facts.{IsGrant, AreGrants, IsCovered, serves_still}
 use Rattle.iom_world.specs.Queue.{Queue}
 use Rattle.iom_world.specs.Sound.{IsSound}
@@ -20,17 +21,9 @@ use Rattle.iom_world.proofs.AttachLemmas.{unmarked}
 use Rattle.iom_world.proofs.MarkLemmas.{not_among, mark_stays, length-marked_for}
 use Rattle.iom_world.proofs.TableLemmas.{tables_stay}
 
--- what a ledger shows, after two changes that leave it
-pub shown_twice : (old mid new : Ledger) → changes.ShowsSame old mid → changes.ShowsSame mid new → changes.ShowsSame old new
-shown_twice old mid new first second = record {
-  held = λ d a. second.held d a ∙ first.held d a;
-  lingering = λ d a. second.lingering d a ∙ first.lingering d a;
-  pending = second.pending ∙ first.pending;
-}
-
 -- all that holds of what a ledger shows holds where another shows the same
 
-grants_unchanged : (marks : List (Option Owner)) (old new : Ledger) → changes.ShowsSame old new → AreGrants marks old → AreGrants marks new
+grants_unchanged : (marks : List (Option Owner)) (old new : Ledger) → changes.IsUnchanged old new → AreGrants marks old → AreGrants marks new
 grants_unchanged marks old new same grants = record {
   held = λ device page frame rights held. grants.held device page frame rights (sym (same.held device page) ∙ held);
   lingering = λ device page frame rights lingers.
@@ -46,7 +39,7 @@ covered_same old new completed id flight held released covered = record {
   within = covered.within;
 }
 
-pub sound_unchanged : (memory : List (List ℕ)) (marks : List (Option Owner)) (old new : Ledger) (devices : List Device) (queue : Queue) (events : ℕ) → changes.ShowsSame old new
+pub sound_unchanged : (memory : List (List ℕ)) (marks : List (Option Owner)) (old new : Ledger) (devices : List Device) (queue : Queue) (events : ℕ) → changes.IsUnchanged old new
     → IsSound memory marks old devices queue events → IsSound memory marks new devices queue events
 sound_unchanged memory marks old new devices queue events same sound = record {
   marked = sound.marked;
@@ -62,7 +55,7 @@ sound_unchanged memory marks old new devices queue events same sound = record {
   few = sound.few;
 }
 
-pub tables_unchanged : (memory : List (List ℕ)) (marks : List (Option Owner)) (old new : Ledger) (devices : List Device) → changes.ShowsSame old new
+pub tables_unchanged : (memory : List (List ℕ)) (marks : List (Option Owner)) (old new : Ledger) (devices : List Device) → changes.IsUnchanged old new
     → HaveTables memory marks old devices → HaveTables memory marks new devices
 tables_unchanged memory marks old new devices same tables k device root at rooted =
     tables_stay memory memory marks marks old new device.id root (tables k device root at rooted) (λ n own. (refl, refl)) (λ page. same.held device.id page)
@@ -88,18 +81,18 @@ one_device devices id root place device own (place', other, there, other_id, is)
     ap (λ (d : Device). d.root) one ∙ is
 
 grants_more : (marks : List (Option Owner)) (old new : Ledger) (memory : List (List ℕ)) (id page frame : ℕ) (rights : Rights) (tables : List ℕ) → length marks ≡ length memory
-    → AreGrants marks old → changes.Grants old new id page (frame, rights) → MayBeGranted memory marks old id page frame → All (λ f. IsFreeBesides marks old (Some frame) f) tables
+    → AreGrants marks old → changes.ShowsGrant old new id page (frame, rights) → MayBeGranted memory marks old id page frame → All (λ f. IsFreeForTable marks old (Some frame) f) tables
     → AreGrants (marked_for id tables marks) new
 grants_more marks old new memory id page frame rights tables long grants granted may free = record {
   held = λ device p f r held. by_held device p f r held (here_or_there id page device p (frame, rights) (held_in old device p) (held_in new device p) (granted.held device p));
   lingering = λ device p f r lingers.
       let was = ap (λ (o : Option (ℕ × Pair)). option_map (λ released. released.1) o) (sym (granted.lingering device p)) ∙ lingers in
       let grant = grants.lingering device p f r was in
-      record { page_low = grant.page_low; unreserved = mark_stays id f tables marks (not_among (λ t. IsFreeBesides marks old (Some frame) t) f tables free (λ is_free. (is_free.ungranted device p r).1 was)) ∙ grant.unreserved };
+      record { page_low = grant.page_low; unreserved = mark_stays id f tables marks (not_among (λ t. IsFreeForTable marks old (Some frame) t) f tables free (λ is_free. (is_free.ungranted device p r).1 was)) ∙ grant.unreserved };
 }
   where
     own_frame : slice_get (marked_for id tables marks) frame ≡ Some None
-    own_frame = mark_stays id frame tables marks (not_among (λ t. IsFreeBesides marks old (Some frame) t) frame tables free (λ is_free. is_free.other refl))
+    own_frame = mark_stays id frame tables marks (not_among (λ t. IsFreeForTable marks old (Some frame) t) frame tables free (λ is_free. is_free.other refl))
         ∙ unmarked marks frame (subst (λ n. frame < n) (sym long) may.inside) may.unreserved
 
     by_held : (device p f : ℕ) (r : Rights) → held_in new device p ≡ Some (f, r)
@@ -113,7 +106,7 @@ grants_more marks old new memory id page frame rights tables long grants granted
     by_held device p f r held (inr was) =
         let before = sym was.1 ∙ held in
         let grant = grants.held device p f r before in
-        record { page_low = grant.page_low; unreserved = mark_stays id f tables marks (not_among (λ t. IsFreeBesides marks old (Some frame) t) f tables free (λ is_free. (is_free.ungranted device p r).0 before)) ∙ grant.unreserved }
+        record { page_low = grant.page_low; unreserved = mark_stays id f tables marks (not_among (λ t. IsFreeForTable marks old (Some frame) t) f tables free (λ is_free. (is_free.ungranted device p r).0 before)) ∙ grant.unreserved }
 
 -- where nothing is held and nothing lingers no access is covered
 nothing_covers : (ledger : Ledger) (completed id : ℕ) (flight : Flight) → held_in ledger id (flight.address / 4096) ≡ None → lingering_in ledger id (flight.address / 4096) ≡ None → IsCovered ledger completed id flight → ⊥
@@ -125,8 +118,8 @@ nothing_covers ledger completed id flight held lingering covered = by (released_
     by (Some r) none some = cc
 
 pub sound_granted : (memory memory' : List (List ℕ)) (marks : List (Option Owner)) (old new : Ledger) (devices : List Device) (queue : Queue) (events id page frame root : ℕ) (rights : Rights) (tables : List ℕ)
-    → IsSound memory marks old devices queue events → length memory' ≡ length memory → changes.Grants old new id page (frame, rights) → MayBeGranted memory marks old id page frame
-    → IsRootOf devices id root → All (λ f. IsFreeBesides marks old (Some frame) f) tables → IsSound memory' (marked_for id tables marks) new devices queue events
+    → IsSound memory marks old devices queue events → length memory' ≡ length memory → changes.ShowsGrant old new id page (frame, rights) → MayBeGranted memory marks old id page frame
+    → IsRootOf devices id root → All (λ f. IsFreeForTable marks old (Some frame) f) tables → IsSound memory' (marked_for id tables marks) new devices queue events
 sound_granted memory memory' marks old new devices queue events id page frame root rights tables sound size granted may is_root free = record {
   marked = length-marked_for id tables marks ∙ sound.marked ∙ sym size;
   grants = grants_more marks old new memory id page frame rights tables sound.marked sound.grants granted may free;

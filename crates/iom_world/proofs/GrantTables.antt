@@ -1,7 +1,7 @@
 -- The tables of a device that gets a page: what it may be mapped with, and what they are then.
-use Rattle.std.proofs.Common.{◌≡◌, ◌≢◌, ◌/◌, ◌%◌, ◌^◌, ◌<◌, ◌≤◌, ◌==◌, ◌&&◌, ◌⊎◌, inl, inr, ◌∙◌, ℕ, true, false, List, [], ◌∷◌, length, Option, Some, None, option_map, is_some, slice_get, get_or, refl, sym, ap, subst, arith, All, Contains, if◌then◌else◌}
+use Rattle.std.proofs.Common.{◌≡◌, ◌≢◌, ◌/◌, ◌^◌, ◌<◌, ◌≤◌, ◌==◌, ◌&&◌, ◌⊎◌, inl, inr, ◌∙◌, ℕ, true, false, List, [], ◌∷◌, length, Option, Some, None, option_map, is_some, slice_get, get_or, refl, sym, ap, subst, arith, All, Contains, if◌then◌else◌}
 use Rattle.std.specs.Prelude.{◌↔◌}
-use Rattle.std.specs.Option.{option_map_or, option_and_then}
+use Rattle.std.specs.Option.{option_map_or}
 use Rattle.std.proofs.lemmas.Bool.{eq-eqb}
 use Rattle.std.proofs.lemmas.Bool.Decides.{eqb_tells}
 use Rattle.iom_base.specs.declared.rights.Rights.{Rights}
@@ -11,21 +11,21 @@ use Rattle.iom_ledger.specs.Shown.{held_in}
 use Rattle.iom_stage_walk.specs.Entries.{Entries, entries, slot}
 use Rattle.iom_stage_walk.specs.Paths.{path_of}
 use Rattle.iom_stage_walk.specs.declared.entry.Entry.{Entry}
-use Rattle.iom_stage_walk.specs.declared.entry.Entry.TheVariants.{Outside, Faulty, Pointer, Leaf}
+use Rattle.iom_stage_walk.specs.declared.entry.Entry.TheVariants.{Outside, Invalid, Pointer, Leaf}
 use Rattle.iom_stage_walk.proofs.Alike.{Alike, same_entry}
-use Rattle.iom_phys_mem.specs.Words.{byte_at}
 use Rattle.iom_page_table.specs.declared.leaf.PageLeaf.{PageLeaf}
 use Rattle.iom_page_table.specs.Leaves.{leaf_of}
-use Rattle.iom_page_table.specs.Sv39.{IsRoot, HasTable, ChangesLeaf, KeepsOutside, FillsEntry, missing_for}
+use Rattle.iom_page_table.specs.Sv39.{IsRoot, HasTable, ChangesLeaf, KeepsOutside, missing_for, mapped}
 use Rattle.iom_page_table.specs.Trees.{sv39, IsFrameOf, AreFresh, missing_under, missing_here}
 use Rattle.iom_page_table.proofs.Pages.{path_shaped}
 use Rattle.iom_page_table.proofs.Stays.{stays}
 use Rattle.iom_page_table.proofs.Trees.{AlikeOn, alike_in}
 use Rattle.iom_base.specs.declared.owner.Owner.{Owner}
 use Rattle.iom_base.specs.declared.owner.Owner.TheVariants.{OneDevice}
-use Rattle.iom_table_frames.specs.Marks.{IsFreeBesides, is_reserved}
+use Rattle.iom_table_frames.specs.Marks.{IsFreeForTable, is_marked}
 use Rattle.iom_world.specs.declared.device.Device.{Device}
-use Rattle.iom_world.specs.Admission.{IsRootOf, AreChosen, marked_for, cleared}
+use Rattle.iom_world.specs.Admission.{AreChosen, marked_for, cleared}
+use Rattle.iom_world.specs.Roots.{IsRootOf}
 use Rattle.iom_world.specs.Tables.{AreTablesOf, HaveTables, leaf_for}
 use Rattle.iom_world.proofs.AttachLemmas.{unmarked, owned_differs}
 use Rattle.iom_world.proofs.GrantLemmas.{one_device, here_or_there}
@@ -36,7 +36,7 @@ use Rattle.iom_world.proofs.TableLemmas.{tables_stay}
 missing_at : (old new : Entries) (x : Entry) (below : List ℕ) → ((next : ℕ) → x ≡ Pointer next → missing_under new next below ≡ missing_under old next below)
     → missing_here x below (λ next. missing_under new next below) ≡ missing_here x below (λ next. missing_under old next below)
 missing_at old new Outside below go = refl
-missing_at old new Faulty below go = refl
+missing_at old new Invalid below go = refl
 missing_at old new (Pointer next) below go = go next refl
 missing_at old new (Leaf base rights) below go = refl
 
@@ -54,7 +54,7 @@ missing_stays old new root page same =
 -- a page lacks at most the two tables below the root
 here_low : (x : Entry) (below : List ℕ) (follow : ℕ → ℕ) → ((next : ℕ) → follow next ≤ length below) → missing_here x below follow ≤ length below
 here_low Outside below follow low = omega arith
-here_low Faulty below follow low = omega arith
+here_low Invalid below follow low = omega arith
 here_low (Pointer next) below follow low = low next
 here_low (Leaf base rights) below follow low = omega arith
 
@@ -66,7 +66,7 @@ pub missing_two : (memory : List (List ℕ)) (root page : ℕ) → missing_for m
 missing_two memory root page = missing_low (entries memory) root _ (_ ∷ _ ∷ [])
 
 -- a frame that is free for a table is none of a device's tables
-not_a_table : (memory : List (List ℕ)) (marks : List (Option Owner)) (ledger : Ledger) (id root f : ℕ) → AreTablesOf memory marks ledger id root → is_reserved marks f ≡ false → IsFrameOf sv39 (entries memory) root f → ⊥
+not_a_table : (memory : List (List ℕ)) (marks : List (Option Owner)) (ledger : Ledger) (id root f : ℕ) → AreTablesOf memory marks ledger id root → is_marked marks f ≡ false → IsFrameOf sv39 (entries memory) root f → ⊥
 not_a_table memory marks ledger id root f tables free at =
     contra (sym (ap (λ (o : Option (Option Owner)). option_map_or (λ m. is_some m) o false) (tables.own f at)) ∙ free)
   where
@@ -75,9 +75,9 @@ not_a_table memory marks ledger id root f tables free at =
 
 -- the tables' frames keep their bytes while free frames are cleared
 table_bytes : (memory : List (List ℕ)) (marks : List (Option Owner)) (ledger : Ledger) (id root named : ℕ) (chosen : List ℕ) → AreTablesOf memory marks ledger id root
-    → All (λ f. IsFreeBesides marks ledger (Some named) f) chosen → (f : ℕ) → IsFrameOf sv39 (entries memory) root f → slice_get (cleared chosen memory) f ≡ slice_get memory f
+    → All (λ f. IsFreeForTable marks ledger (Some named) f) chosen → (f : ℕ) → IsFrameOf sv39 (entries memory) root f → slice_get (cleared chosen memory) f ≡ slice_get memory f
 table_bytes memory marks ledger id root named chosen tables free f at =
-    bytes_stay f chosen memory (not_among (λ t. IsFreeBesides marks ledger (Some named) t) f chosen free (λ is_free. not_a_table memory marks ledger id root f tables is_free.unmarked at))
+    bytes_stay f chosen memory (not_among (λ t. IsFreeForTable marks ledger (Some named) t) f chosen free (λ is_free. not_a_table memory marks ledger id root f tables is_free.unmarked at))
 
 -- what a map of the page asks, once the free frames are cleared
 pub record MayBeMapped (memory : List (List ℕ)) (root page : ℕ) (chosen : List ℕ) : Type 0 where
@@ -130,7 +130,7 @@ mapped_others memory memory' marks ledger id root page named count n leaf chosen
 not_chosen : (memory : List (List ℕ)) (marks : List (Option Owner)) (ledger : Ledger) (named count n : ℕ) (chosen : List ℕ) (owner : Owner) → length marks ≡ length memory
     → AreChosen memory marks ledger named count chosen → slice_get marks n ≡ Some (Some owner) → NotAmong n chosen
 not_chosen memory marks ledger named count n chosen owner long chose mark =
-    not_among (λ t. (t < length memory) × IsFreeBesides marks ledger (Some named) t) n chosen (λ k d lt. (chose.inside k d lt, chose.free k d lt))
+    not_among (λ t. (t < length memory) × IsFreeForTable marks ledger (Some named) t) n chosen (λ k d lt. (chose.inside k d lt, chose.free k d lt))
     (λ is_free. owned_differs marks n n owner mark (unmarked marks n (subst (λ m. n < m) (sym long) is_free.0) is_free.1.unmarked) refl)
 
 -- a frame that is somebody else's keeps its bytes
@@ -143,22 +143,16 @@ kept_others memory memory' marks ledger id root page named count n leaf chosen o
     (λ now. let both : ◌≡◌ {A = Option (Option Owner)} (Some (Some owner)) (Some (Some (OneDevice id))) = sym mark ∙ sym (mark_stays id n chosen marks apart) ∙ now in other cc)
     ∙ bytes_stay n chosen memory apart
 
--- a byte of a frame that is somebody's stays, but in an entry that is filled
-pub kept_unfilled : (memory memory' : List (List ℕ)) (marks : List (Option Owner)) (ledger : Ledger) (root page named count address : ℕ) (chosen : List ℕ) (owner : Owner) → length marks ≡ length memory
-    → AreChosen memory marks ledger named count chosen
-    → ((a : ℕ) → (FillsEntry (cleared chosen memory) memory' root page (a / 8) → ⊥) → byte_at memory' a ≡ byte_at (cleared chosen memory) a)
-    → slice_get marks (address / 4096) ≡ Some (Some owner) → (FillsEntry memory memory' root page (address / 8) → ⊥) → byte_at memory' address ≡ byte_at memory address
-kept_unfilled memory memory' marks ledger root page named count address chosen owner long chose other mark unfilled =
-    let stays : slice_get (cleared chosen memory) (address / 4096) ≡ slice_get memory (address / 4096) =
-    bytes_stay (address / 4096) chosen memory (not_chosen memory marks ledger named count (address / 4096) chosen owner long chose mark) in
-    let within : address / 8 / 512 ≡ address / 4096 = omega arith in
-    let entry = same_entry memory (cleared chosen memory) (address / 8) (subst (λ n. slice_get (cleared chosen memory) n ≡ slice_get memory n) (sym within) stays) in
-    other address (λ filled. unfilled (filled.0, sym entry ∙ filled.1))
-    ∙ ap (λ (o : Option (List ℕ)). option_and_then (λ (frame : List ℕ). slice_get frame (address % 4096)) o) stays
+-- what the map of the page writes, where the frames are cleared first
+pub mapped_is : (memory before after : List (List ℕ)) (root page : ℕ) (leaf granted : PageLeaf) (clears maps chosen : List ℕ) → after ≡ mapped before root page leaf maps
+    → before ≡ cleared clears memory → clears ≡ chosen → maps ≡ chosen → leaf ≡ granted → after ≡ mapped (cleared chosen memory) root page granted chosen
+mapped_is memory before after root page leaf granted clears maps chosen whole is clears_is maps_is leaf_is =
+    whole ∙ ap (λ m. mapped m root page leaf maps) (is ∙ ap (λ fs. cleared fs memory) clears_is) ∙ ap (λ fs. mapped (cleared chosen memory) root page leaf fs) maps_is
+    ∙ ap (λ l. mapped (cleared chosen memory) root page l chosen) leaf_is
 
 pub tables_granted : (memory memory' : List (List ℕ)) (marks : List (Option Owner)) (old new : Ledger) (devices : List Device) (id root page frame count : ℕ) (rights : Rights) (chosen : List ℕ)
     → length marks ≡ length memory → HaveTables memory marks old devices → ((j k : ℕ) (one other : Device) → slice_get devices j ≡ Some one → slice_get devices k ≡ Some other → one.id ≡ other.id → j ≡ k)
-    → IsRootOf devices id root → page < 2 ^ 26 → changes.Grants old new id page (frame, rights) → AreChosen memory marks old frame count chosen
+    → IsRootOf devices id root → page < 2 ^ 26 → changes.ShowsGrant old new id page (frame, rights) → AreChosen memory marks old frame count chosen
     → IsMapped (cleared chosen memory) memory' root page (record { frame = frame; rights = rights }) chosen → HaveTables memory' (marked_for id chosen marks) new devices
 tables_granted memory memory' marks old new devices id root page frame count rights chosen long tables own is_root low granted chose mapped k device r at is =
     elim (eqb_tells device.id id) [

@@ -21,6 +21,8 @@ pub mod RequestLemmas
 pub mod CommitLemmas
 pub mod ReleaseLemmas
 pub mod ReleaseTables
-pub mod AnswerLemmas
+pub mod RootLemmas
+pub mod HappensLemmas
+pub mod ToldLemmas
 pub mod RunLemmas
 pub mod StartLemmas

@@ -9,7 +9,7 @@ use Rattle.iom_ledger.specs.Shown.{released_in}
 use Rattle.iom_machine.specs.Tickets.{confirmed_from, last_confirmed}
 use Rattle.iom_base.specs.declared.owner.Owner.{Owner}
 use Rattle.iom_world.specs.declared.device.Device.{Device}
-use Rattle.iom_world.specs.Confirmed.{is_among, unless_among, ConfirmsFrom}
+use Rattle.iom_world.specs.Confirmed.{is_among_next, unless_among, ConfirmsFrom}
 use Rattle.iom_world.specs.Facts.{AreGrants, serves_still, AreSoundDevices, tickets_after}
 use Rattle.iom_world.specs.Queue.{Queue, polled}
 use Rattle.iom_world.specs.Sound.{IsSound}
@@ -21,7 +21,7 @@ use Rattle.iom_world.proofs.PlaceLemmas.{differs}
 unless_some : (first n : ℕ) (released : Option (ℕ × Pair)) (pair : Pair) → option_map (λ (r : ℕ × Pair). r.1) (unless_among first n released) ≡ Some pair
     → option_map (λ (r : ℕ × Pair). r.1) released ≡ Some pair
 unless_some first n None pair still = still
-unless_some first n (Some released) pair still = by (is_among first n released.0) still
+unless_some first n (Some released) pair still = by (is_among_next first n released.0) still
   where
     by : (b : Bool) → option_map (λ (r : ℕ × Pair). r.1) (if b then None else Some released) ≡ Some pair → Some released.1 ≡ Some pair
     by true still = cc
@@ -31,9 +31,9 @@ unless_some first n (Some released) pair still = by (is_among first n released.0
 still_serves : (first n completed frame : ℕ) (kind : AccessKind) (released : Option (ℕ × Pair)) → first + n ≡ completed + 1
     → option_map_or (serves_still completed frame kind) (unless_among first n released) false ≡ option_map_or (serves_still completed frame kind) released false
 still_serves first n completed frame kind None end = refl
-still_serves first n completed frame kind (Some released) end = by (is_among first n released.0) refl
+still_serves first n completed frame kind (Some released) end = by (is_among_next first n released.0) refl
   where
-    by : (b : Bool) → is_among first n released.0 ≡ b
+    by : (b : Bool) → is_among_next first n released.0 ≡ b
         → option_map_or (serves_still completed frame kind) (if b then None else Some released) false ≡ serves_still completed frame kind released
     by true e =
         let below : released.0 < first + n = ltb-true released.0 (first + n) (and_parts (nat_le first released.0) (nat_lt released.0 (first + n)) e).1 in
@@ -64,12 +64,12 @@ grants_polled marks old new first n confirmed grants = record {
 }
 
 -- the tickets that wait after these
-keep_above : (first n last k : ℕ) → first + n ≤ last + 1 → filter (λ t. not (is_among first n t)) (tickets_after last k) ≡ tickets_after last k
+keep_above : (first n last k : ℕ) → first + n ≤ last + 1 → filter (λ t. not (is_among_next first n t)) (tickets_after last k) ≡ tickets_after last k
 keep_above first n last zero end = refl
 keep_above first n last (suc k) end = rw (among_above first n (last + 1) end) (ap (λ ts. (last + 1) ∷ ts) (keep_above first n (last + 1) k (omega arith)))
 
 drop_among : (first n from last m j k : ℕ) → first ≤ from + 1 → first + n ≡ last + 1 → last ≡ from + m → k ≡ m + j
-    → filter (λ t. not (is_among first n t)) (tickets_after from k) ≡ tickets_after last j
+    → filter (λ t. not (is_among_next first n t)) (tickets_after from k) ≡ tickets_after last j
 drop_among first n from last zero j k low end is all =
     let same : last ≡ from = omega arith in
     let as_many : k ≡ j = omega arith in
@@ -115,7 +115,7 @@ sound_polled memory marks old new devices queue events first n last sound confir
   own_ids = sound.own_ids;
   holders = λ id page none. confirmed.held id page ∙ sound.holders id page none;
   pending =
-      confirmed.pending ∙ ap (filter (λ t. not (is_among first n t))) sound.pending
+      confirmed.pending ∙ ap (filter (λ t. not (is_among_next first n t))) sound.pending
       ∙ drop_among first n queue.confirmed last (last - queue.confirmed) (queue.given - last) (queue.given - queue.confirmed)
       (omega (arith, poll.next)) poll.all (omega (arith, poll.some)) (omega (arith, poll.some, poll.given));
   few = sound.few;

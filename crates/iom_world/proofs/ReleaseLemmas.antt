@@ -8,7 +8,7 @@ use Rattle.iom_ledger.specs.declared.refusal.Refusal.{Refusal}
 use Rattle.iom_ledger.specs.declared.refusal.Refusal.TheVariants.{NoSuchDevice, NotAttached, NotGranted, TooManyPending, QueueFull, NumbersUsedUp}
 use Rattle.iom_ledger.specs.declared.refusal.Refusal.TheVariants as refusal
 use Rattle.iom_ledger.specs.declared.row.Row.{Row}
-use Rattle.iom_ledger.specs.Changes.{Releases, released_from}
+use Rattle.iom_ledger.specs.Changes.{ShowsRelease, released_from}
 use Rattle.iom_ledger.specs.History.{Pair, serves}
 use Rattle.iom_ledger.specs.Rows.{row_at, held_of, released_of, unless_released, if_released, pair_of}
 use Rattle.iom_ledger.specs.Shown.{Agrees, held_in, released_in}
@@ -135,7 +135,7 @@ covered_released true (Some pair) released completed ticket frame kind later alo
 covered_released false held released completed ticket frame kind later alone covered = covered
 
 -- a device, after a release
-device_released : (ledger ledger' : Ledger) (completed events id page ticket : ℕ) (device : Device) → Releases ledger ledger' id page ticket → completed < ticket
+device_released : (ledger ledger' : Ledger) (completed events id page ticket : ℕ) (device : Device) → ShowsRelease ledger ledger' id page ticket → completed < ticket
     → IsSoundDevice ledger completed events device → IsSoundDevice ledger' completed events device
 device_released ledger ledger' completed events id page ticket device released later sound = record {
   detached = λ no p. released.held device.id p ∙ still_none ((id == device.id) && (page == p)) (held_in ledger device.id p) (sound.detached no p);
@@ -152,7 +152,7 @@ device_released ledger ledger' completed events id page ticket device released l
 }
 
 -- what is held or lingers, after a release
-grants_released : (marks : List (Option Owner)) (ledger ledger' : Ledger) (id page ticket : ℕ) → Releases ledger ledger' id page ticket → AreGrants marks ledger → AreGrants marks ledger'
+grants_released : (marks : List (Option Owner)) (ledger ledger' : Ledger) (id page ticket : ℕ) → ShowsRelease ledger ledger' id page ticket → AreGrants marks ledger → AreGrants marks ledger'
 grants_released marks ledger ledger' id page ticket released grants = record {
   held = λ d p frame rights at. grants.held d p frame rights (still_held ((id == d) && (page == p)) (held_in ledger d p) (frame, rights) (sym (released.held d p) ∙ at));
   lingering = λ d p frame rights at.
@@ -163,7 +163,7 @@ grants_released marks ledger ledger' id page ticket released grants = record {
 }
 
 pub sound_released : (memory memory' : List (List ℕ)) (marks : List (Option Owner)) (ledger ledger' : Ledger) (devices : List Device) (queue : Queue) (events id page : ℕ)
-    → IsSound memory marks ledger devices queue events → Releases ledger ledger' id page (queue.given + 1) → queue.confirmed ≤ queue.given → queue.completed < queue.given + 1
+    → IsSound memory marks ledger devices queue events → ShowsRelease ledger ledger' id page (queue.given + 1) → queue.confirmed ≤ queue.given → queue.completed < queue.given + 1
     → length memory' ≡ length memory → IsSound memory' marks ledger' devices (with_release queue) events
 sound_released memory memory' marks ledger ledger' devices queue events id page sound released confirmed later size = record {
   marked = sound.marked ∙ sym size;

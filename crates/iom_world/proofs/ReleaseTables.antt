@@ -3,7 +3,7 @@ use Rattle.std.proofs.Common.{◌≡◌, ◌≢◌, ◌==◌, inl, inr, ◌∙�
 use Rattle.std.proofs.lemmas.Bool.Decides.{eqb_tells}
 use Rattle.std.proofs.lemmas.Bool.{eq-eqb}
 use Rattle.iom_ledger.specs.declared.ledger.Ledger.{Ledger}
-use Rattle.iom_ledger.specs.Changes.{Releases}
+use Rattle.iom_ledger.specs.Changes.{ShowsRelease}
 use Rattle.iom_ledger.specs.History.{Pair}
 use Rattle.iom_ledger.specs.Shown.{held_in}
 use Rattle.iom_page_table.specs.declared.leaf.PageLeaf.{PageLeaf}
@@ -12,7 +12,7 @@ use Rattle.iom_page_table.specs.Sv39.{IsRoot, HasTable, ChangesLeaf, KeepsOutsid
 use Rattle.iom_base.specs.declared.owner.Owner.{Owner}
 use Rattle.iom_base.specs.declared.owner.Owner.TheVariants.{OneDevice}
 use Rattle.iom_world.specs.declared.device.Device.{Device}
-use Rattle.iom_world.specs.Admission.{IsRootOf}
+use Rattle.iom_world.specs.Roots.{IsRootOf}
 use Rattle.iom_world.specs.Facts.{HaveOwnIds}
 use Rattle.iom_world.specs.Tables.{AreTablesOf, HaveTables, leaf_for}
 use Rattle.iom_world.proofs.PlaceLemmas.{differs}
@@ -37,7 +37,7 @@ tables_of_root memory marks ledger devices id root tables attached =
 
 -- the tables of the device
 own_tables : (memory memory' : List (List ℕ)) (marks : List (Option Owner)) (ledger ledger' : Ledger) (id root page ticket : ℕ)
-    → AreTablesOf memory marks ledger id root → IsUnmapped memory memory' root page → Releases ledger ledger' id page ticket → AreTablesOf memory' marks ledger' id root
+    → AreTablesOf memory marks ledger id root → IsUnmapped memory memory' root page → ShowsRelease ledger ledger' id page ticket → AreTablesOf memory' marks ledger' id root
 own_tables memory memory' marks ledger ledger' id root page ticket tables unmapped released = record {
   tree = unmapped.tree;
   own = λ f at. tables.own f ((unmapped.tables f).0 at);
@@ -64,7 +64,7 @@ own_tables memory memory' marks ledger ledger' id root page ticket tables unmapp
 
 -- the tables of another device
 other_tables : (memory memory' : List (List ℕ)) (marks : List (Option Owner)) (ledger ledger' : Ledger) (id root page ticket other other_root : ℕ) → other ≢ id
-    → AreTablesOf memory marks ledger id root → AreTablesOf memory marks ledger other other_root → IsUnmapped memory memory' root page → Releases ledger ledger' id page ticket
+    → AreTablesOf memory marks ledger id root → AreTablesOf memory marks ledger other other_root → IsUnmapped memory memory' root page → ShowsRelease ledger ledger' id page ticket
     → AreTablesOf memory' marks ledger' other other_root
 other_tables memory memory' marks ledger ledger' id root page ticket other other_root apart tables others unmapped released =
     let kept = tables_kept memory memory' marks ledger other other_root others (λ n marked. other_frame memory memory' root page n unmapped (λ at. absurd (apart (one_owner n marked (tables.own n at))))) unmapped.size in
@@ -78,7 +78,7 @@ other_tables memory memory' marks ledger ledger' id root page ticket other other
     one_owner n a b = cc
 
 pub tables_released : (memory memory' : List (List ℕ)) (marks : List (Option Owner)) (ledger ledger' : Ledger) (devices : List Device) (id root page ticket : ℕ)
-    → HaveTables memory marks ledger devices → HaveOwnIds devices → IsRootOf devices id root → IsUnmapped memory memory' root page → Releases ledger ledger' id page ticket
+    → HaveTables memory marks ledger devices → HaveOwnIds devices → IsRootOf devices id root → IsUnmapped memory memory' root page → ShowsRelease ledger ledger' id page ticket
     → HaveTables memory' marks ledger' devices
 tables_released memory memory' marks ledger ledger' devices id root page ticket tables own_ids attached unmapped released k device other_root at rooted =
     elim (eqb_tells device.id id) [

@@ -136,7 +136,7 @@ pub room_by_idle : (device here : Device) → device ≡ here → (¬ IsBusy her
 room_by_idle device here same idle = rw same (elim (cases_lt (length here.in_flight) 8) [ inl few ↦ few | inr busy ↦ absurd (idle busy) ])
 
 -- the device that has one more access in flight, among the others
-still_accepted : (device : Device) (flight : Flight) (now : Device) → now ≡ with_flight device flight → IsStill device now
+pub still_accepted : (device : Device) (flight : Flight) (now : Device) → now ≡ with_flight device flight → IsStill device now
 still_accepted device flight now is = rw is (record { id = refl; root = refl })
 
 pub sound_accepted : (memory : List (List ℕ)) (marks : List (Option Owner)) (ledger : Ledger) (devices : List Device) (queue : Queue) (events place : ℕ) (device : Device) (flight : Flight) (now : Device)

@@ -1,23 +1,23 @@
 -- Runs that go on by one event, where the outcomes go to a sink.
 use Rattle.std.proofs.Common.{suc, ◌≡◌, ◌+◌, ◌<◌, ◌≤◌, ◌++◌, ◌∙◌, ℕ, List, Option, [], ◌∷◌, length, take, get_or, refl, sym, ap, subst, arith}
-use Rattle.std.proofs.lemmas.List.{take_more, take_all, length-take-le}
+use Rattle.std.proofs.lemmas.List.{take_more, length-take-le}
 use Rattle.iom_ledger.specs.declared.ledger.Ledger.{Ledger}
 use Rattle.iom_machine.specs.declared.choice.Choice.{Choice}
 use Rattle.iom_machine.specs.declared.event.Event.{Event}
-use Rattle.iom_machine.specs.declared.event.Event.TheVariants as events
 use Rattle.iom_machine.specs.declared.outcome.Outcome.{Outcome}
 use Rattle.iom_machine.specs.declared.state.State.{State}
-use Rattle.iom_machine.specs.Machine.{ChosenStep, Step, Run}
+use Rattle.iom_machine.specs.Machine.{Step, Run}
+use Rattle.iom_machine.proofs.ReclaimLemmas.{reclaims}
 use Rattle.iom_base.specs.declared.owner.Owner.{Owner}
 use Rattle.iom_world.specs.declared.device.Device.{Device}
 use Rattle.iom_world.specs.declared.world.World.{World}
 use Rattle.iom_world.specs.Facts.{AreSoundDevices}
+use Rattle.iom_world.specs.Happens.{Happens}
 use Rattle.iom_world.specs.Places.{CountsBelow}
 use Rattle.iom_world.specs.Queue.{Queue}
 use Rattle.iom_world.specs.Runs.{TakesAll, GoesThrough, AreOutcomes, RunsTo, FailsAfter}
 use Rattle.iom_world.specs.Shows.{Shows}
 use Rattle.iom_world.specs.Sound.{IsSound}
-use Rattle.iom_world.specs.Unseen.{KeepsTables, TakesFrames, AnswersRequest, Follows}
 
 -- nothing is left free
 abbrev pub no_choice : Choice
@@ -30,13 +30,6 @@ frame_chosen frame = record { taken = []; frame = frame }
 -- frames are taken
 abbrev pub frames_taken : List ℕ → Choice
 frames_taken taken = record { taken = taken; frame = 0 }
-
--- a step at what the event is, and with what is told of it
-pub stepped : (world : World) (state : State) (event case : Event) (outcome told : Outcome) → event ≡ case → told ≡ outcome
-    → (choice : Choice) (next : State) → ChosenStep choice state case outcome next → Shows world next
-    → (next : State) × Step state event told next × Shows world next
-stepped world state event case outcome told is tells choice next step shows =
-    (next, (choice, rw tells (subst (λ (e : Event). ChosenStep choice state e outcome next) (sym is) step)), shows)
 
 -- what is sound stays so where one more event is counted
 pub sound_counted : (memory : List (List ℕ)) (marks : List (Option Owner)) (ledger : Ledger) (devices : List Device) (queue : Queue) (events : ℕ)
@@ -59,45 +52,6 @@ sound_counted memory marks ledger devices queue events sound = record {
 pub below_counted : (ledger : Ledger) (completed events : ℕ) (devices : List Device) → AreSoundDevices ledger completed events devices → CountsBelow devices (events + 1)
 below_counted ledger completed events devices each k device at =
     let count : device.accepted ≤ events = (each k device at).counted in omega arith
-
-kept_counted : (old counted new : World) → counted.memory ≡ old.memory → counted.marks ≡ old.marks → KeepsTables counted new → KeepsTables old new
-kept_counted old counted new memory marks kept = record {
-  marks = kept.marks ∙ marks;
-  bytes = rw (sym memory, sym marks) kept.bytes;
-}
-
--- what frames an event takes doesn't hang on the count of events
-pub takes_counted : (event : Event) (told : Outcome) (old counted new : World)
-    → counted.memory ≡ old.memory → counted.marks ≡ old.marks → counted.ledger ≡ old.ledger → counted.devices.items ≡ old.devices.items
-    → TakesFrames event counted told new → TakesFrames event old told new
-takes_counted (events.AttachFirst device) told old counted new memory marks ledger devices takes = record {
-  root = λ done. rw (sym memory, sym marks, sym ledger) (takes.root done);
-  no_frames = λ refused. rw (sym memory, sym marks, sym ledger) (takes.no_frames refused);
-  memory = takes.memory;
-  others = rw (sym memory, sym marks) takes.others;
-}
-takes_counted (events.Grant device page frame rights) told old counted new memory marks ledger devices takes = record {
-  tables = λ done. rw (sym memory, sym marks, sym ledger, sym devices) (takes.tables done);
-  filled = λ done. rw (sym memory, sym marks, sym devices) (takes.filled done);
-  no_frames = λ refused. rw (sym memory, sym marks, sym ledger, sym devices) (takes.no_frames refused);
-  others = rw (sym memory, sym marks) takes.others;
-}
-takes_counted (events.PlugRaw device) told old counted new memory marks ledger devices takes = kept_counted old counted new memory marks takes
-takes_counted (events.Release device page) told old counted new memory marks ledger devices takes = record {
-  marks = takes.marks ∙ marks;
-  leaf = λ ticket answer. rw (sym memory, sym devices) (takes.leaf ticket answer);
-}
-takes_counted events.Fetch told old counted new memory marks ledger devices takes = kept_counted old counted new memory marks takes
-takes_counted events.Poll told old counted new memory marks ledger devices takes = kept_counted old counted new memory marks takes
-takes_counted (events.Read device address len) told old counted new memory marks ledger devices takes = kept_counted old counted new memory marks takes
-takes_counted (events.Write device address bytes) told old counted new memory marks ledger devices takes = kept_counted old counted new memory marks takes
-takes_counted (events.Commit device) told old counted new memory marks ledger devices takes = kept_counted old counted new memory marks takes
-
--- nor what a request is answered
-pub requests_counted : (event : Event) (told : Outcome) (old counted : World) → counted.ledger ≡ old.ledger → AnswersRequest event counted told → AnswersRequest event old told
-requests_counted (events.Read device address len) told old counted ledger answers = λ number accepted. rw (sym ledger) (answers number accepted)
-requests_counted (events.Write device address bytes) told old counted ledger answers = λ number accepted. rw (sym ledger) (answers number accepted)
-requests_counted _ told old counted ledger answers = tt
 
 -- a run has an outcome for each event
 pub run_length : (old new : State) (events : List Event) (outcomes : List Outcome) → Run old events outcomes new → length outcomes ≡ length events
@@ -124,26 +78,31 @@ through_shows state last old new [] (other ∷ outcomes) run through = absurd ru
 through_shows state last old new (other ∷ events) [] run through = absurd run
 through_shows state last old new (first ∷ events) (told ∷ outcomes) run through = through_shows run.0 last through.1 new events outcomes run.2 through.3
 
+-- a run that the world goes through gives outcomes
+pub are_outcomes : (state last : State) (old new : World) (events : List Event) (outcomes : List Outcome) (run : Run state events outcomes last)
+    → GoesThrough state old events outcomes last run new → AreOutcomes state old events outcomes last new
+are_outcomes state last old new events outcomes run through =
+    record { run = run; through = through; reclaim = λ reached. reclaims state events outcomes last reached run }
+
 -- events have one outcome more by an event at the end
 pub outcomes_more : (state next last : State) (old mid new : World) (events : List Event) (outcomes : List Outcome) (event : Event) (outcome : Outcome)
-    → AreOutcomes state old events outcomes next mid → Step next event outcome last → Follows mid event outcome new → Shows new last
+    → AreOutcomes state old events outcomes next mid → Step next event outcome last → Happens mid event outcome new → Shows new last
     → AreOutcomes state old (events ++ event ∷ []) (outcomes ++ outcome ∷ []) last new
-outcomes_more state next last old mid new [] [] event outcome so_far step follows shows = record {
-  run = (last, subst (λ (s : State). Step s event outcome last) so_far.run step, refl);
-  through = (
-    subst (λ (s : State). Shows old s) so_far.run (subst (λ (world : World). Shows world next) so_far.through.1 so_far.through.0),
-    new,
-    subst (λ (world : World). Follows world event outcome new) so_far.through.1 follows,
-    (shows, refl),
-  );
-}
-outcomes_more state next last old mid new [] (other ∷ outcomes) event outcome so_far step follows shows = absurd so_far.run
-outcomes_more state next last old mid new (other ∷ events) [] event outcome so_far step follows shows = absurd so_far.run
-outcomes_more state next last old mid new (first ∷ events) (told ∷ outcomes) event outcome so_far step follows shows =
-    let rest = outcomes_more so_far.run.0 next last so_far.through.1 mid new events outcomes event outcome record { run = so_far.run.2; through = so_far.through.3 } step follows shows in record {
-      run = (so_far.run.0, so_far.run.1, rest.run);
-      through = (so_far.through.0, so_far.through.1, so_far.through.2, rest.through);
-    }
+outcomes_more state next last old mid new [] [] event outcome so_far step happens shows =
+    are_outcomes state last old new (event ∷ []) (outcome ∷ []) (last, subst (λ (s : State). Step s event outcome last) so_far.run step, refl) (
+      subst (λ (s : State). Shows old s) so_far.run (subst (λ (world : World). Shows world next) so_far.through.1 so_far.through.0),
+      new,
+      subst (λ (world : World). Happens world event outcome new) so_far.through.1 happens,
+      (shows, refl),
+    )
+outcomes_more state next last old mid new [] (other ∷ outcomes) event outcome so_far step happens shows = absurd so_far.run
+outcomes_more state next last old mid new (other ∷ events) [] event outcome so_far step happens shows = absurd so_far.run
+outcomes_more state next last old mid new (first ∷ events) (told ∷ outcomes) event outcome so_far step happens shows =
+    let later : AreOutcomes so_far.run.0 so_far.through.1 events outcomes next mid =
+    are_outcomes so_far.run.0 next so_far.through.1 mid events outcomes so_far.run.2 so_far.through.3 in
+    let rest = outcomes_more so_far.run.0 next last so_far.through.1 mid new events outcomes event outcome later step happens shows in
+    are_outcomes state last old new (first ∷ events ++ event ∷ []) (told ∷ outcomes ++ outcome ∷ [])
+    (so_far.run.0, so_far.run.1, rest.run) (so_far.through.0, so_far.through.1, so_far.through.2, rest.through)
 
 -- a sink takes one more outcome
 pub takes_all_more : {S : Type 0} (takes : S → Outcome → S → Type 0) (before mid after : S) (outcomes : List Outcome) (outcome : Outcome)
@@ -162,14 +121,14 @@ shown_so_far takes state events before after old new so_far = through_shows stat
 pub goes_on : {S : Type 0} (takes : S → Outcome → S → Type 0) (state next : State) (events : List Event) (i : ℕ) (event : Event) (outcome : Outcome) (before mid after : S) (first old new : World)
     → (so_far : RunsTo takes state first (take i events) before mid old)
     → event ≡ get_or events i event → i < length events
-    → Step so_far.1 event outcome next → Follows old event outcome new → Shows new next → takes mid outcome after
+    → Step so_far.1 event outcome next → Happens old event outcome new → Shows new next → takes mid outcome after
     → RunsTo takes state first (take (i + 1) events) before after new
-goes_on takes state next events i event outcome before mid after first old new so_far is lt step follows shows put = (
+goes_on takes state next events i event outcome before mid after first old new so_far is lt step happens shows put = (
   so_far.0 ++ outcome ∷ [],
   next,
   subst (λ (es : List Event). AreOutcomes state first es (so_far.0 ++ outcome ∷ []) next new)
       (ap (λ (e : Event). take i events ++ e ∷ []) is ∙ sym (take_more events i event lt))
-      (outcomes_more state so_far.1 next first old new (take i events) so_far.0 event outcome so_far.2 step follows shows),
+      (outcomes_more state so_far.1 next first old new (take i events) so_far.0 event outcome so_far.2 step happens shows),
   takes_all_more takes before mid after so_far.0 outcome so_far.3 put,
 )
 
@@ -177,9 +136,9 @@ goes_on takes state next events i event outcome before mid after first old new s
 pub ends_at : {S : Type 0} (takes fails : S → Outcome → S → Type 0) (state next : State) (events : List Event) (i : ℕ) (event : Event) (outcome : Outcome) (before mid after : S) (first old new : World)
     → (so_far : RunsTo takes state first (take i events) before mid old)
     → event ≡ get_or events i event → i < length events → new.events ≡ first.events + i + 1
-    → Step so_far.1 event outcome next → Follows old event outcome new → Shows new next → fails mid outcome after
+    → Step so_far.1 event outcome next → Happens old event outcome new → Shows new next → fails mid outcome after
     → FailsAfter takes fails state first events before after new
-ends_at takes fails state next events i event outcome before mid after first old new so_far is lt count step follows shows failed =
+ends_at takes fails state next events i event outcome before mid after first old new so_far is lt count step happens shows failed =
     let long : length so_far.0 ≡ i = run_length state so_far.1 (take i events) so_far.0 so_far.2.run ∙ length-take-le i events (omega arith) in (
       so_far.0,
       outcome,
@@ -188,14 +147,8 @@ ends_at takes fails state next events i event outcome before mid after first old
       rw long lt,
       subst (λ (es : List Event). AreOutcomes state first es (so_far.0 ++ outcome ∷ []) next new)
           (ap (λ (e : Event). take i events ++ e ∷ []) is ∙ sym (take_more events i event lt) ∙ ap (λ n. take (n + 1) events) (sym long))
-          (outcomes_more state so_far.1 next first old new (take i events) so_far.0 event outcome so_far.2 step follows shows),
+          (outcomes_more state so_far.1 next first old new (take i events) so_far.0 event outcome so_far.2 step happens shows),
       so_far.3,
       failed,
       count ∙ ap (λ n. first.events + n + 1) (sym long),
     )
-
--- a run over all the events that there are is one over the events
-pub whole : {S : Type 0} (takes : S → Outcome → S → Type 0) (state : State) (events : List Event) (i : ℕ) (before after : S) (first world : World)
-    → RunsTo takes state first (take i events) before after world → length events ≤ i → RunsTo takes state first events before after world
-whole takes state events i before after first world ran le =
-    subst (λ (es : List Event). RunsTo takes state first es before after world) (take_all i events le) ran

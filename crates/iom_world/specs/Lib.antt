@@ -8,12 +8,15 @@ pub mod Tables
 pub mod TablesAreFacts
 pub mod Places
 pub mod Held
+pub mod Roots
+pub mod Parts
 pub mod Admission
-pub mod Answers
+pub mod Told
 pub mod Shows
 pub mod Confirmed
 pub mod Replies
 pub mod Oldest
 pub mod Unseen
+pub mod Happens
 pub mod Runs
 pub mod Start

@@ -1,4 +1,5 @@
 -- The oldest access of a device in flight, which is made next.
+-- For the calls inside this crate alone; no public contract cites these.
 use Rattle.std.specs.Prelude.{◌≡◌, ℕ, List, [], ◌∷◌, Some, slice_get}
 use Rattle.iom_base.specs.declared.access.AccessKind.{AccessKind}
 use Rattle.iom_base.specs.declared.access.AccessKind.TheVariants.{Write}

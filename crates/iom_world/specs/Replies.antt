@@ -1,4 +1,5 @@
 -- What a device's request is answered, by what it has in flight, its root and the ledger.
+-- For the calls inside this crate alone; no public contract cites these.
 use Rattle.std.specs.Prelude.{◌≡◌, ℕ, ◌/◌, nat_le, Option, None, Some, if◌then◌else◌}
 use Rattle.iom_base.specs.declared.access.AccessKind.{AccessKind}
 use Rattle.iom_base.specs.declared.cause.Cause.{Cause}
@@ -10,7 +11,7 @@ use Rattle.iom_machine.specs.Refusals.{id_limit}
 use Rattle.iom_machine.specs.Requests.{IsBusy, IsForwarded}
 use Rattle.iom_world.specs.declared.device.Device.{Device}
 use Rattle.iom_world.specs.declared.requests.Reply.{Reply}
-use Rattle.iom_world.specs.declared.requests.Reply.TheVariants.{Accept, Busy, BadSpan, Fault}
+use Rattle.iom_world.specs.declared.requests.Reply.TheVariants.{Accepted, Busy, BadSpan, Fault}
 use Rattle.iom_world.specs.Held.{IsHeldFor, NoneIsHeldFor}
 
 -- why a device that has no tables is refused: the device directory can't name its id, or has no valid entry for it
@@ -31,7 +32,7 @@ IsFaulty (Some root) ledger levels id address kind cause = (cause ≡ page_fault
 abbrev pub IsReply : Ledger → ℕ → Device → ℕ → ℕ → AccessKind → Reply → Type 0
 IsReply ledger levels device address len kind BadSpan = ¬ FitsInPage address len
 IsReply ledger levels device address len kind Busy = FitsInPage address len × IsBusy device.in_flight
-IsReply ledger levels device address len kind (Accept frame) =
+IsReply ledger levels device address len kind (Accepted frame) =
     IsForwarded device.in_flight address len × IsTranslated device.root ledger device.id address kind frame
 IsReply ledger levels device address len kind (Fault cause) =
     IsForwarded device.in_flight address len × IsFaulty device.root ledger levels device.id address kind cause

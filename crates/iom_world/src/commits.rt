@@ -6,15 +6,17 @@ ghost use Rattle.iom_inflight.specs.Flights.{OldestIsRead};
 ghost use Rattle.iom_machine.specs.declared.state.State.{State};
 ghost use Rattle.iom_machine.specs.Machine.{Commits};
 ghost use Rattle.iom_world.specs.declared.device.Device.{Device};
-ghost use Rattle.iom_world.specs.Answers.{outcome_of, TellsBytes};
-ghost use Rattle.iom_world.specs.declared.answer.Answer.TheVariants as answer;
+ghost use Rattle.iom_world.specs.Told.{outcome_of, TellsBytes};
+ghost use Rattle.iom_world.specs.declared.told.Told.TheVariants as says;
 ghost use Rattle.iom_world.specs.Oldest.{OldestWritesSoMany, IsOldestAt};
+ghost use Rattle.iom_world.specs.Parts.{parts_of};
 ghost use Rattle.iom_world.specs.Places.{IsPlaceOf};
+ghost use Rattle.iom_world.specs.Roots.{KeepsRoot};
 ghost use Rattle.iom_world.specs.Shows.{Shows};
-ghost use Rattle.iom_world.specs.Unseen.{SameIfRefused, KeepsTables};
+ghost use Rattle.iom_world.specs.Unseen.{SameIfRefused, KeepsOwned};
 
-use crate::answer::{Answer, tell_read};
 use crate::device::Device;
+use crate::told::{Told, tell_read};
 use crate::world::World;
 use iom_base::{AccessKind, DeviceId};
 use iom_inflight::AccessHeader;
@@ -49,6 +51,7 @@ impl World {
         ensures step { (state : State) (id : ℕ) → Shows self.old state → IsPlaceOf self.old.devices.items id place → (next : State)
             × Commits state id told.new next × Shows self.new next }
         ensures given { (bytes : List ℕ) × TellsBytes told.new bytes }
+        ensures roots { (other : ℕ) → KeepsRoot self.old.devices.items self.new.devices.items other }
         ensures commands { self.new.commands ≡ self.old.commands }
         ensures memory { self.new.memory ≡ self.old.memory }
         ensures marks { self.new.marks ≡ self.old.marks }
@@ -62,19 +65,20 @@ impl World {
     }
 
     /// The oldest access of the device that stands here, a write, is made.
-    fn commit_write(&mut self, place: usize, access: AccessHeader) -> Answer
+    fn commit_write(&mut self, place: usize, access: AccessHeader) -> Told
         requires { IsOldestAt self.old.devices.items place access Write }
         ensures step { (state : State) (id : ℕ) → Shows self.old state → IsPlaceOf self.old.devices.items id place → (next : State)
             × Commits state id (outcome_of result) next × Shows self.new next }
-        ensures wrote { (len : ℕ) × (result ≡ answer.Wrote len) }
+        ensures wrote { (len : ℕ) × (result ≡ says.Wrote len) }
+        ensures roots { (other : ℕ) → KeepsRoot self.old.devices.items self.new.devices.items other }
         ensures commands { self.new.commands ≡ self.old.commands }
-        ensures kept { KeepsTables self.old self.new }
+        ensures kept { KeepsOwned (parts_of self.old) (parts_of self.new) }
         ensures events { self.new.events ≡ self.old.events }
     {
         let offset = (access.address % 4096) as usize;
         let frame = self.memory.frame_mut(access.frame).unwrap();
         self.devices[place].take_write(frame, offset, usize::from(access.len));
-        Answer::Wrote(u64::from(access.len))
+        Told::Wrote(u64::from(access.len))
     }
 
     /// The oldest access of a device in flight is made, on the frame that it was translated to. What comes
@@ -83,15 +87,16 @@ impl World {
     pub(crate) fn commit(&mut self, id: DeviceId, told: &mut Outcome)
         ensures step { (state : State) → Shows self.old state → (next : State) × Commits state id told.new next × Shows self.new next }
         ensures refused { SameIfRefused told.new self.old self.new }
+        ensures roots { (other : ℕ) → KeepsRoot self.old.devices.items self.new.devices.items other }
         ensures commands { self.new.commands ≡ self.old.commands }
-        ensures kept { KeepsTables self.old self.new }
+        ensures kept { KeepsOwned (parts_of self.old) (parts_of self.new) }
         ensures events { self.new.events ≡ self.old.events }
     {
         let Some(place) = self.place_of(id) else {
-            return Answer::Refused(Refusal::NoSuchDevice).tell(told);
+            return Told::Refused(Refusal::NoSuchDevice).tell(told);
         };
         let Some(access) = self.devices[place].in_flight.oldest() else {
-            return Answer::NothingInFlight.tell(told);
+            return Told::NothingInFlight.tell(told);
         };
         match access.kind {
             AccessKind::Read => self.commit_read(place, access, told),

@@ -9,18 +9,20 @@
 //! tables, and that a refusal changes nothing.
 #![tactic(auto)]
 
-mod answer;
 mod commands;
 mod commits;
 mod device;
+mod directory;
 mod driver;
-mod places;
+mod fetching;
+mod kept_outcomes;
 mod plugging;
 mod polling;
 mod requests;
 mod run;
 mod start;
 mod tables;
+mod told;
 mod world;
 
 pub use world::World;

@@ -1,14 +1,15 @@
 // Where devices are, and how one is plugged in.
-ghost use Rattle.std.specs.Prelude.{◌≡◌, MatchOption};
+ghost use Rattle.std.specs.Prelude.{◌≡◌, ℕ, MatchOption};
 ghost use Rattle.iom_machine.specs.declared.state.State.{State};
 ghost use Rattle.iom_machine.specs.Machine.{Plugs};
-ghost use Rattle.iom_world.specs.Answers.{outcome_of};
+ghost use Rattle.iom_world.specs.Told.{outcome_of};
 ghost use Rattle.iom_world.specs.Places.{IsAbsent, IsPlaceOf};
+ghost use Rattle.iom_world.specs.Roots.{KeepsRoot};
 ghost use Rattle.iom_world.specs.Shows.{Shows};
 ghost use Rattle.iom_world.specs.Unseen.{SameIfRefused};
 
-use crate::answer::Answer;
 use crate::device::Device;
+use crate::told::Told;
 use crate::world::World;
 use iom_base::DeviceId;
 use iom_inflight::InFlight;
@@ -33,22 +34,23 @@ impl World {
     }
 
     /// A device is plugged in, detached and with nothing in flight.
-    pub(crate) fn plug(&mut self, id: DeviceId, kind: DeviceKind) -> Answer
+    pub(crate) fn plug(&mut self, id: DeviceId, kind: DeviceKind) -> Told
         ensures step { (state : State) → Shows self.old state → (next : State) × Plugs state id kind (outcome_of result) next × Shows self.new next }
         ensures refused { SameIfRefused (outcome_of result) self.old self.new }
         ensures commands { self.new.commands ≡ self.old.commands }
+        ensures roots { (other : ℕ) → KeepsRoot self.old.devices.items self.new.devices.items other }
         ensures memory { self.new.memory ≡ self.old.memory }
         ensures marks { self.new.marks ≡ self.old.marks }
         ensures events { self.new.events ≡ self.old.events }
     {
         if self.place_of(id).is_some() {
-            return Answer::Refused(Refusal::AlreadyPlugged);
+            return Told::Refused(Refusal::AlreadyPlugged);
         }
         if self.devices.len() >= MAX_DEVICES {
-            return Answer::Refused(Refusal::TooManyDevices);
+            return Told::Refused(Refusal::TooManyDevices);
         }
         let Ok(in_flight) = InFlight::new(*self.devices.allocator()) else {
-            return Answer::Refused(Refusal::Memory);
+            return Told::Refused(Refusal::Memory);
         };
         let device = Device {
             id,
@@ -58,8 +60,8 @@ impl World {
             in_flight,
         };
         match self.devices.push(device) {
-            Ok(()) => Answer::Done,
-            Err(_) => Answer::Refused(Refusal::Memory),
+            Ok(()) => Told::Done,
+            Err(_) => Told::Refused(Refusal::Memory),
         }
     }
 }

@@ -1,20 +1,20 @@
 // What a device asks of memory, and what it is answered.
-ghost use Rattle.std.specs.Prelude.{◌≡◌, ℕ, ◌+◌, ◌<◌, ◌≤◌, ◌^◌, [], ◌∷◌, ◌++◌, nat_le, length, Some, slice_get};
+ghost use Rattle.std.specs.Prelude.{◌≡◌, ℕ, ◌+◌, ◌<◌, ◌≤◌, ◌^◌, [], ◌∷◌, ◌++◌, length, Some, slice_get};
 ghost use Rattle.iom_base.specs.declared.access.AccessKind.TheVariants.{Read, Write};
 ghost use Rattle.iom_inflight.specs.Flights.{read_flight, write_flight};
 ghost use Rattle.iom_machine.specs.declared.state.State.{State};
 ghost use Rattle.iom_machine.specs.Machine.{Requests};
-ghost use Rattle.iom_machine.specs.Refusals.{id_limit};
 ghost use Rattle.iom_machine.specs.Requests.{read_of, write_of};
 ghost use Rattle.iom_world.specs.declared.device.Device.{Device};
-ghost use Rattle.iom_world.specs.Answers.{outcome_of};
+ghost use Rattle.iom_world.specs.Told.{outcome_of};
 ghost use Rattle.iom_world.specs.Places.{CountsBelow};
 ghost use Rattle.iom_world.specs.Replies.{IsReply};
+ghost use Rattle.iom_world.specs.Roots.{KeepsRoot};
 ghost use Rattle.iom_world.specs.Shows.{Shows};
 ghost use Rattle.iom_world.specs.Unseen.{SameIfRefused, AcceptsHeld};
 
-use crate::answer::Answer;
 use crate::device::Device;
+use crate::told::Told;
 use crate::world::World;
 use iom_base::{AccessKind, Cause, DeviceId, Span};
 use iom_inflight::MAX_IN_FLIGHT;
@@ -23,7 +23,7 @@ use iom_ledger::Refusal;
 /// What a plugged device's request is answered.
 pub(crate) enum Reply {
     /// It is accepted, on this frame.
-    Accept(u32),
+    Accepted(u32),
     /// Eight accesses of the device are in flight.
     Busy,
     /// It has no bytes or too many, or leaves its page.
@@ -55,7 +55,7 @@ impl Device {
           in_flight = self.old.in_flight ++ read_flight address len frame ∷ [];
         } }
     {
-        self.in_flight.accept_read(address, len, frame);
+        self.in_flight.accept_read(address, len, frame).unwrap();
         self.count_accepted()
     }
 
@@ -70,25 +70,12 @@ impl Device {
           in_flight = self.old.in_flight ++ write_flight address bytes.now frame ∷ [];
         } }
     {
-        self.in_flight.accept_write(address, bytes, frame);
+        self.in_flight.accept_write(address, bytes, frame).unwrap();
         self.count_accepted()
     }
 }
 
 impl World {
-    /// Whether the device directory can't name the id: by its levels it names ids of 7, 16 or 24 bits
-    /// (IOMMU specification, section 2.1, "Device-Directory-Table (DDT)").
-    pub(crate) fn is_too_wide(&self, id: DeviceId) -> bool
-        ensures { result ≡ nat_le (id_limit self.now.levels) id }
-    {
-        let limit = match self.levels {
-            1 => 1 << 7,
-            2 => 1 << 16,
-            _ => 1 << 24,
-        };
-        id >= limit
-    }
-
     /// What the request of the device that stands here is answered. The first that applies: its bytes
     /// aren't within one page; eight accesses of the device are in flight; it has no tables, so that its id
     /// is too wide or its entry of the device directory isn't valid (IOMMU specification, section 2.3,
@@ -109,7 +96,7 @@ impl World {
             None if self.is_too_wide(device.id) => Reply::Fault(Cause::TransactionTypeDisallowed),
             None => Reply::Fault(Cause::DirectoryEntryNotValid),
             Some(root) => match self.translate(place, root, address, kind) {
-                Ok(frame) => Reply::Accept(frame),
+                Ok(frame) => Reply::Accepted(frame),
                 Err(cause) => Reply::Fault(cause),
             },
         }
@@ -118,57 +105,59 @@ impl World {
     /// A device asks for a read of so many bytes at the address. `Accepted`, with the access's number
     /// among the device's, where it is in flight now; else nothing changes: `Refused(NoSuchDevice)`,
     /// `BadSpan`, `Busy`, or `Fault` with its cause.
-    pub(crate) fn read(&mut self, id: DeviceId, address: u64, len: u64) -> Answer
+    pub(crate) fn read(&mut self, id: DeviceId, address: u64, len: u64) -> Told
         requires { CountsBelow self.old.devices.items self.old.events }
         ensures step { (state : State) → Shows self.old state → (frame : ℕ) × (next : State)
             × Requests frame state id (read_of address len) (outcome_of result) next × Shows self.new next }
-        ensures requests { AcceptsHeld self.old id address Read (outcome_of result) }
+        ensures requests { AcceptsHeld self.old.ledger id address Read (outcome_of result) }
         ensures refused { SameIfRefused (outcome_of result) self.old self.new }
         ensures commands { self.new.commands ≡ self.old.commands }
+        ensures roots { (other : ℕ) → KeepsRoot self.old.devices.items self.new.devices.items other }
         ensures memory { self.new.memory ≡ self.old.memory }
         ensures marks { self.new.marks ≡ self.old.marks }
         ensures events { self.new.events ≡ self.old.events }
     {
         let Some(place) = self.place_of(id) else {
-            return Answer::Refused(Refusal::NoSuchDevice);
+            return Told::Refused(Refusal::NoSuchDevice);
         };
         match self.reply(place, address, len, AccessKind::Read) {
-            Reply::Accept(frame) => {
+            Reply::Accepted(frame) => {
                 prove!(self.devices[place].accepted < self.events);
                 let number = self.devices[place].accept_read(address, len as u16, frame);
-                Answer::Accepted(number)
+                Told::Accepted(number)
             }
-            Reply::Busy => Answer::Busy,
-            Reply::BadSpan => Answer::BadSpan,
-            Reply::Fault(cause) => Answer::Fault(cause),
+            Reply::Busy => Told::Busy,
+            Reply::BadSpan => Told::BadSpan,
+            Reply::Fault(cause) => Told::Fault(cause),
         }
     }
 
     /// A device asks for a write of the bytes at the address. It is answered as a read is; the bytes are
     /// kept until it is made.
-    pub(crate) fn write(&mut self, id: DeviceId, address: u64, bytes: &[u8]) -> Answer
+    pub(crate) fn write(&mut self, id: DeviceId, address: u64, bytes: &[u8]) -> Told
         requires { CountsBelow self.old.devices.items self.old.events }
         ensures step { (state : State) → Shows self.old state → (frame : ℕ) × (next : State)
             × Requests frame state id (write_of address bytes.now) (outcome_of result) next × Shows self.new next }
-        ensures requests { AcceptsHeld self.old id address Write (outcome_of result) }
+        ensures requests { AcceptsHeld self.old.ledger id address Write (outcome_of result) }
         ensures refused { SameIfRefused (outcome_of result) self.old self.new }
         ensures commands { self.new.commands ≡ self.old.commands }
+        ensures roots { (other : ℕ) → KeepsRoot self.old.devices.items self.new.devices.items other }
         ensures memory { self.new.memory ≡ self.old.memory }
         ensures marks { self.new.marks ≡ self.old.marks }
         ensures events { self.new.events ≡ self.old.events }
     {
         let Some(place) = self.place_of(id) else {
-            return Answer::Refused(Refusal::NoSuchDevice);
+            return Told::Refused(Refusal::NoSuchDevice);
         };
         match self.reply(place, address, bytes.len() as u64, AccessKind::Write) {
-            Reply::Accept(frame) => {
+            Reply::Accepted(frame) => {
                 prove!(self.devices[place].accepted < self.events);
                 let number = self.devices[place].accept_write(address, bytes, frame);
-                Answer::Accepted(number)
+                Told::Accepted(number)
             }
-            Reply::Busy => Answer::Busy,
-            Reply::BadSpan => Answer::BadSpan,
-            Reply::Fault(cause) => Answer::Fault(cause),
+            Reply::Busy => Told::Busy,
+            Reply::BadSpan => Told::BadSpan,
+            Reply::Fault(cause) => Told::Fault(cause),
         }
     }
 }

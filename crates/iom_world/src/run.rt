@@ -1,33 +1,27 @@
 // Events, one after another, and what comes of them.
-ghost use Rattle.std.specs.Prelude.{◌≡◌, ◌↔◌, ℕ, Bool, IsTrue, ◌+◌, ◌<◌, ◌≤◌, ◌^◌, length, All, OnOk, OnErr};
+ghost use Rattle.std.specs.Prelude.{◌≡◌, ◌+◌, ◌<◌, ◌≤◌, ◌^◌, length, All, OnOk, OnErr};
 ghost use Rattle.iom_machine.specs.declared.state.State.{State};
-ghost use Rattle.iom_machine.specs.Machine.{IsEvent, Step};
-ghost use Rattle.iom_machine.specs.PowerOn.{opening};
-ghost use Rattle.iom_world.specs.Places.{CountsBelow, SomeInFlight};
-ghost use Rattle.iom_world.specs.Runs.{RunsTo, ReclaimsFrom, FailsAfter};
+ghost use Rattle.iom_machine.specs.Machine.{IsEvent};
+ghost use Rattle.iom_world.specs.Happens.{Happens};
+ghost use Rattle.iom_world.specs.Runs.{RunsTo, FailsAfter};
 ghost use Rattle.iom_world.specs.Shows.{Shows};
-ghost use Rattle.iom_world.specs.Unseen.{AfterEvent, TakesFrames, AnswersRequest, SameIfRefused};
 
-use crate::places::Places;
+use crate::kept_outcomes::KeptOutcomes;
 use crate::world::World;
-use iom_machine::{DeviceKind, Event, Outcome, Sink};
+use iom_machine::{Event, Outcome, Sink};
 
 impl World {
-    /// What comes of the event, which is counted already, is told in the place.
-    fn answer(&mut self, event: &Event, told: &mut Outcome)
+    /// The event is counted, and what comes of it is told in the place.
+    fn take(&mut self, event: &Event, told: &mut Outcome)
         requires event { IsEvent event.now }
-        requires count { CountsBelow self.old.devices.items self.old.events }
-        ensures step { (state : State) → Shows self.old state → (next : State) × Step state event.now told.new next × Shows self.new next }
-        ensures queue { (in_flight : Bool) → (IsTrue in_flight ↔ SomeInFlight self.old.devices.items)
-            → AfterEvent event.now in_flight self.old.commands told.new self.new.commands }
-        ensures frames { TakesFrames event.now self.old told.new self.new }
-        ensures requests { AnswersRequest event.now self.old told.new }
-        ensures refused { SameIfRefused told.new self.old self.new }
-        ensures events { self.new.events ≡ self.old.events }
+        requires count { self.old.events + 1 < 2 ^ 64 }
+        ensures { Happens self.old event.now told.new self.new }
     {
+        self.events += 1;
         match event {
-            Event::PlugRaw { device } => self.plug(*device, DeviceKind::Raw).tell(told),
-            Event::AttachFirst { device } => self.attach(*device).tell(told),
+            Event::Plug { device, kind } => self.plug(*device, *kind).tell(told),
+            // No other mode can come yet, and no ATS.
+            Event::Attach { device, .. } => self.attach(*device).tell(told),
             Event::Grant {
                 device,
                 page,
@@ -51,37 +45,15 @@ impl World {
         }
     }
 
-    /// One event is counted, and what comes of it is told in the place.
-    fn take(&mut self, event: &Event, told: &mut Outcome)
-        requires event { IsEvent event.now }
-        requires count { self.old.events + 1 < 2 ^ 64 }
-        ensures step { (state : State) → Shows self.old state → (next : State) × Step state event.now told.new next × Shows self.new next }
-        ensures queue { (in_flight : Bool) → (IsTrue in_flight ↔ SomeInFlight self.old.devices.items)
-            → AfterEvent event.now in_flight self.old.commands told.new self.new.commands }
-        ensures frames { TakesFrames event.now self.old told.new self.new }
-        ensures requests { AnswersRequest event.now self.old told.new }
-        ensures refused { SameIfRefused told.new self.old self.new }
-        ensures events { self.new.events ≡ self.old.events + 1 }
-    {
-        self.events += 1;
-        self.answer(event, told);
-    }
-
     /// One event, and what comes of it: a lawful step of the ledger machine from every state that the
     /// world shows. A release, a fetch and a poll do to the commands what the driver and the IOMMU do; an
-    /// attach and a grant take the highest free frames for tables, and change nobody else's; a request is
-    /// accepted only to a page that is held; a refusal changes nothing. Each event is counted, whatever
-    /// comes of it.
+    /// attach and a grant take the highest free frames for tables, and write in their device's tables
+    /// alone; a request is accepted only to a page that is held; a refusal changes nothing. Each event is
+    /// counted, whatever comes of it.
     pub fn step(&mut self, event: &Event) -> Outcome
         requires event { IsEvent event.now }
         requires count { self.old.events + 1 < 2 ^ 64 }
-        ensures step { (state : State) → Shows self.old state → (next : State) × Step state event.now result next × Shows self.new next }
-        ensures queue { (in_flight : Bool) → (IsTrue in_flight ↔ SomeInFlight self.old.devices.items)
-            → AfterEvent event.now in_flight self.old.commands result self.new.commands }
-        ensures frames { TakesFrames event.now self.old result self.new }
-        ensures requests { AnswersRequest event.now self.old result }
-        ensures refused { SameIfRefused result self.old self.new }
-        ensures events { self.new.events ≡ self.old.events + 1 }
+        ensures { Happens self.old event.now result self.new }
     {
         let mut told = Outcome::Done;
         self.take(event, &mut told);
@@ -89,9 +61,11 @@ impl World {
     }
 
     /// The events, one after another: the sink takes the outcome of each, and the run stops at the first
-    /// that it fails at. The outcomes are those of a run of the ledger machine over the events, from every
-    /// state that the world shows; and each event does to the commands and to the frames of tables, and
-    /// answers to a request, what [`World::step`] says of it.
+    /// that it fails at. The outcomes, also those up to a failure, are those of a run of the ledger machine
+    /// over the events, from every state that the world shows; the world shows each state of that run in
+    /// turn, and each event does to it what [`World::step`] says. Of that run the sentences of the headline
+    /// hold, at those very states: at each, every access in flight may still reach its frame, what is made
+    /// touches its own, what is held is accepted, and what is free is touched by nobody until it is granted.
     pub fn run<S: Sink>(&mut self, events: &[Event], sink: &mut S) -> Result<(), S::Fault>
         requires events { All IsEvent events.now }
         requires count { self.old.events + length events.now < 2 ^ 64 }
@@ -100,12 +74,10 @@ impl World {
             → OnErr result (FailsAfter S.takes S.fails state self.old events.now sink.old sink.new self.new) }
         ensures counted { OnOk result (self.new.events ≡ self.old.events + length events.now) }
         ensures counted_at_most { OnErr result (self.new.events ≤ self.old.events + length events.now) }
-        ensures reclaim { (frames levels : ℕ) → Shows self.old (opening frames levels)
-            → OnOk result (ReclaimsFrom S.takes (opening frames levels) self.old events.now sink.old sink.new self.new) }
     {
-        let mut places = Places::new();
+        let mut kept = KeptOutcomes::new();
         for event in events {
-            let told = places.of(event);
+            let told = kept.place_for(event);
             self.take(event, told);
             sink.put(told)?;
         }

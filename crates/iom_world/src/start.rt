@@ -27,11 +27,12 @@ impl World {
         requires size { IsMemorySize frames }
         requires zero { memory ≡ replicate frames zeroed }
         ensures opening { IfOk result (λ world. Shows world (opening frames levels)) }
+        ensures memory { IfOk result (λ world. world.memory ≡ replicate frames zeroed) }
         ensures count { IfOk result (λ world. world.events ≡ 0) }
         ensures commands { IfOk result (λ world. world.commands ≡ no_commands) }
     {
-        let mut ledger = Ledger::new(alloc, frames)?;
-        let marks = TableFrames::new(alloc, frames, &mut ledger)?;
+        let ledger = Ledger::new(alloc, frames)?;
+        let marks = TableFrames::new(alloc, frames)?;
         let devices = Vec::with_capacity(alloc, ROOM)?;
         let commands = Commands::new(alloc)?;
         Ok(World {
@@ -52,6 +53,7 @@ impl World {
     /// `OutOfMemory` where an allocation is refused.
     pub fn new(alloc: Global, frames: u32, levels: u8) -> Result<World, MemError>
         ensures opening { IfOk result (λ world. Shows world (opening frames levels)) }
+        ensures memory { IfOk result (λ world. world.memory ≡ replicate frames zeroed) }
         ensures count { IfOk result (λ world. world.events ≡ 0) }
         ensures commands { IfOk result (λ world. world.commands ≡ no_commands) }
         ensures size { IfOk result (λ world. IsMemorySize frames × IsLevels levels) }

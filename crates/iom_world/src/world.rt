@@ -1,4 +1,3 @@
-ghost use Rattle.iom_table_frames.specs.Marks.{OffersUnreserved};
 ghost use Rattle.iom_world.specs.Sound.{IsSound};
 ghost use Rattle.iom_world.specs.Tables.{HaveTables};
 ghost use Rattle.iom_world.specs.TablesAreFacts.{tables_prop};
@@ -24,6 +23,5 @@ pub struct World {
     /// How many events there were.
     pub(crate) events: u64,
     ghost sound: { IsSound memory marks ledger devices.items commands events },
-    ghost offered: { OffersUnreserved marks ledger },
     ghost tables: { HaveTables memory marks ledger devices.items } by { tables_prop memory marks ledger devices.items },
 }

@@ -1,19 +1,18 @@
 // The driver's calls.
 ghost use Rattle.std.specs.Prelude.{◌≡◌, ◌↔◌, ◌^◌, ◌≤◌, IfOk, IsTrue, Some, length};
-ghost use Rattle.iom_base.specs.Rights.{IsGrantable};
 ghost use Rattle.iom_machine.specs.declared.state.State.{State};
 ghost use Rattle.iom_machine.specs.Refusals.{MayRefusePlug, MayRefuseAttach, MayRefuseGrant, MayRefuseRelease};
 ghost use Rattle.iom_machine.specs.Machine.{Plugs, Attaches, Grants, Releases, Fetches};
 
 use crate::decide::devices::{place_of, set_attachment};
-use crate::decide::frames::{are_fewer_free, are_free_besides, reserve};
+use crate::decide::frames::{are_fewer_free, are_fewer_runs_free, are_free_besides, reserve};
 use crate::decide::reasons::{
     attach_refusal, grant_refusal, plug_refusal, refuses, release_refusal,
 };
 use crate::outcome::Outcome;
 use crate::sequence::Sequence;
 use crate::state::{Attachment, Device, DeviceKind, Mode, State};
-use iom_base::{DeviceId, Owner, Rights};
+use iom_base::{DeviceId, GrantRights, Owner};
 use iom_ledger::{HistoryEntry, Refusal};
 use std::alloc::{AllocError, Global};
 
@@ -29,8 +28,8 @@ fn may_refuse_attach(state: &State, mode: Mode, why: Refusal) -> bool
     match why {
         Refusal::NoFrames => match mode {
             Mode::First => are_fewer_free(state, None, 3),
-            Mode::Second => false,
-            Mode::Both => false,
+            Mode::Second => are_fewer_runs_free(state, 3),
+            Mode::Both => are_fewer_runs_free(state, 3),
         },
         Refusal::Memory => true,
         _ => false,
@@ -51,12 +50,6 @@ fn may_refuse_release(why: Refusal) -> bool
     ensures { IsTrue result ↔ MayRefuseRelease why }
 {
     matches!(why, Refusal::QueueFull | Refusal::NumbersUsedUp)
-}
-
-fn is_grantable(rights: Rights) -> bool
-    ensures { IsTrue result ↔ IsGrantable rights }
-{
-    rights == Rights::R || rights == Rights::RW
 }
 
 /// The state after a plug, where it may come so.
@@ -144,7 +137,7 @@ pub(crate) fn judge_grant(
     id: DeviceId,
     page: u64,
     frame: u64,
-    rights: Rights,
+    rights: GrantRights,
     outcome: &Outcome,
     taken: &[u32],
 ) -> Result<Option<State>, AllocError>
@@ -157,9 +150,6 @@ pub(crate) fn judge_grant(
             if first.is_some() {
                 return Ok(None);
             }
-            if !is_grantable(rights) {
-                return Ok(None);
-            }
             if !are_free_besides(&state, Some(frame), taken) {
                 return Ok(None);
             }
@@ -169,7 +159,7 @@ pub(crate) fn judge_grant(
                 device: id,
                 page,
                 frame: number,
-                rights,
+                rights: rights.rights(),
             })?;
             reserve(&mut next.frames, taken, Owner::OneDevice(id));
             Ok(Some(next))

@@ -1,7 +1,7 @@
 // Which frames are free, and how frames become reserved.
-ghost use Rattle.std.specs.Prelude.{◌≡◌, ◌≢◌, ◌↔◌, ◌<◌, Some, false, IsTrue, All, length};
+ghost use Rattle.std.specs.Prelude.{◌≡◌, ◌≢◌, ◌↔◌, ◌+◌, ◌*◌, ◌/◌, ◌^◌, ◌<◌, Some, false, IsTrue, All, length};
 ghost use Rattle.iom_ledger.specs.History as ledger;
-ghost use Rattle.iom_machine.specs.Frames.{FewerThan, is_reserved, IsFree, IsFreeBesides, with_frame, reserved_for};
+ghost use Rattle.iom_machine.specs.Frames.{FewerThan, is_reserved, IsFree, IsFreeBesides, IsFreeRun, with_frame, reserved_for};
 ghost use Rattle.iom_machine.specs.Judging.{CountsAll};
 
 use crate::decide::history::is_out_of_reach;
@@ -21,7 +21,7 @@ pub(crate) fn has_owner(frames: &[Frame], number: u64) -> bool
 }
 
 fn is_free_in(frames: &[Frame], history: &[HistoryEntry], number: u64) -> bool
-    ensures { IsTrue result ↔ ((number < length frames.now) × (is_reserved frames.now number ≡ false) × ledger.IsFree history.now number) }
+    ensures { IsTrue result ↔ ((number < length frames.now) × (is_reserved frames.now number ≡ false) × ledger.NoneMayReach history.now number) }
 {
     if number as usize >= frames.len() {
         return false;
@@ -89,6 +89,44 @@ pub(crate) fn are_fewer_free(state: &State, named: Option<u64>, count: usize) ->
     ensures { IsTrue result ↔ FewerThan count (IsFreeBesides state.now named) }
 {
     count_free_besides(state, named) < count
+}
+
+/// Whether the four frames of the aligned run are free.
+fn is_free_run(state: &State, run: u64) -> bool
+    requires { 4 * run + 3 < 2 ^ 64 }
+    ensures { IsTrue result ↔ IsFreeRun state.now run }
+{
+    let first = 4 * run;
+    if !is_free(state, first) {
+        return false;
+    }
+    if !is_free(state, first + 1) {
+        return false;
+    }
+    if !is_free(state, first + 2) {
+        return false;
+    }
+    is_free(state, first + 3)
+}
+
+/// How many aligned runs of four frames are free.
+fn count_free_runs(state: &State) -> usize
+    ensures { CountsAll result (length state.now.frames / 4) (IsFreeRun state.now) }
+{
+    let mut count = 0;
+    for run in 0..state.frames.as_slice().len() / 4 {
+        if is_free_run(state, run as u64) {
+            count += 1;
+        }
+    }
+    count
+}
+
+/// Whether fewer than so many aligned runs of four frames are free.
+pub(crate) fn are_fewer_runs_free(state: &State, count: usize) -> bool
+    ensures { IsTrue result ↔ FewerThan count (IsFreeRun state.now) }
+{
+    count_free_runs(state) < count
 }
 
 /// The frame belongs to the owner, where there is such a frame.

@@ -1,9 +1,10 @@
 // What a history says, read off it entry by entry.
 ghost use Rattle.std.specs.Prelude.{◌≡◌, ◌↔◌, IsTrue, ◌==◌, not, length, option_to_list};
 ghost use Rattle.std.specs.List.{list_any};
-ghost use Rattle.iom_ledger.specs.History.{is_about, granted_by, held_at, released_by, released_at, confirms, lingering_at, May, IsFree, serves};
+ghost use Rattle.iom_ledger.specs.History.{is_about, granted_by, held_at, released_by, released_at, confirms, lingering_at, May, NoneMayReach, serves};
 ghost use Rattle.iom_machine.specs.Tickets.{last_confirmed};
-ghost use Rattle.iom_machine.specs.Judging.{holds_for, still_serves, lingers_for, reaches_in, anyone_reaches_in};
+ghost use Rattle.iom_machine.specs.Judging.{holds_for, still_serves, lingers_for, lingers_among, reaches_in, anyone_reaches_in};
+ghost use Rattle.iom_machine.specs.Requests.{LingersSomewhere};
 
 use iom_base::{AccessKind, DeviceId, Rights};
 use iom_ledger::HistoryEntry;
@@ -187,6 +188,38 @@ pub(crate) fn may(history: &[HistoryEntry], device: DeviceId, frame: u64, kind: 
     reached_in(history, history, device, frame, kind)
 }
 
+/// Whether the frame lingers at one of the pages that these entries grant, with such a right.
+pub(crate) fn lingers_among(
+    all: &[HistoryEntry],
+    history: &[HistoryEntry],
+    device: DeviceId,
+    frame: u64,
+    kind: AccessKind,
+) -> bool
+    ensures { result ≡ lingers_among all.now history.now device frame kind }
+{
+    match history {
+        [] => false,
+        [HistoryEntry::Granted { page, .. }, before @ ..] => {
+            lingers_in(all, all, device, *page, kind, frame)
+                || lingers_among(all, before, device, frame, kind)
+        }
+        [_, before @ ..] => lingers_among(all, before, device, frame, kind),
+    }
+}
+
+/// Whether the frame lingers at some page of the device, with a right that allows the kind.
+pub(crate) fn lingers_somewhere(
+    history: &[HistoryEntry],
+    device: DeviceId,
+    frame: u64,
+    kind: AccessKind,
+) -> bool
+    ensures { IsTrue result ↔ LingersSomewhere history.now device frame kind }
+{
+    lingers_among(history, history, device, frame, kind)
+}
+
 /// Whether a device to which these entries grant anything reaches the frame.
 pub(crate) fn anyone_in(all: &[HistoryEntry], history: &[HistoryEntry], frame: u64) -> bool
     ensures { result ≡ anyone_reaches_in all.now history.now frame }
@@ -202,7 +235,7 @@ pub(crate) fn anyone_in(all: &[HistoryEntry], history: &[HistoryEntry], frame: u
 
 /// Whether no device may reach the frame.
 pub(crate) fn is_out_of_reach(history: &[HistoryEntry], frame: u64) -> bool
-    ensures { IsTrue result ↔ IsFree history.now frame }
+    ensures { IsTrue result ↔ NoneMayReach history.now frame }
 {
     !anyone_in(history, history, frame)
 }

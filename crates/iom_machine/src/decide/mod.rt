@@ -7,6 +7,7 @@ ghost use Rattle.iom_machine.specs.Verdicts.{IsVerdict, RunsAreChosen};
 
 mod calls;
 mod commits;
+pub(crate) mod cut_off;
 pub(crate) mod devices;
 pub(crate) mod frames;
 pub(crate) mod history;
@@ -23,7 +24,7 @@ use crate::event::Event;
 use crate::line::{Line, Verdict};
 use crate::outcome::Outcome;
 use crate::sequence::Sequence;
-use crate::state::{Access, DeviceKind, Mode, State};
+use crate::state::{Access, State};
 use iom_base::AccessKind;
 use std::alloc::{AllocError, Global};
 
@@ -66,9 +67,9 @@ fn decide(
 {
     let taken = choice.taken.as_slice();
     match event {
-        Event::PlugRaw { device } => judge_plug(alloc, state, *device, DeviceKind::Raw, outcome),
-        Event::AttachFirst { device } => {
-            Ok(judge_attach(state, *device, Mode::First, false, outcome, taken))
+        Event::Plug { device, kind } => judge_plug(alloc, state, *device, *kind, outcome),
+        Event::Attach { device, mode, ats } => {
+            Ok(judge_attach(state, *device, *mode, *ats, outcome, taken))
         }
         Event::Grant {
             device,
@@ -123,18 +124,14 @@ pub fn judge_run(alloc: Global, state: State, lines: &[Line]) -> Result<Verdict,
     requires { length state.frames ≤ 2 ^ 32 }
     ensures { IfOk result (λ verdict. IsVerdict state lines.now verdict) }
 {
-    match lines {
-        [] => Ok(Verdict::Lawful(state)),
-        [line, later @ ..] => {
-            match judge(alloc, state, &line.event, &line.outcome, &line.choice)? {
-                None => Ok(Verdict::Unlawful { line: 0 }),
-                Some(next) => match judge_run(alloc, next, later)? {
-                    Verdict::Lawful(last) => Ok(Verdict::Lawful(last)),
-                    Verdict::Unlawful { line } => Ok(Verdict::Unlawful { line: line + 1 }),
-                },
-            }
+    let mut reached = state;
+    for (number, line) in lines.iter().enumerate() {
+        match judge(alloc, reached, &line.event, &line.outcome, &line.choice)? {
+            None => return Ok(Verdict::Unlawful { line: number }),
+            Some(next) => reached = next,
         }
     }
+    Ok(Verdict::Lawful(reached))
 }
 
 /// Every run is one of some lines, with those events and outcomes, which some choices complete: so

@@ -9,9 +9,11 @@ ghost use Rattle.iom_machine.specs.Requests.{MayFault, MayAcceptInOneStage, MayA
 ghost use Rattle.iom_machine.specs.Machine.{Requests};
 ghost use Rattle.iom_machine.specs.Judging.{StandsAt};
 
+use crate::decide::cut_off::{
+    accepts_cut_off, cause_without_context, faults_cut_off, is_page_fault_of,
+};
 use crate::decide::devices::{accept, place_of};
-use crate::decide::history::{is_held_for, lingers_in, pair_held};
-use crate::decide::reasons::too_wide;
+use crate::decide::history::{is_held_for, lingers_in, may, pair_held};
 use crate::outcome::Outcome;
 use crate::state::{Access, Attachment, Device, Mode, State};
 use iom_base::{Cause, DeviceId, Span};
@@ -54,7 +56,7 @@ fn holds(history: &[HistoryEntry], id: DeviceId, access: &Access, frame: u32) ->
 }
 
 /// Whether the frame lingers there, with such a right.
-fn lingers(history: &[HistoryEntry], id: DeviceId, access: &Access, frame: u32) -> bool
+pub(crate) fn lingers(history: &[HistoryEntry], id: DeviceId, access: &Access, frame: u32) -> bool
     ensures { IsTrue result ↔ LingersFor history.now id access.now frame }
 {
     lingers_in(
@@ -84,7 +86,7 @@ fn accepts_in_one_stage(history: &[HistoryEntry], id: DeviceId, access: &Access,
         || holds_none(history, id, access) && lingers(history, id, access, frame)
 }
 
-fn is_same_cause(cause: Cause, fault: Cause) -> bool
+pub(crate) fn is_same_cause(cause: Cause, fault: Cause) -> bool
     ensures { IsTrue result ↔ (cause ≡ fault) }
 {
     cause == fault
@@ -115,15 +117,20 @@ fn may_accept(
 ) -> bool
     ensures { IsTrue result ↔ MayAccept attachment state.now id access.now frame }
 {
+    let history = state.history.as_slice();
     match attachment {
         Attachment::Detached => false,
         Attachment::Attached { mode, .. } => match mode {
-            Mode::First => accepts_in_one_stage(state.history.as_slice(), id, access, frame),
-            Mode::Second => accepts_in_one_stage(state.history.as_slice(), id, access, frame),
-            Mode::Both => false,
+            Mode::First => accepts_in_one_stage(history, id, access, frame),
+            Mode::Second => accepts_in_one_stage(history, id, access, frame),
+            Mode::Both => may(history, id, u64::from(frame), access.kind),
         },
-        Attachment::Quarantined { .. } => false,
-        Attachment::Leaving { .. } => false,
+        Attachment::Quarantined { ticket, mode, .. } => {
+            accepts_cut_off(ticket, mode, history, id, access, frame)
+        }
+        Attachment::Leaving { ticket, mode, .. } => {
+            accepts_cut_off(ticket, mode, history, id, access, frame)
+        }
     }
 }
 
@@ -139,14 +146,7 @@ fn may_fault(
 {
     let history = state.history.as_slice();
     match attachment {
-        Attachment::Detached => {
-            cause
-                == if too_wide(state, id) {
-                    Cause::TransactionTypeDisallowed
-                } else {
-                    Cause::DirectoryEntryNotValid
-                }
-        }
+        Attachment::Detached => is_same_cause(cause, cause_without_context(state, id)),
         Attachment::Attached { mode, .. } => match mode {
             Mode::First => faults_in_one_stage(
                 history,
@@ -164,10 +164,14 @@ fn may_fault(
                     Cause::guest_page_fault(access.kind),
                 )
             }
-            Mode::Both => false,
+            Mode::Both => is_page_fault_of(Mode::Both, access.kind, cause),
         },
-        Attachment::Quarantined { .. } => false,
-        Attachment::Leaving { .. } => false,
+        Attachment::Quarantined { ticket, mode, .. } => {
+            faults_cut_off(ticket, mode, state, id, access, cause)
+        }
+        Attachment::Leaving { ticket, mode, .. } => {
+            faults_cut_off(ticket, mode, state, id, access, cause)
+        }
     }
 }
 

@@ -1,4 +1,3 @@
-use Rattle.std.proofs.Common.{◌≡◌}
 use Rattle.iom_ledger.specs.Counts.{AreCounted}
 use Rattle.iom_ledger.specs.Rows.{entries_of, NoneWaitsFrom}
 use Rattle.iom_ledger.specs.RowChanges.{DropsSome}
@@ -8,7 +7,6 @@ use Rattle.iom_ledger.proofs.devices.drop_waiting.Given as goal
 abbrev pub invariant-loop-index : goal.invariant-loop-index
 invariant-loop-index l = record {
   counted : AreCounted l.devices l.counts.counts.items;
-  pool : l.counts.pool ≡ l.fn.counts.pool;
   rows : DropsSome l.fn.devices l.devices l.device l.ticket;
   looked : NoneWaitsFrom (entries_of l.devices l.device) l.index l.ticket;
 }

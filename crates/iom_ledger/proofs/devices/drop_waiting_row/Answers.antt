@@ -8,7 +8,7 @@ lower-requires c = count_of_row c.args.devices.now c.args.counts.now.counts.item
 
 pub returns-in-Some-clause-counted : goal.returns-in-Some-clause-counted
 returns-in-Some-clause-counted c =
-    AreCounted-dropped c.args.devices.now c.take_in.new.devices c.args.counts.now.counts.items c.lower.new.self.counts.items c.args.device c.in-Some._page c.in-Some.row c.in-Some.ensures.taken.had c.in-Some.ensures.taken.rows c.lower.ensures.lowered c.requires
+    AreCounted-dropped c.args.devices.now c.take_in.new.devices c.args.counts.now.counts.items c.lower.new.self.counts.items c.args.device c.in-Some._page c.in-Some.row c.in-Some.ensures.taken.had c.in-Some.ensures.taken.rows c.lower.ensures c.requires
 
 pub returns-in_default-clause-counted : goal.returns-in_default-clause-counted
 returns-in_default-clause-counted c =

@@ -1,21 +1,29 @@
-use Rattle.std.proofs.Common.{◌+◌, ◌<◌, ◌++◌, ◌∙◌, length, take, drop, get_or, filter, None, arith}
-use Rattle.iom_ledger.specs.declared.row.Pending.{Pending}
-use Rattle.iom_ledger.proofs.PendingLemmas.{is_other, split_at, rows_more, items_more}
+use Rattle.std.proofs.Common.{◌≡◌, ◌∙◌, true, sym, ap}
+use Rattle.iom_ledger.specs.Ring.{is_among, is_ascending, tickets}
+use Rattle.iom_ledger.proofs.RingLemmas.{is_ascending-drop, none_dropped, rows_of_both, items_of_both}
+use Rattle.iom_ledger.proofs.UnknownTickets.{filter_absent}
 use Rattle.iom_ledger.proofs.ring.confirm_in.Goals as goal
 
-pub loop-n-preserved : goal.loop-n-preserved
-loop-n-preserved c =
-    let s = c.args.pending.now.items in
-    let n = c.loop-n.n in
-    let none : Pending = record { ticket = 0; device = 0; page = None } in
-    let within : n < length s = omega (arith, c.len-n-end.ensures.len) in
-    let rest = drop (n + 1) s ++ filter (is_other c.args.ticket) (take n s) in
-    let oldest = c.loop-n.invariant.items ∙ split_at n s (filter (is_other c.args.ticket) (take n s)) none within in
-    record {
-      rows = λ d a. rows_more s n none d a c.args.ticket _ _ _ within (c.loop-n.invariant.rows d a) (c.turn.ensures.rows (get_or s n none) rest oldest d a);
-      items = c.turn.ensures.items (get_or s n none) rest oldest ∙ items_more c.args.ticket n s none within;
-      capacity = c.turn.ensures.capacity ∙ c.loop-n.invariant.capacity;
-      counted = c.turn.ensures.counted;
-      pool = c.turn.ensures.pool ∙ c.loop-n.invariant.pool;
-      room = c.turn.ensures.room;
-    }
+pub returns-then-not-is_past-clause-rows : goal.returns-then-not-is_past-clause-rows
+returns-then-not-is_past-clause-rows c =
+    let (n, taken) = c.confirm_front.ensures.taken in
+    rows_of_both c.args.devices.now c.confirm_front.new.devices c.confirm_each.new.devices c.args.pending.now.items c.confirm_front.new.pending.items n c.args.ticket c.requires.named taken c.confirm_each.ensures.rows
+
+pub returns-then-not-is_past-clause-items : goal.returns-then-not-is_past-clause-items
+returns-then-not-is_past-clause-items c =
+    let (n, taken) = c.confirm_front.ensures.taken in
+    items_of_both c.args.devices.now c.confirm_front.new.devices c.args.pending.now.items c.confirm_front.new.pending.items c.confirm_each.new.pending.items n c.args.ticket taken c.confirm_each.ensures.items
+
+pub returns-else-not-is_past-clause-rows : goal.returns-else-not-is_past-clause-rows
+returns-else-not-is_past-clause-rows c =
+    let (n, taken) = c.confirm_front.ensures.taken in
+    let absent = c.is_past.ensures c.if-not-is_past.false (λ ascends. ap is_ascending taken.items ∙ is_ascending-drop n c.args.pending.now.items (c.requires.ordered ascends)) in
+    rows_of_both c.args.devices.now c.confirm_front.new.devices c.confirm_front.new.devices c.args.pending.now.items c.confirm_front.new.pending.items n c.args.ticket c.requires.named taken
+    (none_dropped c.confirm_front.new.devices c.confirm_front.new.pending.items c.args.ticket absent)
+
+pub returns-else-not-is_past-clause-items : goal.returns-else-not-is_past-clause-items
+returns-else-not-is_past-clause-items c =
+    let (n, taken) = c.confirm_front.ensures.taken in
+    let absent = c.is_past.ensures c.if-not-is_past.false (λ ascends. ap is_ascending taken.items ∙ is_ascending-drop n c.args.pending.now.items (c.requires.ordered ascends)) in
+    items_of_both c.args.devices.now c.confirm_front.new.devices c.args.pending.now.items c.confirm_front.new.pending.items c.confirm_front.new.pending.items n c.args.ticket taken
+    (sym (filter_absent c.args.ticket c.confirm_front.new.pending.items absent))

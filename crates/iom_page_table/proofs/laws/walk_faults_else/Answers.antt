@@ -1,3 +1,4 @@
+-- A walk to a page without a leaf that serves stops with a page fault.
 use Rattle.std.proofs.Common.{◌≡◌, ◌/◌, ◌∙◌, inl, inr, ℕ, Bool, true, false, List, [], Some, refl}
 use Rattle.iom_base.specs.Causes.{page_fault_of}
 use Rattle.iom_base.specs.Rights.{allows}

@@ -1,11 +1,14 @@
-use Rattle.std.proofs.Common.{◌≡◌, ◌*◌, Some, None, refl, subst, sym}
+-- Unmapping a page: its leaf is cleared where its last table stands, and else nothing changes.
+use Rattle.std.proofs.Common.{◌≡◌, ◌*◌, ◌%◌, ◌∙◌, Some, ap, None, refl, subst, sym}
 use Rattle.iom_phys_mem.specs.Words.{word_at}
 use Rattle.iom_stage_walk.specs.Entries.{entries}
 use Rattle.iom_stage_walk.specs.Paths.{path_of}
-use Rattle.iom_stage_walk.specs.declared.entry.Entry.TheVariants.{Faulty}
+use Rattle.iom_stage_walk.specs.declared.entry.Entry.TheVariants.{Invalid}
 use Rattle.iom_page_table.specs.Trees.{sv39, IsLastEntry}
 use Rattle.iom_page_table.proofs.Pages.{leaves_after}
 use Rattle.iom_page_table.proofs.Whole.{entry_inside, sets_page, same_frames, entry_number, is_entry, no_entry, not_mapped}
+use Rattle.iom_page_table.specs.Written.{with_entries, cleared_entries}
+use Rattle.iom_page_table.proofs.Written.{cleared_last, cleared_none}
 use Rattle.iom_page_table.proofs.tables.unmap.Goals as goal
 
 pub put-requires-clause-inside : goal.put-requires-clause-inside
@@ -13,16 +16,16 @@ put-requires-clause-inside g c = entry_inside (g.B.Bytes.frames_of c.args.memory
 
 pub returns-in-Some-clause-tree : goal.returns-in-Some-clause-tree
 returns-in-Some-clause-tree g c =
-    (sets_page (g.B.Bytes.frames_of c.args.memory.now) (g.B.Bytes.frames_of c.put.new.memory) c.args.root c.args.page c.in-Some.table c.upper_of.result Faulty c.requires.tree c.upper_of.ensures c.in-Some.ensures.some c.put.ensures.put tt).tree
+    (sets_page (g.B.Bytes.frames_of c.args.memory.now) (g.B.Bytes.frames_of c.put.new.memory) c.args.root c.args.page c.in-Some.table c.upper_of.result Invalid c.requires.tree c.upper_of.ensures c.in-Some.ensures.some c.put.ensures.put tt).tree
 
 pub returns-in-Some-clause-tables : goal.returns-in-Some-clause-tables
 returns-in-Some-clause-tables g c =
-    same_frames sv39 (g.B.Bytes.frames_of c.args.memory.now) (g.B.Bytes.frames_of c.put.new.memory) c.args.root (path_of sv39 c.args.page) Faulty
-    (sets_page (g.B.Bytes.frames_of c.args.memory.now) (g.B.Bytes.frames_of c.put.new.memory) c.args.root c.args.page c.in-Some.table c.upper_of.result Faulty c.requires.tree c.upper_of.ensures c.in-Some.ensures.some c.put.ensures.put tt)
+    same_frames sv39 (g.B.Bytes.frames_of c.args.memory.now) (g.B.Bytes.frames_of c.put.new.memory) c.args.root (path_of sv39 c.args.page) Invalid
+    (sets_page (g.B.Bytes.frames_of c.args.memory.now) (g.B.Bytes.frames_of c.put.new.memory) c.args.root c.args.page c.in-Some.table c.upper_of.result Invalid c.requires.tree c.upper_of.ensures c.in-Some.ensures.some c.put.ensures.put tt)
 
 pub returns-in-Some-clause-leaf : goal.returns-in-Some-clause-leaf
 returns-in-Some-clause-leaf g c =
-    let s = sets_page (g.B.Bytes.frames_of c.args.memory.now) (g.B.Bytes.frames_of c.put.new.memory) c.args.root c.args.page c.in-Some.table c.upper_of.result Faulty c.requires.tree c.upper_of.ensures c.in-Some.ensures.some c.put.ensures.put tt in
+    let s = sets_page (g.B.Bytes.frames_of c.args.memory.now) (g.B.Bytes.frames_of c.put.new.memory) c.args.root c.args.page c.in-Some.table c.upper_of.result Invalid c.requires.tree c.upper_of.ensures c.in-Some.ensures.some c.put.ensures.put tt in
     leaves_after (g.B.Bytes.frames_of c.args.memory.now) (g.B.Bytes.frames_of c.put.new.memory) c.args.root c.args.page None c.requires.page s.leaf s.same
 
 pub returns-in-Some-clause-cleared : goal.returns-in-Some-clause-cleared
@@ -41,8 +44,8 @@ pub returns-in-Some-clause-outside : goal.returns-in-Some-clause-outside
 returns-in-Some-clause-outside g c =
     let old = g.B.Bytes.frames_of c.args.memory.now in
     let new = g.B.Bytes.frames_of c.put.new.memory in
-    let s = sets_page old new c.args.root c.args.page c.in-Some.table c.upper_of.result Faulty c.requires.tree c.upper_of.ensures c.in-Some.ensures.some c.put.ensures.put tt in
-    λ f out. s.others f (λ h. out ((same_frames sv39 old new c.args.root (path_of sv39 c.args.page) Faulty s f).1 h))
+    let s = sets_page old new c.args.root c.args.page c.in-Some.table c.upper_of.result Invalid c.requires.tree c.upper_of.ensures c.in-Some.ensures.some c.put.ensures.put tt in
+    λ f out. s.others f (λ h. out ((same_frames sv39 old new c.args.root (path_of sv39 c.args.page) Invalid s f).1 h))
 
 pub returns-in-None-clause-leaf : goal.returns-in-None-clause-leaf
 returns-in-None-clause-leaf g c =
@@ -53,3 +56,14 @@ returns-in-None-clause-leaf g c =
 pub returns-in-None-clause-cleared : goal.returns-in-None-clause-cleared
 returns-in-None-clause-cleared g c =
     λ s last. absurd (no_entry (g.B.Bytes.frames_of c.args.memory.now) c.args.root c.args.page c.upper_of.result c.upper_of.ensures c.in-None.ensures.none s last)
+
+pub returns-in-Some-clause-whole : goal.returns-in-Some-clause-whole
+returns-in-Some-clause-whole g c =
+    let old = g.B.Bytes.frames_of c.args.memory.now in
+    c.put.ensures.whole
+    ∙ sym (ap (with_entries old) (sym (ap (cleared_entries (entries old) c.args.root) c.upper_of.ensures) ∙ cleared_last (entries old) c.args.root c.upper_of.result (c.args.page % 512) c.in-Some.table c.in-Some.ensures.some))
+
+pub returns-in-None-clause-whole : goal.returns-in-None-clause-whole
+returns-in-None-clause-whole g c =
+    let old = g.B.Bytes.frames_of c.args.memory.now in
+    sym (ap (with_entries old) (sym (ap (cleared_entries (entries old) c.args.root) c.upper_of.ensures) ∙ cleared_none (entries old) c.args.root c.upper_of.result (c.args.page % 512) c.in-None.ensures.none))

@@ -3,7 +3,7 @@ use Rattle.std.proofs.lemmas.Option.{IfSome_then}
 use Rattle.std.proofs.lemmas.Result.{err_from_is_err_and, on_ok_weaker, on_err_weaker}
 use Rattle.iom_script.specs.declared.script.Script.{Script}
 use Rattle.iom_runner.specs.Text.{BeginsText, BeginsTextSoFar}
-use Rattle.iom_runner.proofs.TextLemmas.{whole_script, refused_as, named_as, no_bad_line, begins_each, of_each, writes_that}
+use Rattle.iom_runner.proofs.TextLemmas.{whole_script, refused_as, named_as, no_bad_line, begins_each, of_each, writes_that, silent_unparsed, silent_told}
 use Rattle.iom_runner.proofs.WritingLemmas.{at_err}
 use Rattle.iom_runner.proofs.runner.run.Goals as goal
 
@@ -54,3 +54,17 @@ returns-clause-so_far g c = λ failed.
     let read = IfSome_then known c.in_ok-bytes.ensures.bytes (λ input is. c.deref.ensures.value ∙ is) in
     let is = whole_script known c.deref.result.now 1048577 c.in_ok-script.script (lit< tt) read c.in_ok-script.ensures.script in
     of_each (λ (script : Script). BeginsTextSoFar script _ _) known c.in_ok-script.script is (c.tell.ensures.so_far failed)
+
+pub returns-in_err-script-clause-silent : goal.returns-in_err-script-clause-silent
+returns-in_err-script-clause-silent g c =
+    let known = g.R.Read.remaining c.args.reader.now in
+    let read = IfSome_then known c.in_ok-bytes.ensures.bytes (λ input is. c.deref.ensures.value ∙ is) in
+    let fault = err_from_is_err_and c.from_residual-in_err-script.result c.from_residual-in_err-script.ensures.1 in
+    silent_unparsed known _ c.deref.result.now 1048577 c.from_residual-in_err-script.result c.in_err-script.field-0.0 (lit< tt) read c.in_err-script.ensures.fault (fault.1 ∙ ap (λ f. Err f) fault.2)
+
+pub returns-clause-silent : goal.returns-clause-silent
+returns-clause-silent g c =
+    let known = g.R.Read.remaining c.args.reader.now in
+    let read = IfSome_then known c.in_ok-bytes.ensures.bytes (λ input is. c.deref.ensures.value ∙ is) in
+    let is = whole_script known c.deref.result.now 1048577 c.in_ok-script.script (lit< tt) read c.in_ok-script.ensures.script in
+    silent_told known _ _ c.tell.result c.in_ok-script.script is c.tell.ensures.silent

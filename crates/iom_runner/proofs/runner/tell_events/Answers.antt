@@ -1,6 +1,6 @@
 use Rattle.std.proofs.Common.{subst}
 use Rattle.std.proofs.lemmas.Result.{on_ok_weaker, on_err_weaker}
-use Rattle.iom_runner.specs.Writing.{AppendsFront}
+use Rattle.iom_runner.specs.Writing.{AppendsPart}
 use Rattle.iom_runner.proofs.RunLemmas.{begins_whole, so_far_none, told_whole, told_in_part, told_until_failure, same_if_ran, same_if_failed}
 use Rattle.iom_runner.proofs.WritingLemmas.{at_err}
 use Rattle.iom_runner.proofs.runner.tell_events.Goals as goal
@@ -8,11 +8,11 @@ use Rattle.iom_runner.proofs.runner.tell_events.Goals as goal
 pub returns-in_err-put-clause-so_far : goal.returns-in_err-put-clause-so_far
 returns-in_err-put-clause-so_far g c = λ frames levels shows.
     at_err c.from_residual.result (so_far_none frames levels c.args.events.now _ _ c.args.world.now shows c.requires.commands
-    (subst (AppendsFront (g.W.Write.contents c.args.lines.now.writer.now) (g.W.Write.contents c.put.new.self.writer.now)) c.requires.empty c.in_err-put.ensures.failed.1))
+    (subst (AppendsPart (g.W.Write.contents c.args.lines.now.writer.now) (g.W.Write.contents c.put.new.self.writer.now)) c.requires.empty c.in_err-put.ensures.failed.1))
 
 pub returns-in_err-put-clause-front : goal.returns-in_err-put-clause-front
 returns-in_err-put-clause-front g c = λ frames levels shows.
-    on_err_weaker c.from_residual.result (begins_whole frames levels c.args.events.now _ _ c.requires.events) (returns-in_err-put-clause-so_far g c frames levels shows)
+    on_err_weaker c.from_residual.result (begins_whole frames levels c.args.events.now _ _) (returns-in_err-put-clause-so_far g c frames levels shows)
 
 pub returns-in_err-run-clause-same_writer : goal.returns-in_err-run-clause-same_writer
 returns-in_err-run-clause-same_writer g c = λ frames levels shows.
@@ -24,7 +24,7 @@ returns-in_err-run-clause-so_far g c = λ frames levels shows.
 
 pub returns-in_err-run-clause-front : goal.returns-in_err-run-clause-front
 returns-in_err-run-clause-front g c = λ frames levels shows.
-    on_err_weaker c.from_residual-in_err-run.result (begins_whole frames levels c.args.events.now _ _ c.requires.events) (returns-in_err-run-clause-so_far g c frames levels shows)
+    on_err_weaker c.from_residual-in_err-run.result (begins_whole frames levels c.args.events.now _ _) (returns-in_err-run-clause-so_far g c frames levels shows)
 
 pub returns-clause-same_writer : goal.returns-clause-same_writer
 returns-clause-same_writer g c = λ frames levels shows.
@@ -36,8 +36,8 @@ returns-clause-told g c = λ frames levels shows.
 
 pub returns-clause-so_far : goal.returns-clause-so_far
 returns-clause-so_far g c = λ frames levels shows.
-    on_err_weaker c.write_out.result (told_in_part g.W.Write.contents frames levels c.args.events.now c.args.lines.now c.put.new.self c.run.new.sink c.write_out.new.self _ c.run.new.self c.requires.empty c.in_ok-put.ensures.taken shows c.requires.commands (c.in_ok-run.ensures.ran _ shows)) c.write_out.ensures.front
+    on_err_weaker c.write_out.result (told_in_part g.W.Write.contents frames levels c.args.events.now c.args.lines.now c.put.new.self c.run.new.sink c.write_out.new.self _ c.run.new.self c.requires.empty c.in_ok-put.ensures.taken shows c.requires.commands (c.in_ok-run.ensures.ran _ shows)) c.write_out.ensures.part
 
 pub returns-clause-front : goal.returns-clause-front
 returns-clause-front g c = λ frames levels shows.
-    on_err_weaker c.write_out.result (begins_whole frames levels c.args.events.now _ _ c.requires.events) (returns-clause-so_far g c frames levels shows)
+    on_err_weaker c.write_out.result (begins_whole frames levels c.args.events.now _ _) (returns-clause-so_far g c frames levels shows)

@@ -1,3 +1,4 @@
+-- A path has one end.
 use Rattle.iom_stage_walk.proofs.Exact.{reached_or_stopped, one_fault}
 use Rattle.iom_stage_walk.proofs.laws.one_end.Goals as goal
 

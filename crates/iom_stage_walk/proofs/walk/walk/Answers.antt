@@ -1,3 +1,4 @@
+-- The loop that goes down the levels keeps where the path leads.
 use Rattle.std.proofs.Common.{drop}
 use Rattle.iom_stage_walk.specs.Paths.{Reaches, Stops}
 use Rattle.iom_stage_walk.proofs.Steps.{reaches_down, stops_down, leaf_ok, leaf_err, ok_along, err_along}
@@ -23,7 +24,6 @@ pub loop-k-preserved : goal.loop-k-preserved
 loop-k-preserved g c =
     let e = g.T.Tables.entries c.args.tables.now in
     record {
-      range = c.in-Pointer.ensures.bounded;
       reach = λ frame given h. c.loop-k.invariant.reach frame given (reaches_down e c.args.kind c.loop-k.table c.loop-k.k 0 c.args.indices.now c.loop-k-test.true c.in-Pointer.next frame given c.in-Pointer.ensures.value h);
       stop = λ cause h. c.loop-k.invariant.stop cause (stops_down e c.args.kind c.loop-k.table c.loop-k.k 0 c.args.indices.now c.loop-k-test.true c.in-Pointer.next cause c.in-Pointer.ensures.value h);
     }

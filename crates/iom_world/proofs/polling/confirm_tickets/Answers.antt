@@ -1,4 +1,4 @@
-use Rattle.std.proofs.Common.{◌≡◌, ◌+◌, ◌-◌, ◌∙◌, suc, refl, subst, sym, arith}
+use Rattle.std.proofs.Common.{◌≡◌, ◌+◌, ◌-◌, suc, subst, sym, arith}
 use Rattle.iom_ledger.specs.Shown.{Agrees}
 use Rattle.iom_machine.specs.Tickets.{confirmed_from}
 use Rattle.iom_world.proofs.ConfirmLemmas.{confirms_none, confirms_more, agrees_more}
@@ -10,7 +10,6 @@ loop-ticket-init c =
     record {
       agrees = λ h agrees. subst (λ n. Agrees c.args.ledger.now (confirmed_from c.args.first n h)) (sym none) agrees;
       confirmed = confirms_none c.args.ledger.now c.args.first (c.args.first - c.args.first) none;
-      pool = λ f. refl;
     }
 
 pub loop-ticket-preserved : goal.loop-ticket-preserved
@@ -22,7 +21,6 @@ loop-ticket-preserved c =
     record {
       agrees = agrees_more c.args.ledger.now c.loop-ticket.ledger c.confirm.new.self first (ticket - first) ticket (ticket + 1 - first) next more c.loop-ticket.invariant.agrees c.confirm.ensures.agrees;
       confirmed = confirms_more c.args.ledger.now c.loop-ticket.ledger c.confirm.new.self first (ticket - first) ticket (ticket + 1 - first) next more c.loop-ticket.invariant.confirmed c.confirm.ensures.confirmed;
-      pool = λ f. c.confirm.ensures.confirmed.pool f ∙ c.loop-ticket.invariant.pool f;
     }
 
 pub returns-2-clause-confirmed : goal.returns-2-clause-confirmed
@@ -32,6 +30,3 @@ returns-2-clause-confirmed c =
     let next : ticket ≡ first + (ticket - first) = omega (arith, c.loop-ticket.auto.ticket) in
     let more : suc (c.args.last - first) ≡ suc (ticket - first) = omega arith in
     confirms_more c.args.ledger.now c.loop-ticket.ledger c.confirm.new.self first (ticket - first) ticket (suc (c.args.last - first)) next more c.loop-ticket.invariant.confirmed c.confirm.ensures.confirmed
-
-pub returns-2-clause-pool : goal.returns-2-clause-pool
-returns-2-clause-pool c = λ f. c.confirm.ensures.confirmed.pool f ∙ c.loop-ticket.invariant.pool f

@@ -1,5 +1,4 @@
 use Rattle.std.proofs.Common.{◌-◌}
-use Rattle.iom_ledger.specs.Changes.{SamePool}
 use Rattle.iom_ledger.specs.History.{History}
 use Rattle.iom_ledger.specs.Shown.{Agrees}
 use Rattle.iom_machine.specs.Tickets.{confirmed_from}
@@ -12,5 +11,4 @@ invariant-loop-ticket l =
     record {
       agrees : (h : History) → Agrees l.fn.ledger h → Agrees l.ledger (confirmed_from l.first (l.ticket - l.first) h);
       confirmed : ConfirmsFrom l.fn.ledger l.ledger l.first (l.ticket - l.first);
-      pool : SamePool l.fn.ledger l.ledger;
     }

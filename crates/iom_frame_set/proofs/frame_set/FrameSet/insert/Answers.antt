@@ -1,4 +1,4 @@
-use Rattle.iom_frame_set.proofs.SetLemmas.{IsSummary-inserted}
+use Rattle.iom_frame_set.proofs.SummaryLemmas.{IsSummary-inserted}
 use Rattle.iom_frame_set.proofs.frame_set.FrameSet.insert.Goals as goal
 
 pub invariant_of-self : goal.invariant_of-self

@@ -1,6 +1,7 @@
 use Rattle.std.proofs.Common.{refl, ap, ◌∙◌, arith}
 use Rattle.iom_frame_set.specs.Sets.{has}
-use Rattle.iom_frame_set.proofs.SetLemmas.{HasSame-words, IsSummary-same, room_for_each}
+use Rattle.iom_frame_set.proofs.SetLemmas.{HasSame-words}
+use Rattle.iom_frame_set.proofs.SummaryLemmas.{IsSummary-same, room_for_each}
 use Rattle.iom_frame_set.proofs.frame_set.FrameSet.make_room.Goals as goal
 
 pub invariant_of-self : goal.invariant_of-self

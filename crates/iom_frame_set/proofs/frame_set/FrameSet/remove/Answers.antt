@@ -1,5 +1,5 @@
 use Rattle.std.proofs.Common.{arith}
-use Rattle.iom_frame_set.proofs.SetLemmas.{IsSummary-left}
+use Rattle.iom_frame_set.proofs.SummaryLemmas.{IsSummary-left}
 use Rattle.iom_frame_set.proofs.frame_set.FrameSet.remove.Goals as goal
 
 pub invariant_of-self-else-word-eq0 : goal.invariant_of-self-else-word-eq0

@@ -1,3 +1,4 @@
+-- How many are in flight is how many descriptions the ring has.
 use Rattle.std.proofs.Common.{◌∙◌, length, sym, ap}
 use Rattle.iom_inflight.specs.Flights.{Flight}
 use Rattle.iom_inflight.proofs.FlightLemmas.{length-flights_of}

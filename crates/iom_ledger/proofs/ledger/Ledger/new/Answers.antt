@@ -11,4 +11,4 @@ pub invariant_of-result-clause-counted : goal.invariant_of-result-clause-counted
 invariant_of-result-clause-counted c =
     AreCounted-none c.new.result c.in_ok-new.field-0.counts.items
     (λ d a. ap (λ (es : List (ℕ × Pages)). option_and_then (λ pages. get nat_eq pages a) (lookup (nat_eq d) es)) c.new.ensures.empty)
-    (λ f. ap (λ counts. count_of counts f) c.in_ok-new.ensures.counts ∙ count_of-replicate c.args.frames f)
+    (λ f. ap (λ counts. count_of counts f) c.in_ok-new.ensures ∙ count_of-replicate c.args.frames f)

@@ -2,6 +2,7 @@ use Rattle.std.proofs.Common.{refl, ap, [], ◌∷◌, ◌++◌, Some, ◌∙◌
 use Rattle.std.proofs.lemmas.Bool.{and_from, eq-eqb}
 use Rattle.iom_ledger.specs.declared.row.Pending.{Pending}
 use Rattle.iom_ledger.specs.Counts.{names_frame}
+use Rattle.iom_ledger.specs.Ring.{is_ascending}
 use Rattle.iom_ledger.specs.Rows.{row_at, is_named, ticket_of}
 use Rattle.iom_ledger.proofs.PendingLemmas.{named_released}
 use Rattle.iom_ledger.proofs.CountLemmas.{AreCounted-kept, names-released}
@@ -21,3 +22,6 @@ invariant_of-self-clause-named c = λ d a.
     ∙ ap (λ row. is_named (old.pending.items ++ release ∷ []) d a (ticket_of row)) (c.release_in.ensures d a)
     ∙ named_released old.pending.items release d a ((c.args.device == d) && (c.args.page == a)) (row_at old.devices d a)
     (λ same. and_from (c.args.ticket == c.args.ticket) ((c.args.device == d) && (c.args.page == a)) (eq-eqb c.args.ticket c.args.ticket refl) same) (old.named d a)
+
+pub invariant_of-self-clause-ordered : goal.invariant_of-self-clause-ordered
+invariant_of-self-clause-ordered c ascends = ap is_ascending c.note.ensures.items ∙ c.still_ascend-self.ensures ascends c.args.self.now.ordered

@@ -6,7 +6,6 @@ pub returns-in_ok-push_front-in-Done : goal.returns-in_ok-push_front-in-Done
 returns-in_ok-push_front-in-Done c = rw c.in-Done.is
     (granted_as c.args.taken.now c.args.state c.args.id c.args.page c.args.frame c.args.rights _ _
     (sym c.grant_refusal-first.ensures ∙ none_if_not_some _ (sym c.is_some.ensures ∙ c.if-is_some.false))
-    (c.is_grantable.ensures.0 c.if-not-is_grantable.false)
     (c.are_free_besides.ensures.0 c.if-not-are_free_besides.false)
-    c.in_ok-push_front-in-Done.ensures.ok
+    (rw c.rights.ensures.value at c.in_ok-push_front-in-Done.ensures.ok)
     c.reserve.ensures)

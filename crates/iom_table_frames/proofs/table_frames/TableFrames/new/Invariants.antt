@@ -1,20 +1,16 @@
-use Rattle.std.proofs.Common.{◌≡◌, ◌-◌, ◌++◌, length, None, Some, replicate}
-use Rattle.iom_ledger.specs.Changes.{ShowsSame}
-use Rattle.iom_ledger.specs.History.{History}
-use Rattle.iom_ledger.specs.Shown.{Agrees}
-use Rattle.iom_table_frames.specs.Marks.{OffersUnreserved}
+use Rattle.std.proofs.Common.{◌≡◌, ◌<◌, ◌-◌, ◌++◌, ℕ, None, Some, nat_lt, replicate}
+use Rattle.iom_frame_set.specs.Sets.{has, room}
 use Rattle.iom_base.specs.declared.owner.Owner.TheVariants.{System}
 use Rattle.iom_table_frames.proofs.table_frames.TableFrames.new.Given as goal
 
-abbrev pub invariant-loop-free : goal.invariant-loop-free
-invariant-loop-free l = l.marks.items ≡ replicate l.free None
-
--- so many of the last four are the system's, and have left the pool
-abbrev pub invariant-loop-fixed : goal.invariant-loop-fixed
-invariant-loop-fixed l = record {
-  marks : l.marks.items ≡ replicate (l.frames - 4) None ++ (replicate l.fixed (Some System) ++ replicate (4 - l.fixed) None);
-  long : length l.marks.items ≡ l.frames;
-  offers : OffersUnreserved l.marks.items l.ledger;
-  shows : ShowsSame l.fn.ledger l.ledger;
-  agrees : (h : History) → Agrees l.fn.ledger h → Agrees l.ledger h;
+-- so many frames have no owner, and are in the set
+abbrev pub invariant-loop-frame : goal.invariant-loop-frame
+invariant-loop-frame l = record {
+  marks : l.marks.items ≡ replicate l.frame None;
+  unreserved : (f : ℕ) → has l.unreserved f ≡ nat_lt f l.frame;
+  roomy : l.frames < room l.unreserved;
 }
+
+-- then so many are the system's
+abbrev pub invariant-loop-fixed : goal.invariant-loop-fixed
+invariant-loop-fixed l = l.marks.items ≡ replicate (l.frames - 4) None ++ replicate l.fixed (Some System)

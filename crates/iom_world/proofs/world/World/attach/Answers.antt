@@ -22,9 +22,9 @@ use Rattle.iom_table_frames.specs.Marks.{NoneIsFree, IsHighestFree}
 use Rattle.iom_world.proofs.FreeLemmas.{free_in_machine, free_in_world}
 use Rattle.iom_world.specs.declared.device.Device.{Device}
 use Rattle.iom_world.specs.Places.{IsPlaceOf}
-use Rattle.iom_table_frames.proofs.MarkLemmas.{OffersUnreserved-reserved}
-use Rattle.iom_world.proofs.GrantLemmas.{sound_unchanged, tables_unchanged}
-use Rattle.iom_world.proofs.AttachLemmas.{sound_attached, tables_attached, rooted, unmarked, owned_differs, none_free}
+use Rattle.iom_world.specs.Roots.{IsRootOf}
+use Rattle.iom_world.proofs.RootLemmas.{roots_attached, root_attached}
+use Rattle.iom_world.proofs.AttachLemmas.{sound_attached, tables_attached, rooted, unmarked, none_free}
 use Rattle.iom_world.proofs.ListLemmas.{get_within, read_is, get_set_same, get_set_other}
 use Rattle.iom_world.proofs.ReasonLemmas.{attach_absent, attach_again, attach_wide, attach_may}
 use Rattle.iom_world.proofs.RefusalLemmas.{refused_first, refused_else, some_and}
@@ -96,25 +96,31 @@ returns-then-is_too_wide-clause-step c = λ state shows.
       record { ledger = shows.ledger; frames = shows.frames; devices = shows.devices; given = shows.given; confirmed = shows.confirmed; none_later = shows.none_later; levels = shows.levels },
     )
 
-pub returns-in_default-highest_free-clause-step : goal.returns-in_default-highest_free-clause-step
-returns-in_default-highest_free-clause-step c = λ state shows.
+pub take-requires : goal.take-requires
+take-requires c = c.args.self.now.sound.marked
+
+pub returns-in_default-take-clause-step : goal.returns-in_default-take-clause-step
+returns-in_default-take-clause-step c = λ state shows.
     let world = c.args.self.now in
     let place : IsPlaceOf world.devices.items c.args.id c.in-Some.place = c.in-Some.ensures in
     let same : c.index.result.now ≡ place.0 = read_is world.devices.items c.in-Some.place place.0 c.index.result.now place.1 c.index.ensures in
     let detached : place.0.root ≡ None = ap (λ (d : Device). d.root) (sym same) ∙ missing c.index.result.now.root (sym c.is_some.ensures ∙ c.if-is_some.false) in
     let none_applies = attach_may state world.devices.items c.args.id c.in-Some.place world.levels shows.devices shows.levels place detached (leb-false (id_limit world.levels) c.args.id (sym c.is_too_wide.ensures ∙ c.if-is_too_wide.false)) in
-    let none : NoneIsFree world.marks world.ledger None 0 c.frames-frames.result = c.in_default-highest_free.ensures in (
+    let none : NoneIsFree world.marks world.ledger None 0 (length world.marks) = c.in_default-take.ensures.found in (
       [],
       state,
       (
         refused_else (attach_reasons state c.args.id false) (MayRefuseAttach state First) NoFrames none_applies
             (λ numbers distinct free. none_free numbers (λ n is_free.
             let known = free_in_world world.memory world.marks world.ledger state None n shows.ledger shows.frames (no_name n) is_free in
-            none n (omega arith) (subst (λ m. n < m) (sym c.frames-frames.ensures) known.0) known.1) free),
+            none n (omega arith) (subst (λ m. n < m) (sym world.sound.marked) known.0) known.1) free),
         refl,
       ),
-      record { ledger = shows.ledger; frames = shows.frames; devices = shows.devices; given = shows.given; confirmed = shows.confirmed; none_later = shows.none_later; levels = shows.levels },
+      record { ledger = shows.ledger; frames = rw (c.in_default-take.ensures.marks, c.in_default-take.ensures.memory) shows.frames; devices = shows.devices; given = shows.given; confirmed = shows.confirmed; none_later = shows.none_later; levels = shows.levels },
     )
+
+pub invariant_of-self : goal.invariant_of-self
+invariant_of-self c = let world = c.args.self.now in rw (c.in_default-take.ensures.marks, c.in_default-take.ensures.memory) record { sound = world.sound; tables = world.tables }
 
 pub invariant_of-self-2 : goal.invariant_of-self-2
 invariant_of-self-2 c =
@@ -124,23 +130,19 @@ invariant_of-self-2 c =
     let same : c.index.result.now ≡ place.0 = read_is world.devices.items c.in-Some.place place.0 c.index.result.now place.1 c.index.ensures in
     let same_device : device ≡ place.0 = read_is world.devices.items c.in-Some.place place.0 device place.1 c.index_mut-device.ensures.value in
     let detached : place.0.root ≡ None = ap (λ (d : Device). d.root) (sym same) ∙ missing c.index.result.now.root (sym c.is_some.ensures ∙ c.if-is_some.false) in
-    let root = c.in-Some-highest_free.root in
-    let found : IsHighestFree world.marks world.ledger None c.frames-frames.result root = c.in-Some-highest_free.ensures in
-    let inside : root < length world.memory = subst (λ m. root < m) c.frames-frames.ensures found.below in
-    let marked : root < length world.marks = subst (λ m. root < m) (sym world.sound.marked) inside in
+    let root = c.in-Some-take.root in
+    let found : IsHighestFree world.marks world.ledger None (length world.marks) root = c.in-Some-take.ensures.found in
+    let marked : root < length world.marks = found.below in
+    let inside : root < length world.memory = subst (λ m. root < m) world.sound.marked marked in
     let at : slice_get world.devices.items c.in-Some.place ≡ Some device = place.1 ∙ ap Some (sym same_device) in
     let own : device.id ≡ c.args.id = ap (λ (d : Device). d.id) same_device ∙ place.2 in
-    let mark : c.reserve.new.self ≡ slice_set world.marks root (Some (OneDevice device.id)) = c.reserve.ensures.mark ∙ ap (λ i. slice_set world.marks root (Some (OneDevice i))) (sym own) in
+    let mark : c.take.new.self ≡ slice_set world.marks root (Some (OneDevice device.id)) = c.in-Some-take.ensures.marks ∙ ap (λ i. slice_set world.marks root (Some (OneDevice i))) (sym own) in
     let none : (page : ℕ) → held_in world.ledger device.id page ≡ None = (world.sound.each c.in-Some.place device at).detached (ap (λ (d : Device). d.root) same_device ∙ detached) in
-    let shown = c.reserve.ensures.ledger.shown in
-    rw (mark, c.reserve.ensures.zero) record {
-      sound = sound_unchanged _ _ world.ledger c.reserve.new.ledger _ world.commands world.events shown
-          (sound_attached world.memory (slice_set world.memory root zeroed) world.marks world.ledger world.devices.items world.commands world.events c.in-Some.place root device (OneDevice device.id)
-          world.sound at found.free.ungranted (length-set world.memory root zeroed));
-      tables = tables_unchanged _ _ world.ledger c.reserve.new.ledger _ shown
-          (tables_attached world.memory (slice_set world.memory root zeroed) world.marks world.ledger world.devices.items c.in-Some.place root device
-          world.tables at marked (unmarked world.marks root marked found.free.unmarked) (λ n other. get_set_other world.memory root n zeroed other) (get_set_same world.memory root zeroed inside) none);
-      offered = OffersUnreserved-reserved world.marks (OneDevice device.id) world.ledger c.reserve.new.ledger root marked c.reserve.ensures.ledger world.offered;
+    rw (mark, c.in-Some-take.ensures.memory) record {
+      sound = sound_attached world.memory (slice_set world.memory root zeroed) world.marks world.ledger world.devices.items world.commands world.events c.in-Some.place root device (OneDevice device.id)
+          world.sound at found.free.ungranted (length-set world.memory root zeroed);
+      tables = tables_attached world.memory (slice_set world.memory root zeroed) world.marks world.ledger world.devices.items c.in-Some.place root device
+          world.tables at marked (unmarked world.marks root marked found.free.unmarked) (λ n other. get_set_other world.memory root n zeroed other) (get_set_same world.memory root zeroed inside) none;
     }
 
 pub returns-clause-step : goal.returns-clause-step
@@ -152,9 +154,9 @@ returns-clause-step c = λ state shows.
     let same_device : device ≡ place.0 = read_is world.devices.items c.in-Some.place place.0 device place.1 c.index_mut-device.ensures.value in
     let detached : place.0.root ≡ None = ap (λ (d : Device). d.root) (sym same) ∙ missing c.index.result.now.root (sym c.is_some.ensures ∙ c.if-is_some.false) in
     let none_applies = attach_may state world.devices.items c.args.id c.in-Some.place world.levels shows.devices shows.levels place detached (leb-false (id_limit world.levels) c.args.id (sym c.is_too_wide.ensures ∙ c.if-is_too_wide.false)) in
-    let root = c.in-Some-highest_free.root in
-    let found : IsHighestFree world.marks world.ledger None c.frames-frames.result root = c.in-Some-highest_free.ensures in
-    let inside : root < length world.memory = subst (λ m. root < m) c.frames-frames.ensures found.below in
+    let root = c.in-Some-take.root in
+    let found : IsHighestFree world.marks world.ledger None (length world.marks) root = c.in-Some-take.ensures.found in
+    let inside : root < length world.memory = subst (λ m. root < m) world.sound.marked found.below in
     let free = free_in_machine world.memory world.marks world.ledger state root shows.ledger shows.frames inside found.free.unmarked found.free.ungranted in
     let shown : device_of state c.args.id ≡ Some (shown_device place.0) =
     ap (λ (ds : List machine.Device). find (λ d. d.id == c.args.id) ds) shows.devices ∙ place_shown world.devices.items c.args.id c.in-Some.place place in
@@ -170,8 +172,8 @@ returns-clause-step c = λ state shows.
             (device_of state c.args.id) (shown_device place.0) shown refl,
       ),
       record {
-        ledger = c.reserve.ensures.agrees state.history shows.ledger;
-        frames = rw (c.reserve.ensures.mark, c.reserve.ensures.zero) frames;
+        ledger = shows.ledger;
+        frames = rw (c.in-Some-take.ensures.marks, c.in-Some-take.ensures.memory) frames;
         devices = ap (λ (ds : List machine.Device). replaced_device ds place.0.id (shown_device (rooted place.0 root))) shows.devices
             ∙ ap (λ i. replaced_device (shown_devices world.devices.items) i (shown_device (rooted place.0 root))) place.2
             ∙ place_replaced world.devices.items c.args.id c.in-Some.place (rooted place.0 root) place
@@ -183,11 +185,29 @@ returns-clause-step c = λ state shows.
       },
     )
 
-pub returns-clause-others : goal.returns-clause-others
-returns-clause-others c = λ frame owner at.
+pub returns-clause-root : goal.returns-clause-root
+returns-clause-root c = λ done.
     let world = c.args.self.now in
-    let root = c.in-Some-highest_free.root in
-    let found : IsHighestFree world.marks world.ledger None c.frames-frames.result root = c.in-Some-highest_free.ensures in
-    let inside : root < length world.memory = subst (λ m. root < m) c.frames-frames.ensures found.below in
-    let marked : root < length world.marks = subst (λ m. root < m) (sym world.sound.marked) inside in
-    rw c.reserve.ensures.zero (get_set_other world.memory root frame zeroed (owned_differs world.marks frame root owner at (unmarked world.marks root marked found.free.unmarked)))
+    let place : IsPlaceOf world.devices.items c.args.id c.in-Some.place = c.in-Some.ensures in
+    let device = c.index_mut-device.result.now in
+    let same_device : device ≡ place.0 = read_is world.devices.items c.in-Some.place place.0 device place.1 c.index_mut-device.ensures.value in
+    let at : slice_get world.devices.items c.in-Some.place ≡ Some device = place.1 ∙ ap Some (sym same_device) in
+    let own : device.id ≡ c.args.id = ap (λ (d : Device). d.id) same_device ∙ place.2 in
+    let root = c.in-Some-take.root in
+    let found : IsHighestFree world.marks world.ledger None (length world.marks) root = c.in-Some-take.ensures.found in (
+      root,
+      subst (λ n. IsHighestFree world.marks world.ledger None n root) world.sound.marked found,
+      c.in-Some-take.ensures.marks,
+      c.in-Some-take.ensures.memory,
+      subst (λ i. IsRootOf (slice_set world.devices.items c.in-Some.place (rooted device root)) i root) own (root_attached world.devices.items c.in-Some.place root device at),
+    )
+
+pub returns-clause-roots : goal.returns-clause-roots
+returns-clause-roots c = λ other differs.
+    let world = c.args.self.now in
+    let place : IsPlaceOf world.devices.items c.args.id c.in-Some.place = c.in-Some.ensures in
+    let device = c.index_mut-device.result.now in
+    let same_device : device ≡ place.0 = read_is world.devices.items c.in-Some.place place.0 device place.1 c.index_mut-device.ensures.value in
+    let at : slice_get world.devices.items c.in-Some.place ≡ Some device = place.1 ∙ ap Some (sym same_device) in
+    let own : device.id ≡ c.args.id = ap (λ (d : Device). d.id) same_device ∙ place.2 in
+    roots_attached world.devices.items c.in-Some.place c.in-Some-take.root device at other (λ same. differs (same ∙ own))

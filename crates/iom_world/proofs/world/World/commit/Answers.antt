@@ -1,11 +1,10 @@
-use Rattle.std.proofs.Common.{◌≡◌, ℕ, ◌∙◌, slice_get, option_map, ap, arith}
+use Rattle.std.proofs.Common.{◌≡◌, ℕ, ◌∙◌, List, slice_get, option_map, ap, arith}
 use Rattle.arrayvec.specs.ArrayVec.{ArrayVec}
 use Rattle.iom_base.specs.declared.access.AccessKind.TheVariants.{Read, Write}
 use Rattle.iom_ledger.specs.declared.refusal.Refusal.{Refusal}
 use Rattle.iom_machine.specs.declared.outcome.Outcome.{Outcome}
 use Rattle.iom_machine.specs.declared.outcome.Outcome.TheVariants as outcome
-use Rattle.iom_world.specs.Answers.{outcome_of}
-use Rattle.iom_world.proofs.AnswerLemmas.{keeps_tables}
+use Rattle.iom_world.specs.Told.{outcome_of}
 use Rattle.iom_world.proofs.CommitLemmas.{commits_nothing, oldest_at}
 use Rattle.iom_inflight.specs.Flights.{header_of}
 use Rattle.iom_world.specs.declared.device.Device.{Device}
@@ -63,4 +62,4 @@ pub returns-in-Write-clause-refused : goal.returns-in-Write-clause-refused
 returns-in-Write-clause-refused c = λ why same. absurd (not_a_write _ _ why (c.tell-in-Write.ensures ∙ ap outcome_of c.commit_write.ensures.wrote.1) same)
 
 pub returns-in-Read-clause-kept : goal.returns-in-Read-clause-kept
-returns-in-Read-clause-kept c = keeps_tables c.args.self.now c.commit_read.new.self c.commit_read.ensures.marks c.commit_read.ensures.memory
+returns-in-Read-clause-kept c = record { marks = c.commit_read.ensures.marks; bytes = λ frame owner at. ap (λ (bytes : List (List ℕ)). slice_get bytes frame) c.commit_read.ensures.memory }

@@ -6,7 +6,8 @@ use Rattle.iom_world.specs.declared.device.Device.{Device}
 use Rattle.iom_world.specs.Devices.{shown_device}
 use Rattle.iom_world.proofs.ListLemmas.{get_within}
 use Rattle.iom_world.proofs.ReplaceLemmas.{same_item, same_place}
-use Rattle.iom_world.proofs.CommitLemmas.{may_be_made, some_by_map, oldest_is_read, without_oldest, sound_made, tables_made, devices_made, commits_read}
+use Rattle.iom_world.proofs.RootLemmas.{roots_changed}
+use Rattle.iom_world.proofs.CommitLemmas.{may_be_made, some_by_map, oldest_is_read, without_oldest, still_made, sound_made, tables_made, devices_made, commits_read}
 use Rattle.iom_machine.specs.Machine.{with_oldest_made}
 use Rattle.iom_world.proofs.world.World.commit_read.Goals as goal
 
@@ -46,7 +47,6 @@ invariant_of-self c =
     record {
       sound = sound_made world.memory world.marks world.ledger world.devices.items world.commands world.events c.args.place c.requires.0 c.take_read.new.self world.sound c.requires.2 is;
       tables = tables_made world.memory world.marks world.ledger world.devices.items c.args.place c.requires.0 c.take_read.new.self world.tables c.requires.2 is;
-      offered = world.offered;
     }
 
 pub returns-clause-step : goal.returns-clause-step
@@ -73,3 +73,9 @@ returns-clause-step c = λ state id shows is.
         levels = shows.levels;
       },
     )
+
+pub returns-clause-roots : goal.returns-clause-roots
+returns-clause-roots c = λ other.
+    let world = c.args.self.now in
+    let is = c.take_read.ensures ∙ ap without_oldest (same_item world.devices.items c.args.place c.index_mut.result.now c.requires.0 c.index_mut.ensures.value c.requires.2) in
+    roots_changed world.devices.items c.args.place c.requires.0 c.take_read.new.self c.requires.2 (still_made c.requires.0 c.take_read.new.self is) other

@@ -11,7 +11,8 @@ use Rattle.iom_world.specs.Frames.{ShowsFrames}
 use Rattle.iom_world.specs.Oldest.{OldestWritesSoMany}
 use Rattle.iom_world.proofs.ListLemmas.{get_within}
 use Rattle.iom_world.proofs.ReplaceLemmas.{same_item, same_place}
-use Rattle.iom_world.proofs.CommitLemmas.{may_be_made, some_by_map, oldest_writes, without_oldest, sound_made, tables_made, devices_made, sound_stored, tables_stored, frames_stored, known_of_some, commits_write, owned_stays}
+use Rattle.iom_world.proofs.RootLemmas.{roots_changed}
+use Rattle.iom_world.proofs.CommitLemmas.{may_be_made, some_by_map, oldest_writes, without_oldest, still_made, sound_made, tables_made, devices_made, sound_stored, tables_stored, frames_stored, known_of_some, commits_write, owned_stays}
 use Rattle.iom_world.proofs.world.World.commit_write.Goals as goal
 
 pub unwrap-frame-requires : goal.unwrap-frame-requires
@@ -47,7 +48,6 @@ invariant_of-self c =
           (sound_made world.memory world.marks world.ledger world.devices.items world.commands world.events c.args.place c.requires.0 c.take_write.new.self world.sound c.requires.2 is);
       tables = tables_stored world.memory world.marks world.ledger (slice_set world.devices.items c.args.place c.take_write.new.self) c.args.access.frame c.take_write.new.frame
           (tables_made world.memory world.marks world.ledger world.devices.items c.args.place c.requires.0 c.take_write.new.self world.tables c.requires.2 is) free;
-      offered = world.offered;
     }
 
 pub returns-clause-step : goal.returns-clause-step
@@ -85,3 +85,9 @@ returns-clause-kept c =
     let made = may_be_made world.memory world.marks world.ledger world.devices.items world.commands world.events c.args.place c.requires.0 c.requires.1 world.sound c.requires.2 c.requires.3 in
     let free = ap (λ (a : AccessHeader). slice_get world.marks a.frame) c.requires.4 ∙ made.free in
     record { marks = refl; bytes = λ frame owner at. owned_stays world.memory world.marks c.args.access.frame frame c.take_write.new.frame owner free at }
+
+pub returns-clause-roots : goal.returns-clause-roots
+returns-clause-roots c = λ other.
+    let world = c.args.self.now in
+    let is = c.take_write.ensures.after ∙ ap without_oldest (same_item world.devices.items c.args.place c.index_mut.result.now c.requires.0 c.index_mut.ensures.value c.requires.2) in
+    roots_changed world.devices.items c.args.place c.requires.0 c.take_write.new.self c.requires.2 (still_made c.requires.0 c.take_write.new.self is) other

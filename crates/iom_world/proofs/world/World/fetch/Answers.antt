@@ -8,7 +8,6 @@ invariant_of-self c =
     record {
       sound = sound_fetched world.memory world.marks world.ledger world.devices.items world.commands c.fetch.new.self world.events _ _ world.sound c.is_any_in_flight-in_flight.ensures c.fetch.ensures;
       tables = world.tables;
-      offered = world.offered;
     }
 
 pub returns-clause-step : goal.returns-clause-step

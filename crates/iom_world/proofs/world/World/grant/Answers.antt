@@ -1,22 +1,27 @@
-use Rattle.std.proofs.Common.{◌≡◌, ◌≢◌, ◌/◌, ◌∙◌, ℕ, List, [], ◌∷◌, true, false, Option, Some, None, Result, Ok, Err, OnOk, OnErr, get_or, All, refl, sym, ap, subst, arith}
+use Rattle.std.proofs.Common.{◌≡◌, ◌≢◌, ◌∙◌, ℕ, List, [], ◌∷◌, true, false, Option, Some, None, Result, Ok, Err, OnOk, OnErr, get_or, slice_get, All, refl, sym, ap, subst, arith}
 use Rattle.std.specs.Result.{is_err}
 use Rattle.std.proofs.lemmas.Bool.{false≢true}
+use Rattle.iom_base.specs.GrantRights.{rights_of}
 use Rattle.iom_ledger.specs.declared.entry.HistoryEntry.TheVariants as entry
-use Rattle.iom_ledger.specs.declared.refusal.Refusal.TheVariants.{NoFrames}
+use Rattle.iom_ledger.specs.declared.refusal.Refusal.{Refusal}
+use Rattle.iom_ledger.specs.declared.refusal.Refusal.TheVariants.{Memory, NoFrames}
 use Rattle.iom_base.specs.declared.owner.Owner.TheVariants as machine
 use Rattle.iom_machine.specs.Frames.{IsFree, reserved_for}
 use Rattle.iom_machine.specs.Refusals.{grant_reasons, MayRefuseGrant}
-use Rattle.iom_phys_mem.specs.Words.{byte_at}
 use Rattle.iom_page_table.specs.declared.leaf.PageLeaf.{PageLeaf}
-use Rattle.iom_page_table.specs.Sv39.{FillsEntry}
+use Rattle.iom_page_table.specs.Sv39.{missing_for}
 use Rattle.iom_base.specs.declared.owner.Owner.{Owner}
 use Rattle.iom_base.specs.declared.owner.Owner.TheVariants.{OneDevice}
-use Rattle.iom_table_frames.specs.Marks.{OffersUnreserved}
-use Rattle.iom_world.specs.Admission.{marked_for, cleared}
+use Rattle.iom_world.specs.Admission.{AreChosen, TooFewAreFree, LacksTables, granted_leaf, marked_for, cleared}
+use Rattle.iom_world.specs.declared.told.Told.TheVariants as says
+use Rattle.iom_world.specs.declared.device.Device.{Device}
+use Rattle.iom_world.specs.Parts.{Parts, parts_of}
+use Rattle.iom_world.specs.Roots.{IsRootOf}
+use Rattle.iom_world.proofs.ChoiceLemmas.{enough_are_free}
 use Rattle.iom_world.proofs.FrameLemmas.{shows_kept}
 use Rattle.iom_world.proofs.FreeLemmas.{free_in_machine, free_in_world}
-use Rattle.iom_world.proofs.GrantLemmas.{sound_unchanged, tables_unchanged, sound_granted}
-use Rattle.iom_world.proofs.GrantTables.{missing_two, may_be_mapped, IsMapped, mapped_others, kept_others, kept_unfilled, tables_granted}
+use Rattle.iom_world.proofs.GrantLemmas.{one_device, sound_unchanged, tables_unchanged, sound_granted}
+use Rattle.iom_world.proofs.GrantTables.{missing_two, may_be_mapped, IsMapped, mapped_is, mapped_others, kept_others, tables_granted}
 use Rattle.iom_world.proofs.MarkLemmas.{length-cleared, shows_all_reserved}
 use Rattle.iom_world.proofs.RefusalLemmas.{refused_else}
 use Rattle.iom_world.proofs.ReleaseTables.{tables_of_root}
@@ -68,11 +73,9 @@ pub invariant_of-self : goal.invariant_of-self
 invariant_of-self c =
     let world = c.args.self.now in
     let same = err_then c.grant.result (sym c.is_err.ensures.value ∙ c.if-is_err.true) c.grant.ensures.refused in
-    let shown = same.shown in
     record {
-      sound = sound_unchanged world.memory world.marks world.ledger c.grant.new.self world.devices.items world.commands world.events shown world.sound;
-      tables = tables_unchanged world.memory world.marks world.ledger c.grant.new.self world.devices.items shown world.tables;
-      offered = λ f. same.pool f ∙ world.offered f;
+      sound = sound_unchanged world.memory world.marks world.ledger c.grant.new.self world.devices.items world.commands world.events same world.sound;
+      tables = tables_unchanged world.memory world.marks world.ledger c.grant.new.self world.devices.items same world.tables;
     }
 
 pub map-requires-clause-tree : goal.map-requires-clause-tree
@@ -111,7 +114,7 @@ pub invariant_of-self-2 : goal.invariant_of-self-2
 invariant_of-self-2 c =
     let world = c.args.self.now in
     let tables = c.in-Some.tables.items in
-    let leaf : PageLeaf = record { frame = c.args.frame; rights = c.args.rights } in
+    let leaf : PageLeaf = record { frame = c.args.frame; rights = c.rights-rights.result } in
     let mapped = mapped_as world.memory c.reserve_all.new.memory c.map.new.memory c.in-Ok.root c.args.page leaf c.as_slice.result.now c.as_slice-2.result.now tables
     c.reserve_all.ensures.memory c.as_slice.ensures.value c.as_slice-2.ensures.value record {
       tree = c.map.ensures.tree;
@@ -124,21 +127,17 @@ invariant_of-self-2 c =
     let root = c.in-Ok.ensures.root in
     let chose = c.in-Some.ensures.chosen in
     rw (c.reserve_all.ensures.marks, c.as_slice.ensures.value) record {
-      sound = sound_unchanged c.map.new.memory (marked_for c.args.id tables world.marks) c.grant.new.self c.reserve_all.new.ledger world.devices.items world.commands world.events c.reserve_all.ensures.shows
-          (sound_granted world.memory c.map.new.memory world.marks world.ledger c.grant.new.self world.devices.items world.commands world.events c.args.id c.args.page c.args.frame c.in-Ok.root c.args.rights tables
-          world.sound (mapped.size ∙ length-cleared tables world.memory) granted root.1 root.0 chose.free);
-      tables = tables_unchanged c.map.new.memory (marked_for c.args.id tables world.marks) c.grant.new.self c.reserve_all.new.ledger world.devices.items c.reserve_all.ensures.shows
-          (tables_granted world.memory c.map.new.memory world.marks world.ledger c.grant.new.self world.devices.items c.args.id c.in-Ok.root c.args.page c.args.frame c.missing-lacking.result c.args.rights tables
-          world.sound.marked world.tables world.sound.own_ids root.0 root.1.page_low granted chose mapped);
-      offered = subst (λ marks. OffersUnreserved marks c.reserve_all.new.ledger) (c.reserve_all.ensures.marks ∙ ap (λ ts. marked_for c.args.id ts world.marks) c.as_slice.ensures.value)
-          (c.reserve_all.ensures.offered (λ f. granted.pool f ∙ world.offered f));
+      sound = sound_granted world.memory c.map.new.memory world.marks world.ledger c.grant.new.self world.devices.items world.commands world.events c.args.id c.args.page c.args.frame c.in-Ok.root c.rights-rights.result tables
+          world.sound (mapped.size ∙ length-cleared tables world.memory) granted root.1 root.0 chose.free;
+      tables = tables_granted world.memory c.map.new.memory world.marks world.ledger c.grant.new.self world.devices.items c.args.id c.in-Ok.root c.args.page c.args.frame c.missing-lacking.result c.rights-rights.result tables
+          world.sound.marked world.tables world.sound.own_ids root.0 root.1.page_low granted chose mapped;
     }
 
 pub returns-clause-step : goal.returns-clause-step
 returns-clause-step c = λ state shows.
     let world = c.args.self.now in
     let tables = c.in-Some.tables.items in
-    let leaf : PageLeaf = record { frame = c.args.frame; rights = c.args.rights } in
+    let leaf : PageLeaf = record { frame = c.args.frame; rights = c.rights-rights.result } in
     let mapped = mapped_as world.memory c.reserve_all.new.memory c.map.new.memory c.in-Ok.root c.args.page leaf c.as_slice.result.now c.as_slice-2.result.now tables
     c.reserve_all.ensures.memory c.as_slice.ensures.value c.as_slice-2.ensures.value record {
       tree = c.map.ensures.tree;
@@ -161,10 +160,10 @@ returns-clause-step c = λ state shows.
     world.sound.marked own chose mapped (λ mine. nobody's c.args.id (sym free ∙ mine)))
     mapped.size in (
       tables,
-      record state { history = entry.Granted c.args.id c.args.page c.args.frame c.args.rights ∷ state.history; frames = reserved_for (machine.OneDevice c.args.id) tables state.frames },
-      (c.in-Ok.ensures.admitted state shows, c.requires, taken, refl),
+      record state { history = entry.Granted c.args.id c.args.page c.args.frame (rights_of c.args.rights) ∷ state.history; frames = reserved_for (machine.OneDevice c.args.id) tables state.frames },
+      (c.in-Ok.ensures.admitted state shows, taken, refl),
       record {
-        ledger = c.reserve_all.ensures.agrees _ (agrees state.history shows.ledger);
+        ledger = rw c.rights-rights.ensures.value at (agrees state.history shows.ledger);
         frames = rw (c.reserve_all.ensures.marks, c.as_slice.ensures.value) frames;
         devices = shows.devices;
         given = shows.given;
@@ -178,7 +177,7 @@ pub returns-clause-others : goal.returns-clause-others
 returns-clause-others c = λ frame owner at other.
     let world = c.args.self.now in
     let tables = c.in-Some.tables.items in
-    let leaf : PageLeaf = record { frame = c.args.frame; rights = c.args.rights } in
+    let leaf : PageLeaf = record { frame = c.args.frame; rights = c.rights-rights.result } in
     let mapped = mapped_as world.memory c.reserve_all.new.memory c.map.new.memory c.in-Ok.root c.args.page leaf c.as_slice.result.now c.as_slice-2.result.now tables
     c.reserve_all.ensures.memory c.as_slice.ensures.value c.as_slice-2.ensures.value record {
       tree = c.map.ensures.tree;
@@ -191,21 +190,38 @@ returns-clause-others c = λ frame owner at other.
     kept_others world.memory c.map.new.memory world.marks world.ledger c.args.id c.in-Ok.root c.args.page c.args.frame c.missing-lacking.result frame leaf tables owner
     world.sound.marked own c.in-Some.ensures.chosen mapped at other
 
--- what is said of the frames that are cleared and then mapped is said of the chosen ones
-filled_as : (memory before after : List (List ℕ)) (root page : ℕ) (clears chosen : List ℕ) → before ≡ cleared clears memory → clears ≡ chosen
-    → ((a : ℕ) → (FillsEntry before after root page (a / 8) → ⊥) → byte_at after a ≡ byte_at before a)
-    → (a : ℕ) → (FillsEntry (cleared chosen memory) after root page (a / 8) → ⊥) → byte_at after a ≡ byte_at (cleared chosen memory) a
-filled_as memory before after root page clears chosen is clears_is other =
-    subst (λ m. (a : ℕ) → (FillsEntry m after root page (a / 8) → ⊥) → byte_at after a ≡ byte_at m a) (is ∙ ap (λ fs. cleared fs memory) clears_is) other
-
-pub returns-clause-filled : goal.returns-clause-filled
-returns-clause-filled c = λ done.
+pub returns-clause-tables : goal.returns-clause-tables
+returns-clause-tables c = λ done.
     let world = c.args.self.now in
     let tables = c.in-Some.tables.items in (
       c.in-Ok.root,
+      tables,
       c.in-Ok.ensures.root.0,
-      λ address owner mark unfilled.
-          kept_unfilled world.memory c.map.new.memory world.marks world.ledger c.in-Ok.root c.args.page c.args.frame c.missing-lacking.result address tables owner world.sound.marked c.in-Some.ensures.chosen
-          (filled_as world.memory c.reserve_all.new.memory c.map.new.memory c.in-Ok.root c.args.page c.as_slice.result.now tables c.reserve_all.ensures.memory c.as_slice.ensures.value c.map.ensures.other_bytes)
-          mark unfilled,
+      subst (λ n. AreChosen world.memory world.marks world.ledger c.args.frame n tables) c.missing-lacking.ensures c.in-Some.ensures.chosen,
+      c.reserve_all.ensures.marks ∙ ap (λ fs. marked_for c.args.id fs world.marks) c.as_slice.ensures.value,
+      mapped_is world.memory c.reserve_all.new.memory c.map.new.memory c.in-Ok.root c.args.page (record { frame = c.args.frame; rights = c.rights-rights.result }) (granted_leaf c.args.frame c.args.rights)
+          c.as_slice.result.now c.as_slice-2.result.now tables c.map.ensures.whole c.reserve_all.ensures.memory c.as_slice.ensures.value c.as_slice-2.ensures.value
+          (ap (λ r. record { frame = c.args.frame; rights = r }) c.rights-rights.ensures.value),
     )
+
+-- where enough frames are free, the page doesn't lack tables
+lacks_none : (old : Parts) (id page frame root count : ℕ) (chosen : List ℕ)
+    → ((j k : ℕ) (one other : Device) → slice_get old.devices j ≡ Some one → slice_get old.devices k ≡ Some other → one.id ≡ other.id → j ≡ k)
+    → IsRootOf old.devices id root → count ≡ missing_for old.memory root page → AreChosen old.memory old.marks old.ledger frame count chosen → ¬ LacksTables old id page frame
+lacks_none old id page frame root count chosen own is_root many chose (other, is_other, few) =
+    let roots : ◌≡◌ {A = Option ℕ} (Some root) (Some other) = sym (one_device old.devices id root is_other.0 is_other.1 own is_root is_other.2 is_other.3) ∙ is_other.4 in
+    let one : root ≡ other = cc in
+    enough_are_free old.memory old.marks old.ledger frame count chosen chose
+    (subst (λ n. TooFewAreFree old.memory old.marks old.ledger frame n) (sym (many ∙ ap (λ r. missing_for old.memory r page) one)) few)
+
+pub returns-in-Err-clause-memory : goal.returns-in-Err-clause-memory
+returns-in-Err-clause-memory c = λ same. absurd (c.in-Err.ensures.no_memory (why_is c.in-Err.why same))
+  where
+    why_is : (why : Refusal) → says.Refused why ≡ says.Refused Memory → why ≡ Memory
+    why_is why same = cc
+
+pub returns-then-is_err-clause-memory : goal.returns-then-is_err-clause-memory
+returns-then-is_err-clause-memory c = λ same.
+    let world = c.args.self.now in
+    lacks_none (parts_of world) c.args.id c.args.page c.args.frame c.in-Ok.root c.missing-lacking.result c.in-Some.tables.items world.sound.own_ids c.in-Ok.ensures.root.0
+    c.missing-lacking.ensures c.in-Some.ensures.chosen

@@ -5,6 +5,7 @@ use Rattle.iom_world.specs.Places.{IsAbsent}
 use Rattle.iom_world.specs.Devices.{shown_devices}
 use Rattle.iom_ledger.specs.declared.refusal.Refusal.TheVariants.{AlreadyPlugged, TooManyDevices, Memory}
 use Rattle.iom_world.proofs.PlugLemmas.{plugged_already, too_many, may_plug, sound_plugged, tables_plugged, shown_plugged, length-shown, IsNew}
+use Rattle.iom_world.proofs.RootLemmas.{roots_stay, roots_plugged}
 use Rattle.iom_world.proofs.RefusalLemmas.{when_some, when_none, refused_first, refused_else, by_test}
 use Rattle.iom_machine.specs.Machine.{plugged_device}
 use Rattle.iom_world.specs.Sound.{IsSound}
@@ -40,7 +41,6 @@ invariant_of-self c =
       tables = by_test (λ (devices : List Device). HaveTables world.memory world.marks world.ledger devices) _ _ _ _ c.push.ensures.items
           (tables_plugged world.memory world.marks world.ledger world.devices.items _ c.args.id world.tables record { own = refl; detached = refl; idle = c.in-Ok.ensures; none = refl })
           world.tables;
-      offered = world.offered;
     }
 
 pub returns-clause-step : goal.returns-clause-step
@@ -80,3 +80,11 @@ returns-clause-step c = λ state shows.
             },
           )
     ]
+
+pub returns-clause-roots : goal.returns-clause-roots
+returns-clause-roots c = λ other. elim c.match-push.branch [
+  | in-Ok-push w ↦
+      let device : Device = record { id = c.args.id; kind = c.args.kind; root = None; accepted = 0; in_flight = c.in-Ok.in_flight } in
+      rw (w.in-Ok-push.ensures.items) (roots_plugged c.args.self.now.devices.items device refl other)
+  | in-Err w ↦ roots_stay c.args.self.now.devices.items _ (w.in-Err.ensures.items) other
+]

@@ -22,7 +22,6 @@ invariant_of-self-in-Some c =
           (sound_polled world.memory world.marks world.ledger c.confirm_tickets.new.ledger world.devices.items world.commands world.events first (suc (last - first)) last
           world.sound c.confirm_tickets.ensures.confirmed poll);
       tables = tables_polled world.memory world.marks world.ledger c.confirm_tickets.new.ledger world.devices.items first (suc (last - first)) c.confirm_tickets.ensures.confirmed world.tables;
-      offered = λ f. c.confirm_tickets.ensures.pool f ∙ world.offered f;
     }
 
 pub returns-in-Some-clause-step : goal.returns-in-Some-clause-step

@@ -6,7 +6,8 @@ use Rattle.iom_world.specs.declared.device.Device.{Device}
 use Rattle.iom_world.specs.Devices.{shown_device}
 use Rattle.iom_world.proofs.ListLemmas.{get_within}
 use Rattle.iom_world.proofs.ReplaceLemmas.{same_item}
-use Rattle.iom_world.proofs.RequestLemmas.{acts_absent, held_by_translated, room_by_idle, with_flight, sound_accepted, tables_accepted, requests_accepted, devices_accepted, requests_busy, requests_bad_span, requests_fault}
+use Rattle.iom_world.proofs.RootLemmas.{roots_changed}
+use Rattle.iom_world.proofs.RequestLemmas.{still_accepted, acts_absent, held_by_translated, room_by_idle, with_flight, sound_accepted, tables_accepted, requests_accepted, devices_accepted, requests_busy, requests_bad_span, requests_fault}
 use Rattle.iom_world.proofs.world.World.read.Goals as goal
 
 pub returns-in_default-clause-step : goal.returns-in_default-clause-step
@@ -30,7 +31,7 @@ pub accept_read-number-requires-clause-room : goal.accept_read-number-requires-c
 accept_read-number-requires-clause-room c =
     let device = c.in-Some.ensures.0 in
     let at = c.in-Some.ensures.1 in
-    room_by_idle c.index_mut.result.now device (same_item c.args.self.now.devices.items c.in-Some.place c.index_mut.result.now device c.index_mut.ensures.value at) (c.in-Accept.ensures device at).0.1
+    room_by_idle c.index_mut.result.now device (same_item c.args.self.now.devices.items c.in-Some.place c.index_mut.result.now device c.index_mut.ensures.value at) (c.in-Accepted.ensures device at).0.1
 
 pub accept_read-number-requires-clause-count : goal.accept_read-number-requires-clause-count
 accept_read-number-requires-clause-count c =
@@ -45,25 +46,24 @@ invariant_of-self c =
     let world = c.args.self.now in
     let device = c.in-Some.ensures.0 in
     let at = c.in-Some.ensures.1 in
-    let reply = c.in-Accept.ensures device at in
-    let flight = read_flight c.args.address c.args.len c.in-Accept.frame in
+    let reply = c.in-Accepted.ensures device at in
+    let flight = read_flight c.args.address c.args.len c.in-Accepted.frame in
     let is = c.accept_read-number.ensures.after ∙ ap (λ (d : Device). with_flight d flight) (same_item world.devices.items c.in-Some.place c.index_mut.result.now device c.index_mut.ensures.value at) in
     record {
       sound = sound_accepted world.memory world.marks world.ledger world.devices.items world.commands world.events c.in-Some.place device flight c.accept_read-number.new.self
           world.sound at is reply.0.0 reply.1 (c.requires c.in-Some.place device at);
       tables = tables_accepted world.memory world.marks world.ledger world.devices.items c.in-Some.place device flight c.accept_read-number.new.self world.tables at is;
-      offered = world.offered;
     }
 
-pub returns-in-Accept-clause-step : goal.returns-in-Accept-clause-step
-returns-in-Accept-clause-step c = λ state shows.
+pub returns-in-Accepted-clause-step : goal.returns-in-Accepted-clause-step
+returns-in-Accepted-clause-step c = λ state shows.
     let world = c.args.self.now in
     let place = c.in-Some.ensures in
-    let reply = c.in-Accept.ensures place.0 place.1 in
-    let flight = read_flight c.args.address c.args.len c.in-Accept.frame in
+    let reply = c.in-Accepted.ensures place.0 place.1 in
+    let flight = read_flight c.args.address c.args.len c.in-Accepted.frame in
     let same = same_item world.devices.items c.in-Some.place c.index_mut.result.now place.0 c.index_mut.ensures.value place.1 in (
-      c.in-Accept.frame,
-      with_accepted state (shown_device place.0) (read_of c.args.address c.args.len) c.in-Accept.frame,
+      c.in-Accepted.frame,
+      with_accepted state (shown_device place.0) (read_of c.args.address c.args.len) c.in-Accepted.frame,
       requests_accepted state world.ledger world.devices.items c.args.id c.in-Some.place c.accept_read-number.result flight place shows.ledger shows.devices reply.0 reply.1
           (c.accept_read-number.ensures.number ∙ ap (λ (d : Device). d.accepted + 1) same),
       record {
@@ -99,7 +99,16 @@ returns-in-Fault-clause-step c = λ state shows.
       shows,
     )
 
-pub returns-in-Accept-clause-requests : goal.returns-in-Accept-clause-requests
-returns-in-Accept-clause-requests c = λ number accepted.
+pub returns-in-Accepted-clause-requests : goal.returns-in-Accepted-clause-requests
+returns-in-Accepted-clause-requests c = λ number accepted.
     let place = c.in-Some.ensures in
-    (c.in-Accept.frame, held_by_translated place.0.root c.args.self.now.ledger place.0.id c.args.id c.args.address c.in-Accept.frame kind.Read place.2 (c.in-Accept.ensures place.0 place.1).1)
+    (c.in-Accepted.frame, held_by_translated place.0.root c.args.self.now.ledger place.0.id c.args.id c.args.address c.in-Accepted.frame kind.Read place.2 (c.in-Accepted.ensures place.0 place.1).1)
+
+pub returns-in-Accepted-clause-roots : goal.returns-in-Accepted-clause-roots
+returns-in-Accepted-clause-roots c = λ other.
+    let world = c.args.self.now in
+    let device = c.in-Some.ensures.0 in
+    let at = c.in-Some.ensures.1 in
+    let flight = read_flight c.args.address c.args.len c.in-Accepted.frame in
+    let is = c.accept_read-number.ensures.after ∙ ap (λ (d : Device). with_flight d flight) (same_item world.devices.items c.in-Some.place c.index_mut.result.now device c.index_mut.ensures.value at) in
+    roots_changed world.devices.items c.in-Some.place device c.accept_read-number.new.self at (still_accepted device flight c.accept_read-number.new.self is) other

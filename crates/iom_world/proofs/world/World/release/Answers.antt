@@ -110,7 +110,6 @@ invariant_of-self c =
           world.sound released (omega arith) (omega arith) c.unmap.ensures.size);
       tables = tables_released world.memory c.unmap.new.memory world.marks world.ledger c.release.new.self world.devices.items c.args.id c.in-Ok.root c.args.page c.release-ticket.result
           world.tables world.sound.own_ids c.in-Ok.ensures.root unmapped c.release.ensures.released;
-      offered = λ f. c.release.ensures.released.pool f ∙ world.offered f;
     }
 
 pub returns-clause-step : goal.returns-clause-step
@@ -149,5 +148,4 @@ returns-clause-step c = λ state shows.
     )
 
 pub returns-clause-cleared : goal.returns-clause-cleared
-returns-clause-cleared c = λ ticket told.
-    (c.in-Ok.root, c.in-Ok.ensures.root, record { cleared = c.unmap.ensures.cleared; others = c.unmap.ensures.other_bytes })
+returns-clause-cleared c = λ ticket told. (c.in-Ok.root, c.in-Ok.ensures.root, c.unmap.ensures.whole)

@@ -1,9 +1,13 @@
-use Rattle.std.proofs.Common.{arith}
+use Rattle.std.proofs.Common.{[], refl, arith}
 use Rattle.std.proofs.lemmas.Result.{err_from_is_err_and}
-use Rattle.iom_machine.specs.PowerOn.{opening}
-use Rattle.iom_machine.proofs.ReclaimLemmas.{reclaims}
-use Rattle.iom_world.proofs.RunLemmas.{goes_on, ends_at, shown_so_far, whole}
+use Rattle.iom_world.proofs.RunLemmas.{are_outcomes, goes_on, ends_at, shown_so_far}
 use Rattle.iom_world.proofs.world.World.run.Goals as goal
+
+pub loop-event-init : goal.loop-event-init
+loop-event-init g c = record {
+  ran = λ state shows. ([], state, are_outcomes state state c.args.self.now c.args.self.now [] [] refl (shows, refl), refl);
+  counted = omega arith;
+}
 
 pub loop-event-preserved : goal.loop-event-preserved
 loop-event-preserved g c = record {
@@ -11,13 +15,7 @@ loop-event-preserved g c = record {
       let so_far = c.loop-event.invariant.ran state shows in
       let next = c.take.ensures.step so_far.1 (shown_so_far g.S.Sink.takes state _ _ _ _ _ so_far) in
       goes_on g.S.Sink.takes state next.0 c.args.events.now c.loop-event.event-index c.event-item.result c.take.new.told _ _ _ _ _ _
-      so_far c.event-item.is c.loop-event-test.true next.1 record {
-        queue = c.take.ensures.queue;
-        frames = c.take.ensures.frames;
-        requests = c.take.ensures.requests;
-        refused = c.take.ensures.refused;
-        events = c.take.ensures.events;
-      } next.2 c.in_ok-put.ensures.taken;
+      so_far c.event-item.is c.loop-event-test.true next.1 c.take.ensures next.2 c.in_ok-put.ensures.taken;
   counted = omega (arith, c.take.ensures.events, c.loop-event.invariant.counted);
 }
 
@@ -27,15 +25,4 @@ returns-in_err-put-clause-failed g c = λ state shows.
     let next = c.take.ensures.step so_far.1 (shown_so_far g.S.Sink.takes state _ _ _ _ _ so_far) in
     let fault = err_from_is_err_and c.from_residual.result c.from_residual.ensures.1 in
     rw fault.1 (ends_at g.S.Sink.takes g.S.Sink.fails state next.0 c.args.events.now c.loop-event.event-index c.event-item.result c.take.new.told _ _ _ c.args.self.now _ _
-    so_far c.event-item.is c.loop-event-test.true (omega (arith, c.take.ensures.events, c.loop-event.invariant.counted)) next.1 record {
-      queue = c.take.ensures.queue;
-      frames = c.take.ensures.frames;
-      requests = c.take.ensures.requests;
-      refused = c.take.ensures.refused;
-      events = c.take.ensures.events;
-    } next.2 c.in_err-put.ensures.failed)
-
-pub returns-clause-reclaim : goal.returns-clause-reclaim
-returns-clause-reclaim g c = λ frames levels shows.
-    let ran = whole g.S.Sink.takes (opening frames levels) c.args.events.now c.loop-event.event-index _ _ _ _ (c.loop-event.invariant.ran (opening frames levels) shows) (omega (arith, c.loop-event-test.false)) in
-    (ran.0, ran.1, ran.2, ran.3, reclaims frames levels c.args.events.now ran.0 ran.1 ran.2.run)
+    so_far c.event-item.is c.loop-event-test.true (omega (arith, c.take.ensures.events, c.loop-event.invariant.counted)) next.1 c.take.ensures next.2 c.in_err-put.ensures.failed)

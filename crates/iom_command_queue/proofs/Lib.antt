@@ -1,0 +1,10 @@
+pub mod Fields
+pub mod Words
+pub mod Exact
+pub mod Fits
+pub mod Encodes
+pub mod TwoWords
+pub mod SlotLemmas
+pub mod Waits
+pub mod Puts
+pub mod Bases

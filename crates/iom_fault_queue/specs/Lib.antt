@@ -1,0 +1,6 @@
+pub mod Fields
+pub mod Records
+pub mod Grammar
+pub mod Ring
+pub mod Calls
+pub mod Laws

@@ -1,0 +1,348 @@
+-- How a step changes the devices: which accesses enter, in order, and which are made.
+use Rattle.std.proofs.Common.{◌≡◌, ℕ, zero, suc, ◌+◌, ◌==◌, inl, inr, Bool, true, false, cond, List, [], ◌∷◌, ◌++◌, length, length-append, append_assoc, map, drop, find, Option, None, Some, if◌then◌else◌, get_or, slice_get, refl, sym, ap, ◌∙◌, subst, arith}
+use Rattle.std.specs.Option.{option_map_or, option_or}
+use Rattle.std.proofs.lemmas.Bool.{eq-eqb, eqb-true, eqb-false}
+use Rattle.std.proofs.lemmas.List.{append-nil, map-append}
+use Rattle.std.proofs.lemmas.List.Folds.{find-append}
+use Rattle.std.proofs.lemmas.Option.{slice_get-get_or}
+use Rattle.iom_machine.specs.declared.event.Event.{Event}
+use Rattle.iom_machine.specs.declared.event.Event.TheVariants as events
+use Rattle.iom_machine.specs.declared.outcome.Outcome.{Outcome}
+use Rattle.iom_machine.specs.declared.outcome.Outcome.TheVariants.{Done, Refused, Ticket, Confirmed, NoneConfirmed, Fetched, Accepted, Busy, BadSpan, Fault, Read, Wrote, NothingInFlight}
+use Rattle.iom_machine.specs.declared.state.Access.{Access}
+use Rattle.iom_machine.specs.declared.state.AcceptedAccess.{AcceptedAccess}
+use Rattle.iom_machine.specs.declared.state.Device.{Device}
+use Rattle.iom_machine.specs.declared.state.DeviceKind.{DeviceKind}
+use Rattle.iom_machine.specs.declared.state.State.{State}
+use Rattle.iom_machine.specs.Devices.{device_of, replaced_device}
+use Rattle.iom_machine.specs.Requests.{read_of, write_of, MayAnswer, state_after}
+use Rattle.iom_machine.specs.Machine.{Requests, Makes, Commits, Step, Run, plugged_device}
+use Rattle.iom_machine.specs.Refusals.{plug_reasons, first_that_applies}
+use Rattle.iom_machine.specs.Headline.{asked_by, accepted_by, accepted_in, made_by, made_in, AccessesInFlightWereAccepted}
+use Rattle.iom_machine.specs.PowerOn.{opening}
+use Rattle.iom_machine.proofs.InFlightLemmas.{match_cases, some_case, found_device}
+
+-- the accesses of a device in flight; none where there is no device
+abbrev pub asked_in_flight : Device → List Access
+asked_in_flight device = map (λ flight. flight.access) device.in_flight
+
+abbrev pub in_flight_of : Option Device → List Access
+in_flight_of found = option_map_or asked_in_flight found []
+
+-- how many of its accesses were ever accepted
+abbrev pub count_of : Option Device → ℕ
+count_of found = option_map_or (λ (device : Device). device.accepted) found 0
+
+-- What was in flight, and then what is accepted, is what is made, and then what is in flight; and the accepted ones are counted.
+pub record Flows (accepted : List Access) (count : ℕ) (old new : Option Device) : Type 0 where
+  pub made : List Access
+  pub as_many : length made ≡ count
+  pub in_order : in_flight_of old ++ accepted ≡ made ++ in_flight_of new
+  pub counted : count_of new ≡ count_of old + length accepted
+
+-- nothing of the device is accepted or made
+abbrev pub NothingFlows : Event → Outcome → ℕ → Type 0
+NothingFlows event outcome id = (accepted_by event outcome id ≡ []) × (made_by event outcome id ≡ 0)
+
+-- How a step changes the devices.
+pub data DevicesChange (event : Event) (outcome : Outcome) (old new : State) : Type 0 where
+  stay : ((id : ℕ) → NothingFlows event outcome id) → new.devices ≡ old.devices → DevicesChange event outcome old new
+  enters : (id : ℕ) (kind : DeviceKind) → device_of old id ≡ None → ((other : ℕ) → NothingFlows event outcome other)
+      → new.devices ≡ old.devices ++ plugged_device id kind ∷ [] → DevicesChange event outcome old new
+  changes : (id : ℕ) (device now : Device) → device_of old id ≡ Some device → now.id ≡ device.id
+      → Flows (accepted_by event outcome id) (made_by event outcome id) (Some device) (Some now)
+      → ((other : ℕ) → (id == other) ≡ false → NothingFlows event outcome other)
+      → new.devices ≡ replaced_device old.devices device.id now → DevicesChange event outcome old new
+
+-- nothing changes where nothing flows
+nothing : (found : Option Device) → Flows [] 0 found found
+nothing found = record { made = []; as_many = refl; in_order = append-nil (in_flight_of found); counted = omega arith }
+
+quiet : (event : Event) (outcome : Outcome) (id : ℕ) (old new : Option Device) → NothingFlows event outcome id → Flows [] 0 old new
+    → Flows (accepted_by event outcome id) (made_by event outcome id) old new
+quiet event outcome id old new none flows = rw (none.0, none.1) flows
+
+-- the device with an id, where one is replaced
+pub found_replaced : (devices : List Device) (id : ℕ) (device now : Device) → find (λ d. d.id == id) devices ≡ Some device → now.id ≡ id
+    → find (λ d. d.id == id) (replaced_device devices id now) ≡ Some now
+found_replaced [] id device now at own = cc
+found_replaced (d ∷ devices) id device now at own = by (d.id == id) refl at (found_replaced devices id device now)
+  where
+    by : (b : Bool) → (d.id == id) ≡ b → cond b (Some d) (find (λ x. x.id == id) devices) ≡ Some device
+        → (find (λ x. x.id == id) devices ≡ Some device → now.id ≡ id → find (λ x. x.id == id) (replaced_device devices id now) ≡ Some now)
+        → find (λ x. x.id == id) (if b then now ∷ devices else d ∷ replaced_device devices id now) ≡ Some now
+    by true e h rest = rw (eq-eqb now.id id own) refl
+    by false e h rest = rw e (rest h own)
+
+pub found_besides : (devices : List Device) (id : ℕ) (now : Device) (other : ℕ) → now.id ≡ id → (id == other) ≡ false
+    → find (λ d. d.id == other) (replaced_device devices id now) ≡ find (λ d. d.id == other) devices
+found_besides [] id now other own differ = refl
+found_besides (d ∷ devices) id now other own differ = by (d.id == id) refl (found_besides devices id now other own differ)
+  where
+    by : (b : Bool) → (d.id == id) ≡ b → find (λ x. x.id == other) (replaced_device devices id now) ≡ find (λ x. x.id == other) devices
+        → find (λ x. x.id == other) (if b then now ∷ devices else d ∷ replaced_device devices id now) ≡ find (λ x. x.id == other) (d ∷ devices)
+    by true e rest =
+        let first : (d.id == other) ≡ false = subst (λ n. (n == other) ≡ false) (sym (eqb-true d.id id e)) differ in
+        let now_first : (now.id == other) ≡ false = subst (λ n. (n == other) ≡ false) (sym own) differ in rw (first, now_first) refl
+    by false e rest = ap (λ found. cond (d.id == other) (Some d) found) rest
+
+-- what flows of each device in a step
+flows-enters : (devices : List Device) (id : ℕ) (kind : DeviceKind) (other : ℕ) → Flows [] 0 (find (λ d. d.id == other) devices) (find (λ d. d.id == other) (devices ++ plugged_device id kind ∷ []))
+flows-enters devices id kind other =
+    subst (λ found. Flows [] 0 (find (λ d. d.id == other) devices) found) (sym (find-append (λ (d : Device). d.id == other) devices (plugged_device id kind ∷ [])))
+    (by (find (λ d. d.id == other) devices) (id == other))
+  where
+    by : (found : Option Device) (b : Bool) → Flows [] 0 found (option_or found (cond b (Some (plugged_device id kind)) None))
+    by (Some device) b = nothing (Some device)
+    by None true = record { made = []; as_many = refl; in_order = refl; counted = refl }
+    by None false = nothing None
+
+flows-changes : (event : Event) (outcome : Outcome) (devices : List Device) (id : ℕ) (device now : Device) → find (λ d. d.id == id) devices ≡ Some device → now.id ≡ device.id
+    → Flows (accepted_by event outcome id) (made_by event outcome id) (Some device) (Some now) → ((other : ℕ) → (id == other) ≡ false → NothingFlows event outcome other)
+    → (other : ℕ) → Flows (accepted_by event outcome other) (made_by event outcome other) (find (λ d. d.id == other) devices) (find (λ d. d.id == other) (replaced_device devices device.id now))
+flows-changes event outcome devices id device now at own flows quiet_others other = by (id == other) refl
+  where
+    its : device.id ≡ id
+    its = (found_device devices id device at).1
+
+    here : find (λ d. d.id == id) (replaced_device devices device.id now) ≡ Some now
+    here = ap (λ n. find (λ d. d.id == id) (replaced_device devices n now)) its ∙ found_replaced devices id device now at (own ∙ its)
+
+    there : (id == other) ≡ false → find (λ d. d.id == other) (replaced_device devices device.id now) ≡ find (λ d. d.id == other) devices
+    there e = ap (λ n. find (λ d. d.id == other) (replaced_device devices n now)) its ∙ found_besides devices id now other (own ∙ its) e
+
+    by : (b : Bool) → (id == other) ≡ b
+        → Flows (accepted_by event outcome other) (made_by event outcome other) (find (λ d. d.id == other) devices) (find (λ d. d.id == other) (replaced_device devices device.id now))
+    by true e = subst (λ n. Flows (accepted_by event outcome n) (made_by event outcome n) (find (λ d. d.id == n) devices) (find (λ d. d.id == n) (replaced_device devices device.id now)))
+        (eqb-true id other e)
+        (subst (λ found. Flows (accepted_by event outcome id) (made_by event outcome id) found (find (λ d. d.id == id) (replaced_device devices device.id now))) (sym at)
+        (subst (λ found. Flows (accepted_by event outcome id) (made_by event outcome id) (Some device) found) (sym here) flows))
+    by false e = quiet event outcome other (find (λ d. d.id == other) devices) (find (λ d. d.id == other) (replaced_device devices device.id now)) (quiet_others other e)
+        (subst (λ found. Flows [] 0 (find (λ d. d.id == other) devices) found) (sym (there e)) (nothing (find (λ d. d.id == other) devices)))
+
+flows-change : (event : Event) (outcome : Outcome) (old new : State) → DevicesChange event outcome old new
+    → (id : ℕ) → Flows (accepted_by event outcome id) (made_by event outcome id) (device_of old id) (device_of new id)
+flows-change event outcome old new (DevicesChange.stay none same) id =
+    subst (λ devices. Flows (accepted_by event outcome id) (made_by event outcome id) (device_of old id) (find (λ d. d.id == id) devices)) (sym same)
+    (quiet event outcome id _ _ (none id) (nothing (device_of old id)))
+flows-change event outcome old new (DevicesChange.enters entered kind absent none same) id =
+    subst (λ devices. Flows (accepted_by event outcome id) (made_by event outcome id) (device_of old id) (find (λ d. d.id == id) devices)) (sym same)
+    (quiet event outcome id _ _ (none id) (flows-enters old.devices entered kind id))
+flows-change event outcome old new (DevicesChange.changes changed device now at own flows others same) id =
+    subst (λ devices. Flows (accepted_by event outcome id) (made_by event outcome id) (device_of old id) (find (λ d. d.id == id) devices)) (sym same)
+    (flows-changes event outcome old.devices changed device now at own flows others id)
+
+-- no two devices have the same id
+abbrev pub HaveOwnIds : List Device → Type 0
+HaveOwnIds [] = Unit {0}
+HaveOwnIds (device ∷ later) = (find (λ d. d.id == device.id) later ≡ None) × HaveOwnIds later
+
+-- the first that is found
+nil_found : (d : Device) (id : ℕ) (devices : List Device) → find (λ x. x.id == id) (d ∷ devices) ≡ None → ((d.id == id) ≡ false) × (find (λ x. x.id == id) devices ≡ None)
+nil_found d id devices none = by (d.id == id) refl none
+  where
+    by : (b : Bool) → (d.id == id) ≡ b → cond b (Some d) (find (λ x. x.id == id) devices) ≡ None → ((d.id == id) ≡ false) × (find (λ x. x.id == id) devices ≡ None)
+    by true e h = cc
+    by false e h = (e, h)
+
+own_ids-enters : (devices : List Device) (now : Device) → HaveOwnIds devices → find (λ d. d.id == now.id) devices ≡ None → HaveOwnIds (devices ++ now ∷ [])
+own_ids-enters [] now own absent = (refl, tt)
+own_ids-enters (d ∷ devices) now own absent =
+    let parts = nil_found d now.id devices absent in (
+      find-append (λ (x : Device). x.id == d.id) devices (now ∷ []) ∙ rw (own.0, turned parts.0) refl,
+      own_ids-enters devices now own.1 parts.1,
+    )
+  where
+    turned : (d.id == now.id) ≡ false → (now.id == d.id) ≡ false
+    turned e = by (now.id == d.id) refl
+      where
+        by : (b : Bool) → (now.id == d.id) ≡ b → (now.id == d.id) ≡ false
+        by false f = f
+        by true f = absurd (eqb-false d.id now.id e (sym (eqb-true now.id d.id f)))
+
+own_ids-replaced : (devices : List Device) (id : ℕ) (now : Device) → now.id ≡ id → HaveOwnIds devices → HaveOwnIds (replaced_device devices id now)
+own_ids-replaced [] id now is own = tt
+own_ids-replaced (d ∷ devices) id now is own = by (d.id == id) refl (own_ids-replaced devices id now is own.1)
+  where
+    turned : (d.id == id) ≡ false → (id == d.id) ≡ false
+    turned e = by_test (id == d.id) refl
+      where
+        by_test : (b : Bool) → (id == d.id) ≡ b → (id == d.id) ≡ false
+        by_test false f = f
+        by_test true f = absurd (eqb-false d.id id e (sym (eqb-true id d.id f)))
+
+    by : (b : Bool) → (d.id == id) ≡ b → HaveOwnIds (replaced_device devices id now) → HaveOwnIds (if b then now ∷ devices else d ∷ replaced_device devices id now)
+    by true e rest = (subst (λ n. find (λ x. x.id == n) devices ≡ None) (eqb-true d.id id e ∙ sym is) own.0, own.1)
+    by false e rest = (found_besides devices id now d.id is (turned e) ∙ own.0, rest)
+
+own_ids-change : (event : Event) (outcome : Outcome) (old new : State) → DevicesChange event outcome old new → HaveOwnIds old.devices → HaveOwnIds new.devices
+own_ids-change event outcome old new (DevicesChange.stay none same) own = subst HaveOwnIds (sym same) own
+own_ids-change event outcome old new (DevicesChange.enters id kind absent none same) own =
+    subst HaveOwnIds (sym same) (own_ids-enters old.devices (plugged_device id kind) own absent)
+own_ids-change event outcome old new (DevicesChange.changes id device now at is flows others same) own =
+    subst HaveOwnIds (sym same) (own_ids-replaced old.devices device.id now is own)
+
+-- each device is the one that its id names
+own_ids-found : (devices : List Device) (k : ℕ) (device : Device) → HaveOwnIds devices → slice_get devices k ≡ Some device → find (λ d. d.id == device.id) devices ≡ Some device
+own_ids-found [] k device own at = cc
+own_ids-found (d ∷ devices) zero device own at =
+    let same : d ≡ device = cc in rw (eq-eqb d.id device.id (ap (λ (x : Device). x.id) same)) at
+own_ids-found (d ∷ devices) (suc k) device own at = by (d.id == device.id) refl (own_ids-found devices k device own.1 at)
+  where
+    by : (b : Bool) → (d.id == device.id) ≡ b → find (λ x. x.id == device.id) devices ≡ Some device → cond b (Some d) (find (λ x. x.id == device.id) devices) ≡ Some device
+    by false e rest = rest
+    by true e rest = let none : find (λ x. x.id == device.id) devices ≡ None = subst (λ n. find (λ x. x.id == n) devices ≡ None) (eqb-true d.id device.id e) own.0 in cc
+
+-- the step of a request
+change-requests : (chosen : ℕ) (old new : State) (event : Event) (outcome : Outcome) (id : ℕ) (access : Access) → Requests chosen old id access outcome new
+    → asked_by event ≡ Some (id, access) → ((told : Outcome) (other : ℕ) → made_by event told other ≡ 0) → DevicesChange event outcome old new
+change-requests chosen old new event outcome id access step asks none_made = elim (match_cases (device_of old id) _ _ step) [
+  | inl (none, same) ↦ stays outcome (λ other. ap (λ o. accepted_by event o other) same.0) same.1
+  | inr (device, at, answer) ↦ by device at outcome answer.0 answer.1
+]
+  where
+    stays : (told : Outcome) → ((other : ℕ) → accepted_by event told other ≡ []) → new ≡ old → DevicesChange event told old new
+    stays told none same = DevicesChange.stay (λ other. (none other, none_made told other)) (ap (λ (s : State). s.devices) same)
+
+    asked : (number other : ℕ) → accepted_by event (Accepted number) other ≡ (if id == other then access ∷ [] else [])
+    asked number other = ap (λ (found : Option (ℕ × Access)). option_map_or (λ asked. if asked.0 == other then asked.1 ∷ [] else []) found []) asks
+
+    by : (device : Device) → device_of old id ≡ Some device → (told : Outcome) → MayAnswer old device access chosen told → new ≡ state_after old device access chosen told
+        → DevicesChange event told old new
+    by device at (Accepted number) answer same =
+        let entered : AcceptedAccess = record { access = access; frame = chosen } in
+        let its : accepted_by event (Accepted number) id ≡ access ∷ [] = asked number id ∙ ap (λ b. cond b (access ∷ []) []) (eq-eqb id id refl) in
+        DevicesChange.changes id device (record device { accepted = device.accepted + 1; in_flight = device.in_flight ++ entered ∷ [] }) at refl
+        (record {
+          made = [];
+          as_many = sym (none_made (Accepted number) id);
+          in_order = ap (λ l. asked_in_flight device ++ l) its ∙ sym (map-append (λ (flight : AcceptedAccess). flight.access) device.in_flight (entered ∷ []));
+          counted = ap (λ (l : List Access). device.accepted + length l) (sym its);
+        })
+        (λ other differ. (asked number other ∙ ap (λ b. cond b (access ∷ []) []) differ, none_made (Accepted number) other))
+        (ap (λ (s : State). s.devices) same)
+    by device at BadSpan answer same = stays BadSpan (λ other. refl) same
+    by device at Busy answer same = stays Busy (λ other. refl) same
+    by device at (Fault cause) answer same = stays (Fault cause) (λ other. refl) same
+    by device at _ answer same = absurd answer
+
+-- the oldest access is made
+made_first : (in_flight : List AcceptedAccess) (made : AcceptedAccess) → slice_get in_flight 0 ≡ Some made → in_flight ≡ made ∷ drop 1 in_flight
+made_first [] made at = cc
+made_first (flight ∷ later) made at = let same : flight ≡ made = cc in ap (λ f. f ∷ later) same
+
+-- the step of a commit
+change-commits : (old new : State) (id : ℕ) (outcome : Outcome) → Commits old id outcome new → DevicesChange (events.Commit id) outcome old new
+change-commits old new id outcome step = elim (match_cases (device_of old id) _ _ step) [
+  | inl (none, same) ↦ stays outcome (λ other. ap (λ o. accepted_by (events.Commit id) o other) same.0) (λ other. ap (λ o. made_by (events.Commit id) o other) same.0) same.1
+  | inr (device, at, makes) ↦ by device at outcome makes
+]
+  where
+    stays : (told : Outcome) → ((other : ℕ) → accepted_by (events.Commit id) told other ≡ []) → ((other : ℕ) → made_by (events.Commit id) told other ≡ 0) → new ≡ old
+        → DevicesChange (events.Commit id) told old new
+    stays told none none_made same = DevicesChange.stay (λ other. (none other, none_made other)) (ap (λ (s : State). s.devices) same)
+
+    flows : (device : Device) (made : AcceptedAccess) (count : ℕ) → slice_get device.in_flight 0 ≡ Some made → count ≡ 1
+        → Flows [] count (Some device) (Some (record device { in_flight = drop 1 device.in_flight }))
+    flows device made count first one = record {
+      made = made.access ∷ [];
+      as_many = sym one;
+      in_order = append-nil (asked_in_flight device) ∙ ap (λ l. map (λ (flight : AcceptedAccess). flight.access) l) (made_first device.in_flight made first);
+      counted = omega arith;
+    }
+
+    its_own : ◌≡◌ {A = ℕ} (if id == id then 1 else 0) 1
+    its_own = ap (λ b. cond b 1 0) (eq-eqb id id refl)
+
+    by : (device : Device) → device_of old id ≡ Some device → (told : Outcome) → Makes old device told new → DevicesChange (events.Commit id) told old new
+    by device at (Read bytes) makes =
+        let made = some_case (slice_get device.in_flight 0) _ makes in
+        DevicesChange.changes id device (record device { in_flight = drop 1 device.in_flight }) at refl (flows device made.0 _ made.1 its_own)
+        (λ other differ. (refl, ap (λ b. cond b 1 0) differ)) (ap (λ (s : State). s.devices) made.2.1)
+    by device at (Wrote len) makes =
+        let made = some_case (slice_get device.in_flight 0) _ makes in
+        DevicesChange.changes id device (record device { in_flight = drop 1 device.in_flight }) at refl (flows device made.0 _ made.1 its_own)
+        (λ other differ. (refl, ap (λ b. cond b 1 0) differ)) (ap (λ (s : State). s.devices) made.2.1)
+    by device at NothingInFlight makes = stays NothingInFlight (λ other. refl) (λ other. refl) makes.1
+    by device at _ makes = absurd makes
+
+-- where the event asks for nothing and makes nothing, and the devices stay
+stays_asking : (event : Event) (outcome : Outcome) (old new : State) → asked_by event ≡ None → ((other : ℕ) → made_by event outcome other ≡ 0) → new.devices ≡ old.devices
+    → DevicesChange event outcome old new
+stays_asking event outcome old new asks none_made same = DevicesChange.stay (λ other. (none outcome other, none_made other)) same
+  where
+    none : (told : Outcome) (other : ℕ) → accepted_by event told other ≡ []
+    none (Accepted number) other = ap (λ (found : Option (ℕ × Access)). option_map_or (λ asked. if asked.0 == other then asked.1 ∷ [] else []) found []) asks
+    none _ other = refl
+
+-- a device that is plugged in was absent
+plug_finds_nothing : (state : State) (id : ℕ) → first_that_applies (plug_reasons state id) ≡ None → device_of state id ≡ None
+plug_finds_nothing state id none = by (device_of state id) refl none
+  where
+    by : (found : Option Device) → device_of state id ≡ found → first_that_applies (plug_reasons state id) ≡ None → device_of state id ≡ None
+    by None at h = at
+    by (Some device) at h = cc
+
+pub devices-step : (old new : State) (event : Event) (outcome : Outcome) → Step old event outcome new → DevicesChange event outcome old new
+devices-step old new (events.Plug id kind) Done (choice, step) =
+    DevicesChange.enters id _ (plug_finds_nothing old id step.0) (λ other. (refl, refl)) (ap (λ (s : State). s.devices) step.1)
+devices-step old new (events.Plug id kind) (Refused why) (choice, step) = stays_asking _ _ old new refl (λ other. refl) (ap (λ (s : State). s.devices) step.1)
+devices-step old new (events.Plug id kind) _ (choice, step) = absurd step
+devices-step old new (events.Attach id mode ats) Done (choice, step) =
+    let found = some_case (device_of old id) _ step.2 in
+    DevicesChange.changes id found.0 (record found.0 { attachment = _ }) found.1 refl
+    (record { made = []; as_many = refl; in_order = append-nil (asked_in_flight found.0); counted = omega arith })
+    (λ other differ. (refl, refl)) (ap (λ (s : State). s.devices) found.2)
+devices-step old new (events.Attach id mode ats) (Refused why) (choice, step) = stays_asking _ _ old new refl (λ other. refl) (ap (λ (s : State). s.devices) step.1)
+devices-step old new (events.Attach id mode ats) _ (choice, step) = absurd step
+devices-step old new (events.Grant id page frame rights) Done (choice, step) = stays_asking _ _ old new refl (λ other. refl) (ap (λ (s : State). s.devices) step.2)
+devices-step old new (events.Grant id page frame rights) (Refused why) (choice, step) = stays_asking _ _ old new refl (λ other. refl) (ap (λ (s : State). s.devices) step.1)
+devices-step old new (events.Grant id page frame rights) _ (choice, step) = absurd step
+devices-step old new (events.Release id page) (Ticket ticket) (choice, step) = stays_asking _ _ old new refl (λ other. refl) (ap (λ (s : State). s.devices) step.2)
+devices-step old new (events.Release id page) (Refused why) (choice, step) = stays_asking _ _ old new refl (λ other. refl) (ap (λ (s : State). s.devices) step.1)
+devices-step old new (events.Release id page) _ (choice, step) = absurd step
+devices-step old new events.Fetch (Fetched result) (choice, step) = stays_asking _ _ old new refl (λ other. refl) (ap (λ (s : State). s.devices) step)
+devices-step old new events.Fetch _ (choice, step) = absurd step
+devices-step old new events.Poll (Confirmed first last) (choice, step) = stays_asking _ _ old new refl (λ other. refl) (ap (λ (s : State). s.devices) step.1)
+devices-step old new events.Poll NoneConfirmed (choice, step) = stays_asking _ _ old new refl (λ other. refl) (ap (λ (s : State). s.devices) step)
+devices-step old new events.Poll _ (choice, step) = absurd step
+devices-step old new (events.Read id address len) outcome (choice, step) = change-requests choice.frame old new _ outcome id (read_of address len) step refl (λ told other. refl)
+devices-step old new (events.Write id address bytes) outcome (choice, step) = change-requests choice.frame old new _ outcome id (write_of address bytes) step refl (λ told other. refl)
+devices-step old new (events.Commit id) outcome (choice, step) = change-commits old new id outcome step
+
+-- what flows in two parts of a run flows in both
+flows_on : (first second : List Access) (n m : ℕ) (old mid new : Option Device) → Flows first n old mid → Flows second m mid new → Flows (first ++ second) (n + m) old new
+flows_on first second n m old mid new before after = record {
+  made = before.made ++ after.made;
+  as_many = length-append before.made after.made ∙ ap (λ k. k + length after.made) before.as_many ∙ ap (λ k. n + k) after.as_many;
+  in_order = sym (append_assoc (in_flight_of old) first second) ∙ ap (λ l. l ++ second) before.in_order ∙ append_assoc before.made (in_flight_of mid) second
+      ∙ ap (λ l. before.made ++ l) after.in_order ∙ sym (append_assoc before.made after.made (in_flight_of new));
+  counted = after.counted ∙ ap (λ k. k + length second) before.counted ∙ (let both : length (first ++ second) ≡ length first + length second = length-append first second in omega arith);
+}
+
+-- what flows of each device in a run, and that no two devices have the same id
+pub flows-run : (old new : State) (events : List Event) (outcomes : List Outcome) → Run old events outcomes new
+    → (id : ℕ) → Flows (accepted_in events outcomes id) (made_in events outcomes id) (device_of old id) (device_of new id)
+flows-run old new [] [] run id = subst (λ (s : State). Flows [] 0 (device_of old id) (device_of s id)) (sym run) (nothing (device_of old id))
+flows-run old new [] (outcome ∷ outcomes) run id = absurd run
+flows-run old new (event ∷ events) [] run id = absurd run
+flows-run old new (event ∷ events) (outcome ∷ outcomes) (mid, step, run) id =
+    flows_on (accepted_by event outcome id) (accepted_in events outcomes id) (made_by event outcome id) (made_in events outcomes id) _ (device_of mid id) _
+    (flows-change event outcome old mid (devices-step old mid event outcome step) id) (flows-run mid new events outcomes run id)
+
+own_ids-run : (old new : State) (events : List Event) (outcomes : List Outcome) → Run old events outcomes new → HaveOwnIds old.devices → HaveOwnIds new.devices
+own_ids-run old new [] [] run own = subst (λ (s : State). HaveOwnIds s.devices) (sym run) own
+own_ids-run old new [] (outcome ∷ outcomes) run own = absurd run
+own_ids-run old new (event ∷ events) [] run own = absurd run
+own_ids-run old new (event ∷ events) (outcome ∷ outcomes) (mid, step, run) own =
+    own_ids-run mid new events outcomes run (own_ids-change event outcome old mid (devices-step old mid event outcome step) own)
+
+-- each access in flight was accepted at an event of its own
+pub in_flight_were_accepted : AccessesInFlightWereAccepted
+in_flight_were_accepted state events outcomes (frames, levels, run) k d below =
+    let device = get_or state.devices k d in
+    let at : slice_get state.devices k ≡ Some device = slice_get-get_or state.devices k d below in
+    let there : device_of state device.id ≡ Some device = own_ids-found state.devices k device (own_ids-run (opening frames levels) state events outcomes run tt) at in
+    let flows : Flows (accepted_in events outcomes device.id) (made_in events outcomes device.id) None (Some device) =
+    subst (λ found. Flows (accepted_in events outcomes device.id) (made_in events outcomes device.id) None found) there (flows-run (opening frames levels) state events outcomes run device.id) in
+    record { made = flows.made; as_many = flows.as_many; in_order = flows.in_order; counted = flows.counted ∙ omega arith }

@@ -1,0 +1,4 @@
+pub mod Bits
+pub mod Sizes
+pub mod StatusBits
+pub mod Modulo

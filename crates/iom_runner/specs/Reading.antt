@@ -1,0 +1,21 @@
+-- What is taken from a reader. `IsReadFault` and `ReadsMore` serve private contracts alone.
+use Rattle.std.specs.Prelude.{◌≡◌, ℕ, ◌+◌, ◌≤◌, ◌⊎◌, ◌++◌, List, length, Option, Result, IfOk, OnOk}
+use Rattle.std.specs.Io.KnownBytes.{Consumes, IsAtEnd}
+use Rattle.iom_runner.specs.declared.faults.RunFault.{RunFault}
+use Rattle.iom_runner.specs.declared.faults.RunFault.TheVariants.{Reading, Memory}
+
+-- known bytes lose so many at most, from the first on
+abbrev pub ConsumesAtMost : ℕ → Option (List ℕ) → Option (List ℕ) → Type 0
+ConsumesAtMost most old new = (bytes : List ℕ) × Consumes old new bytes × (length bytes ≤ most)
+
+-- the reader failed, or memory
+abbrev pub IsReadFault : RunFault → Type 0
+IsReadFault fault = (fault ≡ Reading) ⊎ (fault ≡ Memory)
+
+-- One read: the bytes that the reader loses are appended, so many in all at most, and none come at the end alone. Without memory they are lost.
+pub record ReadsMore (old new : Option (List ℕ)) (before after : List ℕ) (result : Result ℕ RunFault) (most : ℕ) : Type 0 where
+  pub bytes : List ℕ
+  pub taken : Consumes old new bytes
+  pub few : length before + length bytes ≤ most
+  pub appended : OnOk result (after ≡ before ++ bytes)
+  pub counted : IfOk result (λ count. (length bytes ≡ count) × (count ≡ 0 → IsAtEnd new))

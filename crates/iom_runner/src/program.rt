@@ -1,0 +1,72 @@
+// The program `iommu-run`, from its command line to its exit status.
+ghost use Rattle.std.specs.Prelude.{◌≡◌, ◌≢◌, true, map, Err};
+ghost use Rattle.std.specs.Io.KnownBytes.{Keeps};
+ghost use Rattle.iom_runner.specs.CommandLine.{is_command_line};
+
+use crate::arguments::read_words;
+use crate::faults::{ArgsFault, ProgramFault, RunFault};
+use crate::runner::run;
+use std::alloc::Global;
+use std::env;
+use std::fs::{self, Files};
+use std::io::{ErrorKind, Read, Write};
+use std::process::ExitCode;
+
+/// The words of the command line, after the program's name. One that isn't text is a bad one.
+fn words_of(rt: &HostRuntime) -> Result<Vec<String>, ArgsFault> {
+    let args = match env::args(rt) {
+        Ok(args) => args,
+        Err(error) if error.kind() == ErrorKind::OutOfMemory => return Err(ArgsFault::Memory),
+        Err(_) => return Err(ArgsFault::Bad),
+    };
+    let mut words = Vec::new(rt.alloc());
+    for word in args.skip(1) {
+        words.push(word).map_err(|_| ArgsFault::Memory)?;
+    }
+    Ok(words)
+}
+
+/// Runs the script in the file that the words name, or the one on the input where they name none, and
+/// writes its lines to the output. A file that can't be opened can't be read.
+pub fn run_words<F: Files, R: Read, W: Write>(
+    files: &F,
+    alloc: Global,
+    words: &[&str],
+    input: &mut R,
+    output: &mut W,
+) -> Result<(), ProgramFault>
+    // A command line that isn't lawful is told as a bad one, and nothing is written.
+    ensures unlawful { is_command_line (map (λ word. word.now) words.entry.now) ≢ true
+        → (result ≡ Err (ProgramFault.Args ArgsFault.Bad)) × Keeps (W.contents output.old) (W.contents output.new) }
+{
+    let args = read_words(alloc, words)?;
+    match args.file {
+        None => run(alloc, input, output)?,
+        Some(path) => match fs::open(files, path) {
+            Ok(mut file) => run(alloc, &mut file, output)?,
+            Err(_) => return Err(ProgramFault::Run(RunFault::Reading)),
+        },
+    }
+    Ok(())
+}
+
+fn run_command_line(rt: &HostRuntime) -> Result<(), ProgramFault> {
+    let words = words_of(rt)?;
+    let mut texts = Vec::new(rt.alloc());
+    for word in &words {
+        texts.push(word.as_str()).map_err(|_| ArgsFault::Memory)?;
+    }
+    run_words(rt, rt.alloc(), &texts, &mut rt.stdin(), &mut rt.stdout())
+}
+
+/// The whole program: it runs the script that its command line names, tells on standard error what went
+/// wrong, as `iommu-run: TEXT`, and gives the exit status.
+pub fn start(rt: &HostRuntime) -> ExitCode {
+    match run_command_line(rt) {
+        Ok(()) => ExitCode::SUCCESS,
+        Err(fault) => {
+            let _ = eprintln!(rt; "iommu-run: {fault}");
+            ExitCode::from(fault.status())
+        }
+    }
+}

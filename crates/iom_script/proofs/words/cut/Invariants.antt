@@ -1,6 +1,0 @@
-use Rattle.std.proofs.Common.{◌≡◌, ℕ, ◌<◌, get_or}
-use Rattle.iom_script.proofs.words.cut.Given as goal
-
--- no byte so far is the separator
-abbrev pub invariant-loop-i : goal.invariant-loop-i
-invariant-loop-i l = (k : ℕ) → k < l.i → get_or l.bytes k 0 ≡ l.separator → ⊥

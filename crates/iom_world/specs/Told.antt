@@ -1,0 +1,27 @@
+-- What the world's own calls tell, as outcomes.
+-- For the calls inside this crate alone; no public contract cites these.
+use Rattle.std.specs.Prelude.{◌≡◌, ℕ, List}
+use Rattle.arrayvec.specs.ArrayVec.{ArrayVec}
+use Rattle.iom_machine.specs.declared.outcome.Outcome.{Outcome}
+use Rattle.iom_machine.specs.declared.outcome.Outcome.TheVariants as outcome
+use Rattle.iom_world.specs.declared.told.Told.{Told}
+use Rattle.iom_world.specs.declared.told.Told.TheVariants.{Done, Refused, Ticket, Confirmed, NoneConfirmed, Fetched, Accepted, Busy, BadSpan, Fault, Wrote, NothingInFlight}
+
+-- the outcome that says the same
+abbrev pub outcome_of : Told → Outcome
+outcome_of Done = outcome.Done
+outcome_of (Refused why) = outcome.Refused why
+outcome_of (Ticket ticket) = outcome.Ticket ticket
+outcome_of (Confirmed first last) = outcome.Confirmed first last
+outcome_of NoneConfirmed = outcome.NoneConfirmed
+outcome_of (Fetched fetched) = outcome.Fetched fetched
+outcome_of (Accepted number) = outcome.Accepted number
+outcome_of Busy = outcome.Busy
+outcome_of BadSpan = outcome.BadSpan
+outcome_of (Fault cause) = outcome.Fault cause
+outcome_of (Wrote count) = outcome.Wrote count
+outcome_of NothingInFlight = outcome.NothingInFlight
+
+-- a read was made, and gave these bytes
+abbrev pub TellsBytes : Outcome → List ℕ → Type 0
+TellsBytes told bytes = (held : ArrayVec ℕ) × (told ≡ outcome.Read held) × (held.items ≡ bytes)

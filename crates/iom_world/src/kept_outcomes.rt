@@ -1,0 +1,39 @@
+//! Where the outcomes of a run are told.
+use iom_machine::{Event, Outcome};
+
+/// A place for the outcome of each kind of event, so that what a place held before is most often of the
+/// same kind as what is told there next.
+#[derive(Drop)]
+pub(crate) struct KeptOutcomes {
+    driver: Outcome,
+    released: Outcome,
+    fetched: Outcome,
+    polled: Outcome,
+    requested: Outcome,
+    made: Outcome,
+}
+
+impl KeptOutcomes {
+    pub(crate) fn new() -> KeptOutcomes {
+        KeptOutcomes {
+            driver: Outcome::Done,
+            released: Outcome::Done,
+            fetched: Outcome::Done,
+            polled: Outcome::Done,
+            requested: Outcome::Done,
+            made: Outcome::Done,
+        }
+    }
+
+    /// The place for the outcome of the event.
+    pub(crate) fn place_for(&mut self, event: &Event) -> &mut Outcome {
+        match event {
+            Event::Plug { .. } | Event::Attach { .. } | Event::Grant { .. } => &mut self.driver,
+            Event::Release { .. } => &mut self.released,
+            Event::Fetch => &mut self.fetched,
+            Event::Poll => &mut self.polled,
+            Event::Read { .. } | Event::Write { .. } => &mut self.requested,
+            Event::Commit { .. } => &mut self.made,
+        }
+    }
+}

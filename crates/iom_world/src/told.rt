@@ -1,0 +1,94 @@
+//! What the world's own calls tell.
+ghost use Rattle.std.specs.Prelude.{◌≡◌, ◌≤◌, length};
+ghost use Rattle.iom_world.specs.Told.{outcome_of, TellsBytes};
+
+use arrayvec::ArrayVec;
+use iom_base::Cause;
+use iom_ledger::Refusal;
+use iom_machine::{Fetched, Outcome};
+
+/// What comes of an event, but for the bytes of a read. An outcome is as large as a page, since those
+/// stand in it; this is small, and is handed from call to call.
+#[derive(Clone, Copy, PartialEq, Eq, Debug)]
+pub(crate) enum Told {
+    Done,
+    Refused(Refusal),
+    Ticket(u32),
+    Confirmed { first: u32, last: u32 },
+    NoneConfirmed,
+    Fetched(Fetched),
+    Accepted(u64),
+    Busy,
+    BadSpan,
+    Fault(Cause),
+    Wrote(u64),
+    NothingInFlight,
+}
+
+impl Told {
+    /// The outcome that says the same.
+    fn outcome(self) -> Outcome
+        ensures { result ≡ outcome_of self }
+    {
+        match self {
+            Told::Done => Outcome::Done,
+            Told::Refused(why) => Outcome::Refused(why),
+            Told::Ticket(ticket) => Outcome::Ticket(ticket),
+            Told::Confirmed { first, last } => Outcome::Confirmed { first, last },
+            Told::NoneConfirmed => Outcome::NoneConfirmed,
+            Told::Fetched(fetched) => Outcome::Fetched(fetched),
+            Told::Accepted(number) => Outcome::Accepted(number),
+            Told::Busy => Outcome::Busy,
+            Told::BadSpan => Outcome::BadSpan,
+            Told::Fault(cause) => Outcome::Fault(cause),
+            Told::Wrote(count) => Outcome::Wrote(count),
+            Told::NothingInFlight => Outcome::NothingInFlight,
+        }
+    }
+
+    /// Makes the outcome in the place say the same. Where it is one of this kind, only what differs is
+    /// written: a new one would be a whole page.
+    pub(crate) fn tell(self, place: &mut Outcome)
+        ensures { place.new ≡ outcome_of self }
+    {
+        match (self, &mut *place) {
+            (Told::Done, Outcome::Done)
+            | (Told::NoneConfirmed, Outcome::NoneConfirmed)
+            | (Told::Busy, Outcome::Busy)
+            | (Told::BadSpan, Outcome::BadSpan)
+            | (Told::NothingInFlight, Outcome::NothingInFlight) => {}
+            (Told::Refused(why), Outcome::Refused(held)) => *held = why,
+            (Told::Ticket(ticket), Outcome::Ticket(held)) => *held = ticket,
+            (
+                Told::Confirmed { first, last },
+                Outcome::Confirmed {
+                    first: held_first,
+                    last: held_last,
+                },
+            ) => {
+                *held_first = first;
+                *held_last = last;
+            }
+            (Told::Fetched(fetched), Outcome::Fetched(held)) => *held = fetched,
+            (Told::Accepted(number), Outcome::Accepted(held)) => *held = number,
+            (Told::Fault(cause), Outcome::Fault(held)) => *held = cause,
+            (Told::Wrote(count), Outcome::Wrote(held)) => *held = count,
+            _ => *place = self.outcome(),
+        }
+    }
+}
+
+/// Makes the outcome in the place say that a read gave the bytes.
+pub(crate) fn tell_read(bytes: &[u8], place: &mut Outcome)
+    requires { length bytes.now ≤ 4096 }
+    ensures { TellsBytes place.new bytes.now }
+{
+    if let Outcome::Read(held) = place {
+        held.clear();
+        held.try_extend_from_slice(bytes).unwrap();
+        return;
+    }
+    let mut held = ArrayVec::new();
+    held.try_extend_from_slice(bytes).unwrap();
+    *place = Outcome::Read(held);
+}
