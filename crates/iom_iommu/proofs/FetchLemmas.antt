@@ -1,6 +1,6 @@
 -- What a fetch does to the list of the commands that wait and to the frames of memory, and that it can answer in one way alone
 use Rattle.std.proofs.Common.{◌≡◌, ◌≢◌, ◌/◌, ◌%◌, ◌<◌, ◌∙◌, ℕ, Bool, true, false, List, [], ◌∷◌, length, slice_get, Option, Some, None, refl, sym, ap, subst, if◌then◌else◌}
-use Rattle.std.specs.Prelude.{◌↔◌, slice_set}
+use Rattle.std.specs.Prelude.{slice_set}
 use Rattle.std.specs.Option.{option_map_or}
 use Rattle.std.proofs.lemmas.List.{length-set}
 use Rattle.byteorder.specs.Endian.{little_bytes}
@@ -19,7 +19,7 @@ use Rattle.iom_iommu.specs.declared.iommu.Iommu.{Iommu}
 use Rattle.iom_iommu.specs.declared.fetched.Fetched.{Fetched}
 use Rattle.iom_iommu.specs.declared.fetched.Fetched.TheVariants.{Did, Waiting, Empty, Stopped}
 use Rattle.iom_iommu.specs.Parts.{registers_of}
-use Rattle.iom_iommu.specs.Fetches.{must_wait, store_of, asks_for_interrupt, with_store, IsFrameOf, IsOffRing, with_done, head_entry, WaitsAt, StopsAt, Stops, Fetches}
+use Rattle.iom_iommu.specs.Fetches.{store_of, asks_for_interrupt, with_store, IsFrameOf, IsOffRing, head_entry, WaitsAt, StopsAt, Stops, Fetches}
 
 -- something stands at the head, so head and tail aren't the same
 pub apart : (m : List (List ℕ)) (r : Registers) (entry : QueueEntry) → head_entry m r ≡ Some entry → command_head r ≢ command_tail r
@@ -54,6 +54,14 @@ pub store_length : (m : List (List ℕ)) (store : Option FenceStore) → length 
 store_length m None = refl
 store_length m (Some store) = word_length 4 store.data store.address m
 
+-- THE FRAMES that no word was stored in
+pub leaves_frames : (m n : List (List ℕ)) (i j : Iommu) (any : Bool) (command : Command) → Fetches m i any (Did command) n j
+    → ((k : ℕ) → ¬ IsFrameOf (store_of command) k → slice_get n k ≡ slice_get m k) × (length n ≡ length m)
+leaves_frames m n i j any command f = (
+  (λ k ne. ap (λ x. slice_get x k) f.4 ∙ store_elsewhere m (store_of command) k ne),
+  ap (λ x. length x) f.4 ∙ store_length m (store_of command),
+)
+
 -- the bits of cqcsr and ipsr leave the list
 fence_list : (m : List (List ℕ)) (r : Registers) (asks : Bool) → commands_in m (if asks then with_fence_w_ip r else r) ≡ commands_in m r
 fence_list m r true = same_ring m (with_fence_w_ip r) r refl refl refl refl
@@ -80,7 +88,14 @@ takes_first m n i j any command f off =
     ∙ ap (λ x. x ∷ commands_in m done) (first_of m r (stands.Command command) f.1)
     ∙ ap (λ xs. stands.Command command ∷ xs) (sym (stays_by_frames m n done alike) ∙ sym (fence_list n done (asks_for_interrupt command)) ∙ sym (ap (λ x. commands_in n (registers_of x)) f.5))
 
--- any other answer leaves the list
+-- any other answer leaves memory, and the list
+pub leaves_memory : (m n : List (List ℕ)) (i j : Iommu) (any : Bool) (answer : Fetched) → Fetches m i any answer n j
+    → ((command : Command) → ¬ (answer ≡ Did command)) → n ≡ m
+leaves_memory m n i j any (Did command) f not_done = absurd (not_done command refl)
+leaves_memory m n i j any Waiting f not_done = f.2
+leaves_memory m n i j any Empty f not_done = f.2
+leaves_memory m n i j any Stopped f not_done = f.1
+
 pub leaves_list : (m n : List (List ℕ)) (i j : Iommu) (any : Bool) (answer : Fetched) → Fetches m i any answer n j
     → ((command : Command) → ¬ (answer ≡ Did command)) → commands_in n (registers_of j) ≡ commands_in m (registers_of i)
 leaves_list m n i j any (Did command) f not_done = absurd (not_done command refl)

@@ -1,5 +1,5 @@
 -- Something stands at the head, so head and tail aren't the same.
-use Rattle.std.proofs.Common.{◌≡◌, ◌∙◌, sym}
+use Rattle.std.proofs.Common.{◌∙◌, sym}
 use Rattle.iom_command_queue.proofs.Waits.{none_is}
 use Rattle.iom_iommu.proofs.iommu.Iommu.take.Goals as goal
 
