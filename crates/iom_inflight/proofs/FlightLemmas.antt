@@ -4,9 +4,10 @@ use Rattle.std.proofs.lemmas.List.{take-append-le, drop-append-le, take_all}
 use Rattle.iom_base.specs.declared.access.AccessKind.{AccessKind}
 use Rattle.iom_base.specs.declared.access.AccessKind.TheVariants.{Read, Write}
 use Rattle.circular_buffer.specs.Buffer.{Buffer, buffer}
+use Rattle.iom_base.specs.declared.access.AcceptedAccess.{AcceptedAccess}
 use Rattle.iom_inflight.specs.declared.in_flight.AccessHeader.{AccessHeader}
-use Rattle.iom_inflight.specs.Flights.{Flight, header_of}
-use Rattle.iom_inflight.specs.Rings.{kept_bytes, flights_of, bytes_kept, AreShort, AreRings}
+use Rattle.iom_inflight.specs.Oldest.{header_of}
+use Rattle.iom_inflight.specs.Rings.{kept_bytes, accepted_with, flights_of, bytes_kept, AreShort, AreRings}
 
 -- each description has its access
 pub length-flights_of : (waiting : List AccessHeader) (bytes : List ℕ) → length (flights_of waiting bytes) ≡ length waiting
@@ -18,22 +19,18 @@ pub oldest_of : (waiting : List AccessHeader) (bytes : List ℕ) → option_map 
 oldest_of [] bytes = refl
 oldest_of (a ∷ later) bytes = refl
 
--- an access with the bytes that it keeps
-abbrev pub flight_with : AccessHeader → List ℕ → Flight
-flight_with a bytes = record { address = a.address; len = a.len; kind = a.kind; bytes = bytes; frame = a.frame }
-
 -- one more at the end
 pub flights_of-append : (waiting : List AccessHeader) (a : AccessHeader) (bytes own : List ℕ) → length bytes ≡ bytes_kept waiting → length own ≡ kept_bytes a.kind a.len
-    → flights_of (waiting ++ a ∷ []) (bytes ++ own) ≡ flights_of waiting bytes ++ flight_with a own ∷ []
-flights_of-append [] a [] own all long = ap (λ bs. flight_with a bs ∷ []) (take_all (kept_bytes a.kind a.len) own (omega (arith, long)))
+    → flights_of (waiting ++ a ∷ []) (bytes ++ own) ≡ flights_of waiting bytes ++ accepted_with a own ∷ []
+flights_of-append [] a [] own all long = ap (λ bs. accepted_with a bs ∷ []) (take_all (kept_bytes a.kind a.len) own (omega (arith, long)))
 flights_of-append [] a (b ∷ bytes) own all long = absurd (omega (arith, all))
 flights_of-append (first ∷ later) a bytes own all long =
     let kept : ℕ = kept_bytes first.kind first.len in
     let enough : kept ≤ length bytes = omega (arith, all) in
     let rest : length (drop kept bytes) ≡ bytes_kept later = omega (arith, length-drop kept bytes, all) in
-    ap (λ bs. flight_with first bs ∷ flights_of (later ++ a ∷ []) (drop kept (bytes ++ own))) (take-append-le kept bytes own enough)
-    ∙ ap (λ bs. flight_with first (take kept bytes) ∷ flights_of (later ++ a ∷ []) bs) (drop-append-le kept bytes own enough)
-    ∙ ap (λ fs. flight_with first (take kept bytes) ∷ fs) (flights_of-append later a (drop kept bytes) own rest long)
+    ap (λ bs. accepted_with first bs ∷ flights_of (later ++ a ∷ []) (drop kept (bytes ++ own))) (take-append-le kept bytes own enough)
+    ∙ ap (λ bs. accepted_with first (take kept bytes) ∷ flights_of (later ++ a ∷ []) bs) (drop-append-le kept bytes own enough)
+    ∙ ap (λ fs. accepted_with first (take kept bytes) ∷ fs) (flights_of-append later a (drop kept bytes) own rest long)
 
 -- the bytes that are kept with one more
 pub bytes_kept-append : (waiting : List AccessHeader) (a : AccessHeader) → bytes_kept (waiting ++ a ∷ []) ≡ bytes_kept waiting + kept_bytes a.kind a.len
@@ -71,10 +68,10 @@ byte_room : (waiting : Buffer AccessHeader) (bytes : Buffer ℕ) (n : ℕ) → A
 byte_room waiting bytes n rings few le = omega (arith, rings.all_kept, bytes_kept_le waiting.items rings.short)
 
 -- there is room for one more exactly where fewer than eight are in flight
-pub room_exactly : {U : Type 0} (pushed : Result U AccessHeader) (found : Option U) (waiting : Buffer AccessHeader) (bytes : Buffer ℕ) (flights : List Flight) → AreRings waiting bytes → flights_of waiting.items bytes.items ≡ flights
+pub room_exactly : {U : Type 0} (pushed : Result U AccessHeader) (found : Option U) (waiting : Buffer AccessHeader) (bytes : Buffer ℕ) (flights : List AcceptedAccess) → AreRings waiting bytes → flights_of waiting.items bytes.items ≡ flights
     → (IsOk pushed ↔ (length waiting.items < waiting.capacity)) → is_some found ≡ is_ok pushed → IsSome found ↔ (length flights < 8)
 room_exactly pushed found waiting bytes flights rings view ok some =
-    let same : length waiting.items ≡ length flights = sym (length-flights_of waiting.items bytes.items) ∙ ap (length {A = Flight}) view in
+    let same : length waiting.items ≡ length flights = sym (length-flights_of waiting.items bytes.items) ∙ ap (length {A = AcceptedAccess}) view in
     let cap = rings.eight in
     (λ h. let k = ok.0 (sym some ∙ h) in omega (arith, k, same, cap), λ h. some ∙ ok.1 (omega (arith, h, same, cap)))
 
@@ -90,14 +87,14 @@ module _ {U : Type 0} (waiting now : Buffer AccessHeader) (bytes : Buffer ℕ) (
   rings_after_read (Err x) ok err = subst (λ (w : Buffer AccessHeader). AreRings w bytes) (sym err.1) rings
 
   -- it goes last
-  pub flights_after_read : (pushed : Result U AccessHeader) (found : Option U) (flights : List Flight) → flights_of waiting.items bytes.items ≡ flights → is_some found ≡ is_ok pushed
-      → OnOk pushed (now ≡ buffer (waiting.items ++ a ∷ []) waiting.capacity) → OnSome found (flights_of now.items bytes.items ≡ flights ++ flight_with a [] ∷ [])
+  pub flights_after_read : (pushed : Result U AccessHeader) (found : Option U) (flights : List AcceptedAccess) → flights_of waiting.items bytes.items ≡ flights → is_some found ≡ is_ok pushed
+      → OnOk pushed (now ≡ buffer (waiting.items ++ a ∷ []) waiting.capacity) → OnSome found (flights_of now.items bytes.items ≡ flights ++ accepted_with a [] ∷ [])
   flights_after_read pushed None flights view some ok = tt
   flights_after_read (Ok u) (Some v) flights view some ok =
       ap (λ (w : Buffer AccessHeader). flights_of w.items bytes.items) ok
       ∙ ap (λ bs. flights_of (waiting.items ++ a ∷ []) bs) (sym (append-nil bytes.items))
       ∙ flights_of-append waiting.items a bytes.items [] rings.all_kept (sym kept)
-      ∙ ap (λ fs. fs ++ flight_with a [] ∷ []) view
+      ∙ ap (λ fs. fs ++ accepted_with a [] ∷ []) view
   flights_after_read (Err x) (Some v) flights view some ok = let no : ⊥ = cc in absurd no
 
 pub given_ok : {U E : Type 0} (r : Result U E) (P : Type 0) → true ≡ is_ok r → OnOk r P → P
@@ -114,6 +111,6 @@ module _ (waiting now : Buffer AccessHeader) (bytes then : Buffer ℕ) (a : Acce
   rings_after_write = rw (pushed, written) (rings_after waiting bytes a own rings (omega (arith, kept, le)) kept)
 
   -- it goes last, with them
-  pub flights_after_write : (flights : List Flight) → flights_of waiting.items bytes.items ≡ flights → flights_of now.items then.items ≡ flights ++ flight_with a own ∷ []
+  pub flights_after_write : (flights : List AcceptedAccess) → flights_of waiting.items bytes.items ≡ flights → flights_of now.items then.items ≡ flights ++ accepted_with a own ∷ []
   flights_after_write flights view =
-      rw (pushed, written) (flights_of-append waiting.items a bytes.items own rings.all_kept kept ∙ ap (λ fs. fs ++ flight_with a own ∷ []) view)
+      rw (pushed, written) (flights_of-append waiting.items a bytes.items own rings.all_kept kept ∙ ap (λ fs. fs ++ accepted_with a own ∷ []) view)

@@ -1,2 +1,2 @@
-pub mod Flights
+pub mod Oldest
 pub mod Rings

@@ -1,22 +1,25 @@
 -- For the invariant of `InFlight` alone: how the accesses stand in two rings, what describes them in one, the bytes of the writes in the other.
 use Rattle.std.specs.Prelude.{◌≡◌, ℕ, ◌+◌, ◌*◌, ◌≤◌, List, [], ◌∷◌, length, take, drop}
+use Rattle.iom_base.specs.declared.access.AcceptedAccess.{AcceptedAccess}
 use Rattle.iom_base.specs.declared.access.AccessKind.{AccessKind}
 use Rattle.iom_base.specs.declared.access.AccessKind.TheVariants.{Read, Write}
 use Rattle.circular_buffer.specs.Buffer.{Buffer}
 use Rattle.iom_inflight.specs.declared.in_flight.AccessHeader.{AccessHeader}
-use Rattle.iom_inflight.specs.Flights.{Flight}
 
 -- how many bytes an access keeps: those of a write
 abbrev pub kept_bytes : AccessKind → ℕ → ℕ
 kept_bytes Read len = 0
 kept_bytes Write len = len
 
+-- an access with the bytes that it keeps
+abbrev pub accepted_with : AccessHeader → List ℕ → AcceptedAccess
+accepted_with a bytes = record { access = record { address = a.address; len = a.len; kind = a.kind; bytes = bytes }; frame = a.frame }
+
 -- the accesses, each with its bytes off the front
-abbrev pub flights_of : List AccessHeader → List ℕ → List Flight
+abbrev pub flights_of : List AccessHeader → List ℕ → List AcceptedAccess
 flights_of [] bytes = []
 flights_of (a ∷ later) bytes =
-    record { address = a.address; len = a.len; kind = a.kind; bytes = take (kept_bytes a.kind a.len) bytes; frame = a.frame }
-    ∷ flights_of later (drop (kept_bytes a.kind a.len) bytes)
+    accepted_with a (take (kept_bytes a.kind a.len) bytes) ∷ flights_of later (drop (kept_bytes a.kind a.len) bytes)
 
 -- how many bytes all of them keep
 abbrev pub bytes_kept : List AccessHeader → ℕ

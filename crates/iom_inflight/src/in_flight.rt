@@ -1,6 +1,6 @@
 ghost use Rattle.std.specs.Prelude.{◌≡◌, ◌↔◌, ◌<◌, ◌≤◌, [], ◌∷◌, ◌++◌, length, drop, IfOk, Some, None, slice_get, option_map, OnSome, IsSome, IfNone};
-ghost use Rattle.iom_base.specs.declared.access.AccessKind.TheVariants.{Read, Write};
-ghost use Rattle.iom_inflight.specs.Flights.{read_flight, write_flight, header_of, OldestIsRead, OldestWrites};
+ghost use Rattle.iom_base.specs.Accesses.{read_of, write_of};
+ghost use Rattle.iom_inflight.specs.Oldest.{header_of, OldestIsRead, OldestWrites};
 
 use circular_buffer::HeapCircularBuffer;
 use iom_base::{AccessKind, FRAME_SIZE};
@@ -10,7 +10,8 @@ use std::marker::Model;
 /// How many accesses of one device may be in flight.
 pub const MAX_IN_FLIGHT: usize = 8;
 
-/// An access that was accepted, without the bytes of a write.
+/// What [`InFlight::oldest`] tells of an [`AcceptedAccess`](iom_base::AcceptedAccess): all of it but the
+/// bytes of a write, so that it is small and can be copied.
 #[derive(Clone, Copy, PartialEq, Eq, Debug)]
 pub struct AccessHeader {
     /// The address that the device asked for.
@@ -32,9 +33,9 @@ pub struct InFlight {
 
 impl Model for InFlight {
     ghost use Rattle.std.specs.Prelude.{List};
-    ghost use Rattle.iom_inflight.specs.Flights.{Flight};
+    ghost use Rattle.iom_base.specs.declared.access.AcceptedAccess.{AcceptedAccess};
 
-    ghost Value = { List Flight };
+    ghost Value = { List AcceptedAccess };
 
     ghost use Rattle.iom_inflight.specs.Rings.{flights_of, AreRings};
 
@@ -73,7 +74,7 @@ impl InFlight {
     /// are in flight, and then nothing changes. Takes no memory.
     pub fn accept_read(&mut self, address: u64, len: u16, frame: u32) -> Option<()>
         ensures room { IsSome result ↔ (length self.old < 8) }
-        ensures accepted { OnSome result (self.new ≡ self.old ++ read_flight address len frame ∷ []) }
+        ensures accepted { OnSome result (self.new ≡ self.old ++ record { access = read_of address len; frame = frame } ∷ []) }
         ensures refused { IfNone result (self.new ≡ self.old) }
     {
         let access = AccessHeader {
@@ -90,7 +91,7 @@ impl InFlight {
     pub fn accept_write(&mut self, address: u64, bytes: &[u8], frame: u32) -> Option<()>
         requires { length bytes.now ≤ 4096 }
         ensures room { IsSome result ↔ (length self.old < 8) }
-        ensures accepted { OnSome result (self.new ≡ self.old ++ write_flight address bytes.now frame ∷ []) }
+        ensures accepted { OnSome result (self.new ≡ self.old ++ record { access = write_of address bytes.now; frame = frame } ∷ []) }
         ensures refused { IfNone result (self.new ≡ self.old) }
     {
         let access = AccessHeader {
@@ -114,8 +115,8 @@ impl InFlight {
 
     /// The oldest is a write: its bytes come out, and it is no more in flight.
     pub fn take_write(&mut self, target: &mut [u8])
-        requires write { OldestWrites self.old target.old }
-        ensures bytes { option_map (λ f. f.bytes) (slice_get self.old 0) ≡ Some target.new }
+        requires write { OldestWrites self.old (length target.old) }
+        ensures bytes { option_map (λ f. f.access.bytes) (slice_get self.old 0) ≡ Some target.new }
         ensures rest { self.new ≡ drop 1 self.old }
     {
         self.waiting.pop_front();

@@ -2,9 +2,9 @@
 
 ghost use Rattle.std.specs.Prelude.{◌<◌};
 
-use iom_base::DeviceId;
+use iom_base::{DeviceId, Sequence};
 use iom_ledger::HistoryEntry;
-use iom_machine::{Choice, Event, Outcome, Sequence, State};
+use iom_machine::{Choice, Event, Outcome, State};
 use std::alloc::{AllocError, Global};
 
 /// A table of a device below its root, in the three levels of Sv39 (Privileged Architecture, chapter "Supervisor-Level

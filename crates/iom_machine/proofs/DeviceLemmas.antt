@@ -9,13 +9,14 @@ use Rattle.iom_machine.specs.declared.event.Event.{Event}
 use Rattle.iom_machine.specs.declared.event.Event.TheVariants as events
 use Rattle.iom_machine.specs.declared.outcome.Outcome.{Outcome}
 use Rattle.iom_machine.specs.declared.outcome.Outcome.TheVariants.{Done, Refused, Ticket, Confirmed, NoneConfirmed, Fetched, Accepted, Busy, BadSpan, Fault, Read, Wrote, NothingInFlight}
-use Rattle.iom_machine.specs.declared.state.Access.{Access}
-use Rattle.iom_machine.specs.declared.state.AcceptedAccess.{AcceptedAccess}
+use Rattle.iom_base.specs.declared.access.Access.{Access}
+use Rattle.iom_base.specs.declared.access.AcceptedAccess.{AcceptedAccess}
 use Rattle.iom_machine.specs.declared.state.Device.{Device}
 use Rattle.iom_machine.specs.declared.state.DeviceKind.{DeviceKind}
 use Rattle.iom_machine.specs.declared.state.State.{State}
 use Rattle.iom_machine.specs.Devices.{device_of, replaced_device}
-use Rattle.iom_machine.specs.Requests.{read_of, write_of, MayAnswer, state_after}
+use Rattle.iom_base.specs.Accesses.{read_of, write_of}
+use Rattle.iom_machine.specs.Requests.{MayAnswer, state_after}
 use Rattle.iom_machine.specs.Machine.{Requests, Makes, Commits, Step, Run, plugged_device}
 use Rattle.iom_machine.specs.Refusals.{plug_reasons, first_that_applies}
 use Rattle.iom_machine.specs.Headline.{asked_by, accepted_by, accepted_in, made_by, made_in, AccessesInFlightWereAccepted}

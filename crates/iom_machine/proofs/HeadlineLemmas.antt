@@ -16,15 +16,16 @@ use Rattle.iom_machine.specs.declared.event.Event.{Event}
 use Rattle.iom_machine.specs.declared.event.Event.TheVariants as events
 use Rattle.iom_machine.specs.declared.outcome.Outcome.{Outcome}
 use Rattle.iom_machine.specs.declared.outcome.Outcome.TheVariants.{Refused, Accepted, Busy, BadSpan, Fault, Read, Wrote, NothingInFlight}
-use Rattle.iom_machine.specs.declared.state.Access.{Access}
+use Rattle.iom_base.specs.declared.access.Access.{Access}
 use Rattle.iom_machine.specs.declared.state.Device.{Device}
 use Rattle.iom_machine.specs.declared.state.Frame.{Frame}
-use Rattle.iom_machine.specs.declared.state.AcceptedAccess.{AcceptedAccess}
+use Rattle.iom_base.specs.declared.access.AcceptedAccess.{AcceptedAccess}
 use Rattle.iom_machine.specs.declared.state.State.{State}
 use Rattle.iom_machine.specs.Frames.{bytes_of, stored}
 use Rattle.iom_machine.specs.Devices.{device_of, IsPlugged, EachInFlightMay}
 use Rattle.iom_machine.specs.Tickets.{confirmed_from}
-use Rattle.iom_machine.specs.Requests.{read_of, write_of, offset_of, IsWithinPage, IsBusy, HoldsFor, MayAcceptInOneStage, MayAccept, MayFault, MayAnswer, state_after, with_accepted}
+use Rattle.iom_base.specs.Accesses.{read_of, write_of, offset_of, IsWithinPage}
+use Rattle.iom_machine.specs.Requests.{IsBusy, HoldsFor, MayAcceptInOneStage, MayAccept, MayFault, MayAnswer, state_after, with_accepted}
 use Rattle.iom_machine.specs.Machine.{Requests, Makes, Step, Run, with_oldest_made}
 use Rattle.iom_machine.specs.Headline.{IsReached, byte_in, IsOldest, IsOutside, AreNamedBytes, TouchesItsOwn, AsksFor, IsOneStage, GrantsFrame, NoneGrants, TouchesFrame}
 use Rattle.iom_machine.proofs.ReachLemmas.{NamesFrame, reach_before}

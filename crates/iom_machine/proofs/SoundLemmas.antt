@@ -19,10 +19,10 @@ use Rattle.iom_machine.specs.declared.event.Event.{Event}
 use Rattle.iom_machine.specs.declared.event.Event.TheVariants as events
 use Rattle.iom_machine.specs.declared.outcome.Outcome.{Outcome}
 use Rattle.iom_machine.specs.declared.outcome.Outcome.TheVariants.{Done, Refused, Ticket, Confirmed, NoneConfirmed, Fetched, Accepted, Read, Wrote, NothingInFlight}
-use Rattle.iom_machine.specs.declared.state.Access.{Access}
+use Rattle.iom_base.specs.declared.access.Access.{Access}
 use Rattle.iom_machine.specs.declared.state.Device.{Device}
 use Rattle.iom_machine.specs.declared.state.Frame.{Frame}
-use Rattle.iom_machine.specs.declared.state.AcceptedAccess.{AcceptedAccess}
+use Rattle.iom_base.specs.declared.access.AcceptedAccess.{AcceptedAccess}
 use Rattle.iom_base.specs.declared.owner.Owner.{Owner}
 use Rattle.iom_base.specs.declared.owner.Owner.TheVariants.{System, OneDevice}
 use Rattle.iom_machine.specs.declared.state.State.{State}
@@ -30,7 +30,8 @@ use Rattle.iom_machine.specs.Frames.{with_frame, reserved_for, stored}
 use Rattle.iom_machine.specs.Devices.{device_of, EachInFlightMay}
 use Rattle.iom_machine.specs.Tickets.{confirmed_from}
 use Rattle.iom_machine.specs.Refusals.{NoneApplies, first_that_applies, grant_reasons, is_held, is_lingering}
-use Rattle.iom_machine.specs.Requests.{read_of, write_of, offset_of, IsWithinPage, state_after}
+use Rattle.iom_base.specs.Accesses.{read_of, write_of, offset_of, IsWithinPage}
+use Rattle.iom_machine.specs.Requests.{state_after}
 use Rattle.iom_machine.specs.Machine.{Requests, Makes, Commits, Step, Run}
 use Rattle.iom_machine.specs.PowerOn.{opening, empty_frame}
 use Rattle.iom_machine.specs.Headline.{GrantsFrame, AsksFor, IsReached}

@@ -7,17 +7,18 @@ use Rattle.iom_machine.specs.declared.event.Event.{Event}
 use Rattle.iom_machine.specs.declared.event.Event.TheVariants as events
 use Rattle.iom_machine.specs.declared.outcome.Outcome.{Outcome}
 use Rattle.iom_machine.specs.declared.outcome.Outcome.TheVariants.{Done, Refused, Ticket, Confirmed, NoneConfirmed, Fetched, Accepted, Busy, BadSpan, Fault, Read, Wrote, NothingInFlight}
-use Rattle.iom_machine.specs.declared.state.Access.{Access}
+use Rattle.iom_base.specs.declared.access.Access.{Access}
 use Rattle.iom_machine.specs.declared.state.Attachment.TheVariants.{Attached}
 use Rattle.iom_machine.specs.declared.state.Device.{Device}
 use Rattle.iom_machine.specs.declared.state.DeviceKind.TheVariants.{Raw}
 use Rattle.iom_machine.specs.declared.state.Frame.{Frame}
-use Rattle.iom_machine.specs.declared.state.AcceptedAccess.{AcceptedAccess}
+use Rattle.iom_base.specs.declared.access.AcceptedAccess.{AcceptedAccess}
 use Rattle.iom_machine.specs.declared.state.Mode.TheVariants.{First, Second}
 use Rattle.iom_machine.specs.declared.state.State.{State}
 use Rattle.iom_machine.specs.Frames.{IsFree, bytes_of}
 use Rattle.iom_machine.specs.Devices.{IsPlugged, EachInFlightMay}
-use Rattle.iom_machine.specs.Requests.{read_of, write_of, offset_of, IsWithinPage, IsBusy, HoldsFor, with_accepted}
+use Rattle.iom_base.specs.Accesses.{read_of, write_of, offset_of, IsWithinPage}
+use Rattle.iom_machine.specs.Requests.{IsBusy, HoldsFor, with_accepted}
 use Rattle.iom_machine.specs.Machine.{Step, Run}
 use Rattle.iom_machine.specs.PowerOn.{opening}
 

@@ -11,12 +11,12 @@ use Rattle.iom_machine.specs.declared.event.Event.{Event}
 use Rattle.iom_machine.specs.declared.event.Event.TheVariants as events
 use Rattle.iom_machine.specs.declared.outcome.Outcome.{Outcome}
 use Rattle.iom_machine.specs.declared.outcome.Outcome.TheVariants.{Done, Refused, Ticket, Confirmed, NoneConfirmed, Fetched, Read, Wrote, NothingInFlight}
-use Rattle.iom_machine.specs.declared.state.Access.{Access}
+use Rattle.iom_base.specs.declared.access.Access.{Access}
 use Rattle.iom_machine.specs.declared.state.Attachment.TheVariants.{Detached, Attached}
 use Rattle.iom_machine.specs.declared.state.Device.{Device}
 use Rattle.iom_machine.specs.declared.state.DeviceKind.{DeviceKind}
 use Rattle.iom_machine.specs.declared.state.DeviceKind.TheVariants.{Raw}
-use Rattle.iom_machine.specs.declared.state.AcceptedAccess.{AcceptedAccess}
+use Rattle.iom_base.specs.declared.access.AcceptedAccess.{AcceptedAccess}
 use Rattle.iom_machine.specs.declared.state.Mode.{Mode}
 use Rattle.iom_machine.specs.declared.state.Mode.TheVariants.{First}
 use Rattle.iom_base.specs.declared.owner.Owner.TheVariants.{OneDevice}
@@ -25,7 +25,8 @@ use Rattle.iom_machine.specs.Frames.{IsFree, IsFreeBesides, reserved_for, bytes_
 use Rattle.iom_machine.specs.Devices.{device_of, with_device, EachInFlightMay}
 use Rattle.iom_machine.specs.Tickets.{AreNextTickets, with_confirmed}
 use Rattle.iom_machine.specs.Refusals.{NoneApplies, IsRefusedBy, MayRefusePlug, MayRefuseAttach, MayRefuseGrant, MayRefuseRelease, plug_reasons, attach_reasons, grant_reasons, release_reasons}
-use Rattle.iom_machine.specs.Requests.{read_of, write_of, offset_of, MayAnswer, state_after}
+use Rattle.iom_base.specs.Accesses.{read_of, write_of, offset_of}
+use Rattle.iom_machine.specs.Requests.{MayAnswer, state_after}
 
 -- The event can come, so far: of devices raw ones alone, and of attachments those in the first stage without ATS. The steps below say what the others
 -- lead to all the same; nothing that asks for this takes them yet.

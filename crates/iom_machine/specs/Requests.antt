@@ -1,17 +1,17 @@
 -- What a device's request may be answered: the first of a bad span, eight in flight, and what the history says of the page.
-use Rattle.std.specs.Prelude.{◌≡◌, ℕ, ◌+◌, ◌/◌, ◌%◌, ◌≤◌, ◌⊎◌, true, false, List, [], ◌∷◌, ◌++◌, length, if◌then◌else◌}
+use Rattle.std.specs.Prelude.{◌≡◌, ℕ, ◌+◌, ◌≤◌, ◌⊎◌, true, false, List, [], ◌∷◌, ◌++◌, length, if◌then◌else◌}
 use Rattle.iom_base.specs.declared.access.AccessKind.{AccessKind}
-use Rattle.iom_base.specs.declared.access.AccessKind.TheVariants.{Read, Write}
 use Rattle.iom_base.specs.declared.cause.Cause.{Cause}
 use Rattle.iom_base.specs.declared.cause.Cause.TheVariants.{DirectoryEntryNotValid, TransactionTypeDisallowed}
 use Rattle.iom_base.specs.declared.rights.Rights.{Rights}
 use Rattle.iom_base.specs.Causes.{page_fault_of, guest_page_fault_of}
 use Rattle.iom_base.specs.Rights.{allows}
+use Rattle.iom_base.specs.Accesses.{page_of, IsWithinPage}
 use Rattle.iom_base.specs.Spans.{FitsInPage}
 use Rattle.iom_ledger.specs.History.{History, Holds, Lingers, May, confirms}
 use Rattle.iom_machine.specs.declared.outcome.Outcome.{Outcome}
 use Rattle.iom_machine.specs.declared.outcome.Outcome.TheVariants.{Accepted, Busy, BadSpan, Fault}
-use Rattle.iom_machine.specs.declared.state.Access.{Access}
+use Rattle.iom_base.specs.declared.access.Access.{Access}
 use Rattle.iom_machine.specs.declared.state.Attachment.{Attachment}
 use Rattle.iom_machine.specs.declared.state.Attachment.TheVariants.{Detached, Attached, Quarantined, Leaving}
 use Rattle.iom_machine.specs.declared.state.Device.{Device}
@@ -20,26 +20,6 @@ use Rattle.iom_machine.specs.declared.state.Mode.TheVariants.{First, Second, Bot
 use Rattle.iom_machine.specs.declared.state.State.{State}
 use Rattle.iom_machine.specs.Devices.{with_device}
 use Rattle.iom_machine.specs.Refusals.{is_too_wide}
-
--- a read of so many bytes
-abbrev pub read_of : ℕ → ℕ → Access
-read_of address len = record { address = address; len = len; kind = Read; bytes = [] }
-
--- a write of the bytes
-abbrev pub write_of : ℕ → List ℕ → Access
-write_of address bytes = record { address = address; len = length bytes; kind = Write; bytes = bytes }
-
--- the page that the access is to
-abbrev pub page_of : Access → ℕ
-page_of access = access.address / 4096
-
--- where in that page its bytes begin
-abbrev pub offset_of : Access → ℕ
-offset_of access = access.address % 4096
-
--- from 1 to 4,096 bytes, all in one page
-abbrev pub IsWithinPage : Access → Type 0
-IsWithinPage access = FitsInPage access.address access.len
 
 -- a device with these accesses in flight may have no more
 abbrev pub IsBusy : {X : Type 0} → List X → Type 0

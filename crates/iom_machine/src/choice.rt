@@ -1,4 +1,4 @@
-use crate::sequence::Sequence;
+use iom_base::Sequence;
 
 /// What a step leaves free and its outcome doesn't show.
 #[derive(Drop)]

@@ -1,6 +1,5 @@
-use crate::sequence::Sequence;
 use crate::state::{DeviceKind, Mode};
-use iom_base::{DeviceId, GrantRights};
+use iom_base::{DeviceId, GrantRights, Sequence};
 
 /// One thing that happens: a call of the driver, an act of a device or a step of the IOMMU.
 #[derive(Drop)]

@@ -2,9 +2,8 @@ ghost use Rattle.std.specs.Prelude.{◌≡◌, ◌≤◌, IfOk, length, replicat
 ghost use Rattle.iom_machine.specs.PowerOn.{opening, empty_frame};
 
 use crate::decide::frames::reserve;
-use crate::sequence::Sequence;
 use crate::state::{Frame, State};
-use iom_base::Owner;
+use iom_base::{Owner, Sequence};
 use std::alloc::{AllocError, Global};
 
 /// A frame of zeros that belongs to nobody.
@@ -14,7 +13,7 @@ fn new_frame(alloc: Global) -> Result<Frame, AllocError>
     let items = vec![in alloc; 0u8; 4096]?;
     Ok(Frame {
         owner: None,
-        bytes: Sequence { items },
+        bytes: Sequence::from_vec(items),
     })
 }
 
@@ -29,7 +28,7 @@ pub fn power_on(alloc: Global, frames: u32, levels: u8) -> Result<State, AllocEr
     for _number in 0..frames {
         items.push(new_frame(alloc)?)?;
     }
-    let mut all = Sequence { items };
+    let mut all = Sequence::from_vec(items);
     let last_four = [frames - 4, frames - 3, frames - 2, frames - 1];
     reserve(&mut all, &last_four, Owner::System);
     Ok(State {

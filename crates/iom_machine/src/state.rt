@@ -1,5 +1,4 @@
-use crate::sequence::Sequence;
-use iom_base::{AccessKind, DeviceId, Owner};
+use iom_base::{AcceptedAccess, DeviceId, Owner, Sequence};
 use iom_ledger::HistoryEntry;
 
 /// What a device is, and so which requests it can make.
@@ -40,23 +39,6 @@ pub enum Attachment {
 pub struct Frame {
     pub owner: Option<Owner>,
     pub bytes: Sequence<u8>,
-}
-
-/// What a device asks of memory.
-#[derive(Drop)]
-pub struct Access {
-    pub address: u64,
-    pub len: u64,
-    pub kind: AccessKind,
-    /// The bytes of a write; none of a read.
-    pub bytes: Sequence<u8>,
-}
-
-/// An access that is accepted and not yet made, with the frame that it will touch.
-#[derive(Drop)]
-pub struct AcceptedAccess {
-    pub access: Access,
-    pub frame: u32,
 }
 
 /// A plugged device.

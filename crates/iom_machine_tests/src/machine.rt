@@ -1,8 +1,8 @@
 use arrayvec::ArrayVec;
-use iom_base::{Cause, DeviceId, GrantRights};
+use iom_base::{Cause, DeviceId, GrantRights, Sequence};
 use iom_ledger::Refusal;
 use iom_machine::{
-    Choice, CommandName, DeviceKind, Event, Fetched, Line, Mode, Outcome, Sequence, Verdict, judge,
+    Choice, CommandName, DeviceKind, Event, Fetched, Line, Mode, Outcome, Verdict, judge,
     judge_run, lawful_runs_have_choices, power_on, reclaim_theorem,
 };
 use std::alloc::Global;

@@ -1,8 +1,9 @@
 use bitflags::Flags;
-use iom_base::{AccessKind, Cause, Rights, Span};
+use iom_base::{AccessKind, Cause, Rights, Sequence, Span};
 use std::alloc::{AllocError, Global};
 use std::fmt::Display;
 use std::process::Abort;
+use std::test::Fail;
 
 #[test]
 fn rights_allow_what_they_name(rt: HostRuntime) {
@@ -99,4 +100,21 @@ fn prints<T: Display>(rt: &impl Abort, alloc: Global, value: &T, want: &str) {
     };
     let text = text.expect(rt, "memory for a text");
     assert_eq!(rt; text.as_str(), want);
+}
+
+#[test]
+fn a_sequence_keeps_its_order(rt: HostRuntime) -> Result<(), Fail> {
+    let mut values = Sequence::with_capacity(rt.alloc(), 3)?;
+    values.push(5u8)?;
+    values.push(6)?;
+    values.push_front(4)?;
+    *values.item_mut(1) = 9;
+    assert_eq!(rt; values.as_slice(), [4, 9, 6].as_slice());
+    assert_eq!(rt; values.pop_front(), 4);
+    assert_eq!(rt; values.as_slice(), [9, 6].as_slice());
+    let none = Sequence::<u8>::new(rt.alloc());
+    assert!(rt; none.as_slice().is_empty());
+    let two = Sequence::from_vec(vec![in rt.alloc(); 7u8; 2]?);
+    assert_eq!(rt; two.as_slice(), [7, 7].as_slice());
+    Ok(())
 }

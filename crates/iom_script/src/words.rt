@@ -4,8 +4,7 @@ ghost use Rattle.iom_script.specs.Digits.{hex_digit, hex_digits};
 ghost use Rattle.iom_script.specs.Words.{Reads, IsWithout, IsDevice, IsNumber, IsAddress, IsRight, IsHex, ◌␣◌};
 ghost use Rattle.iom_script.specs.Cuts.{shown, shown_rest, with_rest, IsCut, IsFirstSpace, Begins, LeadsWithHex};
 
-use iom_base::{DeviceId, GrantRights};
-use iom_machine::Sequence;
+use iom_base::{DeviceId, GrantRights, Sequence};
 use memchr::memchr;
 use std::alloc::{AllocError, Global};
 

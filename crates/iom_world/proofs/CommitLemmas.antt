@@ -10,16 +10,15 @@ use Rattle.iom_base.specs.declared.access.AccessKind.{AccessKind}
 use Rattle.iom_base.specs.declared.access.AccessKind.TheVariants as kinds
 use Rattle.iom_base.specs.declared.rights.Rights.{Rights}
 use Rattle.iom_base.specs.Rights.{allows}
-use Rattle.iom_inflight.specs.Flights.{Flight}
 use Rattle.iom_inflight.specs.declared.in_flight.AccessHeader.{AccessHeader}
-use Rattle.iom_inflight.specs.Flights.{OldestIsRead, header_of}
+use Rattle.iom_inflight.specs.Oldest.{OldestIsRead, OldestWrites, header_of}
 use Rattle.iom_ledger.specs.declared.ledger.Ledger.{Ledger}
 use Rattle.iom_ledger.specs.History.{Pair, May, serves}
 use Rattle.iom_ledger.specs.Shown.{Agrees, held_in, released_in}
 use Rattle.iom_machine.specs.declared.outcome.Outcome.TheVariants.{Read, Wrote, NothingInFlight}
 use Rattle.iom_machine.specs.declared.state.Device as machine
 use Rattle.iom_machine.specs.declared.state.Frame.{Frame}
-use Rattle.iom_machine.specs.declared.state.AcceptedAccess.{AcceptedAccess}
+use Rattle.iom_base.specs.declared.access.AcceptedAccess.{AcceptedAccess}
 use Rattle.iom_machine.specs.declared.state.State.{State}
 use Rattle.iom_machine.specs.Devices.{with_device}
 use Rattle.iom_machine.specs.Frames.{bytes_of, stored}
@@ -27,10 +26,10 @@ use Rattle.iom_machine.specs.Machine.{Commits, Makes, with_oldest_made}
 use Rattle.iom_base.specs.declared.owner.Owner.{Owner}
 use Rattle.iom_base.specs.declared.owner.Owner.TheVariants.{OneDevice}
 use Rattle.iom_world.specs.declared.device.Device.{Device}
-use Rattle.iom_world.specs.Devices.{shown_flight, shown_device, shown_devices}
+use Rattle.iom_world.specs.Devices.{shown_device, shown_devices}
 use Rattle.iom_world.specs.Facts.{IsGrant, AreGrants, IsSoundDevice, IsCovered, AllCovered, serves_still}
 use Rattle.iom_world.specs.Frames.{ShowsFrames}
-use Rattle.iom_world.specs.Oldest.{OldestWritesSoMany, IsOldestAt}
+use Rattle.iom_world.specs.Oldest.{IsOldestAt}
 use Rattle.iom_world.specs.Places.{IsPlaceOf}
 use Rattle.iom_world.specs.Queue.{Queue}
 use Rattle.iom_world.specs.Sound.{IsSound}
@@ -56,13 +55,13 @@ unreserved_by_released None marks completed page frame kind granted serving = ab
 unreserved_by_released (Some released) marks completed page frame kind granted serving =
     unreserved_by_held (Some released.1) marks page frame kind granted (and_parts (nat_lt completed released.0) (serves frame kind released.1) serving).1
 
-pub unreserved : (marks : List (Option Owner)) (ledger : Ledger) (completed id : ℕ) (flight : Flight) → AreGrants marks ledger → IsCovered ledger completed id flight
+pub unreserved : (marks : List (Option Owner)) (ledger : Ledger) (completed id : ℕ) (flight : AcceptedAccess) → AreGrants marks ledger → IsCovered ledger completed id flight
     → slice_get marks flight.frame ≡ Some None
 unreserved marks ledger completed id flight grants covered =
-    let page = flight.address / 4096 in
+    let page = flight.access.address / 4096 in
     elim (or_cases _ _ covered.covered) [
-      | inl held ↦ unreserved_by_held (held_in ledger id page) marks page flight.frame flight.kind (λ f rights is. grants.held id page f rights is) held
-      | inr released ↦ unreserved_by_released (released_in ledger id page) marks completed page flight.frame flight.kind (λ f rights is. grants.lingering id page f rights is) released
+      | inl held ↦ unreserved_by_held (held_in ledger id page) marks page flight.frame flight.access.kind (λ f rights is. grants.held id page f rights is) held
+      | inr released ↦ unreserved_by_released (released_in ledger id page) marks completed page flight.frame flight.access.kind (λ f rights is. grants.lingering id page f rights is) released
     ]
 
 -- so it is a frame of memory
@@ -82,23 +81,15 @@ bytes_shown None bytes is = cc
 bytes_shown (Some frame) bytes is = cc
 
 -- the oldest access of those in flight
-pub oldest_is_read : (flights : List Flight) (flight : Flight) → slice_get flights 0 ≡ Some flight → flight.kind ≡ kinds.Read → OldestIsRead flights
+pub oldest_is_read : (flights : List AcceptedAccess) (flight : AcceptedAccess) → slice_get flights 0 ≡ Some flight → flight.access.kind ≡ kinds.Read → OldestIsRead flights
 oldest_is_read [] flight at kind = cc
-oldest_is_read (first ∷ later) flight at kind = let same : first ≡ flight = cc in ap (λ (f : Flight). f.kind) same ∙ kind
+oldest_is_read (first ∷ later) flight at kind = let same : first ≡ flight = cc in ap (λ (f : AcceptedAccess). f.access.kind) same ∙ kind
 
-pub oldest_writes : (flights : List Flight) (flight : Flight) (len : ℕ) → slice_get flights 0 ≡ Some flight → flight.kind ≡ kinds.Write → flight.len ≡ len → OldestWritesSoMany flights len
+pub oldest_writes : (flights : List AcceptedAccess) (flight : AcceptedAccess) (len : ℕ) → slice_get flights 0 ≡ Some flight → flight.access.kind ≡ kinds.Write → flight.access.len ≡ len → OldestWrites flights len
 oldest_writes [] flight len at kind long = cc
 oldest_writes (first ∷ later) flight len at kind long =
     let same : first ≡ flight = cc in
-    (ap (λ (f : Flight). f.kind) same ∙ kind, ap (λ (f : Flight). f.len) same ∙ long)
-
-pub shown_oldest : (flights : List Flight) (flight : Flight) → slice_get flights 0 ≡ Some flight → slice_get (map shown_flight flights) 0 ≡ Some (shown_flight flight)
-shown_oldest [] flight at = cc
-shown_oldest (first ∷ later) flight at = let same : first ≡ flight = cc in ap (λ (f : Flight). Some (shown_flight f)) same
-
-shown_rest : (flights : List Flight) → map shown_flight (drop 1 flights) ≡ drop 1 (map shown_flight flights)
-shown_rest [] = refl
-shown_rest (first ∷ later) = refl
+    (ap (λ (f : AcceptedAccess). f.access.kind) same ∙ kind, ap (λ (f : AcceptedAccess). f.access.len) same ∙ long)
 
 -- the device, whose oldest access is in flight no more
 abbrev pub without_oldest : Device → Device
@@ -107,7 +98,7 @@ without_oldest device = record device { in_flight = drop 1 device.in_flight }
 pub still_made : (device now : Device) → now ≡ without_oldest device → IsStill device now
 still_made device now is = rw is (record { id = refl; root = refl })
 
-rest_covered : (ledger : Ledger) (completed id : ℕ) (flights : List Flight) → AllCovered ledger completed id flights → AllCovered ledger completed id (drop 1 flights)
+rest_covered : (ledger : Ledger) (completed id : ℕ) (flights : List AcceptedAccess) → AllCovered ledger completed id flights → AllCovered ledger completed id (drop 1 flights)
 rest_covered ledger completed id [] covered k flight at = cc
 rest_covered ledger completed id (first ∷ later) covered k flight at = covered (suc k) flight at
 
@@ -133,8 +124,7 @@ tables_made memory marks ledger devices place device now tables at is = tables_c
 pub devices_made : (state : State) (devices : List Device) (id place : ℕ) (now : Device) (is : IsPlaceOf devices id place) → state.devices ≡ shown_devices devices → now ≡ without_oldest is.0
     → (with_oldest_made state (shown_device is.0)).devices ≡ shown_devices (slice_set devices place now)
 devices_made state devices id place now is shown same =
-    ap (λ (fs : List AcceptedAccess). (with_device state (record (shown_device is.0) { in_flight = fs })).devices) (sym (shown_rest is.0.in_flight))
-    ∙ shown_changed state devices id place (without_oldest is.0) shown is is.2
+    shown_changed state devices id place (without_oldest is.0) shown is is.2
     ∙ ap (λ (d : Device). shown_devices (slice_set devices place d)) (sym same)
 
 -- bytes of a frame that isn't reserved change: in what holds between the parts of the world
@@ -222,13 +212,13 @@ known_of_some None P x is known = absurd known
 known_of_some (Some y) P x is known = let same : y ≡ x = cc in subst P same known
 
 -- what is known of the access that is to be made: its frame is one of memory, that isn't reserved
-pub record IsMade (memory : List (List ℕ)) (marks : List (Option Owner)) (flight : Flight) : Type 0 where
+pub record IsMade (memory : List (List ℕ)) (marks : List (Option Owner)) (flight : AcceptedAccess) : Type 0 where
   pub free : slice_get marks flight.frame ≡ Some None
   pub bytes : List ℕ
   pub there : slice_get memory flight.frame ≡ Some bytes
-  pub within : flight.address % 4096 + flight.len ≤ 4096
+  pub within : flight.access.address % 4096 + flight.access.len ≤ 4096
 
-pub may_be_made : (memory : List (List ℕ)) (marks : List (Option Owner)) (ledger : Ledger) (devices : List Device) (queue : Queue) (events place : ℕ) (device : Device) (flight : Flight)
+pub may_be_made : (memory : List (List ℕ)) (marks : List (Option Owner)) (ledger : Ledger) (devices : List Device) (queue : Queue) (events place : ℕ) (device : Device) (flight : AcceptedAccess)
     → IsSound memory marks ledger devices queue events → slice_get devices place ≡ Some device → slice_get device.in_flight 0 ≡ Some flight → IsMade memory marks flight
 may_be_made memory marks ledger devices queue events place device flight sound at oldest =
     let covered = (sound.each place device at).covered 0 flight oldest in
@@ -237,10 +227,10 @@ may_be_made memory marks ledger devices queue events place device flight sound a
     record { free = free; bytes = there.0; there = there.1; within = covered.within.1 }
 
 -- the access is made by the ledger machine
-module _ (state : State) (ledger : Ledger) (memory : List (List ℕ)) (marks : List (Option Owner)) (devices : List Device) (queue : Queue) (events id place : ℕ) (flight : Flight)
+module _ (state : State) (ledger : Ledger) (memory : List (List ℕ)) (marks : List (Option Owner)) (devices : List Device) (queue : Queue) (events id place : ℕ) (flight : AcceptedAccess)
     (sound : IsSound memory marks ledger devices queue events) (agrees : Agrees ledger state.history) (frames : ShowsFrames memory marks state.frames)
     (shown : state.devices ≡ shown_devices devices) (is : IsPlaceOf devices id place) (oldest : slice_get is.0.in_flight 0 ≡ Some flight) where
-  may_reach : May state.history is.0.id flight.frame flight.kind
+  may_reach : May state.history is.0.id flight.frame flight.access.kind
   may_reach = May-covered ledger state.history queue.completed is.0.id flight agrees ((sound.each place is.0 is.1).covered 0 flight oldest)
 
   made_bytes : (bytes : List ℕ) → slice_get memory flight.frame ≡ Some bytes → bytes_of state.frames flight.frame ≡ bytes
@@ -248,26 +238,26 @@ module _ (state : State) (ledger : Ledger) (memory : List (List ℕ)) (marks : L
       bytes_shown (slice_get state.frames flight.frame) bytes
       (frames.bytes flight.frame (unreserved marks ledger queue.completed is.0.id flight sound.grants ((sound.each place is.0 is.1).covered 0 flight oldest)) ∙ there)
 
-  pub commits_read : (bytes : List ℕ) (result : ArrayVec ℕ) → flight.kind ≡ kinds.Read → slice_get memory flight.frame ≡ Some bytes
-      → result.items ≡ slice_range bytes (flight.address % 4096) (flight.address % 4096 + flight.len)
+  pub commits_read : (bytes : List ℕ) (result : ArrayVec ℕ) → flight.access.kind ≡ kinds.Read → slice_get memory flight.frame ≡ Some bytes
+      → result.items ≡ slice_range bytes (flight.access.address % 4096) (flight.access.address % 4096 + flight.access.len)
       → Commits state id (Read result) (with_oldest_made state (shown_device is.0))
   commits_read bytes result kind there items =
       acts_at (λ (device : machine.Device). Makes state device (Read result) (with_oldest_made state (shown_device is.0))) state devices id place (Read result) (with_oldest_made state (shown_device is.0)) shown is
-      (rw (shown_oldest is.0.in_flight flight oldest) (
+      (rw oldest (
         (
           kind,
           subst (λ k. May state.history is.0.id flight.frame k) kind may_reach,
-          items ∙ ap (λ (b : List ℕ). slice_range b (flight.address % 4096) (flight.address % 4096 + flight.len)) (sym (made_bytes bytes there)),
+          items ∙ ap (λ (b : List ℕ). slice_range b (flight.access.address % 4096) (flight.access.address % 4096 + flight.access.len)) (sym (made_bytes bytes there)),
         ),
         refl,
       ))
 
-  pub commits_write : (len : ℕ) → flight.kind ≡ kinds.Write → len ≡ flight.len
-      → Commits state id (Wrote len) (record (with_oldest_made state (shown_device is.0)) { frames = stored state.frames flight.frame (flight.address % 4096) flight.bytes })
+  pub commits_write : (len : ℕ) → flight.access.kind ≡ kinds.Write → len ≡ flight.access.len
+      → Commits state id (Wrote len) (record (with_oldest_made state (shown_device is.0)) { frames = stored state.frames flight.frame (flight.access.address % 4096) flight.access.bytes })
   commits_write len kind long =
-      acts_at (λ (device : machine.Device). Makes state device (Wrote len) (record (with_oldest_made state (shown_device is.0)) { frames = stored state.frames flight.frame (flight.address % 4096) flight.bytes }))
-      state devices id place (Wrote len) (record (with_oldest_made state (shown_device is.0)) { frames = stored state.frames flight.frame (flight.address % 4096) flight.bytes }) shown is
-      (rw (shown_oldest is.0.in_flight flight oldest)
+      acts_at (λ (device : machine.Device). Makes state device (Wrote len) (record (with_oldest_made state (shown_device is.0)) { frames = stored state.frames flight.frame (flight.access.address % 4096) flight.access.bytes }))
+      state devices id place (Wrote len) (record (with_oldest_made state (shown_device is.0)) { frames = stored state.frames flight.frame (flight.access.address % 4096) flight.access.bytes }) shown is
+      (rw oldest
       ((kind, subst (λ k. May state.history is.0.id flight.frame k) kind may_reach, long), refl))
 
 -- the access that stands first in flight is the oldest
@@ -275,16 +265,16 @@ pub oldest_at : (devices : List Device) (place : ℕ) (device : Device) (access 
     → Some access ≡ option_map header_of (slice_get device.in_flight 0) → access.kind ≡ kind → IsOldestAt devices place access kind
 oldest_at devices place device access kind at oldest same = by (slice_get device.in_flight 0) refl oldest
   where
-    by : (o : Option Flight) → slice_get device.in_flight 0 ≡ o → Some access ≡ option_map header_of o → IsOldestAt devices place access kind
+    by : (o : Option AcceptedAccess) → slice_get device.in_flight 0 ≡ o → Some access ≡ option_map header_of o → IsOldestAt devices place access kind
     by None is none = cc
     by (Some flight) is some = let known : access ≡ header_of flight = cc in (device, flight, at, is, known, sym (ap (λ (a : AccessHeader). a.kind) known) ∙ same)
 
 -- nothing is made where nothing is in flight
-none_shown : (flights : List Flight) → None ≡ option_map header_of (slice_get flights 0) → map shown_flight flights ≡ []
-none_shown [] none = refl
-none_shown (first ∷ later) none = cc
+none_there : (flights : List AcceptedAccess) → None ≡ option_map header_of (slice_get flights 0) → flights ≡ []
+none_there [] none = refl
+none_there (first ∷ later) none = cc
 
 pub commits_nothing : (state : State) (devices : List Device) (id place : ℕ) (is : IsPlaceOf devices id place) → state.devices ≡ shown_devices devices
     → None ≡ option_map header_of (slice_get is.0.in_flight 0) → Commits state id NothingInFlight state
 commits_nothing state devices id place is shown none =
-    acts_at (λ (device : machine.Device). Makes state device NothingInFlight state) state devices id place NothingInFlight state shown is (none_shown is.0.in_flight none, refl)
+    acts_at (λ (device : machine.Device). Makes state device NothingInFlight state) state devices id place NothingInFlight state shown is (none_there is.0.in_flight none, refl)

@@ -3,7 +3,7 @@ use Rattle.std.proofs.Common.{◌≡◌, ◌/◌, ◌^◌, ◌<◌, ◌==◌, �
 use Rattle.std.specs.Option.{option_map_or}
 use Rattle.std.proofs.lemmas.Bool.{false≢true, and_parts, eqb-true, eq-eqb}
 use Rattle.iom_base.specs.declared.rights.Rights.{Rights}
-use Rattle.iom_inflight.specs.Flights.{Flight}
+use Rattle.iom_base.specs.declared.access.AcceptedAccess.{AcceptedAccess}
 use Rattle.iom_ledger.specs.declared.ledger.Ledger.{Ledger}
 use Rattle.iom_ledger.specs.Changes as changes
 use Rattle.iom_ledger.specs.History.{Pair, serves}
@@ -30,11 +30,11 @@ grants_unchanged marks old new same grants = record {
       grants.lingering device page frame rights (ap (λ (o : Option (ℕ × Pair)). option_map (λ released. released.1) o) (sym (same.lingering device page)) ∙ lingers);
 }
 
-covered_same : (old new : Ledger) (completed id : ℕ) (flight : Flight) → held_in new id (flight.address / 4096) ≡ held_in old id (flight.address / 4096)
-    → released_in new id (flight.address / 4096) ≡ released_in old id (flight.address / 4096) → IsCovered old completed id flight → IsCovered new completed id flight
+covered_same : (old new : Ledger) (completed id : ℕ) (flight : AcceptedAccess) → held_in new id (flight.access.address / 4096) ≡ held_in old id (flight.access.address / 4096)
+    → released_in new id (flight.access.address / 4096) ≡ released_in old id (flight.access.address / 4096) → IsCovered old completed id flight → IsCovered new completed id flight
 covered_same old new completed id flight held released covered = record {
-  covered = ap (λ (o : Option Pair). option_map_or (serves flight.frame flight.kind) o false || option_map_or (serves_still completed flight.frame flight.kind) (released_in new id (flight.address / 4096)) false) held
-      ∙ ap (λ (o : Option (ℕ × Pair)). option_map_or (serves flight.frame flight.kind) (held_in old id (flight.address / 4096)) false || option_map_or (serves_still completed flight.frame flight.kind) o false) released
+  covered = ap (λ (o : Option Pair). option_map_or (serves flight.frame flight.access.kind) o false || option_map_or (serves_still completed flight.frame flight.access.kind) (released_in new id (flight.access.address / 4096)) false) held
+      ∙ ap (λ (o : Option (ℕ × Pair)). option_map_or (serves flight.frame flight.access.kind) (held_in old id (flight.access.address / 4096)) false || option_map_or (serves_still completed flight.frame flight.access.kind) o false) released
       ∙ covered.covered;
   within = covered.within;
 }
@@ -46,7 +46,7 @@ sound_unchanged memory marks old new devices queue events same sound = record {
   grants = grants_unchanged marks old new same sound.grants;
   each = λ k device at. let was = sound.each k device at in record {
     detached = λ no page. same.held device.id page ∙ was.detached no page;
-    covered = λ j flight there. covered_same old new queue.completed device.id flight (same.held device.id (flight.address / 4096)) (same.lingering device.id (flight.address / 4096)) (was.covered j flight there);
+    covered = λ j flight there. covered_same old new queue.completed device.id flight (same.held device.id (flight.access.address / 4096)) (same.lingering device.id (flight.access.address / 4096)) (was.covered j flight there);
     counted = was.counted;
   };
   own_ids = sound.own_ids;
@@ -109,11 +109,11 @@ grants_more marks old new memory id page frame rights tables long grants granted
         record { page_low = grant.page_low; unreserved = mark_stays id f tables marks (not_among (λ t. IsFreeForTable marks old (Some frame) t) f tables free (λ is_free. (is_free.ungranted device p r).0 before)) ∙ grant.unreserved }
 
 -- where nothing is held and nothing lingers no access is covered
-nothing_covers : (ledger : Ledger) (completed id : ℕ) (flight : Flight) → held_in ledger id (flight.address / 4096) ≡ None → lingering_in ledger id (flight.address / 4096) ≡ None → IsCovered ledger completed id flight → ⊥
-nothing_covers ledger completed id flight held lingering covered = by (released_in ledger id (flight.address / 4096)) lingering
-    (ap (λ (o : Option Pair). option_map_or (serves flight.frame flight.kind) o false || option_map_or (serves_still completed flight.frame flight.kind) (released_in ledger id (flight.address / 4096)) false) (sym held) ∙ covered.covered)
+nothing_covers : (ledger : Ledger) (completed id : ℕ) (flight : AcceptedAccess) → held_in ledger id (flight.access.address / 4096) ≡ None → lingering_in ledger id (flight.access.address / 4096) ≡ None → IsCovered ledger completed id flight → ⊥
+nothing_covers ledger completed id flight held lingering covered = by (released_in ledger id (flight.access.address / 4096)) lingering
+    (ap (λ (o : Option Pair). option_map_or (serves flight.frame flight.access.kind) o false || option_map_or (serves_still completed flight.frame flight.access.kind) (released_in ledger id (flight.access.address / 4096)) false) (sym held) ∙ covered.covered)
   where
-    by : (released : Option (ℕ × Pair)) → option_map (λ (r : ℕ × Pair). r.1) released ≡ None → (false || option_map_or (serves_still completed flight.frame flight.kind) released false) ≡ true → ⊥
+    by : (released : Option (ℕ × Pair)) → option_map (λ (r : ℕ × Pair). r.1) released ≡ None → (false || option_map_or (serves_still completed flight.frame flight.access.kind) released false) ≡ true → ⊥
     by None none some = false≢true some
     by (Some r) none some = cc
 
@@ -128,12 +128,12 @@ sound_granted memory memory' marks old new devices queue events id page frame ro
       | inl now ↦ absurd (contra (sym (one_device devices id root k device sound.own_ids is_root at (sym now.0)) ∙ no))
       | inr still ↦ still.1 ∙ was.detached no p
     ];
-    covered = λ j flight there. elim (here_or_there id page device.id (flight.address / 4096) (frame, rights) (held_in old device.id (flight.address / 4096)) (held_in new device.id (flight.address / 4096)) (granted.held device.id (flight.address / 4096))) [
+    covered = λ j flight there. elim (here_or_there id page device.id (flight.access.address / 4096) (frame, rights) (held_in old device.id (flight.access.address / 4096)) (held_in new device.id (flight.access.address / 4096)) (granted.held device.id (flight.access.address / 4096))) [
       | inl now ↦ absurd (nothing_covers old queue.completed device.id flight
-          (subst (λ d. held_in old d (flight.address / 4096) ≡ None) now.0 (subst (λ p. held_in old id p ≡ None) now.1 may.not_held))
-          (subst (λ d. lingering_in old d (flight.address / 4096) ≡ None) now.0 (subst (λ p. lingering_in old id p ≡ None) now.1 may.not_lingering))
+          (subst (λ d. held_in old d (flight.access.address / 4096) ≡ None) now.0 (subst (λ p. held_in old id p ≡ None) now.1 may.not_held))
+          (subst (λ d. lingering_in old d (flight.access.address / 4096) ≡ None) now.0 (subst (λ p. lingering_in old id p ≡ None) now.1 may.not_lingering))
           (was.covered j flight there))
-      | inr still ↦ covered_same old new queue.completed device.id flight still.1 (granted.lingering device.id (flight.address / 4096)) (was.covered j flight there)
+      | inr still ↦ covered_same old new queue.completed device.id flight still.1 (granted.lingering device.id (flight.access.address / 4096)) (was.covered j flight there)
     ];
     counted = was.counted;
   };

@@ -5,14 +5,13 @@ use Rattle.std.proofs.lemmas.Bool.{or_cases, and_parts, eqb-true, false≢true}
 use Rattle.std.proofs.lemmas.List.Elements.{All-nil, All-cons, Contains-push}
 use Rattle.iom_base.specs.declared.access.AccessKind.{AccessKind}
 use Rattle.iom_base.specs.Rights.{allows}
-use Rattle.iom_inflight.specs.Flights.{Flight}
 use Rattle.iom_ledger.specs.declared.ledger.Ledger.{Ledger}
 use Rattle.iom_ledger.specs.History.{History, Pair, Holds, Lingers, May, serves}
 use Rattle.iom_ledger.specs.Shown.{Agrees, AgreesAt, held_in, released_in}
 use Rattle.iom_machine.specs.declared.state.Device as machine
-use Rattle.iom_machine.specs.declared.state.AcceptedAccess.{AcceptedAccess}
+use Rattle.iom_base.specs.declared.access.AcceptedAccess.{AcceptedAccess}
 use Rattle.iom_world.specs.declared.device.Device.{Device}
-use Rattle.iom_world.specs.Devices.{shown_flight, shown_device, shown_devices}
+use Rattle.iom_world.specs.Devices.{shown_device, shown_devices}
 use Rattle.iom_world.specs.Facts.{serves_still, IsCovered, AllCovered, AreSoundDevices}
 
 -- a pair that serves the access is on its frame, with a right that allows its kind
@@ -44,22 +43,22 @@ lingers_shown : (held : Option Pair) (released : Option (ℕ × Pair)) (h : Hist
 lingers_shown held released h device page ticket pair shows is =
     (ticket, subst (λ l. Contains l (ticket, pair)) (sym (shows.lingers ∙ ap option_to_list is)) (Contains-push [] (ticket, pair)))
 
-pub May-covered : (ledger : Ledger) (h : History) (completed device : ℕ) (flight : Flight) → Agrees ledger h → IsCovered ledger completed device flight
-    → May h device flight.frame flight.kind
+pub May-covered : (ledger : Ledger) (h : History) (completed device : ℕ) (flight : AcceptedAccess) → Agrees ledger h → IsCovered ledger completed device flight
+    → May h device flight.frame flight.access.kind
 May-covered ledger h completed device flight agrees covered =
-    let page = flight.address / 4096 in
+    let page = flight.access.address / 4096 in
     let shows = agrees.pages device page in
     elim (or_cases _ _ covered.covered) [
-      | inl held ↦ may_by_held (held_in ledger device page) h device page flight.frame flight.kind (λ pair is. shows.holds ∙ is) held
-      | inr released ↦ may_by_released (released_in ledger device page) h completed device page flight.frame flight.kind (λ ticket pair is. lingers_shown _ _ h device page ticket pair shows is) released
+      | inl held ↦ may_by_held (held_in ledger device page) h device page flight.frame flight.access.kind (λ pair is. shows.holds ∙ is) held
+      | inr released ↦ may_by_released (released_in ledger device page) h completed device page flight.frame flight.access.kind (λ ticket pair is. lingers_shown _ _ h device page ticket pair shows is) released
     ]
 
 -- so may each access in flight of a device, and of all devices, as the machine sees them
-flights_may : (ledger : Ledger) (h : History) (completed device : ℕ) (flights : List Flight) → Agrees ledger h → AllCovered ledger completed device flights
-    → All (λ (flight : AcceptedAccess). May h device flight.frame flight.access.kind) (map shown_flight flights)
+flights_may : (ledger : Ledger) (h : History) (completed device : ℕ) (flights : List AcceptedAccess) → Agrees ledger h → AllCovered ledger completed device flights
+    → All (λ (flight : AcceptedAccess). May h device flight.frame flight.access.kind) flights
 flights_may ledger h completed device [] agrees covered = All-nil (λ (flight : AcceptedAccess). May h device flight.frame flight.access.kind)
 flights_may ledger h completed device (flight ∷ later) agrees covered =
-    All-cons (λ (flight : AcceptedAccess). May h device flight.frame flight.access.kind) (shown_flight flight) (map shown_flight later)
+    All-cons (λ (flight : AcceptedAccess). May h device flight.frame flight.access.kind) flight later
     (May-covered ledger h completed device flight agrees (covered 0 flight refl))
     (flights_may ledger h completed device later agrees (λ k f at. covered (suc k) f at))
 

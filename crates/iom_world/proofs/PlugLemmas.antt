@@ -1,6 +1,6 @@
 -- One more device.
 use Rattle.std.proofs.Common.{suc, zero, ◌≡◌, ◌<◌, ◌⊎◌, inl, inr, ◌∙◌, ℕ, true, false, List, [], ◌∷◌, ◌++◌, length, Option, Some, None, slice_get, refl, sym, ap, subst, nat_le, arith, length-append}
-use Rattle.iom_inflight.specs.Flights.{Flight}
+use Rattle.iom_base.specs.declared.access.AcceptedAccess.{AcceptedAccess}
 use Rattle.iom_ledger.specs.declared.ledger.Ledger.{Ledger}
 use Rattle.iom_ledger.specs.declared.refusal.Refusal.TheVariants.{AlreadyPlugged, TooManyDevices}
 use Rattle.iom_machine.specs.declared.state.DeviceKind.{DeviceKind}
@@ -50,7 +50,7 @@ sound_new ledger completed events id devices device holders absent new = record 
   counted = omega (arith, new.none);
 }
   where
-    none_there : (k : ℕ) (flight : Flight) → slice_get [] k ≡ Some flight → ⊥
+    none_there : (k : ℕ) (flight : AcceptedAccess) → slice_get [] k ≡ Some flight → ⊥
     none_there k flight at = cc
 
 own_ids_new : (devices : List Device) (device : Device) (id : ℕ) → HaveOwnIds devices → IsAbsent devices id → IsNew device id → HaveOwnIds (devices ++ device ∷ [])

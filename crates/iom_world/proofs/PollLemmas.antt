@@ -49,7 +49,7 @@ devices_polled old new first n completed events devices confirmed end each k dev
       let covers = (each k device at).covered j flight flies in
       record {
         covered =
-            rw (confirmed.held, confirmed.lingering, still_serves first n completed flight.frame flight.kind (released_in old device.id (flight.address / 4096)) end)
+            rw (confirmed.held, confirmed.lingering, still_serves first n completed flight.frame flight.access.kind (released_in old device.id (flight.access.address / 4096)) end)
             covers.covered;
         within = covers.within;
       };

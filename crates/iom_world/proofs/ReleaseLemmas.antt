@@ -142,10 +142,10 @@ device_released ledger ledger' completed events id page ticket device released l
   covered = λ k flight at.
       let was = sound.covered k flight at in
       let own = device.id in
-      let p = flight.address / 4096 in
+      let p = flight.access.address / 4096 in
       record {
         covered = rw (released.held own p, released.lingering own p)
-            (covered_released ((id == own) && (page == p)) (held_in ledger own p) (released_in ledger own p) completed ticket flight.frame flight.kind later (held_alone ledger own p) was.covered);
+            (covered_released ((id == own) && (page == p)) (held_in ledger own p) (released_in ledger own p) completed ticket flight.frame flight.access.kind later (held_alone ledger own p) was.covered);
         within = was.within;
       };
   counted = sound.counted;

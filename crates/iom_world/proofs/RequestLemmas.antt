@@ -9,14 +9,14 @@ use Rattle.iom_base.specs.declared.rights.Rights.{Rights}
 use Rattle.iom_base.specs.Causes.{page_fault_of}
 use Rattle.iom_base.specs.Rights.{allows}
 use Rattle.iom_base.specs.Spans.{FitsInPage}
-use Rattle.iom_inflight.specs.Flights.{Flight}
+use Rattle.iom_base.specs.declared.access.AcceptedAccess.{AcceptedAccess}
 use Rattle.iom_ledger.specs.declared.ledger.Ledger.{Ledger}
 use Rattle.iom_ledger.specs.declared.refusal.Refusal.TheVariants.{NoSuchDevice}
 use Rattle.iom_ledger.specs.History.{Pair, serves}
 use Rattle.iom_ledger.specs.Shown.{Agrees, held_in}
 use Rattle.iom_machine.specs.declared.outcome.Outcome.{Outcome}
 use Rattle.iom_machine.specs.declared.outcome.Outcome.TheVariants.{Refused, Accepted, Busy, BadSpan, Fault}
-use Rattle.iom_machine.specs.declared.state.Access.{Access}
+use Rattle.iom_base.specs.declared.access.Access.{Access}
 use Rattle.iom_machine.specs.declared.state.Device as machine
 use Rattle.iom_machine.specs.declared.state.State.{State}
 use Rattle.iom_machine.specs.Devices.{with_device}
@@ -24,7 +24,7 @@ use Rattle.iom_machine.specs.Machine.{Acts, Requests}
 use Rattle.iom_machine.specs.Requests.{IsBusy, IsForwarded, MayAccept, MayFault, MayAnswer, state_after, with_accepted}
 use Rattle.iom_machine.specs.Requests as requests
 use Rattle.iom_world.specs.declared.device.Device.{Device}
-use Rattle.iom_world.specs.Devices.{shown_flight, shown_device, shown_devices, shown_attachment}
+use Rattle.iom_world.specs.Devices.{shown_device, shown_devices, shown_attachment}
 use Rattle.iom_world.specs.Facts.{IsSoundDevice, IsCovered}
 use Rattle.iom_world.specs.Held.{IsHeldFor, NoneIsHeldFor}
 use Rattle.iom_base.specs.declared.owner.Owner.{Owner}
@@ -45,20 +45,6 @@ acts_at IfPlugged state devices id place outcome next shown is acts = rw (shown,
 pub acts_absent : (IfPlugged : machine.Device → Type 0) (state : State) (devices : List Device) (id : ℕ)
     → state.devices ≡ shown_devices devices → IsAbsent devices id → Acts IfPlugged state id (Refused NoSuchDevice) state
 acts_absent IfPlugged state devices id shown absent = rw (shown, absent_shown devices id absent) (refl, refl)
-
--- as many accesses are in flight as the machine shows
-length-flights : (flights : List Flight) → length (map shown_flight flights) ≡ length flights
-length-flights [] = refl
-length-flights (flight ∷ later) = ap suc (length-flights later)
-
-pub busy_shown : (device : Device) → IsBusy device.in_flight → IsBusy (shown_device device).in_flight
-busy_shown device busy = rw (length-flights device.in_flight) busy
-
-pub not_busy_shown : (device : Device) → (¬ IsBusy device.in_flight) → ¬ IsBusy (shown_device device).in_flight
-not_busy_shown device idle busy = idle (omega (arith, busy, length-flights device.in_flight))
-
-pub forwarded_shown : (device : Device) (access : Access) → IsForwarded device.in_flight access.address access.len → IsForwarded (shown_device device).in_flight access.address access.len
-forwarded_shown device access forwarded = (forwarded.0, not_busy_shown device forwarded.1)
 
 -- what the ledger shows as held is held by the history
 held_shown : (state : State) (ledger : Ledger) (id frame : ℕ) (access : Access) → Agrees ledger state.history
@@ -86,11 +72,11 @@ held_covers : (held : Option Pair) (rest : Bool) (frame : ℕ) (rights : Rights)
     → (option_map_or (serves frame kind) held false || rest) ≡ true
 held_covers held rest frame rights kind is allowed = rw (is, eq-eqb frame frame refl, allowed) refl
 
-pub covered_by_held : (root : Option ℕ) (ledger : Ledger) (completed id : ℕ) (flight : Flight) → FitsInPage flight.address flight.len
-    → IsTranslated root ledger id flight.address flight.kind flight.frame → IsCovered ledger completed id flight
+pub covered_by_held : (root : Option ℕ) (ledger : Ledger) (completed id : ℕ) (flight : AcceptedAccess) → FitsInPage flight.access.address flight.access.len
+    → IsTranslated root ledger id flight.access.address flight.access.kind flight.frame → IsCovered ledger completed id flight
 covered_by_held None ledger completed id flight within translated = absurd translated
 covered_by_held (Some root) ledger completed id flight within translated = record {
-  covered = held_covers (held_in ledger id (flight.address / 4096)) _ flight.frame translated.0 flight.kind translated.1 translated.2;
+  covered = held_covers (held_in ledger id (flight.access.address / 4096)) _ flight.frame translated.0 flight.access.kind translated.1 translated.2;
   within = within;
 }
 
@@ -101,10 +87,10 @@ held_by_translated None ledger own id address frame kind same translated = absur
 held_by_translated (Some root) ledger own id address frame kind same translated = subst (λ d. IsHeldFor ledger d (address / 4096) kind frame) same translated
 
 -- the device, where one more access was accepted
-abbrev pub with_flight : Device → Flight → Device
+abbrev pub with_flight : Device → AcceptedAccess → Device
 with_flight device flight = record device { accepted = device.accepted + 1; in_flight = device.in_flight ++ flight ∷ [] }
 
-pub device_accepted : (ledger : Ledger) (completed events : ℕ) (device : Device) (flight : Flight) → IsSoundDevice ledger completed events device
+pub device_accepted : (ledger : Ledger) (completed events : ℕ) (device : Device) (flight : AcceptedAccess) → IsSoundDevice ledger completed events device
     → IsCovered ledger completed device.id flight → device.accepted < events → IsSoundDevice ledger completed events (with_flight device flight)
 device_accepted ledger completed events device flight is covered counted = record {
   detached = is.detached;
@@ -114,14 +100,6 @@ device_accepted ledger completed events device flight is covered counted = recor
   ];
   counted = omega arith;
 }
-
--- so the machine shows it
-pub shown_accepted : (device : Device) (flight : Flight)
-    → shown_device (with_flight device flight) ≡ record (shown_device device) {
-      accepted = device.accepted + 1;
-      in_flight = map shown_flight device.in_flight ++ shown_flight flight ∷ [];
-    }
-shown_accepted device flight = rw (map-append shown_flight device.in_flight (flight ∷ [])) refl
 
 -- a device that has tables: the access isn't translated, for the cause
 pub faulty_by_root : (root : Option ℕ) (ledger : Ledger) (levels id address table : ℕ) (kind : AccessKind) (cause : Cause) → root ≡ Some table
@@ -136,47 +114,46 @@ pub room_by_idle : (device here : Device) → device ≡ here → (¬ IsBusy her
 room_by_idle device here same idle = rw same (elim (cases_lt (length here.in_flight) 8) [ inl few ↦ few | inr busy ↦ absurd (idle busy) ])
 
 -- the device that has one more access in flight, among the others
-pub still_accepted : (device : Device) (flight : Flight) (now : Device) → now ≡ with_flight device flight → IsStill device now
+pub still_accepted : (device : Device) (flight : AcceptedAccess) (now : Device) → now ≡ with_flight device flight → IsStill device now
 still_accepted device flight now is = rw is (record { id = refl; root = refl })
 
-pub sound_accepted : (memory : List (List ℕ)) (marks : List (Option Owner)) (ledger : Ledger) (devices : List Device) (queue : Queue) (events place : ℕ) (device : Device) (flight : Flight) (now : Device)
-    → IsSound memory marks ledger devices queue events → slice_get devices place ≡ Some device → now ≡ with_flight device flight → FitsInPage flight.address flight.len
-    → IsTranslated device.root ledger device.id flight.address flight.kind flight.frame → device.accepted < events
+pub sound_accepted : (memory : List (List ℕ)) (marks : List (Option Owner)) (ledger : Ledger) (devices : List Device) (queue : Queue) (events place : ℕ) (device : Device) (flight : AcceptedAccess) (now : Device)
+    → IsSound memory marks ledger devices queue events → slice_get devices place ≡ Some device → now ≡ with_flight device flight → FitsInPage flight.access.address flight.access.len
+    → IsTranslated device.root ledger device.id flight.access.address flight.access.kind flight.frame → device.accepted < events
     → IsSound memory marks ledger (slice_set devices place now) queue events
 sound_accepted memory marks ledger devices queue events place device flight now sound at is within translated counted =
     sound_changed memory marks ledger devices queue events place device now sound at (still_accepted device flight now is)
     (subst (λ d. IsSoundDevice ledger queue.completed events d) (sym is)
     (device_accepted ledger queue.completed events device flight (sound.each place device at) (covered_by_held device.root ledger queue.completed device.id flight within translated) counted))
 
-pub tables_accepted : (memory : List (List ℕ)) (marks : List (Option Owner)) (ledger : Ledger) (devices : List Device) (place : ℕ) (device : Device) (flight : Flight) (now : Device)
+pub tables_accepted : (memory : List (List ℕ)) (marks : List (Option Owner)) (ledger : Ledger) (devices : List Device) (place : ℕ) (device : Device) (flight : AcceptedAccess) (now : Device)
     → HaveTables memory marks ledger devices → slice_get devices place ≡ Some device → now ≡ with_flight device flight → HaveTables memory marks ledger (slice_set devices place now)
 tables_accepted memory marks ledger devices place device flight now tables at is =
     tables_changed memory marks ledger devices place device now tables at (still_accepted device flight now is)
 
 -- the machine accepts it, and has it in flight
-pub requests_accepted : (state : State) (ledger : Ledger) (devices : List Device) (id place number : ℕ) (flight : Flight) (is : IsPlaceOf devices id place)
-    → Agrees ledger state.history → state.devices ≡ shown_devices devices → IsForwarded is.0.in_flight flight.address flight.len
-    → IsTranslated is.0.root ledger is.0.id flight.address flight.kind flight.frame → number ≡ is.0.accepted + 1
-    → Requests flight.frame state id (shown_flight flight).access (Accepted number) (with_accepted state (shown_device is.0) (shown_flight flight).access flight.frame)
+pub requests_accepted : (state : State) (ledger : Ledger) (devices : List Device) (id place number : ℕ) (flight : AcceptedAccess) (is : IsPlaceOf devices id place)
+    → Agrees ledger state.history → state.devices ≡ shown_devices devices → IsForwarded is.0.in_flight flight.access.address flight.access.len
+    → IsTranslated is.0.root ledger is.0.id flight.access.address flight.access.kind flight.frame → number ≡ is.0.accepted + 1
+    → Requests flight.frame state id flight.access (Accepted number) (with_accepted state (shown_device is.0) flight.access flight.frame)
 requests_accepted state ledger devices id place number flight is agrees shown forwarded translated counted =
-    acts_at (λ (device : machine.Device). MayAnswer state device (shown_flight flight).access flight.frame (Accepted number)
-    × (with_accepted state (shown_device is.0) (shown_flight flight).access flight.frame ≡ state_after state device (shown_flight flight).access flight.frame (Accepted number)))
-    state devices id place (Accepted number) (with_accepted state (shown_device is.0) (shown_flight flight).access flight.frame) shown is
-    ((forwarded_shown is.0 (shown_flight flight).access forwarded, may_accept is.0.root state ledger is.0.id flight.frame (shown_flight flight).access agrees translated, counted), refl)
+    acts_at (λ (device : machine.Device). MayAnswer state device flight.access flight.frame (Accepted number)
+    × (with_accepted state (shown_device is.0) flight.access flight.frame ≡ state_after state device flight.access flight.frame (Accepted number)))
+    state devices id place (Accepted number) (with_accepted state (shown_device is.0) flight.access flight.frame) shown is
+    ((forwarded, may_accept is.0.root state ledger is.0.id flight.frame flight.access agrees translated, counted), refl)
 
-pub devices_accepted : (state : State) (devices : List Device) (id place : ℕ) (flight : Flight) (now : Device) (is : IsPlaceOf devices id place)
+pub devices_accepted : (state : State) (devices : List Device) (id place : ℕ) (flight : AcceptedAccess) (now : Device) (is : IsPlaceOf devices id place)
     → state.devices ≡ shown_devices devices → now ≡ with_flight is.0 flight
-    → (with_accepted state (shown_device is.0) (shown_flight flight).access flight.frame).devices ≡ shown_devices (slice_set devices place now)
+    → (with_accepted state (shown_device is.0) flight.access flight.frame).devices ≡ shown_devices (slice_set devices place now)
 devices_accepted state devices id place flight now is shown same =
-    ap (λ (m : machine.Device). (with_device state m).devices) (sym (shown_accepted is.0 flight))
-    ∙ shown_changed state devices id place (with_flight is.0 flight) shown is is.2
+    shown_changed state devices id place (with_flight is.0 flight) shown is is.2
     ∙ ap (λ (d : Device). shown_devices (slice_set devices place d)) (sym same)
 
 -- what isn't accepted changes nothing
 pub requests_busy : (frame : ℕ) (state : State) (devices : List Device) (id place : ℕ) (access : Access) (is : IsPlaceOf devices id place) → state.devices ≡ shown_devices devices
     → FitsInPage access.address access.len × IsBusy is.0.in_flight → Requests frame state id access Busy state
 requests_busy frame state devices id place access is shown busy =
-    acts_at (λ (device : machine.Device). MayAnswer state device access frame Busy × (state ≡ state_after state device access frame Busy)) state devices id place Busy state shown is ((busy.0, busy_shown is.0 busy.1), refl)
+    acts_at (λ (device : machine.Device). MayAnswer state device access frame Busy × (state ≡ state_after state device access frame Busy)) state devices id place Busy state shown is (busy, refl)
 
 pub requests_bad_span : (frame : ℕ) (state : State) (devices : List Device) (id place : ℕ) (access : Access) (is : IsPlaceOf devices id place) → state.devices ≡ shown_devices devices
     → (¬ FitsInPage access.address access.len) → Requests frame state id access BadSpan state
@@ -187,4 +164,4 @@ pub requests_fault : (frame : ℕ) (state : State) (ledger : Ledger) (levels : �
     → IsForwarded is.0.in_flight access.address access.len × IsFaulty is.0.root ledger levels is.0.id access.address access.kind cause → Requests frame state id access (Fault cause) state
 requests_fault frame state ledger levels devices id place access cause is agrees same shown faulty =
     acts_at (λ (device : machine.Device). MayAnswer state device access frame (Fault cause) × (state ≡ state_after state device access frame (Fault cause))) state devices id place (Fault cause) state shown is
-    ((forwarded_shown is.0 access faulty.0, may_fault is.0.root state ledger levels is.0.id access cause agrees same faulty.1), refl)
+    ((faulty.0, may_fault is.0.root state ledger levels is.0.id access cause agrees same faulty.1), refl)

@@ -1,19 +1,10 @@
 -- What the ledger machine sees of the world's devices.
 use Rattle.std.specs.Prelude.{ℕ, false, List, map, Option, None, Some}
-use Rattle.iom_inflight.specs.Flights.{Flight}
 use Rattle.iom_machine.specs.declared.state.Attachment.{Attachment}
 use Rattle.iom_machine.specs.declared.state.Attachment.TheVariants.{Detached, Attached}
 use Rattle.iom_machine.specs.declared.state.Mode.TheVariants.{First}
-use Rattle.iom_machine.specs.declared.state.AcceptedAccess.{AcceptedAccess}
 use Rattle.iom_machine.specs.declared.state.Device as machine
 use Rattle.iom_world.specs.declared.device.Device.{Device}
-
--- an access in flight
-abbrev pub shown_flight : Flight → AcceptedAccess
-shown_flight flight = record {
-  access = record { address = flight.address; len = flight.len; kind = flight.kind; bytes = flight.bytes };
-  frame = flight.frame;
-}
 
 -- a device with a root is attached in its first stage, without ATS
 abbrev pub shown_attachment : Option ℕ → Attachment
@@ -27,7 +18,7 @@ shown_device device = record {
   kind = device.kind;
   attachment = shown_attachment device.root;
   accepted = device.accepted;
-  in_flight = map shown_flight device.in_flight;
+  in_flight = device.in_flight;
 }
 
 -- the devices, in the order of plugging

@@ -7,7 +7,7 @@ use Rattle.iom_base.specs.Spans.{FitsInPage}
 use Rattle.iom_ledger.specs.declared.ledger.Ledger.{Ledger}
 use Rattle.iom_ledger.specs.History.{Pair, serves}
 use Rattle.iom_ledger.specs.Shown.{held_in, lingering_in, released_in}
-use Rattle.iom_inflight.specs.Flights.{Flight}
+use Rattle.iom_base.specs.declared.access.AcceptedAccess.{AcceptedAccess}
 use Rattle.iom_base.specs.declared.owner.Owner.{Owner}
 use Rattle.iom_world.specs.declared.device.Device.{Device}
 use Rattle.iom_world.specs.Places.{IsAbsent}
@@ -27,15 +27,15 @@ abbrev pub serves_still : ℕ → ℕ → AccessKind → ℕ × Pair → Bool
 serves_still completed frame kind released = nat_lt completed released.0 && serves frame kind released.1
 
 -- the page of an access in flight is held on its frame, or was released so under a ticket whose fence isn't done
-pub record IsCovered (ledger : Ledger) (completed device : ℕ) (flight : Flight) : Type 0 where
-  pub covered : (option_map_or (serves flight.frame flight.kind) (held_in ledger device (flight.address / 4096)) false
-      || option_map_or (serves_still completed flight.frame flight.kind) (released_in ledger device (flight.address / 4096)) false) ≡ true
-  pub within : FitsInPage flight.address flight.len
+pub record IsCovered (ledger : Ledger) (completed device : ℕ) (flight : AcceptedAccess) : Type 0 where
+  pub covered : (option_map_or (serves flight.frame flight.access.kind) (held_in ledger device (flight.access.address / 4096)) false
+      || option_map_or (serves_still completed flight.frame flight.access.kind) (released_in ledger device (flight.access.address / 4096)) false) ≡ true
+  pub within : FitsInPage flight.access.address flight.access.len
 
 -- each access in flight is covered
-abbrev pub AllCovered : Ledger → ℕ → ℕ → List Flight → Type 0
+abbrev pub AllCovered : Ledger → ℕ → ℕ → List AcceptedAccess → Type 0
 AllCovered ledger completed device flights =
-    (k : ℕ) (flight : Flight) → slice_get flights k ≡ Some flight → IsCovered ledger completed device flight
+    (k : ℕ) (flight : AcceptedAccess) → slice_get flights k ≡ Some flight → IsCovered ledger completed device flight
 
 -- the tickets after the first number, so many
 abbrev pub tickets_after : ℕ → ℕ → List ℕ

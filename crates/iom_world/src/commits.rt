@@ -2,13 +2,13 @@
 ghost use Rattle.std.specs.Prelude.{◌≡◌, ℕ, ◌+◌, ◌≤◌, List, length, drop, IsSomeAnd, Some, slice_get};
 ghost use Rattle.iom_base.specs.Bytes.{with_bytes};
 ghost use Rattle.iom_base.specs.declared.access.AccessKind.TheVariants.{Read, Write};
-ghost use Rattle.iom_inflight.specs.Flights.{OldestIsRead};
+ghost use Rattle.iom_inflight.specs.Oldest.{OldestIsRead, OldestWrites};
 ghost use Rattle.iom_machine.specs.declared.state.State.{State};
 ghost use Rattle.iom_machine.specs.Machine.{Commits};
 ghost use Rattle.iom_world.specs.declared.device.Device.{Device};
 ghost use Rattle.iom_world.specs.Told.{outcome_of, TellsBytes};
 ghost use Rattle.iom_world.specs.declared.told.Told.TheVariants as says;
-ghost use Rattle.iom_world.specs.Oldest.{OldestWritesSoMany, IsOldestAt};
+ghost use Rattle.iom_world.specs.Oldest.{IsOldestAt};
 ghost use Rattle.iom_world.specs.Parts.{parts_of};
 ghost use Rattle.iom_world.specs.Places.{IsPlaceOf};
 ghost use Rattle.iom_world.specs.Roots.{KeepsRoot};
@@ -35,9 +35,9 @@ impl Device {
     /// The oldest access is a write of so many bytes: they are stored in the frame from the offset on, and
     /// it is no more in flight.
     fn take_write(&mut self, frame: &mut [u8], offset: usize, len: usize)
-        requires write { OldestWritesSoMany self.old.in_flight len }
+        requires write { OldestWrites self.old.in_flight len }
         requires within { offset + len ≤ length frame.old }
-        ensures stored { IsSomeAnd (slice_get self.old.in_flight 0) (λ flight. frame.new ≡ with_bytes frame.old offset flight.bytes) }
+        ensures stored { IsSomeAnd (slice_get self.old.in_flight 0) (λ flight. frame.new ≡ with_bytes frame.old offset flight.access.bytes) }
         ensures after { self.new ≡ record self.old { in_flight = drop 1 self.old.in_flight } }
     {
         self.in_flight.take_write(&mut frame[offset..offset + len]);

@@ -1,10 +1,9 @@
 // What a device asks of memory, and what it is answered.
 ghost use Rattle.std.specs.Prelude.{◌≡◌, ℕ, ◌+◌, ◌<◌, ◌≤◌, ◌^◌, [], ◌∷◌, ◌++◌, length, Some, slice_get};
 ghost use Rattle.iom_base.specs.declared.access.AccessKind.TheVariants.{Read, Write};
-ghost use Rattle.iom_inflight.specs.Flights.{read_flight, write_flight};
 ghost use Rattle.iom_machine.specs.declared.state.State.{State};
 ghost use Rattle.iom_machine.specs.Machine.{Requests};
-ghost use Rattle.iom_machine.specs.Requests.{read_of, write_of};
+ghost use Rattle.iom_base.specs.Accesses.{read_of, write_of};
 ghost use Rattle.iom_world.specs.declared.device.Device.{Device};
 ghost use Rattle.iom_world.specs.Told.{outcome_of};
 ghost use Rattle.iom_world.specs.Places.{CountsBelow};
@@ -52,7 +51,7 @@ impl Device {
         ensures number { result ≡ self.old.accepted + 1 }
         ensures after { self.new ≡ record self.old {
           accepted = self.old.accepted + 1;
-          in_flight = self.old.in_flight ++ read_flight address len frame ∷ [];
+          in_flight = self.old.in_flight ++ record { access = read_of address len; frame = frame } ∷ [];
         } }
     {
         self.in_flight.accept_read(address, len, frame).unwrap();
@@ -67,7 +66,7 @@ impl Device {
         ensures number { result ≡ self.old.accepted + 1 }
         ensures after { self.new ≡ record self.old {
           accepted = self.old.accepted + 1;
-          in_flight = self.old.in_flight ++ write_flight address bytes.now frame ∷ [];
+          in_flight = self.old.in_flight ++ record { access = write_of address bytes.now; frame = frame } ∷ [];
         } }
     {
         self.in_flight.accept_write(address, bytes, frame).unwrap();

@@ -10,9 +10,8 @@ use crate::decide::reasons::{
     attach_refusal, grant_refusal, plug_refusal, refuses, release_refusal,
 };
 use crate::outcome::Outcome;
-use crate::sequence::Sequence;
 use crate::state::{Attachment, Device, DeviceKind, Mode, State};
-use iom_base::{DeviceId, GrantRights, Owner};
+use iom_base::{DeviceId, GrantRights, Owner, Sequence};
 use iom_ledger::{HistoryEntry, Refusal};
 use std::alloc::{AllocError, Global};
 

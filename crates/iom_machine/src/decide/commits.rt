@@ -3,10 +3,10 @@ ghost use Rattle.std.specs.Prelude.{◌≡◌, ◌↔◌, ◌<◌, [], IfOk, OnO
 ghost use Rattle.std.specs.Option.{option_copied};
 ghost use Rattle.iom_base.specs.Bytes.{with_bytes};
 ghost use Rattle.iom_machine.specs.declared.state.Device.{Device};
-ghost use Rattle.iom_machine.specs.declared.state.AcceptedAccess.{AcceptedAccess};
+ghost use Rattle.iom_base.specs.declared.access.AcceptedAccess.{AcceptedAccess};
 ghost use Rattle.iom_machine.specs.declared.state.State.{State};
 ghost use Rattle.iom_machine.specs.Frames.{bytes_of, stored};
-ghost use Rattle.iom_machine.specs.Requests.{offset_of};
+ghost use Rattle.iom_base.specs.Accesses.{offset_of};
 ghost use Rattle.iom_machine.specs.Judging.{StandsAt};
 ghost use Rattle.iom_machine.specs.Machine.{GivesBytes, MakesWrite, Makes, Commits};
 
@@ -14,9 +14,8 @@ use crate::decide::devices::{drop_oldest, place_of, take_oldest};
 use crate::decide::history::may;
 use crate::decide::requests::answers_absent;
 use crate::outcome::Outcome;
-use crate::sequence::Sequence;
-use crate::state::{AcceptedAccess, Device, Frame, State};
-use iom_base::{AccessKind, DeviceId};
+use crate::state::{Device, Frame, State};
+use iom_base::{AcceptedAccess, AccessKind, DeviceId, Sequence};
 use std::alloc::{AllocError, Global};
 
 /// The first so many of the bytes, or all.
@@ -71,7 +70,7 @@ fn with_bytes(
     items.extend_from_slice(first_bytes(bytes, offset))?;
     items.extend_from_slice(replacement)?;
     items.extend_from_slice(later_bytes(later_bytes(bytes, offset), replacement.len() as u64))?;
-    Ok(Sequence { items })
+    Ok(Sequence::from_vec(items))
 }
 
 /// The bytes stand in the frame from the offset on, where there is such a frame.
@@ -85,7 +84,7 @@ fn store(
     ensures { OnOk result (frames.new ≡ stored frames.old number offset bytes.now) }
 {
     if (number as usize) < frames.as_slice().len() {
-        let frame = &mut frames.items[number as usize];
+        let frame = frames.item_mut(number as usize);
         let new = with_bytes(alloc, frame.bytes.as_slice(), offset, bytes)?;
         frame.bytes = new;
     }

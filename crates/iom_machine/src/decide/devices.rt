@@ -4,9 +4,8 @@ ghost use Rattle.std.specs.Option.{option_copied};
 ghost use Rattle.iom_machine.specs.Judging.{StandsAt};
 ghost use Rattle.iom_machine.specs.declared.state.Device.{Device};
 
-use crate::sequence::Sequence;
-use crate::state::{AcceptedAccess, Access, Attachment, Device};
-use iom_base::DeviceId;
+use crate::state::{Attachment, Device};
+use iom_base::{AcceptedAccess, Access, DeviceId, Sequence};
 use std::alloc::AllocError;
 
 /// The plugged device with this id.
@@ -50,7 +49,7 @@ pub(crate) fn accept(
           in_flight = device.in_flight ++ record { access = access; frame = frame } ∷ [];
         })) }
 {
-    let device = &mut devices.items[place];
+    let device = devices.item_mut(place);
     device.in_flight.push(AcceptedAccess { access, frame })?;
     device.accepted = number;
     Ok(())
@@ -62,7 +61,7 @@ pub(crate) fn set_attachment(devices: &mut Sequence<Device>, place: usize, attac
     ensures { (device : Device) → slice_get devices.old place ≡ Some device
         → devices.new ≡ slice_set devices.old place (record device { attachment = attachment }) }
 {
-    let device = &mut devices.items[place];
+    let device = devices.item_mut(place);
     device.attachment = attachment;
 }
 
@@ -72,7 +71,7 @@ pub(crate) fn take_oldest(devices: &mut Sequence<Device>, place: usize) -> Accep
     ensures { (device : Device) → slice_get devices.old place ≡ Some device
         → (slice_get device.in_flight 0 ≡ Some result) × (devices.new ≡ slice_set devices.old place (record device { in_flight = drop 1 device.in_flight })) }
 {
-    let device = &mut devices.items[place];
+    let device = devices.item_mut(place);
     device.in_flight.pop_front()
 }
 
@@ -82,8 +81,8 @@ pub(crate) fn drop_oldest(devices: &mut Sequence<Device>, place: usize)
     ensures { (device : Device) → slice_get devices.old place ≡ Some device
         → devices.new ≡ slice_set devices.old place (record device { in_flight = drop 1 device.in_flight }) }
 {
-    let device = &mut devices.items[place];
-    if !device.in_flight.items.is_empty() {
-        device.in_flight.items.remove(0);
+    let device = devices.item_mut(place);
+    if !device.in_flight.as_slice().is_empty() {
+        let _oldest = device.in_flight.pop_front();
     }
 }

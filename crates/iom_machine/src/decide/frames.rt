@@ -5,9 +5,8 @@ ghost use Rattle.iom_machine.specs.Frames.{FewerThan, is_reserved, IsFree, IsFre
 ghost use Rattle.iom_machine.specs.Judging.{CountsAll};
 
 use crate::decide::history::is_out_of_reach;
-use crate::sequence::Sequence;
 use crate::state::{Frame, State};
-use iom_base::Owner;
+use iom_base::{Owner, Sequence};
 use iom_ledger::HistoryEntry;
 
 /// Whether the frame belongs to the system or to a device.
@@ -134,7 +133,7 @@ fn own(frames: &mut Sequence<Frame>, number: u32, owner: Owner)
     ensures { frames.new ≡ with_frame frames.old number (λ frame. record frame { owner = Some owner }) }
 {
     if (number as usize) < frames.as_slice().len() {
-        let frame = &mut frames.items[number as usize];
+        let frame = frames.item_mut(number as usize);
         frame.owner = Some(owner);
     }
 }

@@ -1,7 +1,7 @@
 // Decides the machine: a plain and slow program, whose contract is the definition.
 ghost use Rattle.std.specs.Prelude.{◌≡◌, ◌↔◌, ◌^◌, ◌≤◌, Some, IfOk, IfSome, length};
 ghost use Rattle.iom_machine.specs.declared.state.State.{State};
-ghost use Rattle.iom_machine.specs.Requests.{read_of, write_of};
+ghost use Rattle.iom_base.specs.Accesses.{read_of, write_of};
 ghost use Rattle.iom_machine.specs.Machine.{ChosenStep};
 ghost use Rattle.iom_machine.specs.Verdicts.{IsVerdict, RunsAreChosen};
 
@@ -23,9 +23,8 @@ use crate::decide::requests::judge_request;
 use crate::event::Event;
 use crate::line::{Line, Verdict};
 use crate::outcome::Outcome;
-use crate::sequence::Sequence;
-use crate::state::{Access, State};
-use iom_base::AccessKind;
+use crate::state::State;
+use iom_base::{Access, AccessKind, Sequence};
 use std::alloc::{AllocError, Global};
 
 /// The access that a read asks for.
@@ -50,7 +49,7 @@ fn write_asked(alloc: Global, address: u64, bytes: &[u8]) -> Result<Access, Allo
         address,
         len: bytes.len() as u64,
         kind: AccessKind::Write,
-        bytes: Sequence { items },
+        bytes: Sequence::from_vec(items),
     })
 }
 

@@ -7,9 +7,8 @@ ghost use Rattle.iom_machine.specs.Machine.{Polls};
 
 use crate::decide::history::{last_ticket_confirmed, may};
 use crate::outcome::Outcome;
-use crate::sequence::Sequence;
-use crate::state::{AcceptedAccess, Device, State};
-use iom_base::DeviceId;
+use crate::state::{Device, State};
+use iom_base::{AcceptedAccess, DeviceId, Sequence};
 use iom_ledger::HistoryEntry;
 use std::alloc::AllocError;
 

@@ -4,7 +4,8 @@ ghost use Rattle.iom_ledger.specs.declared.refusal.Refusal.TheVariants.{NoSuchDe
 ghost use Rattle.iom_machine.specs.declared.outcome.Outcome.TheVariants.{Refused};
 ghost use Rattle.iom_machine.specs.declared.state.Device.{Device};
 ghost use Rattle.iom_machine.specs.declared.state.State.{State};
-ghost use Rattle.iom_machine.specs.Requests.{IsWithinPage, IsBusy, IsForwarded, HoldsFor, HoldsNoneFor, LingersFor, MayAccept};
+ghost use Rattle.iom_base.specs.Accesses.{IsWithinPage};
+ghost use Rattle.iom_machine.specs.Requests.{IsBusy, IsForwarded, HoldsFor, HoldsNoneFor, LingersFor, MayAccept};
 ghost use Rattle.iom_machine.specs.Requests.{MayFault, MayAcceptInOneStage, MayAnswer, state_after};
 ghost use Rattle.iom_machine.specs.Machine.{Requests};
 ghost use Rattle.iom_machine.specs.Judging.{StandsAt};
@@ -15,8 +16,8 @@ use crate::decide::cut_off::{
 use crate::decide::devices::{accept, place_of};
 use crate::decide::history::{is_held_for, lingers_in, may, pair_held};
 use crate::outcome::Outcome;
-use crate::state::{Access, Attachment, Device, Mode, State};
-use iom_base::{Cause, DeviceId, Span};
+use crate::state::{Attachment, Device, Mode, State};
+use iom_base::{Access, Cause, DeviceId, Span};
 use iom_ledger::{HistoryEntry, Refusal};
 use std::alloc::AllocError;
 

@@ -1,5 +1,5 @@
 use Rattle.std.proofs.Common.{sym}
-use Rattle.iom_machine.specs.Requests.{page_of}
+use Rattle.iom_base.specs.Accesses.{page_of}
 use Rattle.iom_machine.proofs.JudgeLemmas.{HoldsNoneFor-by_right}
 use Rattle.iom_machine.proofs.decide.requests.holds_none.Goals as goal
 

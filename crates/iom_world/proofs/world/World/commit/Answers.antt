@@ -6,7 +6,7 @@ use Rattle.iom_machine.specs.declared.outcome.Outcome.{Outcome}
 use Rattle.iom_machine.specs.declared.outcome.Outcome.TheVariants as outcome
 use Rattle.iom_world.specs.Told.{outcome_of}
 use Rattle.iom_world.proofs.CommitLemmas.{commits_nothing, oldest_at}
-use Rattle.iom_inflight.specs.Flights.{header_of}
+use Rattle.iom_inflight.specs.Oldest.{header_of}
 use Rattle.iom_world.specs.declared.device.Device.{Device}
 use Rattle.iom_world.proofs.ListLemmas.{get_within}
 use Rattle.iom_world.proofs.ReplaceLemmas.{same_item}

@@ -1,7 +1,7 @@
 use Rattle.std.proofs.Common.{◌≡◌, ℕ, ◌+◌, ◌∙◌, ◌%◌, List, Some, slice_get, slice_range, Option, option_map, sym, ap, subst, arith}
 use Rattle.std.specs.Borrow.{Bor}
 use Rattle.iom_inflight.specs.declared.in_flight.AccessHeader.{AccessHeader}
-use Rattle.iom_inflight.specs.Flights.{OldestIsRead}
+use Rattle.iom_inflight.specs.Oldest.{OldestIsRead}
 use Rattle.iom_world.specs.declared.device.Device.{Device}
 use Rattle.iom_world.specs.Devices.{shown_device}
 use Rattle.iom_world.proofs.ListLemmas.{get_within}

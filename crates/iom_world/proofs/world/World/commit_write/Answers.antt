@@ -2,13 +2,13 @@ use Rattle.std.proofs.Common.{◌≡◌, ℕ, ◌∙◌, ◌%◌, List, Some, sl
 use Rattle.std.specs.Borrow.{MutBor}
 use Rattle.iom_base.specs.Bytes.{with_bytes}
 use Rattle.iom_inflight.specs.declared.in_flight.AccessHeader.{AccessHeader}
-use Rattle.iom_inflight.specs.Flights.{Flight}
+use Rattle.iom_base.specs.declared.access.AcceptedAccess.{AcceptedAccess}
+use Rattle.iom_inflight.specs.Oldest.{OldestWrites}
 use Rattle.iom_machine.specs.Frames.{stored}
 use Rattle.iom_machine.specs.Machine.{with_oldest_made}
 use Rattle.iom_world.specs.declared.device.Device.{Device}
 use Rattle.iom_world.specs.Devices.{shown_device}
 use Rattle.iom_world.specs.Frames.{ShowsFrames}
-use Rattle.iom_world.specs.Oldest.{OldestWritesSoMany}
 use Rattle.iom_world.proofs.ListLemmas.{get_within}
 use Rattle.iom_world.proofs.ReplaceLemmas.{same_item, same_place}
 use Rattle.iom_world.proofs.RootLemmas.{roots_changed}
@@ -27,7 +27,7 @@ index_mut-requires c = let below = get_within c.args.self.now.devices.items c.ar
 pub take_write-requires-clause-write : goal.take_write-requires-clause-write
 take_write-requires-clause-write c =
     let same = same_item c.args.self.now.devices.items c.args.place c.index_mut.result.now c.requires.0 c.index_mut.ensures.value c.requires.2 in
-    subst (λ (d : Device). OldestWritesSoMany d.in_flight c.from.result) (sym same)
+    subst (λ (d : Device). OldestWrites d.in_flight c.from.result) (sym same)
     (oldest_writes c.requires.0.in_flight c.requires.1 c.from.result c.requires.3 c.requires.5 (sym (c.from.ensures ∙ ap (λ (a : AccessHeader). a.len) c.requires.4)))
 
 pub take_write-requires-clause-within : goal.take_write-requires-clause-within
@@ -61,16 +61,16 @@ returns-clause-step c = λ state id shows is.
     let here = same_item world.devices.items c.args.place c.index_mut.result.now is.0 c.index_mut.ensures.value is.1 in
     let there = sym c.frame_mut.ensures.value ∙ ap (λ (o : Option (MutBor (List ℕ))). option_map (λ (f : MutBor (List ℕ)). f.now) o) c.unwrap-frame.ensures in
     let free = ap (λ (a : AccessHeader). slice_get world.marks a.frame) c.requires.4 ∙ made.free in
-    let stores = known_of_some (slice_get c.index_mut.result.now.in_flight 0) (λ (f : Flight). c.take_write.new.frame ≡ with_bytes c.unwrap-frame.result.now (access.address % 4096) f.bytes) flight
+    let stores = known_of_some (slice_get c.index_mut.result.now.in_flight 0) (λ (f : AcceptedAccess). c.take_write.new.frame ≡ with_bytes c.unwrap-frame.result.now (access.address % 4096) f.access.bytes) flight
     (ap (λ (d : Device). slice_get d.in_flight 0) here ∙ oldest) c.take_write.ensures.stored in (
-      record (with_oldest_made state (shown_device is.0)) { frames = stored state.frames flight.frame (flight.address % 4096) flight.bytes },
+      record (with_oldest_made state (shown_device is.0)) { frames = stored state.frames flight.frame (flight.access.address % 4096) flight.access.bytes },
       commits_write state world.ledger world.memory world.marks world.devices.items world.commands world.events id c.args.place flight world.sound shows.ledger shows.frames shows.devices is oldest
           c.from-2.result c.requires.5 (c.from-2.ensures ∙ ap (λ (a : AccessHeader). a.len) c.requires.4),
       record {
         ledger = shows.ledger;
-        frames = subst (λ (a : AccessHeader). ShowsFrames (slice_set world.memory access.frame c.take_write.new.frame) world.marks (stored state.frames a.frame (a.address % 4096) flight.bytes)) c.requires.4
-            (subst (λ (b : List ℕ). ShowsFrames (slice_set world.memory access.frame b) world.marks (stored state.frames access.frame (access.address % 4096) flight.bytes)) (sym stores)
-            (frames_stored world.memory world.marks state.frames access.frame (access.address % 4096) c.unwrap-frame.result.now flight.bytes shows.frames free there));
+        frames = subst (λ (a : AccessHeader). ShowsFrames (slice_set world.memory access.frame c.take_write.new.frame) world.marks (stored state.frames a.frame (a.address % 4096) flight.access.bytes)) c.requires.4
+            (subst (λ (b : List ℕ). ShowsFrames (slice_set world.memory access.frame b) world.marks (stored state.frames access.frame (access.address % 4096) flight.access.bytes)) (sym stores)
+            (frames_stored world.memory world.marks state.frames access.frame (access.address % 4096) c.unwrap-frame.result.now flight.access.bytes shows.frames free there));
         devices = devices_made state world.devices.items id c.args.place c.take_write.new.self is shows.devices (c.take_write.ensures.after ∙ ap without_oldest here);
         given = shows.given;
         confirmed = shows.confirmed;

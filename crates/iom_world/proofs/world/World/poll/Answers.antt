@@ -1,6 +1,6 @@
 use Rattle.std.proofs.Common.{◌≡◌, ◌+◌, ◌-◌, ◌∙◌, suc, List, refl, sym, ap, subst, arith}
 use Rattle.iom_ledger.specs.History.{May}
-use Rattle.iom_machine.specs.declared.state.AcceptedAccess.{AcceptedAccess}
+use Rattle.iom_base.specs.declared.access.AcceptedAccess.{AcceptedAccess}
 use Rattle.iom_machine.specs.declared.state.Device as machine
 use Rattle.iom_machine.specs.Tickets.{with_confirmed, confirmed_from}
 use Rattle.std.proofs.Common.{All}

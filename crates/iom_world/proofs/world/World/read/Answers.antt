@@ -1,7 +1,8 @@
 use Rattle.std.proofs.Common.{◌+◌, ◌∙◌, ap, arith}
 use Rattle.iom_base.specs.declared.access.AccessKind.TheVariants as kind
-use Rattle.iom_inflight.specs.Flights.{read_flight}
-use Rattle.iom_machine.specs.Requests.{read_of, with_accepted}
+use Rattle.iom_base.specs.declared.access.AcceptedAccess.{AcceptedAccess}
+use Rattle.iom_base.specs.Accesses.{read_of}
+use Rattle.iom_machine.specs.Requests.{with_accepted}
 use Rattle.iom_world.specs.declared.device.Device.{Device}
 use Rattle.iom_world.specs.Devices.{shown_device}
 use Rattle.iom_world.proofs.ListLemmas.{get_within}
@@ -47,7 +48,7 @@ invariant_of-self c =
     let device = c.in-Some.ensures.0 in
     let at = c.in-Some.ensures.1 in
     let reply = c.in-Accepted.ensures device at in
-    let flight = read_flight c.args.address c.args.len c.in-Accepted.frame in
+    let flight : AcceptedAccess = record { access = read_of c.args.address c.args.len; frame = c.in-Accepted.frame } in
     let is = c.accept_read-number.ensures.after ∙ ap (λ (d : Device). with_flight d flight) (same_item world.devices.items c.in-Some.place c.index_mut.result.now device c.index_mut.ensures.value at) in
     record {
       sound = sound_accepted world.memory world.marks world.ledger world.devices.items world.commands world.events c.in-Some.place device flight c.accept_read-number.new.self
@@ -60,7 +61,7 @@ returns-in-Accepted-clause-step c = λ state shows.
     let world = c.args.self.now in
     let place = c.in-Some.ensures in
     let reply = c.in-Accepted.ensures place.0 place.1 in
-    let flight = read_flight c.args.address c.args.len c.in-Accepted.frame in
+    let flight : AcceptedAccess = record { access = read_of c.args.address c.args.len; frame = c.in-Accepted.frame } in
     let same = same_item world.devices.items c.in-Some.place c.index_mut.result.now place.0 c.index_mut.ensures.value place.1 in (
       c.in-Accepted.frame,
       with_accepted state (shown_device place.0) (read_of c.args.address c.args.len) c.in-Accepted.frame,
@@ -109,6 +110,6 @@ returns-in-Accepted-clause-roots c = λ other.
     let world = c.args.self.now in
     let device = c.in-Some.ensures.0 in
     let at = c.in-Some.ensures.1 in
-    let flight = read_flight c.args.address c.args.len c.in-Accepted.frame in
+    let flight : AcceptedAccess = record { access = read_of c.args.address c.args.len; frame = c.in-Accepted.frame } in
     let is = c.accept_read-number.ensures.after ∙ ap (λ (d : Device). with_flight d flight) (same_item world.devices.items c.in-Some.place c.index_mut.result.now device c.index_mut.ensures.value at) in
     roots_changed world.devices.items c.in-Some.place device c.accept_read-number.new.self at (still_accepted device flight c.accept_read-number.new.self is) other

@@ -1,6 +1,6 @@
 use Rattle.std.proofs.Common.{List, ℕ, refl, subst}
 use Rattle.iom_machine.specs.Machine.{Requests}
-use Rattle.iom_machine.specs.Requests.{write_of}
+use Rattle.iom_base.specs.Accesses.{write_of}
 use Rattle.iom_ledger.specs.declared.refusal.Refusal.TheVariants.{Memory, NoFrames}
 use Rattle.iom_world.specs.Told.{outcome_of}
 use Rattle.iom_world.proofs.ToldLemmas.{told_done, told_refused}
