@@ -50,63 +50,52 @@ begins_somehow line events.Fetch q = ((8, omega arith, refl), q)
 pub any_line : (line : List ℕ) (result : Option Event) → Reads result (IsLineOf (device_starts ++ (driver_starts ++ single_starts)) line) → Reads result (IsEventLine line)
 any_line line result reads = λ event. (λ e. ((reads event).0 e).1, λ q. (reads event).1 (begins_somehow line event q))
 
--- the words of the line that says how large the world is
-pub world_parts : (line word rest : List ℕ) → IsCut line 32 word rest → (size : WorldSize) → IsWorldLine line size
-    → (word ≡ codes "world") × Begins IsNumber rest size.frames (codes "1")
-world_parts line word rest cut size q =
-    let same = cut_is_one 32 word (codes "world") rest (q.0 ␣ codes "1") cut.0 (search (rules, arith)) (sym cut.1 ∙ q.3) in
-    (same.0, (q.0, q.1, same.1))
+-- what stands behind the first word of the line that says how large the world is
+abbrev pub BehindWorld : List ℕ → List ℕ → Type 0
+BehindWorld line rest = Reads (Some rest) (λ more. line ≡ codes "world " ++ more)
 
--- no such line: it has no space
-pub world_uncut : (line : List ℕ) → Reads None (CutOf line) → Reads None (IsWorldLine line)
-world_uncut line none = reads_none (IsWorldLine line) (λ size q.
-    let parts : List ℕ × List ℕ = (codes "world", q.0 ␣ codes "1") in
-    read_nothing (CutOf line) parts none (search (rules, arith), q.3))
+world_parts : (line rest : List ℕ) → BehindWorld line rest → (size : WorldSize) → IsWorldLine line size → Begins IsNumber rest size.frames (codes "1")
+world_parts line rest begun size q = (q.0, q.1, read_only (λ more. line ≡ codes "world " ++ more) rest (q.0 ␣ codes "1") begun q.3)
 
--- no such line: it begins with another word
-pub world_otherwise : (line word rest : List ℕ) → Reads {X = List ℕ × List ℕ} (Some (word, rest)) (CutOf line) → (word ≡ codes "world" → ⊥) → Reads None (IsWorldLine line)
-world_otherwise line word rest cut other = reads_none (IsWorldLine line) (λ size q.
-    let parts : List ℕ × List ℕ = (word, rest) in
-    other (world_parts line word rest (read_holds (CutOf line) parts cut) size q).0)
+-- no such line: it begins otherwise
+pub world_otherwise : (line : List ℕ) → Reads None (λ more. line ≡ codes "world " ++ more) → Reads None (IsWorldLine line)
+world_otherwise line none = reads_none (IsWorldLine line) (λ size q. read_nothing (λ more. line ≡ codes "world " ++ more) (q.0 ␣ codes "1") none q.3)
 
 -- no such line: no number follows
-pub world_without_number : (line word rest : List ℕ) → Reads {X = List ℕ × List ℕ} (Some (word, rest)) (CutOf line) → Reads None (FirstOf IsNumber rest) → Reads None (IsWorldLine line)
-world_without_number line word rest cut none = reads_none (IsWorldLine line) (λ size q.
-    let parts : List ℕ × List ℕ = (word, rest) in
+pub world_without_number : (line rest : List ℕ) → BehindWorld line rest → Reads None (FirstOf IsNumber rest) → Reads None (IsWorldLine line)
+world_without_number line rest begun none = reads_none (IsWorldLine line) (λ size q.
     let found : ℕ × List ℕ = (size.frames, codes "1") in
-    read_nothing (FirstOf IsNumber rest) found none (world_parts line word rest (read_holds (CutOf line) parts cut) size q).1)
+    read_nothing (FirstOf IsNumber rest) found none (world_parts line rest begun size q))
 
 -- the numbers of such a line are those that were read
-world_numbers : (line word rest levels : List ℕ) (frames : ℕ) → Reads {X = List ℕ × List ℕ} (Some (word, rest)) (CutOf line)
+world_numbers : (line rest levels : List ℕ) (frames : ℕ) → BehindWorld line rest
     → Reads {X = ℕ × List ℕ} (Some (frames, levels)) (FirstOf IsNumber rest) → (size : WorldSize) → IsWorldLine line size → (frames ≡ size.frames) × (levels ≡ codes "1")
-world_numbers line word rest levels frames cut number size q =
-    let parts : List ℕ × List ℕ = (word, rest) in
+world_numbers line rest levels frames begun number size q =
     let here : ℕ × List ℕ = (frames, levels) in
     let found : ℕ × List ℕ = (size.frames, codes "1") in
-    let same : here ≡ found = read_only (FirstOf IsNumber rest) here found number (world_parts line word rest (read_holds (CutOf line) parts cut) size q).1 in
+    let same : here ≡ found = read_only (FirstOf IsNumber rest) here found number (world_parts line rest begun size q) in
     (ap (λ (p : ℕ × List ℕ). p.0) same, ap (λ (p : ℕ × List ℕ). p.1) same)
 
 -- no such line: the number is out of range, or another follows it than 1
-pub world_out_of_range : (line word rest levels : List ℕ) (frames : ℕ) → Reads {X = List ℕ × List ℕ} (Some (word, rest)) (CutOf line)
+pub world_out_of_range : (line rest levels : List ℕ) (frames : ℕ) → BehindWorld line rest
     → Reads {X = ℕ × List ℕ} (Some (frames, levels)) (FirstOf IsNumber rest) → (levels ≡ codes "1" → 64 ≤ frames → frames ≤ 4096 → ⊥) → Reads None (IsWorldLine line)
-world_out_of_range line word rest levels frames cut number out = reads_none (IsWorldLine line) (λ size q.
-    let same = world_numbers line word rest levels frames cut number size q in
+world_out_of_range line rest levels frames begun number out = reads_none (IsWorldLine line) (λ size q.
+    let same = world_numbers line rest levels frames begun number size q in
     out same.1 (omega (arith, same.0, q.2.0)) (omega (arith, same.0, q.2.1)))
 
 -- the line
-pub world_read : (line word rest levels : List ℕ) (frames : ℕ) → Reads {X = List ℕ × List ℕ} (Some (word, rest)) (CutOf line) → word ≡ codes "world"
+pub world_read : (line rest levels : List ℕ) (frames : ℕ) → BehindWorld line rest
     → Reads {X = ℕ × List ℕ} (Some (frames, levels)) (FirstOf IsNumber rest) → levels ≡ codes "1" → 64 ≤ frames → frames ≤ 4096
     → Reads {X = WorldSize} (Some (record { frames = frames; levels = 1 })) (IsWorldLine line)
-world_read line word rest levels frames cut is_world number one low high =
-    let parts : List ℕ × List ℕ = (word, rest) in
+world_read line rest levels frames begun number one low high =
     let here : ℕ × List ℕ = (frames, levels) in
     let size_here : WorldSize = record { frames = frames; levels = 1 } in
-    let c = read_holds (CutOf line) parts cut in
+    let whole = read_holds (λ more. line ≡ codes "world " ++ more) rest begun in
     let n = read_holds (FirstOf IsNumber rest) here number in
     reads_some (IsWorldLine line) size_here
-    (n.0, n.1, (low, high, refl), c.1 ∙ ap (λ w. w ␣ rest) is_world ∙ ap (λ r. codes "world" ␣ r) (n.2 ∙ ap (λ l. n.0 ␣ l) one))
+    (n.0, n.1, (low, high, refl), whole ∙ ap (λ r. codes "world" ␣ r) (n.2 ∙ ap (λ l. n.0 ␣ l) one))
     (λ size q.
-    let same = world_numbers line word rest levels frames cut number size q in
+    let same = world_numbers line rest levels frames begun number size q in
     same_size frames size same.0 (sym q.2.2))
   where
     same_size : (f : ℕ) (size : WorldSize) → f ≡ size.frames → 1 ≡ size.levels → let a : WorldSize = record { frames = f; levels = 1 } in a ≡ size

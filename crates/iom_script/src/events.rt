@@ -5,7 +5,7 @@ ghost use Rattle.iom_script.specs.Grammar.{IsEventLine, IsWorldLine};
 
 use crate::script::WorldSize;
 use crate::words::{
-    address_and, after, bytes_of, device_and, device_of, number_and, number_of, right_of, word_and,
+    address_and, after, bytes_of, device_and, device_of, number_and, number_of, right_of,
 };
 use iom_machine::{DeviceKind, Event, Mode};
 use std::alloc::{AllocError, Global};
@@ -184,11 +184,8 @@ fn is_frame_count(frames: u64) -> bool
 pub(crate) fn world_of(line: &[u8]) -> Option<WorldSize>
     ensures { Reads result (IsWorldLine line.now) }
 {
-    let (word, rest) = word_and(line)?;
-    if word != b"world".as_slice() {
-        return None;
-    }
-    let (frames, levels) = number_and(rest)?;
+    let arguments = after(line, b"world ")?;
+    let (frames, levels) = number_and(arguments)?;
     if levels != b"1".as_slice() || !is_frame_count(frames) {
         return None;
     }
