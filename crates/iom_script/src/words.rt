@@ -157,7 +157,7 @@ fn byte_of(high: u8, low: u8) -> Option<u8>
     Some(high * 16 + low)
 }
 
-/// The bytes that the word says.
+/// The bytes that the word says. They take memory once, as much as they need.
 pub(crate) fn bytes_of(alloc: Global, text: &[u8]) -> Result<Option<Sequence<u8>>, AllocError>
     ensures { IfOk result (λ bytes. Reads bytes (IsHex text.now)) }
 {
@@ -165,7 +165,7 @@ pub(crate) fn bytes_of(alloc: Global, text: &[u8]) -> Result<Option<Sequence<u8>
         return Ok(None);
     }
     let count = text.len() / 2;
-    let mut bytes = Sequence::new(alloc);
+    let mut bytes = Sequence::with_capacity(alloc, count)?;
     for i in 0..count {
         match byte_of(text[2 * i], text[2 * i + 1]) {
             Some(byte) => bytes.push(byte)?,
