@@ -1,19 +1,28 @@
 ghost use Rattle.std.specs.Prelude.{◌≡◌, ◌≢◌, MatchOption, slice_index, ℕ, ◌+◌, ◌*◌, ◌/◌, ◌%◌, ◌^◌, ◌<◌, ◌≤◌, ◌↔◌, ◌∷◌, ◌++◌, List, length, Some, IfOk};
+ghost use Rattle.memchr.specs.Find.{IsFirstByte, is_byte};
 ghost use Rattle.iom_script.specs.Digits.{hex_digit, hex_digits};
 ghost use Rattle.iom_script.specs.Words.{Reads, IsWithout, IsDevice, IsNumber, IsAddress, IsRight, IsHex, ◌␣◌};
 ghost use Rattle.iom_script.specs.Cuts.{shown, shown_rest, with_rest, IsCut, Begins, LeadsWithHex, LeadsWithDecimal, LeadsWithNumber};
 
 use iom_base::{DeviceId, GrantRights};
 use iom_machine::Sequence;
-use memchr::memchr;
+use memchr::memchr_iter;
 use std::alloc::{AllocError, Global};
+
+/// Where the byte first is. The iterator looks near at hand first, and lines are short.
+#[inline(always)]
+fn first_place(byte: u8, bytes: &[u8]) -> Option<usize>
+    ensures { IsFirstByte (is_byte byte) bytes.now result }
+{
+    memchr_iter(byte, bytes).next()
+}
 
 /// The bytes before the first separator, and those behind it.
 #[inline(always)]
 pub(crate) fn cut(bytes: &[u8], separator: u8) -> Option<(&[u8], &[u8])>
     ensures { Reads (shown result) (λ parts. IsCut bytes.now separator parts.0 parts.1) }
 {
-    let place = memchr(separator, bytes)?;
+    let place = first_place(separator, bytes)?;
     Some((&bytes[..place], &bytes[place + 1..]))
 }
 
