@@ -1,0 +1,28 @@
+// A device is plugged in.
+ghost use Rattle.iom_driver.specs.Calls.{Plugs};
+ghost use Rattle.iom_driver.specs.Seen.{state_of};
+
+use crate::device::Device;
+use crate::driver::Driver;
+use crate::layout::MAX_DEVICES;
+use iom_base::DeviceId;
+use iom_ledger::Refusal;
+
+impl Driver {
+    /// A device is plugged in, and attached to nothing. May come before the start. `AlreadyPlugged`, else
+    /// `TooManyDevices` where there are 16, else `Memory`.
+    pub fn plug(&mut self, id: DeviceId) -> Result<(), Refusal>
+        ensures effect { Plugs (state_of self.old) id result (state_of self.new) }
+    {
+        if self.device_of(id).is_some() {
+            return Err(Refusal::AlreadyPlugged);
+        }
+        if self.devices.len() >= MAX_DEVICES {
+            return Err(Refusal::TooManyDevices);
+        }
+        match self.devices.push(Device { id, stage: None }) {
+            Ok(()) => Ok(()),
+            Err(_) => Err(Refusal::Memory),
+        }
+    }
+}
