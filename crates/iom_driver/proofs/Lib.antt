@@ -1,0 +1,9 @@
+pub mod Lists
+pub mod Places
+pub mod Numbers
+pub mod Confirms
+pub mod Openings
+pub mod Ring
+pub mod Marks
+pub mod Stays
+pub mod Choosing

@@ -28,10 +28,13 @@ fn opening(alloc: Global, frames: u32, levels: u8) -> Result<Driver, AllocError>
     requires levels { IsLevels levels }
     ensures { IfOk result (λ driver. IsOpening frames levels (state_of driver)) }
 {
+    let ledger = Ledger::new(alloc, frames)?;
+    let marks = TableFrames::new(alloc, frames)?;
+    let devices = Vec::with_capacity(alloc, MAX_DEVICES)?;
     Ok(Driver {
-        ledger: Ledger::new(alloc, frames)?,
-        marks: TableFrames::new(alloc, frames)?,
-        devices: Vec::with_capacity(alloc, MAX_DEVICES)?,
+        ledger,
+        marks,
+        devices,
         frames,
         levels,
         started: false,
