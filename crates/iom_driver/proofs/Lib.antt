@@ -7,3 +7,4 @@ pub mod Ring
 pub mod Marks
 pub mod Stays
 pub mod Choosing
+pub mod Keeps

@@ -44,7 +44,7 @@ pub last_unused : (devices : List Device) → length devices ≤ 16 → ((n : �
 last_unused devices few used = by (is_used devices 17) refl
   where
     behind : (q : ℕ) → list_any (eqb (suc q)) (numbers_of devices) ≡ true → list_any (eqb (suc q)) (zero ∷ numbers_of devices) ≡ true
-    behind q later = later
+    behind q later = grind (arith, later)
 
     below : is_used devices 17 ≡ true → (q : ℕ) → q < 18 → list_any (eqb q) (zero ∷ numbers_of devices) ≡ true
     below last zero lt = refl

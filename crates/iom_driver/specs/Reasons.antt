@@ -45,23 +45,29 @@ attachment_reasons d id later =
     ∷ (is_none (stage_of d.devices id), NotAttached)
     ∷ later
 
--- a frame is granted at a page
-abbrev pub grant_reasons : DriverState → ℕ → ℕ → ℕ → List (Bool × Refusal)
-grant_reasons d id page frame = attachment_reasons d id (
+-- beyond that: a frame is granted at a page
+abbrev pub granting_reasons : DriverState → ℕ → ℕ → ℕ → List (Bool × Refusal)
+granting_reasons d id page frame =
     (nat_le (length d.marks) frame, FrameOutOfRange)
     ∷ (is_marked d.marks frame, FrameReserved)
     ∷ (nat_le page_limit page, IovaOutOfRange)
     ∷ (is_busy d id page, IovaBusy)
-    ∷ [])
+    ∷ []
 
--- a page is released
-abbrev pub release_reasons : DriverState → Registers → ℕ → ℕ → List (Bool × Refusal)
-release_reasons d r id page = attachment_reasons d id (
+abbrev pub grant_reasons : DriverState → ℕ → ℕ → ℕ → List (Bool × Refusal)
+grant_reasons d id page frame = attachment_reasons d id (granting_reasons d id page frame)
+
+-- and: a page is released
+abbrev pub releasing_reasons : DriverState → Registers → ℕ → ℕ → List (Bool × Refusal)
+releasing_reasons d r id page =
     (is_none (held_in d.ledger id page), NotGranted)
     ∷ (nat_le pending_limit (d.given - d.confirmed), TooManyPending)
     ∷ (lacks_two_places r, QueueFull)
     ∷ (nat_le 4294967295 d.given, NumbersUsedUp)
-    ∷ [])
+    ∷ []
+
+abbrev pub release_reasons : DriverState → Registers → ℕ → ℕ → List (Bool × Refusal)
+release_reasons d r id page = attachment_reasons d id (releasing_reasons d r id page)
 
 -- the completion word is polled
 abbrev pub poll_reasons : DriverState → List (Bool × Refusal)

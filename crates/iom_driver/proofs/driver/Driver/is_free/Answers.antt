@@ -6,7 +6,7 @@ returns c =
     let driver = c.args.self.now in (
       (λ true. record {
         inside = subst (λ n. c.args.frame < n) (sym driver.sound.sizes.marked) (omega arith);
-        unreserved = ?;
+        unreserved = sym c.is_reserved.ensures ∙ c.if-is_reserved.false;
         ungranted = c.is_free.ensures.shown.0 true;
       }),
       (λ free. c.is_free.ensures.shown.1 free.ungranted),
