@@ -8,3 +8,4 @@ pub mod Marks
 pub mod Stays
 pub mod Choosing
 pub mod Keeps
+pub mod ReleaseTables

@@ -1,8 +1,8 @@
 // The two commands of a release.
-ghost use Rattle.std.specs.Prelude.{◌≡◌, ◌+◌, ◌*◌, ◌/◌, ◌%◌, ◌<◌, ◌≤◌, ◌^◌, length};
+ghost use Rattle.std.specs.Prelude.{◌≡◌, ◌+◌, ◌*◌, ◌/◌, ◌%◌, ◌<◌, ◌≤◌, ◌^◌, ◌≢◌, ℕ, length, slice_get};
 ghost use Rattle.iom_command_queue.specs.Waiting.{how_many};
 ghost use Rattle.iom_driver.specs.Appends.{invalidation, fence, AppendsTwo};
-ghost use Rattle.iom_driver.specs.Layout.{completion_address, queue_entries};
+ghost use Rattle.iom_driver.specs.Layout.{command_frame, completion_address, queue_entries};
 ghost use Rattle.iom_driver.specs.Ready.{IsRing};
 
 use crate::layout::completion_address;
@@ -52,6 +52,8 @@ pub(crate) fn append_release<M: Mmio>(
     requires room { how_many (M.registers io.old) + 3 ≤ queue_entries }
     ensures appended { AppendsTwo M.Mmio memory.old io.old invalidation (fence (completion_address frames) ticket) memory.new io.new }
     ensures ring { IsRing frames (M.registers io.new) }
+    ensures other_frames { (n : ℕ) → n ≢ command_frame frames → slice_get memory.new n ≡ slice_get memory.old n }
+    ensures size { length memory.new ≡ length memory.old }
 {
     CommandRing::append(memory, io, invalidation);
     CommandRing::append(memory, io, fence(completion_address(frames), ticket));

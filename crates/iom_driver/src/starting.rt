@@ -1,5 +1,6 @@
 // The IOMMU is told where its structures are, and its command queue is turned on.
-ghost use Rattle.std.specs.Prelude.{◌≡◌, length, false};
+ghost use Rattle.std.specs.Prelude.{◌≡◌, ◌<◌, length, false, slice_set};
+ghost use Rattle.iom_phys_mem.specs.Words.{zeroed};
 ghost use Rattle.iom_driver.specs.Calls.{Starts, IsOff};
 ghost use Rattle.iom_driver.specs.Ready.{IsReady};
 ghost use Rattle.iom_driver.specs.Seen.{state_of};
@@ -10,6 +11,16 @@ use crate::layout::{completion_address, cqb_of, ddtp_of, directory_frame};
 use iom_base::FRAME_SIZE;
 use iom_phys_mem::{Bytes, Memory};
 use iom_registers::{Mmio, Register};
+
+/// Makes the bytes of the frame zero.
+fn clear(memory: &mut Memory, frame: u32)
+    requires { frame < length memory.old }
+    ensures { memory.new ≡ slice_set memory.old frame zeroed }
+{
+    if let Some(bytes) = memory.frame_mut(frame) {
+        *bytes = [0; FRAME_SIZE];
+    }
+}
 
 impl Driver {
     /// Starts a driver that isn't started, on a memory of its size, where the command queue is off and its
@@ -23,9 +34,7 @@ impl Driver {
         ensures ready { IsReady (state_of self.new) memory.new (M.registers io.new) }
     {
         memory.store_u32(completion_address(self.frames), 0);
-        if let Some(root) = memory.frame_mut(directory_frame(self.frames)) {
-            *root = [0; FRAME_SIZE];
-        }
+        clear(memory, directory_frame(self.frames));
         write(io, Register::Ddtp, ddtp_of(self.frames, self.levels));
         write(io, Register::Cqb, cqb_of(self.frames));
         write(io, Register::Cqcsr, 1);
