@@ -8,4 +8,6 @@ pub mod Marks
 pub mod Stays
 pub mod Choosing
 pub mod Keeps
+pub mod AttachTables
+pub mod GrantTables
 pub mod ReleaseTables
