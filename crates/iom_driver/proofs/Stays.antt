@@ -1,5 +1,5 @@
 -- The tables of devices while other frames change.
-use Rattle.std.proofs.Common.{◌≡◌, ◌≢◌, ◌-◌, ◌*◌, ◌∙◌, ℕ, List, length, Option, Some, None, option_map, slice_get, refl, sym, ap}
+use Rattle.std.proofs.Common.{◌≡◌, ◌≢◌, ◌-◌, ◌*◌, ◌∙◌, ℕ, List, length, Option, Some, None, option_map, slice_get, refl, sym, ap, subst, [], ◌∷◌, ◌++◌}
 use Rattle.iom_ledger.specs.declared.ledger.Ledger.{Ledger}
 use Rattle.iom_ledger.specs.Shown.{held_in}
 use Rattle.iom_page_table.proofs.Stays.{stays}
@@ -7,11 +7,13 @@ use Rattle.iom_base.specs.declared.owner.Owner.{Owner}
 use Rattle.iom_base.specs.declared.owner.Owner.TheVariants.{OneDevice, System}
 use Rattle.iom_registers.specs.declared.registers.Registers.{Registers}
 use Rattle.iom_driver.specs.declared.device.Device.{Device}
+use Rattle.iom_driver.specs.Devices.{detached}
 use Rattle.iom_driver.specs.Laws.{KeepsReserved, KeepsRing}
 use Rattle.iom_driver.specs.Layout.{AreFixed, completion_frame}
-use Rattle.iom_driver.specs.Ready.{IsReady}
+use Rattle.iom_driver.specs.Ready.{TablesStand, IsRing, IsReady}
 use Rattle.iom_driver.specs.State.{DriverState}
 use Rattle.iom_driver.specs.Tables.{AreTablesOf, HaveTables, leaf_for}
+use Rattle.iom_driver.proofs.Places.{stage_plugged}
 
 -- the frames that are marked for the device stay as they are, mark and bytes, and so does what it holds: its tables do
 pub tables_stay : (memory memory' : List (List ℕ)) (marks marks' : List (Option Owner)) (ledger ledger' : Ledger) (id root : ℕ) → AreTablesOf memory marks ledger id root
@@ -59,4 +61,21 @@ ready_stays d old new r s fixed ready keeps ring = record {
         base = ring.base ∙ was.base ∙ ap (λ n. 4096 * (n - 1)) (sym keeps.size);
         entries = ring.entries ∙ was.entries;
       };
+}
+
+-- a call that starts nothing and leaves how large memory is, leaves what the registers name
+pub ready_from : (d d' : DriverState) (memory memory' : List (List ℕ)) (r : Registers) → TablesStand d' memory' → length memory' ≡ length memory → d'.started ≡ d.started → IsReady d memory r → IsReady d' memory' r
+ready_from d d' memory memory' r stand size started ready = record {
+  stand = stand;
+  ring = λ runs. subst (λ n. IsRing n r) (sym size) (ready.ring (sym started ∙ runs));
+}
+
+-- and so does one more device that is attached to nothing
+pub ready_plugged : (d : DriverState) (memory : List (List ℕ)) (r : Registers) (id : ℕ) → IsReady d memory r → IsReady (record d { devices = d.devices ++ detached id ∷ [] }) memory r
+ready_plugged d memory r id ready = record {
+  stand = record {
+    size = ready.stand.size;
+    tables = λ other stage at. ready.stand.tables other stage (sym (stage_plugged d.devices id other) ∙ at);
+  };
+  ring = ready.ring;
 }

@@ -1,8 +1,9 @@
 // A device is attached in its first stage.
-ghost use Rattle.std.specs.Prelude.{◌≡◌, ◌≤◌};
+ghost use Rattle.std.specs.Prelude.{◌≡◌, ◌≤◌, length};
+ghost use Rattle.iom_registers.specs.declared.registers.Registers.{Registers};
 ghost use Rattle.iom_driver.specs.Calls.{Attaches};
 ghost use Rattle.iom_driver.specs.Devices.{is_used, IsLowestNumber};
-ghost use Rattle.iom_driver.specs.Ready.{TablesStand};
+ghost use Rattle.iom_driver.specs.Ready.{TablesStand, IsReady};
 ghost use Rattle.iom_driver.specs.Seen.{state_of};
 
 use crate::device::{Device, FirstStage};
@@ -38,8 +39,6 @@ fn lowest_number(devices: &[Device]) -> u32
     MAX_DEVICES as u32 + 1
 }
 
-ghost use Rattle.std.specs.Prelude.{length};
-
 impl Driver {
     /// The device is attached in its first stage, without ATS: the root of its tables takes the highest free
     /// frame, and its address space the lowest number from 1 on that no attached device holds. `NotStarted`,
@@ -48,6 +47,7 @@ impl Driver {
         requires stand { TablesStand (state_of self.old) memory.old }
         ensures effect { Attaches (state_of self.old) memory.old id result (state_of self.new) memory.new }
         ensures stand { TablesStand (state_of self.new) memory.new }
+        ensures ready { (r : Registers) → IsReady (state_of self.old) memory.old r → IsReady (state_of self.new) memory.new r }
     {
         if !self.started {
             return Err(Refusal::NotStarted);

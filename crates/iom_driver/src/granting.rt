@@ -1,8 +1,9 @@
 // A device gets a frame at a page.
 ghost use Rattle.std.specs.Prelude.{◌≡◌, ◌<◌, ◌≤◌, Some, None, All, length, IfSome, IfNone};
+ghost use Rattle.iom_registers.specs.declared.registers.Registers.{Registers};
 ghost use Rattle.iom_driver.specs.Calls.{Grants};
 ghost use Rattle.iom_driver.specs.Choices.{AreHighestFree, marked_for, cleared};
-ghost use Rattle.iom_driver.specs.Ready.{TablesStand};
+ghost use Rattle.iom_driver.specs.Ready.{TablesStand, IsReady};
 ghost use Rattle.iom_driver.specs.Seen.{state_of};
 ghost use Rattle.iom_table_frames.specs.Marks.{HasFree};
 
@@ -64,6 +65,7 @@ impl Driver {
         requires stand { TablesStand (state_of self.old) memory.old }
         ensures effect { Grants (state_of self.old) memory.old id page frame rights result (state_of self.new) memory.new }
         ensures stand { TablesStand (state_of self.new) memory.new }
+        ensures ready { (r : Registers) → IsReady (state_of self.old) memory.old r → IsReady (state_of self.new) memory.new r }
     {
         let root = match self.admit_grant(id, page, frame) {
             Ok(stage) => stage.root,

@@ -16,6 +16,7 @@ use Rattle.iom_driver.proofs.AttachTables.{tables_attached, may_attach}
 use Rattle.iom_driver.proofs.Keeps.{unmarked, sound_attached}
 use Rattle.iom_driver.proofs.Lists.{read_is}
 use Rattle.iom_driver.proofs.Places.{stage_is}
+use Rattle.iom_driver.proofs.Stays.{ready_from}
 use Rattle.iom_driver.proofs.driver.Driver.attach.Goals as goal
 
 missing : {A : Type 0} (o : Option A) → is_some o ≡ false → o ≡ None
@@ -96,3 +97,7 @@ returns-clause-stand c =
           (tables_attached c.args.memory.now driver.marks driver.ledger devices c.args.id stage c.requires.stand.tables (ap (λ (o : Option Device). is_some o) place.2) found.below c.requires.stand.size
           (unmarked driver.marks root found.below found.free.unmarked) (λ page. driver.sound.holders c.args.id page detached))));
     }
+
+pub returns-clause-ready : goal.returns-clause-ready
+returns-clause-ready c = λ r ready.
+    ready_from (state_of c.args.self.now) _ c.args.memory.now c.take.new.memory r (returns-clause-stand c) c.take.ensures.size.1 refl ready

@@ -14,13 +14,14 @@ use Rattle.iom_page_table.specs.Sv39.{missing_for, mapped}
 use Rattle.iom_driver.specs.declared.device.FirstStage.{FirstStage}
 use Rattle.iom_driver.specs.Calls.{granted_leaf}
 use Rattle.iom_driver.specs.Choices.{AreHighestFree, marked_for, cleared}
+use Rattle.iom_driver.specs.Seen.{state_of}
 use Rattle.iom_driver.specs.Sound.{IsSound}
 use Rattle.iom_driver.specs.Tables.{HaveTables}
 use Rattle.iom_driver.proofs.Choosing.{AreChosen, are_chosen}
 use Rattle.iom_driver.proofs.GrantTables.{may_be_mapped, IsMapped, mapped_is, tables_granted}
 use Rattle.iom_driver.proofs.Keeps.{unmarked, sound_granted}
 use Rattle.iom_driver.proofs.Marks.{length-cleared, length-marked_for}
-use Rattle.iom_driver.proofs.Stays.{all_stay}
+use Rattle.iom_driver.proofs.Stays.{all_stay, ready_from}
 use Rattle.iom_driver.proofs.driver.Driver.grant.Goals as goal
 
 -- what is promised where there is no error, and where there is one
@@ -160,3 +161,12 @@ returns-clause-stand c =
           (tables_granted memory c.map.new.memory driver.marks driver.ledger c.grant.new.self driver.devices.items c.args.id c.args.page c.args.frame c.missing-lacking.result c.rights-rights.result c.in-Ok.stage tables
           (sym c.requires.stand.size) c.requires.stand.tables may.attached may.page_low granted chose mapped);
     }
+
+pub returns-then-is_err-clause-ready : goal.returns-then-is_err-clause-ready
+returns-then-is_err-clause-ready c = λ r ready.
+    ready_from (state_of c.args.self.now) _ c.args.memory.now c.args.memory.now r (returns-then-is_err-clause-stand c) refl refl ready
+
+pub returns-clause-ready : goal.returns-clause-ready
+returns-clause-ready c = λ r ready.
+    let size = c.map.ensures.size ∙ ap (λ (m : List (List ℕ)). length m) c.reserve_all.ensures.memory ∙ length-cleared c.as_slice.result.now c.args.memory.now in
+    ready_from (state_of c.args.self.now) _ c.args.memory.now c.map.new.memory r (returns-clause-stand c) size refl ready
