@@ -1,6 +1,7 @@
 -- A driver with nothing in it.
 use Rattle.std.proofs.Common.{suc, zero, ◌≡◌, ◌+◌, ◌-◌, ◌≤◌, ◌<◌, ◌++◌, ◌∙◌, ℕ, false, List, [], ◌∷◌, length, replicate, Option, Some, None, option_map, slice_get, refl, sym, ap, subst, arith, length-append}
 use Rattle.std.specs.Option.{option_to_list}
+use Rattle.std.proofs.lemmas.Bool.{false≢true}
 use Rattle.std.proofs.lemmas.List.{length-replicate}
 use Rattle.iom_base.specs.declared.owner.Owner.{Owner}
 use Rattle.iom_base.specs.declared.owner.Owner.TheVariants.{System}
@@ -10,7 +11,12 @@ use Rattle.iom_ledger.specs.Shown.{Agrees, held_in, lingering_in, released_in}
 use Rattle.iom_phys_mem.specs.Sizes.{IsMemorySize}
 use Rattle.iom_table_frames.specs.Marks.{opening_marks}
 use Rattle.iom_driver.specs.declared.device.Device.{Device}
+use Rattle.iom_driver.specs.declared.device.FirstStage.{FirstStage}
+use Rattle.iom_driver.specs.Devices.{stage_of}
 use Rattle.iom_driver.specs.Layout.{IsLevels, AreFixed}
+use Rattle.iom_driver.specs.Ready.{IsReady}
+use Rattle.iom_driver.specs.State.{DriverState}
+use Rattle.iom_registers.specs.declared.registers.Registers.{Registers}
 use Rattle.iom_driver.specs.Sound.{IsSound}
 
 -- an option that lists nothing is none
@@ -71,3 +77,16 @@ sound_at_start ledger n levels size range agrees = record {
 pub sound_opening : (ledger : Ledger) (marks : List (Option Owner)) (devices : List Device) (n levels : ℕ) → marks ≡ opening_marks n → devices ≡ [] → IsMemorySize n → IsLevels levels → Agrees ledger []
     → IsSound ledger marks devices n levels false 0 0
 sound_opening ledger marks devices n levels opens none size range agrees = rw (opens, none) (sound_at_start ledger n levels size range agrees)
+
+-- and it is ready for a memory of its size, whatever the registers are
+pub ready_opening : (d : DriverState) (frames : ℕ) (memory : List (List ℕ)) (r : Registers) → length d.marks ≡ frames → length memory ≡ frames → d.devices ≡ [] → d.started ≡ false → IsReady d memory r
+ready_opening d frames memory r marked size none stopped = record {
+  stand = record {
+    size = size ∙ sym marked;
+    tables = λ id stage at. absurd (none_attached id stage (ap (λ (ds : List Device). stage_of ds id) (sym none) ∙ at));
+  };
+  ring = λ runs. absurd (false≢true (sym stopped ∙ runs));
+}
+  where
+    none_attached : (id : ℕ) (stage : FirstStage) → ◌≡◌ {A = Option FirstStage} None (Some stage) → ⊥
+    none_attached id stage same = cc

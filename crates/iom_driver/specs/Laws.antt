@@ -3,8 +3,10 @@ use Rattle.std.specs.Prelude.{◌≡◌, ◌≢◌, ℕ, List, Option, Some, len
 use Rattle.iom_base.specs.declared.owner.Owner.{Owner}
 use Rattle.iom_registers.specs.declared.registers.Registers.{Registers}
 use Rattle.iom_registers.specs.Queues.{command_base, command_entries, is_command_queue_on}
+use Rattle.iom_driver.specs.declared.driver.Driver.{Driver}
 use Rattle.iom_driver.specs.Layout.{completion_frame}
-use Rattle.iom_driver.specs.Ready.{TablesStand, IsReady}
+use Rattle.iom_driver.specs.Ready.{IsReady}
+use Rattle.iom_driver.specs.Seen.{state_of}
 use Rattle.iom_driver.specs.State.{DriverState}
 
 -- each reserved frame but that of the completion word has the bytes that it had
@@ -17,3 +19,8 @@ pub record KeepsRing (old new : Registers) : Type 0 where
   pub on : is_command_queue_on new ≡ is_command_queue_on old
   pub base : command_base new ≡ command_base old
   pub entries : command_entries new ≡ command_entries old
+
+-- a driver stays ready while its reserved frames are kept, and its ring is
+abbrev pub ReadyStays : Type 0
+ReadyStays = (driver : Driver) (old new : List (List ℕ)) (r s : Registers)
+    → IsReady (state_of driver) old r → KeepsReserved (state_of driver) old new → KeepsRing r s → IsReady (state_of driver) new s

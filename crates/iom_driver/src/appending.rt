@@ -50,7 +50,8 @@ pub(crate) fn append_release<M: Mmio>(
     requires many { 64 ≤ frames }
     requires ring { IsRing frames (M.registers io.old) }
     requires room { how_many (M.registers io.old) + 3 ≤ queue_entries }
-    ensures appended { AppendsTwo M.Mmio memory.old io.old invalidation (fence (completion_address frames) ticket) memory.new io.new }
+    ensures appended { let last = fence (completion_address frames) ticket in
+        AppendsTwo M.Mmio memory.old io.old invalidation last memory.new io.new }
     ensures ring { IsRing frames (M.registers io.new) }
     ensures other_frames { (n : ℕ) → n ≢ command_frame frames → slice_get memory.new n ≡ slice_get memory.old n }
     ensures size { length memory.new ≡ length memory.old }

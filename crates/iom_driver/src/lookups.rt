@@ -1,13 +1,15 @@
 // What the driver tells of itself.
-ghost use Rattle.std.specs.Prelude.{◌≡◌, ◌↔◌, ◌-◌, IsTrue, IfOk, MatchOption, option_map};
+ghost use Rattle.std.specs.Prelude.{◌≡◌, ◌↔◌, ◌-◌, IsTrue, IfOk, MatchOption, option_map, ℕ, List, length};
 ghost use Rattle.std.specs.Prelude.{IsErrOf};
 ghost use Rattle.iom_phys_mem.specs.Sizes.{IsMemorySize};
 ghost use Rattle.iom_phys_mem.specs.declared.memory.MemError.TheVariants.{BadSize};
+ghost use Rattle.iom_registers.specs.declared.registers.Registers.{Registers};
 ghost use Rattle.iom_table_frames.specs.Marks.{is_marked};
 ghost use Rattle.iom_driver.specs.Calls.{IsOpening, IsFree};
 ghost use Rattle.iom_driver.specs.Devices.{device_of, stage_of};
 ghost use Rattle.iom_driver.specs.Layout.{IsLevels};
 ghost use Rattle.iom_driver.specs.Places.{IsPlaceOf};
+ghost use Rattle.iom_driver.specs.Ready.{IsReady};
 ghost use Rattle.iom_driver.specs.Seen.{state_of};
 
 use crate::device::Device;
@@ -26,7 +28,9 @@ const MAX_LEVELS: u8 = 3;
 fn opening(alloc: Global, frames: u32, levels: u8) -> Result<Driver, AllocError>
     requires size { IsMemorySize frames }
     requires levels { IsLevels levels }
-    ensures { IfOk result (λ driver. IsOpening frames levels (state_of driver)) }
+    ensures opening { IfOk result (λ driver. IsOpening frames levels (state_of driver)) }
+    ensures ready { IfOk result (λ driver. (memory : List (List ℕ)) (r : Registers)
+        → length memory ≡ frames → IsReady (state_of driver) memory r) }
 {
     let ledger = Ledger::new(alloc, frames)?;
     let marks = TableFrames::new(alloc, frames)?;
@@ -62,6 +66,8 @@ impl Driver {
     /// levels aren't 1 to 3; else `OutOfMemory` where an allocation is refused.
     pub fn new(alloc: Global, frames: u32, levels: u8) -> Result<Driver, MemError>
         ensures opening { IfOk result (λ driver. IsOpening frames levels (state_of driver)) }
+        ensures ready { IfOk result (λ driver. (memory : List (List ℕ)) (r : Registers)
+            → length memory ≡ frames → IsReady (state_of driver) memory r) }
         ensures bad_size { (IsErrOf result BadSize) ↔ ¬ (IsMemorySize frames × IsLevels levels) }
     {
         if levels < 1 || levels > MAX_LEVELS || frames < MIN_FRAMES || frames > MAX_FRAMES {

@@ -5,8 +5,6 @@ use Rattle.iom_driver.proofs.Stays.{ready_stays}
 use Rattle.iom_driver.proofs.laws.stays_ready.Goals as goal
 
 pub returns : goal.returns
-returns c =
-    let driver = c.args.driver.now in
-    let many : length c.args.old.now ≡ driver.frames = c.requires.ready.stand.size ∙ driver.sound.sizes.marked in
-    ready_stays (state_of driver) c.args.old.now c.args.new.now c.args.registers.now c.args.after.now
-    (subst (λ n. AreFixed driver.marks n) (sym many) driver.sound.fixed) c.requires.ready c.requires.memory c.requires.ring
+returns c = λ driver old new r s ready keeps ring.
+    let many : length old ≡ driver.frames = ready.stand.size ∙ driver.sound.sizes.marked in
+    ready_stays (state_of driver) old new r s (subst (λ n. AreFixed driver.marks n) (sym many) driver.sound.fixed) ready keeps ring
