@@ -7,3 +7,4 @@ pub mod Ring
 pub mod Counts
 pub mod Shown
 pub mod Changes
+pub mod Confirmations

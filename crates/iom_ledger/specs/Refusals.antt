@@ -1,5 +1,5 @@
--- The numbers and names of refusals, and the line that tells one.
-use Rattle.std.specs.Prelude.{ℕ, List, ◌++◌, codes}
+-- The numbers and names of refusals, the line that tells one, and which of several reasons is told.
+use Rattle.std.specs.Prelude.{◌≡◌, ℕ, Bool, List, [], ◌∷◌, ◌++◌, Option, Some, None, MatchOption, codes, if◌then◌else◌}
 use Rattle.std.specs.Fmt.{decimal}
 use Rattle.iom_ledger.specs.declared.refusal.Refusal.{Refusal}
 use Rattle.iom_ledger.specs.declared.refusal.Refusal.TheVariants.{NoSuchDevice, AlreadyAttached, NotAttached, NotTrusted, FrameOutOfRange, FrameReserved, IovaOutOfRange, IovaBusy, NotGranted, NoFrames, QueueFull, TooManyPending, Quarantined, NumbersUsedUp, Memory, StillGranted, IdTooWide, TooManyDevices, NotStarted, AlreadyPlugged, WrongKind, BadMedium, BadQueue}
@@ -59,3 +59,16 @@ name_of BadQueue = codes "BadQueue"
 -- the line of a refused call
 abbrev pub text_of : Refusal → List ℕ
 text_of refusal = codes "refused " ++ decimal (number_of refusal) ++ codes " " ++ name_of refusal
+
+-- the first refusal whose reason applies, of reasons in the order in which a call tests them
+abbrev pub first_that_applies : List (Bool × Refusal) → Option Refusal
+first_that_applies [] = None
+first_that_applies (reason ∷ later) = if reason.0 then Some reason.1 else first_that_applies later
+
+-- no reason applies
+abbrev pub NoneApplies : List (Bool × Refusal) → Type 0
+NoneApplies reasons = first_that_applies reasons ≡ None
+
+-- the refusal is the first that applies, or, where none does, one that may come all the same
+abbrev pub IsRefusedBy : List (Bool × Refusal) → (Refusal → Type 0) → Refusal → Type 0
+IsRefusedBy reasons MayCome why = MatchOption (first_that_applies reasons) (MayCome why) (λ first. why ≡ first)

@@ -1,0 +1,46 @@
+-- The frames that are chosen for tables: they are free, distinct and as many as are wanted; and where some are chosen, enough are free.
+use Rattle.std.proofs.Common.{suc, zero, ◌≡◌, ◌≢◌, ◌<◌, ◌≤◌, ◌∙◌, ℕ, List, [], ◌∷◌, length, Option, refl, sym, ap, subst, arith, All}
+use Rattle.std.specs.List.{AllPairs}
+use Rattle.std.proofs.lemmas.List.Elements.{All-nil, All-cons}
+use Rattle.std.proofs.lemmas.List.Kept.{AllPairs-cons}
+use Rattle.iom_base.specs.declared.owner.Owner.{Owner}
+use Rattle.iom_ledger.specs.declared.ledger.Ledger.{Ledger}
+use Rattle.iom_table_frames.specs.Marks.{IsFreeForTable, HasFree}
+use Rattle.iom_driver.specs.Choices.{AreHighestFree}
+
+pub record AreChosen (marks : List (Option Owner)) (ledger : Ledger) (named : Option ℕ) (limit count : ℕ) (chosen : List ℕ) : Type 0 where
+  pub many : length chosen ≡ count
+  pub inside : All (λ frame. frame < limit) chosen
+  pub free : All (λ frame. IsFreeForTable marks ledger named frame) chosen
+  pub distinct : AllPairs (λ one other. one ≢ other) chosen
+
+pairs_nil : {X : Type 0} (R : X → X → Type 0) → AllPairs R []
+pairs_nil R i j d lt within = absurd (omega arith)
+
+pub are_chosen : (marks : List (Option Owner)) (ledger : Ledger) (named : Option ℕ) (limit count : ℕ) (chosen : List ℕ) → AreHighestFree marks ledger named limit count chosen
+    → AreChosen marks ledger named limit count chosen
+are_chosen marks ledger named limit zero [] chose = record {
+  many = refl;
+  inside = All-nil (λ frame. frame < limit);
+  free = All-nil (λ frame. IsFreeForTable marks ledger named frame);
+  distinct = pairs_nil (λ one other. one ≢ other);
+}
+are_chosen marks ledger named limit zero (frame ∷ frames) chose = absurd chose
+are_chosen marks ledger named limit (suc count) [] chose = absurd chose
+are_chosen marks ledger named limit (suc count) (frame ∷ frames) chose =
+    let rest = are_chosen marks ledger named frame count frames chose.1 in
+    let below : frame < limit = chose.0.below in
+    record {
+      many = ap suc rest.many;
+      inside = All-cons (λ f. f < limit) frame frames below (λ k d lt. let lower = rest.inside k d lt in omega (arith, lower, below));
+      free = All-cons (λ f. IsFreeForTable marks ledger named f) frame frames chose.0.free rest.free;
+      distinct = AllPairs-cons (λ one other. one ≢ other) frame frames (λ k d lt. let lower = rest.inside k d lt in λ same. absurd (omega (arith, lower, same))) rest.distinct;
+    }
+
+pub enough : (marks : List (Option Owner)) (ledger : Ledger) (named : Option ℕ) (limit count : ℕ) (chosen : List ℕ) → AreHighestFree marks ledger named limit count chosen
+    → HasFree marks ledger named count limit
+enough marks ledger named limit zero [] chose = tt
+enough marks ledger named limit zero (frame ∷ frames) chose = tt
+enough marks ledger named limit (suc count) [] chose = absurd chose
+enough marks ledger named limit (suc count) (frame ∷ frames) chose =
+    (frame, chose.0.below, chose.0.free, enough marks ledger named frame count frames chose.1)

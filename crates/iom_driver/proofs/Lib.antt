@@ -1,0 +1,13 @@
+pub mod Lists
+pub mod Places
+pub mod Numbers
+pub mod Confirms
+pub mod Openings
+pub mod Ring
+pub mod Marks
+pub mod Stays
+pub mod Choosing
+pub mod Keeps
+pub mod AttachTables
+pub mod GrantTables
+pub mod ReleaseTables

@@ -1,0 +1,105 @@
+-- Some frames become a device's tables: their marks, their bytes, and what stays.
+use Rattle.std.proofs.Common.{suc, zero, ◌≡◌, ◌≢◌, ◌<◌, ◌⊎◌, inl, inr, ◌∙◌, ℕ, List, [], ◌∷◌, length, Option, Some, slice_get, slice_set, get_or, refl, sym, subst, arith, All, Contains}
+use Rattle.std.proofs.lemmas.List.{length-set}
+use Rattle.std.proofs.lemmas.Bool.Decides.{eqb_tells}
+use Rattle.iom_phys_mem.specs.Words.{zeroed}
+use Rattle.iom_base.specs.declared.owner.Owner.{Owner}
+use Rattle.iom_base.specs.declared.owner.Owner.TheVariants.{OneDevice}
+use Rattle.iom_driver.specs.Choices.{marked_for, cleared}
+use Rattle.iom_driver.proofs.Lists.{get_set_same, get_set_other, get_within}
+
+-- the number is none of the list
+abbrev pub NotAmong : ℕ → List ℕ → Type 0
+NotAmong n [] = Unit {0}
+NotAmong n (f ∷ fs) = (n ≢ f) × NotAmong n fs
+
+-- the number is one of the list
+abbrev pub Among : ℕ → List ℕ → Type 0
+Among n [] = ⊥
+Among n (f ∷ fs) = (n ≡ f) ⊎ Among n fs
+
+pub all_head : (P : ℕ → Type 0) (f : ℕ) (fs : List ℕ) → All P (f ∷ fs) → P f
+all_head P f fs all = all 0 f (omega arith)
+
+pub all_tail : (P : ℕ → Type 0) (f : ℕ) (fs : List ℕ) → All P (f ∷ fs) → All P fs
+all_tail P f fs all = λ k d lt. all (suc k) d (omega arith)
+
+-- what has a fact that no item of the list has is none of them
+pub not_among : (P : ℕ → Type 0) (n : ℕ) (fs : List ℕ) → All P fs → (P n → ⊥) → NotAmong n fs
+not_among P n [] all without = tt
+not_among P n (f ∷ fs) all without = ((λ same. without (subst P (sym same) (all_head P f fs all))), not_among P n fs (all_tail P f fs all) without)
+
+pub among_all : (P : ℕ → Type 0) (n : ℕ) (fs : List ℕ) → All P fs → Among n fs → P n
+among_all P n [] all here = absurd here
+among_all P n (f ∷ fs) all (inl same) = subst P (sym same) (all_head P f fs all)
+among_all P n (f ∷ fs) all (inr later) = among_all P n fs (all_tail P f fs all) later
+
+among_at : (n : ℕ) (fs : List ℕ) (k : ℕ) → k < length fs → get_or fs k n ≡ n → Among n fs
+among_at n [] k lt is = absurd (omega arith)
+among_at n (f ∷ fs) zero lt is = inl (sym is)
+among_at n (f ∷ fs) (suc k) lt is = inr (among_at n fs k (omega arith) is)
+
+-- an item of the list is one of it
+pub among_get : (fs : List ℕ) (k d : ℕ) → k < length fs → Among (get_or fs k d) fs
+among_get [] k d lt = absurd (omega arith)
+among_get (f ∷ fs) zero d lt = inl refl
+among_get (f ∷ fs) (suc k) d lt = inr (among_get fs k d (omega arith))
+
+pub among_contained : (n : ℕ) (fs : List ℕ) → Contains fs n → Among n fs
+among_contained n fs here = among_at n fs here.0 here.1 here.2
+
+pub length-marked_for : (id : ℕ) (fs : List ℕ) (marks : List (Option Owner)) → length (marked_for id fs marks) ≡ length marks
+length-marked_for id [] marks = refl
+length-marked_for id (f ∷ fs) marks = length-marked_for id fs (slice_set marks f (Some (OneDevice id))) ∙ length-set marks f (Some (OneDevice id))
+
+pub length-cleared : (fs : List ℕ) (memory : List (List ℕ)) → length (cleared fs memory) ≡ length memory
+length-cleared [] memory = refl
+length-cleared (f ∷ fs) memory = length-cleared fs (slice_set memory f zeroed) ∙ length-set memory f zeroed
+
+-- another frame keeps its mark, and its bytes
+pub mark_stays : (id n : ℕ) (fs : List ℕ) (marks : List (Option Owner)) → NotAmong n fs → slice_get (marked_for id fs marks) n ≡ slice_get marks n
+mark_stays id n [] marks other = refl
+mark_stays id n (f ∷ fs) marks other = mark_stays id n fs (slice_set marks f (Some (OneDevice id))) other.1 ∙ get_set_other marks f n (Some (OneDevice id)) other.0
+
+pub bytes_stay : (n : ℕ) (fs : List ℕ) (memory : List (List ℕ)) → NotAmong n fs → slice_get (cleared fs memory) n ≡ slice_get memory n
+bytes_stay n [] memory other = refl
+bytes_stay n (f ∷ fs) memory other = bytes_stay n fs (slice_set memory f zeroed) other.1 ∙ get_set_other memory f n zeroed other.0
+
+-- a frame that is marked so, or is one of the list, is marked so afterwards
+pub marked_still : (id n : ℕ) (fs : List ℕ) (marks : List (Option Owner)) → slice_get marks n ≡ Some (Some (OneDevice id)) → slice_get (marked_for id fs marks) n ≡ Some (Some (OneDevice id))
+marked_still id n [] marks own = own
+marked_still id n (f ∷ fs) marks own =
+    marked_still id n fs (slice_set marks f (Some (OneDevice id)))
+    (elim (eqb_tells n f) [
+      | inl e ↦ subst (λ k. slice_get (slice_set marks f (Some (OneDevice id))) k ≡ Some (Some (OneDevice id))) (sym e.1)
+          (get_set_same marks f (Some (OneDevice id)) (subst (λ k. k < length marks) e.1 (get_within marks n (Some (OneDevice id)) own)))
+      | inr ne ↦ get_set_other marks f n (Some (OneDevice id)) ne.1 ∙ own
+    ])
+
+pub marked_among : (id n : ℕ) (fs : List ℕ) (marks : List (Option Owner)) → All (λ f. f < length marks) fs → Among n fs → slice_get (marked_for id fs marks) n ≡ Some (Some (OneDevice id))
+marked_among id n [] marks inside here = absurd here
+marked_among id n (f ∷ fs) marks inside (inl same) =
+    marked_still id n fs (slice_set marks f (Some (OneDevice id)))
+    (subst (λ k. slice_get (slice_set marks f (Some (OneDevice id))) k ≡ Some (Some (OneDevice id))) (sym same) (get_set_same marks f (Some (OneDevice id)) (all_head (λ g. g < length marks) f fs inside)))
+marked_among id n (f ∷ fs) marks inside (inr later) =
+    marked_among id n fs (slice_set marks f (Some (OneDevice id)))
+    (λ k d lt. subst (λ m. get_or fs k d < m) (sym (length-set marks f (Some (OneDevice id)))) (all_tail (λ g. g < length marks) f fs inside k d lt)) later
+
+pub zero_still : (n : ℕ) (fs : List ℕ) (memory : List (List ℕ)) → slice_get memory n ≡ Some zeroed → slice_get (cleared fs memory) n ≡ Some zeroed
+zero_still n [] memory own = own
+zero_still n (f ∷ fs) memory own =
+    zero_still n fs (slice_set memory f zeroed)
+    (elim (eqb_tells n f) [
+      | inl e ↦ subst (λ k. slice_get (slice_set memory f zeroed) k ≡ Some zeroed) (sym e.1)
+          (get_set_same memory f zeroed (subst (λ k. k < length memory) e.1 (get_within memory n zeroed own)))
+      | inr ne ↦ get_set_other memory f n zeroed ne.1 ∙ own
+    ])
+
+pub zero_among : (fs : List ℕ) (memory : List (List ℕ)) → All (λ f. f < length memory) fs → (n : ℕ) → Among n fs → slice_get (cleared fs memory) n ≡ Some zeroed
+zero_among [] memory inside n here = absurd here
+zero_among (f ∷ fs) memory inside n (inl same) =
+    zero_still n fs (slice_set memory f zeroed)
+    (subst (λ k. slice_get (slice_set memory f zeroed) k ≡ Some zeroed) (sym same) (get_set_same memory f zeroed (all_head (λ g. g < length memory) f fs inside)))
+zero_among (f ∷ fs) memory inside n (inr later) =
+    zero_among fs (slice_set memory f zeroed)
+    (λ k d lt. subst (λ m. get_or fs k d < m) (sym (length-set memory f zeroed)) (all_tail (λ g. g < length memory) f fs inside k d lt)) n later

@@ -1,0 +1,87 @@
+-- The tables of the devices when the leaf of a page of one is cleared.
+use Rattle.std.proofs.Common.{◌≡◌, ◌≢◌, ◌==◌, inl, inr, ◌∙◌, ◌&&◌, ◌↔◌, if◌then◌else◌, ℕ, Bool, true, false, List, length, Option, Some, None, option_map, slice_get, refl, sym, ap, subst}
+use Rattle.std.proofs.lemmas.Bool.Decides.{eqb_tells}
+use Rattle.std.proofs.lemmas.Bool.{eq-eqb}
+use Rattle.iom_ledger.specs.declared.ledger.Ledger.{Ledger}
+use Rattle.iom_ledger.specs.Changes.{ShowsRelease}
+use Rattle.iom_ledger.specs.History.{Pair}
+use Rattle.iom_ledger.specs.Shown.{held_in}
+use Rattle.iom_page_table.specs.declared.leaf.PageLeaf.{PageLeaf}
+use Rattle.iom_page_table.specs.Leaves.{leaf_of}
+use Rattle.iom_page_table.specs.Sv39.{IsRoot, HasTable, ChangesLeaf, KeepsOutside}
+use Rattle.iom_base.specs.declared.owner.Owner.{Owner}
+use Rattle.iom_base.specs.declared.owner.Owner.TheVariants.{OneDevice}
+use Rattle.iom_driver.specs.declared.device.Device.{Device}
+use Rattle.iom_driver.specs.declared.device.FirstStage.{FirstStage}
+use Rattle.iom_driver.specs.Devices.{stage_of}
+use Rattle.iom_driver.specs.Tables.{AreTablesOf, HaveTables, leaf_for}
+use Rattle.iom_driver.proofs.Lists.{differs}
+use Rattle.iom_driver.proofs.Stays.{tables_kept}
+
+-- the leaf of a page of the root's tables is cleared, and no other, and no frame but theirs changes
+pub record IsUnmapped (memory memory' : List (List ℕ)) (root page : ℕ) : Type 0 where
+  pub tree : IsRoot memory' root
+  pub tables : (f : ℕ) → HasTable memory' root f ↔ HasTable memory root f
+  pub leaf : ChangesLeaf memory memory' root page None
+  pub outside : KeepsOutside memory memory' root
+  pub size : length memory' ≡ length memory
+
+other_frame : (memory memory' : List (List ℕ)) (root page f : ℕ) → IsUnmapped memory memory' root page → (HasTable memory root f → ⊥) → slice_get memory' f ≡ slice_get memory f
+other_frame memory memory' root page f unmapped other = unmapped.outside f (λ at. other ((unmapped.tables f).0 at))
+
+-- the tables of the device
+own_tables : (memory memory' : List (List ℕ)) (marks : List (Option Owner)) (ledger ledger' : Ledger) (id root page ticket : ℕ)
+    → AreTablesOf memory marks ledger id root → IsUnmapped memory memory' root page → ShowsRelease ledger ledger' id page ticket → AreTablesOf memory' marks ledger' id root
+own_tables memory memory' marks ledger ledger' id root page ticket tables unmapped released = record {
+  tree = unmapped.tree;
+  own = λ f at. tables.own f ((unmapped.tables f).0 at);
+  leaves = λ p low. unmapped.leaf p low ∙ by p (tables.leaves p low);
+}
+  where
+    cleared : (same : Bool) (leaf : Option PageLeaf) (held : Option Pair) → leaf ≡ option_map leaf_for held
+        → ◌≡◌ {A = Option PageLeaf} (if same then None else leaf) (option_map leaf_for (if same then None else held))
+    cleared true leaf held shows = refl
+    cleared false leaf held shows = shows
+
+    turned : (p : ℕ) → (p == page) ≡ ((id == id) && (page == p))
+    turned p = elim (eqb_tells page p) [
+      | inl e ↦ rw (eq-eqb id id refl, eq-eqb p page (sym e.1), eq-eqb page p e.1) refl
+      | inr ne ↦ rw (eq-eqb id id refl, differs p page (λ same. ne.1 (sym same)), ne.0) refl
+    ]
+
+    by : (p : ℕ) → leaf_of 3 memory root p ≡ option_map leaf_for (held_in ledger id p)
+        → ◌≡◌ {A = Option PageLeaf} (if p == page then None else leaf_of 3 memory root p) (option_map leaf_for (held_in ledger' id p))
+    by p shows =
+        cleared (p == page) (leaf_of 3 memory root p) (held_in ledger id p) shows
+        ∙ ap (λ b. option_map leaf_for (if b then None else held_in ledger id p)) (turned p)
+        ∙ ap (option_map leaf_for) (sym (released.held id p))
+
+-- the tables of another device
+other_tables : (memory memory' : List (List ℕ)) (marks : List (Option Owner)) (ledger ledger' : Ledger) (id root page ticket other other_root : ℕ) → other ≢ id
+    → AreTablesOf memory marks ledger id root → AreTablesOf memory marks ledger other other_root → IsUnmapped memory memory' root page → ShowsRelease ledger ledger' id page ticket
+    → AreTablesOf memory' marks ledger' other other_root
+other_tables memory memory' marks ledger ledger' id root page ticket other other_root apart tables others unmapped released =
+    let kept = tables_kept memory memory' marks ledger other other_root others (λ n marked. other_frame memory memory' root page n unmapped (λ at. absurd (apart (one_owner n marked (tables.own n at))))) unmapped.size in
+    record {
+      tree = kept.tree;
+      own = kept.own;
+      leaves = λ p low. kept.leaves p low ∙ ap (option_map leaf_for) (sym (released.held other p ∙ rw (differs id other (λ same. apart (sym same))) refl));
+    }
+  where
+    one_owner : (n : ℕ) → slice_get marks n ≡ Some (Some (OneDevice other)) → slice_get marks n ≡ Some (Some (OneDevice id)) → other ≡ id
+    one_owner n a b = cc
+
+-- the tables of all devices
+pub tables_released : (memory memory' : List (List ℕ)) (marks : List (Option Owner)) (ledger ledger' : Ledger) (devices : List Device) (id page ticket : ℕ) (stage : FirstStage)
+    → HaveTables memory marks ledger devices → stage_of devices id ≡ Some stage → IsUnmapped memory memory' stage.root page → ShowsRelease ledger ledger' id page ticket
+    → HaveTables memory' marks ledger' devices
+tables_released memory memory' marks ledger ledger' devices id page ticket stage tables attached unmapped released other found at =
+    elim (eqb_tells other id) [
+      | inl e ↦
+          let both : Some stage ≡ Some found = sym attached ∙ ap (λ i. stage_of devices i) (sym e.1) ∙ at in
+          let root : stage.root ≡ found.root = let same : stage ≡ found = cc in ap (λ (s : FirstStage). s.root) same in
+          subst (λ i. AreTablesOf memory' marks ledger' i found.root) (sym e.1)
+          (subst (λ r. AreTablesOf memory' marks ledger' id r) root
+          (own_tables memory memory' marks ledger ledger' id stage.root page ticket (tables id stage attached) unmapped released))
+      | inr ne ↦ other_tables memory memory' marks ledger ledger' id stage.root page ticket other found.root ne.1 (tables id stage attached) (tables other found at) unmapped released
+    ]

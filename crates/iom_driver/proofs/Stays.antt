@@ -1,0 +1,81 @@
+-- The tables of devices while other frames change.
+use Rattle.std.proofs.Common.{◌≡◌, ◌≢◌, ◌-◌, ◌*◌, ◌∙◌, ℕ, List, length, Option, Some, None, option_map, slice_get, refl, sym, ap, subst, [], ◌∷◌, ◌++◌}
+use Rattle.iom_ledger.specs.declared.ledger.Ledger.{Ledger}
+use Rattle.iom_ledger.specs.Shown.{held_in}
+use Rattle.iom_page_table.proofs.Stays.{stays}
+use Rattle.iom_base.specs.declared.owner.Owner.{Owner}
+use Rattle.iom_base.specs.declared.owner.Owner.TheVariants.{OneDevice, System}
+use Rattle.iom_registers.specs.declared.registers.Registers.{Registers}
+use Rattle.iom_driver.specs.declared.device.Device.{Device}
+use Rattle.iom_driver.specs.Devices.{detached}
+use Rattle.iom_driver.specs.Laws.{KeepsReserved, KeepsRing}
+use Rattle.iom_driver.specs.Layout.{AreFixed, completion_frame}
+use Rattle.iom_driver.specs.Ready.{TablesStand, IsRing, IsReady}
+use Rattle.iom_driver.specs.State.{DriverState}
+use Rattle.iom_driver.specs.Tables.{AreTablesOf, HaveTables, leaf_for}
+use Rattle.iom_driver.proofs.Places.{stage_plugged}
+
+-- the frames that are marked for the device stay as they are, mark and bytes, and so does what it holds: its tables do
+pub tables_stay : (memory memory' : List (List ℕ)) (marks marks' : List (Option Owner)) (ledger ledger' : Ledger) (id root : ℕ) → AreTablesOf memory marks ledger id root
+    → ((n : ℕ) → slice_get marks n ≡ Some (Some (OneDevice id)) → (slice_get memory' n ≡ slice_get memory n) × (slice_get marks' n ≡ slice_get marks n))
+    → ((page : ℕ) → held_in ledger' id page ≡ held_in ledger id page) → AreTablesOf memory' marks' ledger' id root
+tables_stay memory memory' marks marks' ledger ledger' id root tables kept held =
+    let same = stays memory memory' root tables.tree (λ f at. (kept f (tables.own f at)).0) in
+    record {
+      tree = same.tree;
+      own = λ f at. let was = (same.tables f).0 at in (kept f (tables.own f was)).1 ∙ tables.own f was;
+      leaves = λ page low. same.leaves page ∙ tables.leaves page low ∙ ap (option_map leaf_for) (sym (held page));
+    }
+
+-- the same, where the marks and the ledger stay
+pub tables_kept : (memory memory' : List (List ℕ)) (marks : List (Option Owner)) (ledger : Ledger) (id root : ℕ) → AreTablesOf memory marks ledger id root
+    → ((n : ℕ) → slice_get marks n ≡ Some (Some (OneDevice id)) → slice_get memory' n ≡ slice_get memory n) → length memory' ≡ length memory
+    → AreTablesOf memory' marks ledger id root
+tables_kept memory memory' marks ledger id root tables kept size =
+    tables_stay memory memory' marks marks ledger ledger id root tables (λ n own. (kept n own, refl)) (λ page. refl)
+
+-- each frame that is a device's stays as it is, and so does what is held: all tables do
+pub all_stay : (memory memory' : List (List ℕ)) (marks : List (Option Owner)) (ledger ledger' : Ledger) (devices : List Device) → HaveTables memory marks ledger devices
+    → ((n id : ℕ) → slice_get marks n ≡ Some (Some (OneDevice id)) → slice_get memory' n ≡ slice_get memory n)
+    → ((id page : ℕ) → held_in ledger' id page ≡ held_in ledger id page) → HaveTables memory' marks ledger' devices
+all_stay memory memory' marks ledger ledger' devices tables kept held id stage at =
+    tables_stay memory memory' marks marks ledger ledger' id stage.root (tables id stage at) (λ n own. (kept n id own, refl)) (λ page. held id page)
+
+-- a frame of the system's is no device's
+pub of_one : (marks : List (Option Owner)) (n m id : ℕ) → slice_get marks n ≡ Some (Some System) → slice_get marks m ≡ Some (Some (OneDevice id)) → m ≢ n
+of_one marks n m id system own same =
+    let both : ◌≡◌ {A = Option (Option Owner)} (Some (Some (OneDevice id))) (Some (Some System)) = sym own ∙ ap (λ k. slice_get marks k) same ∙ system in cc
+
+-- a driver is ready while others keep its reserved frames, but that of the completion word, and its ring
+pub ready_stays : (d : DriverState) (old new : List (List ℕ)) (r s : Registers) → AreFixed d.marks (length old) → IsReady d old r → KeepsReserved d old new → KeepsRing r s → IsReady d new s
+ready_stays d old new r s fixed ready keeps ring = record {
+  stand = record {
+    size = keeps.size ∙ ready.stand.size;
+    tables = all_stay old new d.marks d.ledger d.ledger d.devices ready.stand.tables
+        (λ n id own. keeps.bytes n (OneDevice id) own (of_one d.marks (completion_frame (length old)) n id fixed.completion own)) (λ id page. refl);
+  };
+  ring = λ started.
+      let was = ready.ring started in
+      record {
+        on = ring.on ∙ was.on;
+        base = ring.base ∙ was.base ∙ ap (λ n. 4096 * (n - 1)) (sym keeps.size);
+        entries = ring.entries ∙ was.entries;
+      };
+}
+
+-- a call that starts nothing and leaves how large memory is, leaves what the registers name
+pub ready_from : (d d' : DriverState) (memory memory' : List (List ℕ)) (r : Registers) → TablesStand d' memory' → length memory' ≡ length memory → d'.started ≡ d.started → IsReady d memory r → IsReady d' memory' r
+ready_from d d' memory memory' r stand size started ready = record {
+  stand = stand;
+  ring = λ runs. subst (λ n. IsRing n r) (sym size) (ready.ring (sym started ∙ runs));
+}
+
+-- and so does one more device that is attached to nothing
+pub ready_plugged : (d : DriverState) (memory : List (List ℕ)) (r : Registers) (id : ℕ) → IsReady d memory r → IsReady (record d { devices = d.devices ++ detached id ∷ [] }) memory r
+ready_plugged d memory r id ready = record {
+  stand = record {
+    size = ready.stand.size;
+    tables = λ other stage at. ready.stand.tables other stage (sym (stage_plugged d.devices id other) ∙ at);
+  };
+  ring = ready.ring;
+}

@@ -1,0 +1,172 @@
+use Rattle.std.proofs.Common.{◌≡◌, ◌<◌, ◌∙◌, ℕ, List, ◌∷◌, true, false, Option, Some, None, Result, Ok, Err, OnOk, OnErr, length, slice_get, refl, sym, ap, subst, arith}
+use Rattle.std.specs.Result.{is_err}
+use Rattle.std.proofs.lemmas.Bool.{false≢true}
+use Rattle.iom_base.specs.GrantRights.{rights_of}
+use Rattle.iom_base.specs.declared.owner.Owner.{Owner}
+use Rattle.iom_base.specs.declared.rights.Rights.{Rights}
+use Rattle.iom_ledger.specs.Changes.{IsUnchanged, ShowsGrant}
+use Rattle.iom_ledger.specs.declared.entry.HistoryEntry.TheVariants as entry
+use Rattle.iom_ledger.specs.declared.ledger.Ledger.{Ledger}
+use Rattle.iom_ledger.specs.History.{History}
+use Rattle.iom_ledger.specs.Shown.{Agrees}
+use Rattle.iom_page_table.specs.declared.leaf.PageLeaf.{PageLeaf}
+use Rattle.iom_page_table.specs.Sv39.{missing_for, mapped}
+use Rattle.iom_driver.specs.declared.device.FirstStage.{FirstStage}
+use Rattle.iom_driver.specs.Calls.{granted_leaf}
+use Rattle.iom_driver.specs.Choices.{AreHighestFree, marked_for, cleared}
+use Rattle.iom_driver.specs.Seen.{state_of}
+use Rattle.iom_driver.specs.Sound.{IsSound}
+use Rattle.iom_driver.specs.Tables.{HaveTables}
+use Rattle.iom_driver.proofs.Choosing.{AreChosen, are_chosen}
+use Rattle.iom_driver.proofs.GrantTables.{may_be_mapped, IsMapped, mapped_is, tables_granted}
+use Rattle.iom_driver.proofs.Keeps.{unmarked, sound_granted}
+use Rattle.iom_driver.proofs.Marks.{length-cleared, length-marked_for}
+use Rattle.iom_driver.proofs.Stays.{all_stay, ready_from}
+use Rattle.iom_driver.proofs.driver.Driver.grant.Goals as goal
+
+-- what is promised where there is no error, and where there is one
+ok_then : {T E P : Type 0} (r : Result T E) → is_err r ≡ false → OnOk r P → P
+ok_then (Ok x) same known = known
+ok_then (Err y) same known = absurd (false≢true (sym same))
+
+err_then : {T E P : Type 0} (r : Result T E) → is_err r ≡ true → OnErr r P → P
+err_then (Ok x) same known = absurd (false≢true same)
+err_then (Err y) same known = known
+
+-- the frames that are cleared and then mapped are the chosen ones
+mapped_as : (memory before after : List (List ℕ)) (root page : ℕ) (leaf : PageLeaf) (clears maps chosen : List ℕ) → before ≡ cleared clears memory → clears ≡ chosen → maps ≡ chosen
+    → IsMapped before after root page leaf maps → IsMapped (cleared chosen memory) after root page leaf chosen
+mapped_as memory before after root page leaf clears maps chosen is clears_is maps_is mapped =
+    subst (λ m. IsMapped m after root page leaf chosen) (is ∙ ap (λ fs. cleared fs memory) clears_is)
+    (subst (λ fs. IsMapped before after root page leaf fs) maps_is mapped)
+
+-- the chosen frames, below the end of memory
+chosen_below : (marks : List (Option Owner)) (ledger : Ledger) (named limit count : ℕ) (chosen : List ℕ) (memory : List (List ℕ)) → limit ≡ length memory
+    → AreHighestFree marks ledger (Some named) limit count chosen → AreChosen marks ledger (Some named) (length memory) count chosen
+chosen_below marks ledger named limit count chosen memory many chose = are_chosen marks ledger (Some named) (length memory) count chosen (subst (λ n. AreHighestFree marks ledger (Some named) n count chosen) many chose)
+
+pub returns-then-is_err-clause-stand : goal.returns-then-is_err-clause-stand
+returns-then-is_err-clause-stand c =
+    let driver = c.args.self.now in
+    let same : IsUnchanged driver.ledger c.grant.new.self = err_then c.grant.result (sym c.is_err.ensures.value ∙ c.if-is_err.true) c.grant.ensures.refused in
+    record {
+      size = c.requires.stand.size;
+      tables = all_stay c.args.memory.now c.args.memory.now driver.marks driver.ledger c.grant.new.self driver.devices.items c.requires.stand.tables (λ n id own. refl) same.held;
+    }
+
+pub invariant_of-self-2 : goal.invariant_of-self-2
+invariant_of-self-2 c =
+    let driver = c.args.self.now in
+    let tables = c.in-Some.tables.items in
+    let may = c.in-Ok.ensures.may in
+    let granted = ok_then c.grant.result (sym c.is_err.ensures.value ∙ c.if-is_err.false) c.grant.ensures.granted in
+    let chose = are_chosen driver.marks driver.ledger (Some c.args.frame) (length driver.marks) c.missing-lacking.result tables
+    (subst (λ n. AreHighestFree driver.marks driver.ledger (Some c.args.frame) n c.missing-lacking.result tables) (sym driver.sound.sizes.marked) c.in-Some.ensures.chosen) in
+    record {
+      sound =
+          subst (λ (ms : List (Option Owner)). IsSound c.grant.new.self ms driver.devices.items driver.frames driver.levels driver.started driver.given driver.confirmed)
+          (sym (c.reserve_all.ensures.marks ∙ ap (λ fs. marked_for c.args.id fs driver.marks) c.as_slice.ensures.value))
+          (sound_granted driver.ledger c.grant.new.self driver.marks driver.devices.items driver.frames driver.levels driver.started driver.given driver.confirmed c.args.id c.args.page c.args.frame c.rights-rights.result c.in-Ok.stage tables
+          driver.sound granted may.attached may.page_low (unmarked driver.marks c.args.frame may.inside may.unreserved) chose.inside chose.free);
+    }
+
+pub map-requires-clause-tree : goal.map-requires-clause-tree
+map-requires-clause-tree c =
+    let driver = c.args.self.now in
+    let many = sym (c.requires.stand.size ∙ driver.sound.sizes.marked) in
+    let may = may_be_mapped c.args.memory.now driver.marks driver.ledger c.args.id c.in-Ok.stage.root c.args.page c.args.frame c.missing-lacking.result c.in-Some.tables.items
+    (c.requires.stand.tables c.args.id c.in-Ok.stage c.in-Ok.ensures.may.attached) c.in-Ok.ensures.may.page_low c.in-Ok.ensures.may.not_held c.missing-lacking.ensures
+    (chosen_below driver.marks driver.ledger c.args.frame driver.frames c.missing-lacking.result c.in-Some.tables.items c.args.memory.now many c.in-Some.ensures.chosen) in
+    rw (c.reserve_all.ensures.memory, c.as_slice.ensures.value) may.tree
+
+pub map-requires-clause-free : goal.map-requires-clause-free
+map-requires-clause-free c =
+    let driver = c.args.self.now in
+    let many = sym (c.requires.stand.size ∙ driver.sound.sizes.marked) in
+    let may = may_be_mapped c.args.memory.now driver.marks driver.ledger c.args.id c.in-Ok.stage.root c.args.page c.args.frame c.missing-lacking.result c.in-Some.tables.items
+    (c.requires.stand.tables c.args.id c.in-Ok.stage c.in-Ok.ensures.may.attached) c.in-Ok.ensures.may.page_low c.in-Ok.ensures.may.not_held c.missing-lacking.ensures
+    (chosen_below driver.marks driver.ledger c.args.frame driver.frames c.missing-lacking.result c.in-Some.tables.items c.args.memory.now many c.in-Some.ensures.chosen) in
+    rw (c.reserve_all.ensures.memory, c.as_slice.ensures.value) may.free
+
+pub map-requires-clause-count : goal.map-requires-clause-count
+map-requires-clause-count c =
+    let driver = c.args.self.now in
+    let many = sym (c.requires.stand.size ∙ driver.sound.sizes.marked) in
+    let may = may_be_mapped c.args.memory.now driver.marks driver.ledger c.args.id c.in-Ok.stage.root c.args.page c.args.frame c.missing-lacking.result c.in-Some.tables.items
+    (c.requires.stand.tables c.args.id c.in-Ok.stage c.in-Ok.ensures.may.attached) c.in-Ok.ensures.may.page_low c.in-Ok.ensures.may.not_held c.missing-lacking.ensures
+    (chosen_below driver.marks driver.ledger c.args.frame driver.frames c.missing-lacking.result c.in-Some.tables.items c.args.memory.now many c.in-Some.ensures.chosen) in
+    rw (c.as_slice-2.ensures.value, c.reserve_all.ensures.memory, c.as_slice.ensures.value) may.count
+
+pub map-requires-clause-fresh : goal.map-requires-clause-fresh
+map-requires-clause-fresh c =
+    let driver = c.args.self.now in
+    let many = sym (c.requires.stand.size ∙ driver.sound.sizes.marked) in
+    let may = may_be_mapped c.args.memory.now driver.marks driver.ledger c.args.id c.in-Ok.stage.root c.args.page c.args.frame c.missing-lacking.result c.in-Some.tables.items
+    (c.requires.stand.tables c.args.id c.in-Ok.stage c.in-Ok.ensures.may.attached) c.in-Ok.ensures.may.page_low c.in-Ok.ensures.may.not_held c.missing-lacking.ensures
+    (chosen_below driver.marks driver.ledger c.args.frame driver.frames c.missing-lacking.result c.in-Some.tables.items c.args.memory.now many c.in-Some.ensures.chosen) in
+    rw (c.as_slice-2.ensures.value, c.reserve_all.ensures.memory, c.as_slice.ensures.value) may.fresh
+
+pub returns-clause-effect : goal.returns-clause-effect
+returns-clause-effect c =
+    let driver = c.args.self.now in
+    let tables = c.in-Some.tables.items in
+    let memory = c.args.memory.now in
+    let right = c.rights-rights.ensures.value in
+    let root = c.in-Ok.stage.root in
+    let granted = ok_then c.grant.result (sym c.is_err.ensures.value ∙ c.if-is_err.false) c.grant.ensures.granted in
+    let agrees = ok_then c.grant.result (sym c.is_err.ensures.value ∙ c.if-is_err.false) c.grant.ensures.agrees in
+    let many = sym (c.requires.stand.size ∙ driver.sound.sizes.marked) in (
+      c.in-Ok.ensures.admitted,
+      record {
+        stage = c.in-Ok.stage;
+        attached = c.in-Ok.ensures.may.attached;
+        tables = tables;
+        chosen = subst (λ n. AreHighestFree driver.marks driver.ledger (Some c.args.frame) n (missing_for memory root c.args.page) tables) many
+            (subst (λ n. AreHighestFree driver.marks driver.ledger (Some c.args.frame) driver.frames n tables) c.missing-lacking.ensures c.in-Some.ensures.chosen);
+        shown = subst (λ (r : Rights). ShowsGrant driver.ledger c.grant.new.self c.args.id c.args.page (c.args.frame, r)) right granted;
+        agrees = subst (λ (r : Rights). (h : History) → Agrees driver.ledger h → Agrees c.grant.new.self (entry.Granted c.args.id c.args.page c.args.frame r ∷ h)) right agrees;
+        driver = rw (c.reserve_all.ensures.marks, c.as_slice.ensures.value) refl;
+        bytes = mapped_is memory c.reserve_all.new.memory c.map.new.memory root c.args.page (record { frame = c.args.frame; rights = c.rights-rights.result }) (granted_leaf c.args.frame c.args.rights)
+            c.as_slice.result.now c.as_slice-2.result.now tables c.map.ensures.whole c.reserve_all.ensures.memory c.as_slice.ensures.value c.as_slice-2.ensures.value
+            (ap (λ (r : Rights). granted_with c.args.frame r) right);
+      },
+    )
+  where
+    granted_with : ℕ → Rights → PageLeaf
+    granted_with frame rights = record { frame = frame; rights = rights }
+
+pub returns-clause-stand : goal.returns-clause-stand
+returns-clause-stand c =
+    let driver = c.args.self.now in
+    let tables = c.in-Some.tables.items in
+    let memory = c.args.memory.now in
+    let may = c.in-Ok.ensures.may in
+    let leaf : PageLeaf = record { frame = c.args.frame; rights = c.rights-rights.result } in
+    let mapped = mapped_as memory c.reserve_all.new.memory c.map.new.memory c.in-Ok.stage.root c.args.page leaf c.as_slice.result.now c.as_slice-2.result.now tables
+    c.reserve_all.ensures.memory c.as_slice.ensures.value c.as_slice-2.ensures.value record {
+      tree = c.map.ensures.tree;
+      tables = c.map.ensures.tables;
+      leaf = c.map.ensures.leaf;
+      outside = c.map.ensures.outside;
+      size = c.map.ensures.size;
+    } in
+    let granted = ok_then c.grant.result (sym c.is_err.ensures.value ∙ c.if-is_err.false) c.grant.ensures.granted in
+    let many = sym (c.requires.stand.size ∙ driver.sound.sizes.marked) in
+    let chose = chosen_below driver.marks driver.ledger c.args.frame driver.frames c.missing-lacking.result tables memory many c.in-Some.ensures.chosen in
+    let marks = c.reserve_all.ensures.marks ∙ ap (λ fs. marked_for c.args.id fs driver.marks) c.as_slice.ensures.value in
+    record {
+      size = mapped.size ∙ length-cleared tables memory ∙ c.requires.stand.size ∙ sym (length-marked_for c.args.id tables driver.marks) ∙ sym (ap (λ (ms : List (Option Owner)). length ms) marks);
+      tables =
+          subst (λ (ms : List (Option Owner)). HaveTables c.map.new.memory ms c.grant.new.self driver.devices.items) (sym marks)
+          (tables_granted memory c.map.new.memory driver.marks driver.ledger c.grant.new.self driver.devices.items c.args.id c.args.page c.args.frame c.missing-lacking.result c.rights-rights.result c.in-Ok.stage tables
+          (sym c.requires.stand.size) c.requires.stand.tables may.attached may.page_low granted chose mapped);
+    }
+
+pub returns-then-is_err-clause-ready : goal.returns-then-is_err-clause-ready
+returns-then-is_err-clause-ready c = λ r ready.
+    ready_from (state_of c.args.self.now) _ c.args.memory.now c.args.memory.now r (returns-then-is_err-clause-stand c) refl refl ready
+
+pub returns-clause-ready : goal.returns-clause-ready
+returns-clause-ready c = λ r ready.
+    let size = c.map.ensures.size ∙ ap (λ (m : List (List ℕ)). length m) c.reserve_all.ensures.memory ∙ length-cleared c.as_slice.result.now c.args.memory.now in
+    ready_from (state_of c.args.self.now) _ c.args.memory.now c.map.new.memory r (returns-clause-stand c) size refl ready

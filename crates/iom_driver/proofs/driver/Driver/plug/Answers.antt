@@ -1,0 +1,27 @@
+use Rattle.std.proofs.Common.{◌≡◌, Bool, true, false, List, if◌then◌else◌, sym, subst, arith}
+use Rattle.iom_driver.specs.declared.device.Device.{Device}
+use Rattle.iom_driver.specs.Ready.{IsReady}
+use Rattle.iom_driver.specs.Seen.{state_of}
+use Rattle.iom_driver.specs.Sound.{IsSound}
+use Rattle.iom_driver.proofs.Keeps.{sound_plugged}
+use Rattle.iom_driver.proofs.Stays.{ready_plugged}
+use Rattle.iom_driver.proofs.driver.Driver.plug.Goals as goal
+
+-- what holds of both values that a test chooses between
+by_test : {A : Type 0} (P : A → Type 0) (b : Bool) (x y z : A) → x ≡ (if b then y else z) → P y → P z → P x
+by_test P true x y z is chosen other = subst P (sym is) chosen
+by_test P false x y z is chosen other = subst P (sym is) other
+
+pub invariant_of-self : goal.invariant_of-self
+invariant_of-self c =
+    let driver = c.args.self.now in
+    record {
+      sound = by_test (λ (devices : List Device). IsSound driver.ledger driver.marks devices driver.frames driver.levels driver.started driver.given driver.confirmed) _ _ _ _ c.push.ensures.items
+          (sound_plugged driver.ledger driver.marks driver.devices.items driver.frames driver.levels driver.started driver.given driver.confirmed c.args.id driver.sound (omega arith))
+          driver.sound;
+    }
+
+pub returns-in-Ok-clause-ready : goal.returns-in-Ok-clause-ready
+returns-in-Ok-clause-ready c = λ memory r ready.
+    let d = state_of c.args.self.now in
+    subst (λ (devices : List Device). IsReady (record d { devices = devices }) memory r) (sym c.in-Ok.ensures.items) (ready_plugged d memory r c.args.id ready)

@@ -1,0 +1,77 @@
+use Rattle.std.proofs.Common.{◌≡◌, ◌*◌, ◌/◌, ◌%◌, ◌<◌, ◌≤◌, ◌∙◌, ℕ, List, Option, Some, None, IsSome, OnSome, length, slice_set, refl, sym, ap, subst, arith}
+use Rattle.std.proofs.lemmas.List.{length-set}
+use Rattle.iom_phys_mem.specs.Words.{zeroed, with_word}
+use Rattle.iom_registers.specs.declared.registers.Registers.{Registers}
+use Rattle.iom_registers.specs.declared.register.Register.TheVariants.{Ddtp, Cqb, Cqcsr}
+use Rattle.iom_registers.specs.Table.{written}
+use Rattle.iom_command_queue.specs.Waiting.{commands_in}
+use Rattle.iom_driver.specs.declared.device.Device.{Device}
+use Rattle.iom_driver.specs.declared.device.FirstStage.{FirstStage}
+use Rattle.iom_driver.specs.Devices.{stage_of}
+use Rattle.iom_driver.specs.Layout.{completion_address, directory_frame, ddtp_of, cqb_of}
+use Rattle.iom_driver.specs.Ready.{IsRing}
+use Rattle.iom_driver.proofs.Ring.{started, started_ring, started_empty}
+use Rattle.iom_driver.proofs.driver.Driver.start.Goals as goal
+
+-- what holds where a value is there holds where it is
+on_some : {T P : Type 0} (o : Option T) → IsSome o → OnSome o P → P
+on_some None present holds = cc
+on_some (Some x) present holds = holds
+
+-- the completion word has a place
+place : (frames : ℕ) (memory : List (List ℕ)) (address : ℕ) → length memory ≡ frames → 64 ≤ frames → address ≡ completion_address frames → (address % 4 ≡ 0) × (address / 4096 < length memory)
+place frames memory address many le at = (omega (arith, at), omega (arith, at, many, le))
+
+none_some : (devices : List Device) (id : ℕ) (stage : FirstStage) → stage_of devices id ≡ None → stage_of devices id ≡ Some stage → ⊥
+none_some devices id stage none some = let both : ◌≡◌ {A = Option FirstStage} None (Some stage) = sym none ∙ some in cc
+
+pub returns-clause-effect : goal.returns-clause-effect
+returns-clause-effect g c =
+    let driver = c.args.self.now in
+    let memory = c.args.memory.now in
+    let after = g.M.Mmio.after in
+    let law = g.met.M.Mmio.writes_registers in
+    let many : length memory ≡ driver.frames = c.requires.size ∙ driver.sound.sizes.marked in
+    let whole = on_some c.store_u32.result
+    (c.store_u32.ensures.done.1 (place driver.frames memory c.completion_address.result many driver.sound.sizes.size.0 c.completion_address.ensures.value)) c.store_u32.ensures.whole in
+    let r = g.M.Mmio.registers in
+    let ran : r c.write-3.new.io ≡ started (r c.args.io.now) c.ddtp_of.result (cqb_of driver.frames) =
+    ap r c.write-3.ensures ∙ law c.write-2.new.io Cqcsr 1
+    ∙ ap (λ (x : Registers). written x Cqcsr 1) (ap r c.write-2.ensures ∙ law c.write.new.io Cqb c.cqb_of.result
+    ∙ ap (λ (x : Registers). written x Cqb c.cqb_of.result) (ap r c.write.ensures ∙ law c.args.io.now Ddtp c.ddtp_of.result))
+    ∙ ap (λ v. started (r c.args.io.now) c.ddtp_of.result v) c.cqb_of.ensures in
+    record {
+      driver = refl;
+      bytes =
+          c.clear.ensures
+          ∙ ap (λ n. slice_set c.store_u32.new.self n zeroed) (c.directory_frame.ensures ∙ ap (λ n. directory_frame n) (sym many))
+          ∙ ap (λ m. slice_set m (directory_frame (length memory)) zeroed) (whole ∙ ap (λ a. with_word 4 memory a 0) (c.completion_address.ensures.value ∙ ap (λ n. completion_address n) (sym many)));
+      registers =
+          c.write-3.ensures
+          ∙ ap (λ x. after x Cqcsr 1) (c.write-2.ensures ∙ ap (λ v. after c.write.new.io Cqb v) (c.cqb_of.ensures ∙ ap (λ n. cqb_of n) (sym many))
+          ∙ ap (λ x. after x Cqb (cqb_of (length memory))) (c.write.ensures ∙ ap (λ v. after c.args.io.now Ddtp v) (c.ddtp_of.ensures ∙ ap (λ n. ddtp_of n driver.levels) (sym many))));
+      empty = ap (λ (x : Registers). commands_in c.clear.new.memory x) ran ∙ started_empty c.clear.new.memory (r c.args.io.now) c.ddtp_of.result (cqb_of driver.frames) c.requires.off;
+    }
+
+pub returns-clause-ready : goal.returns-clause-ready
+returns-clause-ready g c =
+    let driver = c.args.self.now in
+    let memory = c.args.memory.now in
+    let law = g.met.M.Mmio.writes_registers in
+    let many : length memory ≡ driver.frames = c.requires.size ∙ driver.sound.sizes.marked in
+    let r = g.M.Mmio.registers in
+    let ran : r c.write-3.new.io ≡ started (r c.args.io.now) c.ddtp_of.result (cqb_of driver.frames) =
+    ap r c.write-3.ensures ∙ law c.write-2.new.io Cqcsr 1
+    ∙ ap (λ (x : Registers). written x Cqcsr 1) (ap r c.write-2.ensures ∙ law c.write.new.io Cqb c.cqb_of.result
+    ∙ ap (λ (x : Registers). written x Cqb c.cqb_of.result) (ap r c.write.ensures ∙ law c.args.io.now Ddtp c.ddtp_of.result))
+    ∙ ap (λ v. started (r c.args.io.now) c.ddtp_of.result v) c.cqb_of.ensures in
+    let size : length c.clear.new.memory ≡ length memory = ap (λ (m : List (List ℕ)). length m) c.clear.ensures ∙ length-set c.store_u32.new.self c.directory_frame.result zeroed ∙ c.store_u32.ensures.frames in
+    record {
+      stand = record {
+        size = size ∙ c.requires.size;
+        tables = λ id stage at. absurd (none_some driver.devices.items id stage (driver.sound.idle c.requires.idle id) at);
+      };
+      ring = λ running.
+          subst (λ n. IsRing n (r c.write-3.new.io)) (sym (size ∙ many))
+          (subst (λ (x : Registers). IsRing driver.frames x) (sym ran) (started_ring (r c.args.io.now) c.ddtp_of.result driver.frames c.requires.off driver.sound.sizes.size.1));
+    }

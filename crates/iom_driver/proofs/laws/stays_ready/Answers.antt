@@ -1,0 +1,10 @@
+use Rattle.std.proofs.Common.{◌≡◌, ◌∙◌, length, sym, subst}
+use Rattle.iom_driver.specs.Layout.{AreFixed}
+use Rattle.iom_driver.specs.Seen.{state_of}
+use Rattle.iom_driver.proofs.Stays.{ready_stays}
+use Rattle.iom_driver.proofs.laws.stays_ready.Goals as goal
+
+pub returns : goal.returns
+returns c = λ driver old new r s ready keeps ring.
+    let many : length old ≡ driver.frames = ready.stand.size ∙ driver.sound.sizes.marked in
+    ready_stays (state_of driver) old new r s (subst (λ n. AreFixed driver.marks n) (sym many) driver.sound.fixed) ready keeps ring

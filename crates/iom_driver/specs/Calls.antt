@@ -1,0 +1,153 @@
+-- What each call answers, what it leaves, and what stays: over the driver, memory, and whatever has registers.
+use Rattle.std.specs.Prelude.{◌≡◌, ℕ, ◌+◌, ◌-◌, ◌*◌, ◌==◌, min, Bool, true, false, List, [], ◌∷◌, ◌++◌, length, Option, None, Some, Result, Ok, Err, slice_set, if◌then◌else◌}
+use Rattle.iom_base.specs.GrantRights.{rights_of}
+use Rattle.iom_base.specs.declared.grant_rights.GrantRights.{GrantRights}
+use Rattle.iom_base.specs.declared.owner.Owner.TheVariants.{OneDevice}
+use Rattle.iom_command_queue.specs.Waiting.{commands_in}
+use Rattle.iom_ledger.specs.Changes.{IsUnchanged, ShowsGrant, ShowsRelease}
+use Rattle.iom_ledger.specs.Confirmations.{confirmed_from, ConfirmsFrom}
+use Rattle.iom_ledger.specs.declared.entry.HistoryEntry.TheVariants as entry
+use Rattle.iom_ledger.specs.declared.ledger.Ledger.{Ledger}
+use Rattle.iom_ledger.specs.declared.refusal.Refusal.{Refusal}
+use Rattle.iom_ledger.specs.declared.refusal.Refusal.TheVariants.{NoFrames, Memory}
+use Rattle.iom_ledger.specs.History.{History, confirms}
+use Rattle.iom_ledger.specs.Refusals.{first_that_applies, NoneApplies, IsRefusedBy}
+use Rattle.iom_ledger.specs.Shown.{Agrees}
+use Rattle.iom_page_table.specs.declared.leaf.PageLeaf.{PageLeaf}
+use Rattle.iom_page_table.specs.Sv39.{missing_for, mapped, unmapped}
+use Rattle.iom_phys_mem.specs.Words.{word_at, with_word, zeroed}
+use Rattle.iom_registers.specs.declared.mmio.Mmio.{Ghosts}
+use Rattle.iom_registers.specs.declared.register.Register.TheVariants.{Ddtp, Cqb, Cqcsr}
+use Rattle.iom_registers.specs.declared.registers.Registers.{Registers}
+use Rattle.iom_registers.specs.Queues.{command_status, is_command_queue_on}
+use Rattle.iom_table_frames.specs.Marks.{IsFreeForTable, NoneIsFree, IsHighestFree, HasFree, opening_marks, is_marked}
+use Rattle.iom_ledger.specs.Shown.{IsFreeIn}
+use Rattle.std.specs.Prelude.{◌<◌}
+use Rattle.iom_driver.specs.declared.answers.Polled.{Polled}
+use Rattle.iom_driver.specs.declared.answers.Ticket.{Ticket}
+use Rattle.iom_driver.specs.declared.device.FirstStage.{FirstStage}
+use Rattle.iom_driver.specs.Appends.{invalidation, fence, AppendsTwo}
+use Rattle.iom_driver.specs.Choices.{AreHighestFree, marked_for, cleared}
+use Rattle.iom_driver.specs.Devices.{stage_of, detached, with_stage, IsLowestNumber}
+use Rattle.iom_driver.specs.Layout.{directory_frame, completion_address, ddtp_of, cqb_of}
+use Rattle.iom_driver.specs.Reasons.{plug_reasons, attach_reasons, grant_reasons, release_reasons, poll_reasons}
+use Rattle.iom_driver.specs.State.{DriverState}
+
+-- NEW: nothing is held or waits, the last four frames are the system's, there is no device, and it isn't started
+pub record IsOpening (frames levels : ℕ) (d : DriverState) : Type 0 where
+  pub ledger : Agrees d.ledger []
+  pub rest : d ≡ record d { marks = opening_marks frames; devices = []; levels = levels; started = false; given = 0; confirmed = 0 }
+
+-- the command queue is off, and the index that software writes is 0: at power-on it is so
+pub record IsOff (r : Registers) : Type 0 where
+  pub off : is_command_queue_on r ≡ false
+  pub tail : r.cqt ≡ 0
+
+-- START: the completion word and the root of the directory are zero; ddtp, cqb and cqcsr are written, in this order; and no command waits
+pub record Starts {M : Type 0} (g : Ghosts M) (d : DriverState) (memory : List (List ℕ)) (io : M) (d' : DriverState) (memory' : List (List ℕ)) (io' : M) : Type 0 where
+  pub driver : d' ≡ record d { started = true }
+  pub bytes : memory' ≡ slice_set (with_word 4 memory (completion_address (length memory)) 0) (directory_frame (length memory)) zeroed
+  pub registers : io' ≡ g.after (g.after (g.after io Ddtp (ddtp_of (length memory) d.levels)) Cqb (cqb_of (length memory))) Cqcsr 1
+  pub empty : commands_in memory' (g.registers io') ≡ []
+
+-- PLUG: one more device, attached to nothing; or a refusal, which changes nothing
+abbrev pub Plugs : DriverState → ℕ → Result (Unit {0}) Refusal → DriverState → Type 0
+Plugs d id (Ok done) d' = NoneApplies (plug_reasons d id) × (d' ≡ record d { devices = d.devices ++ detached id ∷ [] })
+Plugs d id (Err why) d' = IsRefusedBy (plug_reasons d id) (λ may. may ≡ Memory) why × (d' ≡ d)
+
+-- the highest free frame, all bytes zero, becomes the device's root, and the lowest free number its address space
+pub record TakesRoot (d : DriverState) (memory : List (List ℕ)) (id : ℕ) (d' : DriverState) (memory' : List (List ℕ)) : Type 0 where
+  pub stage : FirstStage
+  pub highest : IsHighestFree d.marks d.ledger None (length memory) stage.root
+  pub lowest : IsLowestNumber d.devices stage.number
+  pub driver : d' ≡ record d { marks = slice_set d.marks stage.root (Some (OneDevice id)); devices = with_stage d.devices id stage }
+  pub bytes : memory' ≡ slice_set memory stage.root zeroed
+
+-- an attach finds no free frame for the root
+abbrev pub LacksRoot : DriverState → List (List ℕ) → Refusal → Type 0
+LacksRoot d memory NoFrames = NoneIsFree d.marks d.ledger None 0 (length memory)
+LacksRoot d memory _ = ⊥
+
+-- ATTACH
+abbrev pub Attaches : DriverState → List (List ℕ) → ℕ → Result (Unit {0}) Refusal → DriverState → List (List ℕ) → Type 0
+Attaches d memory id (Ok done) d' memory' = NoneApplies (attach_reasons d id) × TakesRoot d memory id d' memory'
+Attaches d memory id (Err why) d' memory' = IsRefusedBy (attach_reasons d id) (LacksRoot d memory) why × (d' ≡ d) × (memory' ≡ memory)
+
+-- nothing changes but what room the ledger has: it shows the same, and agrees with the same histories
+pub record IsSame (d d' : DriverState) : Type 0 where
+  pub ledger : IsUnchanged d.ledger d'.ledger
+  pub agrees : (h : History) → Agrees d.ledger h → Agrees d'.ledger h
+  pub rest : d' ≡ record d { ledger = d'.ledger }
+
+-- the leaf for a frame that is granted with this right
+abbrev pub granted_leaf : ℕ → GrantRights → PageLeaf
+granted_leaf frame rights = record { frame = frame; rights = rights_of rights }
+
+-- The tables that the page lacks take the highest free frames, the granted one passed over, and they are the device's; memory is what it was, but that
+-- these frames are zero, and then hang on the page's path, from the root down, with the page's leaf. The ledger has the grant.
+pub record TakesTables (d : DriverState) (memory : List (List ℕ)) (id page frame : ℕ) (rights : GrantRights) (d' : DriverState) (memory' : List (List ℕ)) : Type 0 where
+  pub stage : FirstStage
+  pub attached : stage_of d.devices id ≡ Some stage
+  pub tables : List ℕ
+  pub chosen : AreHighestFree d.marks d.ledger (Some frame) (length memory) (missing_for memory stage.root page) tables
+  pub shown : ShowsGrant d.ledger d'.ledger id page (frame, rights_of rights)
+  pub agrees : (h : History) → Agrees d.ledger h → Agrees d'.ledger (entry.Granted id page frame (rights_of rights) ∷ h)
+  pub driver : d' ≡ record d { ledger = d'.ledger; marks = marked_for id tables d.marks }
+  pub bytes : memory' ≡ mapped (cleared tables memory) stage.root page (granted_leaf frame rights) tables
+
+-- the frames that are free besides the granted one are enough for the tables that the page lacks
+pub record HasFrames (d : DriverState) (memory : List (List ℕ)) (id page frame : ℕ) : Type 0 where
+  pub stage : FirstStage
+  pub attached : stage_of d.devices id ≡ Some stage
+  pub enough : HasFree d.marks d.ledger (Some frame) (missing_for memory stage.root page) (length memory)
+
+-- a grant finds too few free frames, or else no memory for its row
+abbrev pub LacksTables : DriverState → List (List ℕ) → ℕ → ℕ → ℕ → Refusal → Type 0
+LacksTables d memory id page frame NoFrames = ¬ HasFrames d memory id page frame
+LacksTables d memory id page frame Memory = HasFrames d memory id page frame
+LacksTables d memory id page frame _ = ⊥
+
+-- GRANT
+abbrev pub Grants : DriverState → List (List ℕ) → ℕ → ℕ → ℕ → GrantRights → Result (Unit {0}) Refusal → DriverState → List (List ℕ) → Type 0
+Grants d memory id page frame rights (Ok done) d' memory' = NoneApplies (grant_reasons d id page frame) × TakesTables d memory id page frame rights d' memory'
+Grants d memory id page frame rights (Err why) d' memory' =
+    IsRefusedBy (grant_reasons d id page frame) (LacksTables d memory id page frame) why × IsSame d d' × (memory' ≡ memory)
+
+-- The next ticket is given; the page's leaf is cleared; an invalidation of the page and the ticket's fence are appended. The ledger has the release.
+pub record QueuesRelease {M : Type 0} (g : Ghosts M) (d : DriverState) (memory : List (List ℕ)) (io : M) (id page ticket : ℕ) (d' : DriverState) (memory' : List (List ℕ)) (io' : M) : Type 0 where
+  pub stage : FirstStage
+  pub attached : stage_of d.devices id ≡ Some stage
+  pub next : ticket ≡ d.given + 1
+  pub shown : ShowsRelease d.ledger d'.ledger id page ticket
+  pub agrees : (h : History) → Agrees d.ledger h → confirms h ticket ≡ false → Agrees d'.ledger (entry.Released id page ticket ∷ h)
+  pub driver : d' ≡ record d { ledger = d'.ledger; given = ticket }
+  pub queued : AppendsTwo g (unmapped memory stage.root page) io (invalidation stage.number page) (fence (completion_address (length memory)) ticket) memory' io'
+
+-- RELEASE
+abbrev pub Releases : {M : Type 0} → Ghosts M → DriverState → List (List ℕ) → M → ℕ → ℕ → Result Ticket Refusal → DriverState → List (List ℕ) → M → Type 0
+Releases g d memory io id page (Ok ticket) d' memory' io' =
+    NoneApplies (release_reasons d (g.registers io) id page) × QueuesRelease g d memory io id page ticket.0 d' memory' io'
+Releases g d memory io id page (Err why) d' memory' io' =
+    (first_that_applies (release_reasons d (g.registers io) id page) ≡ Some why) × (d' ≡ d) × (memory' ≡ memory) × (io' ≡ io)
+
+-- The completion word is a number. The tickets that wait and aren't above it are confirmed, from the oldest on, and no others.
+pub record ConfirmsDone (r : Registers) (d : DriverState) (memory : List (List ℕ)) (polled : Polled) (d' : DriverState) : Type 0 where
+  pub word : ℕ
+  pub read : word_at 4 memory (completion_address (length memory)) ≡ Some word
+  pub count : polled.count ≡ min word d.given - d.confirmed
+  pub first : polled.first ≡ (if polled.count == 0 then 0 else d.confirmed + 1)
+  pub timed_out : polled.timed_out ≡ (command_status r).cmd_to
+  pub shown : ConfirmsFrom d.ledger d'.ledger (d.confirmed + 1) polled.count
+  pub agrees : (h : History) → Agrees d.ledger h → Agrees d'.ledger (confirmed_from (d.confirmed + 1) polled.count h)
+  pub driver : d' ≡ record d { ledger = d'.ledger; confirmed = d.confirmed + polled.count }
+
+-- POLL, which leaves memory and registers
+abbrev pub Polls : Registers → DriverState → List (List ℕ) → Result Polled Refusal → DriverState → Type 0
+Polls r d memory (Ok polled) d' = NoneApplies (poll_reasons d) × ConfirmsDone r d memory polled d'
+Polls r d memory (Err why) d' = (first_that_applies (poll_reasons d) ≡ Some why) × (d' ≡ d)
+
+-- FREE: the frame is one of memory, isn't reserved, and no device holds or lingers on it
+pub record IsFree (d : DriverState) (frame : ℕ) : Type 0 where
+  pub inside : frame < length d.marks
+  pub unreserved : is_marked d.marks frame ≡ false
+  pub ungranted : IsFreeIn d.ledger frame

@@ -1,0 +1,25 @@
+-- The frames that become tables.
+use Rattle.std.specs.Prelude.{◌≡◌, ℕ, zero, suc, ⊤, List, [], ◌∷◌, Option, Some, slice_set}
+use Rattle.iom_base.specs.declared.owner.Owner.{Owner}
+use Rattle.iom_base.specs.declared.owner.Owner.TheVariants.{OneDevice}
+use Rattle.iom_ledger.specs.declared.ledger.Ledger.{Ledger}
+use Rattle.iom_phys_mem.specs.Words.{zeroed}
+use Rattle.iom_table_frames.specs.Marks.{IsHighestFree}
+
+-- so many frames below the limit, the named one passed over: each is the highest free one below that before it
+abbrev pub AreHighestFree : List (Option Owner) → Ledger → Option ℕ → ℕ → ℕ → List ℕ → Type 0
+AreHighestFree marks ledger named limit zero [] = ⊤
+AreHighestFree marks ledger named limit zero (frame ∷ frames) = ⊥
+AreHighestFree marks ledger named limit (suc count) [] = ⊥
+AreHighestFree marks ledger named limit (suc count) (frame ∷ frames) =
+    IsHighestFree marks ledger named limit frame × AreHighestFree marks ledger named frame count frames
+
+-- the marks, where the frames are the device's
+abbrev pub marked_for : ℕ → List ℕ → List (Option Owner) → List (Option Owner)
+marked_for id [] marks = marks
+marked_for id (frame ∷ frames) marks = marked_for id frames (slice_set marks frame (Some (OneDevice id)))
+
+-- the memory, where the frames are zero
+abbrev pub cleared : List ℕ → List (List ℕ) → List (List ℕ)
+cleared [] memory = memory
+cleared (frame ∷ frames) memory = cleared frames (slice_set memory frame zeroed)

@@ -1,0 +1,15 @@
+pub mod Devices
+pub mod Places
+pub mod State
+pub mod Layout
+pub mod Sound
+pub mod Seen
+pub mod Tables
+pub mod Ready
+pub mod ReadyIsFact
+pub mod Reasons
+pub mod Admitted
+pub mod Choices
+pub mod Appends
+pub mod Calls
+pub mod Laws

@@ -1,0 +1,24 @@
+-- What ties a driver to memory and to registers between its calls.
+use Rattle.std.specs.Prelude.{◌≡◌, ℕ, ◌*◌, true, List, length}
+use Rattle.iom_base.specs.Sizes.{page_size}
+use Rattle.iom_registers.specs.declared.registers.Registers.{Registers}
+use Rattle.iom_registers.specs.Queues.{command_base, command_entries, is_command_queue_on}
+use Rattle.iom_driver.specs.Layout.{command_frame, queue_entries}
+use Rattle.iom_driver.specs.State.{DriverState}
+use Rattle.iom_driver.specs.Tables.{HaveTables}
+
+-- memory has a frame for each mark, and the tables of each attached device stand in it
+pub record TablesStand (d : DriverState) (memory : List (List ℕ)) : Type 0 where
+  pub size : length memory ≡ length d.marks
+  pub tables : HaveTables memory d.marks d.ledger d.devices
+
+-- the command queue is on, and its ring fills the last frame of memory
+pub record IsRing (frames : ℕ) (r : Registers) : Type 0 where
+  pub on : is_command_queue_on r ≡ true
+  pub base : command_base r ≡ page_size * command_frame frames
+  pub entries : command_entries r ≡ queue_entries
+
+-- the tables stand in memory, and once the driver was started the registers name its ring
+pub record IsReady (d : DriverState) (memory : List (List ℕ)) (r : Registers) : Type 0 where
+  pub stand : TablesStand d memory
+  pub ring : d.started ≡ true → IsRing (length memory) r

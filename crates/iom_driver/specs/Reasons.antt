@@ -1,0 +1,74 @@
+-- Why a call is refused: its reasons, in the order in which it tests them.
+use Rattle.std.specs.Prelude.{ℕ, ◌+◌, ◌-◌, Bool, not, ◌||◌, nat_le, nat_lt, List, [], ◌∷◌, length, is_some, is_none}
+use Rattle.iom_base.specs.Sizes.{page_limit}
+use Rattle.iom_command_queue.specs.Waiting.{how_many}
+use Rattle.iom_ledger.specs.declared.refusal.Refusal.{Refusal}
+use Rattle.iom_ledger.specs.declared.refusal.Refusal.TheVariants.{NoSuchDevice, AlreadyAttached, NotAttached, FrameOutOfRange, FrameReserved, IovaOutOfRange, IovaBusy, NotGranted, QueueFull, TooManyPending, NumbersUsedUp, IdTooWide, TooManyDevices, NotStarted, AlreadyPlugged}
+use Rattle.iom_ledger.specs.Pending.{pending_limit}
+use Rattle.iom_ledger.specs.Shown.{held_in, lingering_in}
+use Rattle.iom_registers.specs.declared.registers.Registers.{Registers}
+use Rattle.iom_registers.specs.Queues.{command_entries}
+use Rattle.iom_table_frames.specs.Marks.{is_marked}
+use Rattle.iom_driver.specs.Devices.{is_plugged, stage_of}
+use Rattle.iom_driver.specs.Layout.{id_limit}
+use Rattle.iom_driver.specs.State.{DriverState}
+
+-- whether something is held or lingers at the page
+abbrev pub is_busy : DriverState → ℕ → ℕ → Bool
+is_busy d id page = is_some (held_in d.ledger id page) || is_some (lingering_in d.ledger id page)
+
+-- whether fewer than two entries of the ring are free: one stays empty, since a queue whose head and tail are the same has none
+abbrev pub lacks_two_places : Registers → Bool
+lacks_two_places r = nat_lt (command_entries r) (how_many r + 3)
+
+-- a device is plugged in
+abbrev pub plug_reasons : DriverState → ℕ → List (Bool × Refusal)
+plug_reasons d id =
+    (is_plugged d.devices id, AlreadyPlugged)
+    ∷ (nat_le 16 (length d.devices), TooManyDevices)
+    ∷ []
+
+-- a device is attached
+abbrev pub attach_reasons : DriverState → ℕ → List (Bool × Refusal)
+attach_reasons d id =
+    (not d.started, NotStarted)
+    ∷ (not (is_plugged d.devices id), NoSuchDevice)
+    ∷ (is_some (stage_of d.devices id), AlreadyAttached)
+    ∷ (nat_le (id_limit d.levels) id, IdTooWide)
+    ∷ []
+
+-- the driver isn't started, or the device isn't there, or isn't attached
+abbrev pub attachment_reasons : DriverState → ℕ → List (Bool × Refusal) → List (Bool × Refusal)
+attachment_reasons d id later =
+    (not d.started, NotStarted)
+    ∷ (not (is_plugged d.devices id), NoSuchDevice)
+    ∷ (is_none (stage_of d.devices id), NotAttached)
+    ∷ later
+
+-- beyond that: a frame is granted at a page
+abbrev pub granting_reasons : DriverState → ℕ → ℕ → ℕ → List (Bool × Refusal)
+granting_reasons d id page frame =
+    (nat_le (length d.marks) frame, FrameOutOfRange)
+    ∷ (is_marked d.marks frame, FrameReserved)
+    ∷ (nat_le page_limit page, IovaOutOfRange)
+    ∷ (is_busy d id page, IovaBusy)
+    ∷ []
+
+abbrev pub grant_reasons : DriverState → ℕ → ℕ → ℕ → List (Bool × Refusal)
+grant_reasons d id page frame = attachment_reasons d id (granting_reasons d id page frame)
+
+-- and: a page is released
+abbrev pub releasing_reasons : DriverState → Registers → ℕ → ℕ → List (Bool × Refusal)
+releasing_reasons d r id page =
+    (is_none (held_in d.ledger id page), NotGranted)
+    ∷ (nat_le pending_limit (d.given - d.confirmed), TooManyPending)
+    ∷ (lacks_two_places r, QueueFull)
+    ∷ (nat_le 4294967295 d.given, NumbersUsedUp)
+    ∷ []
+
+abbrev pub release_reasons : DriverState → Registers → ℕ → ℕ → List (Bool × Refusal)
+release_reasons d r id page = attachment_reasons d id (releasing_reasons d r id page)
+
+-- the completion word is polled
+abbrev pub poll_reasons : DriverState → List (Bool × Refusal)
+poll_reasons d = (not d.started, NotStarted) ∷ []

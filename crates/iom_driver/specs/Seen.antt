@@ -1,0 +1,14 @@
+-- A driver as its contracts speak of it.
+use Rattle.iom_driver.specs.declared.driver.Driver.{Driver}
+use Rattle.iom_driver.specs.State.{DriverState}
+
+abbrev pub state_of : Driver → DriverState
+state_of driver = record {
+  ledger = driver.ledger;
+  marks = driver.marks;
+  devices = driver.devices.items;
+  levels = driver.levels;
+  started = driver.started;
+  given = driver.given;
+  confirmed = driver.confirmed;
+}

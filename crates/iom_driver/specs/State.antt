@@ -1,0 +1,16 @@
+-- What a driver knows, as its contracts speak of it.
+use Rattle.std.specs.Prelude.{ℕ, Bool, List, Option}
+use Rattle.iom_base.specs.declared.owner.Owner.{Owner}
+use Rattle.iom_ledger.specs.declared.ledger.Ledger.{Ledger}
+use Rattle.iom_driver.specs.declared.device.Device.{Device}
+
+-- what is held and what lingers; whose each frame is; the devices in the order of plugging; the levels of the device directory; whether it was started;
+-- and the last ticket that was given, and that was confirmed
+pub record DriverState : Type 0 where
+  pub ledger : Ledger
+  pub marks : List (Option Owner)
+  pub devices : List Device
+  pub levels : ℕ
+  pub started : Bool
+  pub given : ℕ
+  pub confirmed : ℕ

@@ -1,0 +1,29 @@
+-- The page tables of attached devices.
+use Rattle.std.specs.Prelude.{◌≡◌, ℕ, ◌^◌, ◌<◌, List, Option, Some, option_map, slice_get}
+use Rattle.iom_base.specs.declared.owner.Owner.{Owner}
+use Rattle.iom_base.specs.declared.owner.Owner.TheVariants.{OneDevice}
+use Rattle.iom_ledger.specs.declared.ledger.Ledger.{Ledger}
+use Rattle.iom_ledger.specs.History.{Pair}
+use Rattle.iom_ledger.specs.Shown.{held_in}
+use Rattle.iom_page_table.specs.declared.leaf.PageLeaf.{PageLeaf}
+use Rattle.iom_page_table.specs.Leaves.{leaf_of}
+use Rattle.iom_page_table.specs.Sv39.{IsRoot, HasTable}
+use Rattle.iom_stage_walk.specs.Paths.{first_levels}
+use Rattle.iom_driver.specs.declared.device.Device.{Device}
+use Rattle.iom_driver.specs.declared.device.FirstStage.{FirstStage}
+use Rattle.iom_driver.specs.Devices.{stage_of}
+
+-- the leaf that maps a page to what is held there
+abbrev pub leaf_for : Pair → PageLeaf
+leaf_for pair = record { frame = pair.0; rights = pair.1 }
+
+-- the tables of the root are a tree, in frames that are reserved for the device alone, and map exactly what the device holds
+pub record AreTablesOf (memory : List (List ℕ)) (marks : List (Option Owner)) (ledger : Ledger) (id root : ℕ) : Type 0 where
+  pub tree : IsRoot memory root
+  pub own : (f : ℕ) → HasTable memory root f → slice_get marks f ≡ Some (Some (OneDevice id))
+  pub leaves : (page : ℕ) → page < 2 ^ 52 → leaf_of first_levels memory root page ≡ option_map leaf_for (held_in ledger id page)
+
+-- each attached device has such tables
+abbrev pub HaveTables : List (List ℕ) → List (Option Owner) → Ledger → List Device → Type 0
+HaveTables memory marks ledger devices =
+    (id : ℕ) (stage : FirstStage) → stage_of devices id ≡ Some stage → AreTablesOf memory marks ledger id stage.root

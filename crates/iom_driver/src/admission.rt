@@ -1,0 +1,99 @@
+// Whether a call is refused, and why.
+ghost use Rattle.std.specs.Prelude.{◌≡◌, ◌^◌, ◌<◌, ℕ, Bool, List, IfOk, IfErr, Some, None, true, false};
+ghost use Rattle.iom_base.specs.Sizes.{page_limit};
+ghost use Rattle.iom_ledger.specs.declared.refusal.Refusal.{Refusal};
+ghost use Rattle.iom_ledger.specs.Refusals.{first_that_applies, NoneApplies};
+ghost use Rattle.iom_registers.specs.Queues.{command_entries};
+ghost use Rattle.iom_driver.specs.Admitted.{MayBeGranted, MayBeReleased};
+ghost use Rattle.iom_driver.specs.Devices.{device_of, stage_of};
+ghost use Rattle.iom_driver.specs.Layout.{queue_entries};
+ghost use Rattle.iom_driver.specs.Reasons.{attachment_reasons, grant_reasons, release_reasons};
+ghost use Rattle.iom_driver.specs.Seen.{state_of};
+
+use crate::access::lacks_two_places;
+use crate::device::FirstStage;
+use crate::driver::Driver;
+use iom_base::{DeviceId, PAGE_LIMIT};
+use iom_ledger::{MAX_PENDING, Refusal};
+use iom_registers::Mmio;
+
+impl Driver {
+    /// The first stage of the attached device, or why it has none.
+    fn stage_of(&self, id: DeviceId) -> Result<FirstStage, Refusal>
+        ensures started { IfOk result (λ stage. self.now.started ≡ true) }
+        ensures attached { IfOk result (λ stage. stage_of self.now.devices.items id ≡ Some stage) }
+        ensures goes_on { IfOk result (λ stage. (later : List (Bool × Refusal))
+            → first_that_applies (attachment_reasons (state_of self.now) id later) ≡ first_that_applies later) }
+        ensures refused { IfErr result (λ why. (later : List (Bool × Refusal))
+            → first_that_applies (attachment_reasons (state_of self.now) id later) ≡ Some why) }
+    {
+        if !self.started {
+            return Err(Refusal::NotStarted);
+        }
+        let Some(device) = self.device_of(id) else {
+            return Err(Refusal::NoSuchDevice);
+        };
+        match device.stage {
+            None => Err(Refusal::NotAttached),
+            Some(stage) => Ok(stage),
+        }
+    }
+
+    /// The root of the device's tables, where the frame may be granted to it at the page, or why not.
+    pub(crate) fn admit_grant(
+        &self,
+        id: DeviceId,
+        page: u64,
+        frame: u64,
+    ) -> Result<FirstStage, Refusal>
+        ensures admitted { IfOk result (λ stage. NoneApplies (grant_reasons (state_of self.now) id page frame)) }
+        ensures may { IfOk result (λ stage. MayBeGranted (state_of self.now) id page frame stage) }
+        ensures refused { IfErr result (λ why.
+            first_that_applies (grant_reasons (state_of self.now) id page frame) ≡ Some why) }
+    {
+        let stage = self.stage_of(id)?;
+        if frame >= u64::from(self.frames) {
+            return Err(Refusal::FrameOutOfRange);
+        }
+        if self.marks.is_reserved(frame as u32) {
+            return Err(Refusal::FrameReserved);
+        }
+        if page >= PAGE_LIMIT {
+            return Err(Refusal::IovaOutOfRange);
+        }
+        if !self.ledger.is_vacant(id, page) {
+            return Err(Refusal::IovaBusy);
+        }
+        Ok(stage)
+    }
+
+    /// The first stage of the device, where it may release the page, or why it may not.
+    pub(crate) fn admit_release<M: Mmio>(
+        &self,
+        io: &M,
+        id: DeviceId,
+        page: u64,
+    ) -> Result<FirstStage, Refusal>
+        requires { self.now.started ≡ true → command_entries (M.registers io.now) ≡ queue_entries }
+        ensures admitted { IfOk result (λ stage.
+            NoneApplies (release_reasons (state_of self.now) (M.registers io.now) id page)) }
+        ensures may { IfOk result (λ stage. MayBeReleased (state_of self.now) (M.registers io.now) id page stage) }
+        ensures refused { IfErr result (λ why.
+            first_that_applies (release_reasons (state_of self.now) (M.registers io.now) id page) ≡ Some why) }
+    {
+        let stage = self.stage_of(id)?;
+        if self.ledger.holds(id, page).is_none() {
+            return Err(Refusal::NotGranted);
+        }
+        if self.given - self.confirmed >= MAX_PENDING as u32 {
+            return Err(Refusal::TooManyPending);
+        }
+        if lacks_two_places(io) {
+            return Err(Refusal::QueueFull);
+        }
+        if self.given == u32::MAX {
+            return Err(Refusal::NumbersUsedUp);
+        }
+        Ok(stage)
+    }
+}

@@ -1,0 +1,15 @@
+/// The ticket of a release: a number from 1 on, one above the last. It is also the number of the release's
+/// fence.
+#[derive(Clone, Copy, PartialEq, Eq, Debug)]
+pub struct Ticket(pub u32);
+
+/// What a poll learns.
+#[derive(Clone, Copy, PartialEq, Eq, Debug)]
+pub struct Polled {
+    /// The first ticket that is confirmed now; 0 where none is.
+    pub first: u32,
+    /// How many are, one after another.
+    pub count: u32,
+    /// Whether the IOMMU says that a command took too long (`cmd_to` of `cqcsr`).
+    pub timed_out: bool,
+}

@@ -1,0 +1,61 @@
+// The two commands of a release.
+ghost use Rattle.std.specs.Prelude.{◌≡◌, ◌+◌, ◌*◌, ◌/◌, ◌%◌, ◌<◌, ◌≤◌, ◌^◌, ◌≢◌, ℕ, length, slice_get};
+ghost use Rattle.iom_command_queue.specs.Waiting.{how_many};
+ghost use Rattle.iom_driver.specs.Appends.{invalidation, fence, AppendsTwo};
+ghost use Rattle.iom_driver.specs.Layout.{command_frame, completion_address, queue_entries};
+ghost use Rattle.iom_driver.specs.Ready.{IsRing};
+
+use crate::layout::completion_address;
+use iom_command_queue::{Command, CommandRing, FenceAddress, FenceStore, PageNumber, Pscid};
+use iom_phys_mem::Memory;
+use iom_registers::Mmio;
+
+/// Drop the translations of the page in this address space.
+pub(crate) fn invalidation(number: u32, page: u64) -> Command
+    requires number { number < 2 ^ 20 }
+    requires page { page < 2 ^ 52 }
+    ensures { result ≡ invalidation number page }
+{
+    Command::IotinvalVma {
+        gscid: None,
+        pscid: Pscid::new(number),
+        page: PageNumber::new(page),
+    }
+}
+
+/// When all before is complete, accesses under way among it, store the number.
+fn fence(address: u64, number: u32) -> Command
+    requires { address % 4 ≡ 0 }
+    ensures { result ≡ fence address number }
+{
+    let address = FenceAddress::new(address).unwrap();
+    let data = number;
+    Command::IofenceC {
+        store: Some(FenceStore { address, data }),
+        wsi: false,
+        pr: true,
+        pw: true,
+    }
+}
+
+/// Appends the commands of a release: the invalidation of its page, and the fence of its ticket.
+pub(crate) fn append_release<M: Mmio>(
+    memory: &mut Memory,
+    io: &mut M,
+    frames: u32,
+    invalidation: Command,
+    ticket: u32,
+)
+    requires frames { length memory.old ≡ frames }
+    requires many { 64 ≤ frames }
+    requires ring { IsRing frames (M.registers io.old) }
+    requires room { how_many (M.registers io.old) + 3 ≤ queue_entries }
+    ensures appended { let last = fence (completion_address frames) ticket in
+        AppendsTwo M.Mmio memory.old io.old invalidation last memory.new io.new }
+    ensures ring { IsRing frames (M.registers io.new) }
+    ensures other_frames { (n : ℕ) → n ≢ command_frame frames → slice_get memory.new n ≡ slice_get memory.old n }
+    ensures size { length memory.new ≡ length memory.old }
+{
+    CommandRing::append(memory, io, invalidation);
+    CommandRing::append(memory, io, fence(completion_address(frames), ticket));
+}

@@ -1,0 +1,27 @@
+ghost use Rattle.iom_driver.specs.Sound.{IsSound};
+
+use crate::device::Device;
+use iom_ledger::Ledger;
+use iom_table_frames::TableFrames;
+
+/// The driver: what it granted, whose each frame is, which devices there are, and its tickets.
+///
+/// Memory and registers are lent to its calls, the same ones each time.
+#[derive(Drop)]
+pub struct Driver {
+    pub(crate) ledger: Ledger,
+    /// Which frames are reserved for tables and queues.
+    pub(crate) marks: TableFrames,
+    /// In the order of plugging, at most 16.
+    pub(crate) devices: Vec<Device>,
+    /// How many frames memory has.
+    pub(crate) frames: u32,
+    /// The levels of the device directory, 1 to 3.
+    pub(crate) levels: u8,
+    pub(crate) started: bool,
+    /// The last ticket that was given.
+    pub(crate) given: u32,
+    /// The last ticket that was confirmed.
+    pub(crate) confirmed: u32,
+    ghost sound: { IsSound ledger marks devices.items frames levels started given confirmed },
+}

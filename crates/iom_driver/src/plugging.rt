@@ -1,0 +1,33 @@
+// A device is plugged in.
+ghost use Rattle.std.specs.Prelude.{ℕ, List};
+ghost use Rattle.iom_registers.specs.declared.registers.Registers.{Registers};
+ghost use Rattle.iom_driver.specs.Calls.{Plugs};
+ghost use Rattle.iom_driver.specs.Ready.{IsReady};
+ghost use Rattle.iom_driver.specs.Seen.{state_of};
+
+use crate::device::Device;
+use crate::driver::Driver;
+use crate::layout::MAX_DEVICES;
+use iom_base::DeviceId;
+use iom_ledger::Refusal;
+
+impl Driver {
+    /// A device is plugged in, and attached to nothing. May come before the start. `AlreadyPlugged`, else
+    /// `TooManyDevices` where there are 16, else `Memory`.
+    pub fn plug(&mut self, id: DeviceId) -> Result<(), Refusal>
+        ensures effect { Plugs (state_of self.old) id result (state_of self.new) }
+        ensures ready { (memory : List (List ℕ)) (r : Registers)
+            → IsReady (state_of self.old) memory r → IsReady (state_of self.new) memory r }
+    {
+        if self.device_of(id).is_some() {
+            return Err(Refusal::AlreadyPlugged);
+        }
+        if self.devices.len() >= MAX_DEVICES {
+            return Err(Refusal::TooManyDevices);
+        }
+        match self.devices.push(Device { id, stage: None }) {
+            Ok(()) => Ok(()),
+            Err(_) => Err(Refusal::Memory),
+        }
+    }
+}

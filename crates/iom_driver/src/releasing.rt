@@ -1,0 +1,48 @@
+// What a device holds at a page is released.
+ghost use Rattle.iom_driver.specs.Calls.{Releases};
+ghost use Rattle.iom_driver.specs.Ready.{IsReady};
+ghost use Rattle.iom_driver.specs.Seen.{state_of};
+
+use crate::answers::Ticket;
+use crate::appending::{append_release, invalidation};
+use crate::driver::Driver;
+use iom_base::DeviceId;
+use iom_ledger::Refusal;
+use iom_page_table::unmap;
+use iom_phys_mem::Memory;
+use iom_registers::Mmio;
+
+impl Driver {
+    /// What the device holds at the page is released under the next ticket: the page's leaf is cleared, and
+    /// two commands are queued, an invalidation of the page and the ticket's fence. `NotStarted`,
+    /// `NoSuchDevice`, `NotAttached`, `NotGranted`, `TooManyPending` where 256 tickets wait, `QueueFull` where
+    /// the ring has fewer than two free places, `NumbersUsedUp` after the last ticket: the first that applies.
+    /// Takes no memory.
+    pub fn release<M: Mmio>(
+        &mut self,
+        memory: &mut Memory,
+        io: &mut M,
+        id: DeviceId,
+        page: u64,
+    ) -> Result<Ticket, Refusal>
+        requires ready { IsReady (state_of self.old) memory.old (M.registers io.old) }
+        ensures effect { Releases M.Mmio (state_of self.old) memory.old io.old id page result (state_of self.new) memory.new io.new }
+        ensures ready { IsReady (state_of self.new) memory.new (M.registers io.new) }
+    {
+        let stage = match self.admit_release(io, id, page) {
+            Ok(stage) => stage,
+            Err(why) => return Err(why),
+        };
+        self.given += 1;
+        self.ledger.release(id, page, self.given);
+        unmap(memory, stage.root, page);
+        append_release(
+            memory,
+            io,
+            self.frames,
+            invalidation(stage.number, page),
+            self.given,
+        );
+        Ok(Ticket(self.given))
+    }
+}

@@ -1,0 +1,43 @@
+// The IOMMU is told where its structures are, and its command queue is turned on.
+ghost use Rattle.std.specs.Prelude.{◌≡◌, ◌<◌, length, false, slice_set};
+ghost use Rattle.iom_phys_mem.specs.Words.{zeroed};
+ghost use Rattle.iom_driver.specs.Calls.{Starts, IsOff};
+ghost use Rattle.iom_driver.specs.Ready.{IsReady};
+ghost use Rattle.iom_driver.specs.Seen.{state_of};
+
+use crate::access::write;
+use crate::driver::Driver;
+use crate::layout::{completion_address, cqb_of, ddtp_of, directory_frame};
+use iom_base::FRAME_SIZE;
+use iom_phys_mem::{Bytes, Memory};
+use iom_registers::{Mmio, Register};
+
+/// Makes the bytes of the frame zero.
+fn clear(memory: &mut Memory, frame: u32)
+    requires { frame < length memory.old }
+    ensures { memory.new ≡ slice_set memory.old frame zeroed }
+{
+    if let Some(bytes) = memory.frame_mut(frame) {
+        *bytes = [0; FRAME_SIZE];
+    }
+}
+
+impl Driver {
+    /// Starts a driver that isn't started, on a memory of its size, where the command queue is off and its
+    /// tail 0, as at power-on. The completion word and the root of the device directory are zero; then
+    /// `ddtp`, `cqb` and `cqcsr` are written, in this order.
+    pub fn start<M: Mmio>(&mut self, memory: &mut Memory, io: &mut M)
+        requires idle { (state_of self.old).started ≡ false }
+        requires size { length memory.old ≡ length (state_of self.old).marks }
+        requires off { IsOff (M.registers io.old) }
+        ensures effect { Starts M.Mmio (state_of self.old) memory.old io.old (state_of self.new) memory.new io.new }
+        ensures ready { IsReady (state_of self.new) memory.new (M.registers io.new) }
+    {
+        memory.store_u32(completion_address(self.frames), 0);
+        clear(memory, directory_frame(self.frames));
+        write(io, Register::Ddtp, ddtp_of(self.frames, self.levels));
+        write(io, Register::Cqb, cqb_of(self.frames));
+        write(io, Register::Cqcsr, 1);
+        self.started = true;
+    }
+}

@@ -1,0 +1,23 @@
+//! Tests of the driver: the bytes of its commands and tables against the standard's figures, the order of
+//! its register writes, its refusals, and what a poll confirms.
+//!
+//! The driver stands on memory and on registers with no IOMMU around them: a test takes its place, and
+//! writes what a fence would. The crate has tests alone, and nothing stands on it, since a crate with tests
+//! of its own is proved twice.
+#![tactic(auto)]
+
+mod bench;
+#[cfg(test)]
+mod frames;
+#[cfg(test)]
+mod polls;
+mod recording;
+#[cfg(test)]
+mod refusals;
+#[cfg(test)]
+mod releases;
+#[cfg(test)]
+mod starts;
+
+pub use bench::Bench;
+pub use recording::Recording;
