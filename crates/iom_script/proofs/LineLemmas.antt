@@ -1,15 +1,14 @@
 -- A line is read by its first word.
-use Rattle.std.proofs.Common.{◌≡◌, inl, inr, ◌++◌, ℕ, ◌≤◌, List, Contains, MatchOption, Option, Some, None, codes, ap, sym, subst, refl, ◌∙◌, arith, rules}
+use Rattle.std.proofs.Common.{◌≡◌, inl, inr, ◌++◌, ℕ, ◌≤◌, List, Contains, MatchOption, Option, Some, None, codes, ap, sym, subst, refl, ◌∙◌, arith}
 use Rattle.std.proofs.lemmas.List.Elements.{Contains-append_left, Contains-append_right, Contains-append_cases}
 use Rattle.iom_machine.specs.declared.event.Event.{Event}
 use Rattle.iom_machine.specs.declared.event.Event.TheVariants as events
 use Rattle.iom_script.specs.declared.script.WorldSize.{WorldSize}
 use Rattle.iom_script.specs.Words.{Reads, ◌␣◌, IsNumber}
-use Rattle.iom_script.specs.Cuts.{IsCut, Begins, start_of, IsLineOf, IsLineWith, device_starts, driver_starts, single_starts}
+use Rattle.iom_script.specs.Cuts.{Begins, start_of, IsLineOf, IsLineWith, device_starts, driver_starts, single_starts}
 use Rattle.iom_script.specs.Grammar.{IsEventLine, IsWorldLine}
 use Rattle.iom_script.proofs.ReadsLemmas.{reads_some, reads_none, read_holds, read_only, read_nothing}
-use Rattle.iom_script.proofs.CutLemmas.{cut_is_one}
-use Rattle.iom_script.proofs.FieldLemmas.{CutOf, FirstOf}
+use Rattle.iom_script.proofs.FieldLemmas.{FirstOf}
 use Rattle.iom_script.proofs.EventLemmas.{only_start}
 use Rattle.iom_script.proofs.SameLemmas.{event_same}
 

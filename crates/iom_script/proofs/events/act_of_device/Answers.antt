@@ -1,4 +1,4 @@
-use Rattle.std.proofs.Common.{◌≡◌, ℕ, codes, [], ◌∷◌, List, Option, Some, None, refl, sym, subst}
+use Rattle.std.proofs.Common.{◌≡◌, ℕ, codes, [], ◌∷◌, List, Option, Some, None, refl, subst}
 use Rattle.std.proofs.lemmas.Result.{IfOk-weaker}
 use Rattle.iom_machine.specs.declared.event.Event.{Event}
 use Rattle.iom_script.specs.Words.{Reads}

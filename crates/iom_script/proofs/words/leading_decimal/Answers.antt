@@ -1,5 +1,4 @@
-use Rattle.std.proofs.Common.{arith, get_or, ◌+◌, ◌≡◌, length, take, ap, sym, subst}
-use Rattle.std.proofs.lemmas.List.{take_all}
+use Rattle.std.proofs.Common.{arith, get_or, ◌+◌, ◌≡◌, length, take, sym, subst}
 use Rattle.std.specs.Int.{IsInRange}
 use Rattle.std.specs.Str.Parse.{AllDigits}
 use Rattle.iom_script.proofs.DecimalLemmas.{decimal_leads, decimal_is_large, decimal_more, digits_read_on}
