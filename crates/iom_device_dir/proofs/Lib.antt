@@ -1,0 +1,4 @@
+pub mod Exact
+pub mod Bytes
+pub mod Encodes
+pub mod Ends
