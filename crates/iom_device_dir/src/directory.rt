@@ -1,10 +1,10 @@
 ghost use Rattle.std.specs.Prelude.{◌≡◌, ◌≢◌, ◌↔◌, ◌<◌, ◌≤◌, ◌+◌, ◌*◌, ◌^◌, ◌==◌, ◌%◌, ◌/◌, Ok, Err};
 ghost use Rattle.iom_base.specs.declared.cause.Cause.{Cause};
 ghost use Rattle.iom_phys_mem.specs.Words.{word_at};
-ghost use Rattle.iom_registers.specs.declared.directory.DirectoryMode.TheVariants as mode;
+ghost use Rattle.iom_registers.specs.declared.directory.DirectoryMode.TheVariants.{Bare};
 ghost use Rattle.iom_device_dir.specs.declared.context.Context.{Context};
 ghost use Rattle.iom_device_dir.specs.Paths.{entry_place, words_at, FindsContext, StopsLocating};
-ghost use Rattle.iom_device_dir.specs.Located.{entry_read, end_from, located_from, located};
+ghost use Rattle.iom_device_dir.specs.Located.{entry_read, end_from, located_by, located};
 
 use crate::context::{CONTEXT_SIZE, Context};
 use crate::entry::NonLeafEntry;
@@ -72,22 +72,18 @@ fn from_top<B: Bytes>(memory: &B, page: Ppn, id: DeviceId) -> Result<Context, Ca
     from_middle(memory, entry.next, id)
 }
 
-/// The context of a device by the directory in memory: Ok exactly where the path of its id finds one, with
-/// that context; else the cause with which the path stops. Of every number: one that has more than 24 bits is
-/// too wide for each directory. Where the mode is Bare there is no directory, so it may not be. At most six
-/// loads, and nothing changes.
-pub fn locate<B: Bytes>(memory: &B, ddtp: DirectoryPointer, id: DeviceId) -> Result<Context, Cause>
-    requires { ddtp.mode ≢ mode.Bare }
-    ensures located { (context : Context) →
-        (result ≡ Ok context) ↔ FindsContext (B.frames_of memory.now) ddtp id context }
-    ensures stopped { (cause : Cause) →
-        (result ≡ Err cause) ↔ StopsLocating (B.frames_of memory.now) ddtp id cause }
-
-    // What the clauses above say one by one, as one equation.
-    ensures value { result ≡ located (B.frames_of memory.now) ddtp id }
+/// Where the path of the id ends, by the levels that the mode gives the directory.
+#[tactic(auto, unfolding(crate::specs::Located::located_by))]
+fn follow<B: Bytes>(
+    memory: &B,
+    mode: DirectoryMode,
+    root: Ppn,
+    id: DeviceId,
+) -> Result<Context, Cause>
+    requires { mode ≢ Bare }
+    ensures { result ≡ located_by mode (B.frames_of memory.now) root id }
 {
-    let root = Ppn::new(ddtp.ppn).unwrap();
-    match ddtp.mode {
+    match mode {
         DirectoryMode::Off => Err(Cause::AllInboundDisallowed),
         DirectoryMode::Bare => unreachable!(),
         DirectoryMode::OneLevel if id < 1 << 7 => from_contexts(memory, root, id),
@@ -97,4 +93,22 @@ pub fn locate<B: Bytes>(memory: &B, ddtp: DirectoryPointer, id: DeviceId) -> Res
             Err(Cause::TransactionTypeDisallowed)
         }
     }
+}
+
+/// The context of a device by the directory in memory: Ok exactly where the path of its id finds one, with
+/// that context; else the cause with which the path stops. Of every number: one that has more than 24 bits is
+/// too wide for each directory. Where the mode is Bare there is no directory, so it may not be. At most six
+/// loads, and nothing changes.
+pub fn locate<B: Bytes>(memory: &B, ddtp: DirectoryPointer, id: DeviceId) -> Result<Context, Cause>
+    requires { ddtp.mode ≢ Bare }
+    ensures located { (context : Context) →
+        (result ≡ Ok context) ↔ FindsContext (B.frames_of memory.now) ddtp id context }
+    ensures stopped { (cause : Cause) →
+        (result ≡ Err cause) ↔ StopsLocating (B.frames_of memory.now) ddtp id cause }
+
+    // What the clauses above say one by one, as one equation.
+    ensures value { result ≡ located (B.frames_of memory.now) ddtp id }
+{
+    let root = Ppn::new(ddtp.ppn).unwrap();
+    follow(memory, ddtp.mode, root, id)
 }
