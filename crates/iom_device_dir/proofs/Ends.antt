@@ -167,3 +167,14 @@ module _ (mode : DirectoryMode) (memory : List (List ℕ)) (root id : ℕ) (some
   pub stopped_exactly : (cause : Cause) → (result ≡ Err cause) ↔ StopsBy mode memory root id cause
   stopped_exactly cause =
       (λ e. subst (EndsBy mode memory root id) (sym is ∙ e) (ends_by mode memory root id some), λ h. is ∙ stops_by mode memory root id cause h)
+
+-- a path has one end
+module _ (mode : DirectoryMode) (memory : List (List ℕ)) (root id : ℕ) where
+  pub one_context : (one other : Context) → FindsBy mode memory root id one → FindsBy mode memory root id other → one ≡ other
+  one_context one other a b = let e : Ok one ≡ Ok other = sym (finds_by mode memory root id one a) ∙ finds_by mode memory root id other b in cc
+
+  pub not_both : (context : Context) (cause : Cause) → FindsBy mode memory root id context → StopsBy mode memory root id cause → ⊥
+  not_both context cause a b = let e : Ok context ≡ Err cause = sym (finds_by mode memory root id context a) ∙ stops_by mode memory root id cause b in cc
+
+  pub one_cause : (one other : Cause) → StopsBy mode memory root id one → StopsBy mode memory root id other → one ≡ other
+  one_cause one other a b = let e : Err one ≡ Err other = sym (stops_by mode memory root id one a) ∙ stops_by mode memory root id other b in cc

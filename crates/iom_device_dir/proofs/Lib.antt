@@ -2,3 +2,4 @@ pub mod Exact
 pub mod Bytes
 pub mod Encodes
 pub mod Ends
+pub mod Alike
