@@ -50,7 +50,10 @@ fn from_contexts<B: Bytes>(memory: &B, page: Ppn, id: DeviceId) -> Result<Contex
     ensures { result ≡ end_from (B.frames_of memory.now) 0 page id }
 {
     let index = field(u64::from(id), 6, 0);
-    match load_words(memory, PAGE_SIZE * page.number() + CONTEXT_SIZE as u64 * index) {
+    match load_words(
+        memory,
+        PAGE_SIZE * page.number() + CONTEXT_SIZE as u64 * index,
+    ) {
         Some(words) => words.context(),
         None => Err(Cause::DirectoryLoadFault),
     }

@@ -13,14 +13,12 @@ mod directory;
 mod entry;
 mod fields;
 pub mod laws;
-
 mod stages;
 mod values;
 mod words;
 
 pub use context::{CONTEXT_SIZE, Context};
-pub use entry::NonLeafEntry;
-
 pub use directory::locate;
+pub use entry::NonLeafEntry;
 pub use stages::{FirstStage, SecondStage};
 pub use values::{Ppn, Pscid};
