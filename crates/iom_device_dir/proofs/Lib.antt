@@ -1,0 +1,5 @@
+pub mod Exact
+pub mod Bytes
+pub mod Encodes
+pub mod Ends
+pub mod Alike

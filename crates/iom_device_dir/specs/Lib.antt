@@ -1,0 +1,7 @@
+pub mod Words
+pub mod Formats
+pub mod Decoded
+pub mod Encoded
+pub mod Paths
+pub mod Located
+pub mod Laws

@@ -1,0 +1,116 @@
+-- The path of a device id through the directory: it finds a context, or stops with a cause (IOMMU specification, sections 2.1 and
+-- 2.3.1, "Process to locate the Device-context").
+use Rattle.std.specs.Prelude.{◌≡◌, ℕ, zero, suc, ◌+◌, ◌*◌, ◌^◌, ◌<◌, ◌≤◌, ◌⊎◌, List, Option, Some, None}
+use Rattle.iom_base.specs.Sizes.{page_size, entry_size}
+use Rattle.iom_base.specs.declared.cause.Cause.{Cause}
+use Rattle.iom_base.specs.declared.cause.Cause.TheVariants.{AllInboundDisallowed, DirectoryLoadFault, TransactionTypeDisallowed}
+use Rattle.iom_phys_mem.specs.Words.{word_at}
+use Rattle.iom_registers.specs.Bits.{bits}
+use Rattle.iom_registers.specs.declared.directory.DirectoryMode.{DirectoryMode}
+use Rattle.iom_registers.specs.declared.directory.DirectoryMode.TheVariants.{Off, Bare, OneLevel, TwoLevels, ThreeLevels}
+use Rattle.iom_registers.specs.declared.directory.DirectoryPointer.{DirectoryPointer}
+use Rattle.iom_device_dir.specs.declared.context.Context.{Context}
+use Rattle.iom_device_dir.specs.declared.words.ContextWords.{ContextWords}
+use Rattle.iom_device_dir.specs.Formats.{IsNonLeaf, IsRefusedNonLeaf, AreWordsOf, IsRefused}
+
+-- the bytes of a context
+abbrev pub context_size : ℕ
+context_size = 32
+
+-- DDI[i], the index of a device id in a page of level i, where contexts have the base format: DDI[0] is bits 6:0 of the id, DDI[1] bits
+-- 15:7, DDI[2] bits 23:16. There are no further levels
+abbrev pub ddi : ℕ → ℕ → ℕ
+ddi zero id = bits 6 0 id
+ddi (suc zero) id = bits 15 7 id
+ddi (suc (suc level)) id = bits 23 16 id
+
+-- where the non-leaf entry with an index is, in the directory page at a page number
+abbrev pub entry_place : ℕ → ℕ → ℕ
+entry_place page index = page_size * page + entry_size * index
+
+-- where the context with an index is
+abbrev pub context_place : ℕ → ℕ → ℕ
+context_place page index = page_size * page + context_size * index
+
+-- four words, where each of them is there
+abbrev pub all_words : Option ℕ → Option ℕ → Option ℕ → Option ℕ → Option ContextWords
+all_words (Some tc) (Some iohgatp) (Some ta) (Some fsc) = Some (record { tc = tc; iohgatp = iohgatp; ta = ta; fsc = fsc })
+all_words (Some tc) (Some iohgatp) (Some ta) None = None
+all_words (Some tc) (Some iohgatp) None fsc = None
+all_words (Some tc) None ta fsc = None
+all_words None iohgatp ta fsc = None
+
+-- the words of the context at an address; None where one is outside memory
+unfoldable pub words_at : List (List ℕ) → ℕ → Option ContextWords
+words_at memory address =
+    all_words (word_at 8 memory address) (word_at 8 memory (address + 8)) (word_at 8 memory (address + 16)) (word_at 8 memory (address + 24))
+
+-- the word that was loaded is an entry that names this page
+abbrev pub Names : Option ℕ → ℕ → Type 0
+Names None next = ⊥
+Names (Some word) next = IsNonLeaf word (record { next = next })
+
+-- the path stops at the word that was loaded: it is outside memory, or no entry
+abbrev pub StopsAtEntry : Option ℕ → Cause → Type 0
+StopsAtEntry None cause = cause ≡ DirectoryLoadFault
+StopsAtEntry (Some word) cause = IsRefusedNonLeaf word cause
+
+-- the words that were loaded are this context
+abbrev pub Holds : Option ContextWords → Context → Type 0
+Holds None context = ⊥
+Holds (Some words) context = AreWordsOf words context
+
+-- the path stops at the words that were loaded: they are outside memory, or no context
+abbrev pub StopsAtContext : Option ContextWords → Cause → Type 0
+StopsAtContext None cause = cause ≡ DirectoryLoadFault
+StopsAtContext (Some words) cause = IsRefused words cause
+
+-- from the directory page of a level the indices of the id, one a level, lead to this context
+abbrev pub Leads : List (List ℕ) → ℕ → ℕ → ℕ → Context → Type 0
+Leads memory zero page id context = Holds (words_at memory (context_place page (ddi 0 id))) context
+Leads memory (suc level) page id context =
+    (next : ℕ) × Names (word_at 8 memory (entry_place page (ddi (suc level) id))) next × Leads memory level next id context
+
+-- from the directory page of a level the indices lead to an entry or a load that has this cause
+abbrev pub Stops : List (List ℕ) → ℕ → ℕ → ℕ → Cause → Type 0
+Stops memory zero page id cause = StopsAtContext (words_at memory (context_place page (ddi 0 id))) cause
+Stops memory (suc level) page id cause =
+    StopsAtEntry (word_at 8 memory (entry_place page (ddi (suc level) id))) cause
+    ⊎ ((next : ℕ) × Names (word_at 8 memory (entry_place page (ddi (suc level) id))) next × Stops memory level next id cause)
+
+-- the id has no bits above those of DDI[0], .., up to the level of the root: 7, 16 or 24 bits
+abbrev pub ids_below : ℕ → ℕ
+ids_below zero = 2 ^ 7
+ids_below (suc zero) = 2 ^ 16
+ids_below (suc (suc level)) = 2 ^ 24
+
+-- in a directory whose root has this level the id's path finds a context
+abbrev pub FindsFrom : ℕ → List (List ℕ) → ℕ → ℕ → Context → Type 0
+FindsFrom level memory root id context = (id < ids_below level) × Leads memory level root id context
+
+-- it stops: the id is too wide for the levels that there are, or its indices lead to an entry or a load with this cause
+abbrev pub StopsFrom : ℕ → List (List ℕ) → ℕ → ℕ → Cause → Type 0
+StopsFrom level memory root id cause =
+    ((ids_below level ≤ id) × (cause ≡ TransactionTypeDisallowed)) ⊎ ((id < ids_below level) × Stops memory level root id cause)
+
+-- THE PATH, by ddtp's mode: the id finds this context. Where the mode is Off or Bare there is no directory
+abbrev pub FindsBy : DirectoryMode → List (List ℕ) → ℕ → ℕ → Context → Type 0
+FindsBy Off memory root id context = ⊥
+FindsBy Bare memory root id context = ⊥
+FindsBy OneLevel memory root id context = FindsFrom 0 memory root id context
+FindsBy TwoLevels memory root id context = FindsFrom 1 memory root id context
+FindsBy ThreeLevels memory root id context = FindsFrom 2 memory root id context
+
+abbrev pub FindsContext : List (List ℕ) → DirectoryPointer → ℕ → Context → Type 0
+FindsContext memory ddtp id context = FindsBy ddtp.mode memory ddtp.ppn id context
+
+-- the id's path stops with this cause: where the mode is Off, no transaction is allowed. Where it is Bare nobody looks for a context
+abbrev pub StopsBy : DirectoryMode → List (List ℕ) → ℕ → ℕ → Cause → Type 0
+StopsBy Off memory root id cause = cause ≡ AllInboundDisallowed
+StopsBy Bare memory root id cause = ⊥
+StopsBy OneLevel memory root id cause = StopsFrom 0 memory root id cause
+StopsBy TwoLevels memory root id cause = StopsFrom 1 memory root id cause
+StopsBy ThreeLevels memory root id cause = StopsFrom 2 memory root id cause
+
+abbrev pub StopsLocating : List (List ℕ) → DirectoryPointer → ℕ → Cause → Type 0
+StopsLocating memory ddtp id cause = StopsBy ddtp.mode memory ddtp.ppn id cause
