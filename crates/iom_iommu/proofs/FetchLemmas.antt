@@ -1,0 +1,131 @@
+-- What a fetch does to the list of the commands that wait and to the frames of memory, and that it can answer in one way alone
+use Rattle.std.proofs.Common.{◌≡◌, ◌≢◌, ◌/◌, ◌%◌, ◌<◌, ◌∙◌, ℕ, Bool, true, false, List, [], ◌∷◌, length, slice_get, Option, Some, None, refl, sym, ap, subst, if◌then◌else◌}
+use Rattle.std.specs.Prelude.{slice_set}
+use Rattle.std.specs.Option.{option_map_or}
+use Rattle.std.proofs.lemmas.List.{length-set}
+use Rattle.byteorder.specs.Endian.{little_bytes}
+use Rattle.iom_base.specs.Bytes.{with_bytes}
+use Rattle.iom_phys_mem.specs.Words.{with_word}
+use Rattle.iom_phys_mem.proofs.Stores.{frame_elsewhere}
+use Rattle.iom_registers.specs.declared.registers.Registers.{Registers}
+use Rattle.iom_registers.specs.Queues.{command_entries, command_head, command_tail, is_processing_commands, with_command_done, with_fence_w_ip, with_cqmf, with_cmd_ill}
+use Rattle.iom_command_queue.specs.declared.command.Command.{Command}
+use Rattle.iom_command_queue.specs.declared.command.FenceStore.{FenceStore}
+use Rattle.iom_command_queue.specs.declared.entry.QueueEntry.{QueueEntry}
+use Rattle.iom_command_queue.specs.declared.entry.QueueEntry.TheVariants as stands
+use Rattle.iom_command_queue.specs.Waiting.{commands_in, first_entry, place_of}
+use Rattle.iom_command_queue.proofs.Waits.{first_is, none_is, drops, stays_by_frames, same_ring}
+use Rattle.iom_iommu.specs.declared.iommu.Iommu.{Iommu}
+use Rattle.iom_iommu.specs.declared.fetched.Fetched.{Fetched}
+use Rattle.iom_iommu.specs.declared.fetched.Fetched.TheVariants.{Did, Waiting, Empty, Stopped}
+use Rattle.iom_iommu.specs.Parts.{registers_of}
+use Rattle.iom_iommu.specs.Fetches.{store_of, asks_for_interrupt, with_store, IsFrameOf, IsOffRing, head_entry, WaitsAt, StopsAt, Stops, Fetches}
+
+-- something stands at the head, so head and tail aren't the same
+pub apart : (m : List (List ℕ)) (r : Registers) (entry : QueueEntry) → head_entry m r ≡ Some entry → command_head r ≢ command_tail r
+apart m r entry found same = let e = sym (none_is m r same) ∙ found in cc
+
+some_of : {A : Type 0} (x y : A) → Some x ≡ Some y → x ≡ y
+some_of x y e = cc
+
+first_of : (m : List (List ℕ)) (r : Registers) (entry : QueueEntry) → head_entry m r ≡ Some entry → first_entry m r ≡ entry
+first_of m r entry found = some_of (first_entry m r) entry (sym (first_is m r (apart m r entry found)) ∙ found)
+
+-- memory with a word, by whether there is a frame for it
+word_elsewhere : (n value address k : ℕ) (m : List (List ℕ)) → k ≢ address / 4096 → slice_get (with_word n m address value) k ≡ slice_get m k
+unfolding with_word
+word_elsewhere n value address k m ne = by (slice_get m (address / 4096)) where
+  by : (o : Option (List ℕ)) → slice_get (option_map_or (λ frame. slice_set m (address / 4096) (with_bytes frame (address % 4096) (little_bytes n value))) o m) k ≡ slice_get m k
+  by None = refl
+  by (Some frame) = frame_elsewhere m (address / 4096) k (with_bytes frame (address % 4096) (little_bytes n value)) ne
+
+word_length : (n value address : ℕ) (m : List (List ℕ)) → length (with_word n m address value) ≡ length m
+unfolding with_word
+word_length n value address m = by (slice_get m (address / 4096)) where
+  by : (o : Option (List ℕ)) → length (option_map_or (λ frame. slice_set m (address / 4096) (with_bytes frame (address % 4096) (little_bytes n value))) o m) ≡ length m
+  by None = refl
+  by (Some frame) = length-set m (address / 4096) (with_bytes frame (address % 4096) (little_bytes n value))
+
+pub store_elsewhere : (m : List (List ℕ)) (store : Option FenceStore) (k : ℕ) → ¬ IsFrameOf store k → slice_get (with_store m store) k ≡ slice_get m k
+store_elsewhere m None k ne = refl
+store_elsewhere m (Some store) k ne = word_elsewhere 4 store.data store.address k m ne
+
+pub store_length : (m : List (List ℕ)) (store : Option FenceStore) → length (with_store m store) ≡ length m
+store_length m None = refl
+store_length m (Some store) = word_length 4 store.data store.address m
+
+-- THE FRAMES that no word was stored in
+pub leaves_frames : (m n : List (List ℕ)) (i j : Iommu) (any : Bool) (command : Command) → Fetches m i any (Did command) n j
+    → ((k : ℕ) → ¬ IsFrameOf (store_of command) k → slice_get n k ≡ slice_get m k) × (length n ≡ length m)
+leaves_frames m n i j any command f = (
+  (λ k ne. ap (λ x. slice_get x k) f.4 ∙ store_elsewhere m (store_of command) k ne),
+  ap (λ x. length x) f.4 ∙ store_length m (store_of command),
+)
+
+-- the bits of cqcsr and ipsr leave the list
+fence_list : (m : List (List ℕ)) (r : Registers) (asks : Bool) → commands_in m (if asks then with_fence_w_ip r else r) ≡ commands_in m r
+fence_list m r true = same_ring m (with_fence_w_ip r) r refl refl refl refl
+fence_list m r false = refl
+
+stop_at_list : (m : List (List ℕ)) (entry : Option QueueEntry) (any : Bool) (i j : Iommu) → StopsAt m entry any i j → commands_in m (registers_of j) ≡ commands_in m (registers_of i)
+stop_at_list m None any i j s = absurd s
+stop_at_list m (Some stands.Outside) any i j s = ap (λ x. commands_in m (registers_of x)) s ∙ same_ring m (with_cqmf (registers_of i)) (registers_of i) refl refl refl refl
+stop_at_list m (Some (stands.Illegal reason)) any i j s = ap (λ x. commands_in m (registers_of x)) s ∙ same_ring m (with_cmd_ill (registers_of i)) (registers_of i) refl refl refl refl
+stop_at_list m (Some (stands.Command command)) any i j s = ap (λ x. commands_in m (registers_of x)) s.2 ∙ same_ring m (with_cqmf (registers_of i)) (registers_of i) refl refl refl refl
+
+stop_list : (on : Bool) (m : List (List ℕ)) (any : Bool) (i j : Iommu) → Stops on m any i j → commands_in m (registers_of j) ≡ commands_in m (registers_of i)
+stop_list false m any i j s = ap (λ x. commands_in m (registers_of x)) s
+stop_list true m any i j s = stop_at_list m (head_entry m (registers_of i)) any i j s
+
+-- THE FIRST is taken, and the rest stays
+pub takes_first : (m n : List (List ℕ)) (i j : Iommu) (any : Bool) (command : Command) → Fetches m i any (Did command) n j
+    → IsOffRing (registers_of i) (store_of command) → commands_in m (registers_of i) ≡ stands.Command command ∷ commands_in n (registers_of j)
+takes_first m n i j any command f off =
+    let r = registers_of i in let done = with_command_done r in
+    let alike : (k : ℕ) → k < command_entries done → slice_get n (place_of done k / 4096) ≡ slice_get m (place_of done k / 4096)
+    = λ k lt. ap (λ x. slice_get x (place_of r k / 4096)) f.4 ∙ store_elsewhere m (store_of command) (place_of r k / 4096) (off k lt) in
+    drops m r (apart m r (stands.Command command) f.1)
+    ∙ ap (λ x. x ∷ commands_in m done) (first_of m r (stands.Command command) f.1)
+    ∙ ap (λ xs. stands.Command command ∷ xs) (sym (stays_by_frames m n done alike) ∙ sym (fence_list n done (asks_for_interrupt command)) ∙ sym (ap (λ x. commands_in n (registers_of x)) f.5))
+
+-- any other answer leaves memory, and the list
+pub leaves_memory : (m n : List (List ℕ)) (i j : Iommu) (any : Bool) (answer : Fetched) → Fetches m i any answer n j
+    → ((command : Command) → ¬ (answer ≡ Did command)) → n ≡ m
+leaves_memory m n i j any (Did command) f not_done = absurd (not_done command refl)
+leaves_memory m n i j any Waiting f not_done = f.2
+leaves_memory m n i j any Empty f not_done = f.2
+leaves_memory m n i j any Stopped f not_done = f.1
+
+pub leaves_list : (m n : List (List ℕ)) (i j : Iommu) (any : Bool) (answer : Fetched) → Fetches m i any answer n j
+    → ((command : Command) → ¬ (answer ≡ Did command)) → commands_in n (registers_of j) ≡ commands_in m (registers_of i)
+leaves_list m n i j any (Did command) f not_done = absurd (not_done command refl)
+leaves_list m n i j any Waiting f not_done = ap (λ x. commands_in x (registers_of j)) f.2 ∙ ap (λ x. commands_in m (registers_of x)) f.3
+leaves_list m n i j any Empty f not_done = ap (λ x. commands_in x (registers_of j)) f.2 ∙ ap (λ x. commands_in m (registers_of x)) f.3
+leaves_list m n i j any Stopped f not_done = ap (λ x. commands_in x (registers_of j)) f.1 ∙ stop_list (is_processing_commands (registers_of i)) m any i j f.0
+
+none_first : (xs : List QueueEntry) → slice_get xs 0 ≡ None → xs ≡ []
+none_first [] e = refl
+none_first (x ∷ xs) e = cc
+
+-- nothing that stands at the head makes a command wait, or stops, where nothing stands there
+none_waits : (m : List (List ℕ)) (r : Registers) (any : Bool) → head_entry m r ≡ None → ¬ WaitsAt (head_entry m r) any
+none_waits m r any none w = subst (λ entry. WaitsAt entry any) none w
+
+none_stops : (m : List (List ℕ)) (on any : Bool) (i j : Iommu) → on ≡ true → head_entry m (registers_of i) ≡ None → ¬ Stops on m any i j
+none_stops m on any i j is_on none s = subst (λ entry. StopsAt m entry any i j) none (subst (λ b. Stops b m any i j) is_on s)
+
+-- EMPTY exactly where processing is on and nothing waits
+pub empty_then : (m n : List (List ℕ)) (i j : Iommu) (any : Bool) (answer : Fetched) → Fetches m i any answer n j
+    → answer ≡ Empty → (is_processing_commands (registers_of i) ≡ true) × (commands_in m (registers_of i) ≡ [])
+empty_then m n i j any (Did command) f e = cc
+empty_then m n i j any Waiting f e = cc
+empty_then m n i j any Empty f e = (f.0, none_first (commands_in m (registers_of i)) f.1)
+empty_then m n i j any Stopped f e = cc
+
+pub empty_where : (m n : List (List ℕ)) (i j : Iommu) (any : Bool) (answer : Fetched) → Fetches m i any answer n j
+    → (is_processing_commands (registers_of i) ≡ true) × (commands_in m (registers_of i) ≡ []) → answer ≡ Empty
+empty_where m n i j any (Did command) f p = let e = sym (ap (λ xs. slice_get xs 0) p.1) ∙ f.1 in cc
+empty_where m n i j any Waiting f p = absurd (none_waits m (registers_of i) any (ap (λ xs. slice_get xs 0) p.1) f.1)
+empty_where m n i j any Empty f p = refl
+empty_where m n i j any Stopped f p =
+    absurd (none_stops m (is_processing_commands (registers_of i)) any i j p.0 (ap (λ xs. slice_get xs 0) p.1) f.0)

@@ -1,0 +1,5 @@
+use Rattle.iom_iommu.proofs.FetchLemmas.{leaves_frames}
+use Rattle.iom_iommu.proofs.laws.leaves_frames.Goals as goal
+
+pub returns : goal.returns
+returns c = leaves_frames

@@ -1,0 +1,114 @@
+-- What a fetch answers, and what it leaves (IOMMU specification, section 3.1, "Command-Queue (CQ)").
+use Rattle.std.specs.Prelude.{◌≡◌, ℕ, ◌/◌, ◌<◌, Bool, true, false, ◌&&◌, ◌||◌, List, Option, Some, None, slice_get, if◌then◌else◌}
+use Rattle.iom_base.specs.Sizes.{page_size}
+use Rattle.iom_phys_mem.specs.Words.{IsPlace, with_word}
+use Rattle.iom_registers.specs.declared.registers.Registers.{Registers}
+use Rattle.iom_registers.specs.Queues.{command_entries, is_processing_commands, with_command_done, with_fence_w_ip, with_cqmf, with_cmd_ill}
+use Rattle.iom_command_queue.specs.declared.command.Command.{Command}
+use Rattle.iom_command_queue.specs.declared.command.Command.TheVariants.{IotinvalVma, IotinvalGvma, IofenceC, IodirInvalDdt, AtsInval}
+use Rattle.iom_command_queue.specs.declared.command.FenceStore.{FenceStore}
+use Rattle.iom_command_queue.specs.declared.entry.QueueEntry.{QueueEntry}
+use Rattle.iom_command_queue.specs.declared.entry.QueueEntry.TheVariants as stands
+use Rattle.iom_command_queue.specs.Waiting.{commands_in, place_of}
+use Rattle.iom_iommu.specs.declared.iommu.Iommu.{Iommu}
+use Rattle.iom_iommu.specs.declared.fetched.Fetched.{Fetched}
+use Rattle.iom_iommu.specs.declared.fetched.Fetched.TheVariants.{Did, Waiting, Empty, Stopped}
+use Rattle.iom_iommu.specs.Parts.{registers_of, with_registers}
+
+-- section 3.1.2, "IOMMU Command-queue Fence commands": a fence with PR or PW waits for accesses in flight
+abbrev pub must_wait : Command → Bool → Bool
+must_wait (IotinvalVma gscid pscid page) any_in_flight = false
+must_wait (IotinvalGvma gscid page) any_in_flight = false
+must_wait (IofenceC store wsi pr pw) any_in_flight = (pr || pw) && any_in_flight
+must_wait (IodirInvalDdt device) any_in_flight = false
+must_wait (AtsInval device range) any_in_flight = false
+
+-- the word that a command stores: that of a fence with AV
+abbrev pub store_of : Command → Option FenceStore
+store_of (IotinvalVma gscid pscid page) = None
+store_of (IotinvalGvma gscid page) = None
+store_of (IofenceC store wsi pr pw) = store
+store_of (IodirInvalDdt device) = None
+store_of (AtsInval device range) = None
+
+-- whether it sets fence_w_ip when it is done: a fence with WSI
+abbrev pub asks_for_interrupt : Command → Bool
+asks_for_interrupt (IotinvalVma gscid pscid page) = false
+asks_for_interrupt (IotinvalGvma gscid page) = false
+asks_for_interrupt (IofenceC store wsi pr pw) = wsi
+asks_for_interrupt (IodirInvalDdt device) = false
+asks_for_interrupt (AtsInval device range) = false
+
+-- there is a place in memory for what is to be stored
+abbrev pub IsStorable : List (List ℕ) → Option FenceStore → Type 0
+IsStorable memory None = Unit {0}
+IsStorable memory (Some store) = IsPlace 4 memory store.address
+
+-- memory with it: DATA as 4 bytes at ADDR
+abbrev pub with_store : List (List ℕ) → Option FenceStore → List (List ℕ)
+with_store memory None = memory
+with_store memory (Some store) = with_word 4 memory store.address store.data
+
+-- the frame in which it lies
+abbrev pub IsFrameOf : Option FenceStore → ℕ → Type 0
+IsFrameOf None n = ⊥
+IsFrameOf (Some store) n = n ≡ store.address / page_size
+
+-- it is stored, or there is no place for it and nothing changes
+abbrev pub Stores : List (List ℕ) → Option FenceStore → Bool → List (List ℕ) → Type 0
+Stores old store true new = IsStorable old store × (new ≡ with_store old store)
+Stores old store false new = (¬ IsStorable old store) × (new ≡ old)
+
+-- the registers once the command at the head is done
+abbrev pub with_done : Registers → Command → Registers
+with_done r command = if asks_for_interrupt command then with_fence_w_ip (with_command_done r) else with_command_done r
+
+-- what is stored lies in no frame of the ring
+abbrev pub IsOffRing : Registers → Option FenceStore → Type 0
+IsOffRing r store = (j : ℕ) → j < command_entries r → ¬ IsFrameOf store (place_of r j / page_size)
+
+-- what stands at the head: the first of the commands that wait, None where none waits
+abbrev pub head_entry : List (List ℕ) → Registers → Option QueueEntry
+head_entry memory r = slice_get (commands_in memory r) 0
+
+-- a command stands at the head that has to wait
+abbrev pub WaitsAt : Option QueueEntry → Bool → Type 0
+WaitsAt None any_in_flight = ⊥
+WaitsAt (Some stands.Outside) any_in_flight = ⊥
+WaitsAt (Some (stands.Illegal reason)) any_in_flight = ⊥
+WaitsAt (Some (stands.Command command)) any_in_flight = must_wait command any_in_flight ≡ true
+
+-- what stands at the head stops processing, and which bit says why: cqmf where it can't be loaded or its word not be stored,
+-- cmd_ill where it is no command
+abbrev pub StopsAt : List (List ℕ) → Option QueueEntry → Bool → Iommu → Iommu → Type 0
+StopsAt memory None any_in_flight old new = ⊥
+StopsAt memory (Some stands.Outside) any_in_flight old new = new ≡ with_registers old (with_cqmf (registers_of old))
+StopsAt memory (Some (stands.Illegal reason)) any_in_flight old new = new ≡ with_registers old (with_cmd_ill (registers_of old))
+StopsAt memory (Some (stands.Command command)) any_in_flight old new =
+    (must_wait command any_in_flight ≡ false) × (¬ IsStorable memory (store_of command)) × (new ≡ with_registers old (with_cqmf (registers_of old)))
+
+-- processing had stopped before and nothing changes, or it stops at what stands at the head
+abbrev pub Stops : Bool → List (List ℕ) → Bool → Iommu → Iommu → Type 0
+Stops false memory any_in_flight old new = new ≡ old
+Stops true memory any_in_flight old new = StopsAt memory (head_entry memory (registers_of old)) any_in_flight old new
+
+-- THE RELATION of a fetch, by its answer: memory and IOMMU before, whether an access is in flight, the answer, memory and IOMMU after
+abbrev pub Fetches : List (List ℕ) → Iommu → Bool → Fetched → List (List ℕ) → Iommu → Type 0
+Fetches memory iommu any_in_flight (Did command) new_memory new_iommu =
+    (is_processing_commands (registers_of iommu) ≡ true)
+    × (head_entry memory (registers_of iommu) ≡ Some (stands.Command command))
+    × (must_wait command any_in_flight ≡ false)
+    × IsStorable memory (store_of command)
+    × (new_memory ≡ with_store memory (store_of command))
+    × (new_iommu ≡ with_registers iommu (with_done (registers_of iommu) command))
+Fetches memory iommu any_in_flight Waiting new_memory new_iommu =
+    (is_processing_commands (registers_of iommu) ≡ true)
+    × WaitsAt (head_entry memory (registers_of iommu)) any_in_flight
+    × (new_memory ≡ memory) × (new_iommu ≡ iommu)
+Fetches memory iommu any_in_flight Empty new_memory new_iommu =
+    (is_processing_commands (registers_of iommu) ≡ true)
+    × (head_entry memory (registers_of iommu) ≡ None)
+    × (new_memory ≡ memory) × (new_iommu ≡ iommu)
+Fetches memory iommu any_in_flight Stopped new_memory new_iommu =
+    Stops (is_processing_commands (registers_of iommu)) memory any_in_flight iommu new_iommu
+    × (new_memory ≡ memory)

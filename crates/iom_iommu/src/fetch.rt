@@ -1,0 +1,105 @@
+// The commands are taken one by one (IOMMU specification, section 3.1, "Command-Queue (CQ)").
+ghost use Rattle.std.specs.Prelude.{◌≡◌, true, Some};
+ghost use Rattle.iom_registers.specs.Queues.{is_processing_commands};
+ghost use Rattle.iom_iommu.specs.Parts.{registers_of};
+ghost use Rattle.iom_iommu.specs.Fetches.{Fetches, must_wait, store_of, asks_for_interrupt, Stores, head_entry};
+
+use crate::fetched::Fetched;
+use crate::iommu::Iommu;
+use iom_command_queue::{Command, CommandRing, FenceStore, QueueEntry};
+use iom_phys_mem::{Bytes, Memory};
+
+/// Whether the command has to wait, where `any_in_flight` says that an access is in flight.
+fn must_wait(command: &Command, any_in_flight: bool) -> bool
+    ensures { result ≡ must_wait command.now any_in_flight }
+{
+    match *command {
+        Command::IofenceC { pr, pw, .. } => (pr || pw) && any_in_flight,
+        Command::IotinvalVma { .. } | Command::IotinvalGvma { .. } => false,
+        Command::IodirInvalDdt { .. } | Command::AtsInval { .. } => false,
+    }
+}
+
+/// The word that the command stores.
+fn store_of(command: &Command) -> Option<FenceStore>
+    ensures { result ≡ store_of command.now }
+{
+    match *command {
+        Command::IofenceC { store, .. } => store,
+        Command::IotinvalVma { .. } | Command::IotinvalGvma { .. } => None,
+        Command::IodirInvalDdt { .. } | Command::AtsInval { .. } => None,
+    }
+}
+
+/// Whether the command asks for an interrupt when it is done.
+fn asks_for_interrupt(command: &Command) -> bool
+    ensures { result ≡ asks_for_interrupt command.now }
+{
+    match *command {
+        Command::IofenceC { wsi, .. } => wsi,
+        Command::IotinvalVma { .. } | Command::IotinvalGvma { .. } => false,
+        Command::IodirInvalDdt { .. } | Command::AtsInval { .. } => false,
+    }
+}
+
+/// Stores the word, where there is one. False exactly where there is no place for it: then nothing
+/// changes.
+fn store(memory: &mut Memory, store: Option<FenceStore>) -> bool
+    ensures { Stores memory.old store result memory.new }
+{
+    match store {
+        Some(store) => memory
+            .store_u32(store.address.address(), store.data)
+            .is_some(),
+        None => true,
+    }
+}
+
+impl Iommu {
+    /// Takes the command at the head from memory and does it. `any_in_flight` says whether an access of a
+    /// device is accepted and not made yet.
+    ///
+    /// The head stays, and memory with it, unless the answer is `Did`. A fetch that finds an illegal
+    /// command sets `cmd_ill`. One that can't load the command, or not store a fence's word, sets `cqmf`.
+    /// These two answer `Stopped`, and so does each fetch until software clears the bit.
+    pub fn fetch(&mut self, memory: &mut Memory, any_in_flight: bool) -> Fetched
+        ensures { Fetches memory.old self.old any_in_flight result memory.new self.new }
+    {
+        if !self.registers.is_processing_commands() {
+            return Fetched::Stopped;
+        }
+        match CommandRing::next(memory, &self.registers) {
+            None => Fetched::Empty,
+            Some(QueueEntry::Outside) => {
+                self.registers.set_cqmf();
+                Fetched::Stopped
+            }
+            Some(QueueEntry::Illegal(_)) => {
+                self.registers.set_cmd_ill();
+                Fetched::Stopped
+            }
+            Some(QueueEntry::Command(command)) => self.take(memory, command, any_in_flight),
+        }
+    }
+
+    /// Does the command that stands at the head, unless it has to wait.
+    fn take(&mut self, memory: &mut Memory, command: Command, any_in_flight: bool) -> Fetched
+        requires on { is_processing_commands (registers_of self.old) ≡ true }
+        requires stands { head_entry memory.old (registers_of self.old) ≡ Some (QueueEntry.Command command) }
+        ensures { Fetches memory.old self.old any_in_flight result memory.new self.new }
+    {
+        if must_wait(&command, any_in_flight) {
+            return Fetched::Waiting;
+        }
+        let word = store_of(&command);
+        if !store(memory, word) {
+            self.registers.set_cqmf();
+            return Fetched::Stopped;
+        }
+        CommandRing::advance(&mut self.registers);
+        if asks_for_interrupt(&command) {
+            self.registers.set_fence_w_ip();
+        }
+        Fetched::Did(command)
+    }
+}
