@@ -1,4 +1,5 @@
 -- What stays true between the parts of a world, whatever happens: facts over values, without the bytes of tables.
+-- For the facts that a world carries alone; no public contract cites these.
 use Rattle.std.specs.Prelude.{◌≡◌, ℕ, zero, suc, ◌+◌, ◌/◌, ◌^◌, ◌<◌, ◌≤◌, nat_lt, Bool, true, false, ◌&&◌, ◌||◌, List, [], ◌∷◌, Option, None, Some, slice_get}
 use Rattle.std.specs.Option.{option_map_or}
 use Rattle.iom_base.specs.declared.access.AccessKind.{AccessKind}

@@ -1,4 +1,5 @@
 -- Fences stand in the queue in the order of their numbers.
+-- For the invariant of `Commands` alone; no public contract cites these.
 use Rattle.std.specs.Prelude.{◌≡◌, ℕ, ◌+◌, ◌≤◌, List, [], ◌∷◌}
 use Rattle.circular_buffer.specs.Buffer.{Buffer}
 use Rattle.iom_world.specs.declared.commands.Command.{Command}

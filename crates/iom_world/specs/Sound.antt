@@ -1,4 +1,5 @@
 -- What holds between the parts of a world, whatever events came.
+-- For the facts that a world carries alone; no public contract cites this.
 use Rattle.std.specs.Prelude.{◌≡◌, ℕ, ◌-◌, ◌≤◌, List, length, Option}
 use Rattle.iom_base.specs.Sizes.{device_limit}
 use Rattle.iom_ledger.specs.declared.ledger.Ledger.{Ledger}
