@@ -10,24 +10,24 @@ use Rattle.iom_base.specs.Bytes.{with_bytes}
 use Rattle.iom_phys_mem.proofs.Stores.{byte_apart, length-with_bytes, frame_here, frame_elsewhere}
 use Rattle.iom_fault_queue.specs.declared.entry.Entry.TheVariants as entry
 use Rattle.iom_fault_queue.specs.Fields.{Fields}
-use Rattle.iom_fault_queue.specs.Grammar.{decoded, encoded}
-use Rattle.iom_fault_queue.specs.Ring.{entry_at, meaning_of, StoresRecord}
+use Rattle.iom_fault_queue.specs.Grammar.{decoded_record, encoded_record}
+use Rattle.iom_fault_queue.specs.Ring.{record_at, meaning_of, StoresRecord}
 
 -- what stands in a frame
 pub in_frame : (memory : List (List ℕ)) (address : ℕ) (frame : List ℕ) → slice_get memory (address / 4096) ≡ Some frame
-    → entry_at memory address ≡ meaning_of (decoded (take 32 (drop (address % 4096) frame)))
-unfolding entry_at
+    → record_at memory address ≡ meaning_of (decoded_record (take 32 (drop (address % 4096) frame)))
+unfolding record_at
 in_frame memory address frame found = rw found refl
 
-pub in_none : (memory : List (List ℕ)) (address : ℕ) → slice_get memory (address / 4096) ≡ None → entry_at memory address ≡ entry.Outside
-unfolding entry_at
+pub in_none : (memory : List (List ℕ)) (address : ℕ) → slice_get memory (address / 4096) ≡ None → record_at memory address ≡ entry.Outside
+unfolding record_at
 in_none memory address none = rw none refl
 
 -- it depends on its frame alone
-pub of_same_frame : (old new : List (List ℕ)) (address : ℕ) → slice_get new (address / 4096) ≡ slice_get old (address / 4096) → entry_at new address ≡ entry_at old address
-unfolding entry_at
+pub of_same_frame : (old new : List (List ℕ)) (address : ℕ) → slice_get new (address / 4096) ≡ slice_get old (address / 4096) → record_at new address ≡ record_at old address
+unfolding record_at
 of_same_frame old new address same =
-    ap (λ found. option_map_or (λ frame. meaning_of (decoded (take 32 (drop (address % 4096) frame)))) found entry.Outside) same
+    ap (λ found. option_map_or (λ frame. meaning_of (decoded_record (take 32 (drop (address % 4096) frame)))) found entry.Outside) same
 
 -- bytes that lie apart from those that are replaced are as they were
 part_apart : (n at offset : ℕ) (frame bytes : List ℕ) → offset + length bytes ≤ length frame → at + n ≤ length frame
@@ -63,42 +63,42 @@ found_inside memory i frame found =
       | inr y ↦ let bad : Some frame ≡ None = sym found ∙ y.1 in cc
     ]
 
-length-encoded : (f : Fields) → length (encoded f) ≡ 32
-unfolding encoded
-length-encoded f = refl
+length-encoded_record : (f : Fields) → length (encoded_record f) ≡ 32
+unfolding encoded_record
+length-encoded_record f = refl
 
 -- the record stands where it was stored
-pub stored_here : (memory new : List (List ℕ)) (address : ℕ) (f : Fields) → address % 32 ≡ 0 → StoresRecord memory address f new → entry_at new address ≡ entry.Record f
+pub stored_here : (memory new : List (List ℕ)) (address : ℕ) (f : Fields) → address % 32 ≡ 0 → StoresRecord memory address f new → record_at new address ≡ entry.Record f
 stored_here memory new address f aligned stores =
     let inside : address / 4096 < length memory = found_inside memory (address / 4096) stores.frame stores.found in
     let fits : address % 4096 + 32 ≤ length stores.frame = omega (arith, stores.whole) in
-    let found : slice_get new (address / 4096) ≡ Some (with_bytes stores.frame (address % 4096) (encoded f)) =
-    ap (λ m. slice_get m (address / 4096)) stores.stored ∙ frame_here memory (address / 4096) (with_bytes stores.frame (address % 4096) (encoded f)) inside in
-    in_frame new address (with_bytes stores.frame (address % 4096) (encoded f)) found
-    ∙ ap (λ bytes. meaning_of (decoded bytes)) (part_here 32 (address % 4096) stores.frame (encoded f) (length-encoded f) fits)
+    let found : slice_get new (address / 4096) ≡ Some (with_bytes stores.frame (address % 4096) (encoded_record f)) =
+    ap (λ m. slice_get m (address / 4096)) stores.stored ∙ frame_here memory (address / 4096) (with_bytes stores.frame (address % 4096) (encoded_record f)) inside in
+    in_frame new address (with_bytes stores.frame (address % 4096) (encoded_record f)) found
+    ∙ ap (λ bytes. meaning_of (decoded_record bytes)) (part_here 32 (address % 4096) stores.frame (encoded_record f) (length-encoded_record f) fits)
     ∙ ap meaning_of stores.meant
 
 -- what stands elsewhere stays
 pub stored_elsewhere : (memory new : List (List ℕ)) (address other : ℕ) (f : Fields) → address % 32 ≡ 0 → other % 32 ≡ 0 → other ≢ address
-    → StoresRecord memory address f new → entry_at new other ≡ entry_at memory other
+    → StoresRecord memory address f new → record_at new other ≡ record_at memory other
 stored_elsewhere memory new address other f aligned other_aligned ne stores =
     elim (eqb_tells (other / 4096) (address / 4096)) [
       | inl e ↦
           let same : other / 4096 ≡ address / 4096 = e.1 in
           let inside : address / 4096 < length memory = found_inside memory (address / 4096) stores.frame stores.found in
-          let written : List ℕ = with_bytes stores.frame (address % 4096) (encoded f) in
+          let written : List ℕ = with_bytes stores.frame (address % 4096) (encoded_record f) in
           let found : slice_get new (other / 4096) ≡ Some written =
           ap (λ m. slice_get m (other / 4096)) stores.stored ∙ ap (λ i. slice_get (set memory (address / 4096) written) i) same ∙ frame_here memory (address / 4096) written inside in
           let was : slice_get memory (other / 4096) ≡ Some stores.frame = ap (slice_get memory) same ∙ stores.found in
-          let long = length-encoded f in
-          let apart : (other % 4096 + 32 ≤ address % 4096) ⊎ (address % 4096 + length (encoded f) ≤ other % 4096) =
+          let long = length-encoded_record f in
+          let apart : (other % 4096 + 32 ≤ address % 4096) ⊎ (address % 4096 + length (encoded_record f) ≤ other % 4096) =
           elim (leb_tells (other % 4096) (address % 4096)) [ inl h ↦ let le = h.1 in inl (omega arith) | inr h ↦ let gt = h.1 in inr (omega arith) ] in
           in_frame new other written found
-          ∙ ap (λ bytes. meaning_of (decoded bytes)) (part_apart 32 (other % 4096) (address % 4096) stores.frame (encoded f) (omega (arith, stores.whole, long)) (omega (arith, stores.whole)) apart)
+          ∙ ap (λ bytes. meaning_of (decoded_record bytes)) (part_apart 32 (other % 4096) (address % 4096) stores.frame (encoded_record f) (omega (arith, stores.whole, long)) (omega (arith, stores.whole)) apart)
           ∙ sym (in_frame memory other stores.frame was)
       | inr n ↦
           of_same_frame memory new other
-          (ap (λ m. slice_get m (other / 4096)) stores.stored ∙ frame_elsewhere memory (address / 4096) (other / 4096) (with_bytes stores.frame (address % 4096) (encoded f)) n.1)
+          (ap (λ m. slice_get m (other / 4096)) stores.stored ∙ frame_elsewhere memory (address / 4096) (other / 4096) (with_bytes stores.frame (address % 4096) (encoded_record f)) n.1)
     ]
 
 -- a write of all of a part replaces it

@@ -12,7 +12,7 @@ use Rattle.iom_base.specs.declared.cause.Cause.{Cause}
 use Rattle.iom_fault_queue.specs.declared.transaction.Transaction.{Transaction}
 use Rattle.iom_registers.specs.Bits.{bits}
 use Rattle.iom_fault_queue.specs.Fields.{Fields, AreLawful, type_of, transaction_of, cause_of, is_iotval2}
-use Rattle.iom_fault_queue.specs.Grammar.{word_of, word_bytes, words, first_word, AreWords, IsFirstWord, IsRecord, record_of_words, with_names, decoded, encoded}
+use Rattle.iom_fault_queue.specs.Grammar.{word_of, word_bytes, words, cause_word, AreWords, IsFirstWord, IsRecord, record_of_words, with_names, decoded_record, encoded_record}
 use Rattle.iom_fault_queue.proofs.Numbers.{code_of-cause_of, cause_of-code_of, code_fits, type_of-transaction_of, transaction_of-type_of, type_fits}
 
 -- what was named is by its numbers
@@ -52,14 +52,14 @@ is_read first second third fourth f are =
     rw (w.no_process, are.second_is, w.cause, w.transaction, cause_of-code_of f.cause, transaction_of-type_of f.transaction, w.device, are.third_is, are.fourth_is, are.agrees) refl
 
 -- the first word has the fields in their bits
-pub first_word_is : (f : Fields) → f.device < 16777216 → IsFirstWord (first_word f) f
-first_word_is f small =
+pub cause_word_is : (f : Fields) → f.device < 16777216 → IsFirstWord (cause_word f) f
+cause_word_is f small =
     let c = code_fits f.cause in
     let t = type_fits f.transaction in
     record { cause = omega arith; no_process = omega arith; transaction = omega arith; device = omega arith }
 
-pub first_word_fits : (f : Fields) → f.device < 16777216 → first_word f < 18446744073709551616
-first_word_fits f small = let c = code_fits f.cause in let t = type_fits f.transaction in omega arith
+pub cause_word_fits : (f : Fields) → f.device < 16777216 → cause_word f < 18446744073709551616
+cause_word_fits f small = let c = code_fits f.cause in let t = type_fits f.transaction in omega arith
 
 -- the bytes of words, each of n bytes
 unfoldable pub bytes_by : ℕ → List ℕ → List ℕ
@@ -112,30 +112,30 @@ four_back a b c d sa sb sc sd words is f are =
     are
 
 -- the bytes that are written mean the record
-pub encoded_is : (f : Fields) → AreLawful f → IsRecord (encoded f) f
-unfolding encoded
+pub encoded_is : (f : Fields) → AreLawful f → IsRecord (encoded_record f) f
+unfolding encoded_record
 encoded_is f lawful =
-    four_back (first_word f) 0 f.iotval f.iotval2 (first_word_fits f lawful.0) (omega arith) lawful.1 lawful.2 (words f) refl f
-    (record { first_is = first_word_is f lawful.0; second_is = refl; third_is = refl; fourth_is = refl; agrees = lawful.3 })
+    four_back (cause_word f) 0 f.iotval f.iotval2 (cause_word_fits f lawful.0) (omega arith) lawful.1 lawful.2 (words f) refl f
+    (record { first_is = cause_word_is f lawful.0; second_is = refl; third_is = refl; fourth_is = refl; agrees = lawful.3 })
 
 -- what the words of these bytes are read as, by the grammar
-pub decoded_is : (bytes : List ℕ) → IfSome (decoded bytes) (IsRecord bytes)
-unfolding decoded
+pub decoded_is : (bytes : List ℕ) → IfSome (decoded_record bytes) (IsRecord bytes)
+unfolding decoded_record
 decoded_is bytes = read_is (word_of bytes 0) (word_of bytes 1) (word_of bytes 2) (word_of bytes 3)
 
-pub is_decoded : (bytes : List ℕ) (f : Fields) → IsRecord bytes f → decoded bytes ≡ Some f
-unfolding decoded
+pub is_decoded : (bytes : List ℕ) (f : Fields) → IsRecord bytes f → decoded_record bytes ≡ Some f
+unfolding decoded_record
 is_decoded bytes f are = is_read (word_of bytes 0) (word_of bytes 1) (word_of bytes 2) (word_of bytes 3) f are
 
 -- what is read is the only record that the bytes are, and where nothing is they are none
-pub only_one : (bytes : List ℕ) (o : Option Fields) → decoded bytes ≡ o → IfSome o (λ r. (other : Fields) → IsRecord bytes other → other ≡ r)
+pub only_one : (bytes : List ℕ) (o : Option Fields) → decoded_record bytes ≡ o → IfSome o (λ r. (other : Fields) → IsRecord bytes other → other ≡ r)
 only_one bytes (Some r) is = λ other are. let e : Some other ≡ Some r = sym (is_decoded bytes other are) ∙ is in cc
 only_one bytes None is = tt
 
-pub none_is : (bytes : List ℕ) (o : Option Fields) → decoded bytes ≡ o → IfNone o ((other : Fields) → ¬ IsRecord bytes other)
+pub none_is : (bytes : List ℕ) (o : Option Fields) → decoded_record bytes ≡ o → IfNone o ((other : Fields) → ¬ IsRecord bytes other)
 none_is bytes (Some r) is = tt
 none_is bytes None is = λ other are. let e : Some other ≡ None = sym (is_decoded bytes other are) ∙ is in cc
 
 -- what is written is read back
-pub reads_back : (f : Fields) → AreLawful f → decoded (encoded f) ≡ Some f
-reads_back f lawful = is_decoded (encoded f) f (encoded_is f lawful)
+pub reads_back : (f : Fields) → AreLawful f → decoded_record (encoded_record f) ≡ Some f
+reads_back f lawful = is_decoded (encoded_record f) f (encoded_is f lawful)

@@ -10,7 +10,7 @@ use Rattle.iom_fault_queue.specs.declared.entry.Entry.{Entry}
 use Rattle.iom_fault_queue.specs.declared.ring.Put.{Put}
 use Rattle.iom_fault_queue.specs.declared.ring.Put.TheVariants.{Written, Overflow, Off}
 use Rattle.iom_fault_queue.specs.Fields.{Fields}
-use Rattle.iom_fault_queue.specs.Ring.{records_in, is_full, is_tail_outside, entry_at, place_of}
+use Rattle.iom_fault_queue.specs.Ring.{records_in, is_full, is_tail_outside, record_at, record_place}
 use Rattle.iom_fault_queue.specs.Calls.{PutsRecord, after_put, moved_on, TakesEntry}
 use Rattle.iom_fault_queue.specs.Laws.{QueueStep, put, take, beside, StepsQueue, RunsQueue, written_by, taken_by}
 use Rattle.iom_fault_queue.proofs.Lists.{appends, drops, differ, stays, same_queue}
@@ -39,12 +39,12 @@ puts_list m r f Off new s puts = ap (λ n. records_in n s) puts.1 ∙ ap (record
 
 -- what was taken is the first of the list, and the others are left
 taken_first : (m : List (List ℕ)) (r : Registers) (found : Option Entry) (same : Bool) → (fault_head r == fault_tail r) ≡ same
-    → found ≡ (if same then None else Some (entry_at m (place_of r (fault_head r))))
+    → found ≡ (if same then None else Some (record_at m (record_place r (fault_head r))))
     → records_in m r ≡ option_to_list found ++ records_in m (moved_on (written r) r found r)
 taken_first m r None same test is = refl
 taken_first m r (Some e) true test is = let bad : Some e ≡ None = is in cc
 taken_first m r (Some e) false test is =
-    let first : entry_at m (place_of r (fault_head r)) ≡ e = cc in
+    let first : record_at m (record_place r (fault_head r)) ≡ e = cc in
     drops m r (differ (fault_head r) (fault_tail r) test)
     ∙ ap (λ x. x ∷ records_in m (written r Fqh (next_index (fault_entries r) (fault_head r)))) first
 

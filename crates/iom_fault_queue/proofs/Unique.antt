@@ -6,7 +6,7 @@ use Rattle.std.specs.Int.{byte_at, bytes_low_first}
 use Rattle.byteorder.specs.Endian.{little_number, little_bytes}
 use Rattle.byteorder.specs.Numbers.{little_from-cons, little_from-lt}
 use Rattle.iom_fault_queue.specs.Fields.{Fields}
-use Rattle.iom_fault_queue.specs.Grammar.{word_of, word_bytes, words, first_word, AreWords, IsFirstWord, IsRecord, encoded}
+use Rattle.iom_fault_queue.specs.Grammar.{word_of, word_bytes, words, cause_word, AreWords, IsFirstWord, IsRecord, encoded_record}
 use Rattle.iom_fault_queue.proofs.Exact.{bytes_by, by_eight}
 
 -- the bytes of a number from the second on are those of the number over 256
@@ -65,7 +65,7 @@ four_words xs long small =
     by_eight (word_of xs 0 ∷ word_of xs 1 ∷ word_of xs 2 ∷ word_of xs 3 ∷ []) ∙ ap (bytes_by 8) (sym (by_four xs)) ∙ words_bytes 8 4 xs long small
 
 -- the first word is by its bits
-first_by_bits : (word : ℕ) (f : Fields) → word < 18446744073709551616 → IsFirstWord word f → word ≡ first_word f
+first_by_bits : (word : ℕ) (f : Fields) → word < 18446744073709551616 → IsFirstWord word f → word ≡ cause_word f
 first_by_bits word f small is = omega (arith, is.cause, is.no_process, is.transaction, is.device)
 
 -- the words are by the fields
@@ -78,8 +78,8 @@ unfolding word_of
 word_fits bytes place small = little_from-lt 0 8 (drop (8 * place) bytes) (λ i. rw (get_or-drop (8 * place) bytes i 0) (small (8 * place + i)))
 
 -- 32 bytes that are a record are those that are written for it
-pub only_bytes : (other : List ℕ) (f : Fields) → length other ≡ 32 → ((i : ℕ) → slice_index other i < 256) → IsRecord other f → other ≡ encoded f
-unfolding encoded
+pub only_bytes : (other : List ℕ) (f : Fields) → length other ≡ 32 → ((i : ℕ) → slice_index other i < 256) → IsRecord other f → other ≡ encoded_record f
+unfolding encoded_record
 only_bytes other f long small is =
     sym (four_words other long small)
     ∙ ap word_bytes (by_fields (word_of other 0) (word_of other 1) (word_of other 2) (word_of other 3) f (word_fits other 0 small) is)

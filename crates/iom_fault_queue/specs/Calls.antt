@@ -9,7 +9,7 @@ use Rattle.iom_fault_queue.specs.declared.entry.Entry.TheVariants as entry
 use Rattle.iom_fault_queue.specs.declared.ring.Put.{Put}
 use Rattle.iom_fault_queue.specs.declared.ring.Put.TheVariants.{Written, Overflow, Off}
 use Rattle.iom_fault_queue.specs.Fields.{Fields}
-use Rattle.iom_fault_queue.specs.Ring.{entry_at, place_of, StoresRecord, is_full, is_tail_outside}
+use Rattle.iom_fault_queue.specs.Ring.{record_at, record_place, StoresRecord, is_full, is_tail_outside}
 
 -- the registers after a record is dropped, by the first reason that applies: fqof or fqmf is 1 already, and nothing changes; the
 -- queue is full, and fqof is set; the place isn't in memory, and fqmf is set. None where no reason applies
@@ -24,7 +24,7 @@ dropping memory r =
 abbrev pub PutsRecord : List (List ℕ) → Registers → Fields → Put → List (List ℕ) → Registers → Type 0
 PutsRecord memory r f Written new s =
     (is_fault_queue_on r ≡ true) × (dropping memory r ≡ None)
-    × StoresRecord memory (place_of r (fault_tail r)) f new × (s ≡ with_record_written r)
+    × StoresRecord memory (record_place r (fault_tail r)) f new × (s ≡ with_record_written r)
 PutsRecord memory r f Overflow new s = (is_fault_queue_on r ≡ true) × (dropping memory r ≡ Some s) × (new ≡ memory)
 PutsRecord memory r f Off new s = (is_fault_queue_on r ≡ false) × (new ≡ memory) × (s ≡ r)
 
@@ -36,7 +36,7 @@ after_put Off f records = records
 
 -- the entry at the head; none where head and tail meet
 abbrev pub oldest : List (List ℕ) → Registers → Option Entry
-oldest memory r = if fault_head r == fault_tail r then None else Some (entry_at memory (place_of r (fault_head r)))
+oldest memory r = if fault_head r == fault_tail r then None else Some (record_at memory (record_place r (fault_head r)))
 
 -- what is left of a value with registers, by what a write to a register leaves: the head moves on by one where something was taken
 abbrev pub moved_on : {X : Type 0} → (Register → ℕ → X) → Registers → Option Entry → X → X

@@ -36,12 +36,12 @@ abbrev pub IsRecord : List ℕ → Fields → Type 0
 IsRecord bytes f = AreWords (word_of bytes 0) (word_of bytes 1) (word_of bytes 2) (word_of bytes 3) f
 
 -- the first word of a record
-abbrev pub first_word : Fields → ℕ
-first_word f = code_of f.cause + type_of f.transaction * 2 ^ 34 + f.device * 2 ^ 40
+abbrev pub cause_word : Fields → ℕ
+cause_word f = code_of f.cause + type_of f.transaction * 2 ^ 34 + f.device * 2 ^ 40
 
 -- the four words of a record
 abbrev pub words : Fields → List ℕ
-words f = first_word f ∷ 0 ∷ f.iotval ∷ f.iotval2 ∷ []
+words f = cause_word f ∷ 0 ∷ f.iotval ∷ f.iotval2 ∷ []
 
 -- the record with a cause and a type of transaction, where they are numbers of the model's and iotval2 agrees with the cause
 abbrev pub with_names : Option Cause → Option Transaction → ℕ → ℕ → ℕ → Option Fields
@@ -60,9 +60,9 @@ record_of_words first second third fourth =
     else None
 
 -- the record that 32 bytes are; None where they are none
-unfoldable pub decoded : List ℕ → Option Fields
-decoded bytes = record_of_words (word_of bytes 0) (word_of bytes 1) (word_of bytes 2) (word_of bytes 3)
+unfoldable pub decoded_record : List ℕ → Option Fields
+decoded_record bytes = record_of_words (word_of bytes 0) (word_of bytes 1) (word_of bytes 2) (word_of bytes 3)
 
 -- the 32 bytes of a record
-unfoldable pub encoded : Fields → List ℕ
-encoded f = word_bytes (words f)
+unfoldable pub encoded_record : Fields → List ℕ
+encoded_record f = word_bytes (words f)

@@ -8,12 +8,12 @@ use Rattle.iom_fault_queue.specs.declared.entry.Entry.TheVariants as entry
 use Rattle.iom_fault_queue.specs.declared.ring.Put.{Put}
 use Rattle.iom_fault_queue.specs.declared.ring.Put.TheVariants.{Written, Overflow, Off}
 use Rattle.iom_fault_queue.specs.Fields.{Fields}
-use Rattle.iom_fault_queue.specs.Ring.{records_in, place_of}
+use Rattle.iom_fault_queue.specs.Ring.{records_in, record_place}
 use Rattle.iom_fault_queue.specs.Calls.{PutsRecord, TakesEntry}
 
 -- what is done beside the queue: no frame of the ring changes, nor where the ring is, nor head and tail
 pub record LeavesQueue (memory : List (List ℕ)) (r : Registers) (new : List (List ℕ)) (s : Registers) : Type 0 where
-  pub frames : (index : ℕ) → index < fault_entries r → slice_get new (place_of r index / 4096) ≡ slice_get memory (place_of r index / 4096)
+  pub frames : (index : ℕ) → index < fault_entries r → slice_get new (record_place r index / 4096) ≡ slice_get memory (record_place r index / 4096)
   pub base : s.fqb ≡ r.fqb
   pub head : fault_head s ≡ fault_head r
   pub tail : fault_tail s ≡ fault_tail r

@@ -8,11 +8,11 @@ use Rattle.iom_registers.specs.declared.registers.Registers.{Registers}
 use Rattle.iom_fault_queue.specs.declared.entry.Entry.{Entry}
 use Rattle.iom_fault_queue.specs.declared.entry.Entry.TheVariants as entry
 use Rattle.iom_fault_queue.specs.Fields.{Fields}
-use Rattle.iom_fault_queue.specs.Grammar.{decoded, encoded}
+use Rattle.iom_fault_queue.specs.Grammar.{decoded_record, encoded_record}
 
 -- where the place with an index is
-abbrev pub place_of : Registers → ℕ → ℕ
-place_of r index = fault_base r + 32 * index
+abbrev pub record_place : Registers → ℕ → ℕ
+record_place r index = fault_base r + 32 * index
 
 -- what 32 bytes mean
 abbrev pub meaning_of : Option Fields → Entry
@@ -20,14 +20,14 @@ meaning_of (Some f) = entry.Record f
 meaning_of None = entry.Illegal
 
 -- what stands in the 32 bytes at an address, a multiple of 32
-unfoldable pub entry_at : List (List ℕ) → ℕ → Entry
-entry_at memory address =
-    option_map_or (λ frame. meaning_of (decoded (take 32 (drop (address % 4096) frame)))) (slice_get memory (address / 4096)) entry.Outside
+unfoldable pub record_at : List (List ℕ) → ℕ → Entry
+record_at memory address =
+    option_map_or (λ frame. meaning_of (decoded_record (take 32 (drop (address % 4096) frame)))) (slice_get memory (address / 4096)) entry.Outside
 
 -- so many entries from an index on, of a ring that begins at an address
-abbrev pub entries_from : List (List ℕ) → ℕ → ℕ → ℕ → ℕ → List Entry
-entries_from memory base size index zero = []
-entries_from memory base size index (suc more) = entry_at memory (base + 32 * index) ∷ entries_from memory base size (next_index size index) more
+abbrev pub records_from : List (List ℕ) → ℕ → ℕ → ℕ → ℕ → List Entry
+records_from memory base size index zero = []
+records_from memory base size index (suc more) = record_at memory (base + 32 * index) ∷ records_from memory base size (next_index size index) more
 
 -- how many places there are from the head up to the tail
 abbrev pub waiting : ℕ → ℕ → ℕ → ℕ
@@ -36,15 +36,15 @@ waiting size head tail = if nat_le head tail then tail - head else tail + size -
 -- THE LIST: what stands between head and tail, the oldest first
 unfoldable pub records_in : List (List ℕ) → Registers → List Entry
 records_in memory r =
-    entries_from memory (fault_base r) (fault_entries r) (fault_head r) (waiting (fault_entries r) (fault_head r) (fault_tail r))
+    records_from memory (fault_base r) (fault_entries r) (fault_head r) (waiting (fault_entries r) (fault_head r) (fault_tail r))
 
 -- a record's bytes are stored at an address, a multiple of 32: in the frame that is there, and they mean the record
 pub record StoresRecord (memory : List (List ℕ)) (address : ℕ) (f : Fields) (new : List (List ℕ)) : Type 0 where
   pub frame : List ℕ
   pub found : slice_get memory (address / 4096) ≡ Some frame
   pub whole : length frame ≡ 4096
-  pub stored : new ≡ slice_set memory (address / 4096) (with_bytes frame (address % 4096) (encoded f))
-  pub meant : decoded (encoded f) ≡ Some f
+  pub stored : new ≡ slice_set memory (address / 4096) (with_bytes frame (address % 4096) (encoded_record f))
+  pub meant : decoded_record (encoded_record f) ≡ Some f
 
 -- the queue is full: the tail is one before the head
 abbrev pub is_full : Registers → Bool
@@ -52,4 +52,4 @@ is_full r = next_index (fault_entries r) (fault_tail r) == fault_head r
 
 -- the place at the tail isn't in memory
 abbrev pub is_tail_outside : List (List ℕ) → Registers → Bool
-is_tail_outside memory r = not (nat_lt (place_of r (fault_tail r) / 4096) (length memory))
+is_tail_outside memory r = not (nat_lt (record_place r (fault_tail r) / 4096) (length memory))

@@ -1,5 +1,5 @@
 ghost use Rattle.std.specs.Prelude.{◌≡◌, ◌%◌};
-ghost use Rattle.iom_fault_queue.specs.Ring.{entry_at};
+ghost use Rattle.iom_fault_queue.specs.Ring.{record_at};
 
 use crate::bytes::RECORD_SIZE;
 use crate::record::Record;
@@ -20,9 +20,9 @@ pub enum Entry {
 }
 
 /// What stands in the 32 bytes at the address.
-pub(crate) fn entry_at(memory: &Memory, address: u64) -> Entry
+pub(crate) fn record_at(memory: &Memory, address: u64) -> Entry
     requires { address % 32 ≡ 0 }
-    ensures { result ≡ entry_at memory.now address }
+    ensures { result ≡ record_at memory.now address }
 {
     if address / 4096 >= u64::from(memory.frames()) {
         return Entry::Outside;

@@ -2,7 +2,7 @@ ghost use Rattle.std.specs.Prelude.{◌≡◌, ◌<◌, ◌^◌, ◌↔◌, ℕ,
 ghost use Rattle.iom_base.specs.declared.cause.Cause.{Cause};
 ghost use Rattle.iom_fault_queue.specs.Fields.{Fields, AreLawful, is_guest_page_fault, is_iotval2, cause_of};
 ghost use Rattle.iom_fault_queue.specs.Records.{record_of};
-ghost use Rattle.iom_fault_queue.specs.Grammar.{IsRecord, decoded, encoded, words, record_of_words};
+ghost use Rattle.iom_fault_queue.specs.Grammar.{IsRecord, decoded_record, encoded_record, words, record_of_words};
 
 use crate::bytes::{RECORD_SIZE, to_bytes, to_words};
 use crate::transaction::Transaction;
@@ -191,8 +191,8 @@ impl Record {
     pub fn encode(self) -> [u8; RECORD_SIZE]
         ensures is { IsRecord result self }
         ensures only { (other : List ℕ) → length other ≡ 32 → ((i : ℕ) → slice_index other i < 256) → IsRecord other self → other ≡ result }
-        ensures value { result ≡ encoded self }
-        ensures reads_back { decoded result ≡ Some self }
+        ensures value { result ≡ encoded_record self }
+        ensures reads_back { decoded_record result ≡ Some self }
     {
         to_bytes(self.words())
     }
@@ -224,7 +224,7 @@ impl Record {
         ensures is { IfSome result (IsRecord bytes.now) }
         ensures only { IfSome result (λ r. (other : Fields) → IsRecord bytes.now other → other ≡ r) }
         ensures none { IfNone result ((other : Fields) → ¬ IsRecord bytes.now other) }
-        ensures value { result ≡ decoded bytes.now }
+        ensures value { result ≡ decoded_record bytes.now }
     {
         Record::from_words(to_words(bytes))
     }

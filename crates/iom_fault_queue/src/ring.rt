@@ -8,7 +8,7 @@ ghost use Rattle.iom_fault_queue.specs.Ring.{records_in, is_full, StoresRecord};
 ghost use Rattle.iom_fault_queue.specs.Calls.{PutsRecord, after_put, TakesEntry};
 
 use crate::bytes::RECORD_SIZE;
-use crate::entry::{Entry, entry_at};
+use crate::entry::{Entry, record_at};
 use crate::record::Record;
 use iom_base::FRAME_SIZE;
 use iom_phys_mem::{Bytes, Memory};
@@ -149,7 +149,7 @@ impl FaultRing {
             return None;
         }
         let place = place_by_fqb(io);
-        let entry = entry_at(memory, place.address + RECORD_SIZE as u64 * u64::from(head));
+        let entry = record_at(memory, place.address + RECORD_SIZE as u64 * u64::from(head));
         let next = index_after(head, place.entries);
         write(io, Register::Fqh, u64::from(next));
         Some(entry)

@@ -57,7 +57,7 @@ filled old new own count counted is cap room =
 rings_after : (waiting : Buffer AccessHeader) (bytes : Buffer ℕ) (a : AccessHeader) (own : List ℕ) → AreRings waiting bytes → kept_bytes a.kind a.len ≤ 4096 → length own ≡ kept_bytes a.kind a.len
     → AreRings (buffer (waiting.items ++ a ∷ []) waiting.capacity) (buffer (bytes.items ++ own) (8 * 4096))
 rings_after waiting bytes a own rings le long = record {
-  eight = rings.eight;
+  places = rings.places;
   room = refl;
   short = AreShort-append waiting.items a rings.short le;
   all_kept = length-append bytes.items own ∙ (rw (rings.all_kept, long) (sym (bytes_kept-append waiting.items a)));
@@ -72,7 +72,7 @@ pub room_exactly : {U : Type 0} (pushed : Result U AccessHeader) (found : Option
     → (IsOk pushed ↔ (length waiting.items < waiting.capacity)) → is_some found ≡ is_ok pushed → IsSome found ↔ (length flights < 8)
 room_exactly pushed found waiting bytes flights rings view ok some =
     let same : length waiting.items ≡ length flights = sym (length-flights_of waiting.items bytes.items) ∙ ap (length {A = AcceptedAccess}) view in
-    let cap = rings.eight in
+    let cap = rings.places in
     (λ h. let k = ok.0 (sym some ∙ h) in omega (arith, k, same, cap), λ h. some ∙ ok.1 (omega (arith, h, same, cap)))
 
 no_more : (bytes : Buffer ℕ) → bytes.capacity ≡ 8 * 4096 → buffer (bytes.items ++ []) (8 * 4096) ≡ bytes
@@ -104,7 +104,7 @@ given_ok (Err e) P is h = let no : ⊥ = cc in absurd no
 module _ (waiting now : Buffer AccessHeader) (bytes then : Buffer ℕ) (a : AccessHeader) (own : List ℕ) (count : ℕ) (rings : AreRings waiting bytes) (kept : length own ≡ kept_bytes a.kind a.len) (le : length own ≤ 4096)
     (few : length waiting.items < waiting.capacity) (pushed : now ≡ buffer (waiting.items ++ a ∷ []) waiting.capacity) (counted : count ≡ min (length own) (bytes.capacity - length bytes.items)) (after : then ≡ buffer (bytes.items ++ take count own) bytes.capacity) where
   written : then ≡ buffer (bytes.items ++ own) (8 * 4096)
-  written = filled bytes then own count counted after rings.room (byte_room waiting bytes (length own) rings (subst (λ n. length waiting.items < n) rings.eight few) le)
+  written = filled bytes then own count counted after rings.room (byte_room waiting bytes (length own) rings (subst (λ n. length waiting.items < n) rings.places few) le)
 
   -- the rings after one more access with its bytes
   pub rings_after_write : AreRings now then

@@ -3,6 +3,7 @@ use Rattle.std.specs.Prelude.{◌≡◌, ℕ, ◌+◌, ◌*◌, ◌≤◌, List,
 use Rattle.iom_base.specs.declared.access.AcceptedAccess.{AcceptedAccess}
 use Rattle.iom_base.specs.declared.access.AccessKind.{AccessKind}
 use Rattle.iom_base.specs.declared.access.AccessKind.TheVariants.{Read, Write}
+use Rattle.iom_base.specs.Sizes.{page_size, in_flight_limit}
 use Rattle.circular_buffer.specs.Buffer.{Buffer}
 use Rattle.iom_inflight.specs.declared.in_flight.AccessHeader.{AccessHeader}
 
@@ -29,11 +30,11 @@ bytes_kept (a ∷ later) = kept_bytes a.kind a.len + bytes_kept later
 -- no access keeps more bytes than a page has
 abbrev pub AreShort : List AccessHeader → Type 0
 AreShort [] = Unit {0}
-AreShort (a ∷ later) = (kept_bytes a.kind a.len ≤ 4096) × AreShort later
+AreShort (a ∷ later) = (kept_bytes a.kind a.len ≤ page_size) × AreShort later
 
 -- the rings have their room, and the bytes are those of the writes
 pub record AreRings (waiting : Buffer AccessHeader) (bytes : Buffer ℕ) : Type 0 where
-  pub eight : waiting.capacity ≡ 8
-  pub room : bytes.capacity ≡ 8 * 4096
+  pub places : waiting.capacity ≡ in_flight_limit
+  pub room : bytes.capacity ≡ in_flight_limit * page_size
   pub short : AreShort waiting.items
   pub all_kept : length bytes.items ≡ bytes_kept waiting.items

@@ -1,14 +1,12 @@
 ghost use Rattle.std.specs.Prelude.{◌≡◌, ◌↔◌, ◌<◌, ◌≤◌, [], ◌∷◌, ◌++◌, length, drop, IfOk, Some, None, slice_get, option_map, OnSome, IsSome, IfNone};
 ghost use Rattle.iom_base.specs.Accesses.{read_of, write_of};
+ghost use Rattle.iom_base.specs.Sizes.{page_size, in_flight_limit};
 ghost use Rattle.iom_inflight.specs.Oldest.{header_of, OldestIsRead, OldestWrites};
 
 use circular_buffer::HeapCircularBuffer;
-use iom_base::{AccessKind, FRAME_SIZE};
+use iom_base::{AccessKind, FRAME_SIZE, MAX_IN_FLIGHT};
 use std::alloc::{AllocError, Global};
 use std::marker::Model;
-
-/// How many accesses of one device may be in flight.
-pub const MAX_IN_FLIGHT: usize = 8;
 
 /// What [`InFlight::oldest`] tells of an [`AcceptedAccess`](iom_base::AcceptedAccess): all of it but the
 /// bytes of a write, so that it is small and can be copied.
@@ -57,7 +55,7 @@ impl InFlight {
     /// How many are in flight.
     pub fn count(&self) -> usize
         ensures count { result ≡ length self.now }
-        ensures few { result ≤ 8 }
+        ensures few { result ≤ in_flight_limit }
     {
         self.waiting.len()
     }
@@ -73,7 +71,7 @@ impl InFlight {
     /// Accepts a read of so many bytes at the address, on the frame: it goes last. None exactly where eight
     /// are in flight, and then nothing changes. Takes no memory.
     pub fn accept_read(&mut self, address: u64, len: u16, frame: u32) -> Option<()>
-        ensures room { IsSome result ↔ (length self.old < 8) }
+        ensures room { IsSome result ↔ (length self.old < in_flight_limit) }
         ensures accepted { OnSome result (self.new ≡ self.old ++ record { access = read_of address len; frame = frame } ∷ []) }
         ensures refused { IfNone result (self.new ≡ self.old) }
     {
@@ -89,8 +87,8 @@ impl InFlight {
     /// Accepts a write of the bytes at the address, on the frame: it goes last, with its bytes. None exactly
     /// where eight are in flight, and then nothing changes. Takes no memory.
     pub fn accept_write(&mut self, address: u64, bytes: &[u8], frame: u32) -> Option<()>
-        requires { length bytes.now ≤ 4096 }
-        ensures room { IsSome result ↔ (length self.old < 8) }
+        requires { length bytes.now ≤ page_size }
+        ensures room { IsSome result ↔ (length self.old < in_flight_limit) }
         ensures accepted { OnSome result (self.new ≡ self.old ++ record { access = write_of address bytes.now; frame = frame } ∷ []) }
         ensures refused { IfNone result (self.new ≡ self.old) }
     {

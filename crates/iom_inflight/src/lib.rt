@@ -10,4 +10,4 @@
 
 mod in_flight;
 
-pub use in_flight::{AccessHeader, InFlight, MAX_IN_FLIGHT};
+pub use in_flight::{AccessHeader, InFlight};

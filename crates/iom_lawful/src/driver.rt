@@ -1,9 +1,11 @@
 // What the lines don't show, by the rule of the driver: a table takes the highest free frame.
 
-ghost use Rattle.std.specs.Prelude.{◌<◌};
+ghost use Rattle.std.specs.Prelude.{◌≡◌, ◌↔◌, ◌^◌, ◌<◌, ◌≤◌, ℕ, List, length, IsTrue, IfOk, MatchOption};
+ghost use Rattle.iom_lawful.specs.declared.reaches.Reach.{Reach};
+ghost use Rattle.iom_lawful.specs.Tables.{is_reached_by, IsFreeForTable, NoneIsFree, IsHighestFree, AreHighestFree, named_by, WantsTables};
 
+use crate::reaches::{Reach, frame_at, reaches_of};
 use iom_base::{DeviceId, Sequence};
-use iom_ledger::HistoryEntry;
 use iom_machine::{Choice, Event, Outcome, State};
 use std::alloc::{AllocError, Global};
 
@@ -28,88 +30,62 @@ impl Table {
     }
 }
 
-/// A frame that a device holds at a page, or released there under a ticket that isn't confirmed.
-#[derive(Clone, Copy, PartialEq, Eq, Debug)]
-struct Reach {
-    device: DeviceId,
-    page: u64,
-    frame: u32,
-    ticket: Option<u32>,
+/// Whether a device reaches the frame.
+fn is_reached(reaches: &[Reach], number: u32) -> bool
+    ensures { result ≡ is_reached_by reaches.now number }
+{
+    reaches.iter().any(|reach| reach.frame == number)
 }
 
-/// What the device holds at the page, or all that it holds, is now released under the ticket.
-fn release(reaches: &mut [Reach], device: DeviceId, page: Option<u64>, ticket: u32) {
-    for reach in reaches {
-        let is_named = page.is_none() || page == Some(reach.page);
-        if reach.device == device && is_named && reach.ticket.is_none() {
-            reach.ticket = Some(ticket);
+/// Whether the frame may become a table: it is nobody's, no device reaches it, and it isn't the named one.
+fn is_free_for_table(state: &State, reaches: &[Reach], named: Option<u64>, number: u32) -> bool
+    ensures { IsTrue result ↔ IsFreeForTable state.now reaches.now named number }
+{
+    let Some(frame) = state.frames.as_slice().get(number as usize) else {
+        return false;
+    };
+    if frame.owner.is_some() {
+        return false;
+    }
+    if named == Some(u64::from(number)) {
+        return false;
+    }
+    !is_reached(reaches, number)
+}
+
+/// The highest frame below the limit that may become a table.
+fn highest_free(state: &State, reaches: &[Reach], named: Option<u64>, limit: usize) -> Option<u32>
+    requires { limit ≤ 2 ^ 32 }
+    ensures { MatchOption result (NoneIsFree state.now reaches.now named 0 limit) (IsHighestFree state.now reaches.now named limit) }
+{
+    for above in 0..limit {
+        let number = (limit - 1 - above) as u32;
+        if is_free_for_table(state, reaches, named, number) {
+            return Some(number);
         }
     }
+    None
 }
 
-/// The entry happens.
-fn enter(reaches: &mut Vec<Reach>, entry: &HistoryEntry) -> Result<(), AllocError> {
-    match *entry {
-        HistoryEntry::Granted {
-            device,
-            page,
-            frame,
-            ..
-        } => reaches.push(Reach {
-            device,
-            page,
-            frame,
-            ticket: None,
-        })?,
-        HistoryEntry::Released {
-            device,
-            page,
-            ticket,
-        } => release(reaches, device, Some(page), ticket),
-        HistoryEntry::AllReleased { device, ticket } => release(reaches, device, None, ticket),
-        HistoryEntry::Confirmed { ticket } => reaches.retain(|reach| reach.ticket != Some(ticket)),
-    }
-    Ok(())
-}
-
-/// What the devices reach by the history, which has its newest entry first.
-fn reaches_of(alloc: Global, history: &[HistoryEntry]) -> Result<Vec<Reach>, AllocError> {
-    let mut reaches = Vec::new(alloc);
-    for entry in history.iter().rev() {
-        enter(&mut reaches, entry)?;
-    }
-    Ok(reaches)
-}
-
-/// The frame that the device holds at the page, else the one that lingers there.
-fn frame_at(reaches: &[Reach], device: DeviceId, page: u64) -> Option<u32> {
-    let at_page = |reach: &&Reach| reach.device == device && reach.page == page;
-    let held = reaches
-        .iter()
-        .filter(at_page)
-        .find(|reach| reach.ticket.is_none());
-    let lingering = reaches.iter().find(at_page);
-    held.or(lingering).map(|reach| reach.frame)
-}
-
-/// The highest free frames, so many or fewer, the named one passed over.
-fn highest_free(
+/// The highest frames that may become tables, so many, or as many as there are.
+fn highest_frees(
     alloc: Global,
     state: &State,
     reaches: &[Reach],
     named: Option<u64>,
     count: usize,
-) -> Result<Sequence<u32>, AllocError> {
+) -> Result<Sequence<u32>, AllocError>
+    requires { length state.now.frames ≤ 2 ^ 32 }
+    ensures { IfOk result (AreHighestFree state.now reaches.now named (length state.now.frames) count) }
+{
     let mut taken = Sequence::new(alloc);
-    for (number, frame) in state.frames.as_slice().iter().enumerate().rev() {
-        let Ok(number) = u32::try_from(number) else {
-            continue;
+    let mut limit = state.frames.as_slice().len();
+    for _counted in 0..count {
+        let Some(frame) = highest_free(state, reaches, named, limit) else {
+            return Ok(taken);
         };
-        let is_reached = reaches.iter().any(|reach| reach.frame == number);
-        let is_named = named == Some(u64::from(number));
-        if taken.as_slice().len() < count && frame.owner.is_none() && !is_reached && !is_named {
-            taken.push(number)?;
-        }
+        taken.push(frame)?;
+        limit = frame as usize;
     }
     Ok(taken)
 }
@@ -137,7 +113,9 @@ impl Driver {
     }
 
     /// How many tables the page of the device lacked; it lacks none now.
-    fn add_tables(&mut self, device: DeviceId, page: u64) -> Result<usize, AllocError> {
+    fn add_tables(&mut self, device: DeviceId, page: u64) -> Result<usize, AllocError>
+        ensures { IfOk result (λ count. count ≤ 2) }
+    {
         let upper = self.adds(Table::of(device, page, 18))?;
         let lower = self.adds(Table::of(device, page, 9))?;
         Ok(usize::from(upper) + usize::from(lower))
@@ -148,7 +126,10 @@ impl Driver {
         &mut self,
         event: &Event,
         outcome: &Outcome,
-    ) -> Result<(usize, Option<u64>), AllocError> {
+    ) -> Result<(usize, Option<u64>), AllocError>
+        ensures count { IfOk result (λ wanted. WantsTables event.now outcome.now wanted.0) }
+        ensures named { IfOk result (λ wanted. wanted.1 ≡ named_by event.now outcome.now) }
+    {
         match (event, outcome) {
             (Event::Attach { .. }, Outcome::Done) => Ok((1, None)),
             (
@@ -171,10 +152,14 @@ impl Driver {
         state: &State,
         event: &Event,
         outcome: &Outcome,
-    ) -> Result<Choice, AllocError> {
+    ) -> Result<Choice, AllocError>
+        requires { length state.now.frames ≤ 2 ^ 32 }
+        ensures taken { IfOk result (λ choice. (reaches : List Reach) × (count : ℕ) × WantsTables event.now outcome.now count
+            × AreHighestFree state.now reaches (named_by event.now outcome.now) (length state.now.frames) count choice.taken) }
+    {
         let reaches = reaches_of(alloc, state.history.as_slice())?;
         let (count, named) = self.tables_wanted(event, outcome)?;
-        let taken = highest_free(alloc, state, &reaches, named, count)?;
+        let taken = highest_frees(alloc, state, &reaches, named, count)?;
         let frame = match event {
             Event::Read {
                 device,

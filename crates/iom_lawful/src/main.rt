@@ -11,6 +11,7 @@ mod driver;
 mod index;
 mod judging;
 mod outcomes;
+mod reaches;
 #[cfg(test)]
 mod tests;
 

@@ -1,4 +1,5 @@
 -- How many rows name each frame.
+-- For the facts that a ledger carries, and the calls inside this crate; no public contract cites these.
 use Rattle.std.specs.Prelude.{◌≡◌, ℕ, ◌-◌, ◌+◌, ◌^◌, ◌<◌, ◌≤◌, Bool, true, false, ◌==◌, ◌&&◌, List, [], ◌∷◌, length, ⊤, Option, None, Some, slice_index, if◌then◌else◌}
 use Rattle.std.specs.List.{list_any}
 use Rattle.iom_frame_set.specs.Sets.{Words, has, room}

@@ -1,4 +1,5 @@
 -- How the rows of a ledger change.
+-- For the calls inside this crate alone; no public contract cites these.
 use Rattle.std.specs.Prelude.{◌≡◌, ℕ, true, ◌==◌, ◌&&◌, Option, None, Some, nat_eq, if◌then◌else◌}
 use Rattle.std.specs.Option.{option_map}
 use Rattle.indexmap.specs.IndexMap.{get}

@@ -1,5 +1,6 @@
 -- The state at power-on.
 use Rattle.std.specs.Prelude.{ℕ, ◌-◌, [], ◌∷◌, None, replicate}
+use Rattle.iom_base.specs.Sizes.{page_size}
 use Rattle.iom_base.specs.declared.owner.Owner.TheVariants.{System}
 use Rattle.iom_machine.specs.declared.state.Frame.{Frame}
 use Rattle.iom_machine.specs.declared.state.State.{State}
@@ -7,7 +8,7 @@ use Rattle.iom_machine.specs.Frames.{reserved_for}
 
 -- a frame of zeros that belongs to nobody
 abbrev pub empty_frame : Frame
-empty_frame = record { owner = None; bytes = replicate 4096 0 }
+empty_frame = record { owner = None; bytes = replicate page_size 0 }
 
 -- Power-on, with so many frames and levels of the device directory: nothing is granted or plugged in, all bytes are zero, and the last four frames are
 -- the system's.

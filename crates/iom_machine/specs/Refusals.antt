@@ -1,10 +1,12 @@
 -- Why a call of the driver is refused: the first reason that applies, in the order of its list.
 use Rattle.std.specs.Prelude.{◌≡◌, ℕ, ◌^◌, Bool, true, false, not, ◌==◌, ◌&&◌, ◌||◌, nat_le, List, [], ◌∷◌, length, Option, None, Some, is_some, MatchOption, if◌then◌else◌, ⊤}
 use Rattle.std.specs.Option.{option_map_or}
+use Rattle.iom_base.specs.Sizes.{page_limit, device_limit}
 use Rattle.iom_ledger.specs.declared.refusal.Refusal.{Refusal}
 use Rattle.iom_ledger.specs.declared.refusal.Refusal.TheVariants.{NoSuchDevice, AlreadyAttached, NotAttached, NotTrusted, FrameOutOfRange, FrameReserved, IovaOutOfRange, IovaBusy, NotGranted, NoFrames, QueueFull, TooManyPending, NumbersUsedUp, Memory, IdTooWide, TooManyDevices, AlreadyPlugged}
 use Rattle.iom_ledger.specs.declared.refusal.Refusal.TheVariants as refusal
 use Rattle.iom_ledger.specs.History.{held_at, lingering_at}
+use Rattle.iom_ledger.specs.Pending.{pending_limit}
 use Rattle.iom_machine.specs.declared.state.DeviceKind.{DeviceKind}
 use Rattle.iom_machine.specs.declared.state.DeviceKind.TheVariants.{Raw, Ats, Block, CachedBlock}
 use Rattle.iom_machine.specs.declared.state.Mode.{Mode}
@@ -83,7 +85,7 @@ is_lingering state id page = not (length (lingering_at state.history id page) ==
 abbrev pub plug_reasons : State → ℕ → List (Bool × Refusal)
 plug_reasons state id =
     (is_plugged state id, AlreadyPlugged)
-    ∷ (nat_le 16 (length state.devices), TooManyDevices)
+    ∷ (nat_le device_limit (length state.devices), TooManyDevices)
     ∷ []
 
 -- a device is attached, with ATS or without
@@ -108,7 +110,7 @@ abbrev pub grant_reasons : State → ℕ → ℕ → ℕ → List (Bool × Refus
 grant_reasons state id page frame = attachment_reasons state id (
     (nat_le (length state.frames) frame, FrameOutOfRange)
     ∷ (is_reserved state.frames frame, FrameReserved)
-    ∷ (nat_le (2 ^ 26) page, IovaOutOfRange)
+    ∷ (nat_le page_limit page, IovaOutOfRange)
     ∷ (is_held state id page || is_lingering state id page, IovaBusy)
     ∷ [])
 
@@ -116,7 +118,7 @@ grant_reasons state id page frame = attachment_reasons state id (
 abbrev pub release_reasons : State → ℕ → ℕ → List (Bool × Refusal)
 release_reasons state id page = attachment_reasons state id (
     (not (is_held state id page), NotGranted)
-    ∷ (nat_le 256 (pending_tickets state), TooManyPending)
+    ∷ (nat_le pending_limit (pending_tickets state), TooManyPending)
     ∷ [])
 
 -- What follows comes after the reasons: a call is refused so only where none of them applies. Where two of these may come, either may.

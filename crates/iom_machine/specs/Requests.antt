@@ -7,6 +7,7 @@ use Rattle.iom_base.specs.declared.rights.Rights.{Rights}
 use Rattle.iom_base.specs.Causes.{page_fault_of, guest_page_fault_of}
 use Rattle.iom_base.specs.Rights.{allows}
 use Rattle.iom_base.specs.Accesses.{page_of, IsWithinPage}
+use Rattle.iom_base.specs.Sizes.{in_flight_limit}
 use Rattle.iom_base.specs.Spans.{FitsInPage}
 use Rattle.iom_ledger.specs.History.{History, Holds, Lingers, May, confirms}
 use Rattle.iom_machine.specs.declared.outcome.Outcome.{Outcome}
@@ -23,7 +24,7 @@ use Rattle.iom_machine.specs.Refusals.{is_too_wide}
 
 -- a device with these accesses in flight may have no more
 abbrev pub IsBusy : {X : Type 0} → List X → Type 0
-IsBusy in_flight = 8 ≤ length in_flight
+IsBusy in_flight = in_flight_limit ≤ length in_flight
 
 -- the device holds the frame where the access is to, with a right that allows it
 abbrev pub HoldsFor : History → ℕ → Access → ℕ → Type 0

@@ -3,14 +3,14 @@ ghost use Rattle.iom_machine.specs.PowerOn.{opening, empty_frame};
 
 use crate::decide::frames::reserve;
 use crate::state::{Frame, State};
-use iom_base::{Owner, Sequence};
+use iom_base::{FRAME_SIZE, Owner, Sequence};
 use std::alloc::{AllocError, Global};
 
 /// A frame of zeros that belongs to nobody.
 fn new_frame(alloc: Global) -> Result<Frame, AllocError>
     ensures { IfOk result (λ frame. frame ≡ empty_frame) }
 {
-    let items = vec![in alloc; 0u8; 4096]?;
+    let items = vec![in alloc; 0u8; FRAME_SIZE]?;
     Ok(Frame {
         owner: None,
         bytes: Sequence::from_vec(items),

@@ -1,4 +1,5 @@
 -- What a fault says of the bytes that were to be a script.
+-- For the calls inside this crate alone; no public contract cites these.
 use Rattle.std.specs.Prelude.{ℕ, List, ⊤}
 use Rattle.iom_runner.specs.declared.faults.RunFault.{RunFault}
 use Rattle.iom_runner.specs.declared.faults.RunFault.TheVariants.{Reading, Writing, Memory, Script}

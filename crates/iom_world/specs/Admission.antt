@@ -3,6 +3,7 @@ use Rattle.std.specs.Prelude.{◌≡◌, ◌≢◌, ℕ, ◌^◌, ◌<◌, false
 use Rattle.iom_ledger.specs.declared.ledger.Ledger.{Ledger}
 use Rattle.iom_ledger.specs.Shown.{held_in, lingering_in}
 use Rattle.iom_machine.specs.Frames.{FewerThan}
+use Rattle.iom_base.specs.Sizes.{page_limit}
 use Rattle.iom_base.specs.GrantRights.{rights_of}
 use Rattle.iom_base.specs.declared.grant_rights.GrantRights.{GrantRights}
 use Rattle.iom_page_table.specs.Sv39.{missing_for, mapped}
@@ -20,7 +21,7 @@ pub record MayBeGranted (memory : List (List ℕ)) (marks : List (Option Owner))
   pub inside : frame < length memory
   pub small : frame < 2 ^ 32
   pub unreserved : is_marked marks frame ≡ false
-  pub page_low : page < 2 ^ 26
+  pub page_low : page < page_limit
   pub not_held : held_in ledger id page ≡ None
   pub not_lingering : lingering_in ledger id page ≡ None
 

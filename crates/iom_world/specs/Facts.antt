@@ -1,8 +1,11 @@
 -- What stays true between the parts of a world, whatever happens: facts over values, without the bytes of tables.
+-- For the facts that a world carries alone; no public contract cites these.
 use Rattle.std.specs.Prelude.{◌≡◌, ℕ, zero, suc, ◌+◌, ◌/◌, ◌^◌, ◌<◌, ◌≤◌, nat_lt, Bool, true, false, ◌&&◌, ◌||◌, List, [], ◌∷◌, Option, None, Some, slice_get}
 use Rattle.std.specs.Option.{option_map_or}
 use Rattle.iom_base.specs.declared.access.AccessKind.{AccessKind}
 use Rattle.iom_base.specs.declared.rights.Rights.{Rights}
+use Rattle.iom_base.specs.Accesses.{page_of}
+use Rattle.iom_base.specs.Sizes.{page_limit}
 use Rattle.iom_base.specs.Spans.{FitsInPage}
 use Rattle.iom_ledger.specs.declared.ledger.Ledger.{Ledger}
 use Rattle.iom_ledger.specs.History.{Pair, serves}
@@ -14,7 +17,7 @@ use Rattle.iom_world.specs.Places.{IsAbsent}
 
 -- a pair that is granted at a page: the page is one that tables map, and the frame is of the memory and isn't reserved
 pub record IsGrant (marks : List (Option Owner)) (page frame : ℕ) : Type 0 where
-  pub page_low : page < 2 ^ 26
+  pub page_low : page < page_limit
   pub unreserved : slice_get marks frame ≡ Some None
 
 -- what is held or lingers is so
@@ -28,8 +31,8 @@ serves_still completed frame kind released = nat_lt completed released.0 && serv
 
 -- the page of an access in flight is held on its frame, or was released so under a ticket whose fence isn't done
 pub record IsCovered (ledger : Ledger) (completed device : ℕ) (flight : AcceptedAccess) : Type 0 where
-  pub covered : (option_map_or (serves flight.frame flight.access.kind) (held_in ledger device (flight.access.address / 4096)) false
-      || option_map_or (serves_still completed flight.frame flight.access.kind) (released_in ledger device (flight.access.address / 4096)) false) ≡ true
+  pub covered : (option_map_or (serves flight.frame flight.access.kind) (held_in ledger device (page_of flight.access)) false
+      || option_map_or (serves_still completed flight.frame flight.access.kind) (released_in ledger device (page_of flight.access)) false) ≡ true
   pub within : FitsInPage flight.access.address flight.access.len
 
 -- each access in flight is covered

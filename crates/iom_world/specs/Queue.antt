@@ -16,6 +16,10 @@ pub record Queue : Type 0 where
   pub given : ℕ
   pub confirmed : ℕ
 
+-- how many commands may wait: one less than the entries of a command queue of 256
+abbrev pub waiting_limit : ℕ
+waiting_limit = 255
+
 -- at power-on
 abbrev pub no_commands : Queue
 no_commands = record { waiting = []; completed = 0; given = 0; confirmed = 0 }

@@ -6,6 +6,7 @@ use Rattle.iom_base.specs.declared.cause.Cause.{Cause}
 use Rattle.iom_base.specs.declared.cause.Cause.TheVariants.{DirectoryEntryNotValid, TransactionTypeDisallowed}
 use Rattle.iom_base.specs.Causes.{page_fault_of}
 use Rattle.iom_base.specs.Spans.{FitsInPage}
+use Rattle.iom_base.specs.Sizes.{page_size}
 use Rattle.iom_ledger.specs.declared.ledger.Ledger.{Ledger}
 use Rattle.iom_machine.specs.Refusals.{id_limit}
 use Rattle.iom_machine.specs.Requests.{IsBusy, IsForwarded}
@@ -21,12 +22,12 @@ detached_cause levels id = if nat_le (id_limit levels) id then TransactionTypeDi
 -- the access is translated to the frame: the device has tables, and holds the frame there
 abbrev pub IsTranslated : Option ℕ → Ledger → ℕ → ℕ → AccessKind → ℕ → Type 0
 IsTranslated None ledger id address kind frame = ⊥
-IsTranslated (Some root) ledger id address kind frame = IsHeldFor ledger id (address / 4096) kind frame
+IsTranslated (Some root) ledger id address kind frame = IsHeldFor ledger id (address / page_size) kind frame
 
 -- the access isn't translated, for this cause
 abbrev pub IsFaulty : Option ℕ → Ledger → ℕ → ℕ → ℕ → AccessKind → Cause → Type 0
 IsFaulty None ledger levels id address kind cause = cause ≡ detached_cause levels id
-IsFaulty (Some root) ledger levels id address kind cause = (cause ≡ page_fault_of kind) × NoneIsHeldFor ledger id (address / 4096) kind
+IsFaulty (Some root) ledger levels id address kind cause = (cause ≡ page_fault_of kind) × NoneIsHeldFor ledger id (address / page_size) kind
 
 -- what the device's request is answered: the first of a bad span, eight in flight, and what becomes of it at the IOMMU
 abbrev pub IsReply : Ledger → ℕ → Device → ℕ → ℕ → AccessKind → Reply → Type 0

@@ -1,5 +1,7 @@
 -- What holds between the parts of a world, whatever events came.
+-- For the facts that a world carries alone; no public contract cites this.
 use Rattle.std.specs.Prelude.{◌≡◌, ℕ, ◌-◌, ◌≤◌, List, length, Option}
+use Rattle.iom_base.specs.Sizes.{device_limit}
 use Rattle.iom_ledger.specs.declared.ledger.Ledger.{Ledger}
 use Rattle.iom_ledger.specs.Shown.{pending_in}
 use Rattle.iom_base.specs.declared.owner.Owner.{Owner}
@@ -14,4 +16,4 @@ pub record IsSound (memory : List (List ℕ)) (marks : List (Option Owner)) (led
   pub own_ids : HaveOwnIds devices
   pub holders : HoldersArePlugged ledger devices
   pub pending : pending_in ledger ≡ tickets_after queue.confirmed (queue.given - queue.confirmed)
-  pub few : length devices ≤ 16
+  pub few : length devices ≤ device_limit

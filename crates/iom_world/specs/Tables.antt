@@ -1,4 +1,5 @@
 -- The page tables of an attached device.
+-- For the facts that a world carries alone; no public contract cites these.
 use Rattle.std.specs.Prelude.{◌≡◌, ℕ, ◌^◌, ◌<◌, List, Option, Some, option_map, slice_get}
 use Rattle.iom_ledger.specs.declared.ledger.Ledger.{Ledger}
 use Rattle.iom_ledger.specs.History.{Pair}

@@ -1,4 +1,5 @@
 -- That tables are as they are is a fact: it has one proof at most.
+-- For the facts that a world carries alone; no public contract cites these.
 use Rattle.std.specs.Prelude.{ℕ, List, Option}
 use Rattle.std.specs.Coded.{Unit-prop}
 use Rattle.std.proofs.Props.{props}

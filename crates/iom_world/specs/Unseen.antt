@@ -6,6 +6,7 @@ use Rattle.iom_base.specs.declared.access.AccessKind.TheVariants.{Read, Write}
 use Rattle.iom_base.specs.declared.grant_rights.GrantRights.{GrantRights}
 use Rattle.iom_base.specs.declared.owner.Owner.{Owner}
 use Rattle.iom_base.specs.declared.owner.Owner.TheVariants.{OneDevice}
+use Rattle.iom_base.specs.Sizes.{page_size}
 use Rattle.iom_ledger.specs.Changes.{IsUnchanged}
 use Rattle.iom_ledger.specs.declared.ledger.Ledger.{Ledger}
 use Rattle.iom_ledger.specs.declared.refusal.Refusal.{Refusal}
@@ -21,15 +22,15 @@ use Rattle.iom_world.specs.declared.world.World.{World}
 use Rattle.iom_world.specs.Admission.{TakesRoot, LacksTables, TakesTables}
 use Rattle.iom_world.specs.Held.{IsHeldFor}
 use Rattle.iom_world.specs.Parts.{Parts}
-use Rattle.iom_world.specs.Queue.{Queue, with_release, AfterFetch, polled_from}
+use Rattle.iom_world.specs.Queue.{Queue, waiting_limit, with_release, AfterFetch, polled_from}
 use Rattle.iom_world.specs.Roots.{IsRootOf}
 
 -- a release that is answered so: its ticket is the next, and its commands are appended; a full queue is told only where there is no room for them,
 -- used-up numbers only where there is room and no number; and a refusal leaves the commands
 pub record AfterRelease (old : Queue) (told : Outcome) (new : Queue) : Type 0 where
   pub ticket : (ticket : ℕ) → told ≡ outcome.Ticket ticket → (ticket ≡ old.given + 1) × (new ≡ with_release old)
-  pub full : told ≡ outcome.Refused QueueFull → 255 < length old.waiting + 2
-  pub used_up : told ≡ outcome.Refused NumbersUsedUp → (length old.waiting + 2 ≤ 255) × (4294967295 ≤ old.given)
+  pub full : told ≡ outcome.Refused QueueFull → waiting_limit < length old.waiting + 2
+  pub used_up : told ≡ outcome.Refused NumbersUsedUp → (length old.waiting + 2 ≤ waiting_limit) × (4294967295 ≤ old.given)
   pub refused : (why : Refusal) → told ≡ outcome.Refused why → new ≡ old
 
 -- a fetch takes the first command, a poll tells all tickets whose fences are done, a release appends its commands, and nothing else changes the commands
@@ -99,7 +100,7 @@ TakesFrames (events.Write device address bytes) old told new = KeepsMemory old n
 -- an access that is accepted is to a page that its device holds, with a right that allows it: what only lingers gets no new access
 abbrev pub AcceptsHeld : Ledger → ℕ → ℕ → AccessKind → Outcome → Type 0
 AcceptsHeld old id address kind told =
-    (number : ℕ) → told ≡ outcome.Accepted number → (frame : ℕ) × IsHeldFor old id (address / 4096) kind frame
+    (number : ℕ) → told ≡ outcome.Accepted number → (frame : ℕ) × IsHeldFor old id (address / page_size) kind frame
 
 -- a read and a write are accepted only to what is held
 abbrev pub AnswersRequest : Event → Ledger → Outcome → Type 0

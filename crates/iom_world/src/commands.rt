@@ -1,7 +1,8 @@
 //! The commands that the driver has given and the IOMMU hasn't done, and the tickets, each pending until
 //! its fence is done.
 ghost use Rattle.std.specs.Prelude.{◌≡◌, ℕ, ◌+◌, ◌-◌, ◌<◌, ◌≤◌, ◌^◌, ◌↔◌, [], ◌∷◌, ◌++◌, length, IfOk, IsTrue, true, false, Some, None, drop};
-ghost use Rattle.iom_world.specs.Queue.{Queue, no_commands, with_release, AfterFetch, polled};
+ghost use Rattle.iom_ledger.specs.Pending.{pending_limit};
+ghost use Rattle.iom_world.specs.Queue.{Queue, waiting_limit, no_commands, with_release, AfterFetch, polled};
 
 use circular_buffer::HeapCircularBuffer;
 use iom_ledger::MAX_PENDING;
@@ -62,14 +63,14 @@ impl Commands {
 
     /// Whether as many tickets are pending as may be.
     pub(crate) fn are_all_pending(&self) -> bool
-        ensures { IsTrue result ↔ (256 ≤ self.now.given - self.now.confirmed) }
+        ensures { IsTrue result ↔ (pending_limit ≤ self.now.given - self.now.confirmed) }
     {
         self.given - self.confirmed >= MAX_PENDING as u32
     }
 
     /// Whether there is no room for the two commands of a release.
     pub(crate) fn is_full(&self) -> bool
-        ensures { IsTrue result ↔ (255 < length self.now.waiting + 2) }
+        ensures { IsTrue result ↔ (waiting_limit < length self.now.waiting + 2) }
     {
         self.waiting.len() + 2 > MAX_COMMANDS
     }
@@ -83,7 +84,7 @@ impl Commands {
 
     /// Gives the next ticket, and appends the commands of a release: an invalidation, and the ticket's fence.
     pub(crate) fn release(&mut self) -> u32
-        requires room { length self.old.waiting + 2 ≤ 255 }
+        requires room { length self.old.waiting + 2 ≤ waiting_limit }
         requires number { self.old.given < 4294967295 }
         ensures ticket { result ≡ self.old.given + 1 }
         ensures not_done { self.old.completed < result }

@@ -18,7 +18,7 @@ ghost use Rattle.iom_world.specs.Unseen.{SameIfRefused, KeepsOwned};
 use crate::device::Device;
 use crate::told::{Told, tell_read};
 use crate::world::World;
-use iom_base::{AccessKind, DeviceId};
+use iom_base::{AccessKind, DeviceId, PAGE_SIZE};
 use iom_inflight::AccessHeader;
 use iom_ledger::Refusal;
 use iom_machine::Outcome;
@@ -57,7 +57,7 @@ impl World {
         ensures marks { self.new.marks ≡ self.old.marks }
         ensures events { self.new.events ≡ self.old.events }
     {
-        let offset = (access.address % 4096) as usize;
+        let offset = (access.address % PAGE_SIZE) as usize;
         let frame = self.memory.frame(access.frame).unwrap();
         let bytes = &frame[offset..offset + usize::from(access.len)];
         tell_read(bytes, told);
@@ -75,7 +75,7 @@ impl World {
         ensures kept { KeepsOwned (parts_of self.old) (parts_of self.new) }
         ensures events { self.new.events ≡ self.old.events }
     {
-        let offset = (access.address % 4096) as usize;
+        let offset = (access.address % PAGE_SIZE) as usize;
         let frame = self.memory.frame_mut(access.frame).unwrap();
         self.devices[place].take_write(frame, offset, usize::from(access.len));
         Told::Wrote(u64::from(access.len))

@@ -14,7 +14,7 @@ ghost use Rattle.iom_world.specs.Told.{outcome_of};
 ghost use Rattle.iom_world.specs.declared.told.Told.TheVariants as says;
 ghost use Rattle.iom_world.specs.Admission.{TakesRoot, LacksTables, TakesTables, MayBeGranted, AreChosen, TooFewAreFree, marked_for, cleared};
 ghost use Rattle.iom_world.specs.Parts.{parts_of};
-ghost use Rattle.iom_world.specs.Queue.{with_release};
+ghost use Rattle.iom_world.specs.Queue.{waiting_limit, with_release};
 ghost use Rattle.iom_world.specs.Roots.{IsRootOf, KeepsRoot};
 ghost use Rattle.iom_world.specs.Shows.{Shows};
 ghost use Rattle.iom_world.specs.Unseen.{SameIfRefused, KeepsForeignFrames};
@@ -172,8 +172,8 @@ impl World {
     /// release and its ticket wait.
     pub(crate) fn release(&mut self, id: DeviceId, page: u64) -> Told
         ensures step { (state : State) → Shows self.old state → (next : State) × Releases state id page (outcome_of result) next × Shows self.new next }
-        ensures full { outcome_of result ≡ outcome.Refused QueueFull → 255 < length self.old.commands.waiting + 2 }
-        ensures used_up { outcome_of result ≡ outcome.Refused NumbersUsedUp → (length self.old.commands.waiting + 2 ≤ 255)
+        ensures full { outcome_of result ≡ outcome.Refused QueueFull → waiting_limit < length self.old.commands.waiting + 2 }
+        ensures used_up { outcome_of result ≡ outcome.Refused NumbersUsedUp → (length self.old.commands.waiting + 2 ≤ waiting_limit)
             × (4294967295 ≤ self.old.commands.given) }
         ensures ticket { (ticket : ℕ) → outcome_of result ≡ outcome.Ticket ticket → (ticket ≡ self.old.commands.given + 1)
             × (self.new.commands ≡ with_release self.old.commands) }

@@ -11,13 +11,10 @@ ghost use Rattle.iom_world.specs.Unseen.{SameIfRefused};
 use crate::device::Device;
 use crate::told::Told;
 use crate::world::World;
-use iom_base::DeviceId;
+use iom_base::{DeviceId, MAX_DEVICES};
 use iom_inflight::InFlight;
 use iom_ledger::Refusal;
 use iom_machine::DeviceKind;
-
-/// How many devices may be plugged in.
-const MAX_DEVICES: usize = 16;
 
 impl World {
     /// Where the device with this id is.

@@ -4,6 +4,7 @@ ghost use Rattle.iom_base.specs.declared.access.AccessKind.TheVariants.{Read, Wr
 ghost use Rattle.iom_machine.specs.declared.state.State.{State};
 ghost use Rattle.iom_machine.specs.Machine.{Requests};
 ghost use Rattle.iom_base.specs.Accesses.{read_of, write_of};
+ghost use Rattle.iom_base.specs.Sizes.{page_size, in_flight_limit};
 ghost use Rattle.iom_world.specs.declared.device.Device.{Device};
 ghost use Rattle.iom_world.specs.Told.{outcome_of};
 ghost use Rattle.iom_world.specs.Places.{CountsBelow};
@@ -15,8 +16,7 @@ ghost use Rattle.iom_world.specs.Unseen.{SameIfRefused, AcceptsHeld};
 use crate::device::Device;
 use crate::told::Told;
 use crate::world::World;
-use iom_base::{AccessKind, Cause, DeviceId, Span};
-use iom_inflight::MAX_IN_FLIGHT;
+use iom_base::{AccessKind, Cause, DeviceId, MAX_IN_FLIGHT, Span};
 use iom_ledger::Refusal;
 
 /// What a plugged device's request is answered.
@@ -45,8 +45,8 @@ impl Device {
 
     /// A read of so many bytes at the address is accepted, on the frame: its number among the device's.
     fn accept_read(&mut self, address: u64, len: u16, frame: u32) -> u64
-        requires room { length self.old.in_flight < 8 }
-        requires len { len ≤ 4096 }
+        requires room { length self.old.in_flight < in_flight_limit }
+        requires len { len ≤ page_size }
         requires count { self.old.accepted + 1 < 2 ^ 64 }
         ensures number { result ≡ self.old.accepted + 1 }
         ensures after { self.new ≡ record self.old {
@@ -60,8 +60,8 @@ impl Device {
 
     /// A write of the bytes at the address is accepted, on the frame: its number among the device's.
     fn accept_write(&mut self, address: u64, bytes: &[u8], frame: u32) -> u64
-        requires room { length self.old.in_flight < 8 }
-        requires len { length bytes.now ≤ 4096 }
+        requires room { length self.old.in_flight < in_flight_limit }
+        requires len { length bytes.now ≤ page_size }
         requires count { self.old.accepted + 1 < 2 ^ 64 }
         ensures number { result ≡ self.old.accepted + 1 }
         ensures after { self.new ≡ record self.old {

@@ -10,13 +10,11 @@ ghost use Rattle.iom_world.specs.Start.{IsLevels};
 
 use crate::commands::Commands;
 use crate::world::World;
+use iom_base::MAX_DEVICES;
 use iom_ledger::Ledger;
 use iom_phys_mem::{MemError, Memory};
 use iom_table_frames::TableFrames;
 use std::alloc::{AllocError, Global};
-
-/// How many devices there is room for from the start.
-const ROOM: usize = 16;
 
 /// The most levels of a device directory.
 const MAX_LEVELS: u8 = 3;
@@ -33,7 +31,7 @@ impl World {
     {
         let ledger = Ledger::new(alloc, frames)?;
         let marks = TableFrames::new(alloc, frames)?;
-        let devices = Vec::with_capacity(alloc, ROOM)?;
+        let devices = Vec::with_capacity(alloc, MAX_DEVICES)?;
         let commands = Commands::new(alloc)?;
         Ok(World {
             memory,

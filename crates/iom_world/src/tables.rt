@@ -1,6 +1,7 @@
 // Translation through the tables of an attached device.
 ghost use Rattle.std.specs.Prelude.{◌≡◌, ℕ, ◌/◌, ◌<◌, ◌^◌, IfOk, IfErr, Some, slice_get};
 ghost use Rattle.iom_base.specs.Causes.{page_fault_of};
+ghost use Rattle.iom_base.specs.Sizes.{page_size};
 ghost use Rattle.iom_world.specs.declared.device.Device.{Device};
 ghost use Rattle.iom_world.specs.Places.{IsRootAt};
 ghost use Rattle.iom_world.specs.Held.{IsHeldFor, NoneIsHeldFor};
@@ -22,9 +23,9 @@ impl World {
     ) -> Result<u32, Cause>
         requires { IsRootAt self.now.devices.items place root }
         ensures held { (device : Device) → slice_get self.now.devices.items place ≡ Some device
-            → IfOk result (λ frame. IsHeldFor self.now.ledger device.id (address / 4096) kind frame) }
+            → IfOk result (λ frame. IsHeldFor self.now.ledger device.id (address / page_size) kind frame) }
         ensures not_held { (device : Device) → slice_get self.now.devices.items place ≡ Some device
-            → IfErr result (λ cause. (cause ≡ page_fault_of kind) × NoneIsHeldFor self.now.ledger device.id (address / 4096) kind) }
+            → IfErr result (λ cause. (cause ≡ page_fault_of kind) × NoneIsHeldFor self.now.ledger device.id (address / page_size) kind) }
     {
         walk_reaches_leaf();
         walk_faults_else();

@@ -1,5 +1,6 @@
 //! What the world's own calls tell.
 ghost use Rattle.std.specs.Prelude.{◌≡◌, ◌≤◌, length};
+ghost use Rattle.iom_base.specs.Sizes.{page_size};
 ghost use Rattle.iom_world.specs.Told.{outcome_of, TellsBytes};
 
 use arrayvec::ArrayVec;
@@ -80,7 +81,7 @@ impl Told {
 
 /// Makes the outcome in the place say that a read gave the bytes.
 pub(crate) fn tell_read(bytes: &[u8], place: &mut Outcome)
-    requires { length bytes.now ≤ 4096 }
+    requires { length bytes.now ≤ page_size }
     ensures { TellsBytes place.new bytes.now }
 {
     if let Outcome::Read(held) = place {

@@ -15,7 +15,7 @@ use crate::decide::history::may;
 use crate::decide::requests::answers_absent;
 use crate::outcome::Outcome;
 use crate::state::{Device, Frame, State};
-use iom_base::{AcceptedAccess, AccessKind, DeviceId, Sequence};
+use iom_base::{AcceptedAccess, AccessKind, DeviceId, PAGE_SIZE, Sequence};
 use std::alloc::{AllocError, Global};
 
 /// The first so many of the bytes, or all.
@@ -108,7 +108,7 @@ fn gives(state: &State, id: DeviceId, made: &AcceptedAccess, bytes: &[u8]) -> bo
     }
     let frame = frame_bytes(state.frames.as_slice(), made.frame);
     let named = first_bytes(
-        later_bytes(frame, made.access.address % 4096),
+        later_bytes(frame, made.access.address % PAGE_SIZE),
         made.access.len,
     );
     are_same(bytes, named)
@@ -183,7 +183,7 @@ fn write(alloc: Global, state: &mut State, place: usize) -> Result<(), AllocErro
         alloc,
         &mut state.frames,
         made.frame,
-        made.access.address % 4096,
+        made.access.address % PAGE_SIZE,
         made.access.bytes.as_slice(),
     )
 }

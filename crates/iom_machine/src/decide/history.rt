@@ -1,5 +1,5 @@
 // What a history says, read off it entry by entry.
-ghost use Rattle.std.specs.Prelude.{◌≡◌, ◌↔◌, IsTrue, ◌==◌, not, length, option_to_list};
+ghost use Rattle.std.specs.Prelude.{◌≡◌, ◌↔◌, IsTrue, ◌==◌, not, [], ◌∷◌, length, option_to_list, if◌then◌else◌};
 ghost use Rattle.std.specs.List.{list_any};
 ghost use Rattle.iom_ledger.specs.History.{is_about, granted_by, held_at, released_by, released_at, confirms, lingering_at, May, NoneMayReach, serves};
 ghost use Rattle.iom_machine.specs.Tickets.{last_confirmed};
@@ -49,20 +49,36 @@ pub(crate) fn pair_granted(entry: &HistoryEntry) -> Option<Pair>
     }
 }
 
+/// What the device holds at the page after the entry, where it held this until then.
+fn pair_after(entry: &HistoryEntry, held: Option<Pair>, device: DeviceId, page: u64) -> Option<Pair>
+    ensures { result ≡ (if is_about entry.now held device page then granted_by entry.now else held) }
+{
+    if entry_is_about(entry, &held, device, page) {
+        pair_granted(entry)
+    } else {
+        held
+    }
+}
+
 /// What the device holds at the page.
 pub(crate) fn pair_held(history: &[HistoryEntry], device: DeviceId, page: u64) -> Option<Pair>
     ensures { result ≡ held_at history.now device page }
 {
-    match history {
-        [] => None,
-        [entry, before @ ..] => {
-            let held = pair_held(before, device, page);
-            if entry_is_about(entry, &held, device, page) {
-                pair_granted(entry)
-            } else {
-                held
-            }
-        }
+    let mut held = None;
+    for passed in 0..history.len() {
+        let entry = &history[history.len() - 1 - passed];
+        held = pair_after(entry, held, device, page);
+    }
+    held
+}
+
+/// Whether the entry confirms the ticket.
+fn confirms_it(entry: &HistoryEntry, ticket: u32) -> bool
+    ensures { result ≡ confirms (entry.now ∷ []) ticket }
+{
+    match *entry {
+        HistoryEntry::Confirmed { ticket: own } => own == ticket,
+        _ => false,
     }
 }
 
@@ -70,23 +86,19 @@ pub(crate) fn pair_held(history: &[HistoryEntry], device: DeviceId, page: u64) -
 pub(crate) fn is_confirmed(history: &[HistoryEntry], ticket: u32) -> bool
     ensures { result ≡ confirms history.now ticket }
 {
-    match history {
-        [] => false,
-        [HistoryEntry::Confirmed { ticket: t }, before @ ..] => *t == ticket
-            || is_confirmed(before, ticket),
-        [_, before @ ..] => is_confirmed(before, ticket),
-    }
+    history.iter().any(|entry| confirms_it(entry, ticket))
 }
 
 /// The last ticket that is confirmed; 0 where none is.
 pub(crate) fn last_ticket_confirmed(history: &[HistoryEntry]) -> u32
     ensures { result ≡ last_confirmed history.now }
 {
-    match history {
-        [] => 0,
-        [HistoryEntry::Confirmed { ticket }, ..] => *ticket,
-        [_, before @ ..] => last_ticket_confirmed(before),
+    for entry in history {
+        if let HistoryEntry::Confirmed { ticket } = entry {
+            return *ticket;
+        }
     }
+    0
 }
 
 /// The ticket under which the entry releases what was held, with that pair.
@@ -138,6 +150,23 @@ pub(crate) fn still_serves(
     }
 }
 
+/// Whether the entry releases what was held at the page until then, and that still serves by all of the history.
+fn releases_serving(
+    all: &[HistoryEntry],
+    entry: &HistoryEntry,
+    held: &Option<Pair>,
+    device: DeviceId,
+    page: u64,
+    kind: AccessKind,
+    frame: u64,
+) -> bool
+    ensures { result ≡ list_any (still_serves all.now frame kind)
+        (if is_about entry.now held.now device page then released_by entry.now held.now else []) }
+{
+    entry_is_about(entry, held, device, page)
+        && still_serves(all, &pair_released(entry, held), frame, kind)
+}
+
 /// Whether the frame lingers at the page by these entries of the history, with such a right.
 pub(crate) fn lingers_in(
     all: &[HistoryEntry],
@@ -149,14 +178,32 @@ pub(crate) fn lingers_in(
 ) -> bool
     ensures { result ≡ lingers_for all.now history.now device page kind frame }
 {
-    match history {
-        [] => false,
-        [entry, before @ ..] => {
-            let held = pair_held(before, device, page);
-            let here = entry_is_about(entry, &held, device, page)
-                && still_serves(all, &pair_released(entry, &held), frame, kind);
-            here || lingers_in(all, before, device, page, kind, frame)
+    let mut held = None;
+    let mut lingers = false;
+    for passed in 0..history.len() {
+        let entry = &history[history.len() - 1 - passed];
+        lingers |= releases_serving(all, entry, &held, device, page, kind, frame);
+        held = pair_after(entry, held, device, page);
+    }
+    lingers
+}
+
+/// Whether the device reaches the frame at the page that the entry grants.
+fn reached_by(
+    all: &[HistoryEntry],
+    entry: &HistoryEntry,
+    device: DeviceId,
+    frame: u64,
+    kind: AccessKind,
+) -> bool
+    ensures { result ≡ reaches_in all.now (entry.now ∷ []) device frame kind }
+{
+    match *entry {
+        HistoryEntry::Granted { page, .. } => {
+            is_held_for(all, device, page, kind, frame)
+                || lingers_in(all, all, device, page, kind, frame)
         }
+        _ => false,
     }
 }
 
@@ -170,15 +217,9 @@ pub(crate) fn reached_in(
 ) -> bool
     ensures { result ≡ reaches_in all.now history.now device frame kind }
 {
-    match history {
-        [] => false,
-        [HistoryEntry::Granted { page, .. }, before @ ..] => {
-            is_held_for(all, device, *page, kind, frame)
-                || lingers_in(all, all, device, *page, kind, frame)
-                || reached_in(all, before, device, frame, kind)
-        }
-        [_, before @ ..] => reached_in(all, before, device, frame, kind),
-    }
+    history
+        .iter()
+        .any(|entry| reached_by(all, entry, device, frame, kind))
 }
 
 /// Whether the device may reach the frame by an access of this kind.
@@ -186,6 +227,22 @@ pub(crate) fn may(history: &[HistoryEntry], device: DeviceId, frame: u64, kind: 
     ensures { IsTrue result ↔ May history.now device frame kind }
 {
     reached_in(history, history, device, frame, kind)
+}
+
+/// Whether the frame lingers at the page that the entry grants, with such a right.
+fn lingers_by(
+    all: &[HistoryEntry],
+    entry: &HistoryEntry,
+    device: DeviceId,
+    frame: u64,
+    kind: AccessKind,
+) -> bool
+    ensures { result ≡ lingers_among all.now (entry.now ∷ []) device frame kind }
+{
+    match *entry {
+        HistoryEntry::Granted { page, .. } => lingers_in(all, all, device, page, kind, frame),
+        _ => false,
+    }
 }
 
 /// Whether the frame lingers at one of the pages that these entries grant, with such a right.
@@ -198,14 +255,9 @@ pub(crate) fn lingers_among(
 ) -> bool
     ensures { result ≡ lingers_among all.now history.now device frame kind }
 {
-    match history {
-        [] => false,
-        [HistoryEntry::Granted { page, .. }, before @ ..] => {
-            lingers_in(all, all, device, *page, kind, frame)
-                || lingers_among(all, before, device, frame, kind)
-        }
-        [_, before @ ..] => lingers_among(all, before, device, frame, kind),
-    }
+    history
+        .iter()
+        .any(|entry| lingers_by(all, entry, device, frame, kind))
 }
 
 /// Whether the frame lingers at some page of the device, with a right that allows the kind.
@@ -220,17 +272,23 @@ pub(crate) fn lingers_somewhere(
     lingers_among(history, history, device, frame, kind)
 }
 
+/// Whether the device to which the entry grants anything reaches the frame.
+fn anyone_by(all: &[HistoryEntry], entry: &HistoryEntry, frame: u64) -> bool
+    ensures { result ≡ anyone_reaches_in all.now (entry.now ∷ []) frame }
+{
+    match *entry {
+        HistoryEntry::Granted { device, .. } => {
+            reached_in(all, all, device, frame, AccessKind::Read)
+        }
+        _ => false,
+    }
+}
+
 /// Whether a device to which these entries grant anything reaches the frame.
 pub(crate) fn anyone_in(all: &[HistoryEntry], history: &[HistoryEntry], frame: u64) -> bool
     ensures { result ≡ anyone_reaches_in all.now history.now frame }
 {
-    match history {
-        [] => false,
-        [HistoryEntry::Granted { device, .. }, before @ ..] => {
-            reached_in(all, all, *device, frame, AccessKind::Read) || anyone_in(all, before, frame)
-        }
-        [_, before @ ..] => anyone_in(all, before, frame),
-    }
+    history.iter().any(|entry| anyone_by(all, entry, frame))
 }
 
 /// Whether no device may reach the frame.
@@ -250,19 +308,32 @@ fn is_open(all: &[HistoryEntry], released: &Option<(u32, Pair)>) -> bool
     }
 }
 
+/// Whether the entry releases what was held at the page until then, under a ticket that all of the history doesn't confirm.
+fn releases_open(
+    all: &[HistoryEntry],
+    entry: &HistoryEntry,
+    held: &Option<Pair>,
+    device: DeviceId,
+    page: u64,
+) -> bool
+    ensures { result ≡ list_any (λ r. not (confirms all.now r.0))
+        (if is_about entry.now held.now device page then released_by entry.now held.now else []) }
+{
+    entry_is_about(entry, held, device, page) && is_open(all, &pair_released(entry, held))
+}
+
 /// Whether anything lingers at the page by these entries of the history.
 fn lingering_in(all: &[HistoryEntry], history: &[HistoryEntry], device: DeviceId, page: u64) -> bool
     ensures { result ≡ list_any (λ r. not (confirms all.now r.0)) (released_at history.now device page) }
 {
-    match history {
-        [] => false,
-        [entry, before @ ..] => {
-            let held = pair_held(before, device, page);
-            let here = entry_is_about(entry, &held, device, page)
-                && is_open(all, &pair_released(entry, &held));
-            here || lingering_in(all, before, device, page)
-        }
+    let mut held = None;
+    let mut lingers = false;
+    for passed in 0..history.len() {
+        let entry = &history[history.len() - 1 - passed];
+        lingers |= releases_open(all, entry, &held, device, page);
+        held = pair_after(entry, held, device, page);
     }
+    lingers
 }
 
 /// Whether anything lingers at the page.

@@ -11,8 +11,8 @@ use crate::decide::devices::device_with;
 use crate::decide::frames::has_owner;
 use crate::decide::history::{last_ticket_confirmed, lingers_at, pair_held};
 use crate::state::{Attachment, DeviceKind, State};
-use iom_base::DeviceId;
-use iom_ledger::Refusal;
+use iom_base::{DeviceId, MAX_DEVICES, PAGE_LIMIT};
+use iom_ledger::{MAX_PENDING, Refusal};
 
 fn plugged(state: &State, id: DeviceId) -> bool
     ensures { result ≡ is_plugged state.now id }
@@ -114,7 +114,7 @@ pub(crate) fn plug_refusal(state: &State, id: DeviceId) -> Option<Refusal>
 {
     if plugged(state, id) {
         Some(Refusal::AlreadyPlugged)
-    } else if state.devices.as_slice().len() >= 16 {
+    } else if state.devices.as_slice().len() >= MAX_DEVICES {
         Some(Refusal::TooManyDevices)
     } else {
         None
@@ -151,7 +151,7 @@ pub(crate) fn grant_refusal(state: &State, id: DeviceId, page: u64, frame: u64) 
         Some(Refusal::FrameOutOfRange)
     } else if has_owner(state.frames.as_slice(), frame) {
         Some(Refusal::FrameReserved)
-    } else if page >= 1 << 26 {
+    } else if page >= PAGE_LIMIT {
         Some(Refusal::IovaOutOfRange)
     } else if held(state, id, page) || lingering(state, id, page) {
         Some(Refusal::IovaBusy)
@@ -172,7 +172,7 @@ pub(crate) fn release_refusal(state: &State, id: DeviceId, page: u64) -> Option<
         Some(Refusal::Quarantined)
     } else if !held(state, id, page) {
         Some(Refusal::NotGranted)
-    } else if pending(state) >= 256 {
+    } else if pending(state) >= MAX_PENDING as u32 {
         Some(Refusal::TooManyPending)
     } else {
         None

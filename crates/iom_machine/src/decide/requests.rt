@@ -17,7 +17,7 @@ use crate::decide::devices::{accept, place_of};
 use crate::decide::history::{is_held_for, lingers_in, may, pair_held};
 use crate::outcome::Outcome;
 use crate::state::{Attachment, Device, Mode, State};
-use iom_base::{Access, Cause, DeviceId, Span};
+use iom_base::{Access, Cause, DeviceId, MAX_IN_FLIGHT, PAGE_SIZE, Span};
 use iom_ledger::{HistoryEntry, Refusal};
 use std::alloc::AllocError;
 
@@ -30,7 +30,7 @@ fn is_within_page(access: &Access) -> bool
 fn is_busy(device: &Device) -> bool
     ensures { IsTrue result ↔ IsBusy device.now.in_flight }
 {
-    device.in_flight.as_slice().len() >= 8
+    device.in_flight.as_slice().len() >= MAX_IN_FLIGHT
 }
 
 /// Whether the request comes before the IOMMU.
@@ -50,7 +50,7 @@ fn holds(history: &[HistoryEntry], id: DeviceId, access: &Access, frame: u32) ->
     is_held_for(
         history,
         id,
-        access.address / 4096,
+        access.address / PAGE_SIZE,
         access.kind,
         u64::from(frame),
     )
@@ -64,7 +64,7 @@ pub(crate) fn lingers(history: &[HistoryEntry], id: DeviceId, access: &Access, f
         history,
         history,
         id,
-        access.address / 4096,
+        access.address / PAGE_SIZE,
         access.kind,
         u64::from(frame),
     )
@@ -74,7 +74,7 @@ pub(crate) fn lingers(history: &[HistoryEntry], id: DeviceId, access: &Access, f
 fn holds_none(history: &[HistoryEntry], id: DeviceId, access: &Access) -> bool
     ensures { IsTrue result ↔ HoldsNoneFor history.now id access.now }
 {
-    match pair_held(history, id, access.address / 4096) {
+    match pair_held(history, id, access.address / PAGE_SIZE) {
         None => true,
         Some(pair) => !pair.1.allows(access.kind),
     }

@@ -1,10 +1,10 @@
 use Rattle.std.proofs.Common.{sym}
-use Rattle.iom_fault_queue.specs.Grammar.{decoded}
+use Rattle.iom_fault_queue.specs.Grammar.{decoded_record}
 use Rattle.iom_fault_queue.proofs.Exact.{decoded_is, only_one, none_is}
 use Rattle.iom_fault_queue.proofs.record.Record.decode.Goals as goal
 
 value : goal.returns-clause-value
-unfolding decoded
+unfolding decoded_record
 value c = c.from_words.ensures _ _ _ _ c.to_words.ensures
 
 pub returns-clause-value : goal.returns-clause-value

@@ -1,0 +1,47 @@
+-- Which frames the driver takes for tables: the highest free ones.
+use Rattle.std.specs.Prelude.{◌≡◌, ◌≢◌, ℕ, zero, suc, ◌<◌, ◌≤◌, ◌==◌, Bool, false, List, [], ◌∷◌, length, Option, None, Some}
+use Rattle.std.specs.List.{list_any}
+use Rattle.iom_machine.specs.declared.event.Event.{Event}
+use Rattle.iom_machine.specs.declared.event.Event.TheVariants as events
+use Rattle.iom_machine.specs.declared.outcome.Outcome.{Outcome}
+use Rattle.iom_machine.specs.declared.outcome.Outcome.TheVariants.{Done}
+use Rattle.iom_machine.specs.declared.state.State.{State}
+use Rattle.iom_machine.specs.Frames.{is_reserved}
+use Rattle.iom_lawful.specs.declared.reaches.Reach.{Reach}
+
+-- whether a device reaches the frame
+abbrev pub is_reached_by : List Reach → ℕ → Bool
+is_reached_by reaches frame = list_any (λ reach. reach.frame == frame) reaches
+
+-- the frame may become a table: it is one of the memory, isn't reserved, isn't the named one, and no device reaches it
+abbrev pub IsFreeForTable : State → List Reach → Option ℕ → ℕ → Type 0
+IsFreeForTable state reaches named frame =
+    (frame < length state.frames) × (is_reserved state.frames frame ≡ false) × (named ≢ Some frame) × (is_reached_by reaches frame ≡ false)
+
+-- no frame from the first number on and below the limit is free besides the named one
+abbrev pub NoneIsFree : State → List Reach → Option ℕ → ℕ → ℕ → Type 0
+NoneIsFree state reaches named first limit =
+    (frame : ℕ) → first ≤ frame → frame < limit → ¬ IsFreeForTable state reaches named frame
+
+-- this frame below the limit is free besides the named one, and none above it is
+abbrev pub IsHighestFree : State → List Reach → Option ℕ → ℕ → ℕ → Type 0
+IsHighestFree state reaches named limit frame =
+    (frame < limit) × IsFreeForTable state reaches named frame × NoneIsFree state reaches named (suc frame) limit
+
+-- the highest free frames below the limit, one after another: so many, or as many as there are
+abbrev pub AreHighestFree : State → List Reach → Option ℕ → ℕ → ℕ → List ℕ → Type 0
+AreHighestFree state reaches named limit zero taken = taken ≡ []
+AreHighestFree state reaches named limit (suc count) [] = NoneIsFree state reaches named 0 limit
+AreHighestFree state reaches named limit (suc count) (frame ∷ lower) =
+    IsHighestFree state reaches named limit frame × AreHighestFree state reaches named frame count lower
+
+-- the frame that the event names, if it is a grant that is done: no table takes it
+abbrev pub named_by : Event → Outcome → Option ℕ
+named_by (events.Grant id page frame rights) Done = Some frame
+named_by event outcome = None
+
+-- how many tables it may take that this comes of the event: an attach a root, a grant what its page lacks below the root, at most two
+abbrev pub WantsTables : Event → Outcome → ℕ → Type 0
+WantsTables (events.Attach id mode ats) Done count = count ≡ 1
+WantsTables (events.Grant id page frame rights) Done count = count ≤ 2
+WantsTables event outcome count = count ≡ 0
