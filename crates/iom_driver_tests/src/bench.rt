@@ -1,17 +1,13 @@
-// A driver with memory and registers of its own.
-ghost use Rattle.std.specs.Prelude.{◌≡◌, false, IfOk};
-ghost use Rattle.iom_registers.specs.Table.{at_power_on};
-ghost use Rattle.iom_driver.specs.Ready.{IsReady};
-ghost use Rattle.iom_driver.specs.ReadyIsFact.{ready_prop};
-ghost use Rattle.iom_driver.specs.Seen.{state_of};
-
+// A driver with memory and registers of its own, of which a test sees no parts.
 use crate::recording::Recording;
 use iom_base::{DeviceId, GrantRights};
 use iom_driver::laws::stays_ready;
 use iom_driver::{Driver, Polled, Ticket};
 use iom_ledger::Refusal;
 use iom_phys_mem::{Bytes, MemError, Memory};
+use iom_registers::Register;
 use std::alloc::Global;
+use std::marker::Model;
 
 /// How many frames the memory of a bench has.
 const FRAMES: u32 = 64;
@@ -19,18 +15,26 @@ const FRAMES: u32 = 64;
 /// Memory of 64 frames, registers that remember their writes, and a driver that is ready for them.
 #[derive(Drop)]
 pub struct Bench {
-    pub memory: Memory,
-    pub io: Recording,
-    pub driver: Driver,
-    ghost ready: { IsReady (state_of driver) memory io.registers } by { ready_prop (state_of driver) memory io.registers },
+    memory: Memory,
+    io: Recording,
+    driver: Driver,
+}
+
+impl Model for Bench {
+    ghost use Rattle.std.specs.Prelude.{ℕ};
+    ghost use Rattle.iom_driver.specs.Ready.{IsReady};
+    ghost use Rattle.iom_driver.specs.Seen.{state_of};
+
+    ghost Value = { ℕ };
+
+    ghost view = { λ bench. 0 };
+
+    ghost invariant = { λ bench. IsReady (state_of bench.driver) bench.memory bench.io.registers };
 }
 
 impl Bench {
     /// At power-on.
-    pub fn off(alloc: Global) -> Result<Bench, MemError>
-        ensures idle { IfOk result (λ bench. (state_of bench.driver).started ≡ false) }
-        ensures registers { IfOk result (λ bench. bench.io.registers ≡ at_power_on) }
-    {
+    pub fn off(alloc: Global) -> Result<Bench, MemError> {
         let memory = Memory::new(alloc, FRAMES)?;
         let driver = Driver::new(alloc, FRAMES, 1)?;
         let io = Recording::new();
@@ -39,16 +43,19 @@ impl Bench {
 
     /// Started.
     pub fn new(alloc: Global) -> Result<Bench, MemError> {
-        let mut bench = Bench::off(alloc)?;
-        bench.start();
-        Ok(bench)
+        let mut memory = Memory::new(alloc, FRAMES)?;
+        let mut driver = Driver::new(alloc, FRAMES, 1)?;
+        let mut io = Recording::new();
+        driver.start(&mut memory, &mut io);
+        Ok(Bench { memory, io, driver })
     }
 
-    fn start(&mut self)
-        requires idle { (state_of self.old.driver).started ≡ false }
-        requires registers { self.old.io.registers ≡ at_power_on }
-    {
-        self.driver.start(&mut self.memory, &mut self.io);
+    /// Started, and the device is attached: `root_of` shows it.
+    pub fn with_device(alloc: Global, id: DeviceId) -> Result<Bench, MemError> {
+        let mut bench = Bench::new(alloc)?;
+        let _ = bench.plug(id);
+        let _ = bench.attach(id);
+        Ok(bench)
     }
 
     pub fn plug(&mut self, id: DeviceId) -> Result<(), Refusal> {
@@ -71,6 +78,36 @@ impl Bench {
 
     pub fn poll(&mut self) -> Result<Polled, Refusal> {
         self.driver.poll(&self.memory, &self.io)
+    }
+
+    pub fn is_free(&self, frame: u32) -> bool {
+        self.driver.is_free(frame)
+    }
+
+    pub fn is_reserved(&self, frame: u32) -> bool {
+        self.driver.is_reserved(frame)
+    }
+
+    pub fn pending(&self) -> usize {
+        self.driver.pending()
+    }
+
+    pub fn root_of(&self, id: DeviceId) -> Option<u32> {
+        self.driver.root_of(id)
+    }
+
+    /// The eight bytes at the address.
+    pub fn word(&self, address: u64) -> Option<u64> {
+        self.memory.load_u64(address)
+    }
+
+    pub fn register(&self, register: Register) -> u64 {
+        self.io.registers.value(register)
+    }
+
+    /// The last four registers that were written, the oldest first.
+    pub fn writes(&self) -> [Option<Register>; 4] {
+        [self.io.before, self.io.first, self.io.second, self.io.third]
     }
 
     /// A fence stores its number, as the IOMMU would.

@@ -8,6 +8,8 @@
 
 mod bench;
 #[cfg(test)]
+mod expect;
+#[cfg(test)]
 mod frames;
 #[cfg(test)]
 mod polls;
