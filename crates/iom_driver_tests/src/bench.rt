@@ -14,7 +14,7 @@ const FRAMES: u32 = 64;
 
 /// Memory of 64 frames, registers that remember their writes, and a driver that is ready for them.
 #[derive(Drop)]
-pub struct Bench {
+pub(crate) struct Bench {
     memory: Memory,
     io: Recording,
     driver: Driver,
@@ -34,7 +34,7 @@ impl Model for Bench {
 
 impl Bench {
     /// At power-on.
-    pub fn off(alloc: Global) -> Result<Bench, MemError> {
+    pub(crate) fn off(alloc: Global) -> Result<Bench, MemError> {
         let memory = Memory::new(alloc, FRAMES)?;
         let driver = Driver::new(alloc, FRAMES, 1)?;
         let io = Recording::new();
@@ -42,7 +42,7 @@ impl Bench {
     }
 
     /// Started.
-    pub fn new(alloc: Global) -> Result<Bench, MemError> {
+    pub(crate) fn new(alloc: Global) -> Result<Bench, MemError> {
         let mut memory = Memory::new(alloc, FRAMES)?;
         let mut driver = Driver::new(alloc, FRAMES, 1)?;
         let mut io = Recording::new();
@@ -51,74 +51,74 @@ impl Bench {
     }
 
     /// Started, and the device is attached: `root_of` shows it.
-    pub fn with_device(alloc: Global, id: DeviceId) -> Result<Bench, MemError> {
+    pub(crate) fn with_device(alloc: Global, id: DeviceId) -> Result<Bench, MemError> {
         let mut bench = Bench::new(alloc)?;
         let _ = bench.plug(id);
         let _ = bench.attach(id);
         Ok(bench)
     }
 
-    pub fn plug(&mut self, id: DeviceId) -> Result<(), Refusal> {
+    pub(crate) fn plug(&mut self, id: DeviceId) -> Result<(), Refusal> {
         self.driver.plug(id)
     }
 
-    pub fn attach(&mut self, id: DeviceId) -> Result<(), Refusal> {
+    pub(crate) fn attach(&mut self, id: DeviceId) -> Result<(), Refusal> {
         self.driver.attach(&mut self.memory, id)
     }
 
-    pub fn grant(&mut self, id: DeviceId, page: u64, frame: u64) -> Result<(), Refusal> {
+    pub(crate) fn grant(&mut self, id: DeviceId, page: u64, frame: u64) -> Result<(), Refusal> {
         self.driver
             .grant(&mut self.memory, id, page, frame, GrantRights::ReadWrite)
     }
 
-    pub fn release(&mut self, id: DeviceId, page: u64) -> Result<Ticket, Refusal> {
+    pub(crate) fn release(&mut self, id: DeviceId, page: u64) -> Result<Ticket, Refusal> {
         self.driver
             .release(&mut self.memory, &mut self.io, id, page)
     }
 
-    pub fn poll(&mut self) -> Result<Polled, Refusal> {
+    pub(crate) fn poll(&mut self) -> Result<Polled, Refusal> {
         self.driver.poll(&self.memory, &self.io)
     }
 
-    pub fn is_free(&self, frame: u32) -> bool {
+    pub(crate) fn is_free(&self, frame: u32) -> bool {
         self.driver.is_free(frame)
     }
 
-    pub fn is_reserved(&self, frame: u32) -> bool {
+    pub(crate) fn is_reserved(&self, frame: u32) -> bool {
         self.driver.is_reserved(frame)
     }
 
-    pub fn pending(&self) -> usize {
+    pub(crate) fn pending(&self) -> usize {
         self.driver.pending()
     }
 
-    pub fn root_of(&self, id: DeviceId) -> Option<u32> {
+    pub(crate) fn root_of(&self, id: DeviceId) -> Option<u32> {
         self.driver.root_of(id)
     }
 
     /// The eight bytes at the address.
-    pub fn word(&self, address: u64) -> Option<u64> {
+    pub(crate) fn word(&self, address: u64) -> Option<u64> {
         self.memory.load_u64(address)
     }
 
-    pub fn register(&self, register: Register) -> u64 {
+    pub(crate) fn register(&self, register: Register) -> u64 {
         self.io.registers.value(register)
     }
 
     /// The last four registers that were written, the oldest first.
-    pub fn writes(&self) -> [Option<Register>; 4] {
+    pub(crate) fn writes(&self) -> [Option<Register>; 4] {
         [self.io.before, self.io.first, self.io.second, self.io.third]
     }
 
     /// A fence stores its number, as the IOMMU would.
-    pub fn complete(&mut self, number: u32) {
+    pub(crate) fn complete(&mut self, number: u32) {
         stays_ready();
         let address = 4096 * u64::from(self.memory.frames() - 3);
         self.memory.store_u32(address, number);
     }
 
     /// The IOMMU gives a command up.
-    pub fn time_out(&mut self) {
+    pub(crate) fn time_out(&mut self) {
         stays_ready();
         self.io.registers.set_cmd_to();
     }

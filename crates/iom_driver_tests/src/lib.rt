@@ -8,6 +8,8 @@
 
 mod bench;
 #[cfg(test)]
+mod bench;
+#[cfg(test)]
 mod expect;
 #[cfg(test)]
 mod frames;
@@ -21,5 +23,4 @@ mod releases;
 #[cfg(test)]
 mod starts;
 
-pub use bench::Bench;
 pub use recording::Recording;
