@@ -19,7 +19,7 @@ use Rattle.iom_driver.specs.declared.device.FirstStage.{FirstStage}
 use Rattle.iom_driver.specs.Choices.{marked_for}
 use Rattle.iom_driver.specs.Devices.{stage_of, is_plugged, detached, with_stage, IsLowestNumber}
 use Rattle.iom_driver.specs.Layout.{AreFixed}
-use Rattle.iom_driver.specs.Sound.{IsGrant, AreGrants, HoldersAreAttached, AreNumbered, AreTickets, AreSizes, IsSound, tickets_after}
+use Rattle.iom_driver.specs.Sound.{IsGrant, AreGrants, HoldersAreAttached, HaveNumbers, AreTickets, AreSizes, IsSound, tickets_after}
 use Rattle.iom_driver.proofs.Confirms.{among_yes, among_above}
 use Rattle.iom_driver.proofs.Lists.{get_set_same, get_set_other, get_there, get_within}
 use Rattle.iom_driver.proofs.Marks.{not_among, mark_stays, length-marked_for}

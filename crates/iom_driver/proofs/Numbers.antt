@@ -8,7 +8,7 @@ use Rattle.std.proofs.lemmas.Map.Steps.{le-length_from_below}
 use Rattle.iom_driver.specs.declared.device.Device.{Device}
 use Rattle.iom_driver.specs.declared.device.FirstStage.{FirstStage}
 use Rattle.iom_driver.specs.Devices.{device_of, stage_of, with_stage, is_plugged, is_used, has_number, IsLowestNumber}
-use Rattle.iom_driver.specs.Sound.{AreNumbered}
+use Rattle.iom_driver.specs.Sound.{HaveNumbers}
 use Rattle.iom_driver.proofs.Places.{stage_set, stage_other}
 
 -- the numbers of the attached devices
@@ -74,8 +74,8 @@ holder_uses (device ∷ others) id stage at = elim (eqb_tells device.id id) [
     there false used = used
 
 -- where one more device is attached under the lowest free number
-pub numbers_attached : (devices : List Device) (id : ℕ) (stage : FirstStage) → AreNumbered devices → is_plugged devices id ≡ true → IsLowestNumber devices stage.number → stage.number ≤ 17
-    → AreNumbered (with_stage devices id stage)
+pub numbers_attached : (devices : List Device) (id : ℕ) (stage : FirstStage) → HaveNumbers devices → is_plugged devices id ≡ true → IsLowestNumber devices stage.number → stage.number ≤ 17
+    → HaveNumbers (with_stage devices id stage)
 numbers_attached devices id stage numbers plugged lowest small = record {
   small = λ other s at. elim (whose other s at) [
     | inl e ↦ let n : s.number ≡ stage.number = ap (λ (t : FirstStage). t.number) e.1 in (omega (arith, n, lowest.from_one), omega (arith, n, small))

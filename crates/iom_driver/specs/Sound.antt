@@ -26,7 +26,7 @@ abbrev pub HoldersAreAttached : Ledger → List Device → Type 0
 HoldersAreAttached ledger devices = (id page : ℕ) → stage_of devices id ≡ None → held_in ledger id page ≡ None
 
 -- the address-space numbers of attached devices count from 1, there are no more than devices may be, and no two devices have the same
-pub record AreNumbered (devices : List Device) : Type 0 where
+pub record HaveNumbers (devices : List Device) : Type 0 where
   pub small : (id : ℕ) (stage : FirstStage) → stage_of devices id ≡ Some stage → (1 ≤ stage.number) × (stage.number ≤ 17)
   pub own : (one other : ℕ) (a b : FirstStage) → stage_of devices one ≡ Some a → stage_of devices other ≡ Some b → a.number ≡ b.number → one ≡ other
 
@@ -51,7 +51,7 @@ pub record IsSound (ledger : Ledger) (marks : List (Option Owner)) (devices : Li
   pub fixed : AreFixed marks frames
   pub grants : AreGrants marks ledger
   pub holders : HoldersAreAttached ledger devices
-  pub numbers : AreNumbered devices
+  pub numbers : HaveNumbers devices
   pub tickets : AreTickets ledger given confirmed
   pub few : length devices ≤ 16
   pub idle : started ≡ false → (id : ℕ) → stage_of devices id ≡ None

@@ -1,36 +1,40 @@
-// A driver with memory and registers of its own.
-ghost use Rattle.std.specs.Prelude.{◌≡◌, false, IfOk};
-ghost use Rattle.iom_registers.specs.Table.{at_power_on};
-ghost use Rattle.iom_driver.specs.Ready.{IsReady};
-ghost use Rattle.iom_driver.specs.ReadyIsFact.{ready_prop};
-ghost use Rattle.iom_driver.specs.Seen.{state_of};
-
+// A driver with memory and registers of its own, of which a test sees no parts.
 use crate::recording::Recording;
 use iom_base::{DeviceId, GrantRights};
 use iom_driver::laws::stays_ready;
 use iom_driver::{Driver, Polled, Ticket};
 use iom_ledger::Refusal;
 use iom_phys_mem::{Bytes, MemError, Memory};
+use iom_registers::Register;
 use std::alloc::Global;
+use std::marker::Model;
 
 /// How many frames the memory of a bench has.
 const FRAMES: u32 = 64;
 
 /// Memory of 64 frames, registers that remember their writes, and a driver that is ready for them.
 #[derive(Drop)]
-pub struct Bench {
-    pub memory: Memory,
-    pub io: Recording,
-    pub driver: Driver,
-    ghost ready: { IsReady (state_of driver) memory io.registers } by { ready_prop (state_of driver) memory io.registers },
+pub(crate) struct Bench {
+    memory: Memory,
+    io: Recording,
+    driver: Driver,
+}
+
+impl Model for Bench {
+    ghost use Rattle.std.specs.Prelude.{ℕ};
+    ghost use Rattle.iom_driver.specs.Ready.{IsReady};
+    ghost use Rattle.iom_driver.specs.Seen.{state_of};
+
+    ghost Value = { ℕ };
+
+    ghost view = { λ bench. 0 };
+
+    ghost invariant = { λ bench. IsReady (state_of bench.driver) bench.memory bench.io.registers };
 }
 
 impl Bench {
     /// At power-on.
-    pub fn off(alloc: Global) -> Result<Bench, MemError>
-        ensures idle { IfOk result (λ bench. (state_of bench.driver).started ≡ false) }
-        ensures registers { IfOk result (λ bench. bench.io.registers ≡ at_power_on) }
-    {
+    pub(crate) fn off(alloc: Global) -> Result<Bench, MemError> {
         let memory = Memory::new(alloc, FRAMES)?;
         let driver = Driver::new(alloc, FRAMES, 1)?;
         let io = Recording::new();
@@ -38,50 +42,83 @@ impl Bench {
     }
 
     /// Started.
-    pub fn new(alloc: Global) -> Result<Bench, MemError> {
-        let mut bench = Bench::off(alloc)?;
-        bench.start();
+    pub(crate) fn new(alloc: Global) -> Result<Bench, MemError> {
+        let mut memory = Memory::new(alloc, FRAMES)?;
+        let mut driver = Driver::new(alloc, FRAMES, 1)?;
+        let mut io = Recording::new();
+        driver.start(&mut memory, &mut io);
+        Ok(Bench { memory, io, driver })
+    }
+
+    /// Started, and the device is attached: `root_of` shows it.
+    pub(crate) fn with_device(alloc: Global, id: DeviceId) -> Result<Bench, MemError> {
+        let mut bench = Bench::new(alloc)?;
+        let _ = bench.plug(id);
+        let _ = bench.attach(id);
         Ok(bench)
     }
 
-    fn start(&mut self)
-        requires idle { (state_of self.old.driver).started ≡ false }
-        requires registers { self.old.io.registers ≡ at_power_on }
-    {
-        self.driver.start(&mut self.memory, &mut self.io);
-    }
-
-    pub fn plug(&mut self, id: DeviceId) -> Result<(), Refusal> {
+    pub(crate) fn plug(&mut self, id: DeviceId) -> Result<(), Refusal> {
         self.driver.plug(id)
     }
 
-    pub fn attach(&mut self, id: DeviceId) -> Result<(), Refusal> {
+    pub(crate) fn attach(&mut self, id: DeviceId) -> Result<(), Refusal> {
         self.driver.attach(&mut self.memory, id)
     }
 
-    pub fn grant(&mut self, id: DeviceId, page: u64, frame: u64) -> Result<(), Refusal> {
+    pub(crate) fn grant(&mut self, id: DeviceId, page: u64, frame: u64) -> Result<(), Refusal> {
         self.driver
             .grant(&mut self.memory, id, page, frame, GrantRights::ReadWrite)
     }
 
-    pub fn release(&mut self, id: DeviceId, page: u64) -> Result<Ticket, Refusal> {
+    pub(crate) fn release(&mut self, id: DeviceId, page: u64) -> Result<Ticket, Refusal> {
         self.driver
             .release(&mut self.memory, &mut self.io, id, page)
     }
 
-    pub fn poll(&mut self) -> Result<Polled, Refusal> {
+    pub(crate) fn poll(&mut self) -> Result<Polled, Refusal> {
         self.driver.poll(&self.memory, &self.io)
     }
 
+    pub(crate) fn is_free(&self, frame: u32) -> bool {
+        self.driver.is_free(frame)
+    }
+
+    pub(crate) fn is_reserved(&self, frame: u32) -> bool {
+        self.driver.is_reserved(frame)
+    }
+
+    pub(crate) fn pending(&self) -> usize {
+        self.driver.pending()
+    }
+
+    pub(crate) fn root_of(&self, id: DeviceId) -> Option<u32> {
+        self.driver.root_of(id)
+    }
+
+    /// The eight bytes at the address.
+    pub(crate) fn word(&self, address: u64) -> Option<u64> {
+        self.memory.load_u64(address)
+    }
+
+    pub(crate) fn register(&self, register: Register) -> u64 {
+        self.io.registers.value(register)
+    }
+
+    /// The last four registers that were written, the oldest first.
+    pub(crate) fn writes(&self) -> [Option<Register>; 4] {
+        [self.io.before, self.io.first, self.io.second, self.io.third]
+    }
+
     /// A fence stores its number, as the IOMMU would.
-    pub fn complete(&mut self, number: u32) {
+    pub(crate) fn complete(&mut self, number: u32) {
         stays_ready();
         let address = 4096 * u64::from(self.memory.frames() - 3);
         self.memory.store_u32(address, number);
     }
 
     /// The IOMMU gives a command up.
-    pub fn time_out(&mut self) {
+    pub(crate) fn time_out(&mut self) {
         stays_ready();
         self.io.registers.set_cmd_to();
     }

@@ -8,6 +8,10 @@
 
 mod bench;
 #[cfg(test)]
+mod bench;
+#[cfg(test)]
+mod expect;
+#[cfg(test)]
 mod frames;
 #[cfg(test)]
 mod polls;
@@ -19,5 +23,4 @@ mod releases;
 #[cfg(test)]
 mod starts;
 
-pub use bench::Bench;
 pub use recording::Recording;

@@ -1,4 +1,5 @@
 use crate::bench::Bench;
+use crate::expect::expect;
 use iom_driver::{Polled, Ticket};
 use std::alloc::Global;
 use std::process::Abort;
@@ -6,15 +7,13 @@ use std::test::Fail;
 
 // A bench whose device 1 has released pages 0, 1 and 2.
 fn with_three_tickets(rt: &impl Abort, alloc: Global) -> Result<Bench, Fail> {
-    let mut bench = Bench::new(alloc)?;
-    assert_eq!(rt; bench.plug(1), Ok(()));
-    assert_eq!(rt; bench.attach(1), Ok(()));
+    let mut bench = Bench::with_device(alloc, 1)?;
     for page in 0..3u32 {
-        assert_eq!(rt;
-            bench.grant(1, u64::from(page), 5 + u64::from(page)),
-            Ok(())
+        expect(rt, bench.grant(1, u64::from(page), 5) == Ok(()));
+        expect(
+            rt,
+            bench.release(1, u64::from(page)) == Ok(Ticket(page + 1)),
         );
-        assert_eq!(rt; bench.release(1, u64::from(page)), Ok(Ticket(page + 1)));
     }
     Ok(bench)
 }
@@ -32,13 +31,13 @@ fn confirmed(first: u32, count: u32) -> Polled {
 #[test]
 fn a_poll_confirms_up_to_the_word(rt: HostRuntime) -> Result<(), Fail> {
     let mut bench = with_three_tickets(&rt, rt.alloc())?;
-    assert_eq!(rt; bench.poll(), Ok(confirmed(0, 0)));
+    expect(&rt, bench.poll() == Ok(confirmed(0, 0)));
     bench.complete(1);
-    assert_eq!(rt; bench.poll(), Ok(confirmed(1, 1)));
-    assert_eq!(rt; bench.poll(), Ok(confirmed(0, 0)));
+    expect(&rt, bench.poll() == Ok(confirmed(1, 1)));
+    expect(&rt, bench.poll() == Ok(confirmed(0, 0)));
     bench.complete(3);
-    assert_eq!(rt; bench.poll(), Ok(confirmed(2, 2)));
-    assert_eq!(rt; bench.driver.pending(), 0);
+    expect(&rt, bench.poll() == Ok(confirmed(2, 2)));
+    expect(&rt, bench.pending() == 0);
     Ok(())
 }
 
@@ -47,10 +46,10 @@ fn a_poll_confirms_up_to_the_word(rt: HostRuntime) -> Result<(), Fail> {
 fn a_foreign_word_confirms_no_more(rt: HostRuntime) -> Result<(), Fail> {
     let mut bench = with_three_tickets(&rt, rt.alloc())?;
     bench.complete(4_000_000_000);
-    assert_eq!(rt; bench.poll(), Ok(confirmed(1, 3)));
+    expect(&rt, bench.poll() == Ok(confirmed(1, 3)));
     bench.complete(0);
-    assert_eq!(rt; bench.poll(), Ok(confirmed(0, 0)));
-    assert_eq!(rt; bench.driver.pending(), 0);
+    expect(&rt, bench.poll() == Ok(confirmed(0, 0)));
+    expect(&rt, bench.pending() == 0);
     Ok(())
 }
 
@@ -65,6 +64,6 @@ fn a_timeout_is_told(rt: HostRuntime) -> Result<(), Fail> {
         count: 2,
         timed_out: true,
     };
-    assert_eq!(rt; bench.poll(), Ok(told));
+    expect(&rt, bench.poll() == Ok(told));
     Ok(())
 }

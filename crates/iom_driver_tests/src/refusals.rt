@@ -1,4 +1,5 @@
 use crate::bench::Bench;
+use crate::expect::expect;
 use iom_driver::Ticket;
 use iom_ledger::Refusal;
 use std::test::Fail;
@@ -7,12 +8,12 @@ use std::test::Fail;
 #[test]
 fn before_the_start(rt: HostRuntime) -> Result<(), Fail> {
     let mut bench = Bench::off(rt.alloc())?;
-    assert_eq!(rt; bench.attach(1), Err(Refusal::NotStarted));
-    assert_eq!(rt; bench.plug(1), Ok(()));
-    assert_eq!(rt; bench.attach(1), Err(Refusal::NotStarted));
-    assert_eq!(rt; bench.grant(1, 3, 5), Err(Refusal::NotStarted));
-    assert_eq!(rt; bench.release(1, 3), Err(Refusal::NotStarted));
-    assert_eq!(rt; bench.poll(), Err(Refusal::NotStarted));
+    expect(&rt, bench.attach(1) == Err(Refusal::NotStarted));
+    expect(&rt, bench.plug(1) == Ok(()));
+    expect(&rt, bench.attach(1) == Err(Refusal::NotStarted));
+    expect(&rt, bench.grant(1, 3, 5) == Err(Refusal::NotStarted));
+    expect(&rt, bench.release(1, 3) == Err(Refusal::NotStarted));
+    expect(&rt, bench.poll() == Err(Refusal::NotStarted));
     Ok(())
 }
 
@@ -21,10 +22,10 @@ fn before_the_start(rt: HostRuntime) -> Result<(), Fail> {
 fn of_a_plug(rt: HostRuntime) -> Result<(), Fail> {
     let mut bench = Bench::new(rt.alloc())?;
     for id in 0..16 {
-        assert_eq!(rt; bench.plug(id), Ok(()));
+        expect(&rt, bench.plug(id) == Ok(()));
     }
-    assert_eq!(rt; bench.plug(15), Err(Refusal::AlreadyPlugged));
-    assert_eq!(rt; bench.plug(16), Err(Refusal::TooManyDevices));
+    expect(&rt, bench.plug(15) == Err(Refusal::AlreadyPlugged));
+    expect(&rt, bench.plug(16) == Err(Refusal::TooManyDevices));
     Ok(())
 }
 
@@ -32,12 +33,12 @@ fn of_a_plug(rt: HostRuntime) -> Result<(), Fail> {
 #[test]
 fn of_an_attach(rt: HostRuntime) -> Result<(), Fail> {
     let mut bench = Bench::new(rt.alloc())?;
-    assert_eq!(rt; bench.attach(128), Err(Refusal::NoSuchDevice));
-    assert_eq!(rt; bench.plug(128), Ok(()));
-    assert_eq!(rt; bench.attach(128), Err(Refusal::IdTooWide));
-    assert_eq!(rt; bench.plug(127), Ok(()));
-    assert_eq!(rt; bench.attach(127), Ok(()));
-    assert_eq!(rt; bench.attach(127), Err(Refusal::AlreadyAttached));
+    expect(&rt, bench.attach(128) == Err(Refusal::NoSuchDevice));
+    expect(&rt, bench.plug(128) == Ok(()));
+    expect(&rt, bench.attach(128) == Err(Refusal::IdTooWide));
+    expect(&rt, bench.plug(127) == Ok(()));
+    expect(&rt, bench.attach(127) == Ok(()));
+    expect(&rt, bench.attach(127) == Err(Refusal::AlreadyAttached));
     Ok(())
 }
 
@@ -46,44 +47,45 @@ fn of_an_attach(rt: HostRuntime) -> Result<(), Fail> {
 fn of_a_grant(rt: HostRuntime) -> Result<(), Fail> {
     let mut bench = Bench::new(rt.alloc())?;
     let far = 1 << 26;
-    assert_eq!(rt; bench.grant(1, far, 64), Err(Refusal::NoSuchDevice));
-    assert_eq!(rt; bench.plug(1), Ok(()));
-    assert_eq!(rt; bench.grant(1, far, 64), Err(Refusal::NotAttached));
-    assert_eq!(rt; bench.attach(1), Ok(()));
-    assert_eq!(rt; bench.grant(1, far, 64), Err(Refusal::FrameOutOfRange));
-    assert_eq!(rt; bench.grant(1, far, 60), Err(Refusal::FrameReserved));
-    assert_eq!(rt; bench.grant(1, far, 5), Err(Refusal::IovaOutOfRange));
-    assert_eq!(rt; bench.grant(1, far - 1, 5), Ok(()));
-    assert_eq!(rt; bench.grant(1, far - 1, 6), Err(Refusal::IovaBusy));
-    assert_eq!(rt; bench.release(1, far - 1), Ok(Ticket(1)));
-    assert_eq!(rt; bench.grant(1, far - 1, 6), Err(Refusal::IovaBusy));
+    expect(&rt, bench.grant(1, far, 64) == Err(Refusal::NoSuchDevice));
+    expect(&rt, bench.plug(1) == Ok(()));
+    expect(&rt, bench.grant(1, far, 64) == Err(Refusal::NotAttached));
+    expect(&rt, bench.attach(1) == Ok(()));
+    expect(
+        &rt,
+        bench.grant(1, far, 64) == Err(Refusal::FrameOutOfRange),
+    );
+    expect(&rt, bench.grant(1, far, 60) == Err(Refusal::FrameReserved));
+    expect(&rt, bench.grant(1, far, 5) == Err(Refusal::IovaOutOfRange));
+    expect(&rt, bench.grant(1, far - 1, 5) == Ok(()));
+    expect(&rt, bench.grant(1, far - 1, 6) == Err(Refusal::IovaBusy));
+    expect(&rt, bench.release(1, far - 1) == Ok(Ticket(1)));
+    expect(&rt, bench.grant(1, far - 1, 6) == Err(Refusal::IovaBusy));
     Ok(())
 }
 
 // A grant that lacks two tables where one frame is free besides its own is refused, and one that lacks one is not.
 #[test]
 fn of_a_grant_without_frames(rt: HostRuntime) -> Result<(), Fail> {
-    let mut bench = Bench::new(rt.alloc())?;
-    assert_eq!(rt; bench.plug(1), Ok(()));
-    assert_eq!(rt; bench.attach(1), Ok(()));
+    let mut bench = Bench::with_device(rt.alloc(), 1)?;
     for page in 0..54 {
-        assert_eq!(rt; bench.grant(1, page, page), Ok(()));
+        expect(&rt, bench.grant(1, page, page) == Ok(()));
     }
-    assert!(rt; bench.driver.is_free(56));
-    assert_eq!(rt; bench.grant(1, 54, 54), Ok(()));
-    assert_eq!(rt; bench.grant(1, 1 << 18, 55), Err(Refusal::NoFrames));
-    assert_eq!(rt; bench.grant(1, 512, 55), Ok(()));
-    assert!(rt; bench.driver.is_reserved(56));
+    expect(&rt, bench.is_free(56));
+    expect(&rt, bench.grant(1, 54, 54) == Ok(()));
+    expect(&rt, bench.grant(1, 1 << 18, 55) == Err(Refusal::NoFrames));
+    expect(&rt, bench.grant(1, 512, 55) == Ok(()));
+    expect(&rt, bench.is_reserved(56));
     Ok(())
 }
 
 #[test]
 fn of_a_release(rt: HostRuntime) -> Result<(), Fail> {
     let mut bench = Bench::new(rt.alloc())?;
-    assert_eq!(rt; bench.release(1, 3), Err(Refusal::NoSuchDevice));
-    assert_eq!(rt; bench.plug(1), Ok(()));
-    assert_eq!(rt; bench.release(1, 3), Err(Refusal::NotAttached));
-    assert_eq!(rt; bench.attach(1), Ok(()));
-    assert_eq!(rt; bench.release(1, 3), Err(Refusal::NotGranted));
+    expect(&rt, bench.release(1, 3) == Err(Refusal::NoSuchDevice));
+    expect(&rt, bench.plug(1) == Ok(()));
+    expect(&rt, bench.release(1, 3) == Err(Refusal::NotAttached));
+    expect(&rt, bench.attach(1) == Ok(()));
+    expect(&rt, bench.release(1, 3) == Err(Refusal::NotGranted));
     Ok(())
 }

@@ -1,7 +1,7 @@
 use crate::bench::Bench;
+use crate::expect::expect;
 use iom_driver::Ticket;
 use iom_ledger::Refusal;
-use iom_phys_mem::Bytes;
 use iom_registers::Register;
 use std::test::Fail;
 
@@ -9,14 +9,12 @@ use std::test::Fail;
 // next ones; the leaf has frame 5, and all of R, W, U, A and D.
 #[test]
 fn a_grant_writes_tables(rt: HostRuntime) -> Result<(), Fail> {
-    let mut bench = Bench::new(rt.alloc())?;
-    assert_eq!(rt; bench.plug(1), Ok(()));
-    assert_eq!(rt; bench.attach(1), Ok(()));
-    assert_eq!(rt; bench.driver.root_of(1), Some(59));
-    assert_eq!(rt; bench.grant(1, 3, 5), Ok(()));
-    assert_eq!(rt; bench.memory.load_u64(0x3b000), Some(58 << 10 | 1));
-    assert_eq!(rt; bench.memory.load_u64(0x3a000), Some(57 << 10 | 1));
-    assert_eq!(rt; bench.memory.load_u64(0x39018), Some(0x14d7));
+    let mut bench = Bench::with_device(rt.alloc(), 1)?;
+    expect(&rt, bench.root_of(1) == Some(59));
+    expect(&rt, bench.grant(1, 3, 5) == Ok(()));
+    expect(&rt, bench.word(0x3b000) == Some(58 << 10 | 1));
+    expect(&rt, bench.word(0x3a000) == Some(57 << 10 | 1));
+    expect(&rt, bench.word(0x39018) == Some(0x14d7));
     Ok(())
 }
 
@@ -24,21 +22,20 @@ fn a_grant_writes_tables(rt: HostRuntime) -> Result<(), Fail> {
 // stores at 0x3d000. The ring begins at 0x3f000, and the tail moves on behind each.
 #[test]
 fn a_release_writes_two_commands(rt: HostRuntime) -> Result<(), Fail> {
-    let mut bench = Bench::new(rt.alloc())?;
-    assert_eq!(rt; bench.plug(1), Ok(()));
-    assert_eq!(rt; bench.attach(1), Ok(()));
-    assert_eq!(rt; bench.grant(1, 3, 5), Ok(()));
-    assert_eq!(rt; bench.release(1, 3), Ok(Ticket(1)));
-    assert_eq!(rt; bench.memory.load_u64(0x3f000), Some(0x0000_0001_0000_1401));
-    assert_eq!(rt; bench.memory.load_u64(0x3f008), Some(0x0000_0000_0000_0c00));
-    assert_eq!(rt; bench.memory.load_u64(0x3f010), Some(0x0000_0001_0000_3402));
-    assert_eq!(rt; bench.memory.load_u64(0x3f018), Some(0x0000_0000_0000_f400));
-    assert_eq!(rt; bench.memory.load_u64(0x39018), Some(0));
-    assert_eq!(rt; bench.io.first, Some(Register::Cqcsr));
-    assert_eq!(rt; bench.io.second, Some(Register::Cqt));
-    assert_eq!(rt; bench.io.third, Some(Register::Cqt));
-    assert_eq!(rt; bench.io.registers.command_tail(), 2);
-    assert_eq!(rt; bench.driver.pending(), 1);
+    let mut bench = Bench::with_device(rt.alloc(), 1)?;
+    expect(&rt, bench.grant(1, 3, 5) == Ok(()));
+    expect(&rt, bench.release(1, 3) == Ok(Ticket(1)));
+    expect(&rt, bench.word(0x3f000) == Some(0x0000_0001_0000_1401));
+    expect(&rt, bench.word(0x3f008) == Some(0x0000_0000_0000_0c00));
+    expect(&rt, bench.word(0x3f010) == Some(0x0000_0001_0000_3402));
+    expect(&rt, bench.word(0x3f018) == Some(0x0000_0000_0000_f400));
+    expect(&rt, bench.word(0x39018) == Some(0));
+    let [_, first, second, third] = bench.writes();
+    expect(&rt, first == Some(Register::Cqcsr));
+    expect(&rt, second == Some(Register::Cqt));
+    expect(&rt, third == Some(Register::Cqt));
+    expect(&rt, bench.register(Register::Cqt) == 2);
+    expect(&rt, bench.pending() == 1);
     Ok(())
 }
 
@@ -46,29 +43,30 @@ fn a_release_writes_two_commands(rt: HostRuntime) -> Result<(), Fail> {
 #[test]
 fn each_device_has_its_own_number(rt: HostRuntime) -> Result<(), Fail> {
     let mut bench = Bench::new(rt.alloc())?;
-    assert_eq!(rt; bench.plug(9), Ok(()));
-    assert_eq!(rt; bench.plug(4), Ok(()));
-    assert_eq!(rt; bench.attach(9), Ok(()));
-    assert_eq!(rt; bench.attach(4), Ok(()));
-    assert_eq!(rt; bench.grant(4, 3, 5), Ok(()));
-    assert_eq!(rt; bench.release(4, 3), Ok(Ticket(1)));
-    assert_eq!(rt; bench.memory.load_u64(0x3f000), Some(0x0000_0001_0000_2401));
+    expect(&rt, bench.plug(9) == Ok(()));
+    expect(&rt, bench.plug(4) == Ok(()));
+    expect(&rt, bench.attach(9) == Ok(()));
+    expect(&rt, bench.attach(4) == Ok(()));
+    expect(&rt, bench.grant(4, 3, 5) == Ok(()));
+    expect(&rt, bench.release(4, 3) == Ok(Ticket(1)));
+    expect(&rt, bench.word(0x3f000) == Some(0x0000_0001_0000_2401));
     Ok(())
 }
 
 // The ring holds 255 commands, so 127 releases: the next finds one place.
 #[test]
 fn a_full_ring_refuses_a_release(rt: HostRuntime) -> Result<(), Fail> {
-    let mut bench = Bench::new(rt.alloc())?;
-    assert_eq!(rt; bench.plug(1), Ok(()));
-    assert_eq!(rt; bench.attach(1), Ok(()));
+    let mut bench = Bench::with_device(rt.alloc(), 1)?;
     for page in 0..127u32 {
-        assert_eq!(rt; bench.grant(1, u64::from(page), 5), Ok(()));
-        assert_eq!(rt; bench.release(1, u64::from(page)), Ok(Ticket(page + 1)));
+        expect(&rt, bench.grant(1, u64::from(page), 5) == Ok(()));
+        expect(
+            &rt,
+            bench.release(1, u64::from(page)) == Ok(Ticket(page + 1)),
+        );
     }
-    assert_eq!(rt; bench.grant(1, 127, 5), Ok(()));
-    assert_eq!(rt; bench.release(1, 127), Err(Refusal::QueueFull));
-    assert_eq!(rt; bench.io.registers.command_tail(), 254);
-    assert_eq!(rt; bench.driver.pending(), 127);
+    expect(&rt, bench.grant(1, 127, 5) == Ok(()));
+    expect(&rt, bench.release(1, 127) == Err(Refusal::QueueFull));
+    expect(&rt, bench.register(Register::Cqt) == 254);
+    expect(&rt, bench.pending() == 127);
     Ok(())
 }

@@ -1,6 +1,7 @@
 use crate::bench::Bench;
+use crate::expect::expect;
 use iom_driver::Driver;
-use iom_phys_mem::{Bytes, MemError};
+use iom_phys_mem::MemError;
 use iom_registers::Register;
 use std::test::Fail;
 
@@ -9,14 +10,14 @@ use std::test::Fail;
 #[test]
 fn three_registers_are_written_in_order(rt: HostRuntime) -> Result<(), Fail> {
     let bench = Bench::new(rt.alloc())?;
-    assert_eq!(rt; bench.io.before, None);
-    assert_eq!(rt; bench.io.first, Some(Register::Ddtp));
-    assert_eq!(rt; bench.io.second, Some(Register::Cqb));
-    assert_eq!(rt; bench.io.third, Some(Register::Cqcsr));
-    let registers = bench.io.registers;
-    assert_eq!(rt; registers.value(Register::Ddtp), 0xf002);
-    assert_eq!(rt; registers.value(Register::Cqb), 0xfc07);
-    assert_eq!(rt; registers.value(Register::Cqcsr), 0x10001);
+    let [before, first, second, third] = bench.writes();
+    expect(&rt, before == None);
+    expect(&rt, first == Some(Register::Ddtp));
+    expect(&rt, second == Some(Register::Cqb));
+    expect(&rt, third == Some(Register::Cqcsr));
+    expect(&rt, bench.register(Register::Ddtp) == 0xf002);
+    expect(&rt, bench.register(Register::Cqb) == 0xfc07);
+    expect(&rt, bench.register(Register::Cqcsr) == 0x10001);
     Ok(())
 }
 
@@ -24,20 +25,32 @@ fn three_registers_are_written_in_order(rt: HostRuntime) -> Result<(), Fail> {
 #[test]
 fn nothing_waits_after_a_start(rt: HostRuntime) -> Result<(), Fail> {
     let bench = Bench::new(rt.alloc())?;
-    assert_eq!(rt; bench.memory.load_u64(0x3d000), Some(0));
-    assert_eq!(rt; bench.memory.load_u64(0x3c000), Some(0));
-    assert_eq!(rt; bench.io.registers.command_head(), 0);
-    assert_eq!(rt; bench.io.registers.command_tail(), 0);
-    assert_eq!(rt; bench.driver.pending(), 0);
+    expect(&rt, bench.word(0x3d000) == Some(0));
+    expect(&rt, bench.word(0x3c000) == Some(0));
+    expect(&rt, bench.register(Register::Cqh) == 0);
+    expect(&rt, bench.register(Register::Cqt) == 0);
+    expect(&rt, bench.pending() == 0);
     Ok(())
 }
 
 // Sizes that there aren't.
 #[test]
 fn bad_sizes_are_told(rt: HostRuntime) -> Result<(), Fail> {
-    assert!(rt; matches!(Driver::new(rt.alloc(), 63, 1), Err(MemError::BadSize)));
-    assert!(rt; matches!(Driver::new(rt.alloc(), 4097, 1), Err(MemError::BadSize)));
-    assert!(rt; matches!(Driver::new(rt.alloc(), 64, 0), Err(MemError::BadSize)));
-    assert!(rt; matches!(Driver::new(rt.alloc(), 64, 4), Err(MemError::BadSize)));
+    expect(
+        &rt,
+        matches!(Driver::new(rt.alloc(), 63, 1), Err(MemError::BadSize)),
+    );
+    expect(
+        &rt,
+        matches!(Driver::new(rt.alloc(), 4097, 1), Err(MemError::BadSize)),
+    );
+    expect(
+        &rt,
+        matches!(Driver::new(rt.alloc(), 64, 0), Err(MemError::BadSize)),
+    );
+    expect(
+        &rt,
+        matches!(Driver::new(rt.alloc(), 64, 4), Err(MemError::BadSize)),
+    );
     Ok(())
 }
