@@ -11,22 +11,33 @@ use Rattle.iom_virtio_blk.specs.declared.front.Front.{Front}
 use Rattle.iom_virtio_blk.specs.declared.serving.Serving.{Serving}
 use Rattle.iom_virtio_blk.specs.declared.serving.Job.{Job}
 use Rattle.iom_virtio_blk.specs.declared.serving.Job.TheVariants.{Header, Reading, Writing, Ending}
-use Rattle.iom_virtio_blk.specs.Serving.{access_at, access_in, piece_in, IsUnderWayIn, IsUnderWay}
+use Rattle.iom_virtio_blk.specs.Serving.{access_at, access_in, piece_in, piece_len, IsUnderWayIn, IsUnderWay}
 use Rattle.iom_virtio_blk.specs.Blocks.{wanted_in, wanted_by}
 
--- the bytes of data are some, and among those of the chain
-pub data_came : (b : Front) → AreOf b.got.items (wanted_by b) → b.queue.phase ≡ Served → b.serving.job ≡ Writing
-    → (1 ≤ length b.got.items) × (b.serving.read + length b.got.items ≤ byte_count b.queue.chain.readable)
+-- the bytes of data are some, among those of the chain, and of one sector
+pub record IsData (b : Front) : Type 0 where
+  pub some : 1 ≤ length b.got.items
+  pub within : b.serving.read + length b.got.items ≤ byte_count b.queue.chain.readable
+  pub few : (b.serving.read - 16) % 512 + length b.got.items ≤ 512
+
+pub data_came : (b : Front) → AreOf b.got.items (wanted_by b) → b.queue.phase ≡ Served → b.serving.job ≡ Writing → IsData b
 data_came b made phase job =
     let served : AreOf b.got.items (wanted_in Served b) = subst (λ (p : Phase). AreOf b.got.items (wanted_in p b)) phase made in
     let taken : AreOf b.got.items (access_at Writing b.serving b.buffer (piece_in Writing b.serving b.queue.chain)) = subst (λ (j : Job). AreOf b.got.items (access_at j b.serving b.buffer (piece_in j b.serving b.queue.chain))) job served in
     by (piece_in Writing b.serving b.queue.chain) refl taken where
-      by : (piece : Option Piece) → piece_in Writing b.serving b.queue.chain ≡ piece → AreOf b.got.items (access_at Writing b.serving b.buffer piece) → (1 ≤ length b.got.items) × (b.serving.read + length b.got.items ≤ byte_count b.queue.chain.readable)
+      by : (piece : Option Piece) → piece_in Writing b.serving b.queue.chain ≡ piece → AreOf b.got.items (access_at Writing b.serving b.buffer piece) → IsData b
       by None e are = absurd are
       by (Some piece) e are =
           let within = piece_of-within b.queue.chain.readable b.serving.read (512 - (b.serving.read - 16) % 512) piece e in
           let cut : IsCut (512 - (b.serving.read - 16) % 512) piece = piece_of-cut b.queue.chain.readable b.serving.read (512 - (b.serving.read - 16) % 512) piece (omega arith) e in
-          (omega (arith, cut.some), omega arith)
+          record { some = omega (arith, cut.some); within = omega arith; few = omega (arith, cut.not_more) }
+
+-- a piece of a sector is not more than the rest of the sector
+pub piece-few : (s : Serving) (chain : Chain) → piece_len (piece_in Reading s chain) ≤ 512 - s.wrote % 512
+piece-few s chain = by (piece_in Reading s chain) refl where
+  by : (piece : Option Piece) → piece_in Reading s chain ≡ piece → piece_len piece ≤ 512 - s.wrote % 512
+  by None e = omega arith
+  by (Some piece) e = let cut : IsCut (512 - s.wrote % 512) piece = piece_of-cut chain.writable s.wrote (512 - s.wrote % 512) piece (omega arith) e in cut.not_more
 
 -- part of a sector, as a write, lies in the page of its piece
 sector_part : (s : Serving) (buffer : List ℕ) (piece : Piece) → IsCut (512 - s.wrote % 512) piece → length buffer ≡ 512 → IsWithinPage (access_at Reading s buffer (Some piece))

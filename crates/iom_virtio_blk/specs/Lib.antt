@@ -6,3 +6,4 @@ pub mod Serving
 pub mod Blocks
 pub mod Steps
 pub mod ReadyProps
+pub mod Histories

@@ -1,4 +1,4 @@
-ghost use Rattle.std.specs.Prelude.{◌≡◌, ◌≢◌, ◌≤◌, ℕ, length, Option, Some, None, true, false, is_some, unwrap_or};
+ghost use Rattle.std.specs.Prelude.{◌≡◌, ◌≢◌, ◌≤◌, ℕ, List, length, Option, Some, None, true, false, is_some, unwrap_or};
 ghost use Rattle.iom_virtqueue.specs.Accesses.{AreOf, IsWithinPage, shown};
 ghost use Rattle.iom_virtqueue.specs.Layouts.{IsLayout};
 ghost use Rattle.iom_virtqueue.specs.declared.phase.Phase.TheVariants.{Served};
@@ -8,6 +8,7 @@ ghost use Rattle.iom_virtio_blk.specs.Stages.{status_of};
 ghost use Rattle.iom_virtio_blk.specs.Disks.{disk_in};
 ghost use Rattle.iom_virtio_blk.specs.Blocks.{IsReady, IsAsking, IsTaking, TakesBytes, replied, given_up, down, negotiated, with_queue, wanted_by};
 ghost use Rattle.iom_virtio_blk.specs.Steps.{Device, Steps, Serves, Calls};
+ghost use Rattle.iom_virtio_blk.specs.Histories.{Entry, Agrees, history_after};
 ghost use Rattle.iom_virtio_blk.specs.ReadyProps.{IsReady-prop};
 
 use crate::disk::Disk;
@@ -121,8 +122,13 @@ impl Blk {
     }
 
     /// One step, up to the next access to memory. The disk is called at most once.
+    ///
+    /// A history that tells the disk before the step goes on to one that tells it afterwards: an OUT that ended OK is there with all of
+    /// its data, and one that failed, or is in work, sector by sector. While an IN is served, what is written to memory is the disk's.
     pub fn step(&mut self) -> Step
         ensures step { Steps (record { front = self.old.front; disk = disk_in held failed self.old.drive.disk }) result (record { front = self.new.front; disk = disk_in held failed self.new.drive.disk }) }
+        ensures history { (history : List Entry) → Agrees history (record { front = self.old.front; disk = disk_in held failed self.old.drive.disk })
+            → Agrees (history_after self.old.front.is_made (record { front = self.old.front; disk = disk_in held failed self.old.drive.disk }) (record { front = self.new.front; disk = disk_in held failed self.new.drive.disk }) history) (record { front = self.new.front; disk = disk_in held failed self.new.drive.disk }) }
     {
         match self.front.stage() {
             Stage::DriverOk => {}
