@@ -4,7 +4,7 @@ use Rattle.iom_virtqueue.specs.declared.spans.Piece.{Piece}
 use Rattle.iom_virtqueue.specs.declared.phase.Phase.{Phase}
 use Rattle.iom_virtqueue.specs.declared.phase.Phase.TheVariants.{AvailableIndex, RingEntry, Table, Served, UsedElement, UsedIndex, Faulted}
 use Rattle.iom_virtqueue.specs.Chains.{Chain, byte_count, IsChain}
-use Rattle.iom_virtqueue.specs.Accesses.{nothing, AreOf, IsWithinPage}
+use Rattle.iom_virtqueue.specs.Accesses.{Access, nothing, AreOf, IsWithinPage}
 use Rattle.iom_virtqueue.specs.Queues.{QueueState, wanted, wanted_in as queue_wants}
 use Rattle.iom_virtqueue.proofs.SpanLemmas.{IsCut, piece_of-within, piece_of-cut, piece_of-there}
 use Rattle.iom_virtio_blk.specs.declared.front.Front.{Front}
@@ -12,7 +12,8 @@ use Rattle.iom_virtio_blk.specs.declared.serving.Serving.{Serving}
 use Rattle.iom_virtio_blk.specs.declared.serving.Job.{Job}
 use Rattle.iom_virtio_blk.specs.declared.serving.Job.TheVariants.{Header, Reading, Writing, Ending}
 use Rattle.iom_virtio_blk.specs.Serving.{access_at, access_in, piece_in, piece_len, IsUnderWayIn, IsUnderWay}
-use Rattle.iom_virtio_blk.specs.Blocks.{wanted_in, wanted_by}
+use Rattle.iom_virtio_blk.specs.Blocks.{IsReady, wanted_in, wanted_by, replied}
+use Rattle.iom_virtio_blk.specs.declared.step.Reply.TheVariants.{Accepted}
 
 -- the bytes of data are some, among those of the chain, and of one sector
 pub record IsData (b : Front) : Type 0 where
@@ -98,3 +99,15 @@ queue-within b served faulted within = rw (other_phase b served) (within (wants_
 
 pub served-within : (b : Front) → b.queue.phase ≡ Served → IsWithinPage (access_in b.serving b.buffer b.queue.chain) → IsWithinPage (wanted_by b)
 served-within b phase within = subst (λ (p : Phase). IsWithinPage (wanted_in p b)) (sym phase) within
+
+-- the bytes of a wanted access are those of the access that was accepted
+pub accepted_bytes : (b : Front) (number : ℕ) (access : Access) (bytes : List ℕ) → access ≡ wanted_by b → AreOf bytes access → AreOf bytes (wanted_by (replied (Accepted number) b))
+accepted_bytes b number access bytes is are = by b.queue.phase (subst (λ (a : Access). AreOf bytes a) is are) where
+  by : (p : Phase) → AreOf bytes (wanted_in p b) → AreOf bytes (wanted_in p (replied (Accepted number) b))
+  by AvailableIndex a = a
+  by RingEntry a = a
+  by (Table index) a = a
+  by Served a = a
+  by (UsedElement done) a = a
+  by UsedIndex a = a
+  by Faulted a = a

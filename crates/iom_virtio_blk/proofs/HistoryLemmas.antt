@@ -34,10 +34,13 @@ pub IsDisk-more : (history : List Entry) (map : List (List ℕ)) (first : ℕ) (
     → IsDisk (gave first xs ∷ history) map → IsDisk (gave first (xs ++ more) ∷ history) map
 IsDisk-more history map first xs more same disk n bytes at = elim (disk n bytes at) [
   | inl gives ↦ inl (Gives-more first xs more n bytes gives)
-  | inr other ↦ inr (elim other.0 [
-    | inl lt ↦ inl lt
-    | inr few ↦ inr (omega arith)
-  ], other.1)
+  | inr other ↦ inr (
+    elim other.0 [
+      | inl lt ↦ inl lt
+      | inr few ↦ inr (omega arith)
+    ],
+    other.1,
+  )
 ]
 
 -- what was given may as well have failed
@@ -59,10 +62,13 @@ IsDisk-write history map first xs more sector k whole most is lt disk n content 
   elsewhere : n ≢ first + k → MayHold (gave first (xs ++ more) ∷ history) n content
   elsewhere other = elim (disk n content (other_place map (first + k) n sector content other at)) [
     | inl gives ↦ inl (Gives-more first xs more n content gives)
-    | inr apart ↦ inr (elim apart.0 [
-      | inl less ↦ inl less
-      | inr few ↦ elim (cases_lt n first) [ inl less ↦ inl less | inr ge ↦ inr (omega arith) ]
-    ], apart.1)
+    | inr apart ↦ inr (
+      elim apart.0 [
+        | inl less ↦ inl less
+        | inr few ↦ elim (cases_lt n first) [ inl less ↦ inl less | inr ge ↦ inr (omega arith) ]
+      ],
+      apart.1,
+    )
   ]
 
   here : n ≡ first + k → MayHold (gave first (xs ++ more) ∷ history) n content

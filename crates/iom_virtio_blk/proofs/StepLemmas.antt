@@ -62,7 +62,13 @@ writing-case b disk new (failed first xs ∷ earlier) done now ready taking phas
 writing-case b disk new (gave first xs ∷ earlier) done now ready taking phase full job map work calls =
     let came : IsData b = data_came b (ready.made taking.made).1 phase job in
     let giving : IsGiving first xs b.got.items b.buffer (buffer_in Writing b) b.serving = record {
-      sector = work.1.0; read = work.1.1; full = full; few = came.few; some = came.some; rest = work.2; kept_is = refl;
+      sector = work.1.0;
+      read = work.1.1;
+      full = full;
+      few = came.few;
+      some = came.some;
+      rest = work.2;
+      kept_is = refl;
     } in
     data-goes done b.serving b.queue.chain first xs b.got.items b.buffer (buffer_in Writing b) now earlier disk new giving work.0 map calls
 

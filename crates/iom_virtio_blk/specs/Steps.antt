@@ -23,6 +23,9 @@ pub record Device : Type 0 where
   pub front : Front
   pub disk : Option DiskState
 
+abbrev pub device : Front → Option DiskState → Device
+device front disk = record { front = front; disk = disk }
+
 -- the call of the disk, if there is one, went well or didn't: `kept` is the buffer before it, and `buffer` the one after it
 abbrev pub Calls : Option Call → Bool → Option DiskState → List ℕ → Option DiskState → List ℕ → Type 0
 Calls None true old kept new buffer = (new ≡ old) × (buffer ≡ kept)

@@ -7,7 +7,7 @@ ghost use Rattle.iom_virtio_blk.specs.Features.{flush_of};
 ghost use Rattle.iom_virtio_blk.specs.Stages.{status_of};
 ghost use Rattle.iom_virtio_blk.specs.Disks.{disk_in};
 ghost use Rattle.iom_virtio_blk.specs.Blocks.{IsReady, IsAsking, IsTaking, TakesBytes, replied, given_up, down, negotiated, with_queue, wanted_by};
-ghost use Rattle.iom_virtio_blk.specs.Steps.{Device, Steps, Serves, Calls};
+ghost use Rattle.iom_virtio_blk.specs.Steps.{device, Steps, Serves, Calls};
 ghost use Rattle.iom_virtio_blk.specs.Histories.{Entry, Agrees, history_after};
 ghost use Rattle.iom_virtio_blk.specs.ReadyProps.{IsReady-prop};
 
@@ -20,15 +20,15 @@ use iom_virtqueue::Layout;
 
 /// A block device: its front and its disk, which apart from one another know nothing of each other.
 #[derive(Drop)]
-pub struct Blk {
+pub struct Blk<D: Disk> {
     front: Front,
-    drive: Drive,
+    drive: Drive<D>,
     ghost ready: { IsReady front } by { IsReady-prop front },
 }
 
-impl Blk {
+impl<D: Disk> Blk<D> {
     /// A device that was just plugged, with no disk.
-    pub fn new() -> Blk
+    pub fn new() -> Blk<D>
         ensures stage { result.front.stage ≡ Reset }
         ensures disk { result.drive.disk ≡ None }
     {
@@ -39,7 +39,7 @@ impl Blk {
     }
 
     /// A disk goes in as it is. Asks that there is none.
-    pub fn insert(&mut self, disk: Box<dyn Disk>)
+    pub fn insert(&mut self, disk: D)
         requires { self.old.drive.disk ≡ None }
         ensures disk { self.new.drive.disk ≡ Some disk }
         ensures front { self.new.front ≡ self.old.front }
@@ -94,8 +94,7 @@ impl Blk {
     /// The access of this number was made, with these bytes where it was a read. They are taken only where the device began this
     /// access itself since its last reset, and waits for it still.
     pub fn made(&mut self, number: u64, bytes: &[u8])
-        requires bytes { self.old.front.waits ≡ Some number → AreOf bytes.now (wanted_by self.old.front) }
-        requires len { length bytes.now ≤ 512 }
+        requires { self.old.front.waits ≡ Some number → AreOf bytes.now (wanted_by self.old.front) }
         ensures own { self.old.front.waits ≡ Some number → TakesBytes self.old.front bytes.now self.new.front }
         ensures others { self.old.front.waits ≢ Some number → self.new.front ≡ self.old.front }
         ensures disk { self.new.drive ≡ self.old.drive }
@@ -126,9 +125,9 @@ impl Blk {
     /// A history that tells the disk before the step goes on to one that tells it afterwards: an OUT that ended OK is there with all of
     /// its data, and one that failed, or is in work, sector by sector. While an IN is served, what is written to memory is the disk's.
     pub fn step(&mut self) -> Step
-        ensures step { Steps (record { front = self.old.front; disk = disk_in held failed self.old.drive.disk }) result (record { front = self.new.front; disk = disk_in held failed self.new.drive.disk }) }
-        ensures history { (history : List Entry) → Agrees history (record { front = self.old.front; disk = disk_in held failed self.old.drive.disk })
-            → Agrees (history_after self.old.front.is_made (record { front = self.old.front; disk = disk_in held failed self.old.drive.disk }) (record { front = self.new.front; disk = disk_in held failed self.new.drive.disk }) history) (record { front = self.new.front; disk = disk_in held failed self.new.drive.disk }) }
+        ensures step { Steps (device self.old.front (disk_in D.held D.failed self.old.drive.disk)) result (device self.new.front (disk_in D.held D.failed self.new.drive.disk)) }
+        ensures history { (history : List Entry) → Agrees history (device self.old.front (disk_in D.held D.failed self.old.drive.disk))
+            → Agrees (history_after self.old.front.is_made (device self.old.front (disk_in D.held D.failed self.old.drive.disk)) (device self.new.front (disk_in D.held D.failed self.new.drive.disk)) history) (device self.new.front (disk_in D.held D.failed self.new.drive.disk)) }
     {
         match self.front.stage() {
             Stage::DriverOk => {}
@@ -152,7 +151,7 @@ impl Blk {
     fn serve(&mut self) -> Step
         requires taking { IsTaking self.old.front }
         requires phase { self.old.front.queue.phase ≡ Served }
-        ensures step { Steps (record { front = self.old.front; disk = disk_in held failed self.old.drive.disk }) result (record { front = self.new.front; disk = disk_in held failed self.new.drive.disk }) }
+        ensures step { Steps (device self.old.front (disk_in D.held D.failed self.old.drive.disk)) result (device self.new.front (disk_in D.held D.failed self.new.drive.disk)) }
     {
         if let Some(call) = self.front.take_served(self.drive.sectors()) {
             let done = self.call(call);
@@ -166,7 +165,7 @@ impl Blk {
     /// Calls the disk, and tells whether it did what was asked.
     fn call(&mut self, call: Call) -> bool
         requires { self.old.front.is_made ≡ false }
-        ensures calls { Calls (Some call) result (disk_in held failed self.old.drive.disk) self.old.front.buffer (disk_in held failed self.new.drive.disk) self.new.front.buffer }
+        ensures calls { Calls (Some call) result (disk_in D.held D.failed self.old.drive.disk) self.old.front.buffer (disk_in D.held D.failed self.new.drive.disk) self.new.front.buffer }
         ensures front { self.new.front ≡ record self.old.front { buffer = self.new.front.buffer } }
     {
         match call {

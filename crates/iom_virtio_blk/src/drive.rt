@@ -5,23 +5,23 @@ use crate::disk::{Disk, DiskFault};
 
 /// A place for a disk, which may be empty.
 ///
-/// The definitions of its clauses take the disk's ghost members `held` and `failed`, since a definition
-/// can't speak of a `dyn` itself.
+/// The definitions of its clauses take the disk's ghost members `held` and `failed`, and so speak of any
+/// disk.
 #[derive(Drop)]
-pub(crate) struct Drive {
-    disk: Option<Box<dyn Disk>>,
+pub(crate) struct Drive<D: Disk> {
+    disk: Option<D>,
 }
 
-impl Drive {
+impl<D: Disk> Drive<D> {
     /// A place with no disk.
-    pub(crate) fn new() -> Drive
+    pub(crate) fn new() -> Drive<D>
         ensures { result.disk ≡ None }
     {
         Drive { disk: None }
     }
 
     /// The disk goes in as it is.
-    pub(crate) fn insert(&mut self, disk: Box<dyn Disk>)
+    pub(crate) fn insert(&mut self, disk: D)
         requires { self.old.disk ≡ None }
         ensures { self.new.disk ≡ Some disk }
     {
@@ -37,7 +37,7 @@ impl Drive {
 
     /// The number of sectors, where there is a disk.
     pub(crate) fn sectors(&self) -> Option<u64>
-        ensures { result ≡ sector_count (disk_in held failed self.now.disk) }
+        ensures { result ≡ sector_count (disk_in D.held D.failed self.now.disk) }
     {
         match &self.disk {
             Some(disk) => Some(disk.sectors()),
@@ -47,9 +47,9 @@ impl Drive {
 
     /// Reads a sector.
     pub(crate) fn read(&mut self, sector: u64, bytes: &mut [u8; 512]) -> Result<(), DiskFault>
-        ensures ok { OnOk result (DidRead (disk_in held failed self.old.disk) sector bytes.new) }
-        ensures same { KeepsSectors (disk_in held failed self.old.disk) (disk_in held failed self.new.disk) }
-        ensures fault { OnErr result (HasReason (disk_in held failed self.old.disk) sector (disk_in held failed self.new.disk)) }
+        ensures ok { OnOk result (DidRead (disk_in D.held D.failed self.old.disk) sector bytes.new) }
+        ensures same { KeepsSectors (disk_in D.held D.failed self.old.disk) (disk_in D.held D.failed self.new.disk) }
+        ensures fault { OnErr result (HasReason (disk_in D.held D.failed self.old.disk) sector (disk_in D.held D.failed self.new.disk)) }
     {
         match self.disk.take() {
             Some(mut disk) => {
@@ -67,9 +67,9 @@ impl Drive {
 
     /// Writes a sector.
     pub(crate) fn write(&mut self, sector: u64, bytes: &[u8; 512]) -> Result<(), DiskFault>
-        ensures ok { OnOk result (DidWrite (disk_in held failed self.old.disk) sector bytes.now (disk_in held failed self.new.disk)) }
-        ensures err { OnErr result (Tears (disk_in held failed self.old.disk) sector bytes.now (disk_in held failed self.new.disk)) }
-        ensures fault { OnErr result (HasReason (disk_in held failed self.old.disk) sector (disk_in held failed self.new.disk)) }
+        ensures ok { OnOk result (DidWrite (disk_in D.held D.failed self.old.disk) sector bytes.now (disk_in D.held D.failed self.new.disk)) }
+        ensures err { OnErr result (Tears (disk_in D.held D.failed self.old.disk) sector bytes.now (disk_in D.held D.failed self.new.disk)) }
+        ensures fault { OnErr result (HasReason (disk_in D.held D.failed self.old.disk) sector (disk_in D.held D.failed self.new.disk)) }
     {
         match self.disk.take() {
             Some(mut disk) => {
@@ -87,9 +87,9 @@ impl Drive {
 
     /// Makes what was written last.
     pub(crate) fn flush(&mut self) -> Result<(), DiskFault>
-        ensures ok { OnOk result (IsThere (disk_in held failed self.old.disk)) }
-        ensures same { KeepsSectors (disk_in held failed self.old.disk) (disk_in held failed self.new.disk) }
-        ensures fault { OnErr result (HasFlushReason (disk_in held failed self.old.disk) (disk_in held failed self.new.disk)) }
+        ensures ok { OnOk result (IsThere (disk_in D.held D.failed self.old.disk)) }
+        ensures same { KeepsSectors (disk_in D.held D.failed self.old.disk) (disk_in D.held D.failed self.new.disk) }
+        ensures fault { OnErr result (HasFlushReason (disk_in D.held D.failed self.old.disk) (disk_in D.held D.failed self.new.disk)) }
     {
         match self.disk.take() {
             Some(mut disk) => {

@@ -138,7 +138,6 @@ impl Front {
     pub(crate) fn made(&mut self, number: u64, bytes: &[u8])
         requires ready { IsReady self.old }
         requires bytes { self.old.waits ≡ Some number → AreOf bytes.now (wanted_by self.old) }
-        requires len { length bytes.now ≤ 512 }
         ensures own { self.old.waits ≡ Some number → TakesBytes self.old bytes.now self.new }
         ensures others { self.old.waits ≢ Some number → self.new ≡ self.old }
         ensures ready { IsReady self.new }
