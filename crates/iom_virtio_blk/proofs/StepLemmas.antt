@@ -8,7 +8,7 @@ use Rattle.iom_virtio_blk.specs.declared.front.Front.{Front}
 use Rattle.iom_virtio_blk.specs.declared.request.Plan.{Plan}
 use Rattle.iom_virtio_blk.specs.declared.request.Plan.TheVariants.{ReadDisk, WriteDisk, FlushDisk, End}
 use Rattle.iom_virtio_blk.specs.declared.request.RequestStatus.{RequestStatus}
-use Rattle.iom_virtio_blk.specs.declared.request.RequestStatus.TheVariants.{IoError, Unsupported}
+use Rattle.iom_virtio_blk.specs.declared.request.RequestStatus.TheVariants.{Ok, IoError, Unsupported}
 use Rattle.iom_virtqueue.specs.Queues.{QueueState, after, fault_of}
 use Rattle.iom_virtio_blk.specs.declared.serving.Serving.{Serving}
 use Rattle.iom_virtio_blk.specs.declared.serving.Job.{Job}
@@ -19,10 +19,10 @@ use Rattle.iom_virtio_blk.specs.declared.step.Step.{Step}
 use Rattle.iom_virtio_blk.specs.declared.step.Step.TheVariants.{Idle, Waiting, Down, Chain, Finished, Wants}
 use Rattle.iom_virtio_blk.specs.Disks.{DiskState, sector_count, DidRead, IsThere}
 use Rattle.iom_virtio_blk.specs.Requests.{plan_of, fits}
-use Rattle.iom_virtio_blk.specs.Serving.{opening, piece_in, piece_len, data_in, data_out, IsUnderWayIn}
+use Rattle.iom_virtio_blk.specs.Serving.{unread, piece_in, piece_len, data_in, data_out, IsUnderWayIn}
 use Rattle.iom_virtio_blk.specs.Blocks.{IsReady, IsTaking, wanted_by, planned, kind_in, sector_in, buffer_in, serving_in, call_in, queue_in, after_served, call_after}
-use Rattle.iom_virtio_blk.specs.Steps.{Device, Calls, settled, Serves, TakesQueue, UsesIn, GoesOnIn, serving_from, taken_front, Steps}
-use Rattle.iom_virtio_blk.specs.Histories.{Entry, gave, failed, inserted, IsMap, InWork, Gave, IsRest, Agrees, told, told_in, history_after}
+use Rattle.iom_virtio_blk.specs.Steps.{Device, device, Calls, settled, Serves, TakesQueue, UsesIn, GoesOnIn, serving_from, taken_front, Steps}
+use Rattle.iom_virtio_blk.specs.Histories.{Entry, gave, failed, inserted, IsMap, InWork, Gave, IsRest, TellsDisk, told, told_in, history_after}
 use Rattle.iom_virtio_blk.proofs.AccessLemmas.{IsData, data_came, piece-few}
 use Rattle.iom_virtio_blk.proofs.ToldLemmas.{Goes, IsGiving, header-goes, reading-goes, data-goes}
 
@@ -74,15 +74,15 @@ writing-case b disk new (gave first xs ∷ earlier) done now ready taking phase 
 
 -- a device that serves a request used the bytes of its access
 served-agrees : (history : List Entry) (old new : Device) → IsReady old.front → IsTaking old.front → old.front.queue.phase ≡ Served → length old.front.buffer ≡ 512 → Serves old new
-    → Agrees history old → Agrees (told old.front.serving.job new.front.serving.job new.front.serving.sector old.front.got.items history) new
+    → TellsDisk history old → TellsDisk (told old.front.serving.job new.front.serving.job new.front.serving.sector old.front.got.items history) new
 served-agrees history old new ready taking phase full serves agrees = by old.front.serving.job refl where
   goes : (job : Job) → old.front.serving.job ≡ job → Goes job old.front.got.items history new.disk (settled serves.0 (serving_in job old.front (sector_count old.disk))) new.front.buffer
-      → Agrees (told old.front.serving.job new.front.serving.job new.front.serving.sector old.front.got.items history) new
+      → TellsDisk (told old.front.serving.job new.front.serving.job new.front.serving.sector old.front.got.items history) new
   goes job e g = there same where
     same : new.front.serving ≡ settled serves.0 (serving_in job old.front (sector_count old.disk))
     same = ap (λ (f : Front). f.serving) serves.2 ∙ ap (λ (j : Job). settled serves.0 (serving_in j old.front (sector_count old.disk))) e
 
-    there : new.front.serving ≡ settled serves.0 (serving_in job old.front (sector_count old.disk)) → Agrees (told old.front.serving.job new.front.serving.job new.front.serving.sector old.front.got.items history) new
+    there : new.front.serving ≡ settled serves.0 (serving_in job old.front (sector_count old.disk)) → TellsDisk (told old.front.serving.job new.front.serving.job new.front.serving.sector old.front.got.items history) new
     there same =
         let now : Goes job old.front.got.items history new.disk new.front.serving new.front.buffer = subst (λ (t : Serving). Goes job old.front.got.items history new.disk t new.front.buffer) (sym same) g in
         let here : Goes old.front.serving.job old.front.got.items history new.disk new.front.serving new.front.buffer = subst (λ (j : Job). Goes j old.front.got.items history new.disk new.front.serving new.front.buffer) (sym e) now in
@@ -95,7 +95,7 @@ served-agrees history old new ready taking phase full serves agrees = by old.fro
   work job e = subst (λ (j : Job). InWork j old.front.serving old.front.buffer history old.disk) e (agrees.work taking.stage phase)
 
   ended : (end : RequestStatus) → old.front.serving.job ≡ Ending end → (done : Bool) → Calls None done old.disk old.front.buffer new.disk new.front.buffer
-      → Agrees (told old.front.serving.job new.front.serving.job new.front.serving.sector old.front.got.items history) new
+      → TellsDisk (told old.front.serving.job new.front.serving.job new.front.serving.sector old.front.got.items history) new
   ended end e false c = absurd c
   ended end e true c = rw e (record { map = rw c.0 agrees.map; work = λ stage served. absurd (later (sym moved ∙ served)) }) where
     moved : new.front.queue.phase ≡ UsedElement 0
@@ -104,18 +104,18 @@ served-agrees history old new ready taking phase full serves agrees = by old.fro
     later : UsedElement 0 ≡ Served → ⊥
     later x = cc
 
-  by : (job : Job) → old.front.serving.job ≡ job → Agrees (told old.front.serving.job new.front.serving.job new.front.serving.sector old.front.got.items history) new
+  by : (job : Job) → old.front.serving.job ≡ job → TellsDisk (told old.front.serving.job new.front.serving.job new.front.serving.sector old.front.got.items history) new
   by Header e = goes Header e (header-case old.front old.disk new.disk history serves.0 new.front.buffer ready phase e agrees.map (calls Header e))
   by Reading e = goes Reading e (reading-case old.front old.disk new.disk history serves.0 new.front.buffer ready phase e agrees.map (work Reading e) (calls Reading e))
   by Writing e = goes Writing e (writing-case old.front old.disk new.disk history serves.0 new.front.buffer ready taking phase full e agrees.map (work Writing e) (calls Writing e))
   by (Ending end) e = ended end e serves.0 (calls (Ending end) e)
 
 -- a chain that is served now is served from its first byte on
-fresh : (p : Phase) (s : Serving) → p ≡ Served → serving_from p s ≡ opening
+fresh : (p : Phase) (s : Serving) → p ≡ Served → serving_from p s ≡ unread
 fresh p s e = ap (λ (q : Phase). serving_from q s) e
 
 -- a device that reads its queue, or writes into it, used the bytes of its access
-queue-agrees : (history : List Entry) (old new : Device) → TakesQueue old new → Agrees history old → Agrees history new
+queue-agrees : (history : List Entry) (old new : Device) → TakesQueue old new → TellsDisk history old → TellsDisk history new
 queue-agrees history old new takes agrees = record { map = rw takes.1 agrees.map; work = work } where
   serving : new.front.serving ≡ serving_from (after old.front.queue old.front.got.items).phase old.front.serving
   serving = ap (λ (f : Front). f.serving) takes.2
@@ -125,7 +125,7 @@ queue-agrees history old new takes agrees = record { map = rw takes.1 agrees.map
 
   work : new.front.stage ≡ DriverOk → new.front.queue.phase ≡ Served → InWork new.front.serving.job new.front.serving new.front.buffer history new.disk
   work stage served =
-      let opens : new.front.serving ≡ opening = serving ∙ fresh (after old.front.queue old.front.got.items).phase old.front.serving (sym phase ∙ served) in
+      let opens : new.front.serving ≡ unread = serving ∙ fresh (after old.front.queue old.front.got.items).phase old.front.serving (sym phase ∙ served) in
       subst (λ (s : Serving). InWork s.job s new.front.buffer history new.disk) (sym opens) tt
 
 -- the history of a device that doesn't serve a request
@@ -141,17 +141,17 @@ other-told history old new other = by old.front.queue.phase refl where
   by Faulted e = refl
 
 -- a device whose access wasn't made
-unmade : (history : List Entry) (old new : Device) → old.front.is_made ≡ false → Agrees history new → Agrees (history_after old.front.is_made old new history) new
-unmade history old new none agrees = subst (λ (m : Bool). Agrees (history_after m old new history) new) (sym none) agrees
+unmade : (history : List Entry) (old new : Device) → old.front.is_made ≡ false → TellsDisk history new → TellsDisk (history_after old.front.is_made old new history) new
+unmade history old new none agrees = subst (λ (m : Bool). TellsDisk (history_after m old new history) new) (sym none) agrees
 
-made : (history : List Entry) (old new : Device) → old.front.is_made ≡ true → Agrees (told_in old.front.queue.phase old new history) new → Agrees (history_after old.front.is_made old new history) new
-made history old new is agrees = subst (λ (m : Bool). Agrees (history_after m old new history) new) (sym is) agrees
+made : (history : List Entry) (old new : Device) → old.front.is_made ≡ true → TellsDisk (told_in old.front.queue.phase old new history) new → TellsDisk (history_after old.front.is_made old new history) new
+made history old new is agrees = subst (λ (m : Bool). TellsDisk (history_after m old new history) new) (sym is) agrees
 
-unserved : (history : List Entry) (old new : Device) → old.front.is_made ≡ true → old.front.queue.phase ≢ Served → Agrees history new → Agrees (history_after old.front.is_made old new history) new
-unserved history old new is other agrees = made history old new is (subst (λ h. Agrees h new) (sym (other-told history old new other)) agrees)
+unserved : (history : List Entry) (old new : Device) → old.front.is_made ≡ true → old.front.queue.phase ≢ Served → TellsDisk history new → TellsDisk (history_after old.front.is_made old new history) new
+unserved history old new is other agrees = made history old new is (subst (λ h. TellsDisk h new) (sym (other-told history old new other)) agrees)
 
-same-device : (history : List Entry) (old new : Device) → new ≡ old → Agrees history old → Agrees history new
-same-device history old new same agrees = subst (λ (d : Device). Agrees history d) (sym same) agrees
+same-device : (history : List Entry) (old new : Device) → new ≡ old → TellsDisk history old → TellsDisk history new
+same-device history old new same agrees = subst (λ (d : Device). TellsDisk history d) (sym same) agrees
 
 not_both : (old : Device) → IsReady old.front → IsSome old.front.waits → (m : Bool) → old.front.is_made ≡ m → m ≡ false
 not_both old ready some false e = refl
@@ -173,10 +173,10 @@ is_taking b ready is = record { stage = by b.stage refl; waits = (ready.made is)
   by NeedsReset e = sym e ∙ idle (ready.quiet (λ works. cc)).made
 
 goes-agrees : (history : List Entry) (old new : Device) → IsReady old.front → length old.front.buffer ≡ 512 → (m : Bool) → old.front.is_made ≡ m → (m ≡ true → IsTaking old.front) → GoesOnIn m old new
-    → Agrees history old → Agrees (history_after m old new history) new
+    → TellsDisk history old → TellsDisk (history_after m old new history) new
 goes-agrees history old new ready full false e taking goes agrees = same-device history old new goes agrees
 goes-agrees history old new ready full true e taking goes agrees = by old.front.queue.phase refl goes where
-  by : (p : Phase) → old.front.queue.phase ≡ p → UsesIn p old new → Agrees (told_in p old new history) new
+  by : (p : Phase) → old.front.queue.phase ≡ p → UsesIn p old new → TellsDisk (told_in p old new history) new
   by AvailableIndex e takes = queue-agrees history old new takes agrees
   by RingEntry e takes = queue-agrees history old new takes agrees
   by (Table index) e takes = queue-agrees history old new takes agrees
@@ -187,7 +187,7 @@ goes-agrees history old new ready full true e taking goes agrees = by old.front.
 
 -- the history goes on with each step
 pub steps-agrees : (history : List Entry) (old : Device) (result : Step) (new : Device) → IsReady old.front → length old.front.buffer ≡ 512 → Steps old result new
-    → Agrees history old → Agrees (history_after old.front.is_made old new history) new
+    → TellsDisk history old → TellsDisk (history_after old.front.is_made old new history) new
 steps-agrees history old Down new ready full steps agrees =
     unmade history old new (ready.quiet (λ e. stops (sym steps.0 ∙ e))).made (same-device history old new steps.1 agrees) where
       stops : NeedsReset ≡ DriverOk → ⊥
@@ -214,6 +214,24 @@ steps-agrees history old (Finished head len) new ready full steps agrees =
 steps-agrees history old (Wants want) new ready full steps agrees = goes-agrees history old new ready full old.front.is_made refl (is_taking old.front ready) steps.4 agrees
 
 -- the same, where both devices are known from the histories that tell them
-pub told_by_step : (history after : List Entry) (old new : Device) → Agrees history old → (result : Step) → IsReady old.front → length old.front.buffer ≡ 512
-    → after ≡ history_after old.front.is_made old new history → Steps old result new → Agrees after new
-told_by_step history after old new agrees result ready full is steps = subst (λ h. Agrees h new) (sym is) (steps-agrees history old result new ready full steps agrees)
+pub told_by_step : (history after : List Entry) (old new : Device) → TellsDisk history old → (result : Step) → IsReady old.front → length old.front.buffer ≡ 512
+    → after ≡ history_after old.front.is_made old new history → Steps old result new → TellsDisk after new
+told_by_step history after old new agrees result ready full is steps = subst (λ h. TellsDisk h new) (sym is) (steps-agrees history old result new ready full steps agrees)
+
+-- a disk that is put in begins a history: without one before it no OUT was in work, and no IN
+pub tells_inserted : (history : List Entry) (front : Front) (disk : DiskState) → TellsDisk history (device front None) → TellsDisk (inserted disk.sectors ∷ []) (device front (Some disk))
+tells_inserted history front disk tells = record { map = λ n bytes at. at; work = λ stage served. by front.serving.job (tells.work stage served) } where
+  by : (job : Job) → InWork job front.serving front.buffer history None → InWork job front.serving front.buffer (inserted disk.sectors ∷ []) (Some disk)
+  by Header work = tt
+  by Reading work = absurd work
+  by Writing work = absurd work.0
+  by (Ending Ok) work = λ lt. absurd (work lt).0
+  by (Ending IoError) work = tt
+  by (Ending Unsupported) work = tt
+
+-- a device that keeps its queue, its request and its buffer, and stays at work or stops, is told by the same history
+pub tells_kept : (history : List Entry) (old new : Front) (disk : Option DiskState) → new.queue ≡ old.queue → new.serving ≡ old.serving → new.buffer ≡ old.buffer → (new.stage ≡ DriverOk → old.stage ≡ DriverOk)
+    → TellsDisk history (device old disk) → TellsDisk history (device new disk)
+tells_kept history old new disk queue serving buffer stage tells = record { map = tells.map; work = work } where
+  work : new.stage ≡ DriverOk → new.queue.phase ≡ Served → InWork new.serving.job new.serving new.buffer history disk
+  work works served = rw (serving, buffer) (tells.work (stage works) (subst (λ (q : QueueState). q.phase ≡ Served) queue served))

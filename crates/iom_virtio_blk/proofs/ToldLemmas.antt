@@ -14,13 +14,13 @@ use Rattle.iom_virtio_blk.specs.declared.serving.Job.{Job}
 use Rattle.iom_virtio_blk.specs.declared.serving.Job.TheVariants.{Header, Reading, Writing, Ending}
 use Rattle.iom_virtio_blk.specs.Disks.{DiskState, KeepsSectors, DidRead, DidWrite, IsThere}
 use Rattle.iom_virtio_blk.specs.Serving.{begun, call_of, with_header, call_with_header, with_written, call_with_written, with_data, call_with_data, data_in, data_out}
-use Rattle.iom_virtio_blk.specs.Blocks.{with_bytes}
+use Rattle.iom_virtio_blk.specs.Blocks.{overlaid}
 use Rattle.iom_virtio_blk.specs.Steps.{Calls, settled}
 use Rattle.iom_virtio_blk.specs.Histories.{Entry, gave, failed, inserted, IsMap, InWork, Gave, IsRest, told}
 use Rattle.iom_virtio_blk.proofs.HistoryLemmas.{IsMap-kept, IsMap-begun, IsMap-more, IsMap-write, IsMap-tears}
 use Rattle.iom_virtio_blk.proofs.SectorLemmas.{rest_grows, buffer_filled}
 
--- what is to be shown of a request that did `job` and used these bytes
+-- what is to be access_of of a request that did `job` and used these bytes
 pub record Goes (job : Job) (got : List ℕ) (history : List Entry) (disk : Option DiskState) (s : Serving) (buffer : List ℕ) : Type 0 where
   pub map : IsMap (told job s.job s.sector got history) disk
   pub work : InWork s.job s buffer (told job s.job s.sector got history) disk
@@ -119,7 +119,7 @@ pub record IsGiving (first : ℕ) (xs got buffer kept : List ℕ) (s : Serving) 
   pub few : (s.read - 16) % 512 + length got ≤ 512
   pub some : 1 ≤ length got
   pub rest : take (length xs % 512) buffer ≡ drop (length xs - length xs % 512) xs
-  pub kept_is : kept ≡ with_bytes buffer ((s.read - 16) % 512) got
+  pub kept_is : kept ≡ overlaid buffer ((s.read - 16) % 512) got
 
 -- the sector that they belong to isn't complete
 more_case : (enough : Bool) (first : ℕ) (xs got buffer kept now : List ℕ) (s : Serving) (history : List Entry) (old new : Option DiskState) → IsGiving first xs got buffer kept s
@@ -146,7 +146,7 @@ more_case enough first xs got buffer kept now s history old new giving some ther
       let read = giving.read in let few = giving.few in
       let more : length (xs ++ got) % 512 ≡ length xs % 512 + length got = rw bytes (omega arith) in
       let before : length (xs ++ got) - length (xs ++ got) % 512 ≡ length xs - length xs % 512 = rw bytes (omega arith) in
-      let is : now ≡ with_bytes buffer (length xs % 512) got = calls.1 ∙ giving.kept_is ∙ ap (λ r. with_bytes buffer r got) place in
+      let is : now ≡ overlaid buffer (length xs % 512) got = calls.1 ∙ giving.kept_is ∙ ap (λ r. overlaid buffer r got) place in
       rw (before, more, is) (rest_grows buffer xs got (length xs % 512) (omega arith) fits giving.rest)
 
   by : (e : Bool) → Goes Writing got (gave first xs ∷ history) new (record s { read = s.read + length got; job = cond e (Ending Ok) Writing }) now
@@ -178,7 +178,7 @@ whole_case enough done first xs got buffer kept now s history old new giving who
   begins = omega arith
 
   sector_is : kept ≡ drop (512 * (length xs / 512)) (xs ++ got)
-  sector_is = giving.kept_is ∙ ap (λ r. with_bytes buffer r got) place ∙ buffer_filled buffer xs got (length xs % 512) giving.full (omega arith) filled giving.rest ∙ ap (λ n. drop n (xs ++ got)) begins
+  sector_is = giving.kept_is ∙ ap (λ r. overlaid buffer r got) place ∙ buffer_filled buffer xs got (length xs % 512) giving.full (omega arith) filled giving.rest ∙ ap (λ n. drop n (xs ++ got)) begins
 
   at : s.sector + ((s.read + length got - 16) / 512 - 1) ≡ first + length xs / 512
   at = let sector = giving.sector in let read = giving.read in let few = giving.few in let some = giving.some in omega arith

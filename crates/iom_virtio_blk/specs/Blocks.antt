@@ -4,7 +4,7 @@ use Rattle.iom_virtqueue.specs.declared.phase.Phase.{Phase}
 use Rattle.iom_virtqueue.specs.declared.phase.Phase.TheVariants.{Served, UsedElement, Faulted}
 use Rattle.iom_virtqueue.specs.Descriptors.{number_at}
 use Rattle.iom_virtqueue.specs.Accesses.{Access, AreOf}
-use Rattle.iom_virtqueue.specs.Queues.{QueueState, wanted, opening as empty_queue}
+use Rattle.iom_virtqueue.specs.Queues.{QueueState, wanted, fresh_queue}
 use Rattle.iom_virtio_blk.specs.declared.front.Front.{Front}
 use Rattle.iom_virtio_blk.specs.declared.stage.Stage.{Stage}
 use Rattle.iom_virtio_blk.specs.declared.stage.Stage.TheVariants.{Reset, FeaturesOk, DriverOk, NeedsReset}
@@ -17,15 +17,15 @@ use Rattle.iom_virtio_blk.specs.declared.serving.Serving.{Serving}
 use Rattle.iom_virtio_blk.specs.declared.serving.Job.{Job}
 use Rattle.iom_virtio_blk.specs.declared.serving.Job.TheVariants.{Header, Reading, Writing, Ending}
 use Rattle.iom_virtio_blk.specs.Requests.{plan_of}
-use Rattle.iom_virtio_blk.specs.Serving.{opening, access_in, piece_in, piece_len, data_out, data_in, with_header, call_with_header, with_written, call_with_written, with_data, call_with_data, IsUnderWay}
+use Rattle.iom_virtio_blk.specs.Serving.{unread, access_in, piece_in, piece_len, data_out, data_in, with_header, call_with_header, with_written, call_with_written, with_data, call_with_data, IsUnderWay}
 
 -- which access the device wants: the queue's, or while a chain is served that of the request
-abbrev pub wanted_in : Phase → Front → Access
-wanted_in Served b = access_in b.serving b.buffer b.queue.chain
-wanted_in phase b = wanted b.queue
+abbrev pub wants_in : Phase → Front → Access
+wants_in Served b = access_in b.serving b.buffer b.queue.chain
+wants_in phase b = wanted b.queue
 
 abbrev pub wanted_by : Front → Access
-wanted_by b = wanted_in b.queue.phase b
+wanted_by b = wants_in b.queue.phase b
 
 -- no access is under way, none was made, and no page is asked for
 pub record IsQuiet (b : Front) : Type 0 where
@@ -84,19 +84,19 @@ negotiated NeedsReset flush b = None
 -- the device once its queue is set, where it may be: its features are settled
 abbrev pub with_queue : Stage → Layout → Front → Option Front
 with_queue Reset layout b = None
-with_queue FeaturesOk layout b = Some (record b { stage = DriverOk; queue = empty_queue layout })
+with_queue FeaturesOk layout b = Some (record b { stage = DriverOk; queue = fresh_queue layout })
 with_queue DriverOk layout b = None
 with_queue NeedsReset layout b = None
 
 -- the bytes, where those from the offset on are replaced by these
-abbrev pub with_bytes : List ℕ → ℕ → List ℕ → List ℕ
-with_bytes bytes offset replacement = take offset bytes ++ replacement ++ drop (offset + length replacement) bytes
+abbrev pub overlaid : List ℕ → ℕ → List ℕ → List ℕ
+overlaid bytes offset replacement = take offset bytes ++ replacement ++ drop (offset + length replacement) bytes
 
 -- what the buffer holds with the bytes that came: the header, or a sector for the disk
 abbrev pub buffer_in : Job → Front → List ℕ
-buffer_in Header b = with_bytes b.buffer b.serving.read b.got.items
+buffer_in Header b = overlaid b.buffer b.serving.read b.got.items
 buffer_in Reading b = b.buffer
-buffer_in Writing b = with_bytes b.buffer ((b.serving.read - 16) % 512) b.got.items
+buffer_in Writing b = overlaid b.buffer ((b.serving.read - 16) % 512) b.got.items
 buffer_in (Ending end) b = b.buffer
 
 abbrev pub buffer_after : Front → List ℕ

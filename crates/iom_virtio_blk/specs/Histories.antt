@@ -65,7 +65,7 @@ InWork (Ending status.Ok) s buffer history disk = 16 < s.read → IsThere disk �
 InWork (Ending end) s buffer history disk = Unit {0}
 
 -- the device's disk is told by the history
-pub record Agrees (history : List Entry) (device : Device) : Type 0 where
+pub record TellsDisk (history : List Entry) (device : Device) : Type 0 where
   pub map : IsMap history device.disk
   pub work : device.front.stage ≡ DriverOk → device.front.queue.phase ≡ Served
       → InWork device.front.serving.job device.front.serving device.front.buffer history device.disk

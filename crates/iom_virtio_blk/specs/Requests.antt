@@ -6,10 +6,10 @@ use Rattle.iom_virtio_blk.specs.declared.request.Plan.{Plan}
 use Rattle.iom_virtio_blk.specs.declared.request.Plan.TheVariants.{ReadDisk, WriteDisk, FlushDisk, End}
 
 -- VIRTIO_BLK_S_OK, VIRTIO_BLK_S_IOERR, VIRTIO_BLK_S_UNSUPP
-abbrev pub code_of : RequestStatus → ℕ
-code_of status.Ok = 0
-code_of status.IoError = 1
-code_of status.Unsupported = 2
+abbrev pub status_byte : RequestStatus → ℕ
+status_byte status.Ok = 0
+status_byte status.IoError = 1
+status_byte status.Unsupported = 2
 
 -- the data is whole sectors, none of which lies past the end of the disk; without a disk nothing fits
 abbrev pub fits : ℕ → ℕ → Option ℕ → Bool

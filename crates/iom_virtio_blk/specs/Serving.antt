@@ -12,11 +12,11 @@ use Rattle.iom_virtio_blk.specs.declared.step.Call.TheVariants as call
 use Rattle.iom_virtio_blk.specs.declared.serving.Serving.{Serving}
 use Rattle.iom_virtio_blk.specs.declared.serving.Job.{Job}
 use Rattle.iom_virtio_blk.specs.declared.serving.Job.TheVariants.{Header, Reading, Writing, Ending}
-use Rattle.iom_virtio_blk.specs.Requests.{code_of}
+use Rattle.iom_virtio_blk.specs.Requests.{status_byte}
 
 -- a request of which nothing was read
-abbrev pub opening : Serving
-opening = record { job = Header; sector = 0; read = 0; wrote = 0 }
+abbrev pub unread : Serving
+unread = record { job = Header; sector = 0; read = 0; wrote = 0 }
 
 -- the data bytes of a chain: those that are read after the header, and those that are written before the status
 abbrev pub data_out : Chain → ℕ
@@ -38,7 +38,7 @@ access_at job s buffer None = nothing
 access_at Header s buffer (Some piece) = reads piece.address piece.len
 access_at Reading s buffer (Some piece) = writes piece.address (take piece.len (drop (s.wrote % 512) buffer))
 access_at Writing s buffer (Some piece) = reads piece.address piece.len
-access_at (Ending status) s buffer (Some piece) = writes piece.address (code_of status ∷ [])
+access_at (Ending status) s buffer (Some piece) = writes piece.address (status_byte status ∷ [])
 
 abbrev pub access_in : Serving → List ℕ → Chain → Access
 access_in s buffer chain = access_at s.job s buffer (piece_in s.job s chain)

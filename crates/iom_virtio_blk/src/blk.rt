@@ -1,14 +1,14 @@
-ghost use Rattle.std.specs.Prelude.{◌≡◌, ◌≢◌, ◌≤◌, ℕ, List, length, Option, Some, None, true, false, is_some, unwrap_or};
-ghost use Rattle.iom_virtqueue.specs.Accesses.{AreOf, IsWithinPage, shown};
+ghost use Rattle.std.specs.Prelude.{◌≡◌, ◌≢◌, ◌≤◌, ℕ, List, [], ◌∷◌, length, Option, Some, None, true, false, is_some, unwrap_or};
+ghost use Rattle.iom_virtqueue.specs.Accesses.{AreOf, LiesInPage, access_of};
 ghost use Rattle.iom_virtqueue.specs.Layouts.{IsLayout};
 ghost use Rattle.iom_virtqueue.specs.declared.phase.Phase.TheVariants.{Served};
 ghost use Rattle.iom_virtio_blk.specs.declared.stage.Stage.TheVariants.{Reset};
 ghost use Rattle.iom_virtio_blk.specs.Features.{flush_of};
-ghost use Rattle.iom_virtio_blk.specs.Stages.{status_of};
+ghost use Rattle.iom_virtio_blk.specs.Stages.{device_status};
 ghost use Rattle.iom_virtio_blk.specs.Disks.{disk_in};
 ghost use Rattle.iom_virtio_blk.specs.Blocks.{IsReady, IsAsking, IsTaking, TakesBytes, replied, given_up, down, negotiated, with_queue, wanted_by};
 ghost use Rattle.iom_virtio_blk.specs.Steps.{device, Steps, Serves, Calls};
-ghost use Rattle.iom_virtio_blk.specs.Histories.{Entry, Agrees, history_after};
+ghost use Rattle.iom_virtio_blk.specs.Histories.{Entry, inserted, TellsDisk, history_after};
 ghost use Rattle.iom_virtio_blk.specs.ReadyProps.{IsReady-prop};
 
 use crate::disk::Disk;
@@ -38,11 +38,13 @@ impl<D: Disk> Blk<D> {
         }
     }
 
-    /// A disk goes in as it is. Asks that there is none.
+    /// A disk goes in as it is, and a new history begins. Asks that there is none.
     pub fn insert(&mut self, disk: D)
         requires { self.old.drive.disk ≡ None }
         ensures disk { self.new.drive.disk ≡ Some disk }
         ensures front { self.new.front ≡ self.old.front }
+        ensures history { (history : List Entry) → TellsDisk history (device self.old.front None)
+            → TellsDisk (inserted (D.held disk) ∷ []) (device self.new.front (disk_in D.held D.failed self.new.drive.disk)) }
     {
         self.drive.insert(disk);
     }
@@ -86,7 +88,7 @@ impl<D: Disk> Blk<D> {
 
     /// The device status.
     pub fn status(&self) -> u8
-        ensures { result ≡ status_of self.now.front.stage }
+        ensures { result ≡ device_status self.now.front.stage }
     {
         self.front.stage().status()
     }
@@ -125,9 +127,12 @@ impl<D: Disk> Blk<D> {
     /// A history that tells the disk before the step goes on to one that tells it afterwards: an OUT that ended OK is there with all of
     /// its data, and one that failed, or is in work, sector by sector. While an IN is served, what is written to memory is the disk's.
     pub fn step(&mut self) -> Step
-        ensures step { Steps (device self.old.front (disk_in D.held D.failed self.old.drive.disk)) result (device self.new.front (disk_in D.held D.failed self.new.drive.disk)) }
-        ensures history { (history : List Entry) → Agrees history (device self.old.front (disk_in D.held D.failed self.old.drive.disk))
-            → Agrees (history_after self.old.front.is_made (device self.old.front (disk_in D.held D.failed self.old.drive.disk)) (device self.new.front (disk_in D.held D.failed self.new.drive.disk)) history) (device self.new.front (disk_in D.held D.failed self.new.drive.disk)) }
+        ensures step { Steps (device self.old.front (disk_in D.held D.failed self.old.drive.disk)) result
+            (device self.new.front (disk_in D.held D.failed self.new.drive.disk)) }
+        ensures history { (history : List Entry) → TellsDisk history (device self.old.front (disk_in D.held D.failed self.old.drive.disk))
+            → TellsDisk (history_after self.old.front.is_made (device self.old.front (disk_in D.held D.failed self.old.drive.disk))
+            (device self.new.front (disk_in D.held D.failed self.new.drive.disk)) history)
+            (device self.new.front (disk_in D.held D.failed self.new.drive.disk)) }
     {
         match self.front.stage() {
             Stage::DriverOk => {}
@@ -151,7 +156,8 @@ impl<D: Disk> Blk<D> {
     fn serve(&mut self) -> Step
         requires taking { IsTaking self.old.front }
         requires phase { self.old.front.queue.phase ≡ Served }
-        ensures step { Steps (device self.old.front (disk_in D.held D.failed self.old.drive.disk)) result (device self.new.front (disk_in D.held D.failed self.new.drive.disk)) }
+        ensures step { Steps (device self.old.front (disk_in D.held D.failed self.old.drive.disk)) result
+            (device self.new.front (disk_in D.held D.failed self.new.drive.disk)) }
     {
         if let Some(call) = self.front.take_served(self.drive.sectors()) {
             let done = self.call(call);
@@ -165,7 +171,8 @@ impl<D: Disk> Blk<D> {
     /// Calls the disk, and tells whether it did what was asked.
     fn call(&mut self, call: Call) -> bool
         requires { self.old.front.is_made ≡ false }
-        ensures calls { Calls (Some call) result (disk_in D.held D.failed self.old.drive.disk) self.old.front.buffer (disk_in D.held D.failed self.new.drive.disk) self.new.front.buffer }
+        ensures calls { Calls (Some call) result (disk_in D.held D.failed self.old.drive.disk) self.old.front.buffer
+            (disk_in D.held D.failed self.new.drive.disk) self.new.front.buffer }
         ensures front { self.new.front ≡ record self.old.front { buffer = self.new.front.buffer } }
     {
         match call {

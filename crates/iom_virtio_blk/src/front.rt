@@ -1,16 +1,16 @@
 ghost use Rattle.std.specs.Prelude.{◌≡◌, ◌≢◌, ◌+◌, ◌-◌, ◌%◌, ◌≤◌, ◌<◌, ℕ, length, Some, None, true, false, is_some, unwrap_or, IsSome, MatchBool};
-ghost use Rattle.iom_virtqueue.specs.Accesses.{AreOf, IsWithinPage, shown};
+ghost use Rattle.iom_virtqueue.specs.Accesses.{AreOf, LiesInPage, access_of};
 ghost use Rattle.iom_virtqueue.specs.Chains.{byte_count};
 ghost use Rattle.iom_virtqueue.specs.Layouts.{IsLayout};
-ghost use Rattle.iom_virtqueue.specs.Queues.{opening as empty_queue, after, fault_of};
+ghost use Rattle.iom_virtqueue.specs.Queues.{fresh_queue, after, fault_of};
 ghost use Rattle.iom_virtqueue.specs.declared.phase.Phase.TheVariants.{Served};
 ghost use Rattle.iom_virtio_blk.specs.declared.serving.Job.TheVariants.{Header, Reading, Writing, Ending};
 ghost use Rattle.iom_virtio_blk.specs.declared.request.RequestStatus.TheVariants.{IoError};
 ghost use Rattle.iom_virtio_blk.specs.declared.stage.Stage.TheVariants.{Reset, FeaturesOk, DriverOk, NeedsReset};
-ghost use Rattle.iom_virtio_blk.specs.Stages.{status_of};
+ghost use Rattle.iom_virtio_blk.specs.Stages.{device_status};
 ghost use Rattle.iom_virtio_blk.specs.Serving.{IsUnderWay};
 ghost use Rattle.iom_virtio_blk.specs.Features.{flush_of};
-ghost use Rattle.iom_virtio_blk.specs.Blocks.{wanted_by, IsReady, IsAsking, IsTaking, TakesBytes, replied, given_up, down, negotiated, with_queue, with_bytes, after_served, call_after, buffer_in, serving_in, call_in};
+ghost use Rattle.iom_virtio_blk.specs.Blocks.{wanted_by, IsReady, IsAsking, IsTaking, TakesBytes, replied, given_up, down, negotiated, with_queue, overlaid, after_served, call_after, buffer_in, serving_in, call_in};
 ghost use Rattle.iom_virtio_blk.specs.Steps.{QueueSteps, settled};
 
 use crate::features::flush_of;
@@ -183,8 +183,8 @@ impl Front {
     /// The access that is wanted.
     pub(crate) fn wants(&self) -> Want
         requires ready { IsReady self.now }
-        ensures want { shown result ≡ wanted_by self.now }
-        ensures within { self.now.stage ≡ DriverOk → IsWithinPage (wanted_by self.now) }
+        ensures want { access_of result ≡ wanted_by self.now }
+        ensures within { self.now.stage ≡ DriverOk → LiesInPage (wanted_by self.now) }
     {
         self.queue.promises();
         match self.queue.phase() {
@@ -375,7 +375,7 @@ impl Front {
     /// The bytes that came go into the buffer.
     fn fill(&mut self, from: usize)
         requires { from + length self.old.got.items ≤ 512 }
-        ensures { self.new ≡ record self.old { buffer = with_bytes self.old.buffer from self.old.got.items } }
+        ensures { self.new ≡ record self.old { buffer = overlaid self.old.buffer from self.old.got.items } }
     {
         let len = self.got.len();
         self.buffer[from..from + len].copy_from_slice(&self.got);

@@ -1,5 +1,5 @@
 ghost use Rattle.std.specs.Prelude.{◌≡◌};
-ghost use Rattle.iom_virtio_blk.specs.Requests.{fits, plan_of, code_of};
+ghost use Rattle.iom_virtio_blk.specs.Requests.{fits, plan_of, status_byte};
 
 /// How a request ended (virtio 1.2, section 5.2.6).
 #[derive(Clone, Copy, PartialEq, Eq, Debug)]
@@ -12,7 +12,7 @@ pub enum RequestStatus {
 impl RequestStatus {
     /// The byte that is written: VIRTIO_BLK_S_OK 0, VIRTIO_BLK_S_IOERR 1, VIRTIO_BLK_S_UNSUPP 2.
     pub fn code(self) -> u8
-        ensures { result ≡ code_of self }
+        ensures { result ≡ status_byte self }
     {
         match self {
             RequestStatus::Ok => 0,

@@ -1,7 +1,7 @@
 ghost use Rattle.std.specs.Prelude.{◌≡◌, ◌≤◌};
-ghost use Rattle.iom_virtqueue.specs.Accesses.{shown, reads};
+ghost use Rattle.iom_virtqueue.specs.Accesses.{access_of, reads};
 ghost use Rattle.iom_virtqueue.specs.Chains.{byte_count};
-ghost use Rattle.iom_virtio_blk.specs.Serving.{piece_in, access_in, opening, IsUnderWay};
+ghost use Rattle.iom_virtio_blk.specs.Serving.{piece_in, access_in, unread, IsUnderWay};
 
 use crate::request::RequestStatus;
 use iom_virtqueue::{Buffers, Piece, Want, piece_of};
@@ -34,7 +34,7 @@ pub(crate) struct Serving {
 impl Serving {
     /// A request of which nothing was read.
     pub(crate) fn new() -> Serving
-        ensures { result ≡ opening }
+        ensures { result ≡ unread }
     {
         Serving {
             job: Job::Header,
@@ -70,7 +70,7 @@ impl Serving {
     pub(crate) fn access(&self, buffer: &[u8; 512], chain: &Buffers) -> Want
         requires under_way { IsUnderWay self.now chain.now }
         requires status { 1 ≤ byte_count chain.now.writable }
-        ensures { shown result ≡ access_in self.now buffer.now chain.now }
+        ensures { access_of result ≡ access_in self.now buffer.now chain.now }
     {
         match self.piece(chain) {
             Some(piece) => match self.job {
@@ -89,7 +89,7 @@ impl Serving {
 
 fn read(piece: Piece) -> Want
     requires { piece.len ≤ 512 }
-    ensures { shown result ≡ reads piece.address piece.len }
+    ensures { access_of result ≡ reads piece.address piece.len }
 {
     Want::Read {
         address: piece.address,

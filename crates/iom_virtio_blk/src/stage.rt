@@ -1,5 +1,5 @@
 ghost use Rattle.std.specs.Prelude.{◌≡◌};
-ghost use Rattle.iom_virtio_blk.specs.Stages.{status_of};
+ghost use Rattle.iom_virtio_blk.specs.Stages.{device_status};
 
 /// How far the driver initialized the device (virtio 1.2, sections 2.1 and 3.1).
 #[derive(Clone, Copy, PartialEq, Eq, Debug)]
@@ -17,7 +17,7 @@ pub enum Stage {
 impl Stage {
     /// The device status: ACKNOWLEDGE 1, DRIVER 2, DRIVER_OK 4, FEATURES_OK 8, DEVICE_NEEDS_RESET 64.
     pub(crate) fn status(self) -> u8
-        ensures { result ≡ status_of self }
+        ensures { result ≡ device_status self }
     {
         match self {
             Stage::Reset => 0,

@@ -64,6 +64,35 @@ fn ends(
     }
 }
 
+// An IN of one sector: its first byte is the one that the OUT before wrote.
+fn reads_back(rt: &impl Abort, blk: &mut Blk<FailingDisk>, memory: &mut [u8; MEMORY]) {
+    poke(rt, memory, 0x9, &[0]);
+    poke(rt, memory, 0x18, &[1, 2]);
+    poke(rt, memory, 0x1000, &[0]);
+    poke(rt, memory, 0x102, &[3, 0]);
+    begins(rt, blk, memory, 2);
+    turns(
+        rt,
+        blk,
+        memory,
+        &[
+            Seen::Wrote(0x1800, 512),
+            Seen::Wrote(0x1a00, 1),
+            Seen::Wrote(0x214, 8),
+            Seen::Wrote(0x202, 2),
+            Seen::Finished(0, 513),
+        ],
+    );
+    assert_eq!(rt; memory[0x1800], 0xab);
+    assert_eq!(rt; memory[0x1a00], 0);
+    turns(
+        rt,
+        blk,
+        memory,
+        &[Seen::Read(0x102, 2), Seen::Idle],
+    );
+}
+
 // A disk fails at the second of two sectors: the request ends IOERR, with one byte written. The same head
 // again ends OK, and an IN then reads what was written.
 #[test]
@@ -92,31 +121,7 @@ fn a_disk_fails_at_the_second_sector(rt: HostRuntime) {
     );
     ends(&rt, &mut blk, &mut memory, 1, 0, 1);
 
-    poke(&rt, &mut memory, 0x9, &[0]);
-    poke(&rt, &mut memory, 0x18, &[1, 2]);
-    poke(&rt, &mut memory, 0x1000, &[0]);
-    poke(&rt, &mut memory, 0x102, &[3, 0]);
-    begins(&rt, &mut blk, &mut memory, 2);
-    turns(
-        &rt,
-        &mut blk,
-        &mut memory,
-        &[
-            Seen::Wrote(0x1800, 512),
-            Seen::Wrote(0x1a00, 1),
-            Seen::Wrote(0x214, 8),
-            Seen::Wrote(0x202, 2),
-            Seen::Finished(0, 513),
-        ],
-    );
-    assert_eq!(rt; memory[0x1800], 0xab);
-    assert_eq!(rt; memory[0x1a00], 0);
-    turns(
-        &rt,
-        &mut blk,
-        &mut memory,
-        &[Seen::Read(0x102, 2), Seen::Idle],
-    );
+    reads_back(&rt, &mut blk, &mut memory);
 }
 
 // At its first call the second sector isn't read any more; at a third call there is none that could fail.

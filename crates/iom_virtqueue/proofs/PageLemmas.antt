@@ -3,9 +3,9 @@ use Rattle.std.proofs.Common.{◌≡◌, ◌≢◌, refl, ℕ, ◌+◌, ◌-◌,
 use Rattle.std.proofs.Math.Pow.{mod-mod-pow}
 use Rattle.iom_virtqueue.specs.declared.phase.Phase.{Phase}
 use Rattle.iom_virtqueue.specs.declared.phase.Phase.TheVariants.{AvailableIndex, RingEntry, Table, Served, UsedElement, UsedIndex, Faulted}
-use Rattle.iom_virtqueue.specs.Accesses.{nothing, IsWithinPage, wrapped}
+use Rattle.iom_virtqueue.specs.Accesses.{nothing, LiesInPage, wrapped}
 use Rattle.iom_virtqueue.specs.Layouts.{IsLayout}
-use Rattle.iom_virtqueue.specs.Queues.{QueueState, IsSoundIn, IsSound, wanted_in, wanted, element_piece, used_element, element_bytes}
+use Rattle.iom_virtqueue.specs.Queues.{QueueState, IsChainSoFarIn, IsChainSoFar, wanted_in, wanted, element_piece, used_element, element_bytes}
 
 below_page : (a : ℕ) → a % 4096 < 4096
 below_page a = omega arith
@@ -46,9 +46,9 @@ element_long q = simp length-append
 piece_long : (q : QueueState) (done : ℕ) → done < 8 → element_piece q done ≤ 8 - done → length (take (element_piece q done) (drop done (element_bytes q))) ≡ element_piece q done
 piece_long q done lt le = let long = element_long q in simp (length-take, length-drop) (omega arith)
 
-pub wanted-within : (q : QueueState) → IsLayout q.layout → IsSound q → wanted q ≢ nothing → IsWithinPage (wanted q)
+pub wanted-within : (q : QueueState) → IsLayout q.layout → IsChainSoFar q → wanted q ≢ nothing → LiesInPage (wanted q)
 wanted-within q layout sound = by q.phase sound where
-  by : (p : Phase) → IsSoundIn p q → wanted_in p q ≢ nothing → IsWithinPage (wanted_in p q)
+  by : (p : Phase) → IsChainSoFarIn p q → wanted_in p q ≢ nothing → LiesInPage (wanted_in p q)
   by AvailableIndex s some = (omega arith, even_within (q.layout.available_ring + 2) (idx_even q.layout.available_ring layout.available_ring))
   by RingEntry s some = (omega arith, even_within (q.layout.available_ring + (4 + 2 * (q.finished % q.layout.size))) (entry_even q.layout.available_ring (q.finished % q.layout.size) layout.available_ring))
   by (Table index) s some = (omega arith, sixteen_within (q.layout.descriptor_table + 16 * index) (table_aligned q.layout.descriptor_table index layout.descriptor_table))

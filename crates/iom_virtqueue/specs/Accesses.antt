@@ -10,10 +10,10 @@ pub data Access : Type 0 where
   writes : ℕ → List ℕ → Access
 
 -- the access that a want names
-abbrev pub shown : Want → Access
-shown Nothing = nothing
-shown (Read address len) = reads address len
-shown (Write address bytes) = writes address bytes.items
+abbrev pub access_of : Want → Access
+access_of Nothing = nothing
+access_of (Read address len) = reads address len
+access_of (Write address bytes) = writes address bytes.items
 
 -- addresses wrap (a choice of this model: the standard has no addresses beyond the last)
 abbrev pub wrapped : ℕ → ℕ
@@ -24,10 +24,10 @@ abbrev pub cut : ℕ → ℕ → ℕ
 cut address len = min len (4096 - address % 4096)
 
 -- there is an access, of some bytes within one page
-abbrev pub IsWithinPage : Access → Type 0
-IsWithinPage nothing = ⊥
-IsWithinPage (reads address len) = (1 ≤ len) × (address % 4096 + len ≤ 4096)
-IsWithinPage (writes address bytes) = (1 ≤ length bytes) × (address % 4096 + length bytes ≤ 4096)
+abbrev pub LiesInPage : Access → Type 0
+LiesInPage nothing = ⊥
+LiesInPage (reads address len) = (1 ≤ len) × (address % 4096 + len ≤ 4096)
+LiesInPage (writes address bytes) = (1 ≤ length bytes) × (address % 4096 + length bytes ≤ 4096)
 
 -- the bytes are those of the wanted access: as many as were to be read, none for a write
 abbrev pub AreOf : List ℕ → Access → Type 0

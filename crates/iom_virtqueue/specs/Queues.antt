@@ -64,8 +64,8 @@ abbrev pub wanted : QueueState → Access
 wanted q = wanted_in q.phase q
 
 -- a queue that was just set
-abbrev pub opening : Layout → QueueState
-opening layout = record { layout = layout; finished = 0; phase = AvailableIndex; head = 0; chain = no_links; written = 0 }
+abbrev pub fresh_queue : Layout → QueueState
+fresh_queue layout = record { layout = layout; finished = 0; phase = AvailableIndex; head = 0; chain = no_links; written = 0 }
 
 -- the fault that these bytes show, where they were read for the wanted access
 abbrev pub fault_in : Phase → QueueState → List ℕ → Option ChainFault
@@ -102,14 +102,14 @@ abbrev pub after : QueueState → List ℕ → QueueState
 after q bytes = after_fault (fault_of q bytes) q bytes
 
 -- what holds of the request in work: what was read of it is the beginning of a chain, and before it is served the whole of one
-abbrev pub IsSoundIn : Phase → QueueState → Type 0
-IsSoundIn AvailableIndex q = Unit {0}
-IsSoundIn RingEntry q = Unit {0}
-IsSoundIn (Table index) q = IsTrail q.layout.size q.head q.chain (Some index)
-IsSoundIn Served q = IsChain q.layout.size q.head q.chain
-IsSoundIn (UsedElement done) q = IsChain q.layout.size q.head q.chain × (done < 8)
-IsSoundIn UsedIndex q = IsChain q.layout.size q.head q.chain
-IsSoundIn Faulted q = Unit {0}
+abbrev pub IsChainSoFarIn : Phase → QueueState → Type 0
+IsChainSoFarIn AvailableIndex q = Unit {0}
+IsChainSoFarIn RingEntry q = Unit {0}
+IsChainSoFarIn (Table index) q = IsTrail q.layout.size q.head q.chain (Some index)
+IsChainSoFarIn Served q = IsChain q.layout.size q.head q.chain
+IsChainSoFarIn (UsedElement done) q = IsChain q.layout.size q.head q.chain × (done < 8)
+IsChainSoFarIn UsedIndex q = IsChain q.layout.size q.head q.chain
+IsChainSoFarIn Faulted q = Unit {0}
 
-abbrev pub IsSound : QueueState → Type 0
-IsSound q = IsSoundIn q.phase q
+abbrev pub IsChainSoFar : QueueState → Type 0
+IsChainSoFar q = IsChainSoFarIn q.phase q

@@ -1,5 +1,5 @@
 ghost use Rattle.std.specs.Prelude.{◌≡◌, ◌↔◌, IsSome, IfSome};
-ghost use Rattle.iom_virtqueue.specs.Layouts.{IsLayout};
+ghost use Rattle.iom_virtqueue.specs.Layouts.{IsLayout, layout_of};
 
 /// The most descriptors of a queue, and the most entries of its rings: a limit of this model's own.
 pub const MAX_QUEUE_SIZE: u64 = 256;
@@ -23,8 +23,8 @@ impl Layout {
         available_ring: u64,
         used_ring: u64,
     ) -> Option<Layout>
-        ensures found { IsSome result ↔ IsLayout (record { size = size; descriptor_table = descriptor_table; available_ring = available_ring; used_ring = used_ring }) }
-        ensures value { IfSome result (λ layout. layout ≡ record { size = size; descriptor_table = descriptor_table; available_ring = available_ring; used_ring = used_ring }) }
+        ensures found { IsSome result ↔ IsLayout (layout_of size descriptor_table available_ring used_ring) }
+        ensures value { IfSome result (λ layout. layout ≡ layout_of size descriptor_table available_ring used_ring) }
     {
         // The divisors of 256 are the powers of two up to it.
         let is_size = 1 <= size && size <= MAX_QUEUE_SIZE && MAX_QUEUE_SIZE % size == 0;

@@ -1,8 +1,8 @@
 ghost use Rattle.std.specs.Prelude.{◌≡◌, ◌≢◌, ◌<◌, ◌++◌, length, MatchResult, Some, None};
 ghost use Rattle.iom_virtqueue.specs.Chains.{IsChain};
-ghost use Rattle.iom_virtqueue.specs.Queues.{QueueState, wanted, fault_of, after, opening, IsSound, wanted_in, after_in, ring_entry, used_element};
+ghost use Rattle.iom_virtqueue.specs.Queues.{QueueState, wanted, fault_of, after, fresh_queue, IsChainSoFar, wanted_in, after_in, ring_entry, used_element};
 ghost use Rattle.iom_virtqueue.specs.Layouts.{IsLayout};
-ghost use Rattle.iom_virtqueue.specs.Accesses.{nothing, AreOf, IsWithinPage, shown, cut};
+ghost use Rattle.iom_virtqueue.specs.Accesses.{nothing, AreOf, LiesInPage, access_of, cut};
 ghost use Rattle.byteorder.specs.Endian.{little_bytes};
 ghost use Rattle.iom_virtqueue.specs.declared.phase.Phase.TheVariants.{Served, UsedElement};
 
@@ -29,14 +29,15 @@ pub struct Queue {
 
 impl Model for Queue {
     ghost use Rattle.std.specs.Prelude.{◌≡◌, ◌<◌, ◌≤◌, ◌^◌};
-    ghost use Rattle.iom_virtqueue.specs.Queues.{QueueState, IsSound};
+    ghost use Rattle.iom_virtqueue.specs.Queues.{QueueState, IsChainSoFar};
     ghost use Rattle.iom_virtqueue.specs.Layouts.{IsLayout};
 
     ghost Value = { QueueState };
 
     ghost view = { λ q. record { layout = q.layout; finished = q.finished; phase = q.phase; head = q.head; chain = q.chain; written = q.written } };
 
-    ghost invariant = { λ q. IsLayout q.layout × IsSound (record { layout = q.layout; finished = q.finished; phase = q.phase; head = q.head; chain = q.chain; written = q.written }) };
+    ghost invariant = { λ q. IsLayout q.layout
+        × IsChainSoFar (record { layout = q.layout; finished = q.finished; phase = q.phase; head = q.head; chain = q.chain; written = q.written }) };
 }
 
 /// How many of these bytes lie in one page.
@@ -69,7 +70,7 @@ impl Queue {
     /// A queue that was just set: nothing of it was read yet.
     pub fn new(layout: Layout) -> Queue
         requires { IsLayout layout }
-        ensures { result ≡ opening layout }
+        ensures { result ≡ fresh_queue layout }
     {
         Queue {
             layout,
@@ -115,15 +116,15 @@ impl Queue {
     /// chain, and from the time that it is served the whole of one; what is wanted lies in one page.
     pub fn promises(&self)
         ensures layout { IsLayout self.now.layout }
-        ensures sound { IsSound self.now }
-        ensures within { wanted self.now ≢ nothing → IsWithinPage (wanted self.now) }
+        ensures sound { IsChainSoFar self.now }
+        ensures within { wanted self.now ≢ nothing → LiesInPage (wanted self.now) }
     {
         let _phase = self.phase;
     }
 
     /// Which access is wanted.
     pub fn next(&self) -> Want
-        ensures { shown result ≡ wanted self.now }
+        ensures { access_of result ≡ wanted self.now }
     {
         match self.phase {
             Phase::AvailableIndex => Want::Read {
@@ -168,7 +169,7 @@ impl Queue {
 
     fn element_piece(&self, done: u64) -> Want
         requires { done < 8 }
-        ensures { shown result ≡ wanted_in (UsedElement done) self.now }
+        ensures { access_of result ≡ wanted_in (UsedElement done) self.now }
     {
         let address = self.used_element(done);
         let len = cut(address, 8 - done);

@@ -1,5 +1,5 @@
 ghost use Rattle.std.specs.Prelude.{◌≡◌, ◌≤◌, length};
-ghost use Rattle.iom_virtqueue.specs.Accesses.{shown, writes};
+ghost use Rattle.iom_virtqueue.specs.Accesses.{access_of, writes};
 
 use arrayvec::ArrayVec;
 
@@ -21,7 +21,7 @@ impl Want {
     /// A write of at most 512 bytes.
     pub fn write(address: u64, bytes: &[u8]) -> Want
         requires { length bytes.now ≤ 512 }
-        ensures { shown result ≡ writes address bytes.now }
+        ensures { access_of result ≡ writes address bytes.now }
     {
         let mut held = ArrayVec::new();
         held.try_extend_from_slice(bytes).unwrap();

@@ -20,48 +20,33 @@ fn sizes_are_powers_of_two(rt: HostRuntime) {
     }
 }
 
+// One request: nothing is new at first, and then the entry of this number is used.
+fn serves(rt: &impl Abort, queue: &mut Queue, memory: &mut [u8; MEMORY], idx: u16, slot: u16) {
+    let slot = u64::from(slot);
+    turns(rt, queue, memory, Seen::Read(0x1002, 2));
+    poke(rt, memory, 0x1002, &idx.to_le_bytes());
+    turns(rt, queue, memory, Seen::Read(0x1002, 2));
+    turns(rt, queue, memory, Seen::Read(0x1004 + 2 * slot, 2));
+    turns(rt, queue, memory, Seen::Read(0x0, 16));
+    turns(rt, queue, memory, Seen::Read(0x10, 16));
+    finishes(rt, queue, 1);
+    turns(rt, queue, memory, Seen::Wrote(0x1404 + 8 * slot, 8));
+    turns(rt, queue, memory, Seen::Wrote(0x1402, 2));
+    assert_eq!(rt; u16::from_le_bytes([memory[0x1402], memory[0x1403]]), idx);
+}
+
 // More requests than an idx can count, of a queue of two descriptors and of 256: each ring entry is used in
-// its turn, and each used element names its head.
+// its turn.
 #[test]
 fn rings_and_indices_go_round(rt: HostRuntime) -> Result<(), Fail> {
-    for size in [2u64, 256] {
+    for size in [2u16, 256] {
         let mut memory = [0; MEMORY];
-        poke(
-            &rt,
-            &mut memory,
-            0x0,
-            &[0, 16, 0, 0, 0, 0, 0, 0, 16, 0, 0, 0, 1, 0, 1, 0],
-        );
-        poke(
-            &rt,
-            &mut memory,
-            0x10,
-            &[0, 24, 0, 0, 0, 0, 0, 0, 1, 0, 0, 0, 2, 0, 0, 0],
-        );
-        let mut queue = queue(&rt, size)?;
-        for number in 0..65_540u64 {
-            let slot = number % size;
-            turns(&rt, &mut queue, &mut memory, Seen::Read(0x1002, 2));
-            let idx = ((number + 1) % 65536) as u16;
-            poke(&rt, &mut memory, 0x1002, &idx.to_le_bytes());
-            turns(&rt, &mut queue, &mut memory, Seen::Read(0x1002, 2));
-            turns(
-                &rt,
-                &mut queue,
-                &mut memory,
-                Seen::Read(0x1004 + 2 * slot, 2),
-            );
-            turns(&rt, &mut queue, &mut memory, Seen::Read(0x0, 16));
-            turns(&rt, &mut queue, &mut memory, Seen::Read(0x10, 16));
-            finishes(&rt, &mut queue, 1);
-            turns(
-                &rt,
-                &mut queue,
-                &mut memory,
-                Seen::Wrote(0x1404 + 8 * slot, 8),
-            );
-            turns(&rt, &mut queue, &mut memory, Seen::Wrote(0x1402, 2));
-            assert_eq!(rt; u16::from_le_bytes([memory[0x1402], memory[0x1403]]), idx);
+        poke(&rt, &mut memory, 0x0, &[0, 16, 0, 0, 0, 0, 0, 0, 16, 0, 0, 0, 1, 0, 1, 0]);
+        poke(&rt, &mut memory, 0x10, &[0, 24, 0, 0, 0, 0, 0, 0, 1, 0, 0, 0, 2, 0, 0, 0]);
+        let mut queue = queue(&rt, u64::from(size))?;
+        for number in 0..65_540u32 {
+            let slot = (number % u32::from(size)) as u16;
+            serves(&rt, &mut queue, &mut memory, ((number + 1) % 65536) as u16, slot);
         }
     }
     Ok(())
