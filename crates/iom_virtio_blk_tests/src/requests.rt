@@ -85,12 +85,7 @@ fn reads_back(rt: &impl Abort, blk: &mut Blk<FailingDisk>, memory: &mut [u8; MEM
     );
     assert_eq!(rt; memory[0x1800], 0xab);
     assert_eq!(rt; memory[0x1a00], 0);
-    turns(
-        rt,
-        blk,
-        memory,
-        &[Seen::Read(0x102, 2), Seen::Idle],
-    );
+    turns(rt, blk, memory, &[Seen::Read(0x102, 2), Seen::Idle]);
 }
 
 // A disk fails at the second of two sectors: the request ends IOERR, with one byte written. The same head

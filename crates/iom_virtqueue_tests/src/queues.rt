@@ -41,12 +41,28 @@ fn serves(rt: &impl Abort, queue: &mut Queue, memory: &mut [u8; MEMORY], idx: u1
 fn rings_and_indices_go_round(rt: HostRuntime) -> Result<(), Fail> {
     for size in [2u16, 256] {
         let mut memory = [0; MEMORY];
-        poke(&rt, &mut memory, 0x0, &[0, 16, 0, 0, 0, 0, 0, 0, 16, 0, 0, 0, 1, 0, 1, 0]);
-        poke(&rt, &mut memory, 0x10, &[0, 24, 0, 0, 0, 0, 0, 0, 1, 0, 0, 0, 2, 0, 0, 0]);
+        poke(
+            &rt,
+            &mut memory,
+            0x0,
+            &[0, 16, 0, 0, 0, 0, 0, 0, 16, 0, 0, 0, 1, 0, 1, 0],
+        );
+        poke(
+            &rt,
+            &mut memory,
+            0x10,
+            &[0, 24, 0, 0, 0, 0, 0, 0, 1, 0, 0, 0, 2, 0, 0, 0],
+        );
         let mut queue = queue(&rt, u64::from(size))?;
         for number in 0..65_540u32 {
             let slot = (number % u32::from(size)) as u16;
-            serves(&rt, &mut queue, &mut memory, ((number + 1) % 65536) as u16, slot);
+            serves(
+                &rt,
+                &mut queue,
+                &mut memory,
+                ((number + 1) % 65536) as u16,
+                slot,
+            );
         }
     }
     Ok(())
