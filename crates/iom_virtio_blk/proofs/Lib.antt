@@ -1,0 +1,5 @@
+pub mod AccessLemmas
+pub mod SectorLemmas
+pub mod HistoryLemmas
+pub mod ToldLemmas
+pub mod StepLemmas

@@ -1,0 +1,98 @@
+ghost use Rattle.std.specs.Prelude.{◌≡◌, ◌≤◌};
+ghost use Rattle.iom_virtqueue.specs.Accesses.{access_of, reads};
+ghost use Rattle.iom_virtqueue.specs.Chains.{byte_count};
+ghost use Rattle.iom_virtio_blk.specs.Serving.{piece_in, access_in, unread, IsUnderWay};
+
+use crate::request::RequestStatus;
+use iom_virtqueue::{Buffers, Piece, Want, piece_of};
+
+/// What is read or written next for a request (virtio 1.2, section 5.2.6).
+#[derive(Clone, Copy, PartialEq, Eq, Debug)]
+pub(crate) enum Job {
+    /// The header is read.
+    Header,
+    /// The sector in the buffer, which came from the disk, is written to memory.
+    Reading,
+    /// A sector for the disk is read from memory.
+    Writing,
+    /// This status is written.
+    Ending(RequestStatus),
+}
+
+/// How far a request is served.
+#[derive(Clone, Copy, PartialEq, Eq, Debug)]
+pub(crate) struct Serving {
+    pub(crate) job: Job,
+    /// The first sector of the request.
+    pub(crate) sector: u64,
+    /// How many readable bytes were read, the header's 16 among them.
+    pub(crate) read: u64,
+    /// How many data bytes were written.
+    pub(crate) wrote: u64,
+}
+
+impl Serving {
+    /// A request of which nothing was read.
+    pub(crate) fn new() -> Serving
+        ensures { result ≡ unread }
+    {
+        Serving {
+            job: Job::Header,
+            sector: 0,
+            read: 0,
+            wrote: 0,
+        }
+    }
+
+    /// The piece of the request's buffers that is read or written next.
+    pub(crate) fn piece(&self, chain: &Buffers) -> Option<Piece>
+        requires under_way { IsUnderWay self.now chain.now }
+        requires status { 1 ≤ byte_count chain.now.writable }
+        ensures { result ≡ piece_in self.now.job self.now chain.now }
+    {
+        match self.job {
+            Job::Header => piece_of(chain.readable(), self.read, (16 - self.read) as u32),
+            Job::Reading => piece_of(
+                chain.writable(),
+                self.wrote,
+                (512 - self.wrote % 512) as u32,
+            ),
+            Job::Writing => piece_of(
+                chain.readable(),
+                self.read,
+                (512 - (self.read - 16) % 512) as u32,
+            ),
+            Job::Ending(_) => piece_of(chain.writable(), chain.writable_bytes() - 1, 1),
+        }
+    }
+
+    /// The access that comes next: what is written is the sector in the buffer, or the status.
+    pub(crate) fn access(&self, buffer: &[u8; 512], chain: &Buffers) -> Want
+        requires under_way { IsUnderWay self.now chain.now }
+        requires status { 1 ≤ byte_count chain.now.writable }
+        ensures { access_of result ≡ access_in self.now buffer.now chain.now }
+    {
+        match self.piece(chain) {
+            Some(piece) => match self.job {
+                Job::Header => read(piece),
+                Job::Reading => {
+                    let from = (self.wrote % 512) as usize;
+                    Want::write(piece.address, &buffer[from..from + piece.len as usize])
+                }
+                Job::Writing => read(piece),
+                Job::Ending(status) => Want::write(piece.address, &[status.code()]),
+            },
+            None => Want::Nothing,
+        }
+    }
+}
+
+fn read(piece: Piece) -> Want
+    requires { piece.len ≤ 512 }
+    ensures { access_of result ≡ reads piece.address piece.len }
+{
+    Want::Read {
+        address: piece.address,
+        len: piece.len as u16,
+    }
+}

@@ -1,0 +1,6 @@
+pub mod Layouts
+pub mod Accesses
+pub mod Descriptors
+pub mod Chains
+pub mod Queues
+pub mod Spans
