@@ -7,7 +7,7 @@ use Rattle.std.proofs.lemmas.Nat.{pow_pos}
 use Rattle.iom_registers.specs.declared.registers.Registers.{Registers}
 use Rattle.iom_registers.specs.declared.register.Register.TheVariants.{Cqt}
 use Rattle.iom_registers.specs.declared.queue_base.QueueBase.{QueueBase}
-use Rattle.iom_registers.specs.Fields.{entries}
+use Rattle.iom_registers.specs.Fields.{entry_count}
 use Rattle.iom_registers.specs.Table.{written}
 use Rattle.iom_registers.specs.Queues.{command_base, command_entries, command_head, command_tail, next_index, with_command_done}
 use Rattle.iom_command_queue.specs.declared.command.Command.{Command}
@@ -16,8 +16,8 @@ use Rattle.iom_command_queue.specs.declared.entry.QueueEntry.TheVariants as stan
 use Rattle.iom_command_queue.specs.Waiting.{entry_at, place_of, distance, how_many, entries_from, commands_in, first_entry, WritesCommand}
 use Rattle.iom_command_queue.proofs.Puts.{of_same_frame}
 
-entries_pos : (base : QueueBase) → 0 < entries base
-unfolding entries
+entries_pos : (base : QueueBase) → 0 < entry_count base
+unfolding entry_count
 entries_pos base = pow_pos (base.log2sz_less_1 + 1)
 
 pub head_below : (r : Registers) → command_head r < command_entries r

@@ -4,7 +4,7 @@ use Rattle.std.proofs.lemmas.Bool.{eq-eqb, ne_eqb}
 use Rattle.std.proofs.lemmas.Bool.Decides.{eqb_tells, leb_tells}
 use Rattle.std.proofs.Math.Nat.{mod-eq_of_lt, mod-lt}
 use Rattle.iom_registers.proofs.Sizes.{some}
-use Rattle.iom_registers.specs.Fields.{entries}
+use Rattle.iom_registers.specs.Fields.{entry_count}
 use Rattle.iom_registers.specs.Queues.{fault_base, fault_entries, fault_head, fault_tail, next_index, with_record_written}
 use Rattle.iom_registers.specs.Table.{written}
 use Rattle.iom_registers.specs.declared.registers.Registers.{Registers}
@@ -16,7 +16,7 @@ use Rattle.iom_fault_queue.proofs.Entries.{of_same_frame, stored_here, stored_el
 
 -- a queue has places, and an index that is taken modulo their number is one of them
 pub some_entries : (r : Registers) → 2 ≤ fault_entries r
-unfolding entries
+unfolding entry_count
 some_entries r = some r.fqb.log2sz_less_1
 
 pub below : (n : ℕ) (r : Registers) → n % fault_entries r < fault_entries r

@@ -45,49 +45,22 @@ fn both_ways(rt: &impl Abort, request: FaultedRequest, fault: Fault, words: [u64
     );
 }
 
-// A write of device 1 to a page that it doesn't hold; its read of one; a translated read of device 3, which
-// may make none; a question of device 2 while all is disallowed; the last address of the last device. What
-// is said of a guest physical address means nothing.
+/// What is asked and refused without a guest physical address, and its record's first word: a write of device 1
+/// to a page that it doesn't hold; its read of one; a translated read of device 3, which may make none; a
+/// question of device 2 while all is disallowed; the last address of the last device.
+#[rattlefmt::skip]
+const PLAIN_FAULTS: [(u32, Transaction, u64, Cause, u64); 5] = [
+    (1, Transaction::UntranslatedWrite, 0x3010, Cause::WritePageFault, 0x0000_010c_0000_000f),
+    (1, Transaction::UntranslatedRead, 0x4000, Cause::ReadPageFault, 0x0000_0108_0000_000d),
+    (3, Transaction::TranslatedRead, 0x5000, Cause::TransactionTypeDisallowed, 0x0000_0318_0000_0104),
+    (2, Transaction::AtsRequest, 0x3000, Cause::AllInboundDisallowed, 0x0000_0220_0000_0100),
+    (0xff_ffff, Transaction::TranslatedWrite, u64::MAX, Cause::WriteAccessFault, 0xffff_ff1c_0000_0007),
+];
+
+// What is said of a guest physical address means nothing.
 #[test]
 fn records_without_a_guest_address(rt: HostRuntime) {
-    let table = [
-        (
-            1,
-            Transaction::UntranslatedWrite,
-            0x3010,
-            Cause::WritePageFault,
-            0x0000_010c_0000_000f,
-        ),
-        (
-            1,
-            Transaction::UntranslatedRead,
-            0x4000,
-            Cause::ReadPageFault,
-            0x0000_0108_0000_000d,
-        ),
-        (
-            3,
-            Transaction::TranslatedRead,
-            0x5000,
-            Cause::TransactionTypeDisallowed,
-            0x0000_0318_0000_0104,
-        ),
-        (
-            2,
-            Transaction::AtsRequest,
-            0x3000,
-            Cause::AllInboundDisallowed,
-            0x0000_0220_0000_0100,
-        ),
-        (
-            0xff_ffff,
-            Transaction::TranslatedWrite,
-            u64::MAX,
-            Cause::WriteAccessFault,
-            0xffff_ff1c_0000_0007,
-        ),
-    ];
-    for (device, transaction, address, cause, first) in table {
+    for (device, transaction, address, cause, first) in PLAIN_FAULTS {
         let fault = guest_fault(cause, 0x9010, true);
         both_ways(
             &rt,

@@ -2,7 +2,7 @@
 use Rattle.std.proofs.Common.{◌≡◌, ◌↔◌, ◌⊎◌, inl, inr, ℕ, ◌+◌, ◌-◌, ◌*◌, ◌/◌, ◌%◌, ◌<◌, ◌≤◌, Bool, true, false, ◌==◌, ◌&&◌, bit_and, MatchOption, Option, None, Some, refl, sym, ap, ◌∙◌, subst, arith}
 use Rattle.std.specs.Int.{bit_at}
 use Rattle.std.proofs.lemmas.Bool.{cases_lt, eqb-true, eq-eqb}
-use Rattle.iom_frame_set.specs.Sets.{Words, word_at, has, in_both}
+use Rattle.iom_frame_set.specs.Sets.{Words, nth_word, has, in_both}
 use Rattle.iom_frame_set.specs.Spans.{NoneIsInBoth, IsHighestInBoth, IsSummary, IsHighestBit}
 use Rattle.iom_frame_set.proofs.BitLemmas.{bit_of_both}
 use Rattle.iom_frame_set.proofs.SetLemmas.{has_place}
@@ -23,7 +23,7 @@ not_second true c none = none
 not_second false c none = refl
 
 -- the numbers of a word of each set, below a place
-module _ (a b : Words) (index places here there ones : ℕ) (within : places ≤ 64) (is_here : here ≡ word_at a index) (is_there : there ≡ word_at b index) (below : (k : ℕ) → k < 64 → (bit_at ones k ≡ 1) ↔ (k < places)) where
+module _ (a b : Words) (index places here there ones : ℕ) (within : places ≤ 64) (is_here : here ≡ nth_word a index) (is_there : there ≡ nth_word b index) (below : (k : ℕ) → k < 64 → (bit_at ones k ≡ 1) ↔ (k < places)) where
   abbrev masked : ℕ
   masked = bit_and (bit_and here there) ones
 

@@ -3,7 +3,7 @@ use Rattle.std.proofs.Common.{◌≡◌, ◌≢◌, ◌⊎◌, inl, inr, ℕ, su
 use Rattle.std.specs.Int.{bit_at}
 use Rattle.std.proofs.lemmas.Bool.{cases_eq, eqb-true, eqb-false, eq-eqb, ne_eqb, not-false, false≢true}
 use Rattle.std.proofs.lemmas.Nat.Bits.{bit_at-zero, bit_at-lt, same_from_bits_below}
-use Rattle.iom_frame_set.specs.Sets.{Words, word_at, has, room, Inserts, Removes}
+use Rattle.iom_frame_set.specs.Sets.{Words, nth_word, has, room, Inserts, Removes}
 use Rattle.iom_frame_set.specs.Spans.{KeepsWords, KeepsOtherWords, IsSummary}
 use Rattle.iom_frame_set.proofs.SetLemmas.{HasSame-words, has_place, has_zero}
 
@@ -14,7 +14,7 @@ bit_not_one (suc zero) below none = absurd (none refl)
 bit_not_one (suc (suc x)) below none = absurd (omega arith)
 
 -- a word that has no number is 0
-zero_from_none : (words : Words) (index word : ℕ) → word < 2 ^ 64 → word ≡ word_at words index → ((k : ℕ) → k < 64 → has words (64 * index + k) ≡ false) → word ≡ 0
+zero_from_none : (words : Words) (index word : ℕ) → word < 2 ^ 64 → word ≡ nth_word words index → ((k : ℕ) → k < 64 → has words (64 * index + k) ≡ false) → word ≡ 0
 zero_from_none words index word fits is none = same_from_bits_below 64 word 0 fits (omega arith) (λ k small. by k small (none k small) ∙ sym (bit_at-zero k))
   where
     by : (k : ℕ) → k < 64 → has words (64 * index + k) ≡ false → bit_at word k ≡ 0
@@ -25,13 +25,13 @@ zero_from_none words index word fits is none = same_from_bits_below 64 word 0 fi
 -- where the word of a number isn't filled, the number isn't in the set
 pub none_unfilled : (words filled : Words) (n : ℕ) → IsSummary words filled → has filled (n / 64) ≡ false → has words n ≡ false
 none_unfilled words filled n is none =
-    has_zero words n (eqb-true (word_at words (n / 64)) 0 (not-false (word_at words (n / 64) == 0) (sym (is.has_filled (n / 64)) ∙ none)))
+    has_zero words n (eqb-true (nth_word words (n / 64)) 0 (not-false (nth_word words (n / 64) == 0) (sym (is.has_filled (n / 64)) ∙ none)))
 
 -- at first no word is filled, or each is
-pub IsSummary-empty : (words filled : Words) → ((i : ℕ) → word_at words i ≡ 0) → length words.kept ≡ 0 → ((i : ℕ) → has filled i ≡ false) → IsSummary words filled
+pub IsSummary-empty : (words filled : Words) → ((i : ℕ) → nth_word words i ≡ 0) → length words.kept ≡ 0 → ((i : ℕ) → has filled i ≡ false) → IsSummary words filled
 IsSummary-empty words filled none short empty = record { has_filled = λ i. empty i ∙ sym (ap (λ w. not (w == 0)) (none i)); roomy = omega arith }
 
-pub IsSummary-full : (words filled : Words) → ((i : ℕ) → word_at words i ≡ 2 ^ 64 - 1) → length words.kept ≡ 0 → ((i : ℕ) → has filled i ≡ true) → IsSummary words filled
+pub IsSummary-full : (words filled : Words) → ((i : ℕ) → nth_word words i ≡ 2 ^ 64 - 1) → length words.kept ≡ 0 → ((i : ℕ) → has filled i ≡ true) → IsSummary words filled
 IsSummary-full words filled all short full = record { has_filled = λ i. full i ∙ sym (ap (λ w. not (w == 0)) (all i)); roomy = omega arith }
 
 -- the words stay, and there is room for their numbers
@@ -53,14 +53,14 @@ IsSummary-inserted words now filled now_filled frame inserted others long filled
     inside : has now frame ≡ true
     inside = inserted frame ∙ ap (λ b. if b then true else has words frame) (eq-eqb frame frame refl)
 
-    by : (i : ℕ) (same : Bool) → (frame / 64 == i) ≡ same → (if same then true else has filled i) ≡ not (word_at now i == 0)
+    by : (i : ℕ) (same : Bool) → (frame / 64 == i) ≡ same → (if same then true else has filled i) ≡ not (nth_word now i == 0)
     by i true e =
-        sym (ap not (ne_eqb (word_at now i) 0 (λ is_zero. false≢true (sym (has_zero now frame (ap (word_at now) (eqb-true (frame / 64) i e) ∙ is_zero)) ∙ inside))))
+        sym (ap not (ne_eqb (nth_word now i) 0 (λ is_zero. false≢true (sym (has_zero now frame (ap (nth_word now) (eqb-true (frame / 64) i e) ∙ is_zero)) ∙ inside))))
     by i false e = is.has_filled i ∙ ap (λ w. not (w == 0)) (sym (others i (λ same. eqb-false (frame / 64) i e (sym same))))
 
 -- a number less, and its word still isn't 0
 pub IsSummary-left : (words now filled : Words) (frame word : ℕ) → Removes words now frame → KeepsOtherWords words now (frame / 64) → length now.kept ≡ length words.kept → word < 2 ^ 64
-    → word ≡ word_at now (frame / 64) → (word ≡ 0 → ⊥) → IsSummary words filled → IsSummary now filled
+    → word ≡ nth_word now (frame / 64) → (word ≡ 0 → ⊥) → IsSummary words filled → IsSummary now filled
 IsSummary-left words now filled frame word removed others long fits at some is = record {
   has_filled = λ i. is.has_filled i ∙ by i (cases_eq i (frame / 64));
   roomy = let roomy = is.roomy in omega arith;
@@ -70,18 +70,18 @@ IsSummary-left words now filled frame word removed others long fits at some is =
     absent true n none = refl
     absent false n none = none
 
-    left : word_at words (frame / 64) ≡ 0 → word ≡ 0
+    left : nth_word words (frame / 64) ≡ 0 → word ≡ 0
     left is_zero =
         zero_from_none now (frame / 64) word fits at
         (λ k small.
         let n : ℕ = 64 * (frame / 64) + k in
         let place : n / 64 ≡ frame / 64 = omega arith in
-        removed n ∙ absent (frame == n) n (has_zero words n (ap (word_at words) place ∙ is_zero)))
+        removed n ∙ absent (frame == n) n (has_zero words n (ap (nth_word words) place ∙ is_zero)))
 
-    by : (i : ℕ) → (i ≡ frame / 64) ⊎ (i ≢ frame / 64) → not (word_at words i == 0) ≡ not (word_at now i == 0)
+    by : (i : ℕ) → (i ≡ frame / 64) ⊎ (i ≢ frame / 64) → not (nth_word words i == 0) ≡ not (nth_word now i == 0)
     by i (inl same) =
-        ap not (ne_eqb (word_at words i) 0 (λ is_zero. some (left (ap (word_at words) (sym same) ∙ is_zero))))
-        ∙ sym (ap not (ne_eqb (word_at now i) 0 (λ is_zero. some (at ∙ ap (word_at now) (sym same) ∙ is_zero))))
+        ap not (ne_eqb (nth_word words i) 0 (λ is_zero. some (left (ap (nth_word words) (sym same) ∙ is_zero))))
+        ∙ sym (ap not (ne_eqb (nth_word now i) 0 (λ is_zero. some (at ∙ ap (nth_word now) (sym same) ∙ is_zero))))
     by i (inr other) = ap (λ w. not (w == 0)) (sym (others i other))
 
 -- there is room for the number of each word that was made

@@ -8,12 +8,12 @@ pub record Words : Type 0 where
   pub beyond : ℕ
 
 -- the word at the index
-abbrev pub word_at : Words → ℕ → ℕ
-word_at set index = slice_index_or set.kept index set.beyond
+abbrev pub nth_word : Words → ℕ → ℕ
+nth_word set index = slice_index_or set.kept index set.beyond
 
 -- whether the frame is in the set: its bit is set
 unfoldable pub has : Words → ℕ → Bool
-has set frame = bit_at (word_at set (frame / 64)) (frame % 64) == 1
+has set frame = bit_at (nth_word set (frame / 64)) (frame % 64) == 1
 
 -- frames below this number go into the set and out of it without new memory
 abbrev pub room : Words → ℕ

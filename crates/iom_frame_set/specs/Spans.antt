@@ -1,19 +1,19 @@
 -- Words and spans of frames: what the calls inside this crate say to one another. No public contract cites it.
 use Rattle.std.specs.Prelude.{◌≡◌, ◌≢◌, ℕ, ◌<◌, ◌≤◌, true, false, not, ◌==◌, length}
 use Rattle.std.specs.Int.{bit_at}
-use Rattle.iom_frame_set.specs.Sets.{Words, word_at, has, room, in_both}
+use Rattle.iom_frame_set.specs.Sets.{Words, nth_word, has, room, in_both}
 
 -- each word is as it was
 abbrev pub KeepsWords : Words → Words → Type 0
-KeepsWords old new = (i : ℕ) → word_at new i ≡ word_at old i
+KeepsWords old new = (i : ℕ) → nth_word new i ≡ nth_word old i
 
 -- each word is as it was, but perhaps the one at the index
 abbrev pub KeepsOtherWords : Words → Words → ℕ → Type 0
-KeepsOtherWords old new index = (i : ℕ) → i ≢ index → word_at new i ≡ word_at old i
+KeepsOtherWords old new index = (i : ℕ) → i ≢ index → nth_word new i ≡ nth_word old i
 
 -- the other set has the numbers of the words that aren't 0, and room for the number of each word that is kept
 pub record IsSummary (set filled : Words) : Type 0 where
-  pub has_filled : (i : ℕ) → has filled i ≡ not (word_at set i == 0)
+  pub has_filled : (i : ℕ) → has filled i ≡ not (nth_word set i == 0)
   pub roomy : length set.kept ≤ room filled
 
 -- no number from the first one on and below the limit is in both sets

@@ -1,6 +1,6 @@
 //! Sets of numbers, a bit for each in words of 64.
 ghost use Rattle.std.specs.Prelude.{◌≡◌, ◌+◌, ◌-◌, ◌*◌, ◌/◌, ◌^◌, ◌<◌, ◌≤◌, ℕ, OnOk, MatchOption, length, max};
-ghost use Rattle.iom_frame_set.specs.Sets.{word_at, has, room, IsEmpty, IsFull, Inserts, Removes};
+ghost use Rattle.iom_frame_set.specs.Sets.{nth_word, has, room, IsEmpty, IsFull, Inserts, Removes};
 ghost use Rattle.iom_frame_set.specs.Spans.{KeepsWords, KeepsOtherWords, NoneIsInBoth, IsHighestInBoth};
 
 use crate::bits::{BITS, highest_bit, ones_below, with_bit, without_bit};
@@ -26,7 +26,7 @@ impl NumberSet {
     /// The set of no numbers. Takes no memory.
     pub(crate) fn empty(alloc: Global) -> NumberSet
         ensures empty { IsEmpty result }
-        ensures zero { (i : ℕ) → word_at result i ≡ 0 }
+        ensures zero { (i : ℕ) → nth_word result i ≡ 0 }
         ensures room { length result.kept ≡ 0 }
     {
         NumberSet {
@@ -38,7 +38,7 @@ impl NumberSet {
     /// The set of all numbers. Takes no memory.
     pub(crate) fn full(alloc: Global) -> NumberSet
         ensures full { IsFull result }
-        ensures ones { (i : ℕ) → word_at result i ≡ 2 ^ 64 - 1 }
+        ensures ones { (i : ℕ) → nth_word result i ≡ 2 ^ 64 - 1 }
         ensures room { length result.kept ≡ 0 }
     {
         NumberSet {
@@ -85,7 +85,7 @@ impl NumberSet {
 
     /// The bits of the numbers from 64 times the index on.
     pub(crate) fn word(&self, index: u32) -> u64
-        ensures { result ≡ word_at self.now index }
+        ensures { result ≡ nth_word self.now index }
     {
         self.words
             .get(index as usize)

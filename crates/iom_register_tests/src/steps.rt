@@ -3,7 +3,7 @@ use std::process::Abort;
 
 /// What is done to a register file.
 #[derive(Clone, Copy, Debug)]
-pub enum Step {
+pub(crate) enum Step {
     /// Power-on.
     New,
     /// A write of a value to the register at an offset, with its width.
@@ -21,7 +21,7 @@ pub enum Step {
 }
 
 /// The width of the register at an offset.
-pub fn width_at(offset: u64) -> u32 {
+pub(crate) fn width_at(offset: u64) -> u32 {
     match offset {
         0 | 16 | 24 | 40 => 8,
         _ => 4,
@@ -47,7 +47,7 @@ fn take(registers: &mut Registers, step: Step) {
 }
 
 /// Takes the steps from power-on: after each the register at the offset reads so.
-pub fn follow(rt: &impl Abort, steps: &[(Step, u64, u64)]) {
+pub(crate) fn follow(rt: &impl Abort, steps: &[(Step, u64, u64)]) {
     let mut registers = Registers::new();
     for (step, offset, value) in steps {
         take(&mut registers, *step);

@@ -65,8 +65,8 @@ base_at value = record {
 }
 
 -- how many entries the queue has
-unfoldable pub entries : QueueBase → ℕ
-entries base = 2 ^ (base.log2sz_less_1 + 1)
+unfoldable pub entry_count : QueueBase → ℕ
+entry_count base = 2 ^ (base.log2sz_less_1 + 1)
 
 -- the address of its first entry: pages have 4,096 bytes
 abbrev pub address : QueueBase → ℕ

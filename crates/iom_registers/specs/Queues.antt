@@ -1,7 +1,7 @@
 -- The words by which the layers above speak of the registers: where the queues are, how far they came, what is on, what is
 -- wrong; and what the hardware's own changes leave (IOMMU specification, chapter 5, and chapter 3 "In-memory queue interface").
 use Rattle.std.specs.Prelude.{ℕ, ◌+◌, ◌%◌, ◌==◌, Bool, true, not, ◌&&◌, ◌||◌, if◌then◌else◌}
-use Rattle.iom_registers.specs.Fields.{entries, address, is_command_interrupt_due, is_fault_interrupt_due}
+use Rattle.iom_registers.specs.Fields.{entry_count, address, is_command_interrupt_due, is_fault_interrupt_due}
 use Rattle.iom_registers.specs.declared.directory.DirectoryMode.{DirectoryMode}
 use Rattle.iom_registers.specs.declared.status.CommandStatus.{CommandStatus}
 use Rattle.iom_registers.specs.declared.status.FaultStatus.{FaultStatus}
@@ -28,7 +28,7 @@ abbrev pub command_base : Registers → ℕ
 command_base r = address r.cqb
 
 abbrev pub command_entries : Registers → ℕ
-command_entries r = entries r.cqb
+command_entries r = entry_count r.cqb
 
 abbrev pub command_head : Registers → ℕ
 command_head r = r.cqh % command_entries r
@@ -71,7 +71,7 @@ abbrev pub fault_base : Registers → ℕ
 fault_base r = address r.fqb
 
 abbrev pub fault_entries : Registers → ℕ
-fault_entries r = entries r.fqb
+fault_entries r = entry_count r.fqb
 
 abbrev pub fault_head : Registers → ℕ
 fault_head r = r.fqh % fault_entries r

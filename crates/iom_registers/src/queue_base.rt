@@ -15,7 +15,7 @@ pub struct QueueBase {
 
 impl QueueBase {
     ghost use Rattle.std.specs.Prelude.{◌≡◌, ◌≤◌};
-    ghost use Rattle.iom_registers.specs.Fields.{base_at, base_value, entries, address};
+    ghost use Rattle.iom_registers.specs.Fields.{base_at, base_value, entry_count, address};
 
     // What a register that was written so holds.
     pub(crate) fn at(value: u64) -> QueueBase
@@ -37,7 +37,7 @@ impl QueueBase {
 
     /// How many entries the queue has: a power of two, from 2 to 2^32.
     pub fn entries(self) -> u64
-        ensures value { result ≡ entries self }
+        ensures value { result ≡ entry_count self }
         ensures range { (2 ≤ result) × (result ≤ 2 ^ 32) }
     {
         2 << self.log2sz_less_1

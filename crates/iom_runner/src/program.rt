@@ -1,7 +1,10 @@
 // The program `iommu-run`, from its command line to its exit status.
-ghost use Rattle.std.specs.Prelude.{◌≡◌, ◌≢◌, true, map, Err};
+ghost use Rattle.std.specs.Prelude.{◌≡◌, ◌≢◌, ◌⊎◌, ℕ, [], true, map, Err, OnOk, OnErr, IfSome};
 ghost use Rattle.std.specs.Io.KnownBytes.{Keeps};
+ghost use Rattle.iom_script.specs.declared.script.Script.{Script};
+ghost use Rattle.iom_script.specs.Grammar.{IsScript, IsFirstBadLine};
 ghost use Rattle.iom_runner.specs.CommandLine.{is_command_line};
+ghost use Rattle.iom_runner.specs.Text.{WritesText, BeginsText};
 
 use crate::arguments::read_words;
 use crate::faults::{ArgsFault, ProgramFault, RunFault};
@@ -38,6 +41,21 @@ pub fn run_words<F: Files, R: Read, W: Write>(
     // A command line that isn't lawful is told as a bad one, and nothing is written.
     ensures unlawful { is_command_line (map (λ word. word.now) words.entry.now) ≢ true
         → (result ≡ Err (ProgramFault.Args ArgsFault.Bad)) × Keeps (W.contents output.old) (W.contents output.new) }
+
+    // Where the words name a file, or are no command line, nothing is read from the input.
+    ensures unread { words.entry.now ≢ [] → Keeps (R.remaining input.old) (R.remaining input.new) }
+
+    // Without a word the input is the script: what is written is its text, told of a run that a world goes through.
+    ensures ran { words.entry.now ≡ [] → OnOk result (IfSome (R.remaining input.old) (λ bytes. (script : Script) × IsScript bytes script
+        × WritesText script (W.contents output.old) (W.contents output.new))) }
+
+    // Where it fails, what was written is a beginning of that.
+    ensures front { words.entry.now ≡ [] → OnErr result (IfSome (R.remaining input.old) (λ bytes. (script : Script) → IsScript bytes script
+        → BeginsText script (W.contents output.old) (W.contents output.new))) }
+
+    // A line of the input that is named is the first bad one, and nothing is written.
+    ensures named { words.entry.now ≡ [] → (number : ℕ) → result ≡ Err (ProgramFault.Run (RunFault.Script number))
+        → IfSome (R.remaining input.old) (λ bytes. IsFirstBadLine bytes number) × Keeps (W.contents output.old) (W.contents output.new) }
 {
     let args = read_words(alloc, words)?;
     match args.file {

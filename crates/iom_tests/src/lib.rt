@@ -1,5 +1,5 @@
-//! Calls of the public functions of each crate, on their happy paths and at their edges: one module for
-//! each crate. Those of the lower crates are in `iom_memory_tests` and `iom_ledger_tests`.
+//! Calls of the public functions of `iom_world` and `iom_runner`, on their happy paths and at their edges:
+//! one module for each, and one for worlds that are drawn. Those of the crates below have crates of their own.
 //!
 //! The crate has tests alone, and nothing stands on it. It stands apart from the crates that it calls
 //! because a crate with tests of its own is proved twice, without them and with them. Beside it
@@ -9,10 +9,6 @@
 #[cfg(test)]
 mod drawn_worlds;
 #[cfg(test)]
-mod machine;
-#[cfg(test)]
 mod runner;
-#[cfg(test)]
-mod script;
 #[cfg(test)]
 mod world;

@@ -18,13 +18,9 @@ impl World {
     fn is_any_in_flight(&self) -> bool
         ensures { IsTrue result ↔ SomeInFlight self.now.devices.items }
     {
-        for k in 0..self.devices.len() {
-            let device = &self.devices[k];
-            if device.in_flight.count() > 0 {
-                return true;
-            }
-        }
-        false
+        self.devices
+            .iter()
+            .any(|device| device.in_flight.count() > 0)
     }
 
     /// The IOMMU takes its next command.

@@ -24,13 +24,7 @@ impl World {
     pub(crate) fn place_of(&self, id: DeviceId) -> Option<usize>
         ensures { MatchOption result (IsAbsent self.now.devices.items id) (IsPlaceOf self.now.devices.items id) }
     {
-        for k in 0..self.devices.len() {
-            let device = &self.devices[k];
-            if device.id == id {
-                return Some(k);
-            }
-        }
-        None
+        self.devices.iter().position(|device| device.id == id)
     }
 
     /// A device is plugged in, detached and with nothing in flight.

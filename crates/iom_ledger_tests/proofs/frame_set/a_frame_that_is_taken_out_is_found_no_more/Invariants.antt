@@ -4,4 +4,4 @@ use Rattle.iom_ledger_tests.proofs.frame_set.a_frame_that_is_taken_out_is_found_
 
 -- there is room for each frame of the largest memory
 abbrev pub invariant-loop-frame : goal.invariant-loop-frame
-invariant-loop-frame l = 4095 < room l.set
+invariant-loop-frame g l = 4095 < room l.set

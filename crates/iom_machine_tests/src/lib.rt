@@ -1,0 +1,12 @@
+//! Calls of the public functions of `iom_machine` and `iom_script`, on their happy paths and at their edges:
+//! one module for each.
+//!
+//! The crate has tests alone, and nothing stands on it. It stands apart from the crates that it calls
+//! because a crate with tests of its own is proved twice, without them and with them; and apart from
+//! `iom_tests` so that it runs while the world is proved.
+#![tactic(auto)]
+
+#[cfg(test)]
+mod machine;
+#[cfg(test)]
+mod script;
