@@ -29,7 +29,7 @@ device_same text x y p q = same_hex 6 x y p.0 q.0 (sym p.1 ∙ q.1)
 own : IsNumeralModel (AllDigits 10) (digits_value 10)
 own = numerals_by_value (AllDigits 10) tells_digits
 
-number_same : SaysOne IsNumber
+pub number_same : SaysOne IsNumber
 number_same text x y p q = sym (digits_value-decimal own x p.0) ∙ ap (digits_value 10) (sym p.1 ∙ q.1) ∙ digits_value-decimal own y q.0
 
 pub address_same : SaysOne IsAddress

@@ -1,10 +1,13 @@
 -- A line taken apart from the left: what the private functions between the words and the events return. No public contract cites it.
-use Rattle.std.specs.Prelude.{◌≡◌, ◌≢◌, ℕ, ◌^◌, ◌<◌, ◌≤◌, List, ◌∷◌, ◌++◌, ◌⊎◌, codes, length, take, slice_index, Option, option_map}
+use Rattle.std.specs.Prelude.{◌≡◌, ◌≢◌, ℕ, ◌^◌, ◌<◌, ◌≤◌, List, [], ◌∷◌, ◌++◌, codes, length, take, slice_index, Contains, Option, option_map}
 use Rattle.std.specs.Borrow.{Bor}
+use Rattle.std.specs.Int.{IsInRange}
+use Rattle.std.specs.Str.Parse.{AllDigits, digits_value}
 use Rattle.iom_machine.specs.declared.event.Event.{Event}
-use Rattle.iom_machine.specs.declared.event.Event.TheVariants.{Fetch, Poll}
-use Rattle.iom_script.specs.Words.{◌␣◌, IsWithout}
+use Rattle.iom_machine.specs.declared.event.Event.TheVariants.{Plug, Attach, Grant, Release, Fetch, Poll, Read, Write, Commit}
+use Rattle.iom_script.specs.Words.{◌␣◌, IsWithout, IsNumber}
 use Rattle.iom_script.specs.Digits.{hex_digit, hex_digits}
+use Rattle.iom_script.specs.Grammar.{IsEventLine}
 
 -- what a pair of slices shows
 abbrev pub shown : Option (Bor (List ℕ) × Bor (List ℕ)) → Option (List ℕ × List ℕ)
@@ -22,10 +25,6 @@ with_rest result = option_map (λ found. (found.0, found.1.now)) result
 abbrev pub IsCut : List ℕ → ℕ → List ℕ → List ℕ → Type 0
 IsCut bytes separator before after = IsWithout separator before × (bytes ≡ before ++ separator ∷ after)
 
--- at that index stands the first space
-abbrev pub IsFirstSpace : List ℕ → ℕ → Type 0
-IsFirstSpace text i = (i < length text) × (slice_index text i ≡ 32) × ((k : ℕ) → k < i → slice_index text k ≢ 32)
-
 -- the text begins with a word that says the value, and this follows it
 abbrev pub Begins : (List ℕ → ℕ → Type 0) → List ℕ → ℕ → List ℕ → Type 0
 Begins Says text value rest = (word : List ℕ) × Says word value × (text ≡ word ␣ rest)
@@ -38,6 +37,48 @@ pub record LeadsWithHex (text : List ℕ) (number count : ℕ) : Type 0 where
   pub read : take count text ≡ hex_digits count number
   pub stops : count < 16 → count < length text → (value : ℕ) → value < 16 → slice_index text count ≢ hex_digit value
 
--- the line of one word says the event
-abbrev pub IsSingle : List ℕ → Event → Type 0
-IsSingle line event = ((line ≡ codes "fetch") × (event ≡ Fetch)) ⊎ ((line ≡ codes "poll") × (event ≡ Poll))
+-- The first so many bytes are decimal digits, no digit follows them, and they say the number, which fits 64 bits.
+pub record LeadsWithDecimal (text : List ℕ) (number count : ℕ) : Type 0 where
+  pub within : count ≤ length text
+  pub digits : AllDigits 10 (take count text)
+  pub value : number ≡ digits_value 10 (take count text)
+  pub fits : number < 2 ^ 64
+  pub stops : count < length text → ¬ IsInRange 48 57 (slice_index text count)
+
+-- The first so many bytes say the number, and no digit follows them.
+pub record LeadsWithNumber (text : List ℕ) (number count : ℕ) : Type 0 where
+  pub within : count ≤ length text
+  pub is : IsNumber (take count text) number
+  pub stops : count < length text → ¬ IsInRange 48 57 (slice_index text count)
+
+-- what the line of an event begins with: its first word, and a space where others follow
+abbrev pub start_of : Event → List ℕ
+start_of (Plug device kind) = codes "device "
+start_of (Attach device mode ats) = codes "attach "
+start_of (Grant device page frame rights) = codes "grant "
+start_of (Release device page) = codes "release "
+start_of Fetch = codes "fetch"
+start_of Poll = codes "poll"
+start_of (Read device address len) = codes "read "
+start_of (Write device address bytes) = codes "write "
+start_of (Commit device) = codes "commit "
+
+-- the line begins with one of these, and says the event
+abbrev pub IsLineOf : List (List ℕ) → List ℕ → Event → Type 0
+IsLineOf starts line event = Contains starts (start_of event) × IsEventLine line event
+
+-- the line begins so, and says the event
+abbrev pub IsLineWith : List ℕ → List ℕ → Event → Type 0
+IsLineWith start line event = IsLineOf (start ∷ []) line event
+
+-- how the lines begin that say what a device does
+abbrev pub device_starts : List (List ℕ)
+device_starts = codes "read " ∷ codes "commit " ∷ codes "write " ∷ []
+
+-- how the lines begin that say what the driver is asked for a device
+abbrev pub driver_starts : List (List ℕ)
+driver_starts = codes "grant " ∷ codes "release " ∷ codes "device " ∷ codes "attach " ∷ []
+
+-- the lines of one word
+abbrev pub single_starts : List (List ℕ)
+single_starts = codes "poll" ∷ codes "fetch" ∷ []

@@ -1,73 +1,33 @@
 ghost use Rattle.std.specs.Prelude.{◌≡◌, ◌≤◌, ◌↔◌, codes, IfOk, IsTrue};
-ghost use Rattle.iom_script.specs.Words.{Reads, ◌␣◌};
-ghost use Rattle.iom_script.specs.Cuts.{IsSingle};
+ghost use Rattle.iom_script.specs.Words.{Reads};
+ghost use Rattle.iom_script.specs.Cuts.{IsLineWith, IsLineOf, device_starts, driver_starts, single_starts};
 ghost use Rattle.iom_script.specs.Grammar.{IsEventLine, IsWorldLine};
 
 use crate::script::WorldSize;
 use crate::words::{
-    address_and, after, bytes_of, device_and, device_of, number_and, number_of, right_of, word_and,
+    address_and, after, bytes_of, device_and, device_of, number_and, number_of, right_of,
 };
 use iom_machine::{DeviceKind, Event, Mode};
 use std::alloc::{AllocError, Global};
 
-/// What follows `device`.
-fn plug(arguments: &[u8]) -> Option<Event>
-    ensures { Reads result (IsEventLine (codes "device" ␣ arguments.now)) }
-{
-    let (device, kind) = device_and(arguments)?;
-    if kind != b"raw".as_slice() {
-        return None;
-    }
-    Some(Event::Plug {
-        device,
-        kind: DeviceKind::Raw,
-    })
+/// The event of the first of these that gives one; those behind it aren't tried.
+macro_rules! first_of {
+    ($only:expr) => {
+        $only
+    };
+    ($first:expr, $($others:expr),+) => {
+        match $first {
+            Some(event) => Some(event),
+            None => first_of!($($others),+),
+        }
+    };
 }
 
-/// What follows `attach`.
-fn attach(arguments: &[u8]) -> Option<Event>
-    ensures { Reads result (IsEventLine (codes "attach" ␣ arguments.now)) }
+/// `read ID ADDR LEN`
+fn read(line: &[u8]) -> Option<Event>
+    ensures { Reads result (IsLineWith (codes "read ") line.now) }
 {
-    let (device, mode) = device_and(arguments)?;
-    if mode != b"first".as_slice() {
-        return None;
-    }
-    Some(Event::Attach {
-        device,
-        mode: Mode::First,
-        ats: false,
-    })
-}
-
-/// What follows `grant`.
-fn grant(arguments: &[u8]) -> Option<Event>
-    ensures { Reads result (IsEventLine (codes "grant" ␣ arguments.now)) }
-{
-    let (device, rest) = device_and(arguments)?;
-    let (page, rest) = number_and(rest)?;
-    let (frame, right) = number_and(rest)?;
-    let rights = right_of(right)?;
-    Some(Event::Grant {
-        device,
-        page,
-        frame,
-        rights,
-    })
-}
-
-/// What follows `release`.
-fn release(arguments: &[u8]) -> Option<Event>
-    ensures { Reads result (IsEventLine (codes "release" ␣ arguments.now)) }
-{
-    let (device, rest) = device_and(arguments)?;
-    let page = number_of(rest)?;
-    Some(Event::Release { device, page })
-}
-
-/// What follows `read`.
-fn read(arguments: &[u8]) -> Option<Event>
-    ensures { Reads result (IsEventLine (codes "read" ␣ arguments.now)) }
-{
+    let arguments = after(line, b"read ")?;
     let (device, rest) = device_and(arguments)?;
     let (address, rest) = address_and(rest)?;
     let len = number_of(rest)?;
@@ -78,10 +38,22 @@ fn read(arguments: &[u8]) -> Option<Event>
     })
 }
 
-/// What follows `write`.
-fn write(alloc: Global, arguments: &[u8]) -> Result<Option<Event>, AllocError>
-    ensures { IfOk result (λ event. Reads event (IsEventLine (codes "write" ␣ arguments.now))) }
+/// `commit ID`
+fn commit(line: &[u8]) -> Option<Event>
+    ensures { Reads result (IsLineWith (codes "commit ") line.now) }
 {
+    let arguments = after(line, b"commit ")?;
+    let device = device_of(arguments)?;
+    Some(Event::Commit { device })
+}
+
+/// `write ID ADDR HEX`. The bytes take memory.
+fn write(alloc: Global, line: &[u8]) -> Result<Option<Event>, AllocError>
+    ensures { IfOk result (λ event. Reads event (IsLineWith (codes "write ") line.now)) }
+{
+    let Some(arguments) = after(line, b"write ") else {
+        return Ok(None);
+    };
     let Some((device, rest)) = device_and(arguments) else {
         return Ok(None);
     };
@@ -98,17 +70,85 @@ fn write(alloc: Global, arguments: &[u8]) -> Result<Option<Event>, AllocError>
     }))
 }
 
-/// What follows `commit`.
-fn commit(arguments: &[u8]) -> Option<Event>
-    ensures { Reads result (IsEventLine (codes "commit" ␣ arguments.now)) }
+/// A line on what a device does, the commonest first.
+fn act_of_device(alloc: Global, line: &[u8]) -> Result<Option<Event>, AllocError>
+    ensures { IfOk result (λ event. Reads event (IsLineOf device_starts line.now)) }
 {
-    let device = device_of(arguments)?;
-    Some(Event::Commit { device })
+    let first = first_of!(read(line), commit(line));
+    match first {
+        Some(event) => Ok(Some(event)),
+        None => write(alloc, line),
+    }
 }
 
-/// What a line of one word says.
+/// `grant ID PAGE FRAME RIGHT`
+fn grant(line: &[u8]) -> Option<Event>
+    ensures { Reads result (IsLineWith (codes "grant ") line.now) }
+{
+    let arguments = after(line, b"grant ")?;
+    let (device, rest) = device_and(arguments)?;
+    let (page, rest) = number_and(rest)?;
+    let (frame, right) = number_and(rest)?;
+    let rights = right_of(right)?;
+    Some(Event::Grant {
+        device,
+        page,
+        frame,
+        rights,
+    })
+}
+
+/// `release ID PAGE`
+fn release(line: &[u8]) -> Option<Event>
+    ensures { Reads result (IsLineWith (codes "release ") line.now) }
+{
+    let arguments = after(line, b"release ")?;
+    let (device, rest) = device_and(arguments)?;
+    let page = number_of(rest)?;
+    Some(Event::Release { device, page })
+}
+
+/// `device ID raw`
+fn plug(line: &[u8]) -> Option<Event>
+    ensures { Reads result (IsLineWith (codes "device ") line.now) }
+{
+    let arguments = after(line, b"device ")?;
+    let (device, kind) = device_and(arguments)?;
+    if kind != b"raw".as_slice() {
+        return None;
+    }
+    Some(Event::Plug {
+        device,
+        kind: DeviceKind::Raw,
+    })
+}
+
+/// `attach ID first`
+fn attach(line: &[u8]) -> Option<Event>
+    ensures { Reads result (IsLineWith (codes "attach ") line.now) }
+{
+    let arguments = after(line, b"attach ")?;
+    let (device, mode) = device_and(arguments)?;
+    if mode != b"first".as_slice() {
+        return None;
+    }
+    Some(Event::Attach {
+        device,
+        mode: Mode::First,
+        ats: false,
+    })
+}
+
+/// A line on what the driver is asked for a device, the commonest first.
+fn call_of_driver(line: &[u8]) -> Option<Event>
+    ensures { Reads result (IsLineOf driver_starts line.now) }
+{
+    first_of!(grant(line), release(line), plug(line), attach(line))
+}
+
+/// A line of one word.
 fn single(line: &[u8]) -> Option<Event>
-    ensures { Reads result (IsSingle line.now) }
+    ensures { Reads result (IsLineOf single_starts line.now) }
 {
     match line {
         b"poll" => Some(Event::Poll),
@@ -121,31 +161,10 @@ fn single(line: &[u8]) -> Option<Event>
 pub(crate) fn event_of(alloc: Global, line: &[u8]) -> Result<Option<Event>, AllocError>
     ensures { IfOk result (λ event. Reads event (IsEventLine line.now)) }
 {
-    if let Some(event) = single(line) {
-        return Ok(Some(event));
+    match act_of_device(alloc, line)? {
+        Some(event) => Ok(Some(event)),
+        None => Ok(first_of!(call_of_driver(line), single(line))),
     }
-    if let Some(arguments) = after(line, b"read ") {
-        return Ok(read(arguments));
-    }
-    if let Some(arguments) = after(line, b"commit ") {
-        return Ok(commit(arguments));
-    }
-    if let Some(arguments) = after(line, b"write ") {
-        return write(alloc, arguments);
-    }
-    if let Some(arguments) = after(line, b"grant ") {
-        return Ok(grant(arguments));
-    }
-    if let Some(arguments) = after(line, b"release ") {
-        return Ok(release(arguments));
-    }
-    if let Some(arguments) = after(line, b"device ") {
-        return Ok(plug(arguments));
-    }
-    if let Some(arguments) = after(line, b"attach ") {
-        return Ok(attach(arguments));
-    }
-    Ok(None)
 }
 
 /// The frames of the smallest world.
@@ -165,11 +184,8 @@ fn is_frame_count(frames: u64) -> bool
 pub(crate) fn world_of(line: &[u8]) -> Option<WorldSize>
     ensures { Reads result (IsWorldLine line.now) }
 {
-    let (word, rest) = word_and(line)?;
-    if word != b"world".as_slice() {
-        return None;
-    }
-    let (frames, levels) = number_and(rest)?;
+    let arguments = after(line, b"world ")?;
+    let (frames, levels) = number_and(arguments)?;
     if levels != b"1".as_slice() || !is_frame_count(frames) {
         return None;
     }

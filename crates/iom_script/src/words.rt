@@ -1,39 +1,29 @@
 ghost use Rattle.std.specs.Prelude.{◌≡◌, ◌≢◌, MatchOption, slice_index, ℕ, ◌+◌, ◌*◌, ◌/◌, ◌%◌, ◌^◌, ◌<◌, ◌≤◌, ◌↔◌, ◌∷◌, ◌++◌, List, length, Some, IfOk};
-ghost use Rattle.std.specs.Str.Parse.{AllDigits, digits_value};
+ghost use Rattle.memchr.specs.Find.{IsFirstByte, is_byte};
 ghost use Rattle.iom_script.specs.Digits.{hex_digit, hex_digits};
 ghost use Rattle.iom_script.specs.Words.{Reads, IsWithout, IsDevice, IsNumber, IsAddress, IsRight, IsHex, ◌␣◌};
-ghost use Rattle.iom_script.specs.Cuts.{shown, shown_rest, with_rest, IsCut, IsFirstSpace, Begins, LeadsWithHex};
+ghost use Rattle.iom_script.specs.Cuts.{shown, shown_rest, with_rest, IsCut, Begins, LeadsWithHex, LeadsWithDecimal, LeadsWithNumber};
 
 use iom_base::{DeviceId, GrantRights};
 use iom_machine::Sequence;
-use memchr::memchr;
+use memchr::memchr_iter;
 use std::alloc::{AllocError, Global};
+
+/// Where the byte first is. The iterator looks near at hand first, and lines are short.
+#[inline(always)]
+fn first_place(byte: u8, bytes: &[u8]) -> Option<usize>
+    ensures { IsFirstByte (is_byte byte) bytes.now result }
+{
+    memchr_iter(byte, bytes).next()
+}
 
 /// The bytes before the first separator, and those behind it.
 #[inline(always)]
 pub(crate) fn cut(bytes: &[u8], separator: u8) -> Option<(&[u8], &[u8])>
     ensures { Reads (shown result) (λ parts. IsCut bytes.now separator parts.0 parts.1) }
 {
-    let place = memchr(separator, bytes)?;
+    let place = first_place(separator, bytes)?;
     Some((&bytes[..place], &bytes[place + 1..]))
-}
-
-/// The first word, which a space ends, and what follows it. Words are short: they are looked through
-/// byte by byte.
-#[inline(always)]
-pub(crate) fn word_and(text: &[u8]) -> Option<(&[u8], &[u8])>
-    ensures { Reads (shown result) (λ parts. IsCut text.now 32 parts.0 parts.1) }
-{
-    let end = space_in(text)?;
-    Some((&text[..end], &text[end + 1..]))
-}
-
-/// Where the first space is.
-#[inline(always)]
-fn space_in(text: &[u8]) -> Option<usize>
-    ensures { MatchOption result ((k : ℕ) → k < length text.now → slice_index text.now k ≢ 32) (IsFirstSpace text.now) }
-{
-    text.iter().position(|byte| *byte == b' ')
 }
 
 /// What follows, where the text begins so.
@@ -41,11 +31,7 @@ fn space_in(text: &[u8]) -> Option<usize>
 pub(crate) fn after<'a>(text: &'a [u8], start: &[u8]) -> Option<&'a [u8]>
     ensures { Reads (shown_rest result) (λ rest. text.now ≡ start.now ++ rest) }
 {
-    let (front, rest) = text.split_at_checked(start.len())?;
-    if front != start {
-        return None;
-    }
-    Some(rest)
+    text.strip_prefix(start)
 }
 
 /// No digit's value.
@@ -118,30 +104,44 @@ pub(crate) fn device_of(text: &[u8]) -> Option<DeviceId>
     Some(number as u32)
 }
 
-/// The number below 2^64 that decimal digits say, with leading zeros or without.
-fn decimal_value(text: &[u8]) -> Option<u64>
-    ensures { Reads result (λ number. AllDigits 10 text.now × (digits_value 10 text.now < 2 ^ 64) × (number ≡ digits_value 10 text.now)) }
+/// The number below 2^64 that the first decimal digits say, as many as there are, and how many they are.
+/// None where that number is too large.
+fn leading_decimal(text: &[u8]) -> Option<(u64, usize)>
+    ensures { Reads result (λ read. LeadsWithDecimal text.now read.0 read.1) }
 {
     let mut number = 0u64;
-    for digit in text {
+    for count in 0..text.len() {
+        let digit = text[count];
         if !digit.is_ascii_digit() {
-            return None;
+            return Some((number, count));
         }
         number = number
             .checked_mul(10)?
-            .checked_add(u64::from(*digit - b'0'))?;
+            .checked_add(u64::from(digit - b'0'))?;
     }
-    Some(number)
+    Some((number, text.len()))
+}
+
+/// The same, where the digits are those of a number: there are some, and no zero stands before others.
+fn leading_number(text: &[u8]) -> Option<(u64, usize)>
+    ensures { Reads result (λ read. LeadsWithNumber text.now read.0 read.1) }
+{
+    let (number, count) = leading_decimal(text)?;
+    if count == 0 || (text[0] == b'0' && count > 1) {
+        return None;
+    }
+    Some((number, count))
 }
 
 /// The number that the word says.
 pub(crate) fn number_of(text: &[u8]) -> Option<u64>
     ensures { Reads result (IsNumber text.now) }
 {
-    if text.is_empty() || (text[0] == b'0' && text.len() > 1) {
+    let (number, count) = leading_number(text)?;
+    if count != text.len() {
         return None;
     }
-    decimal_value(text)
+    Some(number)
 }
 
 /// The right that the word says.
@@ -166,7 +166,7 @@ fn byte_of(high: u8, low: u8) -> Option<u8>
     Some(high * 16 + low)
 }
 
-/// The bytes that the word says.
+/// The bytes that the word says. They take memory once, as much as they need.
 pub(crate) fn bytes_of(alloc: Global, text: &[u8]) -> Result<Option<Sequence<u8>>, AllocError>
     ensures { IfOk result (λ bytes. Reads bytes (IsHex text.now)) }
 {
@@ -174,7 +174,7 @@ pub(crate) fn bytes_of(alloc: Global, text: &[u8]) -> Result<Option<Sequence<u8>
         return Ok(None);
     }
     let count = text.len() / 2;
-    let mut bytes = Sequence::new(alloc);
+    let mut bytes = Sequence::with_capacity(alloc, count)?;
     for i in 0..count {
         match byte_of(text[2 * i], text[2 * i + 1]) {
             Some(byte) => bytes.push(byte)?,
@@ -199,9 +199,11 @@ pub(crate) fn device_and(text: &[u8]) -> Option<(DeviceId, &[u8])>
 pub(crate) fn number_and(text: &[u8]) -> Option<(u64, &[u8])>
     ensures { Reads (with_rest result) (λ found. Begins IsNumber text.now found.0 found.1) }
 {
-    let (word, rest) = word_and(text)?;
-    let number = number_of(word)?;
-    Some((number, rest))
+    let (number, count) = leading_number(text)?;
+    if count == text.len() || text[count] != b' ' {
+        return None;
+    }
+    Some((number, &text[count + 1..]))
 }
 
 /// The address that the first word says, and what follows it.
