@@ -10,3 +10,4 @@ pub mod FrameLemmas
 pub mod StepLemmas
 pub mod CallLemmas
 pub mod VerdictLemmas
+pub mod ProcessorLemmas
