@@ -103,6 +103,15 @@ fn bytes_of(text: &str) -> Option<ArrayVec<u8, 4096>> {
     Some(bytes)
 }
 
+/// What `yes` or `no` says.
+fn answer_of(text: &str) -> Option<bool> {
+    match text {
+        "yes" => Some(true),
+        "no" => Some(false),
+        _ => None,
+    }
+}
+
 /// An outcome that the line may tell. Whether it does is seen by printing it.
 fn outcome_of(line: &str) -> Option<Outcome> {
     let (word, rest) = line.split_once(' ').unwrap_or((line, ""));
@@ -122,6 +131,8 @@ fn outcome_of(line: &str) -> Option<Outcome> {
         "read" => bytes_of(rest).map(Outcome::Read),
         "wrote" => rest.parse().ok().map(Outcome::Wrote),
         "none" => Some(Outcome::NothingInFlight),
+        "bytes" => bytes_of(rest).map(Outcome::Bytes),
+        "free" => answer_of(rest).map(Outcome::Free),
         _ => None,
     }
 }

@@ -55,10 +55,13 @@ const LINES: &str = "\
     fault 260\n\
     read 00af\n\
     wrote 4096\n\
-    none\n";
+    none\n\
+    bytes 00af\n\
+    free yes\n\
+    free no\n";
 
 /// Lines that tell no outcome.
-const NO_LINES: [&str; 20] = [
+const NO_LINES: [&str; 22] = [
     "",
     "Ok",
     "ok ",
@@ -79,11 +82,13 @@ const NO_LINES: [&str; 20] = [
     "read AF",
     "read +1",
     "none\r",
+    "free",
+    "free maybe",
 ];
 
 #[test]
 fn each_form_of_a_line_is_read_and_no_other(rt: HostRuntime) -> Result<(), Fail> {
-    assert_eq!(rt; lines_read(rt.alloc(), LINES)?, 20);
+    assert_eq!(rt; lines_read(rt.alloc(), LINES)?, 23);
     for line in NO_LINES {
         let output = format!(in rt.alloc(); "ok\n{line}\n")?;
         assert_eq!(rt; lines_read(rt.alloc(), output.as_str())?, 0, "at {line}");

@@ -8,7 +8,7 @@ use Rattle.std.proofs.lemmas.Option.{slice_get-get_or}
 use Rattle.iom_machine.specs.declared.event.Event.{Event}
 use Rattle.iom_machine.specs.declared.event.Event.TheVariants as events
 use Rattle.iom_machine.specs.declared.outcome.Outcome.{Outcome}
-use Rattle.iom_machine.specs.declared.outcome.Outcome.TheVariants.{Done, Refused, Ticket, Confirmed, NoneConfirmed, Fetched, Accepted, Busy, BadSpan, Fault, Read, Wrote, NothingInFlight}
+use Rattle.iom_machine.specs.declared.outcome.Outcome.TheVariants.{Done, Refused, Ticket, Confirmed, NoneConfirmed, Fetched, Accepted, Busy, BadSpan, Fault, Read, Wrote, NothingInFlight, Bytes, Free}
 use Rattle.iom_base.specs.declared.access.Access.{Access}
 use Rattle.iom_base.specs.declared.access.AcceptedAccess.{AcceptedAccess}
 use Rattle.iom_machine.specs.declared.state.Device.{Device}
@@ -310,6 +310,17 @@ devices-step old new events.Poll _ (choice, step) = absurd step
 devices-step old new (events.Read id address len) outcome (choice, step) = change-requests choice.frame old new _ outcome id (read_of address len) step refl (λ told other. refl)
 devices-step old new (events.Write id address bytes) outcome (choice, step) = change-requests choice.frame old new _ outcome id (write_of address bytes) step refl (λ told other. refl)
 devices-step old new (events.Commit id) outcome (choice, step) = change-commits old new id outcome step
+devices-step old new (events.Poke address bytes) Done (choice, step) = stays_asking _ _ old new refl (λ other. refl) (ap (λ (s : State). s.devices) step.2)
+devices-step old new (events.Poke address bytes) (Refused why) (choice, step) = stays_asking _ _ old new refl (λ other. refl) (ap (λ (s : State). s.devices) step.2)
+devices-step old new (events.Poke address bytes) BadSpan (choice, step) = stays_asking _ _ old new refl (λ other. refl) (ap (λ (s : State). s.devices) step.1)
+devices-step old new (events.Poke address bytes) _ (choice, step) = absurd step
+devices-step old new (events.Peek address len) (Bytes bytes) (choice, step) = stays_asking _ _ old new refl (λ other. refl) (ap (λ (s : State). s.devices) step.3)
+devices-step old new (events.Peek address len) (Refused why) (choice, step) = stays_asking _ _ old new refl (λ other. refl) (ap (λ (s : State). s.devices) step.2)
+devices-step old new (events.Peek address len) BadSpan (choice, step) = stays_asking _ _ old new refl (λ other. refl) (ap (λ (s : State). s.devices) step.1)
+devices-step old new (events.Peek address len) _ (choice, step) = absurd step
+devices-step old new (events.Free frame) (Free is_free) (choice, step) = stays_asking _ _ old new refl (λ other. refl) (ap (λ (s : State). s.devices) step.2)
+devices-step old new (events.Free frame) (Refused why) (choice, step) = stays_asking _ _ old new refl (λ other. refl) (ap (λ (s : State). s.devices) step.1)
+devices-step old new (events.Free frame) _ (choice, step) = absurd step
 
 -- what flows in two parts of a run flows in both
 flows_on : (first second : List Access) (n m : ℕ) (old mid new : Option Device) → Flows first n old mid → Flows second m mid new → Flows (first ++ second) (n + m) old new

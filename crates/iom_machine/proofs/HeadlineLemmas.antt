@@ -47,7 +47,7 @@ named_in frame made bytes long within same =
     )
 
 -- the bytes of a frame that is there
-bytes_there : (frames : List Frame) (number : ℕ) (frame : Frame) → slice_get frames number ≡ Some frame → bytes_of frames number ≡ frame.bytes
+pub bytes_there : (frames : List Frame) (number : ℕ) (frame : Frame) → slice_get frames number ≡ Some frame → bytes_of frames number ≡ frame.bytes
 bytes_there frames number frame at = ap (λ (found : Option Frame). option_map_or (λ (f : Frame). f.bytes) found []) at
 
 -- a number below the length has an element

@@ -9,7 +9,7 @@ use Rattle.iom_ledger.specs.History.{History, May}
 use Rattle.iom_machine.specs.declared.event.Event.{Event}
 use Rattle.iom_machine.specs.declared.event.Event.TheVariants as events
 use Rattle.iom_machine.specs.declared.outcome.Outcome.{Outcome}
-use Rattle.iom_machine.specs.declared.outcome.Outcome.TheVariants.{Done, Refused, Ticket, Confirmed, NoneConfirmed, Fetched, Accepted, Busy, BadSpan, Fault, Read, Wrote, NothingInFlight}
+use Rattle.iom_machine.specs.declared.outcome.Outcome.TheVariants.{Done, Refused, Ticket, Confirmed, NoneConfirmed, Fetched, Accepted, Busy, BadSpan, Fault, Read, Wrote, NothingInFlight, Bytes, Free}
 use Rattle.iom_base.specs.declared.access.Access.{Access}
 use Rattle.iom_machine.specs.declared.state.Attachment.{Attachment}
 use Rattle.iom_machine.specs.declared.state.Attachment.TheVariants.{Detached, Attached, Quarantined, Leaving}
@@ -200,6 +200,17 @@ in_flight-step P old new (events.Write id address bytes) outcome (choice, step) 
     in_flight-requests P choice.frame old new id (write_of address bytes) outcome step
     (λ accepts within may. enters id _ (accepted_if (events.Write id address bytes) outcome id (write_of address bytes) refl accepts) within may) all
 in_flight-step P old new (events.Commit id) outcome (choice, step) enters all = in_flight-commits P old new id outcome step all
+in_flight-step P old new (events.Poke address bytes) Done (choice, step) enters all = devices_stay P old new (ap (λ (s : State). s.devices) step.2) all
+in_flight-step P old new (events.Poke address bytes) (Refused why) (choice, step) enters all = devices_stay P old new (ap (λ (s : State). s.devices) step.2) all
+in_flight-step P old new (events.Poke address bytes) BadSpan (choice, step) enters all = devices_stay P old new (ap (λ (s : State). s.devices) step.1) all
+in_flight-step P old new (events.Poke address bytes) _ (choice, step) enters all = absurd step
+in_flight-step P old new (events.Peek address len) (Bytes bytes) (choice, step) enters all = devices_stay P old new (ap (λ (s : State). s.devices) step.3) all
+in_flight-step P old new (events.Peek address len) (Refused why) (choice, step) enters all = devices_stay P old new (ap (λ (s : State). s.devices) step.2) all
+in_flight-step P old new (events.Peek address len) BadSpan (choice, step) enters all = devices_stay P old new (ap (λ (s : State). s.devices) step.1) all
+in_flight-step P old new (events.Peek address len) _ (choice, step) enters all = absurd step
+in_flight-step P old new (events.Free frame) (Free is_free) (choice, step) enters all = devices_stay P old new (ap (λ (s : State). s.devices) step.2) all
+in_flight-step P old new (events.Free frame) (Refused why) (choice, step) enters all = devices_stay P old new (ap (λ (s : State). s.devices) step.1) all
+in_flight-step P old new (events.Free frame) _ (choice, step) enters all = absurd step
 
 -- all elements are so where the first one is, and the later ones are
 pub All-from_parts : {X : Type 0} (P : X → Type 0) (xs : List X) (x : X) → slice_get xs 0 ≡ Some x → P x → All P (drop 1 xs) → All P xs

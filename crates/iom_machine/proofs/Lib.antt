@@ -11,3 +11,4 @@ pub mod StepLemmas
 pub mod CallLemmas
 pub mod VerdictLemmas
 pub mod HistoryLoops
+pub mod ProcessorLemmas

@@ -1,5 +1,5 @@
 -- What is true of every state that is reached.
-use Rattle.std.proofs.Common.{◌≡◌, ℕ, suc, zero, ◌+◌, ◌-◌, ◌<◌, ◌≤◌, ◌==◌, ◌⊎◌, inl, inr, Bool, true, false, ◌||◌, List, [], ◌∷◌, length, All, Option, None, Some, is_some, if◌then◌else◌, slice_get, slice_set, nat_le, replicate, refl, sym, ap, ◌∙◌, subst, arith}
+use Rattle.std.proofs.Common.{◌≡◌, ℕ, suc, zero, ◌+◌, ◌-◌, ◌/◌, ◌%◌, ◌<◌, ◌≤◌, ◌==◌, ◌⊎◌, inl, inr, Bool, true, false, ◌||◌, List, [], ◌∷◌, length, All, Option, None, Some, is_some, if◌then◌else◌, slice_get, slice_set, nat_le, replicate, refl, sym, ap, ◌∙◌, subst, arith}
 use Rattle.std.proofs.lemmas.Bool.{eqb-true, or_parts}
 use Rattle.std.proofs.lemmas.Bool.Decides.{nat_tests}
 use Rattle.std.proofs.lemmas.Grind.{common_steps}
@@ -18,7 +18,7 @@ use Rattle.iom_ledger.specs.History.{History, May, Pair, held_at, confirms}
 use Rattle.iom_machine.specs.declared.event.Event.{Event}
 use Rattle.iom_machine.specs.declared.event.Event.TheVariants as events
 use Rattle.iom_machine.specs.declared.outcome.Outcome.{Outcome}
-use Rattle.iom_machine.specs.declared.outcome.Outcome.TheVariants.{Done, Refused, Ticket, Confirmed, NoneConfirmed, Fetched, Accepted, Read, Wrote, NothingInFlight}
+use Rattle.iom_machine.specs.declared.outcome.Outcome.TheVariants.{Done, Refused, Ticket, Confirmed, NoneConfirmed, Fetched, Accepted, BadSpan, Read, Wrote, NothingInFlight, Bytes, Free}
 use Rattle.iom_base.specs.declared.access.Access.{Access}
 use Rattle.iom_machine.specs.declared.state.Device.{Device}
 use Rattle.iom_machine.specs.declared.state.Frame.{Frame}
@@ -197,6 +197,17 @@ change-step old new events.Poll _ (choice, step) = absurd step
 change-step old new (events.Read id address len) outcome (choice, step) = Change.ledger_stays (same_ledger-requests choice.frame old new id (read_of address len) outcome step)
 change-step old new (events.Write id address bytes) outcome (choice, step) = Change.ledger_stays (same_ledger-requests choice.frame old new id (write_of address bytes) outcome step)
 change-step old new (events.Commit id) outcome (choice, step) = Change.ledger_stays (same_ledger-commits old new id outcome step)
+change-step old new (events.Poke address bytes) Done (choice, step) = Change.ledger_stays (ap (λ (s : State). s.history) step.2, ap (λ (s : State). s.last_ticket) step.2)
+change-step old new (events.Poke address bytes) (Refused why) (choice, step) = unchanged _ _ old new step.2
+change-step old new (events.Poke address bytes) BadSpan (choice, step) = unchanged _ _ old new step.1
+change-step old new (events.Poke address bytes) _ (choice, step) = absurd step
+change-step old new (events.Peek address len) (Bytes bytes) (choice, step) = unchanged _ _ old new step.3
+change-step old new (events.Peek address len) (Refused why) (choice, step) = unchanged _ _ old new step.2
+change-step old new (events.Peek address len) BadSpan (choice, step) = unchanged _ _ old new step.1
+change-step old new (events.Peek address len) _ (choice, step) = absurd step
+change-step old new (events.Free frame) (Free is_free) (choice, step) = unchanged _ _ old new step.2
+change-step old new (events.Free frame) (Refused why) (choice, step) = unchanged _ _ old new step.1
+change-step old new (events.Free frame) _ (choice, step) = absurd step
 
 -- a step takes no device's reach from an access in flight
 reaches-change : (event : Event) (outcome : Outcome) (old new : State) → Change event outcome old new → WereGiven old.history old.last_ticket → AllInFlight (StillMay old.history) new.devices → AllInFlight (StillMay new.history) new.devices
@@ -267,6 +278,10 @@ abbrev pub KeptByWrites : (AcceptedAccess → Type 0) → (List Frame → Type 0
 KeptByWrites W P = (frames : List Frame) (made : AcceptedAccess) → W made → made.access.kind ≡ kinds.Write → P frames
     → P (stored frames made.frame (offset_of made.access) made.access.bytes)
 
+-- what is kept where bytes are written within one frame
+abbrev pub KeptByPokes : (List Frame → Type 0) → Type 0
+KeptByPokes P = (frames : List Frame) (number offset : ℕ) (bytes : List ℕ) → offset + length bytes ≤ 4096 → P frames → P (stored frames number offset bytes)
+
 kept-reserved : (P : List Frame → Type 0) → KeptByOwners P → (owner : Owner) (numbers : List ℕ) (frames : List Frame) → P frames → P (reserved_for owner numbers frames)
 kept-reserved P owned owner [] frames its = its
 kept-reserved P owned owner (number ∷ numbers) frames its = kept-reserved P owned owner numbers _ (owned frames number owner its)
@@ -290,39 +305,55 @@ frames-commits W P written old new id outcome all step its = elim (match_cases (
     by device at NothingInFlight makes = stay makes.1
     by device at _ makes = absurd makes
 
--- A step keeps what reserving frames keeps, and making the writes in flight.
-pub frames-step : (W : AcceptedAccess → Type 0) (P : List Frame → Type 0) → KeptByOwners P → KeptByWrites W P
+-- A step keeps what reserving frames keeps, and making the writes in flight, and the processor's own.
+pub frames-step : (W : AcceptedAccess → Type 0) (P : List Frame → Type 0) → KeptByOwners P → KeptByWrites W P → KeptByPokes P
     → (old new : State) (event : Event) (outcome : Outcome) → AllInFlight (λ id flight. W flight) old.devices → Step old event outcome new → P old.frames → P new.frames
-frames-step W P owned written old new (events.Plug id kind) Done all (choice, step) its = subst P (sym (ap (λ (s : State). s.frames) step.1)) its
-frames-step W P owned written old new (events.Plug id kind) (Refused why) all (choice, step) its = subst P (sym (ap (λ (s : State). s.frames) step.1)) its
-frames-step W P owned written old new (events.Plug id kind) _ all (choice, step) its = absurd step
-frames-step W P owned written old new (events.Attach id mode ats) Done all (choice, step) its =
+frames-step W P owned written poked old new (events.Plug id kind) Done all (choice, step) its = subst P (sym (ap (λ (s : State). s.frames) step.1)) its
+frames-step W P owned written poked old new (events.Plug id kind) (Refused why) all (choice, step) its = subst P (sym (ap (λ (s : State). s.frames) step.1)) its
+frames-step W P owned written poked old new (events.Plug id kind) _ all (choice, step) its = absurd step
+frames-step W P owned written poked old new (events.Attach id mode ats) Done all (choice, step) its =
     let found = some_case (device_of old id) _ step.2 in
     subst P (sym (ap (λ (s : State). s.frames) found.2)) (kept-reserved P owned (OneDevice id) choice.taken old.frames its)
-frames-step W P owned written old new (events.Attach id mode ats) (Refused why) all (choice, step) its = subst P (sym (ap (λ (s : State). s.frames) step.1)) its
-frames-step W P owned written old new (events.Attach id mode ats) _ all (choice, step) its = absurd step
-frames-step W P owned written old new (events.Grant id page frame rights) Done all (choice, step) its =
+frames-step W P owned written poked old new (events.Attach id mode ats) (Refused why) all (choice, step) its = subst P (sym (ap (λ (s : State). s.frames) step.1)) its
+frames-step W P owned written poked old new (events.Attach id mode ats) _ all (choice, step) its = absurd step
+frames-step W P owned written poked old new (events.Grant id page frame rights) Done all (choice, step) its =
     subst P (sym (ap (λ (s : State). s.frames) step.2)) (kept-reserved P owned (OneDevice id) choice.taken old.frames its)
-frames-step W P owned written old new (events.Grant id page frame rights) (Refused why) all (choice, step) its = subst P (sym (ap (λ (s : State). s.frames) step.1)) its
-frames-step W P owned written old new (events.Grant id page frame rights) _ all (choice, step) its = absurd step
-frames-step W P owned written old new (events.Release id page) (Ticket ticket) all (choice, step) its = subst P (sym (ap (λ (s : State). s.frames) step.2)) its
-frames-step W P owned written old new (events.Release id page) (Refused why) all (choice, step) its = subst P (sym (ap (λ (s : State). s.frames) step.1)) its
-frames-step W P owned written old new (events.Release id page) _ all (choice, step) its = absurd step
-frames-step W P owned written old new events.Fetch (Fetched result) all (choice, step) its = subst P (sym (ap (λ (s : State). s.frames) step)) its
-frames-step W P owned written old new events.Fetch _ all (choice, step) its = absurd step
-frames-step W P owned written old new events.Poll (Confirmed first last) all (choice, step) its = subst P (sym (ap (λ (s : State). s.frames) step.1)) its
-frames-step W P owned written old new events.Poll NoneConfirmed all (choice, step) its = subst P (sym (ap (λ (s : State). s.frames) step)) its
-frames-step W P owned written old new events.Poll _ all (choice, step) its = absurd step
-frames-step W P owned written old new (events.Read id address len) outcome all (choice, step) its = subst P (sym (same_frames-requests choice.frame old new id (read_of address len) outcome step)) its
-frames-step W P owned written old new (events.Write id address bytes) outcome all (choice, step) its = subst P (sym (same_frames-requests choice.frame old new id (write_of address bytes) outcome step)) its
-frames-step W P owned written old new (events.Commit id) outcome all (choice, step) its = frames-commits W P written old new id outcome all step its
+frames-step W P owned written poked old new (events.Grant id page frame rights) (Refused why) all (choice, step) its = subst P (sym (ap (λ (s : State). s.frames) step.1)) its
+frames-step W P owned written poked old new (events.Grant id page frame rights) _ all (choice, step) its = absurd step
+frames-step W P owned written poked old new (events.Release id page) (Ticket ticket) all (choice, step) its = subst P (sym (ap (λ (s : State). s.frames) step.2)) its
+frames-step W P owned written poked old new (events.Release id page) (Refused why) all (choice, step) its = subst P (sym (ap (λ (s : State). s.frames) step.1)) its
+frames-step W P owned written poked old new (events.Release id page) _ all (choice, step) its = absurd step
+frames-step W P owned written poked old new events.Fetch (Fetched result) all (choice, step) its = subst P (sym (ap (λ (s : State). s.frames) step)) its
+frames-step W P owned written poked old new events.Fetch _ all (choice, step) its = absurd step
+frames-step W P owned written poked old new events.Poll (Confirmed first last) all (choice, step) its = subst P (sym (ap (λ (s : State). s.frames) step.1)) its
+frames-step W P owned written poked old new events.Poll NoneConfirmed all (choice, step) its = subst P (sym (ap (λ (s : State). s.frames) step)) its
+frames-step W P owned written poked old new events.Poll _ all (choice, step) its = absurd step
+frames-step W P owned written poked old new (events.Read id address len) outcome all (choice, step) its = subst P (sym (same_frames-requests choice.frame old new id (read_of address len) outcome step)) its
+frames-step W P owned written poked old new (events.Write id address bytes) outcome all (choice, step) its = subst P (sym (same_frames-requests choice.frame old new id (write_of address bytes) outcome step)) its
+frames-step W P owned written poked old new (events.Commit id) outcome all (choice, step) its = frames-commits W P written old new id outcome all step its
+frames-step W P owned written poked old new (events.Poke address bytes) Done all (choice, step) its =
+    subst P (sym (ap (λ (s : State). s.frames) step.2)) (poked old.frames (address / 4096) (address % 4096) bytes step.0.1 its)
+frames-step W P owned written poked old new (events.Poke address bytes) (Refused why) all (choice, step) its = subst P (sym (ap (λ (s : State). s.frames) step.2)) its
+frames-step W P owned written poked old new (events.Poke address bytes) BadSpan all (choice, step) its = subst P (sym (ap (λ (s : State). s.frames) step.1)) its
+frames-step W P owned written poked old new (events.Poke address bytes) _ all (choice, step) its = absurd step
+frames-step W P owned written poked old new (events.Peek address len) (Bytes bytes) all (choice, step) its = subst P (sym (ap (λ (s : State). s.frames) step.3)) its
+frames-step W P owned written poked old new (events.Peek address len) (Refused why) all (choice, step) its = subst P (sym (ap (λ (s : State). s.frames) step.2)) its
+frames-step W P owned written poked old new (events.Peek address len) BadSpan all (choice, step) its = subst P (sym (ap (λ (s : State). s.frames) step.1)) its
+frames-step W P owned written poked old new (events.Peek address len) _ all (choice, step) its = absurd step
+frames-step W P owned written poked old new (events.Free frame) (Free is_free) all (choice, step) its = subst P (sym (ap (λ (s : State). s.frames) step.2)) its
+frames-step W P owned written poked old new (events.Free frame) (Refused why) all (choice, step) its = subst P (sym (ap (λ (s : State). s.frames) step.1)) its
+frames-step W P owned written poked old new (events.Free frame) _ all (choice, step) its = absurd step
 
--- a write within its page keeps the length of a frame
+-- bytes that are written within a frame keep its length
+whole-poked : KeptByPokes AreWholeFrames
+whole-poked frames number offset bytes fits all = All-with_frame (λ (f : Frame). length f.bytes ≡ 4096) frames number
+    (λ frame. record frame { bytes = with_bytes frame.bytes offset bytes })
+    (λ frame long. length-with_bytes frame.bytes offset bytes (subst (λ n. offset + length bytes ≤ n) (sym long) fits) ∙ long) all
+
+-- and so does a write of a device
 whole-stored : KeptByWrites (IsWhole 0) AreWholeFrames
-whole-stored frames made whole write all = All-with_frame (λ (f : Frame). length f.bytes ≡ 4096) frames made.frame
-    (λ frame. record frame { bytes = with_bytes frame.bytes (offset_of made.access) made.access.bytes })
-    (λ frame long. length-with_bytes frame.bytes (offset_of made.access) made.access.bytes
-    (subst (λ n. offset_of made.access + n ≤ length frame.bytes) (sym (whole.1 write)) (subst (λ n. offset_of made.access + made.access.len ≤ n) (sym long) whole.0.1)) ∙ long) all
+whole-stored frames made whole write all =
+    whole-poked frames made.frame (offset_of made.access) made.access.bytes (subst (λ n. offset_of made.access + n ≤ 4096) (sym (whole.1 write)) whole.0.1) all
 
 length-with_frame : (frames : List Frame) (number : ℕ) (change : Frame → Frame) → length (with_frame frames number change) ≡ length frames
 length-with_frame frames number change = by (slice_get frames number)
@@ -346,6 +377,7 @@ same_size-step old new event outcome step =
     frames-step (λ flight. Unit {0}) (λ frames. length frames ≡ length old.frames)
     (λ frames number owner same. length-with_frame frames number (λ frame. record frame { owner = Some owner }) ∙ same)
     (λ frames made fact write same. length-with_frame frames made.frame (λ frame. record frame { bytes = with_bytes frame.bytes (offset_of made.access) made.access.bytes }) ∙ same)
+    (λ frames number offset bytes fits same. length-with_frame frames number (λ frame. record frame { bytes = with_bytes frame.bytes offset bytes }) ∙ same)
     old new event outcome (λ k d below. all_so _) step refl
 
 -- an access that is asked for names as many bytes as it has
@@ -369,7 +401,7 @@ sound-step old new event outcome sound step =
       tickets = tickets-change event outcome old new change sound.tickets;
       frames = frames-step (IsWhole 0) AreWholeFrames
           (λ frames number owner all. All-with_frame (λ (f : Frame). length f.bytes ≡ 4096) frames number (λ frame. record frame { owner = Some owner }) (λ frame its. its) all)
-          whole-stored old new event outcome sound.whole step sound.frames;
+          whole-stored whole-poked old new event outcome sound.whole step sound.frames;
       in_memory = in_memory-change event outcome old new change (same_size-step old new event outcome step) sound.in_memory;
     }
 

@@ -6,7 +6,7 @@ use Rattle.iom_ledger.specs.History.{May}
 use Rattle.iom_machine.specs.declared.event.Event.{Event}
 use Rattle.iom_machine.specs.declared.event.Event.TheVariants as events
 use Rattle.iom_machine.specs.declared.outcome.Outcome.{Outcome}
-use Rattle.iom_machine.specs.declared.outcome.Outcome.TheVariants.{Done, Refused, Ticket, Confirmed, NoneConfirmed, Fetched, Accepted, Busy, BadSpan, Fault, Read, Wrote, NothingInFlight}
+use Rattle.iom_machine.specs.declared.outcome.Outcome.TheVariants.{Done, Refused, Ticket, Confirmed, NoneConfirmed, Fetched, Accepted, Busy, BadSpan, Fault, Read, Wrote, NothingInFlight, Bytes, Free}
 use Rattle.iom_base.specs.declared.access.Access.{Access}
 use Rattle.iom_machine.specs.declared.state.Attachment.TheVariants.{Attached}
 use Rattle.iom_machine.specs.declared.state.Device.{Device}
@@ -76,6 +76,9 @@ asked_by (events.Release id page) = None
 asked_by events.Fetch = None
 asked_by events.Poll = None
 asked_by (events.Commit id) = None
+asked_by (events.Poke address bytes) = None
+asked_by (events.Peek address len) = None
+asked_by (events.Free frame) = None
 
 -- the event asks for this access of this device
 abbrev pub AsksFor : Event → ℕ → Access → Type 0
@@ -96,6 +99,8 @@ accepted_by event (Fault cause) id = []
 accepted_by event (Read bytes) id = []
 accepted_by event (Wrote len) id = []
 accepted_by event NothingInFlight id = []
+accepted_by event (Bytes bytes) id = []
+accepted_by event (Free is_free) id = []
 
 -- the accesses of the device that are accepted at the events, in order
 abbrev pub accepted_in : List Event → List Outcome → ℕ → List Access
@@ -118,6 +123,9 @@ made_by events.Fetch outcome id = 0
 made_by events.Poll outcome id = 0
 made_by (events.Read d address len) outcome id = 0
 made_by (events.Write d address bytes) outcome id = 0
+made_by (events.Poke address bytes) outcome id = 0
+made_by (events.Peek address len) outcome id = 0
+made_by (events.Free frame) outcome id = 0
 
 -- and the events
 abbrev pub made_in : List Event → List Outcome → ℕ → ℕ
@@ -150,13 +158,16 @@ GrantsFrame events.Poll outcome frame = ⊥
 GrantsFrame (events.Read id address len) outcome frame = ⊥
 GrantsFrame (events.Write id address bytes) outcome frame = ⊥
 GrantsFrame (events.Commit id) outcome frame = ⊥
+GrantsFrame (events.Poke address bytes) outcome frame = ⊥
+GrantsFrame (events.Peek address len) outcome frame = ⊥
+GrantsFrame (events.Free asked) outcome frame = ⊥
 
 -- no event grants the frame
 abbrev pub NoneGrants : List Event → List Outcome → ℕ → Type 0
 NoneGrants (event ∷ events) (outcome ∷ outcomes) frame = (¬ GrantsFrame event outcome frame) × NoneGrants events outcomes frame
 NoneGrants _ _ frame = ⊤
 
--- the event makes an access to the frame
+-- the event makes an access of a device to the frame
 abbrev pub TouchesFrame : State → Event → Outcome → ℕ → Type 0
 TouchesFrame old (events.Commit id) (Read bytes) frame = (made : AcceptedAccess) × IsOldest old id made × (made.frame ≡ frame)
 TouchesFrame old (events.Commit id) (Wrote len) frame = (made : AcceptedAccess) × IsOldest old id made × (made.frame ≡ frame)
@@ -172,6 +183,10 @@ TouchesFrame old events.Fetch outcome frame = ⊥
 TouchesFrame old events.Poll outcome frame = ⊥
 TouchesFrame old (events.Read id address len) outcome frame = ⊥
 TouchesFrame old (events.Write id address bytes) outcome frame = ⊥
+-- the processor is no device
+TouchesFrame old (events.Poke address bytes) outcome frame = ⊥
+TouchesFrame old (events.Peek address len) outcome frame = ⊥
+TouchesFrame old (events.Free asked) outcome frame = ⊥
 
 -- An access that is made touches exactly its named bytes, in a frame that the history then shows held by that device with that right,
 -- or released by it so and unconfirmed.

@@ -1,16 +1,18 @@
 -- The ledger machine: what may come of each event, and the state after it.
-use Rattle.std.specs.Prelude.{◌≡◌, ℕ, ◌+◌, Bool, false, List, [], ◌∷◌, ◌++◌, All, Some, MatchOption, IsSomeAnd, slice_get, slice_range, drop, ⊤}
+use Rattle.std.specs.Prelude.{◌≡◌, ◌↔◌, ℕ, ◌+◌, ◌/◌, ◌%◌, Bool, false, List, [], ◌∷◌, ◌++◌, All, Some, MatchOption, IsTrue, length, IsSomeAnd, slice_get, slice_range, drop, ⊤}
 use Rattle.iom_base.specs.declared.access.AccessKind.TheVariants as kinds
 use Rattle.iom_base.specs.declared.grant_rights.GrantRights.{GrantRights}
 use Rattle.iom_ledger.specs.declared.entry.HistoryEntry.TheVariants as entry
 use Rattle.iom_ledger.specs.declared.refusal.Refusal.TheVariants.{NoSuchDevice}
 use Rattle.iom_ledger.specs.History.{May}
 use Rattle.iom_base.specs.GrantRights.{rights_of}
+use Rattle.iom_base.specs.Sizes.{page_size}
+use Rattle.iom_base.specs.Spans.{FitsInPage}
 use Rattle.iom_machine.specs.declared.choice.Choice.{Choice}
 use Rattle.iom_machine.specs.declared.event.Event.{Event}
 use Rattle.iom_machine.specs.declared.event.Event.TheVariants as events
 use Rattle.iom_machine.specs.declared.outcome.Outcome.{Outcome}
-use Rattle.iom_machine.specs.declared.outcome.Outcome.TheVariants.{Done, Refused, Ticket, Confirmed, NoneConfirmed, Fetched, Read, Wrote, NothingInFlight}
+use Rattle.iom_machine.specs.declared.outcome.Outcome.TheVariants.{Done, Refused, Ticket, Confirmed, NoneConfirmed, Fetched, Read, Wrote, BadSpan, NothingInFlight, Bytes, Free}
 use Rattle.iom_base.specs.declared.access.Access.{Access}
 use Rattle.iom_machine.specs.declared.state.Attachment.TheVariants.{Detached, Attached}
 use Rattle.iom_machine.specs.declared.state.Device.{Device}
@@ -21,10 +23,10 @@ use Rattle.iom_machine.specs.declared.state.Mode.{Mode}
 use Rattle.iom_machine.specs.declared.state.Mode.TheVariants.{First}
 use Rattle.iom_base.specs.declared.owner.Owner.TheVariants.{OneDevice}
 use Rattle.iom_machine.specs.declared.state.State.{State}
-use Rattle.iom_machine.specs.Frames.{IsFree, IsFreeBesides, reserved_for, bytes_of, stored}
+use Rattle.iom_machine.specs.Frames.{is_reserved, IsFree, IsFreeBesides, reserved_for, bytes_of, stored}
 use Rattle.iom_machine.specs.Devices.{device_of, with_device, EachInFlightMay}
 use Rattle.iom_machine.specs.Tickets.{AreNextTickets, with_confirmed}
-use Rattle.iom_machine.specs.Refusals.{NoneApplies, IsRefusedBy, MayRefusePlug, MayRefuseAttach, MayRefuseGrant, MayRefuseRelease, plug_reasons, attach_reasons, grant_reasons, release_reasons}
+use Rattle.iom_machine.specs.Refusals.{NoneApplies, IsRefusedBy, MayRefusePlug, MayRefuseAttach, MayRefuseGrant, MayRefuseRelease, NeverElse, plug_reasons, attach_reasons, grant_reasons, release_reasons, frame_reasons, poke_reasons}
 use Rattle.iom_base.specs.Accesses.{read_of, write_of, offset_of}
 use Rattle.iom_machine.specs.Requests.{MayAnswer, state_after}
 
@@ -40,6 +42,9 @@ IsEvent events.Poll = ⊤
 IsEvent (events.Read id address len) = ⊤
 IsEvent (events.Write id address bytes) = ⊤
 IsEvent (events.Commit id) = ⊤
+IsEvent (events.Poke address bytes) = ⊤
+IsEvent (events.Peek address len) = ⊤
+IsEvent (events.Free frame) = ⊤
 
 -- a device as it is plugged in: detached, with nothing in flight
 abbrev pub plugged_device : ℕ → DeviceKind → Device
@@ -138,6 +143,38 @@ Makes old device _ new = ⊥
 abbrev pub Commits : State → ℕ → Outcome → State → Type 0
 Commits old id outcome new = Acts (λ device. Makes old device outcome new) old id outcome new
 
+-- The processor writes bytes, within one frame that isn't reserved.
+abbrev pub Pokes : State → ℕ → List ℕ → Outcome → State → Type 0
+Pokes old address bytes BadSpan new = (¬ FitsInPage address (length bytes)) × (new ≡ old)
+Pokes old address bytes (Refused why) new =
+    FitsInPage address (length bytes) × IsRefusedBy (poke_reasons old (address / page_size)) NeverElse why × (new ≡ old)
+Pokes old address bytes Done new =
+    FitsInPage address (length bytes) × NoneApplies (poke_reasons old (address / page_size))
+    × (new ≡ record old { frames = stored old.frames (address / page_size) (address % page_size) bytes })
+Pokes old address bytes _ new = ⊥
+
+-- so many bytes stand at the address; those of a reserved frame may be any
+abbrev pub ShowsBytes : State → ℕ → ℕ → List ℕ → Type 0
+ShowsBytes state address len bytes =
+    (length bytes ≡ len)
+    × (is_reserved state.frames (address / page_size) ≡ false
+    → bytes ≡ slice_range (bytes_of state.frames (address / page_size)) (address % page_size) (address % page_size + len))
+
+-- The processor reads bytes, within one frame.
+abbrev pub Peeks : State → ℕ → ℕ → Outcome → State → Type 0
+Peeks old address len BadSpan new = (¬ FitsInPage address len) × (new ≡ old)
+Peeks old address len (Refused why) new =
+    FitsInPage address len × IsRefusedBy (frame_reasons old (address / page_size)) NeverElse why × (new ≡ old)
+Peeks old address len (Bytes bytes) new =
+    FitsInPage address len × NoneApplies (frame_reasons old (address / page_size)) × ShowsBytes old address len bytes.items × (new ≡ old)
+Peeks old address len _ new = ⊥
+
+-- The driver says whether a frame is free.
+abbrev pub TellsFree : State → ℕ → Outcome → State → Type 0
+TellsFree old frame (Refused why) new = IsRefusedBy (frame_reasons old frame) NeverElse why × (new ≡ old)
+TellsFree old frame (Free is_free) new = NoneApplies (frame_reasons old frame) × (IsTrue is_free ↔ IsFree old frame) × (new ≡ old)
+TellsFree old frame _ new = ⊥
+
 -- The event may have this outcome, and leave this state, where what the outcome doesn't show is chosen so.
 abbrev pub ChosenStep : Choice → State → Event → Outcome → State → Type 0
 ChosenStep choice old (events.Plug id kind) outcome new = Plugs old id kind outcome new
@@ -149,6 +186,9 @@ ChosenStep choice old events.Poll outcome new = Polls old outcome new
 ChosenStep choice old (events.Read id address len) outcome new = Requests choice.frame old id (read_of address len) outcome new
 ChosenStep choice old (events.Write id address bytes) outcome new = Requests choice.frame old id (write_of address bytes) outcome new
 ChosenStep choice old (events.Commit id) outcome new = Commits old id outcome new
+ChosenStep choice old (events.Poke address bytes) outcome new = Pokes old address bytes outcome new
+ChosenStep choice old (events.Peek address len) outcome new = Peeks old address len outcome new
+ChosenStep choice old (events.Free frame) outcome new = TellsFree old frame outcome new
 
 -- The event may have this outcome, and leave this state.
 abbrev pub Step : State → Event → Outcome → State → Type 0

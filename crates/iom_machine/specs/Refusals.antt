@@ -121,6 +121,17 @@ release_reasons state id page = attachment_reasons state id (
     ∷ (nat_le pending_limit (pending_tickets state), TooManyPending)
     ∷ [])
 
+-- a frame is named
+abbrev pub frame_reasons : State → ℕ → List (Bool × Refusal)
+frame_reasons state frame = (nat_le (length state.frames) frame, FrameOutOfRange) ∷ []
+
+-- the processor writes into a frame
+abbrev pub poke_reasons : State → ℕ → List (Bool × Refusal)
+poke_reasons state frame =
+    (nat_le (length state.frames) frame, FrameOutOfRange)
+    ∷ (is_reserved state.frames frame, FrameReserved)
+    ∷ []
+
 -- What follows comes after the reasons: a call is refused so only where none of them applies. Where two of these may come, either may.
 
 -- a plug may find no memory for the device
@@ -146,6 +157,10 @@ abbrev pub MayRefuseGrant : State → ℕ → Refusal → Type 0
 MayRefuseGrant state frame NoFrames = FewerThan 2 (IsFreeBesides state (Some frame))
 MayRefuseGrant state frame Memory = ⊤
 MayRefuseGrant state frame _ = ⊥
+
+-- nothing else refuses
+abbrev pub NeverElse : Refusal → Type 0
+NeverElse why = ⊥
 
 -- a release may find the command queue full, or the numbers of its fences used up
 abbrev pub MayRefuseRelease : Refusal → Type 0

@@ -47,4 +47,18 @@ pub enum Event {
     Commit {
         device: DeviceId,
     },
+    /// The processor writes the bytes at the physical address.
+    Poke {
+        address: u64,
+        bytes: Sequence<u8>,
+    },
+    /// The processor reads so many bytes at the physical address.
+    Peek {
+        address: u64,
+        len: u64,
+    },
+    /// The driver is asked whether the frame is free.
+    Free {
+        frame: u64,
+    },
 }

@@ -43,7 +43,7 @@ pub enum Outcome {
     Accepted(u64),
     /// Eight accesses of the device are in flight.
     Busy,
-    /// The access has no bytes or too many, or leaves its page.
+    /// The bytes that are named are none or too many, or leave their page.
     BadSpan,
     /// The access is refused.
     Fault(Cause),
@@ -53,6 +53,10 @@ pub enum Outcome {
     Wrote(u64),
     /// Nothing of the device is in flight.
     NothingInFlight,
+    /// The processor read these bytes.
+    Bytes(ArrayVec<u8, 4096>),
+    /// Whether the frame is free.
+    Free(bool),
 }
 
 /// Counts that stand beside an outcome.

@@ -20,6 +20,9 @@ enum Does<'a> {
     Read(DeviceId, u64, u64),
     Write(DeviceId, u64, &'a [u8]),
     Commit(DeviceId),
+    Poke(u64, &'a [u8]),
+    Peek(u64, u64),
+    Free(u64),
 }
 
 /// An outcome as the tests write it; of an acceptance also the frame.
@@ -38,6 +41,8 @@ enum Comes<'a> {
     Read(&'a [u8]),
     Wrote(u64),
     Nothing,
+    Bytes(&'a [u8]),
+    Free(bool),
 }
 
 fn bytes_of(alloc: Global, bytes: &[u8]) -> Result<Sequence<u8>, Fail> {
@@ -87,7 +92,22 @@ fn event_of(alloc: Global, does: Does) -> Result<Event, Fail> {
             bytes: bytes_of(alloc, bytes)?,
         },
         Does::Commit(device) => Event::Commit { device },
+        Does::Poke(address, bytes) => Event::Poke {
+            address,
+            bytes: bytes_of(alloc, bytes)?,
+        },
+        Does::Peek(address, len) => Event::Peek { address, len },
+        Does::Free(frame) => Event::Free { frame },
     })
+}
+
+/// The bytes of an outcome, which are few.
+fn few(bytes: &[u8]) -> ArrayVec<u8, 4096> {
+    let mut made = ArrayVec::new();
+    for byte in bytes {
+        let _ = made.try_push(*byte);
+    }
+    made
 }
 
 fn outcome_of(comes: Comes) -> Outcome {
@@ -102,15 +122,11 @@ fn outcome_of(comes: Comes) -> Outcome {
         Comes::Busy => Outcome::Busy,
         Comes::BadSpan => Outcome::BadSpan,
         Comes::Fault(cause) => Outcome::Fault(cause),
-        Comes::Read(bytes) => {
-            let mut made = ArrayVec::new();
-            if made.try_extend_from_slice(bytes).is_err() {
-                return Outcome::Done;
-            }
-            Outcome::Read(made)
-        }
+        Comes::Read(bytes) => Outcome::Read(few(bytes)),
         Comes::Wrote(len) => Outcome::Wrote(len),
         Comes::Nothing => Outcome::NothingInFlight,
+        Comes::Bytes(bytes) => Outcome::Bytes(few(bytes)),
+        Comes::Free(is_free) => Outcome::Free(is_free),
     }
 }
 
@@ -249,6 +265,69 @@ const STALE_BUT_LAWFUL: [(Does, Comes); 9] = [
     (Does::Poll, Comes::NoneConfirmed),
 ];
 
+/// The row `drain`, and what is told of the frame before and after.
+const DRAIN: [(Does, Comes); 13] = [
+    (Does::Plug(1), Comes::Done),
+    (Does::Attach(1, &[59]), Comes::Done),
+    (
+        Does::Grant(1, 3, 5, GrantRights::ReadWrite, &[58, 57]),
+        Comes::Done,
+    ),
+    (Does::Write(1, 0x3010, &[0xaa, 0xbb]), Comes::Accepted(1, 5)),
+    (Does::Release(1, 3), Comes::Ticket(1)),
+    (
+        Does::Fetch,
+        Comes::Fetched(Fetched::Did(CommandName::IotinvalVma)),
+    ),
+    (Does::Fetch, Comes::Fetched(Fetched::Waiting)),
+    (Does::Commit(1), Comes::Wrote(2)),
+    (
+        Does::Fetch,
+        Comes::Fetched(Fetched::Did(CommandName::IofenceC)),
+    ),
+    (Does::Free(5), Comes::Free(false)),
+    (Does::Poll, Comes::Confirmed(1, 1)),
+    (Does::Peek(0x5010, 2), Comes::Bytes(&[0xaa, 0xbb])),
+    (Does::Free(5), Comes::Free(true)),
+];
+
+/// What the processor does, at the ends of a frame, of memory and of what is reserved.
+const PROCESSOR: [(Does, Comes); 20] = [
+    (Does::Plug(1), Comes::Done),
+    (Does::Attach(1, &[59]), Comes::Done),
+    (
+        Does::Grant(1, 3, 5, GrantRights::ReadWrite, &[58, 57]),
+        Comes::Done,
+    ),
+    (Does::Poke(0x5ffe, &[1, 2]), Comes::Done),
+    (Does::Peek(0x5ffd, 3), Comes::Bytes(&[0, 1, 2])),
+    (Does::Poke(0x5fff, &[1, 2]), Comes::BadSpan),
+    (Does::Peek(0x5fff, 2), Comes::BadSpan),
+    (Does::Peek(0x5000, 0), Comes::BadSpan),
+    (Does::Peek(0x5000, u64::MAX), Comes::BadSpan),
+    (Does::Peek(u64::MAX, 2), Comes::BadSpan),
+    (
+        Does::Poke(0x40000, &[1]),
+        Comes::Refused(Refusal::FrameOutOfRange),
+    ),
+    (
+        Does::Peek(u64::MAX, 1),
+        Comes::Refused(Refusal::FrameOutOfRange),
+    ),
+    (
+        Does::Poke(0x3b000, &[1]),
+        Comes::Refused(Refusal::FrameReserved),
+    ),
+    // what a reserved frame shows isn't known
+    (Does::Peek(0x3b000, 2), Comes::Bytes(&[3, 4])),
+    (Does::Free(6), Comes::Free(true)),
+    (Does::Free(59), Comes::Free(false)),
+    (Does::Free(60), Comes::Free(false)),
+    (Does::Free(64), Comes::Refused(Refusal::FrameOutOfRange)),
+    (Does::Read(1, 0x3ffe, 2), Comes::Accepted(1, 5)),
+    (Does::Commit(1), Comes::Read(&[1, 2])),
+];
+
 #[test]
 fn the_worked_rows_are_lawful(rt: HostRuntime) -> Result<(), Fail> {
     let alloc = rt.alloc();
@@ -258,6 +337,8 @@ fn the_worked_rows_are_lawful(rt: HostRuntime) -> Result<(), Fail> {
     assert_eq!(rt; first_unlawful(alloc, &BUSY)?, None);
     assert_eq!(rt; first_unlawful(alloc, &GRANT_BOUNDARIES)?, None);
     assert_eq!(rt; first_unlawful(alloc, &STALE_BUT_LAWFUL)?, None);
+    assert_eq!(rt; first_unlawful(alloc, &DRAIN)?, None);
+    assert_eq!(rt; first_unlawful(alloc, &PROCESSOR)?, None);
     Ok(())
 }
 
@@ -441,6 +522,43 @@ const CHANGED_COMMITS_AND_POLLS: [(usize, Does, Comes); 11] = [
     (13, Does::Poll, Comes::Confirmed(0, 1)),
 ];
 
+const CHANGED_ACTS_OF_PROCESSOR: [(usize, Does, Comes); 12] = [
+    // a table is written
+    (3, Does::Poke(0x3b000, &[1]), Comes::Done),
+    // the frame isn't reserved
+    (
+        3,
+        Does::Poke(0x5000, &[1]),
+        Comes::Refused(Refusal::FrameReserved),
+    ),
+    // a bad span comes first
+    (
+        3,
+        Does::Poke(0x40fff, &[1, 2]),
+        Comes::Refused(Refusal::FrameOutOfRange),
+    ),
+    // outside memory
+    (3, Does::Poke(0x40000, &[1]), Comes::Done),
+    // a byte less
+    (3, Does::Peek(0x5000, 2), Comes::Bytes(&[0])),
+    // other bytes than were written
+    (8, Does::Peek(0x5000, 2), Comes::Bytes(&[0, 0])),
+    // a reserved frame is shown
+    (
+        3,
+        Does::Peek(0x3b000, 1),
+        Comes::Refused(Refusal::FrameReserved),
+    ),
+    // a held frame, one that lingers, a reserved one
+    (3, Does::Free(5), Comes::Free(true)),
+    (9, Does::Free(5), Comes::Free(true)),
+    (3, Does::Free(63), Comes::Free(true)),
+    // a free one
+    (3, Does::Free(6), Comes::Free(false)),
+    // none
+    (3, Does::Free(64), Comes::Free(false)),
+];
+
 /// The first line that may not come where this line of the lawful run is changed.
 fn first_unlawful_of(
     alloc: Global,
@@ -469,6 +587,12 @@ fn changed_lines_are_refused(rt: HostRuntime) -> Result<(), Fail> {
         );
     }
     for (place, does, comes) in CHANGED_REQUESTS {
+        assert_eq!(rt;
+            first_unlawful_of(rt.alloc(), place, does, comes)?,
+            Some(place)
+        );
+    }
+    for (place, does, comes) in CHANGED_ACTS_OF_PROCESSOR {
         assert_eq!(rt;
             first_unlawful_of(rt.alloc(), place, does, comes)?,
             Some(place)

@@ -44,15 +44,21 @@ const LINES: &[u8] = b"\
     fault 13\n\
     read 00af\n\
     wrote 4096\n\
-    none\n";
+    none\n\
+    bytes 00af\n\
+    free yes\n\
+    free no\n";
 
 #[test]
 fn lines_tell_outcomes(rt: HostRuntime) -> Result<(), Fail> {
     let mut out = LineBuffer::new(rt.alloc())?;
     assert!(rt; out.has_room());
-    let mut bytes = ArrayVec::<u8, 4096>::new();
-    bytes.try_push(0)?;
-    bytes.try_push(0xaf)?;
+    let mut read = ArrayVec::<u8, 4096>::new();
+    read.try_push(0)?;
+    read.try_push(0xaf)?;
+    let mut shown = ArrayVec::<u8, 4096>::new();
+    shown.try_push(0)?;
+    shown.try_push(0xaf)?;
     out.append_line(&Outcome::Done);
     out.append_line(&Outcome::Refused(Refusal::TooManyPending));
     out.append_line(&Outcome::Ticket(1));
@@ -68,9 +74,12 @@ fn lines_tell_outcomes(rt: HostRuntime) -> Result<(), Fail> {
     out.append_line(&Outcome::Busy);
     out.append_line(&Outcome::BadSpan);
     out.append_line(&Outcome::Fault(Cause::ReadPageFault));
-    out.append_line(&Outcome::Read(bytes));
+    out.append_line(&Outcome::Read(read));
     out.append_line(&Outcome::Wrote(4096));
     out.append_line(&Outcome::NothingInFlight);
+    out.append_line(&Outcome::Bytes(shown));
+    out.append_line(&Outcome::Free(true));
+    out.append_line(&Outcome::Free(false));
     assert!(rt; out.as_slice() == LINES);
     out.clear();
     assert!(rt; out.as_slice().is_empty());
@@ -87,7 +96,7 @@ fn a_buffer_has_room_until_it_is_nearly_full(rt: HostRuntime) -> Result<(), Fail
             count = count.wrapping_add(1);
         }
     }
-    // 30 bytes each: the first line that might not have fitted came after 57,338 bytes.
+    // 30 bytes each: the first line that might not have fitted came after 57,337 bytes.
     assert_eq!(rt; count, 1912usize);
     Ok(())
 }
@@ -178,6 +187,39 @@ fn boundaries_are_read(rt: HostRuntime) -> Result<(), Fail> {
     Ok(())
 }
 
+const PROCESSOR: &[u8] = b"\
+    world 64 1\n\
+    poke 0x5000 00f1\n\
+    peek 0xffffffffffffffff 18446744073709551615\n\
+    free 63\n";
+
+#[test]
+fn lines_of_the_processor_are_read(rt: HostRuntime) -> Result<(), Fail> {
+    let script = parse(rt.alloc(), PROCESSOR)?;
+    match script.events.as_slice().first() {
+        Some(
+            Event::Poke {
+                address: 0x5000,
+                bytes,
+            },
+        ) => assert!(rt; bytes.as_slice() == [0u8, 0xf1].as_slice()),
+        _ => return Err(Fail::new("another poke")),
+    }
+    match script.events.as_slice().get(1) {
+        Some(
+            Event::Peek {
+                address: u64::MAX,
+                len: u64::MAX,
+            },
+        ) => {}
+        _ => return Err(Fail::new("another peek")),
+    }
+    match script.events.as_slice().get(2) {
+        Some(Event::Free { frame: 63 }) => Ok(()),
+        _ => Err(Fail::new("another question")),
+    }
+}
+
 /// Scripts that are refused at their first line, with a bar between.
 const BAD_FIRST: &[u8] = b"\
     fetch\n\
@@ -239,7 +281,18 @@ const BAD_SECOND: &[u8] = b"\
     |world 64 1\nwrite 000001 0x0 \n\
     |world 64 1\nwrite 000001 0x0 000\n\
     |world 64 1\nwrite 000001 0x0 0G\n\
-    |world 64 1\ncommit \xc3\xa9\n";
+    |world 64 1\ncommit \xc3\xa9\n\
+    |world 64 1\npoke 0x0 \n\
+    |world 64 1\npoke 0x0 000\n\
+    |world 64 1\npoke 5000 00\n\
+    |world 64 1\npoke 000001 0x0 00\n\
+    |world 64 1\npeek 0x0\n\
+    |world 64 1\npeek 0x0 04\n\
+    |world 64 1\npeek 0x0 1 1\n\
+    |world 64 1\nfree\n\
+    |world 64 1\nfree \n\
+    |world 64 1\nfree 05\n\
+    |world 64 1\nfree 0x5\n";
 
 #[test]
 fn bad_second_lines_are_named(rt: HostRuntime) {

@@ -5,7 +5,7 @@ use Rattle.iom_machine.specs.declared.event.Event.{Event}
 use Rattle.iom_machine.specs.declared.event.Event.TheVariants as events
 use Rattle.iom_script.specs.declared.script.WorldSize.{WorldSize}
 use Rattle.iom_script.specs.Words.{Reads, ◌␣◌, IsNumber}
-use Rattle.iom_script.specs.Cuts.{Begins, start_of, IsLineOf, IsLineWith, device_starts, driver_starts, single_starts}
+use Rattle.iom_script.specs.Cuts.{Begins, start_of, IsLineOf, IsLineWith, device_starts, driver_starts, processor_starts, single_starts}
 use Rattle.iom_script.specs.Grammar.{IsEventLine, IsWorldLine}
 use Rattle.iom_script.proofs.ReadsLemmas.{reads_some, reads_none, read_holds, read_only, read_nothing}
 use Rattle.iom_script.proofs.FieldLemmas.{FirstOf}
@@ -34,7 +34,7 @@ found_line starts start line event one reads =
     reads_some (IsLineOf starts line) event (subst (Contains starts) (sym (only_start start (start_of event) q.0)) one, q.1) (λ other r. event_same line event other q.1 r.1)
 
 -- each line begins in one of the ways that there are
-begins_somehow : (line : List ℕ) (event : Event) → IsEventLine line event → IsLineOf (device_starts ++ (driver_starts ++ single_starts)) line event
+begins_somehow : (line : List ℕ) (event : Event) → IsEventLine line event → IsLineOf (device_starts ++ ((driver_starts ++ single_starts) ++ processor_starts)) line event
 begins_somehow line (events.Read device address len) q = ((0, omega arith, refl), q)
 begins_somehow line (events.Commit device) q = ((1, omega arith, refl), q)
 begins_somehow line (events.Write device address bytes) q = ((2, omega arith, refl), q)
@@ -42,11 +42,14 @@ begins_somehow line (events.Grant device page frame rights) q = ((3, omega arith
 begins_somehow line (events.Release device page) q = ((4, omega arith, refl), q)
 begins_somehow line (events.Plug device kind) q = ((5, omega arith, refl), q)
 begins_somehow line (events.Attach device mode ats) q = ((6, omega arith, refl), q)
-begins_somehow line events.Poll q = ((7, omega arith, refl), q)
-begins_somehow line events.Fetch q = ((8, omega arith, refl), q)
+begins_somehow line (events.Free frame) q = ((7, omega arith, refl), q)
+begins_somehow line events.Poll q = ((8, omega arith, refl), q)
+begins_somehow line events.Fetch q = ((9, omega arith, refl), q)
+begins_somehow line (events.Peek address len) q = ((10, omega arith, refl), q)
+begins_somehow line (events.Poke address bytes) q = ((11, omega arith, refl), q)
 
 -- so what is read of a line that begins in any of them is read of the line
-pub any_line : (line : List ℕ) (result : Option Event) → Reads result (IsLineOf (device_starts ++ (driver_starts ++ single_starts)) line) → Reads result (IsEventLine line)
+pub any_line : (line : List ℕ) (result : Option Event) → Reads result (IsLineOf (device_starts ++ ((driver_starts ++ single_starts) ++ processor_starts)) line) → Reads result (IsEventLine line)
 any_line line result reads = λ event. (λ e. ((reads event).0 e).1, λ q. (reads event).1 (begins_somehow line event q))
 
 -- what stands behind the first word of the line that says how large the world is

@@ -5,7 +5,7 @@ use Rattle.std.proofs.lemmas.Str.Parse.{IsNumeralModel, numerals_by_value, tells
 use Rattle.std.proofs.lemmas.Fmt.{digits_value-decimal}
 use Rattle.std.proofs.lemmas.List.{append_cancel_left, append_cancel_right}
 use Rattle.iom_machine.specs.declared.event.Event.{Event}
-use Rattle.iom_machine.specs.declared.event.Event.TheVariants.{Plug, Attach, Grant, Release, Fetch, Poll, Read, Write, Commit}
+use Rattle.iom_machine.specs.declared.event.Event.TheVariants.{Plug, Attach, Grant, Release, Fetch, Poll, Read, Write, Commit, Poke, Peek, Free}
 use Rattle.iom_script.specs.declared.script.WorldSize.{WorldSize}
 use Rattle.iom_script.specs.declared.script.Script.{Script}
 use Rattle.iom_script.specs.Digits.{hex_digits}
@@ -17,7 +17,7 @@ use Rattle.iom_script.proofs.HexBytesLemmas.{same_hex_of}
 use Rattle.iom_script.proofs.DecimalLemmas.{number_without_space}
 use Rattle.iom_script.proofs.WordLemmas.{device_without_space, address_without_space}
 use Rattle.iom_script.proofs.FieldLemmas.{HasNoSpace, Followed}
-use Rattle.iom_script.proofs.EventLemmas.{IsWord, other_line, device_event, device_from, PlugWords, attach_event, attach_from, AttachWords, grant_event, grant_from, GrantWords, release_event, release_from, ReleaseWords, read_event, read_from, ReadWords, write_event, write_from, WriteWords, commit_event, commit_from}
+use Rattle.iom_script.proofs.EventLemmas.{IsWord, other_line, device_event, device_from, PlugWords, attach_event, attach_from, AttachWords, grant_event, grant_from, GrantWords, release_event, release_from, ReleaseWords, read_event, read_from, ReadWords, write_event, write_from, WriteWords, commit_event, commit_from, poke_event, poke_from, PokeWords, peek_event, peek_from, PeekWords, free_event, free_from}
 
 -- the text says one value
 abbrev SaysOne : {X : Type 0} → (List ℕ → X → Type 0) → Type 0
@@ -106,6 +106,17 @@ event_same line (Write device address bytes) b p q =
 event_same line (Commit device) b p q =
     event_by_words commit_event (IsDevice p.0) (Commit device) b (device_same p.0)
     (commit_from p.0 (Commit device) (p.0, p.1, refl)) (commit_from p.0 b (subst (λ l. IsEventLine l b) p.2 q))
+event_same line (Poke address bytes) b p q =
+    let text = p.0 ␣ p.1 in
+    event_by_words poke_event (PokeWords text) (Poke address bytes) b (followed_same IsAddress IsHex address_without_space address_same hex_same text)
+    (poke_from text (Poke address bytes) (p.0, p.1, p.2, p.3, refl)) (poke_from text b (subst (λ l. IsEventLine l b) p.4 q))
+event_same line (Peek address len) b p q =
+    let text = p.0 ␣ p.1 in
+    event_by_words peek_event (PeekWords text) (Peek address len) b (followed_same IsAddress IsNumber address_without_space address_same number_same text)
+    (peek_from text (Peek address len) (p.0, p.1, p.2, p.3, refl)) (peek_from text b (subst (λ l. IsEventLine l b) p.4 q))
+event_same line (Free frame) b p q =
+    event_by_words free_event (IsNumber p.0) (Free frame) b (number_same p.0)
+    (free_from p.0 (Free frame) (p.0, p.1, refl)) (free_from p.0 b (subst (λ l. IsEventLine l b) p.2 q))
 
 -- a line says one world
 world_same : (line : List ℕ) (s t : WorldSize) → IsWorldLine line s → IsWorldLine line t → s ≡ t

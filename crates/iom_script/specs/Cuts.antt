@@ -4,7 +4,7 @@ use Rattle.std.specs.Borrow.{Bor}
 use Rattle.std.specs.Int.{IsInRange}
 use Rattle.std.specs.Str.Parse.{AllDigits, digits_value}
 use Rattle.iom_machine.specs.declared.event.Event.{Event}
-use Rattle.iom_machine.specs.declared.event.Event.TheVariants.{Plug, Attach, Grant, Release, Fetch, Poll, Read, Write, Commit}
+use Rattle.iom_machine.specs.declared.event.Event.TheVariants.{Plug, Attach, Grant, Release, Fetch, Poll, Read, Write, Commit, Poke, Peek, Free}
 use Rattle.iom_script.specs.Words.{◌␣◌, IsWithout, IsNumber}
 use Rattle.iom_script.specs.Digits.{hex_digit, hex_digits}
 use Rattle.iom_script.specs.Grammar.{IsEventLine}
@@ -62,6 +62,9 @@ start_of Poll = codes "poll"
 start_of (Read device address len) = codes "read "
 start_of (Write device address bytes) = codes "write "
 start_of (Commit device) = codes "commit "
+start_of (Poke address bytes) = codes "poke "
+start_of (Peek address len) = codes "peek "
+start_of (Free frame) = codes "free "
 
 -- the line begins with one of these, and says the event
 abbrev pub IsLineOf : List (List ℕ) → List ℕ → Event → Type 0
@@ -75,9 +78,13 @@ IsLineWith start line event = IsLineOf (start ∷ []) line event
 abbrev pub device_starts : List (List ℕ)
 device_starts = codes "read " ∷ codes "commit " ∷ codes "write " ∷ []
 
--- how the lines begin that say what the driver is asked for a device
+-- how the lines begin that say what the processor does
+abbrev pub processor_starts : List (List ℕ)
+processor_starts = codes "peek " ∷ codes "poke " ∷ []
+
+-- how the lines begin that say what the driver is asked
 abbrev pub driver_starts : List (List ℕ)
-driver_starts = codes "grant " ∷ codes "release " ∷ codes "device " ∷ codes "attach " ∷ []
+driver_starts = codes "grant " ∷ codes "release " ∷ codes "device " ∷ codes "attach " ∷ codes "free " ∷ []
 
 -- the lines of one word
 abbrev pub single_starts : List (List ℕ)

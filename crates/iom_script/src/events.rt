@@ -1,6 +1,6 @@
 ghost use Rattle.std.specs.Prelude.{◌≡◌, ◌≤◌, ◌↔◌, codes, IfOk, IsTrue};
 ghost use Rattle.iom_script.specs.Words.{Reads};
-ghost use Rattle.iom_script.specs.Cuts.{IsLineWith, IsLineOf, device_starts, driver_starts, single_starts};
+ghost use Rattle.iom_script.specs.Cuts.{IsLineWith, IsLineOf, device_starts, driver_starts, processor_starts, single_starts};
 ghost use Rattle.iom_script.specs.Grammar.{IsEventLine, IsWorldLine};
 
 use crate::script::WorldSize;
@@ -139,11 +139,62 @@ fn attach(line: &[u8]) -> Option<Event>
     })
 }
 
-/// A line on what the driver is asked for a device, the commonest first.
+/// `free FRAME`
+fn free(line: &[u8]) -> Option<Event>
+    ensures { Reads result (IsLineWith (codes "free ") line.now) }
+{
+    let arguments = after(line, b"free ")?;
+    let frame = number_of(arguments)?;
+    Some(Event::Free { frame })
+}
+
+/// A line on what the driver is asked, the commonest first.
 fn call_of_driver(line: &[u8]) -> Option<Event>
     ensures { Reads result (IsLineOf driver_starts line.now) }
 {
-    first_of!(grant(line), release(line), plug(line), attach(line))
+    first_of!(
+        grant(line),
+        release(line),
+        plug(line),
+        attach(line),
+        free(line)
+    )
+}
+
+/// `peek ADDR LEN`
+fn peek(line: &[u8]) -> Option<Event>
+    ensures { Reads result (IsLineWith (codes "peek ") line.now) }
+{
+    let arguments = after(line, b"peek ")?;
+    let (address, rest) = address_and(arguments)?;
+    let len = number_of(rest)?;
+    Some(Event::Peek { address, len })
+}
+
+/// `poke ADDR HEX`. The bytes take memory.
+fn poke(alloc: Global, line: &[u8]) -> Result<Option<Event>, AllocError>
+    ensures { IfOk result (λ event. Reads event (IsLineWith (codes "poke ") line.now)) }
+{
+    let Some(arguments) = after(line, b"poke ") else {
+        return Ok(None);
+    };
+    let Some((address, rest)) = address_and(arguments) else {
+        return Ok(None);
+    };
+    let Some(bytes) = bytes_of(alloc, rest)? else {
+        return Ok(None);
+    };
+    Ok(Some(Event::Poke { address, bytes }))
+}
+
+/// A line on what the processor does.
+fn act_of_processor(alloc: Global, line: &[u8]) -> Result<Option<Event>, AllocError>
+    ensures { IfOk result (λ event. Reads event (IsLineOf processor_starts line.now)) }
+{
+    match peek(line) {
+        Some(event) => Ok(Some(event)),
+        None => poke(alloc, line),
+    }
 }
 
 /// A line of one word.
@@ -157,13 +208,17 @@ fn single(line: &[u8]) -> Option<Event>
     }
 }
 
-/// The event that a line says. Only the bytes of a write take memory.
+/// The event that a line says. Only the bytes of a write or a poke take memory.
 pub(crate) fn event_of(alloc: Global, line: &[u8]) -> Result<Option<Event>, AllocError>
     ensures { IfOk result (λ event. Reads event (IsEventLine line.now)) }
 {
-    match act_of_device(alloc, line)? {
+    if let Some(event) = act_of_device(alloc, line)? {
+        return Ok(Some(event));
+    }
+    let first = first_of!(call_of_driver(line), single(line));
+    match first {
         Some(event) => Ok(Some(event)),
-        None => Ok(first_of!(call_of_driver(line), single(line))),
+        None => act_of_processor(alloc, line),
     }
 }
 

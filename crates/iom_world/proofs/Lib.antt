@@ -5,6 +5,7 @@ pub mod ListLemmas
 pub mod MayLemmas
 pub mod PlaceLemmas
 pub mod PlugLemmas
+pub mod ProcessorLemmas
 pub mod ReasonLemmas
 pub mod RefusalLemmas
 pub mod TableLemmas

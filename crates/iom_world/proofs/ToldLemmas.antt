@@ -4,7 +4,7 @@ use Rattle.iom_ledger.specs.declared.refusal.Refusal.{Refusal}
 use Rattle.iom_machine.specs.declared.outcome.Outcome.TheVariants as outcome
 use Rattle.iom_world.specs.Told.{outcome_of}
 use Rattle.iom_world.specs.declared.told.Told.{Told}
-use Rattle.iom_world.specs.declared.told.Told.TheVariants.{Done, Refused, Ticket, Confirmed, NoneConfirmed, Fetched, Accepted, Busy, BadSpan, Fault, Wrote, NothingInFlight}
+use Rattle.iom_world.specs.declared.told.Told.TheVariants.{Done, Refused, Ticket, Confirmed, NoneConfirmed, Fetched, Accepted, Busy, BadSpan, Fault, Wrote, NothingInFlight, Free}
 
 -- it is done
 pub told_done : (told : Told) → outcome_of told ≡ outcome.Done → told ≡ Done
@@ -20,6 +20,7 @@ told_done BadSpan same = cc
 told_done (Fault cause) same = cc
 told_done (Wrote count) same = cc
 told_done NothingInFlight same = cc
+told_done (Free is_free) same = cc
 
 -- it is refused
 pub told_refused : (told : Told) (why : Refusal) → outcome_of told ≡ outcome.Refused why → told ≡ Refused why
@@ -35,3 +36,4 @@ told_refused BadSpan why same = cc
 told_refused (Fault cause) why same = cc
 told_refused (Wrote count) why same = cc
 told_refused NothingInFlight why same = cc
+told_refused (Free is_free) why same = cc

@@ -23,3 +23,6 @@ KeepsRoots events.Poll old new = (id : ℕ) → KeepsRoot old new id
 KeepsRoots (events.Read device address len) old new = (id : ℕ) → KeepsRoot old new id
 KeepsRoots (events.Write device address bytes) old new = (id : ℕ) → KeepsRoot old new id
 KeepsRoots (events.Commit device) old new = (id : ℕ) → KeepsRoot old new id
+KeepsRoots (events.Poke address bytes) old new = (id : ℕ) → KeepsRoot old new id
+KeepsRoots (events.Peek address len) old new = (id : ℕ) → KeepsRoot old new id
+KeepsRoots (events.Free frame) old new = (id : ℕ) → KeepsRoot old new id

@@ -5,7 +5,7 @@ use Rattle.arrayvec.specs.ArrayVec.{ArrayVec}
 use Rattle.iom_machine.specs.declared.outcome.Outcome.{Outcome}
 use Rattle.iom_machine.specs.declared.outcome.Outcome.TheVariants as outcome
 use Rattle.iom_world.specs.declared.told.Told.{Told}
-use Rattle.iom_world.specs.declared.told.Told.TheVariants.{Done, Refused, Ticket, Confirmed, NoneConfirmed, Fetched, Accepted, Busy, BadSpan, Fault, Wrote, NothingInFlight}
+use Rattle.iom_world.specs.declared.told.Told.TheVariants.{Done, Refused, Ticket, Confirmed, NoneConfirmed, Fetched, Accepted, Busy, BadSpan, Fault, Wrote, NothingInFlight, Free}
 
 -- the outcome that says the same
 abbrev pub outcome_of : Told → Outcome
@@ -21,7 +21,12 @@ outcome_of BadSpan = outcome.BadSpan
 outcome_of (Fault cause) = outcome.Fault cause
 outcome_of (Wrote count) = outcome.Wrote count
 outcome_of NothingInFlight = outcome.NothingInFlight
+outcome_of (Free is_free) = outcome.Free is_free
 
 -- a read was made, and gave these bytes
 abbrev pub TellsBytes : Outcome → List ℕ → Type 0
 TellsBytes told bytes = (held : ArrayVec ℕ) × (told ≡ outcome.Read held) × (held.items ≡ bytes)
+
+-- the processor read these bytes
+abbrev pub TellsShown : Outcome → List ℕ → Type 0
+TellsShown told bytes = (held : ArrayVec ℕ) × (told ≡ outcome.Bytes held) × (held.items ≡ bytes)

@@ -46,6 +46,9 @@ AfterEvent (events.Grant device page frame rights) in_flight old told new = new 
 AfterEvent (events.Read device address len) in_flight old told new = new ≡ old
 AfterEvent (events.Write device address bytes) in_flight old told new = new ≡ old
 AfterEvent (events.Commit device) in_flight old told new = new ≡ old
+AfterEvent (events.Poke address bytes) in_flight old told new = new ≡ old
+AfterEvent (events.Peek address len) in_flight old told new = new ≡ old
+AfterEvent (events.Free frame) in_flight old told new = new ≡ old
 
 -- an attachment that is answered so: its root takes the highest free frame, and is zero; want of frames is told only where none is free, and want of
 -- memory never
@@ -84,8 +87,8 @@ pub record KeepsMemory (old new : Parts) : Type 0 where
   pub marks : new.marks ≡ old.marks
   pub memory : new.memory ≡ old.memory
 
--- an attachment takes a frame for its root, a grant those for the tables that its page lacks, and a release clears a leaf; an access that is made may
--- write to a frame that is nobody's; and nothing else changes memory, or whose a frame is
+-- an attachment takes a frame for its root, a grant those for the tables that its page lacks, and a release clears a leaf; an access that is made,
+-- and the processor, may write to a frame that is nobody's; and nothing else changes memory, or whose a frame is
 abbrev pub TakesFrames : Event → Parts → Outcome → Parts → Type 0
 TakesFrames (events.Attach device mode ats) old told new = AttachTakes old device told new
 TakesFrames (events.Grant device page frame rights) old told new = GrantTakes old device page frame rights told new
@@ -96,6 +99,9 @@ TakesFrames events.Fetch old told new = KeepsMemory old new
 TakesFrames events.Poll old told new = KeepsMemory old new
 TakesFrames (events.Read device address len) old told new = KeepsMemory old new
 TakesFrames (events.Write device address bytes) old told new = KeepsMemory old new
+TakesFrames (events.Poke address bytes) old told new = KeepsOwned old new
+TakesFrames (events.Peek address len) old told new = KeepsMemory old new
+TakesFrames (events.Free frame) old told new = KeepsMemory old new
 
 -- an access that is accepted is to a page that its device holds, with a right that allows it: what only lingers gets no new access
 abbrev pub AcceptsHeld : Ledger → ℕ → ℕ → AccessKind → Outcome → Type 0
@@ -113,6 +119,9 @@ AnswersRequest (events.Release device page) old told = ⊤
 AnswersRequest events.Fetch old told = ⊤
 AnswersRequest events.Poll old told = ⊤
 AnswersRequest (events.Commit device) old told = ⊤
+AnswersRequest (events.Poke address bytes) old told = ⊤
+AnswersRequest (events.Peek address len) old told = ⊤
+AnswersRequest (events.Free frame) old told = ⊤
 
 -- all is the same but the count of events, and what room the ledger has
 pub record IsSame (old new : World) : Type 0 where

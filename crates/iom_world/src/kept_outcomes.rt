@@ -11,6 +11,8 @@ pub(crate) struct KeptOutcomes {
     polled: Outcome,
     requested: Outcome,
     made: Outcome,
+    shown: Outcome,
+    asked: Outcome,
 }
 
 impl KeptOutcomes {
@@ -22,6 +24,8 @@ impl KeptOutcomes {
             polled: Outcome::Done,
             requested: Outcome::Done,
             made: Outcome::Done,
+            shown: Outcome::Done,
+            asked: Outcome::Done,
         }
     }
 
@@ -29,11 +33,14 @@ impl KeptOutcomes {
     pub(crate) fn place_for(&mut self, event: &Event) -> &mut Outcome {
         match event {
             Event::Plug { .. } | Event::Attach { .. } | Event::Grant { .. } => &mut self.driver,
+            Event::Poke { .. } => &mut self.driver,
             Event::Release { .. } => &mut self.released,
             Event::Fetch => &mut self.fetched,
             Event::Poll => &mut self.polled,
             Event::Read { .. } | Event::Write { .. } => &mut self.requested,
             Event::Commit { .. } => &mut self.made,
+            Event::Peek { .. } => &mut self.shown,
+            Event::Free { .. } => &mut self.asked,
         }
     }
 }

@@ -18,6 +18,7 @@ mod fetching;
 mod kept_outcomes;
 mod plugging;
 mod polling;
+mod processor;
 mod requests;
 mod run;
 mod start;

@@ -42,6 +42,9 @@ impl World {
                 bytes,
             } => self.write(*device, *address, bytes.as_slice()).tell(told),
             Event::Commit { device } => self.commit(*device, told),
+            Event::Poke { address, bytes } => self.poke(*address, bytes.as_slice()).tell(told),
+            Event::Peek { address, len } => self.peek(*address, *len, told),
+            Event::Free { frame } => self.free(*frame).tell(told),
         }
     }
 

@@ -1,14 +1,14 @@
 //! What the world's own calls tell.
 ghost use Rattle.std.specs.Prelude.{◌≡◌, ◌≤◌, length};
 ghost use Rattle.iom_base.specs.Sizes.{page_size};
-ghost use Rattle.iom_world.specs.Told.{outcome_of, TellsBytes};
+ghost use Rattle.iom_world.specs.Told.{outcome_of, TellsBytes, TellsShown};
 
 use arrayvec::ArrayVec;
 use iom_base::Cause;
 use iom_ledger::Refusal;
 use iom_machine::{Fetched, Outcome};
 
-/// What comes of an event, but for the bytes of a read. An outcome is as large as a page, since those
+/// What comes of an event, but for bytes that are read. An outcome is as large as a page, since those
 /// stand in it; this is small, and is handed from call to call.
 #[derive(Clone, Copy, PartialEq, Eq, Debug)]
 pub(crate) enum Told {
@@ -24,6 +24,7 @@ pub(crate) enum Told {
     Fault(Cause),
     Wrote(u64),
     NothingInFlight,
+    Free(bool),
 }
 
 impl Told {
@@ -44,6 +45,7 @@ impl Told {
             Told::Fault(cause) => Outcome::Fault(cause),
             Told::Wrote(count) => Outcome::Wrote(count),
             Told::NothingInFlight => Outcome::NothingInFlight,
+            Told::Free(is_free) => Outcome::Free(is_free),
         }
     }
 
@@ -74,6 +76,7 @@ impl Told {
             (Told::Accepted(number), Outcome::Accepted(held)) => *held = number,
             (Told::Fault(cause), Outcome::Fault(held)) => *held = cause,
             (Told::Wrote(count), Outcome::Wrote(held)) => *held = count,
+            (Told::Free(is_free), Outcome::Free(held)) => *held = is_free,
             _ => *place = self.outcome(),
         }
     }
@@ -92,4 +95,19 @@ pub(crate) fn tell_read(bytes: &[u8], place: &mut Outcome)
     let mut held = ArrayVec::new();
     held.try_extend_from_slice(bytes).unwrap();
     *place = Outcome::Read(held);
+}
+
+/// Makes the outcome in the place say that the processor read the bytes.
+pub(crate) fn tell_shown(bytes: &[u8], place: &mut Outcome)
+    requires { length bytes.now ≤ page_size }
+    ensures { TellsShown place.new bytes.now }
+{
+    if let Outcome::Bytes(held) = place {
+        held.clear();
+        held.try_extend_from_slice(bytes).unwrap();
+        return;
+    }
+    let mut held = ArrayVec::new();
+    held.try_extend_from_slice(bytes).unwrap();
+    *place = Outcome::Bytes(held);
 }

@@ -19,7 +19,7 @@ use iom_base::{AcceptedAccess, AccessKind, DeviceId, PAGE_SIZE, Sequence};
 use std::alloc::{AllocError, Global};
 
 /// The first so many of the bytes, or all.
-fn first_bytes(bytes: &[u8], count: u64) -> &[u8]
+pub(crate) fn first_bytes(bytes: &[u8], count: u64) -> &[u8]
     ensures { result.now ≡ take count bytes.now }
 {
     if count < bytes.len() as u64 {
@@ -30,7 +30,7 @@ fn first_bytes(bytes: &[u8], count: u64) -> &[u8]
 }
 
 /// The bytes without the first so many.
-fn later_bytes(bytes: &[u8], count: u64) -> &[u8]
+pub(crate) fn later_bytes(bytes: &[u8], count: u64) -> &[u8]
     ensures { result.now ≡ drop count bytes.now }
 {
     if count < bytes.len() as u64 {
@@ -41,7 +41,7 @@ fn later_bytes(bytes: &[u8], count: u64) -> &[u8]
 }
 
 /// The bytes of the frame; none, where there is no such frame.
-fn frame_bytes(frames: &[Frame], number: u32) -> &[u8]
+pub(crate) fn frame_bytes(frames: &[Frame], number: u64) -> &[u8]
     ensures { result.now ≡ bytes_of frames.now number }
 {
     match frames.get(number as usize) {
@@ -51,7 +51,7 @@ fn frame_bytes(frames: &[Frame], number: u32) -> &[u8]
 }
 
 /// Whether the bytes are the same.
-fn are_same(bytes: &[u8], other: &[u8]) -> bool
+pub(crate) fn are_same(bytes: &[u8], other: &[u8]) -> bool
     ensures { IsTrue result ↔ (bytes.now ≡ other.now) }
 {
     bytes == other
@@ -74,10 +74,10 @@ fn with_bytes(
 }
 
 /// The bytes stand in the frame from the offset on, where there is such a frame.
-fn store(
+pub(crate) fn store(
     alloc: Global,
     frames: &mut Sequence<Frame>,
-    number: u32,
+    number: u64,
     offset: u64,
     bytes: &[u8],
 ) -> Result<(), AllocError>
@@ -106,7 +106,7 @@ fn gives(state: &State, id: DeviceId, made: &AcceptedAccess, bytes: &[u8]) -> bo
     ) {
         return false;
     }
-    let frame = frame_bytes(state.frames.as_slice(), made.frame);
+    let frame = frame_bytes(state.frames.as_slice(), u64::from(made.frame));
     let named = first_bytes(
         later_bytes(frame, made.access.address % PAGE_SIZE),
         made.access.len,
@@ -182,7 +182,7 @@ fn write(alloc: Global, state: &mut State, place: usize) -> Result<(), AllocErro
     store(
         alloc,
         &mut state.frames,
-        made.frame,
+        u64::from(made.frame),
         made.access.address % PAGE_SIZE,
         made.access.bytes.as_slice(),
     )

@@ -12,6 +12,7 @@ pub(crate) mod devices;
 pub(crate) mod frames;
 pub(crate) mod history;
 mod polls;
+mod processor;
 pub(crate) mod reasons;
 pub(crate) mod requests;
 
@@ -19,6 +20,7 @@ use crate::choice::Choice;
 use crate::decide::calls::{judge_attach, judge_fetch, judge_grant, judge_plug, judge_release};
 use crate::decide::commits::judge_commit;
 use crate::decide::polls::judge_poll;
+use crate::decide::processor::{judge_free, judge_peek, judge_poke};
 use crate::decide::requests::judge_request;
 use crate::event::Event;
 use crate::line::{Line, Verdict};
@@ -96,6 +98,11 @@ fn decide(
             judge_request(state, *device, access, outcome, choice.frame)
         }
         Event::Commit { device } => judge_commit(alloc, state, *device, outcome),
+        Event::Poke { address, bytes } => {
+            judge_poke(alloc, state, *address, bytes.as_slice(), outcome)
+        }
+        Event::Peek { address, len } => Ok(judge_peek(state, *address, *len, outcome)),
+        Event::Free { frame } => Ok(judge_free(state, *frame, outcome)),
     }
 }
 

@@ -3,7 +3,7 @@ ghost use Rattle.std.specs.Prelude.{◌≡◌, ◌↔◌, ◌<◌, ◌≤◌, �
 ghost use Rattle.std.specs.Option.{option_map_or};
 ghost use Rattle.iom_machine.specs.declared.state.Attachment.TheVariants.{Detached};
 ghost use Rattle.iom_machine.specs.Tickets.{pending_tickets};
-ghost use Rattle.iom_machine.specs.Refusals.{first_that_applies, plug_reasons, attach_reasons, grant_reasons, release_reasons};
+ghost use Rattle.iom_machine.specs.Refusals.{first_that_applies, plug_reasons, attach_reasons, grant_reasons, release_reasons, frame_reasons, poke_reasons};
 ghost use Rattle.iom_machine.specs.Refusals.{is_plugged, attachment_of, is_detached, is_leaving, is_quarantined, has_cache};
 ghost use Rattle.iom_machine.specs.Refusals.{is_trusted, id_limit, is_too_wide, is_held, is_lingering};
 
@@ -174,6 +174,28 @@ pub(crate) fn release_refusal(state: &State, id: DeviceId, page: u64) -> Option<
         Some(Refusal::NotGranted)
     } else if pending(state) >= MAX_PENDING as u32 {
         Some(Refusal::TooManyPending)
+    } else {
+        None
+    }
+}
+
+pub(crate) fn frame_refusal(state: &State, frame: u64) -> Option<Refusal>
+    ensures { result ≡ first_that_applies (frame_reasons state.now frame) }
+{
+    if frame >= state.frames.as_slice().len() as u64 {
+        Some(Refusal::FrameOutOfRange)
+    } else {
+        None
+    }
+}
+
+pub(crate) fn poke_refusal(state: &State, frame: u64) -> Option<Refusal>
+    ensures { result ≡ first_that_applies (poke_reasons state.now frame) }
+{
+    if frame >= state.frames.as_slice().len() as u64 {
+        Some(Refusal::FrameOutOfRange)
+    } else if has_owner(state.frames.as_slice(), frame) {
+        Some(Refusal::FrameReserved)
     } else {
         None
     }

@@ -12,9 +12,13 @@ returns-in-Some-release c = found_line driver_starts (codes "release ") c.args.l
 pub returns-in-Some-plug : goal.returns-in-Some-plug
 returns-in-Some-plug c = found_line driver_starts (codes "device ") c.args.line.now c.in-Some-plug.event (2, omega arith, refl) c.in-Some-plug.ensures
 
-pub returns-in-None-plug : goal.returns-in-None-plug
-returns-in-None-plug c =
+pub returns-in-Some-attach : goal.returns-in-Some-attach
+returns-in-Some-attach c = found_line driver_starts (codes "attach ") c.args.line.now c.in-Some-attach.event (3, omega arith, refl) c.in-Some-attach.ensures
+
+pub returns-in-None-attach : goal.returns-in-None-attach
+returns-in-None-attach c =
     let line = c.args.line.now in
-    let one = either_line line (codes "device " ∷ []) (codes "attach " ∷ []) None c.attach.result c.in-None-plug.ensures c.attach.ensures in
-    let two = either_line line (codes "release " ∷ []) (codes "device " ∷ codes "attach " ∷ []) None c.attach.result c.in-None-release.ensures one in
-    either_line line (codes "grant " ∷ []) (codes "release " ∷ codes "device " ∷ codes "attach " ∷ []) None c.attach.result c.in-None.ensures two
+    let one = either_line line (codes "attach " ∷ []) (codes "free " ∷ []) None c.free.result c.in-None-attach.ensures c.free.ensures in
+    let two = either_line line (codes "device " ∷ []) (codes "attach " ∷ codes "free " ∷ []) None c.free.result c.in-None-plug.ensures one in
+    let three = either_line line (codes "release " ∷ []) (codes "device " ∷ codes "attach " ∷ codes "free " ∷ []) None c.free.result c.in-None-release.ensures two in
+    either_line line (codes "grant " ∷ []) (codes "release " ∷ codes "device " ∷ codes "attach " ∷ codes "free " ∷ []) None c.free.result c.in-None.ensures three

@@ -1,8 +1,11 @@
 use Rattle.std.proofs.Common.{List, ℕ, refl, subst}
-use Rattle.iom_machine.specs.Machine.{Requests}
+use Rattle.iom_machine.specs.declared.outcome.Outcome.{Outcome}
+use Rattle.iom_machine.specs.Machine.{Requests, Pokes}
 use Rattle.iom_base.specs.Accesses.{write_of}
 use Rattle.iom_ledger.specs.declared.refusal.Refusal.TheVariants.{Memory, NoFrames}
+use Rattle.iom_world.specs.declared.world.World.{World}
 use Rattle.iom_world.specs.Told.{outcome_of}
+use Rattle.iom_world.specs.Unseen.{SameIfRefused}
 use Rattle.iom_world.proofs.ToldLemmas.{told_done, told_refused}
 use Rattle.iom_world.proofs.HappensLemmas.{happens}
 use Rattle.iom_world.proofs.RootLemmas.{roots_stay}
@@ -157,4 +160,59 @@ returns-in-Commit c = happens c.args.self.now _ _ _ _ _ _ c.in-Commit.is refl
       requests = tt;
       refused = c.commit.ensures.refused;
       events = c.commit.ensures.events;
+    })
+
+pub returns-in-Poke : goal.returns-in-Poke
+returns-in-Poke c = happens c.args.self.now _ _ _ _ _ _ c.in-Poke.is c.tell-in-Poke.ensures
+    (record { memory = refl; marks = refl; ledger = refl; devices = refl; commands = refl; levels = refl; events = refl })
+    (record {
+      step = λ state shows. let step = c.poke.ensures.step state shows in (
+        no_choice,
+        step.0,
+        subst (λ (bytes : List ℕ). Pokes state c.in-Poke.address bytes (outcome_of c.poke.result) step.0) c.as_slice-in-Poke.ensures step.1,
+        step.2,
+      );
+      queue = λ in_flight is. c.poke.ensures.commands;
+      frames = c.poke.ensures.kept;
+      roots = roots_stay _ _ c.poke.ensures.devices;
+      requests = tt;
+      refused = c.poke.ensures.refused;
+      events = c.poke.ensures.events;
+    })
+
+-- nothing changes but the count
+same : (world : World) (told : Outcome) → SameIfRefused told world world
+same world told why is = record {
+  memory = refl;
+  marks = refl;
+  ledger = record { held = λ d a. refl; lingering = λ d a. refl; pending = refl };
+  devices = refl;
+  commands = refl;
+  levels = refl;
+}
+
+pub returns-in-Peek : goal.returns-in-Peek
+returns-in-Peek c = happens c.args.self.now _ _ _ _ _ _ c.in-Peek.is refl
+    (record { memory = refl; marks = refl; ledger = refl; devices = refl; commands = refl; levels = refl; events = refl })
+    (record {
+      step = λ state shows. (no_choice, state, c.peek.ensures state shows, shows);
+      queue = λ in_flight is. refl;
+      frames = record { marks = refl; memory = refl };
+      roots = roots_stay _ _ refl;
+      requests = tt;
+      refused = same _ _;
+      events = refl;
+    })
+
+pub returns-in-Free : goal.returns-in-Free
+returns-in-Free c = happens c.args.self.now _ _ _ _ _ _ c.in-Free.is c.tell-in-Free.ensures
+    (record { memory = refl; marks = refl; ledger = refl; devices = refl; commands = refl; levels = refl; events = refl })
+    (record {
+      step = λ state shows. (no_choice, state, c.free.ensures state shows, shows);
+      queue = λ in_flight is. refl;
+      frames = record { marks = refl; memory = refl };
+      roots = roots_stay _ _ refl;
+      requests = tt;
+      refused = same _ _;
+      events = refl;
     })
