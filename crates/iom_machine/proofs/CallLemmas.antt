@@ -14,8 +14,10 @@ use Rattle.iom_base.specs.declared.owner.Owner.TheVariants.{OneDevice}
 use Rattle.iom_machine.specs.declared.state.State.{State}
 use Rattle.iom_machine.specs.Frames.{IsFreeBesides, reserved_for}
 use Rattle.iom_machine.specs.Devices.{device_of, with_device, DeviceMay, EachInFlightMay}
-use Rattle.iom_machine.specs.Tickets.{AreNextTickets, confirmed_from, with_confirmed}
-use Rattle.iom_machine.specs.Refusals.{NoneApplies, attach_reasons, grant_reasons}
+use Rattle.iom_ledger.specs.Confirmations.{confirmed_from}
+use Rattle.iom_machine.specs.Tickets.{AreNextTickets, with_confirmed}
+use Rattle.iom_ledger.specs.Refusals.{NoneApplies}
+use Rattle.iom_machine.specs.Refusals.{attach_reasons, grant_reasons}
 use Rattle.iom_machine.specs.Judging.{StandsAt}
 use Rattle.iom_machine.specs.Machine.{Attaches, Grants, Polls}
 use Rattle.iom_machine.proofs.FrameLemmas.{free_besides_none}

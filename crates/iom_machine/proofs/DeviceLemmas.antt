@@ -18,7 +18,8 @@ use Rattle.iom_machine.specs.Devices.{device_of, replaced_device}
 use Rattle.iom_base.specs.Accesses.{read_of, write_of}
 use Rattle.iom_machine.specs.Requests.{MayAnswer, state_after}
 use Rattle.iom_machine.specs.Machine.{Requests, Makes, Commits, Step, Run, plugged_device}
-use Rattle.iom_machine.specs.Refusals.{plug_reasons, first_that_applies}
+use Rattle.iom_ledger.specs.Refusals.{first_that_applies}
+use Rattle.iom_machine.specs.Refusals.{plug_reasons}
 use Rattle.iom_machine.specs.Headline.{asked_by, accepted_by, accepted_in, made_by, made_in, AccessesInFlightWereAccepted}
 use Rattle.iom_machine.specs.PowerOn.{opening}
 use Rattle.iom_machine.proofs.InFlightLemmas.{match_cases, some_case, found_device}

@@ -23,7 +23,7 @@ use Rattle.iom_base.specs.declared.access.AcceptedAccess.{AcceptedAccess}
 use Rattle.iom_machine.specs.declared.state.State.{State}
 use Rattle.iom_machine.specs.Frames.{bytes_of, stored}
 use Rattle.iom_machine.specs.Devices.{device_of, IsPlugged, EachInFlightMay}
-use Rattle.iom_machine.specs.Tickets.{confirmed_from}
+use Rattle.iom_ledger.specs.Confirmations.{confirmed_from}
 use Rattle.iom_base.specs.Accesses.{read_of, write_of, offset_of, IsWithinPage}
 use Rattle.iom_machine.specs.Requests.{IsBusy, HoldsFor, MayAcceptInOneStage, MayAccept, MayFault, MayAnswer, state_after, with_accepted}
 use Rattle.iom_machine.specs.Machine.{Requests, Makes, Step, Run, with_oldest_made}

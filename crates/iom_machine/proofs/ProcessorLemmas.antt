@@ -12,7 +12,8 @@ use Rattle.iom_machine.specs.Frames.{is_reserved, bytes_of, stored}
 use Rattle.iom_machine.specs.Headline.{IsReached}
 use Rattle.iom_machine.specs.Judging.{anyone_reaches_in}
 use Rattle.iom_machine.specs.Machine.{Pokes, Peeks, TellsFree}
-use Rattle.iom_machine.specs.Refusals.{first_that_applies, NoneApplies, NeverElse, IsRefusedBy, frame_reasons, poke_reasons}
+use Rattle.iom_ledger.specs.Refusals.{first_that_applies, NoneApplies, IsRefusedBy}
+use Rattle.iom_machine.specs.Refusals.{NeverElse, frame_reasons, poke_reasons}
 use Rattle.iom_machine.proofs.ByteLemmas.{length-range}
 use Rattle.iom_machine.proofs.HeadlineLemmas.{element_at, bytes_there}
 use Rattle.iom_machine.proofs.InFlightLemmas.{All-at}

@@ -28,8 +28,9 @@ use Rattle.iom_base.specs.declared.owner.Owner.TheVariants.{System, OneDevice}
 use Rattle.iom_machine.specs.declared.state.State.{State}
 use Rattle.iom_machine.specs.Frames.{with_frame, reserved_for, stored}
 use Rattle.iom_machine.specs.Devices.{device_of, EachInFlightMay}
-use Rattle.iom_machine.specs.Tickets.{confirmed_from}
-use Rattle.iom_machine.specs.Refusals.{NoneApplies, first_that_applies, grant_reasons, is_held, is_lingering}
+use Rattle.iom_ledger.specs.Confirmations.{confirmed_from}
+use Rattle.iom_ledger.specs.Refusals.{NoneApplies, first_that_applies}
+use Rattle.iom_machine.specs.Refusals.{grant_reasons, is_held, is_lingering}
 use Rattle.iom_base.specs.Accesses.{read_of, write_of, offset_of, IsWithinPage}
 use Rattle.iom_machine.specs.Requests.{state_after}
 use Rattle.iom_machine.specs.Machine.{Requests, Makes, Commits, Step, Run}

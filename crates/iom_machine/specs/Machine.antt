@@ -26,7 +26,8 @@ use Rattle.iom_machine.specs.declared.state.State.{State}
 use Rattle.iom_machine.specs.Frames.{is_reserved, IsFree, IsFreeBesides, reserved_for, bytes_of, stored}
 use Rattle.iom_machine.specs.Devices.{device_of, with_device, EachInFlightMay}
 use Rattle.iom_machine.specs.Tickets.{AreNextTickets, with_confirmed}
-use Rattle.iom_machine.specs.Refusals.{NoneApplies, IsRefusedBy, MayRefusePlug, MayRefuseAttach, MayRefuseGrant, MayRefuseRelease, NeverElse, plug_reasons, attach_reasons, grant_reasons, release_reasons, frame_reasons, poke_reasons}
+use Rattle.iom_ledger.specs.Refusals.{NoneApplies, IsRefusedBy}
+use Rattle.iom_machine.specs.Refusals.{MayRefusePlug, MayRefuseAttach, MayRefuseGrant, MayRefuseRelease, NeverElse, plug_reasons, attach_reasons, grant_reasons, release_reasons, frame_reasons, poke_reasons}
 use Rattle.iom_base.specs.Accesses.{read_of, write_of, offset_of}
 use Rattle.iom_machine.specs.Requests.{MayAnswer, state_after}
 

@@ -18,19 +18,6 @@ use Rattle.iom_machine.specs.Frames.{is_reserved, IsFree, IsFreeBesides, IsFreeR
 use Rattle.iom_machine.specs.Devices.{device_of}
 use Rattle.iom_machine.specs.Tickets.{pending_tickets}
 
--- the first refusal whose reason applies
-abbrev pub first_that_applies : List (Bool × Refusal) → Option Refusal
-first_that_applies [] = None
-first_that_applies (reason ∷ later) = if reason.0 then Some reason.1 else first_that_applies later
-
--- no reason applies
-abbrev pub NoneApplies : List (Bool × Refusal) → Type 0
-NoneApplies reasons = first_that_applies reasons ≡ None
-
--- the refusal is the first that applies, or, where none does, one that may come all the same
-abbrev pub IsRefusedBy : List (Bool × Refusal) → (Refusal → Type 0) → Refusal → Type 0
-IsRefusedBy reasons MayCome why = MatchOption (first_that_applies reasons) (MayCome why) (λ first. why ≡ first)
-
 -- whether a device is plugged in with this id
 abbrev pub is_plugged : State → ℕ → Bool
 is_plugged state id = is_some (device_of state id)

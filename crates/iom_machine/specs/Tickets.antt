@@ -1,6 +1,7 @@
 -- Tickets: they count from 1, and are confirmed in that order.
 use Rattle.std.specs.Prelude.{◌≡◌, ◌≤◌, ℕ, zero, suc, ◌+◌, ◌-◌, ◌∷◌, []}
 use Rattle.iom_ledger.specs.declared.entry.HistoryEntry.TheVariants.{Granted, Released, AllReleased, Confirmed}
+use Rattle.iom_ledger.specs.Confirmations.{confirmed_from}
 use Rattle.iom_ledger.specs.History.{History}
 use Rattle.iom_machine.specs.declared.state.State.{State}
 
@@ -20,11 +21,6 @@ pending_tickets state = state.last_ticket - last_confirmed state.history
 abbrev pub AreNextTickets : State → ℕ → ℕ → Type 0
 AreNextTickets state first last =
     (first ≡ last_confirmed state.history + 1) × (first ≤ last) × (last ≤ state.last_ticket)
-
--- the history, where so many tickets from the first on are confirmed, one after another
-abbrev pub confirmed_from : ℕ → ℕ → History → History
-confirmed_from first zero history = history
-confirmed_from first (suc n) history = Confirmed (first + n) ∷ confirmed_from first n history
 
 -- the state, where the tickets from the first to the last are confirmed
 abbrev pub with_confirmed : State → ℕ → ℕ → State

@@ -29,7 +29,8 @@ use Rattle.iom_machine.specs.Headline.{IsReached}
 use Rattle.iom_machine.specs.Machine.{Step, Requests, Run, plugged_device}
 use Rattle.iom_machine.specs.PowerOn.{opening}
 use Rattle.iom_machine.specs.declared.state.DeviceKind.{DeviceKind}
-use Rattle.iom_machine.specs.Refusals.{first_that_applies, IsRefusedBy, MayRefusePlug, MayRefuseAttach, MayRefuseGrant, MayRefuseRelease, plug_reasons, attach_reasons, grant_reasons, release_reasons, is_too_wide}
+use Rattle.iom_ledger.specs.Refusals.{first_that_applies, IsRefusedBy}
+use Rattle.iom_machine.specs.Refusals.{MayRefusePlug, MayRefuseAttach, MayRefuseGrant, MayRefuseRelease, plug_reasons, attach_reasons, grant_reasons, release_reasons, is_too_wide}
 use Rattle.iom_base.specs.Accesses.{read_of, write_of, page_of}
 use Rattle.iom_machine.specs.Requests.{cause_without_context, HoldsFor, HoldsNoneFor, MayAccept, MayFault, MayAnswer, IsForwarded, state_after}
 use Rattle.iom_machine.proofs.HeadlineLemmas.{commits_are_answered}

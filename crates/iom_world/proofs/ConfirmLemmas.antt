@@ -7,8 +7,8 @@ use Rattle.iom_ledger.specs.declared.ledger.Ledger.{Ledger}
 use Rattle.iom_ledger.specs.History.{History, Pair}
 use Rattle.iom_ledger.specs.Shown.{Agrees}
 use Rattle.iom_ledger.specs.Changes.{ShowsConfirmation, unless_under}
-use Rattle.iom_machine.specs.Tickets.{confirmed_from}
-use Rattle.iom_world.specs.Confirmed.{is_among_next, unless_among, ConfirmsFrom}
+use Rattle.iom_ledger.specs.Confirmations.{confirmed_from}
+use Rattle.iom_ledger.specs.Confirmations.{is_among_next, unless_among, ConfirmsFrom}
 
 -- tickets within the row, below it and above it
 pub among_yes : (first n t : ℕ) → first ≤ t → t < first + n → is_among_next first n t ≡ true

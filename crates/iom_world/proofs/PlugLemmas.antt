@@ -6,7 +6,8 @@ use Rattle.iom_ledger.specs.declared.refusal.Refusal.TheVariants.{AlreadyPlugged
 use Rattle.iom_machine.specs.declared.state.DeviceKind.{DeviceKind}
 use Rattle.iom_machine.specs.declared.state.State.{State}
 use Rattle.iom_machine.specs.Machine.{plugged_device}
-use Rattle.iom_machine.specs.Refusals.{plug_reasons, first_that_applies}
+use Rattle.iom_ledger.specs.Refusals.{first_that_applies}
+use Rattle.iom_machine.specs.Refusals.{plug_reasons}
 use Rattle.iom_base.specs.declared.owner.Owner.{Owner}
 use Rattle.iom_world.specs.declared.device.Device.{Device}
 use Rattle.iom_world.specs.Devices.{shown_device, shown_devices}

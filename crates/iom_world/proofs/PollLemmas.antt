@@ -6,10 +6,11 @@ use Rattle.iom_base.specs.declared.access.AccessKind.{AccessKind}
 use Rattle.iom_ledger.specs.declared.ledger.Ledger.{Ledger}
 use Rattle.iom_ledger.specs.History.{History, Pair, confirms}
 use Rattle.iom_ledger.specs.Shown.{released_in}
-use Rattle.iom_machine.specs.Tickets.{confirmed_from, last_confirmed}
+use Rattle.iom_ledger.specs.Confirmations.{confirmed_from}
+use Rattle.iom_machine.specs.Tickets.{last_confirmed}
 use Rattle.iom_base.specs.declared.owner.Owner.{Owner}
 use Rattle.iom_world.specs.declared.device.Device.{Device}
-use Rattle.iom_world.specs.Confirmed.{is_among_next, unless_among, ConfirmsFrom}
+use Rattle.iom_ledger.specs.Confirmations.{is_among_next, unless_among, ConfirmsFrom}
 use Rattle.iom_world.specs.Facts.{AreGrants, serves_still, AreSoundDevices, tickets_after}
 use Rattle.iom_world.specs.Queue.{Queue, polled}
 use Rattle.iom_world.specs.Sound.{IsSound}

@@ -8,7 +8,8 @@ use Rattle.iom_ledger.specs.History.{Pair}
 use Rattle.iom_ledger.specs.Shown.{Agrees, held_in, released_in, lingering_in}
 use Rattle.iom_machine.specs.declared.state.State.{State}
 use Rattle.iom_machine.specs.Frames.{is_reserved}
-use Rattle.iom_machine.specs.Refusals.{first_that_applies, attach_reasons, attachment_reasons, grant_reasons, is_held, is_lingering, id_limit}
+use Rattle.iom_ledger.specs.Refusals.{first_that_applies}
+use Rattle.iom_machine.specs.Refusals.{attach_reasons, attachment_reasons, grant_reasons, is_held, is_lingering, id_limit}
 use Rattle.iom_world.specs.declared.device.Device.{Device}
 use Rattle.iom_world.specs.Devices.{shown_devices}
 use Rattle.iom_world.specs.Places.{IsAbsent, IsPlaceOf}

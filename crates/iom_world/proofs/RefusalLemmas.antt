@@ -2,7 +2,7 @@
 use Rattle.std.proofs.Common.{◌≡◌, Bool, true, false, List, Option, Some, None, refl, sym, subst, is_some, MatchOption, IsSomeAnd, if◌then◌else◌}
 use Rattle.std.proofs.lemmas.Bool.{false≢true}
 use Rattle.iom_ledger.specs.declared.refusal.Refusal.{Refusal}
-use Rattle.iom_machine.specs.Refusals.{first_that_applies, IsRefusedBy}
+use Rattle.iom_ledger.specs.Refusals.{first_that_applies, IsRefusedBy}
 
 -- what is known of a value that is there, and of one that isn't
 pub when_some : {A : Type 0} (o : Option A) (P : Type 0) (Q : A → Type 0) → is_some o ≡ true → MatchOption o P Q → (x : A) × Q x

@@ -13,7 +13,8 @@ use Rattle.iom_ledger.specs.History.{Pair, serves}
 use Rattle.iom_ledger.specs.Rows.{row_at, held_of, released_of, unless_released, if_released, pair_of}
 use Rattle.iom_ledger.specs.Shown.{Agrees, held_in, released_in}
 use Rattle.iom_machine.specs.declared.state.State.{State}
-use Rattle.iom_machine.specs.Refusals.{first_that_applies, attachment_reasons, release_reasons, is_held}
+use Rattle.iom_ledger.specs.Refusals.{first_that_applies}
+use Rattle.iom_machine.specs.Refusals.{attachment_reasons, release_reasons, is_held}
 use Rattle.iom_machine.specs.Tickets.{last_confirmed, pending_tickets}
 use Rattle.iom_base.specs.declared.owner.Owner.{Owner}
 use Rattle.iom_world.specs.declared.device.Device.{Device}

@@ -13,7 +13,6 @@ pub mod Parts
 pub mod Admission
 pub mod Told
 pub mod Shows
-pub mod Confirmed
 pub mod Replies
 pub mod Oldest
 pub mod Unseen

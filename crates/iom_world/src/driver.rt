@@ -7,7 +7,8 @@ ghost use Rattle.iom_machine.specs.declared.outcome.Outcome.TheVariants as outco
 ghost use Rattle.iom_machine.specs.declared.state.State.{State};
 ghost use Rattle.iom_machine.specs.declared.state.Mode.TheVariants.{First};
 ghost use Rattle.iom_machine.specs.Machine.{Attaches, Grants, Releases};
-ghost use Rattle.iom_machine.specs.Refusals.{first_that_applies, attachment_reasons, grant_reasons, release_reasons, NoneApplies};
+ghost use Rattle.iom_ledger.specs.Refusals.{first_that_applies, NoneApplies};
+ghost use Rattle.iom_machine.specs.Refusals.{attachment_reasons, grant_reasons, release_reasons};
 ghost use Rattle.iom_page_table.specs.Sv39.{unmapped};
 ghost use Rattle.iom_table_frames.specs.Marks.{NoneIsFree};
 ghost use Rattle.iom_world.specs.Told.{outcome_of};

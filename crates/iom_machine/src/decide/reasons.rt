@@ -3,7 +3,8 @@ ghost use Rattle.std.specs.Prelude.{◌≡◌, ◌↔◌, ◌<◌, ◌≤◌, �
 ghost use Rattle.std.specs.Option.{option_map_or};
 ghost use Rattle.iom_machine.specs.declared.state.Attachment.TheVariants.{Detached};
 ghost use Rattle.iom_machine.specs.Tickets.{pending_tickets};
-ghost use Rattle.iom_machine.specs.Refusals.{first_that_applies, plug_reasons, attach_reasons, grant_reasons, release_reasons, frame_reasons, poke_reasons};
+ghost use Rattle.iom_ledger.specs.Refusals.{first_that_applies};
+ghost use Rattle.iom_machine.specs.Refusals.{plug_reasons, attach_reasons, grant_reasons, release_reasons, frame_reasons, poke_reasons};
 ghost use Rattle.iom_machine.specs.Refusals.{is_plugged, attachment_of, is_detached, is_leaving, is_quarantined, has_cache};
 ghost use Rattle.iom_machine.specs.Refusals.{is_trusted, id_limit, is_too_wide, is_held, is_lingering};
 

@@ -1,6 +1,6 @@
 use Rattle.std.proofs.Common.{◌≡◌, ◌+◌, ◌-◌, suc, subst, sym, arith}
 use Rattle.iom_ledger.specs.Shown.{Agrees}
-use Rattle.iom_machine.specs.Tickets.{confirmed_from}
+use Rattle.iom_ledger.specs.Confirmations.{confirmed_from}
 use Rattle.iom_world.proofs.ConfirmLemmas.{confirms_none, confirms_more, agrees_more}
 use Rattle.iom_world.proofs.polling.confirm_tickets.Goals as goal
 

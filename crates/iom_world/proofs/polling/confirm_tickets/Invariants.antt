@@ -1,8 +1,8 @@
 use Rattle.std.proofs.Common.{◌-◌}
 use Rattle.iom_ledger.specs.History.{History}
 use Rattle.iom_ledger.specs.Shown.{Agrees}
-use Rattle.iom_machine.specs.Tickets.{confirmed_from}
-use Rattle.iom_world.specs.Confirmed.{ConfirmsFrom}
+use Rattle.iom_ledger.specs.Confirmations.{confirmed_from}
+use Rattle.iom_ledger.specs.Confirmations.{ConfirmsFrom}
 use Rattle.iom_world.proofs.polling.confirm_tickets.Given as goal
 
 -- the tickets before this one are confirmed

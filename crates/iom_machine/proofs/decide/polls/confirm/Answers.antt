@@ -1,5 +1,5 @@
 use Rattle.std.proofs.Common.{◌≡◌, ◌∙◌, ◌-◌, suc, ap, arith}
-use Rattle.iom_machine.specs.Tickets.{confirmed_from}
+use Rattle.iom_ledger.specs.Confirmations.{confirmed_from}
 use Rattle.iom_machine.proofs.decide.polls.confirm.Goals as goal
 
 pub returns : goal.returns

@@ -1,5 +1,5 @@
 use Rattle.std.proofs.Common.{◌≡◌, ◌-◌, ◌≤◌, ◌+◌}
-use Rattle.iom_machine.specs.Tickets.{confirmed_from}
+use Rattle.iom_ledger.specs.Confirmations.{confirmed_from}
 use Rattle.iom_machine.proofs.decide.polls.confirm.Given as goal
 
 abbrev pub invariant-loop-ticket : goal.invariant-loop-ticket

@@ -2,7 +2,8 @@ use Rattle.std.proofs.Common.{◌≡◌, ◌+◌, ◌-◌, ◌∙◌, suc, List,
 use Rattle.iom_ledger.specs.History.{May}
 use Rattle.iom_base.specs.declared.access.AcceptedAccess.{AcceptedAccess}
 use Rattle.iom_machine.specs.declared.state.Device as machine
-use Rattle.iom_machine.specs.Tickets.{with_confirmed, confirmed_from}
+use Rattle.iom_ledger.specs.Confirmations.{confirmed_from}
+use Rattle.iom_machine.specs.Tickets.{with_confirmed}
 use Rattle.std.proofs.Common.{All}
 use Rattle.iom_world.specs.Sound.{IsSound}
 use Rattle.iom_world.specs.Queue.{Queue}
