@@ -4,60 +4,60 @@ use Rattle.std.proofs.lemmas.Bool.{cases_lt}
 use Rattle.std.proofs.lemmas.List.{append_assoc}
 use Rattle.iom_machine.specs.declared.state.State.{State}
 use Rattle.iom_lawful.specs.declared.reaches.Reach.{Reach}
-use Rattle.iom_lawful.specs.Tables.{IsFreeForTable, NoneIsFree, IsHighestFree, AreHighestFree}
+use Rattle.iom_lawful.specs.Tables.{MayBecomeTable, NoneMayBecomeTable, IsHighestForTable, AreHighestForTables}
 
 module _ (state : State) (reaches : List Reach) (named : Option ℕ) where
   -- nothing stands from the limit on and below it
-  pub none_yet : (limit : ℕ) → NoneIsFree state reaches named (limit - 0) limit
+  pub none_yet : (limit : ℕ) → NoneMayBecomeTable state reaches named (limit - 0) limit
   none_yet limit frame first below free = absurd (omega (arith, first, below))
 
   -- one frame more that isn't free
-  pub none_with_one_more : (limit above : ℕ) → above < limit → NoneIsFree state reaches named (limit - above) limit
-      → (IsFreeForTable state reaches named (limit - 1 - above) → ⊥) → NoneIsFree state reaches named (limit - (above + 1)) limit
+  pub none_with_one_more : (limit above : ℕ) → above < limit → NoneMayBecomeTable state reaches named (limit - above) limit
+      → (MayBecomeTable state reaches named (limit - 1 - above) → ⊥) → NoneMayBecomeTable state reaches named (limit - (above + 1)) limit
   none_with_one_more limit above within none not_here frame first below free =
       elim (cases_lt frame (limit - above)) [
         | inl lower ↦ let here : frame ≡ limit - 1 - above = omega (arith, lower, first, within) in
-            not_here (subst (λ f. IsFreeForTable state reaches named f) here free)
+            not_here (subst (λ f. MayBecomeTable state reaches named f) here free)
         | inr higher ↦ none frame higher below free
       ]
 
   -- the first that is found free, from the limit down, is the highest
-  pub highest_here : (limit above : ℕ) → above < limit → NoneIsFree state reaches named (limit - above) limit
-      → IsFreeForTable state reaches named (limit - 1 - above) → IsHighestFree state reaches named limit (limit - 1 - above)
+  pub highest_here : (limit above : ℕ) → above < limit → NoneMayBecomeTable state reaches named (limit - above) limit
+      → MayBecomeTable state reaches named (limit - 1 - above) → IsHighestForTable state reaches named limit (limit - 1 - above)
   highest_here limit above within none free =
       (omega (arith, within), free, λ frame first below is. none frame (omega (arith, first, within)) below is)
 
   -- where none is taken yet, all follow
   pub leads_first : (start limit count : ℕ) (taken : List ℕ) → taken ≡ [] → limit ≡ start
-      → (lower : List ℕ) → AreHighestFree state reaches named limit (count - 0) lower → AreHighestFree state reaches named start count (taken ++ lower)
+      → (lower : List ℕ) → AreHighestForTables state reaches named limit (count - 0) lower → AreHighestForTables state reaches named start count (taken ++ lower)
   leads_first start limit count taken none same lower are =
       let all : count - 0 ≡ count = omega arith in
-      rw none (subst (λ n. AreHighestFree state reaches named start n lower) all (subst (λ n. AreHighestFree state reaches named n (count - 0) lower) same are))
+      rw none (subst (λ n. AreHighestForTables state reaches named start n lower) all (subst (λ n. AreHighestForTables state reaches named n (count - 0) lower) same are))
 
   -- with one frame more the lower ones follow
-  pub leads_on : (start limit count counted frame : ℕ) (taken : List ℕ) → counted < count → IsHighestFree state reaches named limit frame
-      → ((lower : List ℕ) → AreHighestFree state reaches named limit (count - counted) lower → AreHighestFree state reaches named start count (taken ++ lower))
-      → (lower : List ℕ) → AreHighestFree state reaches named frame (count - (counted + 1)) lower
-      → AreHighestFree state reaches named start count ((taken ++ frame ∷ []) ++ lower)
+  pub leads_on : (start limit count counted frame : ℕ) (taken : List ℕ) → counted < count → IsHighestForTable state reaches named limit frame
+      → ((lower : List ℕ) → AreHighestForTables state reaches named limit (count - counted) lower → AreHighestForTables state reaches named start count (taken ++ lower))
+      → (lower : List ℕ) → AreHighestForTables state reaches named frame (count - (counted + 1)) lower
+      → AreHighestForTables state reaches named start count ((taken ++ frame ∷ []) ++ lower)
   leads_on start limit count counted frame taken within highest leads lower are =
       let more : suc (count - (counted + 1)) ≡ count - counted = omega (arith, within) in
-      subst (λ xs. AreHighestFree state reaches named start count xs) (sym (append_assoc taken (frame ∷ []) lower))
-      (leads (frame ∷ lower) (subst (λ n. AreHighestFree state reaches named limit n (frame ∷ lower)) more (highest, are)))
+      subst (λ xs. AreHighestForTables state reaches named start count xs) (sym (append_assoc taken (frame ∷ []) lower))
+      (leads (frame ∷ lower) (subst (λ n. AreHighestForTables state reaches named limit n (frame ∷ lower)) more (highest, are)))
 
   -- where none is free any more, those are all
-  pub those_are_all : (start limit count counted : ℕ) (taken : List ℕ) → counted < count → NoneIsFree state reaches named 0 limit
-      → ((lower : List ℕ) → AreHighestFree state reaches named limit (count - counted) lower → AreHighestFree state reaches named start count (taken ++ lower))
-      → AreHighestFree state reaches named start count taken
+  pub those_are_all : (start limit count counted : ℕ) (taken : List ℕ) → counted < count → NoneMayBecomeTable state reaches named 0 limit
+      → ((lower : List ℕ) → AreHighestForTables state reaches named limit (count - counted) lower → AreHighestForTables state reaches named start count (taken ++ lower))
+      → AreHighestForTables state reaches named start count taken
   those_are_all start limit count counted taken within none leads =
       let more : suc (count - (counted + 1)) ≡ count - counted = omega (arith, within) in
-      subst (λ xs. AreHighestFree state reaches named start count xs) (append-nil taken)
-      (leads [] (subst (λ n. AreHighestFree state reaches named limit n []) more none))
+      subst (λ xs. AreHighestForTables state reaches named start count xs) (append-nil taken)
+      (leads [] (subst (λ n. AreHighestForTables state reaches named limit n []) more none))
 
   -- where so many are taken, those are enough
   pub those_are_enough : (start limit count counted : ℕ) (taken : List ℕ) → count ≤ counted
-      → ((lower : List ℕ) → AreHighestFree state reaches named limit (count - counted) lower → AreHighestFree state reaches named start count (taken ++ lower))
-      → AreHighestFree state reaches named start count taken
+      → ((lower : List ℕ) → AreHighestForTables state reaches named limit (count - counted) lower → AreHighestForTables state reaches named start count (taken ++ lower))
+      → AreHighestForTables state reaches named start count taken
   those_are_enough start limit count counted taken done leads =
       let none_more : 0 ≡ count - counted = omega (arith, done) in
-      subst (λ xs. AreHighestFree state reaches named start count xs) (append-nil taken)
-      (leads [] (subst (λ n. AreHighestFree state reaches named limit n []) none_more refl))
+      subst (λ xs. AreHighestForTables state reaches named start count xs) (append-nil taken)
+      (leads [] (subst (λ n. AreHighestForTables state reaches named limit n []) none_more refl))

@@ -14,26 +14,26 @@ abbrev pub is_reached_by : List Reach → ℕ → Bool
 is_reached_by reaches frame = list_any (λ reach. reach.frame == frame) reaches
 
 -- the frame may become a table: it is one of the memory, isn't reserved, isn't the named one, and no device reaches it
-abbrev pub IsFreeForTable : State → List Reach → Option ℕ → ℕ → Type 0
-IsFreeForTable state reaches named frame =
+abbrev pub MayBecomeTable : State → List Reach → Option ℕ → ℕ → Type 0
+MayBecomeTable state reaches named frame =
     (frame < length state.frames) × (is_reserved state.frames frame ≡ false) × (named ≢ Some frame) × (is_reached_by reaches frame ≡ false)
 
 -- no frame from the first number on and below the limit is free besides the named one
-abbrev pub NoneIsFree : State → List Reach → Option ℕ → ℕ → ℕ → Type 0
-NoneIsFree state reaches named first limit =
-    (frame : ℕ) → first ≤ frame → frame < limit → ¬ IsFreeForTable state reaches named frame
+abbrev pub NoneMayBecomeTable : State → List Reach → Option ℕ → ℕ → ℕ → Type 0
+NoneMayBecomeTable state reaches named first limit =
+    (frame : ℕ) → first ≤ frame → frame < limit → ¬ MayBecomeTable state reaches named frame
 
 -- this frame below the limit is free besides the named one, and none above it is
-abbrev pub IsHighestFree : State → List Reach → Option ℕ → ℕ → ℕ → Type 0
-IsHighestFree state reaches named limit frame =
-    (frame < limit) × IsFreeForTable state reaches named frame × NoneIsFree state reaches named (suc frame) limit
+abbrev pub IsHighestForTable : State → List Reach → Option ℕ → ℕ → ℕ → Type 0
+IsHighestForTable state reaches named limit frame =
+    (frame < limit) × MayBecomeTable state reaches named frame × NoneMayBecomeTable state reaches named (suc frame) limit
 
 -- the highest free frames below the limit, one after another: so many, or as many as there are
-abbrev pub AreHighestFree : State → List Reach → Option ℕ → ℕ → ℕ → List ℕ → Type 0
-AreHighestFree state reaches named limit zero taken = taken ≡ []
-AreHighestFree state reaches named limit (suc count) [] = NoneIsFree state reaches named 0 limit
-AreHighestFree state reaches named limit (suc count) (frame ∷ lower) =
-    IsHighestFree state reaches named limit frame × AreHighestFree state reaches named frame count lower
+abbrev pub AreHighestForTables : State → List Reach → Option ℕ → ℕ → ℕ → List ℕ → Type 0
+AreHighestForTables state reaches named limit zero taken = taken ≡ []
+AreHighestForTables state reaches named limit (suc count) [] = NoneMayBecomeTable state reaches named 0 limit
+AreHighestForTables state reaches named limit (suc count) (frame ∷ lower) =
+    IsHighestForTable state reaches named limit frame × AreHighestForTables state reaches named frame count lower
 
 -- the frame that the event names, if it is a grant that is done: no table takes it
 abbrev pub named_by : Event → Outcome → Option ℕ

@@ -2,7 +2,7 @@
 
 ghost use Rattle.std.specs.Prelude.{◌≡◌, ◌↔◌, ◌^◌, ◌<◌, ◌≤◌, ℕ, List, length, IsTrue, IfOk, MatchOption};
 ghost use Rattle.iom_lawful.specs.declared.reaches.Reach.{Reach};
-ghost use Rattle.iom_lawful.specs.Tables.{is_reached_by, IsFreeForTable, NoneIsFree, IsHighestFree, AreHighestFree, named_by, WantsTables};
+ghost use Rattle.iom_lawful.specs.Tables.{is_reached_by, MayBecomeTable, NoneMayBecomeTable, IsHighestForTable, AreHighestForTables, named_by, WantsTables};
 
 use crate::reaches::{Reach, frame_at, reaches_of};
 use iom_base::{DeviceId, Sequence};
@@ -39,7 +39,7 @@ fn is_reached(reaches: &[Reach], number: u32) -> bool
 
 /// Whether the frame may become a table: it is nobody's, no device reaches it, and it isn't the named one.
 fn is_free_for_table(state: &State, reaches: &[Reach], named: Option<u64>, number: u32) -> bool
-    ensures { IsTrue result ↔ IsFreeForTable state.now reaches.now named number }
+    ensures { IsTrue result ↔ MayBecomeTable state.now reaches.now named number }
 {
     let Some(frame) = state.frames.as_slice().get(number as usize) else {
         return false;
@@ -56,7 +56,7 @@ fn is_free_for_table(state: &State, reaches: &[Reach], named: Option<u64>, numbe
 /// The highest frame below the limit that may become a table.
 fn highest_free(state: &State, reaches: &[Reach], named: Option<u64>, limit: usize) -> Option<u32>
     requires { limit ≤ 2 ^ 32 }
-    ensures { MatchOption result (NoneIsFree state.now reaches.now named 0 limit) (IsHighestFree state.now reaches.now named limit) }
+    ensures { MatchOption result (NoneMayBecomeTable state.now reaches.now named 0 limit) (IsHighestForTable state.now reaches.now named limit) }
 {
     for above in 0..limit {
         let number = (limit - 1 - above) as u32;
@@ -76,7 +76,7 @@ fn highest_frees(
     count: usize,
 ) -> Result<Sequence<u32>, AllocError>
     requires { length state.now.frames ≤ 2 ^ 32 }
-    ensures { IfOk result (AreHighestFree state.now reaches.now named (length state.now.frames) count) }
+    ensures { IfOk result (AreHighestForTables state.now reaches.now named (length state.now.frames) count) }
 {
     let mut taken = Sequence::new(alloc);
     let mut limit = state.frames.as_slice().len();
@@ -155,7 +155,7 @@ impl Driver {
     ) -> Result<Choice, AllocError>
         requires { length state.now.frames ≤ 2 ^ 32 }
         ensures taken { IfOk result (λ choice. (reaches : List Reach) × (count : ℕ) × WantsTables event.now outcome.now count
-            × AreHighestFree state.now reaches (named_by event.now outcome.now) (length state.now.frames) count choice.taken) }
+            × AreHighestForTables state.now reaches (named_by event.now outcome.now) (length state.now.frames) count choice.taken) }
     {
         let reaches = reaches_of(alloc, state.history.as_slice())?;
         let (count, named) = self.tables_wanted(event, outcome)?;
