@@ -34,6 +34,7 @@ use Rattle.iom_machine.specs.Refusals.{MayRefusePlug, MayRefuseAttach, MayRefuse
 use Rattle.iom_base.specs.Accesses.{read_of, write_of, page_of}
 use Rattle.iom_machine.specs.Requests.{cause_without_context, HoldsFor, HoldsNoneFor, MayAccept, MayFault, MayAnswer, IsForwarded, state_after}
 use Rattle.iom_machine.proofs.HeadlineLemmas.{commits_are_answered}
+use Rattle.iom_machine.proofs.ProcessorLemmas.{poke_is_answered, peek_is_answered, free_is_answered}
 use Rattle.iom_world.proofs.RunLemmas.{no_choice, frame_chosen, run_more}
 
 -- the event has an answer in the state
@@ -170,6 +171,9 @@ is_answered state (events.Read id address len) reached =
 is_answered state (events.Write id address bytes) reached =
     let told = request_is_answered state id (write_of address bytes) in (told.1, told.2, (frame_chosen told.0, told.3))
 is_answered state (events.Commit id) reached = commits_are_answered state id reached
+is_answered state (events.Poke address bytes) reached = let told = poke_is_answered state address bytes in (told.0, told.1, (no_choice, told.2))
+is_answered state (events.Peek address len) reached = let told = peek_is_answered state address len reached in (told.0, told.1, (no_choice, told.2))
+is_answered state (events.Free frame) reached = let told = free_is_answered state frame in (told.0, told.1, (no_choice, told.2))
 
 -- a state that is reached, after one more step
 reached-step : (old new : State) (event : Event) (outcome : Outcome) → IsReached old → Step old event outcome new → IsReached new
