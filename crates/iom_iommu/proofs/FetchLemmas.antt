@@ -19,7 +19,7 @@ use Rattle.iom_iommu.specs.declared.iommu.Iommu.{Iommu}
 use Rattle.iom_iommu.specs.declared.fetched.Fetched.{Fetched}
 use Rattle.iom_iommu.specs.declared.fetched.Fetched.TheVariants.{Did, Waiting, Empty, Stopped}
 use Rattle.iom_iommu.specs.Parts.{registers_of}
-use Rattle.iom_iommu.specs.Fetches.{store_of, asks_for_interrupt, with_store, IsFrameOf, IsOffRing, head_entry, WaitsAt, StopsAt, Stops, Fetches}
+use Rattle.iom_iommu.specs.Fetches.{store_of, asks_for_interrupt, with_store, IsStoredIn, IsOffRing, head_entry, WaitsAt, StopsAtEntry, StopsFetching, FetchesCommand}
 
 -- something stands at the head, so head and tail aren't the same
 pub apart : (m : List (List ℕ)) (r : Registers) (entry : QueueEntry) → head_entry m r ≡ Some entry → command_head r ≢ command_tail r
@@ -46,7 +46,7 @@ word_length n value address m = by (slice_get m (address / 4096)) where
   by None = refl
   by (Some frame) = length-set m (address / 4096) (with_bytes frame (address % 4096) (little_bytes n value))
 
-pub store_elsewhere : (m : List (List ℕ)) (store : Option FenceStore) (k : ℕ) → ¬ IsFrameOf store k → slice_get (with_store m store) k ≡ slice_get m k
+pub store_elsewhere : (m : List (List ℕ)) (store : Option FenceStore) (k : ℕ) → ¬ IsStoredIn store k → slice_get (with_store m store) k ≡ slice_get m k
 store_elsewhere m None k ne = refl
 store_elsewhere m (Some store) k ne = word_elsewhere 4 store.data store.address k m ne
 
@@ -55,8 +55,8 @@ store_length m None = refl
 store_length m (Some store) = word_length 4 store.data store.address m
 
 -- THE FRAMES that no word was stored in
-pub leaves_frames : (m n : List (List ℕ)) (i j : Iommu) (any : Bool) (command : Command) → Fetches m i any (Did command) n j
-    → ((k : ℕ) → ¬ IsFrameOf (store_of command) k → slice_get n k ≡ slice_get m k) × (length n ≡ length m)
+pub leaves_frames : (m n : List (List ℕ)) (i j : Iommu) (any : Bool) (command : Command) → FetchesCommand m i any (Did command) n j
+    → ((k : ℕ) → ¬ IsStoredIn (store_of command) k → slice_get n k ≡ slice_get m k) × (length n ≡ length m)
 leaves_frames m n i j any command f = (
   (λ k ne. ap (λ x. slice_get x k) f.4 ∙ store_elsewhere m (store_of command) k ne),
   ap (λ x. length x) f.4 ∙ store_length m (store_of command),
@@ -67,18 +67,18 @@ fence_list : (m : List (List ℕ)) (r : Registers) (asks : Bool) → commands_in
 fence_list m r true = same_ring m (with_fence_w_ip r) r refl refl refl refl
 fence_list m r false = refl
 
-stop_at_list : (m : List (List ℕ)) (entry : Option QueueEntry) (any : Bool) (i j : Iommu) → StopsAt m entry any i j → commands_in m (registers_of j) ≡ commands_in m (registers_of i)
+stop_at_list : (m : List (List ℕ)) (entry : Option QueueEntry) (any : Bool) (i j : Iommu) → StopsAtEntry m entry any i j → commands_in m (registers_of j) ≡ commands_in m (registers_of i)
 stop_at_list m None any i j s = absurd s
 stop_at_list m (Some stands.Outside) any i j s = ap (λ x. commands_in m (registers_of x)) s ∙ same_ring m (with_cqmf (registers_of i)) (registers_of i) refl refl refl refl
 stop_at_list m (Some (stands.Illegal reason)) any i j s = ap (λ x. commands_in m (registers_of x)) s ∙ same_ring m (with_cmd_ill (registers_of i)) (registers_of i) refl refl refl refl
 stop_at_list m (Some (stands.Command command)) any i j s = ap (λ x. commands_in m (registers_of x)) s.2 ∙ same_ring m (with_cqmf (registers_of i)) (registers_of i) refl refl refl refl
 
-stop_list : (on : Bool) (m : List (List ℕ)) (any : Bool) (i j : Iommu) → Stops on m any i j → commands_in m (registers_of j) ≡ commands_in m (registers_of i)
+stop_list : (on : Bool) (m : List (List ℕ)) (any : Bool) (i j : Iommu) → StopsFetching on m any i j → commands_in m (registers_of j) ≡ commands_in m (registers_of i)
 stop_list false m any i j s = ap (λ x. commands_in m (registers_of x)) s
 stop_list true m any i j s = stop_at_list m (head_entry m (registers_of i)) any i j s
 
 -- THE FIRST is taken, and the rest stays
-pub takes_first : (m n : List (List ℕ)) (i j : Iommu) (any : Bool) (command : Command) → Fetches m i any (Did command) n j
+pub takes_first : (m n : List (List ℕ)) (i j : Iommu) (any : Bool) (command : Command) → FetchesCommand m i any (Did command) n j
     → IsOffRing (registers_of i) (store_of command) → commands_in m (registers_of i) ≡ stands.Command command ∷ commands_in n (registers_of j)
 takes_first m n i j any command f off =
     let r = registers_of i in let done = with_command_done r in
@@ -89,14 +89,14 @@ takes_first m n i j any command f off =
     ∙ ap (λ xs. stands.Command command ∷ xs) (sym (stays_by_frames m n done alike) ∙ sym (fence_list n done (asks_for_interrupt command)) ∙ sym (ap (λ x. commands_in n (registers_of x)) f.5))
 
 -- any other answer leaves memory, and the list
-pub leaves_memory : (m n : List (List ℕ)) (i j : Iommu) (any : Bool) (answer : Fetched) → Fetches m i any answer n j
+pub leaves_memory : (m n : List (List ℕ)) (i j : Iommu) (any : Bool) (answer : Fetched) → FetchesCommand m i any answer n j
     → ((command : Command) → ¬ (answer ≡ Did command)) → n ≡ m
 leaves_memory m n i j any (Did command) f not_done = absurd (not_done command refl)
 leaves_memory m n i j any Waiting f not_done = f.2
 leaves_memory m n i j any Empty f not_done = f.2
 leaves_memory m n i j any Stopped f not_done = f.1
 
-pub leaves_list : (m n : List (List ℕ)) (i j : Iommu) (any : Bool) (answer : Fetched) → Fetches m i any answer n j
+pub leaves_list : (m n : List (List ℕ)) (i j : Iommu) (any : Bool) (answer : Fetched) → FetchesCommand m i any answer n j
     → ((command : Command) → ¬ (answer ≡ Did command)) → commands_in n (registers_of j) ≡ commands_in m (registers_of i)
 leaves_list m n i j any (Did command) f not_done = absurd (not_done command refl)
 leaves_list m n i j any Waiting f not_done = ap (λ x. commands_in x (registers_of j)) f.2 ∙ ap (λ x. commands_in m (registers_of x)) f.3
@@ -111,18 +111,18 @@ none_first (x ∷ xs) e = cc
 none_waits : (m : List (List ℕ)) (r : Registers) (any : Bool) → head_entry m r ≡ None → ¬ WaitsAt (head_entry m r) any
 none_waits m r any none w = subst (λ entry. WaitsAt entry any) none w
 
-none_stops : (m : List (List ℕ)) (on any : Bool) (i j : Iommu) → on ≡ true → head_entry m (registers_of i) ≡ None → ¬ Stops on m any i j
-none_stops m on any i j is_on none s = subst (λ entry. StopsAt m entry any i j) none (subst (λ b. Stops b m any i j) is_on s)
+none_stops : (m : List (List ℕ)) (on any : Bool) (i j : Iommu) → on ≡ true → head_entry m (registers_of i) ≡ None → ¬ StopsFetching on m any i j
+none_stops m on any i j is_on none s = subst (λ entry. StopsAtEntry m entry any i j) none (subst (λ b. StopsFetching b m any i j) is_on s)
 
 -- EMPTY exactly where processing is on and nothing waits
-pub empty_then : (m n : List (List ℕ)) (i j : Iommu) (any : Bool) (answer : Fetched) → Fetches m i any answer n j
+pub empty_then : (m n : List (List ℕ)) (i j : Iommu) (any : Bool) (answer : Fetched) → FetchesCommand m i any answer n j
     → answer ≡ Empty → (is_processing_commands (registers_of i) ≡ true) × (commands_in m (registers_of i) ≡ [])
 empty_then m n i j any (Did command) f e = cc
 empty_then m n i j any Waiting f e = cc
 empty_then m n i j any Empty f e = (f.0, none_first (commands_in m (registers_of i)) f.1)
 empty_then m n i j any Stopped f e = cc
 
-pub empty_where : (m n : List (List ℕ)) (i j : Iommu) (any : Bool) (answer : Fetched) → Fetches m i any answer n j
+pub empty_where : (m n : List (List ℕ)) (i j : Iommu) (any : Bool) (answer : Fetched) → FetchesCommand m i any answer n j
     → (is_processing_commands (registers_of i) ≡ true) × (commands_in m (registers_of i) ≡ []) → answer ≡ Empty
 empty_where m n i j any (Did command) f p = let e = sym (ap (λ xs. slice_get xs 0) p.1) ∙ f.1 in cc
 empty_where m n i j any Waiting f p = absurd (none_waits m (registers_of i) any (ap (λ xs. slice_get xs 0) p.1) f.1)

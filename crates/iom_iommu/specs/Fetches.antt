@@ -50,9 +50,9 @@ with_store memory None = memory
 with_store memory (Some store) = with_word 4 memory store.address store.data
 
 -- the frame in which it lies
-abbrev pub IsFrameOf : Option FenceStore → ℕ → Type 0
-IsFrameOf None n = ⊥
-IsFrameOf (Some store) n = n ≡ store.address / page_size
+abbrev pub IsStoredIn : Option FenceStore → ℕ → Type 0
+IsStoredIn None n = ⊥
+IsStoredIn (Some store) n = n ≡ store.address / page_size
 
 -- it is stored, or there is no place for it and nothing changes
 abbrev pub Stores : List (List ℕ) → Option FenceStore → Bool → List (List ℕ) → Type 0
@@ -65,7 +65,7 @@ with_done r command = if asks_for_interrupt command then with_fence_w_ip (with_c
 
 -- what is stored lies in no frame of the ring
 abbrev pub IsOffRing : Registers → Option FenceStore → Type 0
-IsOffRing r store = (j : ℕ) → j < command_entries r → ¬ IsFrameOf store (place_of r j / page_size)
+IsOffRing r store = (j : ℕ) → j < command_entries r → ¬ IsStoredIn store (place_of r j / page_size)
 
 -- what stands at the head: the first of the commands that wait, None where none waits
 abbrev pub head_entry : List (List ℕ) → Registers → Option QueueEntry
@@ -80,35 +80,35 @@ WaitsAt (Some (stands.Command command)) any_in_flight = must_wait command any_in
 
 -- what stands at the head stops processing, and which bit says why: cqmf where it can't be loaded or its word not be stored,
 -- cmd_ill where it is no command
-abbrev pub StopsAt : List (List ℕ) → Option QueueEntry → Bool → Iommu → Iommu → Type 0
-StopsAt memory None any_in_flight old new = ⊥
-StopsAt memory (Some stands.Outside) any_in_flight old new = new ≡ with_registers old (with_cqmf (registers_of old))
-StopsAt memory (Some (stands.Illegal reason)) any_in_flight old new = new ≡ with_registers old (with_cmd_ill (registers_of old))
-StopsAt memory (Some (stands.Command command)) any_in_flight old new =
+abbrev pub StopsAtEntry : List (List ℕ) → Option QueueEntry → Bool → Iommu → Iommu → Type 0
+StopsAtEntry memory None any_in_flight old new = ⊥
+StopsAtEntry memory (Some stands.Outside) any_in_flight old new = new ≡ with_registers old (with_cqmf (registers_of old))
+StopsAtEntry memory (Some (stands.Illegal reason)) any_in_flight old new = new ≡ with_registers old (with_cmd_ill (registers_of old))
+StopsAtEntry memory (Some (stands.Command command)) any_in_flight old new =
     (must_wait command any_in_flight ≡ false) × (¬ IsStorable memory (store_of command)) × (new ≡ with_registers old (with_cqmf (registers_of old)))
 
 -- processing had stopped before and nothing changes, or it stops at what stands at the head
-abbrev pub Stops : Bool → List (List ℕ) → Bool → Iommu → Iommu → Type 0
-Stops false memory any_in_flight old new = new ≡ old
-Stops true memory any_in_flight old new = StopsAt memory (head_entry memory (registers_of old)) any_in_flight old new
+abbrev pub StopsFetching : Bool → List (List ℕ) → Bool → Iommu → Iommu → Type 0
+StopsFetching false memory any_in_flight old new = new ≡ old
+StopsFetching true memory any_in_flight old new = StopsAtEntry memory (head_entry memory (registers_of old)) any_in_flight old new
 
 -- THE RELATION of a fetch, by its answer: memory and IOMMU before, whether an access is in flight, the answer, memory and IOMMU after
-abbrev pub Fetches : List (List ℕ) → Iommu → Bool → Fetched → List (List ℕ) → Iommu → Type 0
-Fetches memory iommu any_in_flight (Did command) new_memory new_iommu =
+abbrev pub FetchesCommand : List (List ℕ) → Iommu → Bool → Fetched → List (List ℕ) → Iommu → Type 0
+FetchesCommand memory iommu any_in_flight (Did command) new_memory new_iommu =
     (is_processing_commands (registers_of iommu) ≡ true)
     × (head_entry memory (registers_of iommu) ≡ Some (stands.Command command))
     × (must_wait command any_in_flight ≡ false)
     × IsStorable memory (store_of command)
     × (new_memory ≡ with_store memory (store_of command))
     × (new_iommu ≡ with_registers iommu (with_done (registers_of iommu) command))
-Fetches memory iommu any_in_flight Waiting new_memory new_iommu =
+FetchesCommand memory iommu any_in_flight Waiting new_memory new_iommu =
     (is_processing_commands (registers_of iommu) ≡ true)
     × WaitsAt (head_entry memory (registers_of iommu)) any_in_flight
     × (new_memory ≡ memory) × (new_iommu ≡ iommu)
-Fetches memory iommu any_in_flight Empty new_memory new_iommu =
+FetchesCommand memory iommu any_in_flight Empty new_memory new_iommu =
     (is_processing_commands (registers_of iommu) ≡ true)
     × (head_entry memory (registers_of iommu) ≡ None)
     × (new_memory ≡ memory) × (new_iommu ≡ iommu)
-Fetches memory iommu any_in_flight Stopped new_memory new_iommu =
-    Stops (is_processing_commands (registers_of iommu)) memory any_in_flight iommu new_iommu
+FetchesCommand memory iommu any_in_flight Stopped new_memory new_iommu =
+    StopsFetching (is_processing_commands (registers_of iommu)) memory any_in_flight iommu new_iommu
     × (new_memory ≡ memory)

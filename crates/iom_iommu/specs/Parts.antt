@@ -3,7 +3,7 @@ use Rattle.std.specs.Prelude.{ℕ}
 use Rattle.iom_registers.specs.declared.register.Register.{Register}
 use Rattle.iom_registers.specs.declared.registers.Registers.{Registers}
 use Rattle.iom_registers.specs.declared.mmio.Mmio.{Ghosts}
-use Rattle.iom_registers.specs.Table.{written, at_power_on as registers_at_power_on}
+use Rattle.iom_registers.specs.Table.{written, at_power_on}
 use Rattle.iom_iommu.specs.declared.iommu.Iommu.{Iommu}
 
 abbrev pub registers_of : Iommu → Registers
@@ -13,8 +13,8 @@ registers_of iommu = iommu.registers
 abbrev pub with_registers : Iommu → Registers → Iommu
 with_registers iommu registers = record iommu { registers = registers }
 
-abbrev pub at_power_on : Iommu
-at_power_on = record { registers = registers_at_power_on }
+abbrev pub iommu_at_power_on : Iommu
+iommu_at_power_on = record { registers = at_power_on }
 
 -- the whole of it after a write of a register
 abbrev pub after_write : Iommu → Register → ℕ → Iommu

@@ -2,7 +2,7 @@
 ghost use Rattle.std.specs.Prelude.{◌≡◌, true, Some};
 ghost use Rattle.iom_registers.specs.Queues.{is_processing_commands};
 ghost use Rattle.iom_iommu.specs.Parts.{registers_of};
-ghost use Rattle.iom_iommu.specs.Fetches.{Fetches, must_wait, store_of, asks_for_interrupt, Stores, head_entry};
+ghost use Rattle.iom_iommu.specs.Fetches.{FetchesCommand, must_wait, store_of, asks_for_interrupt, Stores, head_entry};
 
 use crate::fetched::Fetched;
 use crate::iommu::Iommu;
@@ -63,7 +63,7 @@ impl Iommu {
     /// command sets `cmd_ill`. One that can't load the command, or not store a fence's word, sets `cqmf`.
     /// These two answer `Stopped`, and so does each fetch until software clears the bit.
     pub fn fetch(&mut self, memory: &mut Memory, any_in_flight: bool) -> Fetched
-        ensures { Fetches memory.old self.old any_in_flight result memory.new self.new }
+        ensures { FetchesCommand memory.old self.old any_in_flight result memory.new self.new }
     {
         if !self.registers.is_processing_commands() {
             return Fetched::Stopped;
@@ -86,7 +86,7 @@ impl Iommu {
     fn take(&mut self, memory: &mut Memory, command: Command, any_in_flight: bool) -> Fetched
         requires on { is_processing_commands (registers_of self.old) ≡ true }
         requires stands { head_entry memory.old (registers_of self.old) ≡ Some (QueueEntry.Command command) }
-        ensures { Fetches memory.old self.old any_in_flight result memory.new self.new }
+        ensures { FetchesCommand memory.old self.old any_in_flight result memory.new self.new }
     {
         if must_wait(&command, any_in_flight) {
             return Fetched::Waiting;

@@ -1,5 +1,5 @@
 ghost use Rattle.std.specs.Prelude.{◌≡◌, refl};
-ghost use Rattle.iom_iommu.specs.Parts.{at_power_on, registers_of, after_write};
+ghost use Rattle.iom_iommu.specs.Parts.{iommu_at_power_on, registers_of, after_write};
 
 use iom_registers::{Mmio, RegFault, Register, Registers};
 
@@ -12,7 +12,7 @@ pub struct Iommu {
 impl Iommu {
     /// The IOMMU at power-on.
     pub fn new() -> Iommu
-        ensures { result ≡ at_power_on }
+        ensures { result ≡ iommu_at_power_on }
     {
         Iommu {
             registers: Registers::new(),
