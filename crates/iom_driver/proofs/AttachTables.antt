@@ -1,5 +1,5 @@
 -- The tables of the devices when one more is attached.
-use Rattle.std.proofs.Common.{◌≡◌, ◌≢◌, ◌^◌, ◌<◌, ◌∙◌, inl, inr, ℕ, List, [], ◌∷◌, length, Option, Some, None, option_map, slice_get, slice_set, refl, sym, ap, subst, true, false, not, is_some, is_none, nat_le}
+use Rattle.std.proofs.Common.{◌≡◌, ◌≢◌, ◌<◌, ◌∙◌, inl, inr, ℕ, List, [], ◌∷◌, length, Option, Some, None, option_map, slice_get, slice_set, refl, sym, ap, subst, true, false, nat_le}
 use Rattle.std.proofs.lemmas.Bool.Decides.{eqb_tells}
 use Rattle.std.proofs.lemmas.Bool.{lt-leb}
 use Rattle.iom_base.specs.declared.owner.Owner.{Owner}

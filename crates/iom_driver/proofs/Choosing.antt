@@ -1,5 +1,5 @@
 -- The frames that are chosen for tables: they are free, distinct and as many as are wanted; and where some are chosen, enough are free.
-use Rattle.std.proofs.Common.{suc, zero, ◌≡◌, ◌≢◌, ◌<◌, ◌≤◌, ◌∙◌, ℕ, List, [], ◌∷◌, length, Option, refl, sym, ap, subst, arith, All}
+use Rattle.std.proofs.Common.{suc, zero, ◌≡◌, ◌≢◌, ◌<◌, ℕ, List, [], ◌∷◌, length, Option, refl, ap, arith, All}
 use Rattle.std.specs.List.{AllPairs}
 use Rattle.std.proofs.lemmas.List.Elements.{All-nil, All-cons}
 use Rattle.std.proofs.lemmas.List.Kept.{AllPairs-cons}

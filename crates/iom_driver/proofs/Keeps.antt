@@ -1,6 +1,5 @@
 -- What stays true of a driver by itself at each of its calls.
-use Rattle.std.proofs.Common.{suc, zero, ◌≡◌, ◌≢◌, ◌+◌, ◌-◌, ◌<◌, ◌≤◌, ◌==◌, ◌&&◌, ◌||◌, ◌⊎◌, inl, inr, ◌∙◌, ◌++◌, if◌then◌else◌, ℕ, Bool, true, false, not, nat_le, nat_lt, List, [], ◌∷◌, length, filter, Option, Some, None, option_map, is_some, slice_get, slice_set, refl, sym, ap, subst, arith, length-append, All}
-use Rattle.std.specs.Option.{option_map_or}
+use Rattle.std.proofs.Common.{suc, zero, ◌≡◌, ◌≢◌, ◌+◌, ◌-◌, ◌<◌, ◌≤◌, ◌==◌, ◌&&◌, ◌⊎◌, inl, inr, ◌∙◌, ◌++◌, if◌then◌else◌, ℕ, Bool, true, false, not, List, [], ◌∷◌, length, filter, Option, Some, None, option_map, slice_get, slice_set, refl, sym, ap, subst, arith, length-append, All}
 use Rattle.std.proofs.lemmas.Bool.{false≢true, and_parts, eqb-true, eq-eqb}
 use Rattle.std.proofs.lemmas.Bool.Decides.{eqb_tells}
 use Rattle.std.proofs.lemmas.List.{length-set}
@@ -12,16 +11,16 @@ use Rattle.iom_ledger.specs.declared.ledger.Ledger.{Ledger}
 use Rattle.iom_ledger.specs.Changes.{ShowsGrant, ShowsRelease, IsUnchanged, released_from}
 use Rattle.iom_ledger.specs.Confirmations.{ConfirmsFrom, is_among_next, unless_among}
 use Rattle.iom_ledger.specs.History.{Pair}
-use Rattle.iom_ledger.specs.Shown.{held_in, lingering_in, released_in, pending_in, IsFreeIn}
+use Rattle.iom_ledger.specs.Shown.{held_in, lingering_in, released_in, IsFreeIn}
 use Rattle.iom_table_frames.specs.Marks.{is_marked, IsFreeForTable}
 use Rattle.iom_driver.specs.declared.device.Device.{Device}
 use Rattle.iom_driver.specs.declared.device.FirstStage.{FirstStage}
 use Rattle.iom_driver.specs.Choices.{marked_for}
 use Rattle.iom_driver.specs.Devices.{stage_of, is_plugged, detached, with_stage, IsLowestNumber}
 use Rattle.iom_driver.specs.Layout.{AreFixed}
-use Rattle.iom_driver.specs.Sound.{IsGrant, AreGrants, HoldersAreAttached, HaveNumbers, AreTickets, AreSizes, IsSound, tickets_after}
+use Rattle.iom_driver.specs.Sound.{IsGrant, AreGrants, IsSound, tickets_after}
 use Rattle.iom_driver.proofs.Confirms.{among_yes, among_above}
-use Rattle.iom_driver.proofs.Lists.{get_set_same, get_set_other, get_there, get_within}
+use Rattle.iom_driver.proofs.Lists.{get_set_other, get_there}
 use Rattle.iom_driver.proofs.Marks.{not_among, mark_stays, length-marked_for}
 use Rattle.iom_driver.proofs.Numbers.{numbers_attached}
 use Rattle.iom_driver.proofs.Places.{stage_set, stage_other, stage_plugged, length-with_stage}

@@ -1,15 +1,15 @@
 -- The registers go on to name the driver's ring.
-use Rattle.std.proofs.Common.{◌≡◌, ◌≢◌, ◌+◌, ◌-◌, ◌*◌, ◌/◌, ◌%◌, ◌^◌, ◌<◌, ◌≤◌, ◌∙◌, ℕ, true, false, List, [], length, refl, sym, ap, subst, arith}
+use Rattle.std.proofs.Common.{◌≡◌, ◌+◌, ◌-◌, ◌*◌, ◌/◌, ◌%◌, ◌^◌, ◌≤◌, ◌∙◌, ℕ, true, List, [], refl, sym, arith}
 use Rattle.std.proofs.Math.Nat.{zero-mod}
 use Rattle.iom_command_queue.specs.Waiting.{commands_in}
 use Rattle.iom_command_queue.proofs.Waits.{empty}
 use Rattle.iom_registers.specs.declared.registers.Registers.{Registers}
 use Rattle.iom_registers.specs.declared.register.Register.TheVariants.{Ddtp, Cqb, Cqcsr}
-use Rattle.iom_registers.specs.Fields.{entries, address}
+use Rattle.iom_registers.specs.Fields.{entries}
 use Rattle.iom_registers.specs.Queues.{command_base, command_entries, command_head, command_tail, is_command_queue_on}
 use Rattle.iom_registers.specs.Table.{written}
 use Rattle.iom_driver.specs.Calls.{IsOff}
-use Rattle.iom_driver.specs.Layout.{ddtp_of, cqb_of}
+use Rattle.iom_driver.specs.Layout.{cqb_of}
 use Rattle.iom_driver.specs.Ready.{IsRing}
 
 -- after a start

@@ -1,5 +1,5 @@
 -- The tables of devices while other frames change.
-use Rattle.std.proofs.Common.{◌≡◌, ◌≢◌, ◌-◌, ◌*◌, ◌∙◌, ℕ, List, length, Option, Some, None, option_map, slice_get, refl, sym, ap, subst, [], ◌∷◌, ◌++◌}
+use Rattle.std.proofs.Common.{◌≡◌, ◌≢◌, ◌-◌, ◌*◌, ◌∙◌, ℕ, List, length, Option, Some, option_map, slice_get, refl, sym, ap, subst, [], ◌∷◌, ◌++◌}
 use Rattle.iom_ledger.specs.declared.ledger.Ledger.{Ledger}
 use Rattle.iom_ledger.specs.Shown.{held_in}
 use Rattle.iom_page_table.proofs.Stays.{stays}

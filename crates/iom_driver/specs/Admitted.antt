@@ -1,5 +1,5 @@
 -- What a call has found out when it wasn't refused: for the calls inside this crate alone.
-use Rattle.std.specs.Prelude.{◌≡◌, ℕ, ◌+◌, ◌-◌, ◌<◌, ◌≤◌, ◌^◌, true, false, length, None, Some, IsSome}
+use Rattle.std.specs.Prelude.{◌≡◌, ℕ, ◌+◌, ◌-◌, ◌<◌, ◌≤◌, true, false, length, None, Some, IsSome}
 use Rattle.iom_base.specs.Sizes.{page_limit}
 use Rattle.iom_command_queue.specs.Waiting.{how_many}
 use Rattle.iom_ledger.specs.Pending.{pending_limit}

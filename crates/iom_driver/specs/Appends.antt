@@ -1,5 +1,5 @@
 -- The commands of a release, and what appending them does to memory and to whatever has registers.
-use Rattle.std.specs.Prelude.{◌≡◌, ℕ, ◌++◌, true, false, List, [], ◌∷◌, Option, None, Some}
+use Rattle.std.specs.Prelude.{◌≡◌, ℕ, ◌++◌, true, false, List, [], ◌∷◌, None, Some}
 use Rattle.iom_command_queue.specs.declared.command.Command.{Command}
 use Rattle.iom_command_queue.specs.declared.command.Command.TheVariants.{IotinvalVma, IofenceC}
 use Rattle.iom_command_queue.specs.declared.entry.QueueEntry.TheVariants as stands

@@ -1,5 +1,5 @@
 -- What each call answers, what it leaves, and what stays: over the driver, memory, and whatever has registers.
-use Rattle.std.specs.Prelude.{◌≡◌, ℕ, ◌+◌, ◌-◌, ◌*◌, ◌==◌, min, Bool, true, false, List, [], ◌∷◌, ◌++◌, length, Option, None, Some, Result, Ok, Err, slice_set, if◌then◌else◌}
+use Rattle.std.specs.Prelude.{◌≡◌, ℕ, ◌+◌, ◌-◌, ◌==◌, min, true, false, List, [], ◌∷◌, ◌++◌, length, None, Some, Result, Ok, Err, slice_set, if◌then◌else◌}
 use Rattle.iom_base.specs.GrantRights.{rights_of}
 use Rattle.iom_base.specs.declared.grant_rights.GrantRights.{GrantRights}
 use Rattle.iom_base.specs.declared.owner.Owner.TheVariants.{OneDevice}
@@ -7,7 +7,6 @@ use Rattle.iom_command_queue.specs.Waiting.{commands_in}
 use Rattle.iom_ledger.specs.Changes.{IsUnchanged, ShowsGrant, ShowsRelease}
 use Rattle.iom_ledger.specs.Confirmations.{confirmed_from, ConfirmsFrom}
 use Rattle.iom_ledger.specs.declared.entry.HistoryEntry.TheVariants as entry
-use Rattle.iom_ledger.specs.declared.ledger.Ledger.{Ledger}
 use Rattle.iom_ledger.specs.declared.refusal.Refusal.{Refusal}
 use Rattle.iom_ledger.specs.declared.refusal.Refusal.TheVariants.{NoFrames, Memory}
 use Rattle.iom_ledger.specs.History.{History, confirms}
@@ -20,7 +19,7 @@ use Rattle.iom_registers.specs.declared.mmio.Mmio.{Ghosts}
 use Rattle.iom_registers.specs.declared.register.Register.TheVariants.{Ddtp, Cqb, Cqcsr}
 use Rattle.iom_registers.specs.declared.registers.Registers.{Registers}
 use Rattle.iom_registers.specs.Queues.{command_status, is_command_queue_on}
-use Rattle.iom_table_frames.specs.Marks.{IsFreeForTable, NoneIsFree, IsHighestFree, HasFree, opening_marks, is_marked}
+use Rattle.iom_table_frames.specs.Marks.{NoneIsFree, IsHighestFree, HasFree, opening_marks, is_marked}
 use Rattle.iom_ledger.specs.Shown.{IsFreeIn}
 use Rattle.std.specs.Prelude.{◌<◌}
 use Rattle.iom_driver.specs.declared.answers.Polled.{Polled}

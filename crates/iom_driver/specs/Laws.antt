@@ -1,5 +1,5 @@
 -- What others may do to memory and registers while a driver stays ready.
-use Rattle.std.specs.Prelude.{◌≡◌, ◌≢◌, ℕ, List, Option, Some, length, slice_get}
+use Rattle.std.specs.Prelude.{◌≡◌, ◌≢◌, ℕ, List, Some, length, slice_get}
 use Rattle.iom_base.specs.declared.owner.Owner.{Owner}
 use Rattle.iom_registers.specs.declared.registers.Registers.{Registers}
 use Rattle.iom_registers.specs.Queues.{command_base, command_entries, is_command_queue_on}

@@ -6,7 +6,6 @@
 //! of its own is proved twice.
 #![tactic(auto)]
 
-mod bench;
 #[cfg(test)]
 mod bench;
 #[cfg(test)]

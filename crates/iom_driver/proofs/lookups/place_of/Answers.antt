@@ -1,4 +1,4 @@
-use Rattle.std.proofs.Common.{◌≡◌, ◌∙◌, ℕ, None, get_or, sym, ap, arith, inl, inr}
+use Rattle.std.proofs.Common.{◌∙◌, ℕ, None, get_or, sym, ap, arith, inl, inr}
 use Rattle.std.proofs.lemmas.Bool.Decides.{eqb_tells}
 use Rattle.std.proofs.lemmas.Option.{get_or_from_slice_get}
 use Rattle.iom_driver.specs.declared.device.Device.{Device}

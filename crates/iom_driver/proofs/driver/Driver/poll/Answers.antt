@@ -1,5 +1,4 @@
-use Rattle.std.proofs.Common.{◌≡◌, ◌≤◌, ◌+◌, ◌-◌, min, arith, subst, refl}
-use Rattle.iom_ledger.specs.Confirmations.{ConfirmsFrom}
+use Rattle.std.proofs.Common.{◌≤◌, arith, refl}
 use Rattle.iom_driver.proofs.Keeps.{sound_polled}
 use Rattle.iom_driver.proofs.Stays.{all_stay}
 use Rattle.iom_driver.proofs.driver.Driver.poll.Goals as goal

@@ -1,4 +1,4 @@
-use Rattle.std.proofs.Common.{◌≡◌, ◌≢◌, ◌≤◌, ◌<◌, ◌+◌, ◌-◌, ◌*◌, ◌^◌, ◌∙◌, ℕ, List, Option, Some, None, IsSome, length, refl, sym, ap, subst, arith}
+use Rattle.std.proofs.Common.{◌≡◌, ◌≤◌, ◌<◌, ◌+◌, ◌-◌, ◌∙◌, ℕ, List, Option, Some, None, IsSome, length, refl, sym, ap, subst, arith}
 use Rattle.iom_base.specs.Sizes.{page_limit}
 use Rattle.iom_ledger.specs.Pending.{pending_limit}
 use Rattle.iom_ledger.specs.Shown.{pending_in}

@@ -1,4 +1,4 @@
-use Rattle.std.proofs.Common.{◌≡◌, ◌*◌, ◌/◌, ◌%◌, ◌<◌, ◌≤◌, ◌∙◌, ℕ, List, Option, Some, None, IsSome, OnSome, length, slice_set, refl, sym, ap, subst, arith}
+use Rattle.std.proofs.Common.{◌≡◌, ◌/◌, ◌%◌, ◌<◌, ◌≤◌, ◌∙◌, ℕ, List, Option, Some, None, IsSome, OnSome, length, slice_set, refl, sym, ap, subst, arith}
 use Rattle.std.proofs.lemmas.List.{length-set}
 use Rattle.iom_phys_mem.specs.Words.{zeroed, with_word}
 use Rattle.iom_registers.specs.declared.registers.Registers.{Registers}
