@@ -5,7 +5,7 @@ use Rattle.iom_command_queue.specs.Waiting.{commands_in}
 use Rattle.iom_command_queue.proofs.Waits.{empty}
 use Rattle.iom_registers.specs.declared.registers.Registers.{Registers}
 use Rattle.iom_registers.specs.declared.register.Register.TheVariants.{Ddtp, Cqb, Cqcsr}
-use Rattle.iom_registers.specs.Fields.{entries}
+use Rattle.iom_registers.specs.Fields.{entry_count}
 use Rattle.iom_registers.specs.Queues.{command_base, command_entries, command_head, command_tail, is_command_queue_on}
 use Rattle.iom_registers.specs.Table.{written}
 use Rattle.iom_driver.specs.Calls.{IsOff}
@@ -20,7 +20,7 @@ started_on : (r : Registers) (ddtp cqb : ℕ) → IsOff r → is_command_queue_o
 started_on r ddtp cqb off = rw off.off refl
 
 started_entries : (r : Registers) (ddtp frames : ℕ) → IsOff r → command_entries (started r ddtp (cqb_of frames)) ≡ 256
-unfolding entries
+unfolding entry_count
 started_entries r ddtp frames off =
     let low : cqb_of frames / 2 ^ 0 % 2 ^ (4 + 1 - 0) ≡ 7 = omega arith in
     rw off.off (rw low refl)
