@@ -25,6 +25,7 @@ use Rattle.iom_base.specs.declared.owner.Owner.TheVariants.{OneDevice}
 use Rattle.iom_table_frames.specs.Marks.{IsFreeForTable, is_marked}
 use Rattle.iom_driver.specs.declared.device.Device.{Device}
 use Rattle.iom_driver.specs.declared.device.FirstStage.{FirstStage}
+use Rattle.iom_driver.specs.Calls.{KeepsOthers}
 use Rattle.iom_driver.specs.Choices.{marked_for, cleared}
 use Rattle.iom_driver.specs.Devices.{stage_of}
 use Rattle.iom_driver.specs.Tables.{AreTablesOf, HaveTables, leaf_for}
@@ -126,6 +127,16 @@ pub mapped_others : (memory memory' : List (List ℕ)) (marks : List (Option Own
     → (slice_get (marked_for id chosen marks) n ≡ Some (Some (OneDevice id)) → ⊥) → slice_get memory' n ≡ slice_get (cleared chosen memory) n
 mapped_others memory memory' marks ledger id root page named count n leaf chosen long tables chose mapped differs =
     mapped.outside n (λ at. differs (mapped_own memory memory' marks ledger id root page named count leaf chosen long tables chose mapped n at))
+
+-- each frame that isn't the device's afterwards keeps its bytes
+pub others_kept : (memory memory' : List (List ℕ)) (marks : List (Option Owner)) (ledger : Ledger) (id root page named count : ℕ) (leaf : PageLeaf) (chosen : List ℕ) → length marks ≡ length memory → AreTablesOf memory marks ledger id root
+    → AreChosen marks ledger (Some named) (length memory) count chosen → IsMapped (cleared chosen memory) memory' root page leaf chosen
+    → KeepsOthers (marked_for id chosen marks) id memory memory'
+others_kept memory memory' marks ledger id root page named count leaf chosen long tables chose mapped f differs =
+    let inside : All (λ n. n < length marks) chosen = λ k d lt. subst (λ n. get_or chosen k d < n) (sym long) (chose.inside k d lt) in
+    mapped_others memory memory' marks ledger id root page named count f leaf chosen long tables chose mapped differs
+    ∙ bytes_stay f chosen memory (not_among (λ n. slice_get (marked_for id chosen marks) n ≡ Some (Some (OneDevice id))) f chosen
+    (λ k d lt. marked_among id (get_or chosen k d) chosen marks inside (among_get chosen k d lt)) differs)
 
 -- a frame that is somebody's isn't chosen
 not_chosen : (memory : List (List ℕ)) (marks : List (Option Owner)) (ledger : Ledger) (named count n : ℕ) (chosen : List ℕ) (owner : Owner) → length marks ≡ length memory

@@ -26,7 +26,8 @@ pub record IsUnmapped (memory memory' : List (List ℕ)) (root page : ℕ) : Typ
   pub outside : KeepsOutside memory memory' root
   pub size : length memory' ≡ length memory
 
-other_frame : (memory memory' : List (List ℕ)) (root page f : ℕ) → IsUnmapped memory memory' root page → (HasTable memory root f → ⊥) → slice_get memory' f ≡ slice_get memory f
+-- a frame that holds none of its tables keeps its bytes
+pub other_frame : (memory memory' : List (List ℕ)) (root page f : ℕ) → IsUnmapped memory memory' root page → (HasTable memory root f → ⊥) → slice_get memory' f ≡ slice_get memory f
 other_frame memory memory' root page f unmapped other = unmapped.outside f (λ at. other ((unmapped.tables f).0 at))
 
 -- the tables of the device

@@ -1,7 +1,8 @@
 -- What each call answers, what it leaves, and what stays: over the driver, memory, and whatever has registers.
-use Rattle.std.specs.Prelude.{◌≡◌, ℕ, ◌+◌, ◌-◌, ◌==◌, min, true, false, List, [], ◌∷◌, ◌++◌, length, None, Some, Result, Ok, Err, slice_set, if◌then◌else◌}
+use Rattle.std.specs.Prelude.{◌≡◌, ◌≢◌, ℕ, ◌+◌, ◌-◌, ◌<◌, ◌==◌, min, true, false, List, [], ◌∷◌, ◌++◌, length, None, Some, Result, Ok, Err, Option, slice_get, slice_set, if◌then◌else◌}
 use Rattle.iom_base.specs.GrantRights.{rights_of}
 use Rattle.iom_base.specs.declared.grant_rights.GrantRights.{GrantRights}
+use Rattle.iom_base.specs.declared.owner.Owner.{Owner}
 use Rattle.iom_base.specs.declared.owner.Owner.TheVariants.{OneDevice}
 use Rattle.iom_command_queue.specs.Waiting.{commands_in}
 use Rattle.iom_ledger.specs.Changes.{IsUnchanged, ShowsGrant, ShowsRelease}
@@ -11,7 +12,6 @@ use Rattle.iom_ledger.specs.declared.refusal.Refusal.{Refusal}
 use Rattle.iom_ledger.specs.declared.refusal.Refusal.TheVariants.{NoFrames, Memory}
 use Rattle.iom_ledger.specs.History.{History, confirms}
 use Rattle.iom_ledger.specs.Refusals.{first_that_applies, NoneApplies, IsRefusedBy}
-use Rattle.iom_ledger.specs.Shown.{Agrees}
 use Rattle.iom_page_table.specs.declared.leaf.PageLeaf.{PageLeaf}
 use Rattle.iom_page_table.specs.Sv39.{missing_for, mapped, unmapped}
 use Rattle.iom_phys_mem.specs.Words.{word_at, with_word, zeroed}
@@ -20,15 +20,14 @@ use Rattle.iom_registers.specs.declared.register.Register.TheVariants.{Ddtp, Cqb
 use Rattle.iom_registers.specs.declared.registers.Registers.{Registers}
 use Rattle.iom_registers.specs.Queues.{command_status, is_command_queue_on}
 use Rattle.iom_table_frames.specs.Marks.{NoneIsFree, IsHighestFree, HasFree, opening_marks, is_marked}
-use Rattle.iom_ledger.specs.Shown.{IsFreeIn}
-use Rattle.std.specs.Prelude.{◌<◌}
+use Rattle.iom_ledger.specs.Shown.{Agrees, IsFreeIn}
 use Rattle.iom_driver.specs.declared.answers.Polled.{Polled}
 use Rattle.iom_driver.specs.declared.answers.Ticket.{Ticket}
 use Rattle.iom_driver.specs.declared.device.FirstStage.{FirstStage}
 use Rattle.iom_driver.specs.Appends.{invalidation, fence, AppendsTwo}
 use Rattle.iom_driver.specs.Choices.{AreHighestFree, marked_for, cleared}
 use Rattle.iom_driver.specs.Devices.{stage_of, detached, with_stage, IsLowestNumber}
-use Rattle.iom_driver.specs.Layout.{directory_frame, completion_address, ddtp_of, cqb_of}
+use Rattle.iom_driver.specs.Layout.{command_frame, directory_frame, completion_address, ddtp_of, cqb_of}
 use Rattle.iom_driver.specs.Reasons.{plug_reasons, attach_reasons, grant_reasons, release_reasons, poll_reasons}
 use Rattle.iom_driver.specs.State.{DriverState}
 
@@ -82,8 +81,13 @@ pub record IsSame (d d' : DriverState) : Type 0 where
 abbrev pub granted_leaf : ℕ → GrantRights → PageLeaf
 granted_leaf frame rights = record { frame = frame; rights = rights_of rights }
 
+-- each frame that isn't the device's has the bytes that it had
+abbrev pub KeepsOthers : List (Option Owner) → ℕ → List (List ℕ) → List (List ℕ) → Type 0
+KeepsOthers marks id memory memory' = (f : ℕ) → slice_get marks f ≢ Some (Some (OneDevice id)) → slice_get memory' f ≡ slice_get memory f
+
 -- The tables that the page lacks take the highest free frames, the granted one passed over, and they are the device's; memory is what it was, but that
--- these frames are zero, and then hang on the page's path, from the root down, with the page's leaf. The ledger has the grant.
+-- these frames are zero, and then hang on the page's path, from the root down, with the page's leaf: no frame but the device's changes. The ledger has
+-- the grant.
 pub record TakesTables (d : DriverState) (memory : List (List ℕ)) (id page frame : ℕ) (rights : GrantRights) (d' : DriverState) (memory' : List (List ℕ)) : Type 0 where
   pub stage : FirstStage
   pub attached : stage_of d.devices id ≡ Some stage
@@ -93,6 +97,7 @@ pub record TakesTables (d : DriverState) (memory : List (List ℕ)) (id page fra
   pub agrees : (h : History) → Agrees d.ledger h → Agrees d'.ledger (entry.Granted id page frame (rights_of rights) ∷ h)
   pub driver : d' ≡ record d { ledger = d'.ledger; marks = marked_for id tables d.marks }
   pub bytes : memory' ≡ mapped (cleared tables memory) stage.root page (granted_leaf frame rights) tables
+  pub others : KeepsOthers d'.marks id memory memory'
 
 -- the frames that are free besides the granted one are enough for the tables that the page lacks
 pub record HasFrames (d : DriverState) (memory : List (List ℕ)) (id page frame : ℕ) : Type 0 where
@@ -112,7 +117,8 @@ Grants d memory id page frame rights (Ok done) d' memory' = NoneApplies (grant_r
 Grants d memory id page frame rights (Err why) d' memory' =
     IsRefusedBy (grant_reasons d id page frame) (LacksTables d memory id page frame) why × IsSame d d' × (memory' ≡ memory)
 
--- The next ticket is given; the page's leaf is cleared; an invalidation of the page and the ticket's fence are appended. The ledger has the release.
+-- The next ticket is given; the page's leaf is cleared; an invalidation of the page and the ticket's fence are appended: no frame but the device's and
+-- the ring's changes. The ledger has the release.
 pub record QueuesRelease {M : Type 0} (g : Ghosts M) (d : DriverState) (memory : List (List ℕ)) (io : M) (id page ticket : ℕ) (d' : DriverState) (memory' : List (List ℕ)) (io' : M) : Type 0 where
   pub stage : FirstStage
   pub attached : stage_of d.devices id ≡ Some stage
@@ -121,6 +127,7 @@ pub record QueuesRelease {M : Type 0} (g : Ghosts M) (d : DriverState) (memory :
   pub agrees : (h : History) → Agrees d.ledger h → confirms h ticket ≡ false → Agrees d'.ledger (entry.Released id page ticket ∷ h)
   pub driver : d' ≡ record d { ledger = d'.ledger; given = ticket }
   pub queued : AppendsTwo g (unmapped memory stage.root page) io (invalidation stage.number page) (fence (completion_address (length memory)) ticket) memory' io'
+  pub others : (f : ℕ) → slice_get d.marks f ≢ Some (Some (OneDevice id)) → f ≢ command_frame (length memory) → slice_get memory' f ≡ slice_get memory f
 
 -- RELEASE
 abbrev pub Releases : {M : Type 0} → Ghosts M → DriverState → List (List ℕ) → M → ℕ → ℕ → Result Ticket Refusal → DriverState → List (List ℕ) → M → Type 0

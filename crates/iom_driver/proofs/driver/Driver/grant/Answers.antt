@@ -10,13 +10,13 @@ use Rattle.iom_ledger.specs.History.{History}
 use Rattle.iom_ledger.specs.Shown.{Agrees}
 use Rattle.iom_page_table.specs.declared.leaf.PageLeaf.{PageLeaf}
 use Rattle.iom_page_table.specs.Sv39.{missing_for, mapped}
-use Rattle.iom_driver.specs.Calls.{granted_leaf}
+use Rattle.iom_driver.specs.Calls.{granted_leaf, KeepsOthers}
 use Rattle.iom_driver.specs.Choices.{AreHighestFree, marked_for, cleared}
 use Rattle.iom_driver.specs.Seen.{state_of}
 use Rattle.iom_driver.specs.Sound.{IsSound}
 use Rattle.iom_driver.specs.Tables.{HaveTables}
 use Rattle.iom_driver.proofs.Choosing.{AreChosen, are_chosen}
-use Rattle.iom_driver.proofs.GrantTables.{may_be_mapped, IsMapped, mapped_is, tables_granted}
+use Rattle.iom_driver.proofs.GrantTables.{may_be_mapped, IsMapped, mapped_is, others_kept, tables_granted}
 use Rattle.iom_driver.proofs.Keeps.{unmarked, sound_granted}
 use Rattle.iom_driver.proofs.Marks.{length-cleared, length-marked_for}
 use Rattle.iom_driver.proofs.Stays.{all_stay, ready_from}
@@ -127,6 +127,21 @@ returns-clause-effect c =
         bytes = mapped_is memory c.reserve_all.new.memory c.map.new.memory root c.args.page (record { frame = c.args.frame; rights = c.rights-rights.result }) (granted_leaf c.args.frame c.args.rights)
             c.as_slice.result.now c.as_slice-2.result.now tables c.map.ensures.whole c.reserve_all.ensures.memory c.as_slice.ensures.value c.as_slice-2.ensures.value
             (ap (λ (r : Rights). granted_with c.args.frame r) right);
+        others =
+            let leaf : PageLeaf = record { frame = c.args.frame; rights = c.rights-rights.result } in
+            let mapped = mapped_as memory c.reserve_all.new.memory c.map.new.memory root c.args.page leaf c.as_slice.result.now c.as_slice-2.result.now tables
+            c.reserve_all.ensures.memory c.as_slice.ensures.value c.as_slice-2.ensures.value record {
+              tree = c.map.ensures.tree;
+              tables = c.map.ensures.tables;
+              leaf = c.map.ensures.leaf;
+              outside = c.map.ensures.outside;
+              size = c.map.ensures.size;
+            } in
+            subst (λ (ms : List (Option Owner)). KeepsOthers ms c.args.id memory c.map.new.memory)
+            (sym (c.reserve_all.ensures.marks ∙ ap (λ fs. marked_for c.args.id fs driver.marks) c.as_slice.ensures.value))
+            (others_kept memory c.map.new.memory driver.marks driver.ledger c.args.id root c.args.page c.args.frame c.missing-lacking.result leaf tables (sym c.requires.stand.size)
+            (c.requires.stand.tables c.args.id c.in-Ok.stage c.in-Ok.ensures.may.attached)
+            (chosen_below driver.marks driver.ledger c.args.frame driver.frames c.missing-lacking.result tables memory many c.in-Some.ensures.chosen) mapped);
       },
     )
   where

@@ -2,9 +2,10 @@ use Rattle.std.proofs.Common.{◌≡◌, ◌≤◌, ◌<◌, ◌+◌, ◌-◌, �
 use Rattle.iom_base.specs.Sizes.{page_limit}
 use Rattle.iom_ledger.specs.Pending.{pending_limit}
 use Rattle.iom_ledger.specs.Shown.{pending_in}
+use Rattle.iom_driver.specs.Layout.{command_frame}
 use Rattle.iom_driver.specs.Ready.{IsRing}
 use Rattle.iom_driver.proofs.Keeps.{length-tickets_after, sound_released}
-use Rattle.iom_driver.proofs.ReleaseTables.{IsUnmapped, tables_released}
+use Rattle.iom_driver.proofs.ReleaseTables.{IsUnmapped, other_frame, tables_released}
 use Rattle.iom_driver.proofs.Stays.{all_stay, of_one}
 use Rattle.iom_driver.proofs.driver.Driver.release.Goals as goal
 
@@ -45,6 +46,35 @@ invalidation-requires-clause-page g c =
     let held = there _ c.in-Ok.ensures.may.held in
     let low : c.args.page < page_limit = (c.args.self.now.sound.grants.held c.args.id c.args.page held.0.0 held.0.1 held.1).page_low in
     omega arith
+
+pub returns-clause-effect : goal.returns-clause-effect
+returns-clause-effect g c =
+    let driver = c.args.self.now in
+    let memory = c.args.memory.now in
+    let stand = c.requires.ready.stand in
+    let unmapped_so : IsUnmapped memory c.unmap.new.memory c.in-Ok.stage.root c.args.page = record {
+      tree = c.unmap.ensures.tree;
+      tables = c.unmap.ensures.tables;
+      leaf = c.unmap.ensures.leaf;
+      outside = c.unmap.ensures.outside;
+      size = c.unmap.ensures.size;
+    } in
+    let many : length memory ≡ driver.frames = stand.size ∙ driver.sound.sizes.marked in
+    let tables = stand.tables c.args.id c.in-Ok.stage c.in-Ok.ensures.may.attached in (
+      c.in-Ok.ensures.admitted,
+      record {
+        stage = c.in-Ok.stage;
+        attached = c.in-Ok.ensures.may.attached;
+        next = refl;
+        shown = c.release.ensures.released;
+        agrees = c.release.ensures.agrees;
+        driver = refl;
+        queued = rw (many, sym c.unmap.ensures.whole, sym c.invalidation.ensures) c.append_release.ensures.appended;
+        others = λ f differs apart.
+            c.append_release.ensures.other_frames f (λ same. apart (same ∙ ap command_frame (sym many)))
+            ∙ other_frame memory c.unmap.new.memory c.in-Ok.stage.root c.args.page f unmapped_so (λ at. differs (tables.own f at));
+      },
+    )
 
 pub returns-clause-ready : goal.returns-clause-ready
 returns-clause-ready g c =
