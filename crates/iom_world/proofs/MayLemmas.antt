@@ -8,6 +8,7 @@ use Rattle.iom_base.specs.Rights.{allows}
 use Rattle.iom_ledger.specs.declared.ledger.Ledger.{Ledger}
 use Rattle.iom_ledger.specs.History.{History, Pair, Holds, Lingers, May, serves}
 use Rattle.iom_ledger.specs.Shown.{Agrees, AgreesAt, held_in, released_in}
+use Rattle.iom_driver.specs.declared.device.Device as driver
 use Rattle.iom_machine.specs.declared.state.Device as machine
 use Rattle.iom_base.specs.declared.access.AcceptedAccess.{AcceptedAccess}
 use Rattle.iom_world.specs.declared.device.Device.{Device}
@@ -62,10 +63,10 @@ flights_may ledger h completed device (flight ∷ later) agrees covered =
     (May-covered ledger h completed device flight agrees (covered 0 flight refl))
     (flights_may ledger h completed device later agrees (λ k f at. covered (suc k) f at))
 
-pub each_may : (ledger : Ledger) (h : History) (completed events : ℕ) (devices : List Device) → Agrees ledger h → AreSoundDevices ledger completed events devices
-    → All (λ (device : machine.Device). All (λ (flight : AcceptedAccess). May h device.id flight.frame flight.access.kind) device.in_flight) (shown_devices devices)
-each_may ledger h completed events [] agrees each = All-nil (λ (device : machine.Device). All (λ (flight : AcceptedAccess). May h device.id flight.frame flight.access.kind) device.in_flight)
-each_may ledger h completed events (device ∷ others) agrees each =
-    All-cons (λ (device : machine.Device). All (λ (flight : AcceptedAccess). May h device.id flight.frame flight.access.kind) device.in_flight) (shown_device device) (shown_devices others)
+pub each_may : (known : List driver.Device) (ledger : Ledger) (h : History) (completed events : ℕ) (devices : List Device) → Agrees ledger h → AreSoundDevices ledger completed events devices
+    → All (λ (device : machine.Device). All (λ (flight : AcceptedAccess). May h device.id flight.frame flight.access.kind) device.in_flight) (shown_devices known devices)
+each_may known ledger h completed events [] agrees each = All-nil (λ (device : machine.Device). All (λ (flight : AcceptedAccess). May h device.id flight.frame flight.access.kind) device.in_flight)
+each_may known ledger h completed events (device ∷ others) agrees each =
+    All-cons (λ (device : machine.Device). All (λ (flight : AcceptedAccess). May h device.id flight.frame flight.access.kind) device.in_flight) (shown_device known device) (shown_devices known others)
     (flights_may ledger h completed device.id device.in_flight agrees (each 0 device refl).covered)
-    (each_may ledger h completed events others agrees (λ k d at. each (suc k) d at))
+    (each_may known ledger h completed events others agrees (λ k d at. each (suc k) d at))

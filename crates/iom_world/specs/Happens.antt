@@ -1,24 +1,34 @@
 -- What an event does to a world, and what comes of it.
-use Rattle.std.specs.Prelude.{◌≡◌, ◌↔◌, ◌+◌, Bool, IsTrue}
+use Rattle.std.specs.Prelude.{◌≡◌, ◌+◌}
+use Rattle.iom_ledger.specs.Changes.{IsUnchanged}
+use Rattle.iom_ledger.specs.declared.refusal.Refusal.{Refusal}
 use Rattle.iom_machine.specs.declared.event.Event.{Event}
 use Rattle.iom_machine.specs.declared.outcome.Outcome.{Outcome}
+use Rattle.iom_machine.specs.declared.outcome.Outcome.TheVariants.{Refused}
 use Rattle.iom_machine.specs.declared.state.State.{State}
 use Rattle.iom_machine.specs.Machine.{Step}
 use Rattle.iom_world.specs.declared.world.World.{World}
-use Rattle.iom_world.specs.Parts.{parts_of}
-use Rattle.iom_world.specs.Places.{SomeInFlight}
-use Rattle.iom_world.specs.Roots.{KeepsRoots}
+use Rattle.iom_world.specs.Does.{Does}
+use Rattle.iom_world.specs.Parts.{Parts}
+use Rattle.iom_world.specs.Seen.{parts_of}
 use Rattle.iom_world.specs.Shows.{Shows}
-use Rattle.iom_world.specs.Unseen.{AfterEvent, TakesFrames, AnswersRequest, SameIfRefused}
 
--- An event that is answered so. It is a lawful step of the ledger machine, from every state that the world shows. What that machine doesn't see: what the
--- event does to the commands, by whether an access is in flight; which frames it takes for tables, and what it writes there; that each device keeps its
--- root; that a request is accepted only to what is held; that a refusal changes nothing; and that the event is counted.
+-- all is the same but what room the driver's ledger has
+pub record IsSame (old new : Parts) : Type 0 where
+  pub memory : new.memory ≡ old.memory
+  pub iommu : new.iommu ≡ old.iommu
+  pub devices : new.devices ≡ old.devices
+  pub ledger : IsUnchanged old.driver.ledger new.driver.ledger
+  pub driver : new.driver ≡ record old.driver { ledger = new.driver.ledger }
+
+-- a refusal changes nothing
+abbrev pub SameIfRefused : Outcome → Parts → Parts → Type 0
+SameIfRefused told old new = (why : Refusal) → told ≡ Refused why → IsSame old new
+
+-- An event that is answered so. It is a lawful step of the ledger machine, from every state that the world shows, to one that it shows then. It does to
+-- memory, IOMMU, driver and devices what the call behind it says. A refusal changes nothing. And the event is counted.
 pub record Happens (old : World) (event : Event) (told : Outcome) (new : World) : Type 0 where
   pub step : (state : State) → Shows old state → (next : State) × Step state event told next × Shows new next
-  pub queue : (in_flight : Bool) → (IsTrue in_flight ↔ SomeInFlight old.devices.items) → AfterEvent event in_flight old.commands told new.commands
-  pub frames : TakesFrames event (parts_of old) told (parts_of new)
-  pub roots : KeepsRoots event old.devices.items new.devices.items
-  pub requests : AnswersRequest event old.ledger told
-  pub refused : SameIfRefused told old new
+  pub does : Does (parts_of old) event told (parts_of new)
+  pub refused : SameIfRefused told (parts_of old) (parts_of new)
   pub events : new.events ≡ old.events + 1

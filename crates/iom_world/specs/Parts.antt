@@ -1,17 +1,12 @@
--- The parts of a world that tables lie in, and that decide which frames they take.
-use Rattle.std.specs.Prelude.{ℕ, List, Option}
-use Rattle.iom_base.specs.declared.owner.Owner.{Owner}
-use Rattle.iom_ledger.specs.declared.ledger.Ledger.{Ledger}
+-- The parts of a world: what each call of driver, IOMMU and devices speaks of.
+use Rattle.std.specs.Prelude.{ℕ, List}
+use Rattle.iom_driver.specs.State.{DriverState}
+use Rattle.iom_iommu.specs.declared.iommu.Iommu.{Iommu}
 use Rattle.iom_world.specs.declared.device.Device.{Device}
-use Rattle.iom_world.specs.declared.world.World.{World}
 
--- the bytes of each frame, and whose it is; what is held and what lingers; and the devices with their roots
+-- the bytes of each frame, the IOMMU, what the driver knows, and the devices in the order of plugging
 pub record Parts : Type 0 where
   pub memory : List (List ℕ)
-  pub marks : List (Option Owner)
-  pub ledger : Ledger
+  pub iommu : Iommu
+  pub driver : DriverState
   pub devices : List Device
-
--- those of a world
-abbrev pub parts_of : World → Parts
-parts_of world = record { memory = world.memory; marks = world.marks; ledger = world.ledger; devices = world.devices.items }

@@ -16,10 +16,6 @@ IsPlaceOf devices id place =
 abbrev pub SomeInFlight : List Device → Type 0
 SomeInFlight devices = (k : ℕ) × (device : Device) × (slice_get devices k ≡ Some device) × (0 < length device.in_flight)
 
--- the device that stands here has its tables' root in this frame
-abbrev pub IsRootAt : List Device → ℕ → ℕ → Type 0
-IsRootAt devices place root = (device : Device) × (slice_get devices place ≡ Some device) × (device.root ≡ Some root)
-
 -- fewer accesses of each device were ever accepted than this number
 abbrev pub CountsBelow : List Device → ℕ → Type 0
 CountsBelow devices events = (k : ℕ) (device : Device) → slice_get devices k ≡ Some device → device.accepted < events

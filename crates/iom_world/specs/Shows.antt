@@ -7,15 +7,21 @@ use Rattle.iom_machine.specs.Tickets.{last_confirmed}
 use Rattle.iom_world.specs.declared.world.World.{World}
 use Rattle.iom_world.specs.Devices.{shown_devices}
 use Rattle.iom_world.specs.Frames.{ShowsFrames}
+use Rattle.iom_world.specs.Parts.{Parts}
+use Rattle.iom_world.specs.Seen.{parts_of}
 
--- the ledger agrees with the history; the same frames are reserved, for the same owners, and all others have the same bytes; the devices are the same,
--- with what they have in flight; the last tickets given and confirmed are the same, and none after that is confirmed; and the directory has as many
+-- the driver's ledger agrees with the history; the same frames are reserved, for the same owners, and all others have the same bytes; the devices are the
+-- same, with what they have in flight; the last tickets given and confirmed are the same, and none after that is confirmed; and the directory has as many
 -- levels
-pub record Shows (world : World) (state : State) : Type 0 where
-  pub ledger : Agrees world.ledger state.history
-  pub frames : ShowsFrames world.memory world.marks state.frames
-  pub devices : state.devices ≡ shown_devices world.devices.items
-  pub given : state.last_ticket ≡ world.commands.given
-  pub confirmed : last_confirmed state.history ≡ world.commands.confirmed
-  pub none_later : (ticket : ℕ) → world.commands.confirmed < ticket → confirms state.history ticket ≡ false
-  pub levels : state.levels ≡ world.levels
+pub record PartsShow (parts : Parts) (state : State) : Type 0 where
+  pub ledger : Agrees parts.driver.ledger state.history
+  pub frames : ShowsFrames parts.memory parts.driver.marks state.frames
+  pub devices : state.devices ≡ shown_devices parts.driver.devices parts.devices
+  pub given : state.last_ticket ≡ parts.driver.given
+  pub confirmed : last_confirmed state.history ≡ parts.driver.confirmed
+  pub none_later : (ticket : ℕ) → parts.driver.confirmed < ticket → confirms state.history ticket ≡ false
+  pub levels : state.levels ≡ parts.driver.levels
+
+-- a world does by its parts
+abbrev pub Shows : World → State → Type 0
+Shows world state = PartsShow (parts_of world) state

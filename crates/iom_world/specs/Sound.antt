@@ -1,19 +1,32 @@
--- What holds between the parts of a world, whatever events came.
--- For the facts that a world carries alone; no public contract cites this.
-use Rattle.std.specs.Prelude.{◌≡◌, ℕ, ◌-◌, ◌≤◌, List, length, Option}
-use Rattle.iom_base.specs.Sizes.{device_limit}
-use Rattle.iom_ledger.specs.declared.ledger.Ledger.{Ledger}
-use Rattle.iom_ledger.specs.Shown.{pending_in}
-use Rattle.iom_base.specs.declared.owner.Owner.{Owner}
+-- What stays true between the parts of a world, whatever happens.
+-- For the facts that a world carries alone; no public contract cites these.
+use Rattle.std.specs.Prelude.{◌≡◌, ℕ, ◌≤◌, true, List, length}
+use Rattle.iom_command_queue.specs.Waiting.{commands_in}
+use Rattle.iom_driver.specs.declared.driver.Driver.{Driver}
+use Rattle.iom_driver.specs.Layout.{completion_address}
+use Rattle.iom_driver.specs.Ready.{IsReady}
+use Rattle.iom_driver.specs.Seen.{state_of}
+use Rattle.iom_iommu.specs.declared.iommu.Iommu.{Iommu}
+use Rattle.iom_iommu.specs.Parts.{registers_of}
+use Rattle.iom_registers.specs.Queues.{is_processing_commands}
 use Rattle.iom_world.specs.declared.device.Device.{Device}
-use Rattle.iom_world.specs.Facts.{AreGrants, AreSoundDevices, HaveOwnIds, HoldersArePlugged, tickets_after}
-use Rattle.iom_world.specs.Queue.{Queue}
+use Rattle.iom_world.specs.Commands.{completed_in, FencesFollow}
+use Rattle.iom_world.specs.Facts.{AreSoundDevices, HaveOwnIds, AreKnown}
+use Rattle.iom_world.specs.Parts.{Parts}
 
-pub record IsSound (memory : List (List ℕ)) (marks : List (Option Owner)) (ledger : Ledger) (devices : List Device) (queue : Queue) (events : ℕ) : Type 0 where
-  pub marked : length marks ≡ length memory
-  pub grants : AreGrants marks ledger
-  pub each : AreSoundDevices ledger queue.completed events devices
-  pub own_ids : HaveOwnIds devices
-  pub holders : HoldersArePlugged ledger devices
-  pub pending : pending_in ledger ≡ tickets_after queue.confirmed (queue.given - queue.confirmed)
-  pub few : length devices ≤ device_limit
+-- the driver is started and ready; the IOMMU takes commands; the driver knows the devices, which have ids of their own; fences wait in order, and only
+-- tickets whose fences are done are confirmed; and each access in flight is one of what is held, or was released under a ticket whose fence isn't done
+pub record IsSound (parts : Parts) (events : ℕ) : Type 0 where
+  pub ready : IsReady parts.driver parts.memory (registers_of parts.iommu)
+  pub started : parts.driver.started ≡ true
+  pub processing : is_processing_commands (registers_of parts.iommu) ≡ true
+  pub known : AreKnown parts.driver.devices parts.devices
+  pub own_ids : HaveOwnIds parts.devices
+  pub commands : FencesFollow (completion_address (length parts.memory)) (completed_in parts.memory) (commands_in parts.memory (registers_of parts.iommu)) parts.driver.given
+  pub confirmed : parts.driver.confirmed ≤ completed_in parts.memory
+  pub each : AreSoundDevices parts.driver.ledger (completed_in parts.memory) events parts.devices
+
+-- a world of these parts is so
+abbrev pub IsSoundWorld : List (List ℕ) → Iommu → Driver → List Device → ℕ → Type 0
+IsSoundWorld memory iommu driver devices events =
+    IsSound (record { memory = memory; iommu = iommu; driver = state_of driver; devices = devices }) events

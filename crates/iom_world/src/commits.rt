@@ -1,19 +1,12 @@
 // What becomes of an access in flight: it is made, on the frame that it was translated to.
-ghost use Rattle.std.specs.Prelude.{◌≡◌, ℕ, ◌+◌, ◌≤◌, List, length, drop, IsSomeAnd, Some, slice_get};
+ghost use Rattle.std.specs.Prelude.{◌≡◌, ◌+◌, ◌≤◌, length, IsSomeAnd, slice_get};
 ghost use Rattle.iom_base.specs.Bytes.{with_bytes};
 ghost use Rattle.iom_base.specs.declared.access.AccessKind.TheVariants.{Read, Write};
 ghost use Rattle.iom_inflight.specs.Oldest.{OldestIsRead, OldestWrites};
-ghost use Rattle.iom_machine.specs.declared.state.State.{State};
-ghost use Rattle.iom_machine.specs.Machine.{Commits};
-ghost use Rattle.iom_world.specs.declared.device.Device.{Device};
-ghost use Rattle.iom_world.specs.Told.{outcome_of, TellsBytes};
-ghost use Rattle.iom_world.specs.declared.told.Told.TheVariants as says;
+ghost use Rattle.iom_world.specs.Commits.{without_oldest, MakesAt, CommitsOldest};
 ghost use Rattle.iom_world.specs.Oldest.{IsOldestAt};
-ghost use Rattle.iom_world.specs.Parts.{parts_of};
-ghost use Rattle.iom_world.specs.Places.{IsPlaceOf};
-ghost use Rattle.iom_world.specs.Roots.{KeepsRoot};
-ghost use Rattle.iom_world.specs.Shows.{Shows};
-ghost use Rattle.iom_world.specs.Unseen.{SameIfRefused, KeepsOwned};
+ghost use Rattle.iom_world.specs.Seen.{parts_of};
+ghost use Rattle.iom_world.specs.Told.{outcome_of};
 
 use crate::device::Device;
 use crate::told::{Told, tell_read};
@@ -27,7 +20,7 @@ impl Device {
     /// The oldest access is a read: it is made, and no more in flight.
     fn take_read(&mut self)
         requires { OldestIsRead self.old.in_flight }
-        ensures { self.new ≡ record self.old { in_flight = drop 1 self.old.in_flight } }
+        ensures { self.new ≡ without_oldest self.old }
     {
         self.in_flight.take_read();
     }
@@ -38,7 +31,7 @@ impl Device {
         requires write { OldestWrites self.old.in_flight len }
         requires within { offset + len ≤ length frame.old }
         ensures stored { IsSomeAnd (slice_get self.old.in_flight 0) (λ flight. frame.new ≡ with_bytes frame.old offset flight.access.bytes) }
-        ensures after { self.new ≡ record self.old { in_flight = drop 1 self.old.in_flight } }
+        ensures after { self.new ≡ without_oldest self.old }
     {
         self.in_flight.take_write(&mut frame[offset..offset + len]);
     }
@@ -48,13 +41,7 @@ impl World {
     /// The oldest access of the device that stands here, a read, is made: the place tells the bytes.
     fn commit_read(&mut self, place: usize, access: AccessHeader, told: &mut Outcome)
         requires { IsOldestAt self.old.devices.items place access Read }
-        ensures step { (state : State) (id : ℕ) → Shows self.old state → IsPlaceOf self.old.devices.items id place → (next : State)
-            × Commits state id told.new next × Shows self.new next }
-        ensures given { (bytes : List ℕ) × TellsBytes told.new bytes }
-        ensures roots { (other : ℕ) → KeepsRoot self.old.devices.items self.new.devices.items other }
-        ensures commands { self.new.commands ≡ self.old.commands }
-        ensures memory { self.new.memory ≡ self.old.memory }
-        ensures marks { self.new.marks ≡ self.old.marks }
+        ensures does { MakesAt (parts_of self.old) place told.new (parts_of self.new) }
         ensures events { self.new.events ≡ self.old.events }
     {
         let offset = (access.address % PAGE_SIZE) as usize;
@@ -67,12 +54,7 @@ impl World {
     /// The oldest access of the device that stands here, a write, is made.
     fn commit_write(&mut self, place: usize, access: AccessHeader) -> Told
         requires { IsOldestAt self.old.devices.items place access Write }
-        ensures step { (state : State) (id : ℕ) → Shows self.old state → IsPlaceOf self.old.devices.items id place → (next : State)
-            × Commits state id (outcome_of result) next × Shows self.new next }
-        ensures wrote { (len : ℕ) × (result ≡ says.Wrote len) }
-        ensures roots { (other : ℕ) → KeepsRoot self.old.devices.items self.new.devices.items other }
-        ensures commands { self.new.commands ≡ self.old.commands }
-        ensures kept { KeepsOwned (parts_of self.old) (parts_of self.new) }
+        ensures does { MakesAt (parts_of self.old) place (outcome_of result) (parts_of self.new) }
         ensures events { self.new.events ≡ self.old.events }
     {
         let offset = (access.address % PAGE_SIZE) as usize;
@@ -85,11 +67,7 @@ impl World {
     /// of it is told in the place: `Read`, with the bytes, or `Wrote`, with how many were stored. Nothing
     /// changes where nothing of the device is in flight, or no device has the id.
     pub(crate) fn commit(&mut self, id: DeviceId, told: &mut Outcome)
-        ensures step { (state : State) → Shows self.old state → (next : State) × Commits state id told.new next × Shows self.new next }
-        ensures refused { SameIfRefused told.new self.old self.new }
-        ensures roots { (other : ℕ) → KeepsRoot self.old.devices.items self.new.devices.items other }
-        ensures commands { self.new.commands ≡ self.old.commands }
-        ensures kept { KeepsOwned (parts_of self.old) (parts_of self.new) }
+        ensures does { CommitsOldest (parts_of self.old) id told.new (parts_of self.new) }
         ensures events { self.new.events ≡ self.old.events }
     {
         let Some(place) = self.place_of(id) else {

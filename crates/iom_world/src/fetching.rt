@@ -1,17 +1,39 @@
 // What the IOMMU does with the driver's commands.
-ghost use Rattle.std.specs.Prelude.{◌≡◌, ◌↔◌, Bool, IsTrue};
-ghost use Rattle.iom_machine.specs.declared.state.State.{State};
-ghost use Rattle.iom_machine.specs.declared.outcome.Fetched.{Fetched};
-ghost use Rattle.iom_machine.specs.declared.outcome.Outcome.TheVariants as outcome;
-ghost use Rattle.iom_machine.specs.Machine.{Fetches};
-ghost use Rattle.iom_world.specs.Told.{outcome_of};
+ghost use Rattle.std.specs.Prelude.{◌≡◌, ◌↔◌, IsTrue};
+ghost use Rattle.iom_world.specs.Does.{name_of_command, fetch_named, FetchesNext};
+ghost use Rattle.iom_world.specs.Seen.{parts_of};
 ghost use Rattle.iom_world.specs.Places.{SomeInFlight};
-ghost use Rattle.iom_world.specs.Queue.{AfterFetch};
-ghost use Rattle.iom_world.specs.Shows.{Shows};
-ghost use Rattle.iom_world.specs.Unseen.{SameIfRefused};
+ghost use Rattle.iom_world.specs.Told.{outcome_of};
 
 use crate::told::Told;
 use crate::world::World;
+use iom_command_queue::Command;
+use iom_machine::{CommandName, Fetched};
+
+/// The name of a command.
+fn name_of(command: Command) -> CommandName
+    ensures { result ≡ name_of_command command }
+{
+    match command {
+        Command::IotinvalVma { .. } => CommandName::IotinvalVma,
+        Command::IotinvalGvma { .. } => CommandName::IotinvalGvma,
+        Command::IofenceC { .. } => CommandName::IofenceC,
+        Command::IodirInvalDdt { .. } => CommandName::IodirInvalDdt,
+        Command::AtsInval { .. } => CommandName::AtsInval,
+    }
+}
+
+/// What the IOMMU answers, with its command by name.
+fn named(answer: iom_iommu::Fetched) -> Fetched
+    ensures { result ≡ fetch_named answer }
+{
+    match answer {
+        iom_iommu::Fetched::Did(command) => Fetched::Did(name_of(command)),
+        iom_iommu::Fetched::Waiting => Fetched::Waiting,
+        iom_iommu::Fetched::Empty => Fetched::Empty,
+        iom_iommu::Fetched::Stopped => Fetched::Stopped,
+    }
+}
 
 impl World {
     /// Whether an access of some device is in flight.
@@ -25,16 +47,10 @@ impl World {
 
     /// The IOMMU takes its next command.
     pub(crate) fn fetch(&mut self) -> Told
-        ensures step { (state : State) → Shows self.old state → (next : State) × Fetches state (outcome_of result) next × Shows self.new next }
-        ensures fetched { (in_flight : Bool) → (IsTrue in_flight ↔ SomeInFlight self.old.devices.items) → (fetched : Fetched)
-            × (outcome_of result ≡ outcome.Fetched fetched) × AfterFetch self.old.commands in_flight fetched self.new.commands }
-        ensures devices { self.new.devices.items ≡ self.old.devices.items }
-        ensures memory { self.new.memory ≡ self.old.memory }
-        ensures marks { self.new.marks ≡ self.old.marks }
-        ensures refused { SameIfRefused (outcome_of result) self.old self.new }
+        ensures does { FetchesNext (parts_of self.old) (outcome_of result) (parts_of self.new) }
         ensures events { self.new.events ≡ self.old.events }
     {
-        let in_flight = self.is_any_in_flight();
-        Told::Fetched(self.commands.fetch(in_flight))
+        let any_in_flight = self.is_any_in_flight();
+        Told::Fetched(named(self.iommu.fetch(&mut self.memory, any_in_flight)))
     }
 }

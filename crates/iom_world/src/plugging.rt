@@ -1,12 +1,9 @@
 // Where devices are, and how one is plugged in.
-ghost use Rattle.std.specs.Prelude.{◌≡◌, ℕ, MatchOption};
-ghost use Rattle.iom_machine.specs.declared.state.State.{State};
-ghost use Rattle.iom_machine.specs.Machine.{Plugs};
-ghost use Rattle.iom_world.specs.Told.{outcome_of};
+ghost use Rattle.std.specs.Prelude.{◌≡◌, MatchOption};
+ghost use Rattle.iom_world.specs.Does.{PlugsDevice};
+ghost use Rattle.iom_world.specs.Seen.{parts_of};
 ghost use Rattle.iom_world.specs.Places.{IsAbsent, IsPlaceOf};
-ghost use Rattle.iom_world.specs.Roots.{KeepsRoot};
-ghost use Rattle.iom_world.specs.Shows.{Shows};
-ghost use Rattle.iom_world.specs.Unseen.{SameIfRefused};
+ghost use Rattle.iom_world.specs.Told.{outcome_of};
 
 use crate::device::Device;
 use crate::told::Told;
@@ -24,14 +21,10 @@ impl World {
         self.devices.iter().position(|device| device.id == id)
     }
 
-    /// A device is plugged in, detached and with nothing in flight.
+    /// A device is plugged in, attached to nothing and with nothing in flight. The driver learns of it last:
+    /// so where there is no memory nothing is half done.
     pub(crate) fn plug(&mut self, id: DeviceId, kind: DeviceKind) -> Told
-        ensures step { (state : State) → Shows self.old state → (next : State) × Plugs state id kind (outcome_of result) next × Shows self.new next }
-        ensures refused { SameIfRefused (outcome_of result) self.old self.new }
-        ensures commands { self.new.commands ≡ self.old.commands }
-        ensures roots { (other : ℕ) → KeepsRoot self.old.devices.items self.new.devices.items other }
-        ensures memory { self.new.memory ≡ self.old.memory }
-        ensures marks { self.new.marks ≡ self.old.marks }
+        ensures does { PlugsDevice (parts_of self.old) id kind (outcome_of result) (parts_of self.new) }
         ensures events { self.new.events ≡ self.old.events }
     {
         if self.place_of(id).is_some() {
@@ -46,13 +39,16 @@ impl World {
         let device = Device {
             id,
             kind,
-            root: None,
             accepted: 0,
             in_flight,
         };
-        match self.devices.push(device) {
-            Ok(()) => Told::Done,
-            Err(_) => Told::Refused(Refusal::Memory),
+        if self.devices.push(device).is_err() {
+            return Told::Refused(Refusal::Memory);
         }
+        let answer = self.driver.plug(id);
+        if answer.is_err() {
+            self.devices.pop();
+        }
+        Told::of(answer)
     }
 }

@@ -1,17 +1,12 @@
 // What a device asks of memory, and what it is answered.
-ghost use Rattle.std.specs.Prelude.{◌≡◌, ℕ, ◌+◌, ◌<◌, ◌≤◌, ◌^◌, [], ◌∷◌, ◌++◌, length, Some, slice_get};
-ghost use Rattle.iom_base.specs.declared.access.AccessKind.TheVariants.{Read, Write};
-ghost use Rattle.iom_machine.specs.declared.state.State.{State};
-ghost use Rattle.iom_machine.specs.Machine.{Requests};
+ghost use Rattle.std.specs.Prelude.{◌≡◌, ◌+◌, ◌<◌, ◌≤◌, ◌^◌, length, Some, slice_get};
 ghost use Rattle.iom_base.specs.Accesses.{read_of, write_of};
 ghost use Rattle.iom_base.specs.Sizes.{page_size, in_flight_limit};
 ghost use Rattle.iom_world.specs.declared.device.Device.{Device};
-ghost use Rattle.iom_world.specs.Told.{outcome_of};
+ghost use Rattle.iom_world.specs.Seen.{parts_of};
 ghost use Rattle.iom_world.specs.Places.{CountsBelow};
-ghost use Rattle.iom_world.specs.Replies.{IsReply};
-ghost use Rattle.iom_world.specs.Roots.{KeepsRoot};
-ghost use Rattle.iom_world.specs.Shows.{Shows};
-ghost use Rattle.iom_world.specs.Unseen.{SameIfRefused, AcceptsHeld};
+ghost use Rattle.iom_world.specs.Requests.{IsReply, AsksFor, with_flight};
+ghost use Rattle.iom_world.specs.Told.{outcome_of};
 
 use crate::device::Device;
 use crate::told::Told;
@@ -49,10 +44,7 @@ impl Device {
         requires len { len ≤ page_size }
         requires count { self.old.accepted + 1 < 2 ^ 64 }
         ensures number { result ≡ self.old.accepted + 1 }
-        ensures after { self.new ≡ record self.old {
-          accepted = self.old.accepted + 1;
-          in_flight = self.old.in_flight ++ record { access = read_of address len; frame = frame } ∷ [];
-        } }
+        ensures after { self.new ≡ with_flight self.old (read_of address len) frame }
     {
         self.in_flight.accept_read(address, len, frame).unwrap();
         self.count_accepted()
@@ -64,10 +56,7 @@ impl Device {
         requires len { length bytes.now ≤ page_size }
         requires count { self.old.accepted + 1 < 2 ^ 64 }
         ensures number { result ≡ self.old.accepted + 1 }
-        ensures after { self.new ≡ record self.old {
-          accepted = self.old.accepted + 1;
-          in_flight = self.old.in_flight ++ record { access = write_of address bytes.now; frame = frame } ∷ [];
-        } }
+        ensures after { self.new ≡ with_flight self.old (write_of address bytes.now) frame }
     {
         self.in_flight.accept_write(address, bytes, frame).unwrap();
         self.count_accepted()
@@ -76,13 +65,13 @@ impl Device {
 
 impl World {
     /// What the request of the device that stands here is answered. The first that applies: its bytes
-    /// aren't within one page; eight accesses of the device are in flight; it has no tables, so that its id
-    /// is too wide or its entry of the device directory isn't valid (IOMMU specification, section 2.3,
+    /// aren't within one page; eight accesses of the device are in flight; it isn't attached, so that
+    /// its id is too wide or its entry of the device directory isn't valid (IOMMU specification, section 2.3,
     /// "Process to translate an IOVA"); what the walk of its tables finds.
     fn reply(&self, place: usize, address: u64, len: u64, kind: AccessKind) -> Reply
         requires { place < length self.now.devices.items }
         ensures { (device : Device) → slice_get self.now.devices.items place ≡ Some device
-            → IsReply self.now.ledger self.now.levels device address len kind result }
+            → IsReply (parts_of self.now).driver device address len kind result }
     {
         if Span::new(address, len).is_none() {
             return Reply::BadSpan;
@@ -91,10 +80,11 @@ impl World {
         if device.in_flight.count() >= MAX_IN_FLIGHT {
             return Reply::Busy;
         }
-        match device.root {
-            None if self.is_too_wide(device.id) => Reply::Fault(Cause::TransactionTypeDisallowed),
+        let id = device.id;
+        match self.driver.root_of(id) {
+            None if self.driver.is_too_wide(id) => Reply::Fault(Cause::TransactionTypeDisallowed),
             None => Reply::Fault(Cause::DirectoryEntryNotValid),
-            Some(root) => match self.translate(place, root, address, kind) {
+            Some(root) => match self.translate(id, root, address, kind) {
                 Ok(frame) => Reply::Accepted(frame),
                 Err(cause) => Reply::Fault(cause),
             },
@@ -106,14 +96,7 @@ impl World {
     /// `BadSpan`, `Busy`, or `Fault` with its cause.
     pub(crate) fn read(&mut self, id: DeviceId, address: u64, len: u64) -> Told
         requires { CountsBelow self.old.devices.items self.old.events }
-        ensures step { (state : State) → Shows self.old state → (frame : ℕ) × (next : State)
-            × Requests frame state id (read_of address len) (outcome_of result) next × Shows self.new next }
-        ensures requests { AcceptsHeld self.old.ledger id address Read (outcome_of result) }
-        ensures refused { SameIfRefused (outcome_of result) self.old self.new }
-        ensures commands { self.new.commands ≡ self.old.commands }
-        ensures roots { (other : ℕ) → KeepsRoot self.old.devices.items self.new.devices.items other }
-        ensures memory { self.new.memory ≡ self.old.memory }
-        ensures marks { self.new.marks ≡ self.old.marks }
+        ensures does { AsksFor (parts_of self.old) id (read_of address len) (outcome_of result) (parts_of self.new) }
         ensures events { self.new.events ≡ self.old.events }
     {
         let Some(place) = self.place_of(id) else {
@@ -135,14 +118,7 @@ impl World {
     /// kept until it is made.
     pub(crate) fn write(&mut self, id: DeviceId, address: u64, bytes: &[u8]) -> Told
         requires { CountsBelow self.old.devices.items self.old.events }
-        ensures step { (state : State) → Shows self.old state → (frame : ℕ) × (next : State)
-            × Requests frame state id (write_of address bytes.now) (outcome_of result) next × Shows self.new next }
-        ensures requests { AcceptsHeld self.old.ledger id address Write (outcome_of result) }
-        ensures refused { SameIfRefused (outcome_of result) self.old self.new }
-        ensures commands { self.new.commands ≡ self.old.commands }
-        ensures roots { (other : ℕ) → KeepsRoot self.old.devices.items self.new.devices.items other }
-        ensures memory { self.new.memory ≡ self.old.memory }
-        ensures marks { self.new.marks ≡ self.old.marks }
+        ensures does { AsksFor (parts_of self.old) id (write_of address bytes.now) (outcome_of result) (parts_of self.new) }
         ensures events { self.new.events ≡ self.old.events }
     {
         let Some(place) = self.place_of(id) else {

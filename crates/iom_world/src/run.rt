@@ -49,10 +49,9 @@ impl World {
     }
 
     /// One event, and what comes of it: a lawful step of the ledger machine from every state that the
-    /// world shows. A release, a fetch and a poll do to the commands what the driver and the IOMMU do; an
-    /// attach and a grant take the highest free frames for tables, and write in their device's tables
-    /// alone; a request is accepted only to a page that is held; a refusal changes nothing. Each event is
-    /// counted, whatever comes of it.
+    /// world shows. It does to memory, IOMMU, driver and devices what the call behind it says; a request is
+    /// accepted only to a page that is held; a refusal changes nothing. Each event is counted, whatever
+    /// comes of it.
     pub fn step(&mut self, event: &Event) -> Outcome
         requires event { IsEvent event.now }
         requires count { self.old.events + 1 < 2 ^ 64 }

@@ -1,0 +1,132 @@
+-- What each event does to the parts of a world: the relation of the call behind it, and what stays.
+use Rattle.std.specs.Prelude.{◌≡◌, ◌↔◌, ℕ, ◌+◌, ◌-◌, ◌==◌, Bool, IsTrue, List, [], ◌∷◌, ◌++◌, Result, Ok, Err, if◌then◌else◌}
+use Rattle.iom_base.specs.declared.grant_rights.GrantRights.{GrantRights}
+use Rattle.iom_base.specs.Accesses.{read_of, write_of}
+use Rattle.iom_command_queue.specs.declared.command.Command.{Command}
+use Rattle.iom_command_queue.specs.declared.command.Command.TheVariants.{IotinvalVma, IotinvalGvma, IofenceC, IodirInvalDdt, AtsInval}
+use Rattle.iom_driver.specs.declared.answers.Polled.{Polled}
+use Rattle.iom_driver.specs.declared.answers.Ticket as driver
+use Rattle.iom_driver.specs.Calls.{Plugs, Attaches, Grants, Releases, Polls}
+use Rattle.iom_iommu.specs.declared.fetched.Fetched.{Fetched}
+use Rattle.iom_iommu.specs.declared.fetched.Fetched.TheVariants.{Did, Waiting, Empty, Stopped}
+use Rattle.iom_iommu.specs.Fetches.{FetchesCommand}
+use Rattle.iom_iommu.specs.Parts.{mmio, registers_of}
+use Rattle.iom_ledger.specs.declared.refusal.Refusal.{Refusal}
+use Rattle.iom_machine.specs.declared.event.Event.{Event}
+use Rattle.iom_machine.specs.declared.event.Event.TheVariants as events
+use Rattle.iom_machine.specs.declared.outcome.CommandName.{CommandName}
+use Rattle.iom_machine.specs.declared.outcome.CommandName.TheVariants as names
+use Rattle.iom_machine.specs.declared.outcome.Fetched as machine
+use Rattle.iom_machine.specs.declared.outcome.Fetched.TheVariants as tells
+use Rattle.iom_machine.specs.declared.outcome.Outcome.{Outcome}
+use Rattle.iom_machine.specs.declared.outcome.Outcome.TheVariants as outcome
+use Rattle.iom_machine.specs.declared.state.DeviceKind.{DeviceKind}
+use Rattle.iom_world.specs.declared.device.Device.{Device}
+use Rattle.iom_world.specs.Commits.{CommitsOldest}
+use Rattle.iom_world.specs.Parts.{Parts}
+use Rattle.iom_world.specs.Places.{SomeInFlight}
+use Rattle.iom_world.specs.Processor.{PokesBytes, PeeksBytes, AsksFree}
+use Rattle.iom_world.specs.Requests.{AsksFor}
+
+-- what an answer of the driver is told as: of a call that gives nothing, of a release, and of a poll
+abbrev pub told_of : Result (Unit {0}) Refusal → Outcome
+told_of (Ok done) = outcome.Done
+told_of (Err why) = outcome.Refused why
+
+abbrev pub ticket_told_of : Result driver.Ticket Refusal → Outcome
+ticket_told_of (Ok ticket) = outcome.Ticket ticket.0
+ticket_told_of (Err why) = outcome.Refused why
+
+abbrev pub polled_told_of : Result Polled Refusal → Outcome
+polled_told_of (Ok polled) =
+    if polled.count == 0 then outcome.NoneConfirmed else outcome.Confirmed polled.first (polled.first + polled.count - 1)
+polled_told_of (Err why) = outcome.Refused why
+
+-- what an answer of the IOMMU is told as
+abbrev pub name_of_command : Command → CommandName
+name_of_command (IotinvalVma gscid pscid page) = names.IotinvalVma
+name_of_command (IotinvalGvma gscid page) = names.IotinvalGvma
+name_of_command (IofenceC store wsi pr pw) = names.IofenceC
+name_of_command (IodirInvalDdt device) = names.IodirInvalDdt
+name_of_command (AtsInval device range) = names.AtsInval
+
+abbrev pub fetch_named : Fetched → machine.Fetched
+fetch_named (Did command) = tells.Did (name_of_command command)
+fetch_named Waiting = tells.Waiting
+fetch_named Empty = tells.Empty
+fetch_named Stopped = tells.Stopped
+
+-- a device as it is plugged in: with nothing in flight
+abbrev pub new_device : ℕ → DeviceKind → Device
+new_device id kind = record { id = id; kind = kind; accepted = 0; in_flight = [] }
+
+-- it stands behind the others, unless it was refused
+abbrev pub devices_after : Result (Unit {0}) Refusal → List Device → ℕ → DeviceKind → List Device
+devices_after (Ok done) devices id kind = devices ++ new_device id kind ∷ []
+devices_after (Err why) devices id kind = devices
+
+-- a device is plugged in
+pub record PlugsDevice (old : Parts) (id : ℕ) (kind : DeviceKind) (told : Outcome) (new : Parts) : Type 0 where
+  pub answer : Result (Unit {0}) Refusal
+  pub told_so : told ≡ told_of answer
+  pub call : Plugs old.driver id answer new.driver
+  pub devices : new.devices ≡ devices_after answer old.devices id kind
+  pub memory : new.memory ≡ old.memory
+  pub iommu : new.iommu ≡ old.iommu
+
+-- a device is attached
+pub record AttachesDevice (old : Parts) (id : ℕ) (told : Outcome) (new : Parts) : Type 0 where
+  pub answer : Result (Unit {0}) Refusal
+  pub told_so : told ≡ told_of answer
+  pub call : Attaches old.driver old.memory id answer new.driver new.memory
+  pub iommu : new.iommu ≡ old.iommu
+  pub devices : new.devices ≡ old.devices
+
+-- a device gets a frame at a page
+pub record GrantsFrame (old : Parts) (id page frame : ℕ) (rights : GrantRights) (told : Outcome) (new : Parts) : Type 0 where
+  pub answer : Result (Unit {0}) Refusal
+  pub told_so : told ≡ told_of answer
+  pub call : Grants old.driver old.memory id page frame rights answer new.driver new.memory
+  pub iommu : new.iommu ≡ old.iommu
+  pub devices : new.devices ≡ old.devices
+
+-- what it holds at a page is released
+pub record ReleasesPage (old : Parts) (id page : ℕ) (told : Outcome) (new : Parts) : Type 0 where
+  pub answer : Result driver.Ticket Refusal
+  pub told_so : told ≡ ticket_told_of answer
+  pub call : Releases mmio old.driver old.memory old.iommu id page answer new.driver new.memory new.iommu
+  pub devices : new.devices ≡ old.devices
+
+-- the IOMMU takes a command
+pub record FetchesNext (old : Parts) (told : Outcome) (new : Parts) : Type 0 where
+  pub any_in_flight : Bool
+  pub counted : IsTrue any_in_flight ↔ SomeInFlight old.devices
+  pub answer : Fetched
+  pub told_so : told ≡ outcome.Fetched (fetch_named answer)
+  pub call : FetchesCommand old.memory old.iommu any_in_flight answer new.memory new.iommu
+  pub driver : new.driver ≡ old.driver
+  pub devices : new.devices ≡ old.devices
+
+-- the driver reads the completion word
+pub record PollsTickets (old : Parts) (told : Outcome) (new : Parts) : Type 0 where
+  pub answer : Result Polled Refusal
+  pub told_so : told ≡ polled_told_of answer
+  pub call : Polls (registers_of old.iommu) old.driver old.memory answer new.driver
+  pub memory : new.memory ≡ old.memory
+  pub iommu : new.iommu ≡ old.iommu
+  pub devices : new.devices ≡ old.devices
+
+-- THE RELATION of an event
+abbrev pub Does : Parts → Event → Outcome → Parts → Type 0
+Does old (events.Plug id kind) told new = PlugsDevice old id kind told new
+Does old (events.Attach id mode ats) told new = AttachesDevice old id told new
+Does old (events.Grant id page frame rights) told new = GrantsFrame old id page frame rights told new
+Does old (events.Release id page) told new = ReleasesPage old id page told new
+Does old events.Fetch told new = FetchesNext old told new
+Does old events.Poll told new = PollsTickets old told new
+Does old (events.Read id address len) told new = AsksFor old id (read_of address len) told new
+Does old (events.Write id address bytes) told new = AsksFor old id (write_of address bytes) told new
+Does old (events.Commit id) told new = CommitsOldest old id told new
+Does old (events.Poke address bytes) told new = PokesBytes old address bytes told new
+Does old (events.Peek address len) told new = PeeksBytes old address len told × (new ≡ old)
+Does old (events.Free frame) told new = AsksFree old frame told × (new ≡ old)

@@ -1,0 +1,80 @@
+// What the driver is asked to do.
+ghost use Rattle.std.specs.Prelude.{◌≡◌, ◌+◌, ◌≤◌, ◌^◌};
+ghost use Rattle.iom_world.specs.Does.{told_of, polled_told_of, AttachesDevice, GrantsFrame, ReleasesPage, PollsTickets};
+ghost use Rattle.iom_world.specs.Seen.{parts_of};
+ghost use Rattle.iom_world.specs.Told.{outcome_of};
+
+use crate::told::Told;
+use crate::world::World;
+use iom_base::{DeviceId, GrantRights};
+use iom_driver::Polled;
+use iom_ledger::Refusal;
+
+impl Told {
+    /// What an answer of the driver that gives nothing is told as.
+    pub(crate) fn of(answer: Result<(), Refusal>) -> Told
+        ensures { outcome_of result ≡ told_of answer }
+    {
+        match answer {
+            Ok(()) => Told::Done,
+            Err(why) => Told::Refused(why),
+        }
+    }
+
+    /// What a poll is told as.
+    fn of_poll(polled: Polled) -> Told
+        requires { polled.first + polled.count ≤ 2 ^ 32 }
+        ensures { outcome_of result ≡ polled_told_of (Ok polled) }
+    {
+        if polled.count == 0 {
+            return Told::NoneConfirmed;
+        }
+        Told::Confirmed {
+            first: polled.first,
+            last: polled.first + (polled.count - 1),
+        }
+    }
+}
+
+impl World {
+    /// A device is attached in its first stage, without ATS.
+    pub(crate) fn attach(&mut self, id: DeviceId) -> Told
+        ensures does { AttachesDevice (parts_of self.old) id (outcome_of result) (parts_of self.new) }
+        ensures events { self.new.events ≡ self.old.events }
+    {
+        Told::of(self.driver.attach(&mut self.memory, id))
+    }
+
+    /// A device gets a frame at a page.
+    pub(crate) fn grant(&mut self, id: DeviceId, page: u64, frame: u64, rights: GrantRights) -> Told
+        ensures does { GrantsFrame (parts_of self.old) id page frame rights (outcome_of result) (parts_of self.new) }
+        ensures events { self.new.events ≡ self.old.events }
+    {
+        Told::of(self.driver.grant(&mut self.memory, id, page, frame, rights))
+    }
+
+    /// What a device holds at a page is released.
+    pub(crate) fn release(&mut self, id: DeviceId, page: u64) -> Told
+        ensures does { ReleasesPage (parts_of self.old) id page (outcome_of result) (parts_of self.new) }
+        ensures events { self.new.events ≡ self.old.events }
+    {
+        match self
+            .driver
+            .release(&mut self.memory, &mut self.iommu, id, page)
+        {
+            Ok(ticket) => Told::Ticket(ticket.0),
+            Err(why) => Told::Refused(why),
+        }
+    }
+
+    /// The driver learns which tickets' fences are done, and forgets what waited for them.
+    pub(crate) fn poll(&mut self) -> Told
+        ensures does { PollsTickets (parts_of self.old) (outcome_of result) (parts_of self.new) }
+        ensures events { self.new.events ≡ self.old.events }
+    {
+        match self.driver.poll(&self.memory, &self.iommu) {
+            Ok(polled) => Told::of_poll(polled),
+            Err(why) => Told::Refused(why),
+        }
+    }
+}
