@@ -4,6 +4,7 @@ use Rattle.iom_base.specs.GrantRights.{rights_of}
 use Rattle.iom_base.specs.declared.grant_rights.GrantRights.{GrantRights}
 use Rattle.iom_base.specs.declared.owner.Owner.{Owner}
 use Rattle.iom_base.specs.declared.owner.Owner.TheVariants.{OneDevice}
+use Rattle.iom_command_queue.specs.declared.entry.QueueEntry.TheVariants as stands
 use Rattle.iom_command_queue.specs.Waiting.{commands_in}
 use Rattle.iom_ledger.specs.Changes.{IsUnchanged, ShowsGrant, ShowsRelease}
 use Rattle.iom_ledger.specs.Confirmations.{confirmed_from, ConfirmsFrom}
@@ -127,6 +128,8 @@ pub record QueuesRelease {M : Type 0} (g : Ghosts M) (d : DriverState) (memory :
   pub agrees : (h : History) → Agrees d.ledger h → confirms h ticket ≡ false → Agrees d'.ledger (entry.Released id page ticket ∷ h)
   pub driver : d' ≡ record d { ledger = d'.ledger; given = ticket }
   pub queued : AppendsTwo g (unmapped memory stage.root page) io (invalidation stage.number page) (fence (completion_address (length memory)) ticket) memory' io'
+  pub list : commands_in memory' (g.registers io') ≡ commands_in memory (g.registers io)
+      ++ stands.Command (invalidation stage.number page) ∷ stands.Command (fence (completion_address (length memory)) ticket) ∷ []
   pub others : (f : ℕ) → slice_get d.marks f ≢ Some (Some (OneDevice id)) → f ≢ command_frame (length memory) → slice_get memory' f ≡ slice_get memory f
 
 -- RELEASE

@@ -5,3 +5,7 @@ pub mod RefusalLemmas
 pub mod PlaceLemmas
 pub mod MayLemmas
 pub mod DriverLemmas
+pub mod RingLemmas
+pub mod CoverLemmas
+pub mod DriverKeeps
+pub mod ReleaseKeeps

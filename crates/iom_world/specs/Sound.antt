@@ -1,6 +1,6 @@
 -- What stays true between the parts of a world, whatever happens.
 -- For the facts that a world carries alone; no public contract cites these.
-use Rattle.std.specs.Prelude.{◌≡◌, ℕ, ◌≤◌, true, List, length}
+use Rattle.std.specs.Prelude.{◌≡◌, ℕ, ◌^◌, ◌<◌, ◌≤◌, true, List, length}
 use Rattle.iom_command_queue.specs.Waiting.{commands_in}
 use Rattle.iom_driver.specs.declared.driver.Driver.{Driver}
 use Rattle.iom_driver.specs.Layout.{completion_address}
@@ -24,6 +24,7 @@ pub record IsSound (parts : Parts) (events : ℕ) : Type 0 where
   pub own_ids : HaveOwnIds parts.devices
   pub commands : FencesFollow (completion_address (length parts.memory)) (completed_in parts.memory) (commands_in parts.memory (registers_of parts.iommu)) parts.driver.given
   pub confirmed : parts.driver.confirmed ≤ completed_in parts.memory
+  pub small : parts.driver.given < 2 ^ 32
   pub each : AreSoundDevices parts.driver.ledger (completed_in parts.memory) events parts.devices
 
 -- a world of these parts is so

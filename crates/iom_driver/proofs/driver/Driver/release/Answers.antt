@@ -1,11 +1,18 @@
-use Rattle.std.proofs.Common.{◌≡◌, ◌≤◌, ◌<◌, ◌+◌, ◌-◌, ◌∙◌, ℕ, List, Option, Some, None, IsSome, length, refl, sym, ap, subst, arith}
+use Rattle.std.proofs.Common.{◌≡◌, ◌≤◌, ◌<◌, ◌+◌, ◌-◌, ◌++◌, ◌∙◌, ℕ, List, [], ◌∷◌, slice_get, Option, Some, None, IsSome, length, refl, sym, ap, subst, arith}
 use Rattle.iom_base.specs.Sizes.{page_limit}
 use Rattle.iom_ledger.specs.Pending.{pending_limit}
 use Rattle.iom_ledger.specs.Shown.{pending_in}
-use Rattle.iom_driver.specs.Layout.{command_frame}
+use Rattle.iom_base.specs.declared.owner.Owner.{Owner}
+use Rattle.iom_base.specs.declared.owner.Owner.TheVariants.{System, OneDevice}
+use Rattle.iom_command_queue.specs.declared.command.Command.{Command}
+use Rattle.iom_command_queue.specs.declared.entry.QueueEntry.{QueueEntry}
+use Rattle.iom_command_queue.specs.declared.entry.QueueEntry.TheVariants as stands
+use Rattle.iom_driver.specs.Appends.{fence}
+use Rattle.iom_driver.specs.Layout.{command_frame, completion_address}
 use Rattle.iom_driver.specs.Ready.{IsRing}
 use Rattle.iom_driver.proofs.Keeps.{length-tickets_after, sound_released}
 use Rattle.iom_driver.proofs.ReleaseTables.{IsUnmapped, other_frame, tables_released}
+use Rattle.iom_driver.proofs.Ring.{same_commands, two_last}
 use Rattle.iom_driver.proofs.Stays.{all_stay, of_one}
 use Rattle.iom_driver.proofs.driver.Driver.release.Goals as goal
 
@@ -13,6 +20,10 @@ use Rattle.iom_driver.proofs.driver.Driver.release.Goals as goal
 there : {A : Type 0} (o : Option A) → IsSome o → (x : A) × (o ≡ Some x)
 there None present = cc
 there (Some x) present = (x, refl)
+
+-- a frame of the system's isn't a device's
+not_of_device : (marks : List (Option Owner)) (n id : ℕ) → slice_get marks n ≡ Some (Some System) → slice_get marks n ≡ Some (Some (OneDevice id)) → ⊥
+not_of_device marks n id system own = let both : ◌≡◌ {A = Option (Option Owner)} (Some (Some System)) (Some (Some (OneDevice id))) = sym system ∙ own in cc
 
 pub release-requires-clause-room : goal.release-requires-clause-room
 release-requires-clause-room g c =
@@ -70,6 +81,15 @@ returns-clause-effect g c =
         agrees = c.release.ensures.agrees;
         driver = refl;
         queued = rw (many, sym c.unmap.ensures.whole, sym c.invalidation.ensures) c.append_release.ensures.appended;
+        list =
+            let io = c.args.io.now in
+            let r = g.M.Mmio.registers io in
+            let kept = other_frame memory c.unmap.new.memory c.in-Ok.stage.root c.args.page (command_frame (length memory)) unmapped_so
+            (λ at. not_of_device driver.marks (command_frame (length memory)) c.args.id (rw many driver.sound.fixed.command) (tables.own (command_frame (length memory)) at)) in
+            let last : Command = fence (completion_address driver.frames) (driver.given + 1) in
+            rw (many, sym c.invalidation.ensures)
+            (two_last g.M.Mmio c.unmap.new.memory c.append_release.new.memory io c.append_release.new.io c.invalidation.result last c.append_release.ensures.appended
+            ∙ ap (λ (xs : List QueueEntry). xs ++ stands.Command c.invalidation.result ∷ stands.Command last ∷ []) (same_commands memory c.unmap.new.memory r (c.requires.ready.ring c.in-Ok.ensures.may.started) kept));
         others = λ f differs apart.
             c.append_release.ensures.other_frames f (λ same. apart (same ∙ ap command_frame (sym many)))
             ∙ other_frame memory c.unmap.new.memory c.in-Ok.stage.root c.args.page f unmapped_so (λ at. differs (tables.own f at));

@@ -1,0 +1,17 @@
+use Rattle.iom_world.specs.Seen.{parts_of}
+use Rattle.iom_world.specs.Parts.{Parts}
+use Rattle.iom_driver.specs.Seen.{state_of}
+use Rattle.std.proofs.Common.{refl}
+use Rattle.iom_world.specs.Does.{told_of}
+use Rattle.iom_world.proofs.DriverKeeps.{keeps_attached}
+use Rattle.iom_world.proofs.DriverLemmas.{sound_driver}
+use Rattle.iom_world.proofs.world.World.attach.Goals as goal
+
+pub invariant_of-self : goal.invariant_of-self
+invariant_of-self c =
+    let world = c.args.self.now in
+    let new : Parts = record { memory = c.attach.new.memory; iommu = world.iommu; driver = state_of c.attach.new.self; devices = world.devices.items } in
+    record {
+      sound = keeps_attached (parts_of world) new world.events c.args.id (told_of c.attach.result) world.sound (sound_driver world.driver) (c.attach.ensures.ready _ world.sound.ready)
+          record { answer = c.attach.result; told_so = refl; call = c.attach.ensures.effect; iommu = refl; devices = refl };
+    }

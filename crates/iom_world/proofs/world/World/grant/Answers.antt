@@ -1,0 +1,18 @@
+use Rattle.std.proofs.Common.{refl}
+use Rattle.iom_driver.specs.Seen.{state_of}
+use Rattle.iom_world.specs.Does.{told_of}
+use Rattle.iom_world.specs.Parts.{Parts}
+use Rattle.iom_world.specs.Seen.{parts_of}
+use Rattle.iom_world.proofs.DriverKeeps.{keeps_granted}
+use Rattle.iom_world.proofs.DriverLemmas.{sound_driver}
+use Rattle.iom_world.proofs.world.World.grant.Goals as goal
+
+pub invariant_of-self : goal.invariant_of-self
+invariant_of-self c =
+    let world = c.args.self.now in
+    let new : Parts = record { memory = c.grant.new.memory; iommu = world.iommu; driver = state_of c.grant.new.self; devices = world.devices.items } in
+    record {
+      sound = keeps_granted (parts_of world) new world.events c.args.id c.args.page c.args.frame c.args.rights (told_of c.grant.result) world.sound (sound_driver world.driver)
+          (c.grant.ensures.ready _ world.sound.ready)
+          record { answer = c.grant.result; told_so = refl; call = c.grant.ensures.effect; iommu = refl; devices = refl };
+    }

@@ -1,0 +1,17 @@
+use Rattle.std.proofs.Common.{refl}
+use Rattle.iom_driver.specs.Seen.{state_of}
+use Rattle.iom_world.specs.Does.{ticket_told_of}
+use Rattle.iom_world.specs.Parts.{Parts}
+use Rattle.iom_world.specs.Seen.{parts_of}
+use Rattle.iom_world.proofs.DriverLemmas.{sound_driver}
+use Rattle.iom_world.proofs.ReleaseKeeps.{keeps_released}
+use Rattle.iom_world.proofs.world.World.release.Goals as goal
+
+pub invariant_of-self : goal.invariant_of-self
+invariant_of-self c =
+    let world = c.args.self.now in
+    let new : Parts = record { memory = c.release.new.memory; iommu = c.release.new.io; driver = state_of c.release.new.self; devices = world.devices.items } in
+    record {
+      sound = keeps_released (parts_of world) new world.events c.args.id c.args.page (ticket_told_of c.release.result) world.sound (sound_driver world.driver) c.release.ensures.ready
+          record { answer = c.release.result; told_so = refl; call = c.release.ensures.effect; devices = refl };
+    }
