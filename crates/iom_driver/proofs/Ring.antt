@@ -50,7 +50,7 @@ pub started_empty : (memory : List (List ℕ)) (r : Registers) (ddtp cqb : ℕ) 
 started_empty memory r ddtp cqb off = empty memory (started r ddtp cqb) (started_head r ddtp cqb off ∙ sym (started_tail r ddtp cqb off))
 
 -- a place of the ring lies in its frame
-in_ring : (r : Registers) (frames j : ℕ) → IsRing frames r → j < command_entries r → place_of r j / 4096 ≡ command_frame frames
+pub in_ring : (r : Registers) (frames j : ℕ) → IsRing frames r → j < command_entries r → place_of r j / 4096 ≡ command_frame frames
 in_ring r frames j ring lt =
     let small : j < 256 = subst (λ n. j < n) ring.entries lt in
     let at : place_of r j ≡ 4096 * command_frame frames + 16 * j = ap (λ b. b + 16 * j) ring.base in

@@ -9,3 +9,4 @@ pub mod RingLemmas
 pub mod CoverLemmas
 pub mod DriverKeeps
 pub mod ReleaseKeeps
+pub mod FetchKeeps
