@@ -10,3 +10,4 @@ pub mod CoverLemmas
 pub mod DriverKeeps
 pub mod ReleaseKeeps
 pub mod FetchKeeps
+pub mod PlugKeeps
