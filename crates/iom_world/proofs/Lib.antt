@@ -5,3 +5,4 @@ pub mod RefusalLemmas
 pub mod PlaceLemmas
 pub mod MayLemmas
 pub mod DriverLemmas
+pub mod ReasonLemmas
