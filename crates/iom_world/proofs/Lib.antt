@@ -6,3 +6,5 @@ pub mod PlaceLemmas
 pub mod MayLemmas
 pub mod DriverLemmas
 pub mod ReasonLemmas
+pub mod StayLemmas
+pub mod ReleaseStep
