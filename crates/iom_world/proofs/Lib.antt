@@ -8,3 +8,4 @@ pub mod DriverLemmas
 pub mod ReasonLemmas
 pub mod StayLemmas
 pub mod ReleaseStep
+pub mod AttachStep
