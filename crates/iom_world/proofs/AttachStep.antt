@@ -199,6 +199,6 @@ attach_step old new events id told sound does state shows = by does.answer does.
       state,
       subst (λ t. machine.Attaches [] state id First false t state) (sym is)
           (refused_as (attach_reasons old.driver id) (refusals.attach_reasons state id false) (LacksRoot old.driver old.memory) (MayRefuseAttach state First) why
-          (attach_first old events state id sound shows) (may_lack_root old state why shows) call.0, refl),
+          (attach_first old events state id sound shows) (λ none. may_lack_root old state why shows) call.0, refl),
       shows_same old new state call.2 does.devices call.1 shows,
     )

@@ -9,3 +9,4 @@ pub mod ReasonLemmas
 pub mod StayLemmas
 pub mod ReleaseStep
 pub mod AttachStep
+pub mod GrantStep

@@ -277,11 +277,11 @@ may_release parts events state id page sound shows none =
     (started_first d.started (is_plugged d.devices id) (stage_of d.devices id) (releasing_reasons d r id page) None sound.started none)
 
 -- a refusal of the driver is one of the machine's, where what may come of the driver's after the reasons may come of the machine's
-pub refused_as : (reasons reasons' : List (Bool × Refusal)) (May May' : Refusal → Type 0) (why : Refusal) → first_that_applies reasons' ≡ first_that_applies reasons → (May why → May' why)
-    → IsRefusedBy reasons May why → IsRefusedBy reasons' May' why
+pub refused_as : (reasons reasons' : List (Bool × Refusal)) (May May' : Refusal → Type 0) (why : Refusal) → first_that_applies reasons' ≡ first_that_applies reasons
+    → (NoneApplies reasons → May why → May' why) → IsRefusedBy reasons May why → IsRefusedBy reasons' May' why
 refused_as reasons reasons' May May' why same may refused =
-    subst (λ o. MatchOption o (May' why) (λ first. why ≡ first)) (sym same) (by (first_that_applies reasons) refused)
+    subst (λ o. MatchOption o (May' why) (λ first. why ≡ first)) (sym same) (by (first_that_applies reasons) refl refused)
   where
-    by : (first : Option Refusal) → MatchOption first (May why) (λ one. why ≡ one) → MatchOption first (May' why) (λ one. why ≡ one)
-    by None else_so = may else_so
-    by (Some one) is = is
+    by : (first : Option Refusal) → first_that_applies reasons ≡ first → MatchOption first (May why) (λ one. why ≡ one) → MatchOption first (May' why) (λ one. why ≡ one)
+    by None none else_so = may none else_so
+    by (Some one) first is = is
