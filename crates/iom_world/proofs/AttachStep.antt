@@ -55,7 +55,7 @@ abbrev SameElsewhere : List driver.Device → List driver.Device → ℕ → Typ
 SameElsewhere known known' id = (other : ℕ) → other ≢ id → stage_of known' other ≡ stage_of known other
 
 -- a device as the machine has it, attached so
-abbrev attached_so : Device → Attachment → declared.Device
+abbrev pub attached_so : Device → Attachment → declared.Device
 attached_so device attachment = record {
   id = device.id;
   kind = device.kind;

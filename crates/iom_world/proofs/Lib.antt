@@ -10,3 +10,4 @@ pub mod StayLemmas
 pub mod ReleaseStep
 pub mod AttachStep
 pub mod GrantStep
+pub mod PlugStep

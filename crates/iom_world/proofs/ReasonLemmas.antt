@@ -68,7 +68,7 @@ none_attachment : (o : Option declared.Device) → is_some o ≡ false → optio
 none_attachment None none = refl
 none_attachment (Some device) none = absurd (false≢true (sym none))
 
-none_stage : (known : List driver.Device) (id : ℕ) → is_plugged known id ≡ false → stage_of known id ≡ None
+pub none_stage : (known : List driver.Device) (id : ℕ) → is_plugged known id ≡ false → stage_of known id ≡ None
 none_stage known id none = by (device_of known id) none
   where
     by : (o : Option driver.Device) → is_some o ≡ false → option_and_then (λ (device : driver.Device). device.stage) o ≡ None
