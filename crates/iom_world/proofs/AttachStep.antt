@@ -1,10 +1,9 @@
 -- An attach of the driver is one of the ledger machine.
-use Rattle.std.proofs.Common.{suc, zero, ◌≡◌, ◌≢◌, ◌<◌, ◌==◌, ◌∙◌, ℕ, Bool, true, false, not, List, [], ◌∷◌, length, All, find, map, Option, Some, None, Result, Ok, Err, slice_get, slice_set, is_some, nat_le, refl, sym, ap, subst, inl, inr, arith}
+use Rattle.std.proofs.Common.{suc, zero, ◌≡◌, ◌≢◌, ◌<◌, ◌==◌, ◌∙◌, ℕ, Bool, true, false, not, List, [], ◌∷◌, length, All, find, Option, Some, None, Result, Ok, Err, slice_set, is_some, nat_le, refl, sym, ap, subst, inl, inr, arith}
 use Rattle.std.proofs.lemmas.Bool.{false≢true}
 use Rattle.std.proofs.lemmas.Bool.Decides.{eqb_tells}
 use Rattle.std.proofs.lemmas.List.{length-set}
 use Rattle.std.proofs.lemmas.List.Elements.{All-cons, All-nil}
-use Rattle.iom_base.specs.declared.owner.Owner.{Owner}
 use Rattle.iom_base.specs.declared.owner.Owner.TheVariants.{OneDevice}
 use Rattle.iom_driver.specs.declared.device.Device as driver
 use Rattle.iom_driver.specs.declared.device.FirstStage.{FirstStage}
@@ -19,7 +18,6 @@ use Rattle.iom_ledger.specs.declared.refusal.Refusal.TheVariants.{NoFrames, NotS
 use Rattle.iom_ledger.specs.Refusals.{first_that_applies}
 use Rattle.iom_machine.specs.declared.outcome.Outcome.{Outcome}
 use Rattle.iom_machine.specs.declared.outcome.Outcome.TheVariants.{Done}
-use Rattle.iom_machine.specs.declared.state.Attachment.{Attachment}
 use Rattle.iom_machine.specs.declared.state.Attachment.TheVariants.{Attached}
 use Rattle.iom_machine.specs.declared.state.Device as declared
 use Rattle.iom_machine.specs.declared.state.Mode.TheVariants.{First}
@@ -30,12 +28,10 @@ use Rattle.iom_machine.specs.Machine as machine
 use Rattle.iom_machine.specs.Refusals as refusals
 use Rattle.iom_machine.specs.Refusals.{MayRefuseAttach}
 use Rattle.iom_phys_mem.specs.Words.{zeroed}
-use Rattle.iom_table_frames.specs.Marks.{NoneIsFree}
 use Rattle.iom_world.specs.declared.device.Device.{Device}
 use Rattle.iom_world.specs.Devices.{shown_attachment, shown_device, shown_devices}
 use Rattle.iom_world.specs.Does.{AttachesDevice, told_of}
 use Rattle.iom_world.specs.Facts.{HaveOwnIds}
-use Rattle.iom_world.specs.Frames.{ShowsFrames}
 use Rattle.iom_world.specs.Parts.{Parts}
 use Rattle.iom_world.specs.Places.{IsAbsent}
 use Rattle.iom_world.specs.Shows.{PartsShow}
@@ -43,7 +39,7 @@ use Rattle.iom_world.specs.Sound.{IsSound}
 use Rattle.iom_world.proofs.FrameLemmas.{shows_reserved}
 use Rattle.iom_world.proofs.FreeLemmas.{free_in_machine, free_in_world}
 use Rattle.iom_world.proofs.ListLemmas.{get_set_other}
-use Rattle.iom_world.proofs.PlaceLemmas.{shown_of}
+use Rattle.iom_world.proofs.PlaceLemmas.{shown_of, attached_so}
 use Rattle.iom_world.proofs.ReasonLemmas.{attach_first, plugged_shown, refused_as}
 use Rattle.iom_world.proofs.RefusalLemmas.{some_and}
 use Rattle.iom_world.proofs.StayLemmas.{shows_same}
@@ -54,18 +50,8 @@ use Rattle.iom_world.proofs.StayLemmas.{shows_same}
 abbrev SameElsewhere : List driver.Device → List driver.Device → ℕ → Type 0
 SameElsewhere known known' id = (other : ℕ) → other ≢ id → stage_of known' other ≡ stage_of known other
 
--- a device as the machine has it, attached so
-abbrev pub attached_so : Device → Attachment → declared.Device
-attached_so device attachment = record {
-  id = device.id;
-  kind = device.kind;
-  attachment = attachment;
-  accepted = device.accepted;
-  in_flight = device.in_flight;
-}
-
 -- devices with other ids are shown as before
-pub elsewhere_shown : (known known' : List driver.Device) (devices : List Device) (id : ℕ) → SameElsewhere known known' id → IsAbsent devices id → shown_devices known devices ≡ shown_devices known' devices
+elsewhere_shown : (known known' : List driver.Device) (devices : List Device) (id : ℕ) → SameElsewhere known known' id → IsAbsent devices id → shown_devices known devices ≡ shown_devices known' devices
 elsewhere_shown known known' [] id same absent = refl
 elsewhere_shown known known' (device ∷ others) id same absent =
     ap (λ stage. attached_so device (shown_attachment stage) ∷ shown_devices known others) (sym (same device.id (absent 0 device refl)))
@@ -81,15 +67,15 @@ replaced_shown known known' (device ∷ others) id stage found same staged own a
       let is : shown_device known device ≡ found = (let both : Some (shown_device known device) ≡ Some found = rw e.0 at at in cc) in
       let new : stage_of known' device.id ≡ Some stage = ap (λ i. stage_of known' i) e.1 ∙ staged in
       rw e.0 (
-        ap (λ (d : declared.Device). record d { attachment = Attached First false } ∷ shown_devices known others) (sym is)
-        ∙ ap (λ s. attached_so device (shown_attachment s) ∷ shown_devices known others) (sym new)
-        ∙ ap (λ ds. shown_device known' device ∷ ds) (elsewhere_shown known known' others id same (λ k other there named. absurd (apart k (own 0 (suc k) device other refl there (e.1 ∙ sym named)))))
+      ap (λ (d : declared.Device). record d { attachment = Attached First false } ∷ shown_devices known others) (sym is)
+      ∙ ap (λ s. attached_so device (shown_attachment s) ∷ shown_devices known others) (sym new)
+      ∙ ap (λ ds. shown_device known' device ∷ ds) (elsewhere_shown known known' others id same (λ k other there named. absurd (apart k (own 0 (suc k) device other refl there (e.1 ∙ sym named)))))
       )
   | inr ne ↦ rw ne.0 (
       ap (λ s. attached_so device (shown_attachment s) ∷ replaced_device (shown_devices known others) id (record found { attachment = Attached First false })) (sym (same device.id ne.1))
       ∙ ap (λ ds. shown_device known' device ∷ ds)
-          (replaced_shown known known' others id stage found same staged (λ j k one other at_one at_other named. below j k (own (suc j) (suc k) one other at_one at_other named)) (rw ne.0 at at))
-    )
+      (replaced_shown known known' others id stage found same staged (λ j k one other at_one at_other named. below j k (own (suc j) (suc k) one other at_one at_other named)) (rw ne.0 at at))
+      )
 ]
   where
     apart : (k : ℕ) → zero ≡ suc k → ⊥
@@ -197,8 +183,10 @@ attach_step old new events id told sound does state shows = by does.answer does.
     by (Err why) is call = (
       [],
       state,
-      subst (λ t. machine.Attaches [] state id First false t state) (sym is)
-          (refused_as (attach_reasons old.driver id) (refusals.attach_reasons state id false) (LacksRoot old.driver old.memory) (MayRefuseAttach state First) why
-          (attach_first old events state id sound shows) (λ none. may_lack_root old state why shows) call.0, refl),
+      subst (λ t. machine.Attaches [] state id First false t state) (sym is) (
+        refused_as (attach_reasons old.driver id) (refusals.attach_reasons state id false) (LacksRoot old.driver old.memory) (MayRefuseAttach state First) why
+            (attach_first old events state id sound shows) (λ none. may_lack_root old state why shows) call.0,
+        refl,
+      ),
       shows_same old new state call.2 does.devices call.1 shows,
     )

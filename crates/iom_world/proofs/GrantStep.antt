@@ -1,5 +1,5 @@
 -- A grant of the driver is one of the ledger machine.
-use Rattle.std.proofs.Common.{suc, zero, ◌≡◌, ◌≢◌, ◌<◌, ◌≤◌, ◌⊎◌, ◌∙◌, ℕ, Bool, true, false, not, List, [], ◌∷◌, length, All, nat_eq, Option, Some, None, Result, Ok, Err, slice_get, slice_set, get_or, is_none, refl, sym, ap, subst, inl, inr, arith}
+use Rattle.std.proofs.Common.{suc, zero, ◌≡◌, ◌≢◌, ◌<◌, ◌≤◌, ◌⊎◌, ◌∙◌, ℕ, Bool, true, false, not, List, [], ◌∷◌, length, All, nat_eq, Option, Some, None, Result, Ok, Err, slice_set, get_or, is_none, refl, sym, ap, subst, inl, inr, arith}
 use Rattle.std.specs.List.{IsDistinct}
 use Rattle.std.proofs.lemmas.Bool.{false≢true, eq-eqb}
 use Rattle.std.proofs.lemmas.List.{length-set}
@@ -8,7 +8,7 @@ use Rattle.iom_base.specs.declared.owner.Owner.{Owner}
 use Rattle.iom_base.specs.declared.owner.Owner.TheVariants.{OneDevice}
 use Rattle.iom_base.specs.GrantRights.{rights_of}
 use Rattle.iom_driver.specs.declared.device.FirstStage.{FirstStage}
-use Rattle.iom_driver.specs.Calls.{Grants, TakesTables, LacksTables, HasFrames, granted_leaf}
+use Rattle.iom_driver.specs.Calls.{Grants, TakesTables, LacksTables, granted_leaf}
 use Rattle.iom_driver.specs.Choices.{marked_for, cleared}
 use Rattle.iom_driver.specs.Devices.{is_plugged, stage_of}
 use Rattle.iom_driver.specs.Reasons.{grant_reasons, granting_reasons}
@@ -20,7 +20,7 @@ use Rattle.iom_ledger.specs.declared.entry.HistoryEntry.TheVariants as entry
 use Rattle.iom_ledger.specs.declared.ledger.Ledger.{Ledger}
 use Rattle.iom_ledger.specs.declared.refusal.Refusal.{Refusal}
 use Rattle.iom_ledger.specs.declared.refusal.Refusal.TheVariants.{NoFrames, Memory, NotStarted, NoSuchDevice, NotAttached}
-use Rattle.iom_ledger.specs.Refusals.{first_that_applies, NoneApplies}
+use Rattle.iom_ledger.specs.Refusals.{first_that_applies}
 use Rattle.iom_machine.specs.declared.outcome.Outcome.{Outcome}
 use Rattle.iom_machine.specs.declared.state.Frame.{Frame}
 use Rattle.iom_machine.specs.declared.state.State.{State}
@@ -38,7 +38,7 @@ use Rattle.iom_world.specs.Sound.{IsSound}
 use Rattle.iom_world.proofs.FrameLemmas.{shows_reserved, shows_kept}
 use Rattle.iom_world.proofs.FreeLemmas.{free_in_machine, free_in_world}
 use Rattle.iom_world.proofs.ReasonLemmas.{grant_first, refused_as}
-use Rattle.iom_world.proofs.StayLemmas.{shows_still, length-mapped}
+use Rattle.iom_world.proofs.StayLemmas.{shows_still, not_owned, length-mapped}
 
 -- THE FRAMES
 
@@ -50,10 +50,6 @@ shows_marked id (f ∷ fs) memory marks frames shows long inside =
     shows_marked id fs memory (slice_set marks f (Some (OneDevice id))) _
     (shows_reserved memory memory marks frames f (OneDevice id) shows (all_head (λ g. g < length memory) f fs inside) long (λ k other. refl) refl)
     (length-set marks f (Some (OneDevice id)) ∙ long) (all_tail (λ g. g < length memory) f fs inside)
-
--- a frame that is nobody's isn't the device's
-not_owned : (marks : List (Option Owner)) (frame : ℕ) (owner : Owner) → slice_get marks frame ≡ Some None → slice_get marks frame ≢ Some (Some owner)
-not_owned marks frame owner free own = let both : ◌≡◌ {A = Option (Option Owner)} (Some None) (Some (Some owner)) = sym free ∙ own in cc
 
 -- THE REASONS
 
@@ -172,11 +168,13 @@ grant_step old new events id page frame rights told sound does state shows = by 
         let d = old.driver in (
           [],
           state,
-          subst (λ t. machine.Grants [] state id page frame rights t state) (sym is)
-              (refused_as (grant_reasons d id page frame) (refusals.grant_reasons state id page frame) (LacksTables d old.memory id page frame) (MayRefuseGrant state frame) why
-              (grant_first old events state id page frame sound shows)
-              (λ none.
-              let stage = attached_then d.started (is_plugged d.devices id) (stage_of d.devices id) (granting_reasons d id page frame) none in
-              may_lack_tables old state id page frame why stage.0 shows stage.1) call.0, refl),
+          subst (λ t. machine.Grants [] state id page frame rights t state) (sym is) (
+            refused_as (grant_reasons d id page frame) (refusals.grant_reasons state id page frame) (LacksTables d old.memory id page frame) (MayRefuseGrant state frame) why
+                (grant_first old events state id page frame sound shows)
+                (λ none.
+                let stage = attached_then d.started (is_plugged d.devices id) (stage_of d.devices id) (granting_reasons d id page frame) none in
+                may_lack_tables old state id page frame why stage.0 shows stage.1) call.0,
+            refl,
+          ),
           shows_still old new state call.2 does.devices call.1.rest (call.1.agrees state.history shows.ledger) shows,
         )

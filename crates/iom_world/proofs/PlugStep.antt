@@ -1,5 +1,5 @@
 -- A plug of the driver is one of the ledger machine.
-use Rattle.std.proofs.Common.{◌≡◌, ◌++◌, ◌∙◌, ℕ, Bool, true, false, List, [], ◌∷◌, length, nat_le, Option, Some, None, Result, Ok, Err, refl, sym, ap, subst}
+use Rattle.std.proofs.Common.{◌≡◌, ◌++◌, ◌∙◌, ℕ, Bool, true, false, List, [], ◌∷◌, length, nat_le, None, Result, Ok, Err, refl, sym, ap, subst}
 use Rattle.iom_driver.specs.declared.device.Device as driver
 use Rattle.iom_driver.specs.Calls.{Plugs}
 use Rattle.iom_driver.specs.Devices.{is_plugged, stage_of, detached}
@@ -22,7 +22,7 @@ use Rattle.iom_world.specs.Does.{PlugsDevice, told_of, new_device, devices_after
 use Rattle.iom_world.specs.Parts.{Parts}
 use Rattle.iom_world.specs.Shows.{PartsShow}
 use Rattle.iom_world.specs.Sound.{IsSound}
-use Rattle.iom_world.proofs.AttachStep.{attached_so}
+use Rattle.iom_world.proofs.PlaceLemmas.{attached_so}
 use Rattle.iom_world.proofs.ReasonLemmas.{plug_first, none_stage, refused_as}
 use Rattle.iom_world.proofs.StayLemmas.{shows_same}
 
@@ -72,8 +72,10 @@ plug_step old new events id kind told sound does state shows = by does.answer do
     )
     by (Err why) is call devices = (
       state,
-      subst (λ t. machine.Plugs state id kind t state) (sym is)
-          (refused_as (plug_reasons old.driver id) (refusals.plug_reasons state id) (λ may. may ≡ Memory) MayRefusePlug why (plug_first old events state id sound shows)
-          (λ none memory. subst MayRefusePlug (sym memory) tt) call.0, refl),
+      subst (λ t. machine.Plugs state id kind t state) (sym is) (
+        refused_as (plug_reasons old.driver id) (refusals.plug_reasons state id) (λ may. may ≡ Memory) MayRefusePlug why (plug_first old events state id sound shows)
+            (λ none memory. subst MayRefusePlug (sym memory) tt) call.0,
+        refl,
+      ),
       shows_same old new state does.memory devices call.1 shows,
     )

@@ -1,5 +1,5 @@
 -- Why the ledger machine refuses a call of the driver: for the first of the driver's own reasons.
-use Rattle.std.proofs.Common.{suc, zero, ◌≡◌, ◌==◌, ◌||◌, ◌&&◌, ◌-◌, ◌∙◌, ℕ, Bool, true, false, not, List, [], ◌∷◌, length, map, find, Option, Some, None, option_map, option_to_list, MatchOption, is_some, is_none, nat_le, refl, sym, ap, subst, inl, inr}
+use Rattle.std.proofs.Common.{suc, ◌≡◌, ◌==◌, ◌||◌, ◌&&◌, ◌-◌, ◌∙◌, ℕ, Bool, true, false, not, List, [], ◌∷◌, length, find, Option, Some, None, option_map, option_to_list, MatchOption, is_some, is_none, nat_le, refl, sym, ap, subst, inl, inr}
 use Rattle.std.specs.Option.{option_and_then, option_map_or}
 use Rattle.std.proofs.lemmas.Bool.{false≢true}
 use Rattle.std.proofs.lemmas.Bool.Decides.{eqb_tells}
@@ -118,6 +118,15 @@ lingering_shown ledger state id page agrees =
 busy_shown : (a a' b b' : Bool) → a ≡ a' → b ≡ b' → (a || b) ≡ (a' || b')
 busy_shown a a' b b' one other = rw (one, other) refl
 
+-- FRAMES AND TICKETS
+
+pub frames_shown : (parts : Parts) (events : ℕ) (state : State) → IsSound parts events → PartsShow parts state → length state.frames ≡ length parts.driver.marks
+frames_shown parts events state sound shows = shows.frames.size ∙ sound.ready.stand.size
+
+pub pending_shown : (parts : Parts) (state : State) → PartsShow parts state → pending_tickets state ≡ parts.driver.given - parts.driver.confirmed
+pending_shown parts state shows =
+    ap (λ given. given - last_confirmed state.history) shows.given ∙ ap (λ confirmed. parts.driver.given - confirmed) shows.confirmed
+
 -- THE ORDERS
 
 plug_tests : (there there' many many' : Bool) → there ≡ there' → many ≡ many'
@@ -232,7 +241,7 @@ grant_first parts events state id page frame sound shows =
     (plugged_shown d.devices parts.devices state id sound.known shows.devices)
     (attachment_shown d.devices parts.devices state id sound.known shows.devices) sound.started
     (grant_same (length state.frames) (length d.marks) page frame (is_reserved state.frames frame) (is_marked d.marks frame) (is_held state id page || is_lingering state id page) (is_busy d id page)
-    (shows.frames.size ∙ sound.ready.stand.size)
+    (frames_shown parts events state sound shows)
     (reserved_shown parts.memory d.marks state.frames frame shows.frames)
     (busy_shown _ _ _ _ (held_shown d.ledger state id page shows.ledger) (lingering_shown d.ledger state id page shows.ledger)))
 
@@ -252,7 +261,7 @@ release_first parts events state id page sound shows =
     (plugged_shown d.devices parts.devices state id sound.known shows.devices)
     (attachment_shown d.devices parts.devices state id sound.known shows.devices)
     (not_some (is_held state id page) (held_in d.ledger id page) (held_shown d.ledger state id page shows.ledger))
-    (ap (λ given. nat_le pending_limit (given - last_confirmed state.history)) shows.given ∙ ap (λ confirmed. nat_le pending_limit (d.given - confirmed)) shows.confirmed)
+    (ap (nat_le pending_limit) (pending_shown parts state shows))
 
 started_first : (started there : Bool) (stage : Option FirstStage) (later : List (Bool × Refusal)) (told : Option Refusal) → started ≡ true → driver_first started there stage later ≡ told
     → driver_first true there stage later ≡ told

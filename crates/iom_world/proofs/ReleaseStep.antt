@@ -1,5 +1,5 @@
 -- A release of the driver is one of the ledger machine.
-use Rattle.std.proofs.Common.{◌≡◌, ◌≢◌, ◌<◌, ◌+◌, ◌∙◌, ℕ, List, [], ◌∷◌, length, Option, Some, None, Result, Ok, Err, slice_get, refl, sym, ap, subst, arith}
+use Rattle.std.proofs.Common.{◌≡◌, ◌≢◌, ◌+◌, ◌∙◌, ℕ, List, ◌∷◌, length, Option, Some, None, Result, Ok, Err, slice_get, refl, sym, ap, subst, arith}
 use Rattle.iom_base.specs.declared.owner.Owner.{Owner}
 use Rattle.iom_base.specs.declared.owner.Owner.TheVariants.{System, OneDevice}
 use Rattle.iom_driver.specs.declared.answers.Ticket.{Ticket}
@@ -21,17 +21,14 @@ use Rattle.iom_world.specs.Sound.{IsSound}
 use Rattle.iom_world.proofs.DriverLemmas.{IsSoundDriver}
 use Rattle.iom_world.proofs.FrameLemmas.{shows_kept}
 use Rattle.iom_world.proofs.ReasonLemmas.{release_refused_by, may_release}
-use Rattle.iom_world.proofs.StayLemmas.{shows_same, length-unmapped}
+use Rattle.iom_world.proofs.StayLemmas.{shows_same, not_owned, length-unmapped}
 
 -- memory has as many frames after a release
 size_released : (d d' : DriverState) (memory memory' : List (List ℕ)) (io io' : Iommu) (id page ticket : ℕ) → QueuesRelease mmio d memory io id page ticket d' memory' io' → length memory' ≡ length memory
 size_released d d' memory memory' io io' id page ticket queues =
     queues.queued.second.written.frames ∙ queues.queued.first.written.frames ∙ length-unmapped memory queues.stage.root page
 
--- a frame that is nobody's isn't a device's, and isn't the ring's
-not_owned : (marks : List (Option Owner)) (frame : ℕ) (owner : Owner) → slice_get marks frame ≡ Some None → slice_get marks frame ≢ Some (Some owner)
-not_owned marks frame owner free own = let both : ◌≡◌ {A = Option (Option Owner)} (Some None) (Some (Some owner)) = sym free ∙ own in cc
-
+-- a frame that is nobody's isn't the ring's
 not_ring : (marks : List (Option Owner)) (frame frames : ℕ) → slice_get marks (command_frame frames) ≡ Some (Some System) → slice_get marks frame ≡ Some None → frame ≢ command_frame frames
 not_ring marks frame frames ring free same = not_owned marks (command_frame frames) System (subst (λ f. slice_get marks f ≡ Some None) same free) ring
 

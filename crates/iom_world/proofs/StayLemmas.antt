@@ -1,6 +1,7 @@
 -- What a world shows stays where little changes, and what mapping and unmapping leave of memory's size.
-use Rattle.std.proofs.Common.{◌≡◌, ◌/◌, ◌*◌, ◌∙◌, ℕ, List, [], ◌∷◌, length, Option, Some, None, slice_get, refl, sym, ap, subst}
+use Rattle.std.proofs.Common.{◌≡◌, ◌≢◌, ◌/◌, ◌*◌, ◌∙◌, ℕ, List, [], ◌∷◌, length, Option, Some, None, slice_get, refl, sym, ap, subst}
 use Rattle.std.proofs.lemmas.List.{length-set}
+use Rattle.iom_base.specs.declared.owner.Owner.{Owner}
 use Rattle.iom_driver.specs.State.{DriverState}
 use Rattle.iom_ledger.specs.Shown.{Agrees}
 use Rattle.iom_machine.specs.declared.state.State.{State}
@@ -33,6 +34,10 @@ shows_same old new state memory devices driver shows =
     let ledger = ap (λ (d : DriverState). d.ledger) driver in
     shows_still old new state memory devices (driver ∙ ap (λ l. record old.driver { ledger = l }) (sym ledger))
     (subst (λ l. Agrees l state.history) (sym ledger) shows.ledger) shows
+
+-- a frame that is nobody's has no owner
+pub not_owned : (marks : List (Option Owner)) (frame : ℕ) (owner : Owner) → slice_get marks frame ≡ Some None → slice_get marks frame ≢ Some (Some owner)
+not_owned marks frame owner free own = let both : ◌≡◌ {A = Option (Option Owner)} (Some None) (Some (Some owner)) = sym free ∙ own in cc
 
 -- memory has as many frames after a word is stored, and after several
 length-with_word : (n : ℕ) (memory : List (List ℕ)) (address value : ℕ) → length (with_word n memory address value) ≡ length memory
