@@ -11,3 +11,9 @@ pub mod DriverKeeps
 pub mod ReleaseKeeps
 pub mod FetchKeeps
 pub mod PlugKeeps
+pub mod ReasonLemmas
+pub mod StayLemmas
+pub mod ReleaseStep
+pub mod AttachStep
+pub mod GrantStep
+pub mod PlugStep

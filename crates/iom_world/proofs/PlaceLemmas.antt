@@ -4,6 +4,7 @@ use Rattle.std.proofs.lemmas.Bool.Decides.{eqb_tells}
 use Rattle.std.proofs.lemmas.Bool.{eq-eqb}
 use Rattle.iom_driver.specs.declared.device.Device as driver
 use Rattle.iom_machine.specs.Devices.{replaced_device}
+use Rattle.iom_machine.specs.declared.state.Attachment.{Attachment}
 use Rattle.iom_machine.specs.declared.state.Device as machine
 use Rattle.iom_world.specs.declared.device.Device.{Device}
 use Rattle.iom_world.specs.Devices.{shown_device, shown_devices}
@@ -16,6 +17,16 @@ differs a b ne = elim (eqb_tells a b) [ inl e ↦ absurd (ne e.1) | inr n ↦ n.
 -- the device of the machine with this id
 abbrev pub shown_of : List driver.Device → List Device → ℕ → Option machine.Device
 shown_of known devices id = find (λ device. device.id == id) (shown_devices known devices)
+
+-- a device as the machine has it, attached so
+abbrev pub attached_so : Device → Attachment → machine.Device
+attached_so device attachment = record {
+  id = device.id;
+  kind = device.kind;
+  attachment = attachment;
+  accepted = device.accepted;
+  in_flight = device.in_flight;
+}
 
 -- an id that no device has finds none
 pub absent_shown : (known : List driver.Device) (devices : List Device) (id : ℕ) → IsAbsent devices id → shown_of known devices id ≡ None

@@ -21,8 +21,8 @@ impl World {
         self.devices.iter().position(|device| device.id == id)
     }
 
-    /// A device is plugged in, attached to nothing and with nothing in flight. The driver learns of it last:
-    /// so where there is no memory nothing is half done.
+    /// A device is plugged in, attached to nothing and with nothing in flight. The driver learns of it once
+    /// there is room for it: so nothing is half done.
     pub(crate) fn plug(&mut self, id: DeviceId, kind: DeviceKind) -> Told
         ensures does { PlugsDevice (parts_of self.old) id kind (outcome_of result) (parts_of self.new) }
         ensures events { self.new.events ≡ self.old.events }
@@ -36,19 +36,19 @@ impl World {
         let Ok(in_flight) = InFlight::new(*self.devices.allocator()) else {
             return Told::Refused(Refusal::Memory);
         };
+        if self.devices.reserve(1).is_err() {
+            return Told::Refused(Refusal::Memory);
+        }
+        if let Err(why) = self.driver.plug(id) {
+            return Told::Refused(why);
+        }
         let device = Device {
             id,
             kind,
             accepted: 0,
             in_flight,
         };
-        if self.devices.push(device).is_err() {
-            return Told::Refused(Refusal::Memory);
-        }
-        let answer = self.driver.plug(id);
-        if answer.is_err() {
-            self.devices.pop();
-        }
-        Told::of(answer)
+        self.devices.push(device).unwrap();
+        Told::Done
     }
 }
