@@ -83,7 +83,7 @@ is_storable memory done (IodirInvalDdt device) many next = absurd next
 is_storable memory done (AtsInval device range) many next = absurd next
 
 -- it lies in the frame of the completion word alone
-stored_there : (frames done : ℕ) (command : Commanded) (n : ℕ) → IsNext (completion_address frames) done command → IsStoredIn (store_of command) n → n ≡ completion_frame frames
+pub stored_there : (frames done : ℕ) (command : Commanded) (n : ℕ) → IsNext (completion_address frames) done command → IsStoredIn (store_of command) n → n ≡ completion_frame frames
 stored_there frames done (IotinvalVma gscid pscid page) n next at = absurd at
 stored_there frames done (IofenceC store wsi pr pw) n next at =
     let there = subst (λ s. IsStoredIn s n) (ap store_of next) at in omega (arith, there)

@@ -11,6 +11,8 @@ pub mod DriverKeeps
 pub mod ReleaseKeeps
 pub mod FetchKeeps
 pub mod PlugKeeps
+pub mod FetchStep
+pub mod PollStep
 pub mod ReasonLemmas
 pub mod StayLemmas
 pub mod ReleaseStep

@@ -1,3 +1,5 @@
+use Rattle.iom_world.proofs.FetchStep.{fetch_step}
+use Rattle.iom_world.proofs.PollStep.{poll_step}
 use Rattle.std.proofs.Common.{rules, ◌≡◌, ◌<◌, ◌≤◌, ◌∙◌, length, refl, sym, ap, arith, Ok, Err}
 use Rattle.iom_driver.specs.Seen.{state_of}
 use Rattle.iom_ledger.specs.declared.refusal.Refusal.TheVariants.{AlreadyPlugged, TooManyDevices, Memory}
