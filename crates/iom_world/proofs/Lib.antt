@@ -5,3 +5,5 @@ pub mod RefusalLemmas
 pub mod PlaceLemmas
 pub mod MayLemmas
 pub mod DriverLemmas
+pub mod MemoryKeeps
+pub mod ReplaceLemmas
