@@ -7,3 +7,6 @@ pub mod MayLemmas
 pub mod DriverLemmas
 pub mod MemoryKeeps
 pub mod ReplaceLemmas
+pub mod RequestKeeps
+pub mod RequestStep
+pub mod RefusedSame
