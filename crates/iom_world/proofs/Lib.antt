@@ -10,3 +10,6 @@ pub mod ReplaceLemmas
 pub mod RequestKeeps
 pub mod RequestStep
 pub mod RefusedSame
+pub mod CommitKeeps
+pub mod StoreLemmas
+pub mod CommitStep

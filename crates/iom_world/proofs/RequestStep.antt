@@ -25,6 +25,7 @@ use Rattle.iom_world.specs.Parts.{Parts}
 use Rattle.iom_world.specs.Places.{IsAbsent, IsPlaceOf}
 use Rattle.iom_world.specs.Requests.{IsTranslated, IsFaulty, IsReply, IsTold, AsksFor, detached_cause, with_flight}
 use Rattle.iom_world.specs.Shows.{PartsShow}
+use Rattle.iom_world.specs.Sound.{IsSound}
 use Rattle.iom_world.proofs.PlaceLemmas.{absent_shown, place_shown}
 use Rattle.iom_world.proofs.ReplaceLemmas.{parts_are, shown_changed}
 
@@ -67,28 +68,25 @@ pub shows_same : (old new : Parts) (state : State) → new ≡ old → PartsShow
 shows_same old new state same shows = subst (λ parts. PartsShow parts state) (sym same) shows
 
 module _ (old : Parts) (id place : ℕ) (access : Access) (state : State) (shows : PartsShow old state) (is : IsPlaceOf old.devices id place) where
-  known : List driver.Device
-  known = old.driver.devices
-
-  MayTell : ℕ → State → Outcome → machine.Device → Type 0
+  abbrev MayTell : ℕ → State → Outcome → machine.Device → Type 0
   MayTell frame next told device = MayAnswer state device access frame told × (next ≡ state_after state device access frame told)
 
   step_replied : (reply : Reply) (told : Outcome) (new : Parts) → IsReply old.driver is.0 access.address access.len access.kind reply
       → IsTold old.devices place is.0 access reply told new.devices → new.memory ≡ old.memory → new.iommu ≡ old.iommu → new.driver ≡ old.driver → Steps state id access told new
   step_replied (Accepted frame) told new right tells memory iommu driver =
-      let stage = stage_of known is.0.id in
-      let next = with_accepted state (shown_device known is.0) access frame in
+      let stage = stage_of old.driver.devices is.0.id in
+      let next = with_accepted state (shown_device old.driver.devices is.0) access frame in
       let changed : Parts = record old { devices = slice_set old.devices place (with_flight is.0 access frame) } in (
         frame,
         next,
         subst (λ t. Requests frame state id access t next) (sym tells.0)
-            (acts_at (MayTell frame next (outcome.Accepted (is.0.accepted + 1))) state known old.devices id place (outcome.Accepted (is.0.accepted + 1)) next shows.devices is
+            (acts_at (MayTell frame next (outcome.Accepted (is.0.accepted + 1))) state old.driver.devices old.devices id place (outcome.Accepted (is.0.accepted + 1)) next shows.devices is
             ((right.0, may_accept stage state old.driver is.0.id frame access shows.ledger right.1, refl), refl)),
         shows_same changed new next (parts_are new old.memory old.iommu old.driver (slice_set old.devices place (with_flight is.0 access frame)) memory iommu driver tells.1)
             (record {
               ledger = shows.ledger;
               frames = shows.frames;
-              devices = shown_changed known state old.devices id place (with_flight is.0 access frame) shows.devices is is.2;
+              devices = shown_changed old.driver.devices state old.devices id place (with_flight is.0 access frame) shows.devices is is.2;
               given = shows.given;
               confirmed = shows.confirmed;
               none_later = shows.none_later;
@@ -98,21 +96,21 @@ module _ (old : Parts) (id place : ℕ) (access : Access) (state : State) (shows
   step_replied Busy told new right tells memory iommu driver = (
     0,
     state,
-    subst (λ t. Requests 0 state id access t state) (sym tells.0) (acts_at (MayTell 0 state outcome.Busy) state known old.devices id place outcome.Busy state shows.devices is (right, refl)),
+    subst (λ t. Requests 0 state id access t state) (sym tells.0) (acts_at (MayTell 0 state outcome.Busy) state old.driver.devices old.devices id place outcome.Busy state shows.devices is (right, refl)),
     shows_same old new state (parts_are new old.memory old.iommu old.driver old.devices memory iommu driver tells.1) shows,
   )
   step_replied BadSpan told new right tells memory iommu driver = (
     0,
     state,
-    subst (λ t. Requests 0 state id access t state) (sym tells.0) (acts_at (MayTell 0 state outcome.BadSpan) state known old.devices id place outcome.BadSpan state shows.devices is (right, refl)),
+    subst (λ t. Requests 0 state id access t state) (sym tells.0) (acts_at (MayTell 0 state outcome.BadSpan) state old.driver.devices old.devices id place outcome.BadSpan state shows.devices is (right, refl)),
     shows_same old new state (parts_are new old.memory old.iommu old.driver old.devices memory iommu driver tells.1) shows,
   )
   step_replied (Fault cause) told new right tells memory iommu driver =
-      let stage = stage_of known is.0.id in (
+      let stage = stage_of old.driver.devices is.0.id in (
         0,
         state,
         subst (λ t. Requests 0 state id access t state) (sym tells.0)
-            (acts_at (MayTell 0 state (outcome.Fault cause)) state known old.devices id place (outcome.Fault cause) state shows.devices is
+            (acts_at (MayTell 0 state (outcome.Fault cause)) state old.driver.devices old.devices id place (outcome.Fault cause) state shows.devices is
             ((right.0, may_fault stage state old.driver is.0.id access cause shows.ledger shows.levels right.1), refl)),
         shows_same old new state (parts_are new old.memory old.iommu old.driver old.devices memory iommu driver tells.1) shows,
       )
