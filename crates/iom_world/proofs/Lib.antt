@@ -13,3 +13,5 @@ pub mod RefusedSame
 pub mod CommitKeeps
 pub mod StoreLemmas
 pub mod CommitStep
+pub mod ProcessorKeeps
+pub mod ProcessorSteps
