@@ -76,22 +76,23 @@ device_made ledger completed events device is = record {
 }
 
 -- the device that made its oldest access, among the others
-keeps_made : (old : Parts) (place : ℕ) (device : Device) (events : ℕ) → IsSound old events → slice_get old.devices place ≡ Some device
-    → IsSound (record old { devices = slice_set old.devices place (without_oldest device) }) events
-keeps_made old place device events sound at =
-    keeps_device old place device (without_oldest device) events sound at refl
-    (device_made old.driver.ledger (completed_in old.memory) events device (sound.each place device at))
+pub keeps_made : (old : Parts) (place : ℕ) (device now : Device) (events : ℕ) → IsSound old events → slice_get old.devices place ≡ Some device → now ≡ without_oldest device
+    → IsSound (record old { devices = slice_set old.devices place now }) events
+keeps_made old place device now events sound at is =
+    keeps_device old place device now events sound at (ap (λ (d : Device). d.id) is)
+    (subst (λ d. IsSoundDevice old.driver.ledger (completed_in old.memory) events d) (sym is)
+    (device_made old.driver.ledger (completed_in old.memory) events device (sound.each place device at)))
 
 keeps_made_at : (old new : Parts) (events place : ℕ) (told : Outcome) → IsSound old events → IsSoundDriver old.driver → MakesAt old place told new → IsSound new events
 keeps_made_at old new events place told sound own makes = elim makes.effect [
   | inl gives ↦ subst (λ parts. IsSound parts events) (sym (parts_are new old.memory old.iommu old.driver after gives.memory_stays makes.iommu makes.driver makes.devices))
-      (keeps_made old place makes.device events sound makes.stands)
+      (keeps_made old place makes.device (without_oldest makes.device) events sound makes.stands refl)
   | inr stores ↦
       let bytes = with_bytes stores.bytes (offset_of made.access) made.access.bytes in
       let free = (makeable old events place makes.device made sound own.grants makes.stands makes.oldest).free in
       let changed : Parts = record old { memory = slice_set old.memory made.frame bytes } in
       subst (λ parts. IsSound parts events) (sym (parts_are new changed.memory old.iommu old.driver after stores.stored makes.iommu makes.driver makes.devices))
-      (keeps_made changed place makes.device events (keeps_stored old made.frame bytes events sound own free) makes.stands)
+      (keeps_made changed place makes.device (without_oldest makes.device) events (keeps_stored old made.frame bytes events sound own free) makes.stands refl)
 ]
   where
     made : AcceptedAccess

@@ -15,3 +15,4 @@ pub mod StoreLemmas
 pub mod CommitStep
 pub mod ProcessorKeeps
 pub mod ProcessorSteps
+pub mod AskLemmas

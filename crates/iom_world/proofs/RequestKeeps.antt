@@ -51,16 +51,24 @@ device_accepted ledger completed events device access frame is covered counted =
   counted = omega arith;
 }
 
+-- a device that has one more access in flight, among the others
+pub keeps_accepted : (old : Parts) (events place : ℕ) (device now : Device) (access : Access) (frame : ℕ) → IsSound old events → CountsBelow old.devices events
+    → slice_get old.devices place ≡ Some device → IsReply old.driver device access.address access.len access.kind (Accepted frame) → now ≡ with_flight device access frame
+    → IsSound (record old { devices = slice_set old.devices place now }) events
+keeps_accepted old events place device now access frame sound below at right is =
+    let flight : AcceptedAccess = record { access = access; frame = frame } in
+    let covered = covered_by_held (stage_of old.driver.devices device.id) old.driver (completed_in old.memory) device.id flight right.0.0 right.1 in
+    keeps_device old place device now events sound at (ap (λ (d : Device). d.id) is)
+    (subst (λ d. IsSoundDevice old.driver.ledger (completed_in old.memory) events d) (sym is)
+    (device_accepted old.driver.ledger (completed_in old.memory) events device access frame (sound.each place device at) covered (below place device at)))
+
 -- by what is replied
 keeps_replied : (old : Parts) (events place : ℕ) (device : Device) (access : Access) (reply : Reply) (told : Outcome) (new : Parts) → IsSound old events → CountsBelow old.devices events
     → slice_get old.devices place ≡ Some device → IsReply old.driver device access.address access.len access.kind reply
     → IsTold old.devices place device access reply told new.devices → new.memory ≡ old.memory → new.iommu ≡ old.iommu → new.driver ≡ old.driver → IsSound new events
 keeps_replied old events place device access (Accepted frame) told new sound below at right is memory iommu driver =
-    let flight : AcceptedAccess = record { access = access; frame = frame } in
-    let covered = covered_by_held (stage_of old.driver.devices device.id) old.driver (completed_in old.memory) device.id flight right.0.0 right.1 in
     subst (λ parts. IsSound parts events) (sym (parts_are new old.memory old.iommu old.driver (slice_set old.devices place (with_flight device access frame)) memory iommu driver is.1))
-    (keeps_device old place device (with_flight device access frame) events sound at refl
-    (device_accepted old.driver.ledger (completed_in old.memory) events device access frame (sound.each place device at) covered (below place device at)))
+    (keeps_accepted old events place device (with_flight device access frame) access frame sound below at right refl)
 keeps_replied old events place device access Busy told new sound below at right is memory iommu driver =
     subst (λ parts. IsSound parts events) (sym (parts_are new old.memory old.iommu old.driver old.devices memory iommu driver is.1)) sound
 keeps_replied old events place device access BadSpan told new sound below at right is memory iommu driver =
