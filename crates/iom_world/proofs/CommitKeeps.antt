@@ -1,5 +1,5 @@
 -- What stays true of a world when an access in flight is made: it is covered, so its frame is nobody's.
-use Rattle.std.proofs.Common.{suc, ◌≡◌, ◌+◌, ◌/◌, ◌%◌, ◌≤◌, ◌==◌, inl, inr, nat_lt, ℕ, true, false, List, [], ◌∷◌, drop, length, Option, Some, None, option_map, slice_get, slice_set, refl, sym, ap, subst}
+use Rattle.std.proofs.Common.{suc, ◌≡◌, ◌+◌, ◌/◌, ◌%◌, ◌≤◌, ◌==◌, inl, inr, nat_lt, ℕ, true, false, List, [], ◌∷◌, drop, Option, Some, None, option_map, slice_get, slice_set, refl, sym, ap, subst}
 use Rattle.std.specs.Option.{option_map_or}
 use Rattle.std.proofs.lemmas.Bool.{or_cases, and_parts, eqb-true, false≢true}
 use Rattle.iom_base.specs.declared.access.AcceptedAccess.{AcceptedAccess}

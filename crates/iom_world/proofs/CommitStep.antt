@@ -1,10 +1,8 @@
 -- An access in flight is made: a lawful step of the ledger machine.
-use Rattle.std.proofs.Common.{◌≡◌, ◌+◌, ◌%◌, ◌∙◌, inl, inr, ℕ, List, [], Some, slice_get, slice_set, slice_range, refl, sym, ap, subst}
-use Rattle.arrayvec.specs.ArrayVec.{ArrayVec}
+use Rattle.std.proofs.Common.{◌≡◌, ◌+◌, ◌∙◌, inl, inr, ℕ, List, Some, slice_get, slice_set, slice_range, refl, sym, ap, subst}
 use Rattle.iom_base.specs.declared.access.AcceptedAccess.{AcceptedAccess}
 use Rattle.iom_base.specs.Accesses.{offset_of}
 use Rattle.iom_base.specs.Bytes.{with_bytes}
-use Rattle.iom_driver.specs.declared.device.Device as driver
 use Rattle.iom_ledger.specs.History.{May}
 use Rattle.iom_machine.specs.declared.outcome.Outcome.{Outcome}
 use Rattle.iom_machine.specs.declared.outcome.Outcome.TheVariants.{Read, Wrote, NothingInFlight}

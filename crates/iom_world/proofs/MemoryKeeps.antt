@@ -1,11 +1,11 @@
 -- What stays true of a world while memory changes outside the reserved frames.
-use Rattle.std.proofs.Common.{◌≡◌, ◌+◌, ◌-◌, ◌*◌, ◌/◌, ◌%◌, ◌<◌, ◌==◌, ◌∙◌, ℕ, List, length, Option, Some, None, option_map, slice_get, slice_set, drop, if◌then◌else◌, refl, sym, ap, subst, arith}
+use Rattle.std.proofs.Common.{◌≡◌, ◌+◌, ◌-◌, ◌*◌, ◌/◌, ◌<◌, ◌∙◌, ℕ, List, length, Some, None, slice_get, slice_set, refl, sym, ap, subst, arith}
 use Rattle.std.specs.Option.{option_map_or}
 use Rattle.std.proofs.lemmas.List.{length-set}
 use Rattle.iom_base.specs.declared.owner.Owner.{Owner}
 use Rattle.iom_base.specs.declared.owner.Owner.TheVariants.{System}
 use Rattle.iom_command_queue.specs.declared.entry.QueueEntry.{QueueEntry}
-use Rattle.iom_command_queue.specs.Waiting.{commands_in, place_of}
+use Rattle.iom_command_queue.specs.Waiting.{commands_in}
 use Rattle.iom_command_queue.proofs.Waits.{stays_by_frames}
 use Rattle.iom_driver.specs.Layout.{AreFixed, completion_address}
 use Rattle.iom_driver.proofs.Keeps.{owned_differs}

@@ -1,9 +1,9 @@
 -- What stays true of a world when the processor writes: it does so into a frame that is nobody's.
-use Rattle.std.proofs.Common.{◌≡◌, ◌/◌, ◌%◌, ◌<◌, ◌∙◌, ℕ, List, length, Some, None, slice_get, slice_set, refl, sym, subst}
+use Rattle.std.proofs.Common.{◌≡◌, ◌/◌, ◌%◌, ℕ, List, Some, None, slice_get, refl, sym, subst}
 use Rattle.iom_base.specs.Bytes.{with_bytes}
 use Rattle.iom_driver.proofs.Keeps.{unmarked}
 use Rattle.iom_machine.specs.declared.outcome.Outcome.{Outcome}
-use Rattle.iom_machine.specs.declared.outcome.Outcome.TheVariants.{Done, Refused, Ticket, Confirmed, NoneConfirmed, Fetched, Accepted, Busy, BadSpan, Fault, Read, Wrote, NothingInFlight, Bytes, Free}
+use Rattle.iom_machine.specs.declared.outcome.Outcome.TheVariants.{Done, Refused, BadSpan}
 use Rattle.iom_world.specs.Parts.{Parts}
 use Rattle.iom_world.specs.Processor.{PokesBytes, StoresAt, StoresIfAny}
 use Rattle.iom_world.specs.Sound.{IsSound}

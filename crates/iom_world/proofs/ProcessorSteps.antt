@@ -1,24 +1,18 @@
 -- What the processor writes and reads, and what it is told of a frame: lawful steps of the ledger machine.
-use Rattle.std.specs.Prelude.{◌↔◌, IsTrue}
-use Rattle.std.proofs.Common.{◌≡◌, ◌/◌, ◌%◌, ◌+◌, ◌<◌, ◌≤◌, ◌∙◌, ℕ, Bool, true, false, List, length, nat_le, Option, Some, None, slice_get, slice_set, slice_range, refl, sym, ap, subst}
+use Rattle.std.proofs.Common.{◌≡◌, ◌/◌, ◌%◌, ◌+◌, ◌<◌, ◌≤◌, ◌∙◌, ℕ, true, false, List, length, nat_le, Option, Some, None, slice_range, refl, sym, ap, subst}
 use Rattle.std.proofs.lemmas.Bool.{le-leb, lt-leb}
-use Rattle.arrayvec.specs.ArrayVec.{ArrayVec}
-use Rattle.iom_base.specs.Bytes.{with_bytes}
-use Rattle.iom_base.specs.Spans.{FitsInPage}
-use Rattle.iom_driver.specs.Calls as driver
 use Rattle.iom_driver.proofs.Keeps.{unmarked}
 use Rattle.iom_ledger.specs.declared.refusal.Refusal.{Refusal}
 use Rattle.iom_ledger.specs.declared.refusal.Refusal.TheVariants.{FrameOutOfRange, FrameReserved}
 use Rattle.iom_machine.specs.declared.outcome.Outcome.{Outcome}
 use Rattle.iom_machine.specs.declared.outcome.Outcome.TheVariants.{Done, Refused, BadSpan, Bytes, Free}
 use Rattle.iom_machine.specs.declared.state.State.{State}
-use Rattle.iom_machine.specs.Frames.{is_reserved, stored, bytes_of}
+use Rattle.iom_machine.specs.Frames.{stored}
 use Rattle.iom_machine.specs.Machine.{Pokes, Peeks, TellsFree, ShowsBytes}
 use Rattle.iom_machine.specs.Refusals.{NeverElse, frame_reasons, poke_reasons}
 use Rattle.iom_ledger.specs.Refusals.{IsRefusedBy, NoneApplies}
-use Rattle.iom_table_frames.specs.Marks.{is_marked}
 use Rattle.iom_world.specs.Parts.{Parts}
-use Rattle.iom_world.specs.Processor.{PokesBytes, PeeksBytes, AsksFree, StoresIfAny, StoresAt, ShowsAt, IsNoPlace}
+use Rattle.iom_world.specs.Processor.{PokesBytes, PeeksBytes, AsksFree, StoresIfAny, ShowsAt, IsNoPlace}
 use Rattle.iom_world.specs.Shows.{PartsShow}
 use Rattle.iom_world.specs.Sound.{IsSound}
 use Rattle.iom_world.proofs.FrameLemmas.{reserved_shown}
@@ -82,16 +76,17 @@ module _ (old : Parts) (state : State) (shows : PartsShow old state) where
     at.part ∙ ap (λ b. slice_range b (address % 4096) (address % 4096 + len)) (sym (bytes_shown old.memory old.driver.marks state.frames frame at.bytes shows.frames free at.there))),
   )
 
-  pub peeked_step : (events address len : ℕ) (told : Outcome) → IsSound old events → PeeksBytes old address len told → Peeks state address len told state
-  peeked_step events address len (Bytes shown) sound at =
+  peeks : (events address len : ℕ) (told : Outcome) → IsSound old events → PeeksBytes old address len told → Peeks state address len told state
+  peeks events address len (Bytes shown) sound at =
       let below = get_within old.memory (address / 4096) at.bytes at.there in
       (at.fits, none_applies (address / 4096) below, shown_bytes events address len shown.items sound at below, refl)
-  peeked_step events address len BadSpan sound bad = (bad, refl)
-  peeked_step events address len (Refused why) sound refused = (refused.0, refused_outside (address / 4096) why refused.1 refused.2, refl)
-  peeked_step events address len _ sound never = absurd never
+  peeks events address len BadSpan sound bad = (bad, refl)
+  peeks events address len (Refused why) sound refused = (refused.0, refused_outside (address / 4096) why refused.1 refused.2, refl)
+  peeks events address len _ sound never = absurd never
 
-  pub asked_free_step : (events frame : ℕ) (told : Outcome) → IsSound old events → AsksFree old frame told → TellsFree state frame told state
-  asked_free_step events frame (Free is_free) sound asks = (
+  -- a frame is free in the machine exactly where the driver finds it free
+  tells_free : (events frame : ℕ) (told : Outcome) → IsSound old events → AsksFree old frame told → TellsFree state frame told state
+  tells_free events frame (Free is_free) sound asks = (
     none_applies frame asks.0,
     (
       (λ is. let free = asks.1.0 is in free_in_machine old.memory old.driver.marks old.driver.ledger state frame shows.ledger shows.frames asks.0 free.unreserved free.ungranted),
@@ -103,11 +98,19 @@ module _ (old : Parts) (state : State) (shows : PartsShow old state) where
     where
       none : ◌≡◌ {A = Option ℕ} None (Some frame) → ⊥
       none named = cc
-  asked_free_step events frame (Refused why) sound asks = (refused_outside frame why asks.0 asks.1, refl)
-  asked_free_step events frame _ sound asks = absurd asks
+  tells_free events frame (Refused why) sound asks = (refused_outside frame why asks.0 asks.1, refl)
+  tells_free events frame _ sound asks = absurd asks
 
 pub poked_step : (old new : Parts) (events address : ℕ) (bytes : List ℕ) (told : Outcome) → IsSound old events → PokesBytes old address bytes told new
     → (state : State) → PartsShow old state → (next : State) × Pokes state address bytes told next × PartsShow new next
 poked_step old new events address bytes told sound pokes state shows =
     let step = step_if_any old state shows events address bytes told new.memory sound pokes.memory in
     (step.0, step.1, shows_same (record old { memory = new.memory }) new step.0 (parts_are new new.memory old.iommu old.driver old.devices refl pokes.iommu pokes.driver pokes.devices) step.2)
+
+pub peeked_step : (old : Parts) (events address len : ℕ) (told : Outcome) → IsSound old events → PeeksBytes old address len told
+    → (state : State) → PartsShow old state → Peeks state address len told state
+peeked_step old events address len told sound shown state shows = peeks old state shows events address len told sound shown
+
+pub asked_free_step : (old : Parts) (events frame : ℕ) (told : Outcome) → IsSound old events → AsksFree old frame told
+    → (state : State) → PartsShow old state → TellsFree state frame told state
+asked_free_step old events frame told sound asks state shows = tells_free old state shows events frame told sound asks

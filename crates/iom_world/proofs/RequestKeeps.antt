@@ -1,5 +1,5 @@
 -- What stays true of a world when a device asks for an access: what is translated is held, and so covered.
-use Rattle.std.proofs.Common.{◌≡◌, ◌+◌, ◌/◌, ◌<◌, ◌∙◌, ◌||◌, inl, inr, ℕ, Bool, true, false, Option, Some, None, slice_get, slice_set, refl, sym, ap, subst, arith}
+use Rattle.std.proofs.Common.{◌≡◌, ◌/◌, ◌<◌, ◌||◌, inl, inr, ℕ, Bool, true, false, Option, Some, None, slice_get, slice_set, refl, sym, ap, subst, arith}
 use Rattle.std.specs.Option.{option_map_or}
 use Rattle.std.proofs.lemmas.Bool.{eq-eqb}
 use Rattle.iom_base.specs.declared.access.AcceptedAccess.{AcceptedAccess}
@@ -22,7 +22,7 @@ use Rattle.iom_world.specs.Commands.{completed_in}
 use Rattle.iom_world.specs.Facts.{IsSoundDevice, IsCovered}
 use Rattle.iom_world.specs.Parts.{Parts}
 use Rattle.iom_world.specs.Places.{CountsBelow}
-use Rattle.iom_world.specs.Requests.{IsTranslated, IsReply, IsTold, IsAnswered, AsksFor, with_flight}
+use Rattle.iom_world.specs.Requests.{IsTranslated, IsReply, IsTold, AsksFor, with_flight}
 use Rattle.iom_world.specs.Sound.{IsSound}
 use Rattle.iom_world.proofs.ReplaceLemmas.{get_pushed, keeps_device, parts_are}
 

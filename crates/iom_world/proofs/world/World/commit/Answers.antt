@@ -1,4 +1,4 @@
-use Rattle.std.proofs.Common.{◌≡◌, ◌∙◌, inl, inr, slice_get, option_map, refl, ap}
+use Rattle.std.proofs.Common.{◌∙◌, inl, inr, slice_get, option_map, refl, ap}
 use Rattle.iom_base.specs.declared.access.AccessKind.TheVariants.{Read, Write}
 use Rattle.iom_inflight.specs.Oldest.{header_of}
 use Rattle.iom_world.specs.declared.device.Device.{Device}

@@ -1,4 +1,4 @@
-use Rattle.std.proofs.Common.{◌≡◌, ℕ, ◌+◌, ◌∙◌, ◌%◌, List, Some, slice_get, slice_set, slice_range, Option, option_map, refl, inl, sym, ap, subst, arith}
+use Rattle.std.proofs.Common.{ℕ, ◌+◌, ◌∙◌, ◌%◌, List, slice_get, slice_set, slice_range, Option, option_map, refl, inl, sym, ap, subst, arith}
 use Rattle.std.specs.Borrow.{Bor}
 use Rattle.iom_inflight.specs.declared.in_flight.AccessHeader.{AccessHeader}
 use Rattle.iom_inflight.specs.Oldest.{OldestIsRead}

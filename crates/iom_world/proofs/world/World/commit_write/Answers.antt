@@ -1,4 +1,4 @@
-use Rattle.std.proofs.Common.{◌≡◌, ℕ, ◌∙◌, ◌%◌, List, Some, slice_get, slice_set, Option, option_map, refl, inr, sym, ap, subst, arith}
+use Rattle.std.proofs.Common.{◌≡◌, ℕ, ◌∙◌, ◌%◌, List, slice_get, slice_set, Option, option_map, refl, inr, sym, ap, subst, arith}
 use Rattle.std.specs.Borrow.{MutBor}
 use Rattle.iom_base.specs.declared.access.AcceptedAccess.{AcceptedAccess}
 use Rattle.iom_base.specs.Bytes.{with_bytes}
