@@ -71,9 +71,9 @@ module _ (old : Parts) (state : State) (shows : PartsShow old state) where
   shown_bytes events address len shown sound at below = (
     at.long,
     (λ unreserved.
-    let frame = address / 4096 in
-    let free = unmarked old.driver.marks frame (rw (sym sound.ready.stand.size) below) (sym (reserved_shown old.memory old.driver.marks state.frames frame shows.frames) ∙ unreserved) in
-    at.part ∙ ap (λ b. slice_range b (address % 4096) (address % 4096 + len)) (sym (bytes_shown old.memory old.driver.marks state.frames frame at.bytes shows.frames free at.there))),
+        let frame = address / 4096 in
+        let free = unmarked old.driver.marks frame (rw (sym sound.ready.stand.size) below) (sym (reserved_shown old.memory old.driver.marks state.frames frame shows.frames) ∙ unreserved) in
+        at.part ∙ ap (λ b. slice_range b (address % 4096) (address % 4096 + len)) (sym (bytes_shown old.memory old.driver.marks state.frames frame at.bytes shows.frames free at.there))),
   )
 
   peeks : (events address len : ℕ) (told : Outcome) → IsSound old events → PeeksBytes old address len told → Peeks state address len told state
@@ -91,7 +91,7 @@ module _ (old : Parts) (state : State) (shows : PartsShow old state) where
     (
       (λ is. let free = asks.1.0 is in free_in_machine old.memory old.driver.marks old.driver.ledger state frame shows.ledger shows.frames asks.0 free.unreserved free.ungranted),
       (λ free. let there = free_in_world old.memory old.driver.marks old.driver.ledger state None frame shows.ledger shows.frames (λ named. none named) free in
-      asks.1.1 (record { inside = rw (sym sound.ready.stand.size) (asks.0); unreserved = there.1.unmarked; ungranted = there.1.ungranted })),
+          asks.1.1 (record { inside = rw (sym sound.ready.stand.size) (asks.0); unreserved = there.1.unmarked; ungranted = there.1.ungranted })),
     ),
     refl,
   )

@@ -72,7 +72,7 @@ returns-clause-does c =
         there = there;
         told_so = ap Wrote (c.from-2.ensures ∙ ap (λ (a : AccessHeader). a.len) c.requires.4);
         stored = ap (λ (b : List ℕ). slice_set world.memory access.frame b) stores
-        ∙ ap (λ (a : AccessHeader). slice_set world.memory a.frame (with_bytes bytes (a.address % 4096) flight.access.bytes)) c.requires.4;
+            ∙ ap (λ (a : AccessHeader). slice_set world.memory a.frame (with_bytes bytes (a.address % 4096) flight.access.bytes)) c.requires.4;
       });
       devices = ap (λ (d : Device). slice_set world.devices.items c.args.place d) (c.take_write.ensures.after ∙ ap without_oldest here);
       iommu = refl;
