@@ -19,3 +19,14 @@ pub mod ReleaseStep
 pub mod AttachStep
 pub mod GrantStep
 pub mod PlugStep
+pub mod MemoryKeeps
+pub mod ReplaceLemmas
+pub mod RequestKeeps
+pub mod RequestStep
+pub mod RefusedSame
+pub mod CommitKeeps
+pub mod StoreLemmas
+pub mod CommitStep
+pub mod ProcessorKeeps
+pub mod ProcessorSteps
+pub mod AskLemmas

@@ -41,12 +41,13 @@ pub record PokesBytes (old : Parts) (address : ℕ) (bytes : List ℕ) (told : O
   pub driver : new.driver ≡ old.driver
   pub devices : new.devices ≡ old.devices
 
--- the bytes that stand there
+-- the bytes that stand there, so many
 pub record ShowsAt (old : Parts) (address len : ℕ) (shown : List ℕ) : Type 0 where
   pub fits : FitsInPage address len
   pub bytes : List ℕ
   pub there : slice_get old.memory (address / page_size) ≡ Some bytes
   pub part : shown ≡ slice_range bytes (address % page_size) (address % page_size + len)
+  pub long : length shown ≡ len
 
 -- THE PROCESSOR READS, and nothing changes
 abbrev pub PeeksBytes : Parts → ℕ → ℕ → Outcome → Type 0
