@@ -30,3 +30,6 @@ pub mod CommitStep
 pub mod ProcessorKeeps
 pub mod ProcessorSteps
 pub mod AskLemmas
+pub mod CallRefused
+pub mod RunLemmas
+pub mod HappensLemmas

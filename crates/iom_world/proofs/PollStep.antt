@@ -95,9 +95,9 @@ started_refuses : (started : Bool) (why : Refusal) → started ≡ true → firs
 started_refuses true why on refused = cc
 started_refuses false why on refused = false≢true on
 
-pub poll_step : (old new : Parts) (events : ℕ) (told : Outcome) → IsSound old events → IsSound new events → PollsTickets old told new
+pub poll_step : (old new : Parts) (events after : ℕ) (told : Outcome) → IsSound old events → IsSound new after → PollsTickets old told new
     → (state : State) → PartsShow old state → (next : State) × machine.Polls state told next × PartsShow new next
-poll_step old new events told sound sound' does state shows = by does.answer does.told_so does.call
+poll_step old new events after told sound sound' does state shows = by does.answer does.told_so does.call
   where
     by : (answer : Result Polled Refusal) → told ≡ polled_told_of answer → Polls (registers_of old.iommu) old.driver old.memory answer new.driver
         → (next : State) × machine.Polls state told next × PartsShow new next
@@ -108,6 +108,6 @@ poll_step old new events told sound sound' does state shows = by does.answer doe
         let low : min confirms.word old.driver.given ≤ old.driver.given = min-le_right confirms.word old.driver.given in
         let count = confirms.count in
         let most : old.driver.confirmed + polled.count ≤ old.driver.given = omega (arith, given, confirmed, low, count) in
-        let done = confirmed_so old new events polled.first polled.count state sound' shows (shows_polled old new state polled does.memory does.devices shows confirms) most polled.count refl confirms.first in
+        let done = confirmed_so old new after polled.first polled.count state sound' shows (shows_polled old new state polled does.memory does.devices shows confirms) most polled.count refl confirms.first in
         (done.0, subst (λ (o : Outcome). machine.Polls state o done.0) (sym tells) done.1, done.2)
     by (Err why) tells (refused, driver) = absurd (started_refuses old.driver.started why sound.started refused)

@@ -1,0 +1,78 @@
+-- A refusal of a call of the driver changes nothing, and a fetch is never refused.
+use Rattle.std.proofs.Common.{◌≡◌, ◌+◌, ◌-◌, ◌==◌, ◌∙◌, ℕ, Bool, true, false, List, Result, Ok, Err, refl, sym, ap, subst, if◌then◌else◌}
+use Rattle.iom_base.specs.declared.grant_rights.GrantRights.{GrantRights}
+use Rattle.iom_driver.specs.declared.answers.Polled.{Polled}
+use Rattle.iom_driver.specs.declared.answers.Ticket as answers
+use Rattle.iom_driver.specs.Calls.{Plugs, Attaches, Grants, Releases, Polls}
+use Rattle.iom_driver.specs.State.{DriverState}
+use Rattle.iom_iommu.specs.Parts.{registers_of, mmio}
+use Rattle.iom_ledger.specs.Changes.{IsUnchanged}
+use Rattle.iom_ledger.specs.declared.ledger.Ledger.{Ledger}
+use Rattle.iom_ledger.specs.declared.refusal.Refusal.{Refusal}
+use Rattle.iom_machine.specs.declared.outcome.Fetched.{Fetched}
+use Rattle.iom_machine.specs.declared.outcome.Outcome.{Outcome}
+use Rattle.iom_machine.specs.declared.outcome.Outcome.TheVariants as outcome
+use Rattle.iom_machine.specs.declared.state.DeviceKind.{DeviceKind}
+use Rattle.iom_world.specs.declared.device.Device.{Device}
+use Rattle.iom_world.specs.Does.{PlugsDevice, AttachesDevice, GrantsFrame, ReleasesPage, FetchesNext, PollsTickets, told_of, ticket_told_of, polled_told_of, devices_after}
+use Rattle.iom_world.specs.Happens.{IsSame, SameIfRefused}
+use Rattle.iom_world.specs.Parts.{Parts}
+
+-- parts of which each is the same
+same_of : (old new : Parts) → new.memory ≡ old.memory → new.iommu ≡ old.iommu → new.devices ≡ old.devices → new.driver ≡ old.driver → IsSame old new
+same_of old new memory iommu devices driver = record {
+  memory = memory;
+  iommu = iommu;
+  devices = devices;
+  ledger = subst (λ (d : DriverState). IsUnchanged old.driver.ledger d.ledger) (sym driver) (record { held = λ d a. refl; lingering = λ d a. refl; pending = refl });
+  driver = driver ∙ ap (λ l. record old.driver { ledger = l }) (sym (ap (λ (d : DriverState). d.ledger) driver));
+}
+
+-- what is done isn't refused
+done_refused : (why : Refusal) → outcome.Done ≡ outcome.Refused why → ⊥
+done_refused why same = cc
+
+pub plug_refused : (old new : Parts) (id : ℕ) (kind : DeviceKind) (told : Outcome) → PlugsDevice old id kind told new → SameIfRefused told old new
+plug_refused old new id kind told does why is = by does.answer (sym does.told_so ∙ is) does.call does.devices
+  where
+    by : (answer : Result (Unit {0}) Refusal) → told_of answer ≡ outcome.Refused why → Plugs old.driver id answer new.driver → new.devices ≡ devices_after answer old.devices id kind → IsSame old new
+    by (Ok done) refused call devices = absurd (done_refused why refused)
+    by (Err reason) refused call devices = same_of old new does.memory does.iommu devices call.1
+
+pub attach_refused : (old new : Parts) (id : ℕ) (told : Outcome) → AttachesDevice old id told new → SameIfRefused told old new
+attach_refused old new id told does why is = by does.answer (sym does.told_so ∙ is) does.call
+  where
+    by : (answer : Result (Unit {0}) Refusal) → told_of answer ≡ outcome.Refused why → Attaches old.driver old.memory id answer new.driver new.memory → IsSame old new
+    by (Ok done) refused call = absurd (done_refused why refused)
+    by (Err reason) refused call = same_of old new call.2 does.iommu does.devices call.1
+
+pub grant_refused : (old new : Parts) (id page frame : ℕ) (rights : GrantRights) (told : Outcome) → GrantsFrame old id page frame rights told new → SameIfRefused told old new
+grant_refused old new id page frame rights told does why is = by does.answer (sym does.told_so ∙ is) does.call
+  where
+    by : (answer : Result (Unit {0}) Refusal) → told_of answer ≡ outcome.Refused why → Grants old.driver old.memory id page frame rights answer new.driver new.memory → IsSame old new
+    by (Ok done) refused call = absurd (done_refused why refused)
+    by (Err reason) refused call = record { memory = call.2; iommu = does.iommu; devices = does.devices; ledger = call.1.ledger; driver = call.1.rest }
+
+pub release_refused : (old new : Parts) (id page : ℕ) (told : Outcome) → ReleasesPage old id page told new → SameIfRefused told old new
+release_refused old new id page told does why is = by does.answer (sym does.told_so ∙ is) does.call
+  where
+    by : (answer : Result answers.Ticket Refusal) → ticket_told_of answer ≡ outcome.Refused why → Releases mmio old.driver old.memory old.iommu id page answer new.driver new.memory new.iommu → IsSame old new
+    by (Ok ticket) refused call = cc
+    by (Err reason) refused call = same_of old new call.2 call.3 does.devices call.1
+
+pub fetch_refused : (old new : Parts) (told : Outcome) → FetchesNext old told new → SameIfRefused told old new
+fetch_refused old new told does why is = absurd (never (sym does.told_so ∙ is))
+  where
+    never : {fetched : Fetched} → outcome.Fetched fetched ≡ outcome.Refused why → ⊥
+    never same = cc
+
+pub poll_refused : (old new : Parts) (told : Outcome) → PollsTickets old told new → SameIfRefused told old new
+poll_refused old new told does why is = by does.answer (sym does.told_so ∙ is) does.call
+  where
+    never : (none : Bool) (first last : ℕ) → (if none then outcome.NoneConfirmed else outcome.Confirmed first last) ≡ outcome.Refused why → ⊥
+    never true first last same = cc
+    never false first last same = cc
+
+    by : (answer : Result Polled Refusal) → polled_told_of answer ≡ outcome.Refused why → Polls (registers_of old.iommu) old.driver old.memory answer new.driver → IsSame old new
+    by (Ok polled) refused call = absurd (never (polled.count == 0) polled.first (polled.first + polled.count - 1) refused)
+    by (Err reason) refused call = same_of old new does.memory does.iommu does.devices call.1
