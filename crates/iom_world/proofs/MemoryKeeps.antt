@@ -76,6 +76,7 @@ keeps_memory old memory events sound own size kept =
           (commands_in old.memory r) (commands_in memory r) old.driver.given (ap completion_address size) done
           (commands_kept old.memory memory r n ring.base ring.entries (kept (n - 1) System fixed.command)) sound.commands;
       confirmed = rw done (sound.confirmed);
+      small = sound.small;
       each = subst (λ c. AreSoundDevices old.driver.ledger c events old.devices) (sym done) sound.each;
     }
 

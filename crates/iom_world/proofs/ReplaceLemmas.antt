@@ -88,6 +88,7 @@ keeps_device old place device now events sound was still is = record {
   own_ids = own_ids_changed old.devices place device now was still sound.own_ids;
   commands = sound.commands;
   confirmed = sound.confirmed;
+  small = sound.small;
   each = λ k other at. elim (get_changed old.devices place k now other (get_within old.devices place device was) at) [
     | inl same ↦ sound.each k other same
     | inr changed ↦ subst (λ d. IsSoundDevice old.driver.ledger (completed_in old.memory) events d) (sym changed.1) is

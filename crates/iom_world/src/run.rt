@@ -2,8 +2,10 @@
 ghost use Rattle.std.specs.Prelude.{◌≡◌, ◌+◌, ◌<◌, ◌≤◌, ◌^◌, length, All, OnOk, OnErr};
 ghost use Rattle.iom_machine.specs.declared.state.State.{State};
 ghost use Rattle.iom_machine.specs.Machine.{IsEvent};
+ghost use Rattle.iom_world.specs.Does.{Does};
 ghost use Rattle.iom_world.specs.Happens.{Happens};
 ghost use Rattle.iom_world.specs.Runs.{RunsTo, FailsAfter};
+ghost use Rattle.iom_world.specs.Seen.{parts_of};
 ghost use Rattle.iom_world.specs.Shows.{Shows};
 
 use crate::kept_outcomes::KeptOutcomes;
@@ -15,7 +17,8 @@ impl World {
     fn take(&mut self, event: &Event, told: &mut Outcome)
         requires event { IsEvent event.now }
         requires count { self.old.events + 1 < 2 ^ 64 }
-        ensures { Happens self.old event.now told.new self.new }
+        ensures does { Does (parts_of self.old) event.now told.new (parts_of self.new) }
+        ensures counted { self.new.events ≡ self.old.events + 1 }
     {
         self.events += 1;
         match event {
