@@ -13,8 +13,8 @@ use crate::world::World;
 use iom_machine::{Event, Outcome, Sink};
 
 impl World {
-    /// The event is counted, and what comes of it is told in the place.
-    fn take(&mut self, event: &Event, told: &mut Outcome)
+    /// The event is counted, and goes to whom it is for: what comes of it is told in the place.
+    fn dispatch(&mut self, event: &Event, told: &mut Outcome)
         requires event { IsEvent event.now }
         requires count { self.old.events + 1 < 2 ^ 64 }
         ensures does { Does (parts_of self.old) event.now told.new (parts_of self.new) }
@@ -49,6 +49,15 @@ impl World {
             Event::Peek { address, len } => self.peek(*address, *len, told),
             Event::Free { frame } => self.free(*frame).tell(told),
         }
+    }
+
+    /// One event, as [`World::step`] says: what comes of it is told in the place.
+    fn take(&mut self, event: &Event, told: &mut Outcome)
+        requires event { IsEvent event.now }
+        requires count { self.old.events + 1 < 2 ^ 64 }
+        ensures { Happens self.old event.now told.new self.new }
+    {
+        self.dispatch(event, told);
     }
 
     /// One event, and what comes of it: a lawful step of the ledger machine from every state that the
