@@ -92,7 +92,7 @@ stored_there frames done (IodirInvalDdt device) n next at = absurd at
 stored_there frames done (AtsInval device range) n next at = absurd at
 
 -- the completion word after it
-word_after : (memory : List (List ℕ)) (value : ℕ) → 64 ≤ length memory → value < 2 ^ 32
+pub word_after : (memory : List (List ℕ)) (value : ℕ) → 64 ≤ length memory → value < 2 ^ 32
     → word_at 4 (with_word 4 memory (completion_address (length memory)) value) (completion_address (length memory)) ≡ Some value
 word_after memory value many small =
     let address = completion_address (length memory) in

@@ -33,3 +33,4 @@ pub mod AskLemmas
 pub mod CallRefused
 pub mod RunLemmas
 pub mod HappensLemmas
+pub mod StartLemmas
