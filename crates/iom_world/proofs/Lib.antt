@@ -16,3 +16,4 @@ pub mod CommitStep
 pub mod ProcessorKeeps
 pub mod ProcessorSteps
 pub mod AskLemmas
+pub mod ActSteps
