@@ -13,7 +13,7 @@ use Rattle.iom_machine.specs.PowerOn.{opening}
 use Rattle.iom_machine.proofs.ReclaimLemmas.{reclaims}
 use Rattle.iom_script.specs.Lines.{line_of, lines_of}
 use Rattle.iom_world.specs.declared.world.World.{World}
-use Rattle.iom_world.specs.Queue.{no_commands}
+use Rattle.iom_world.specs.Seen.{commands_of}
 use Rattle.iom_world.specs.Runs.{AreOutcomes, RunsTo, FailsAfter}
 use Rattle.iom_world.specs.Shows.{Shows}
 use Rattle.iom_world.proofs.RunLemmas.{are_outcomes}
@@ -62,14 +62,14 @@ takes_run contents old opened new state events first world put ran =
 
 -- a run, which a world goes through, is told by its lines
 tells_world : (frames levels : ℕ) (events : List Event) (outcomes : List Outcome) (last : State) (world new : World)
-    → Shows world (opening frames levels) → world.commands ≡ no_commands → AreOutcomes (opening frames levels) world events outcomes last new
+    → Shows world (opening frames levels) → commands_of world ≡ [] → AreOutcomes (opening frames levels) world events outcomes last new
     → TellsWorld (opening frames levels) events (line_of Done ++ lines_of outcomes)
 tells_world frames levels events outcomes last world new shows none are =
     (world, new, outcomes, last, shows, none, are, are.reclaim (power_on_is_reached frames levels), refl)
 
 -- a run whose lines are all written is told
 pub told_whole : {W : Type 0} (contents : W → Option (List ℕ)) (frames levels : ℕ) (events : List Event) (old opened mid new : LineWriter W) (first world : World)
-    → old.buffer ≡ [] → TakesLine contents old Done opened → Shows first (opening frames levels) → first.commands ≡ no_commands
+    → old.buffer ≡ [] → TakesLine contents old Done opened → Shows first (opening frames levels) → commands_of first ≡ []
     → RunsTo (TakesLine contents) (opening frames levels) first events opened mid world
     → Appends (contents mid.writer.now) (contents new.writer.now) mid.buffer
     → WritesRun (opening frames levels) events (contents old.writer.now) (contents new.writer.now)
@@ -81,7 +81,7 @@ told_whole contents frames levels events old opened mid new first world empty pu
 
 -- of the line of the world a part is written, and no event came
 pub so_far_none : (frames levels : ℕ) (events : List Event) (old new : Option (List ℕ)) (world : World)
-    → Shows world (opening frames levels) → world.commands ≡ no_commands → AppendsPart old new [] → BeginsRunSoFar (opening frames levels) events old new
+    → Shows world (opening frames levels) → commands_of world ≡ [] → AppendsPart old new [] → BeginsRunSoFar (opening frames levels) events old new
 so_far_none frames levels events old new world shows none part =
     let are = are_outcomes (opening frames levels) (opening frames levels) world world [] [] refl (shows, refl) in (
       line_of Done ++ [],
@@ -91,7 +91,7 @@ so_far_none frames levels events old new world shows none part =
 
 -- a run of which a part is written at the end
 pub told_in_part : {W : Type 0} (contents : W → Option (List ℕ)) (frames levels : ℕ) (events : List Event) (old opened mid new : LineWriter W) (first world : World)
-    → old.buffer ≡ [] → TakesLine contents old Done opened → Shows first (opening frames levels) → first.commands ≡ no_commands
+    → old.buffer ≡ [] → TakesLine contents old Done opened → Shows first (opening frames levels) → commands_of first ≡ []
     → RunsTo (TakesLine contents) (opening frames levels) first events opened mid world
     → AppendsPart (contents mid.writer.now) (contents new.writer.now) mid.buffer
     → BeginsRunSoFar (opening frames levels) events (contents old.writer.now) (contents new.writer.now)
@@ -105,7 +105,7 @@ told_in_part contents frames levels events old opened mid new first world empty 
 
 -- a run that ends where the sink fails
 pub told_until_failure : {W : Type 0} (contents : W → Option (List ℕ)) (frames levels : ℕ) (events : List Event) (old opened new : LineWriter W) (first world : World)
-    → old.buffer ≡ [] → TakesLine contents old Done opened → Shows first (opening frames levels) → first.commands ≡ no_commands
+    → old.buffer ≡ [] → TakesLine contents old Done opened → Shows first (opening frames levels) → commands_of first ≡ []
     → FailsAfter (TakesLine contents) (FailsWriting contents) (opening frames levels) first events opened new world
     → BeginsRunSoFar (opening frames levels) events (contents old.writer.now) (contents new.writer.now)
 told_until_failure contents frames levels events old opened new first world empty put shows none (outcomes, last, next, middle, few, ran, took, failed, count) =

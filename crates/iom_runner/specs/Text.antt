@@ -12,7 +12,7 @@ use Rattle.iom_script.specs.declared.script.Script.{Script}
 use Rattle.iom_script.specs.declared.script.WorldSize.{WorldSize}
 use Rattle.iom_script.specs.Lines.{line_of, lines_of}
 use Rattle.iom_world.specs.declared.world.World.{World}
-use Rattle.iom_world.specs.Queue.{no_commands}
+use Rattle.iom_world.specs.Seen.{commands_of}
 use Rattle.iom_world.specs.Runs.{AreOutcomes}
 use Rattle.iom_world.specs.Shows.{Shows}
 use Rattle.iom_runner.specs.Writing.{AppendsFront, AppendsPart}
@@ -36,7 +36,7 @@ TellsRun first events text =
 abbrev pub TellsWorld : State → List Event → List ℕ → Type 0
 TellsWorld first events text =
     (world new : World) × (outcomes : List Outcome) × (last : State)
-    × Shows world first × (world.commands ≡ no_commands) × (are : AreOutcomes first world events outcomes last new)
+    × Shows world first × (commands_of world ≡ []) × (are : AreOutcomes first world events outcomes last new)
     × Reclaims first events outcomes last are.run × (text ≡ run_text outcomes)
 
 -- the text of such a run over some of the events, from the first on

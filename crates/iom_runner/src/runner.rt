@@ -5,7 +5,7 @@ ghost use Rattle.iom_machine.specs.Machine.{IsEvent};
 ghost use Rattle.iom_machine.specs.PowerOn.{opening};
 ghost use Rattle.iom_script.specs.declared.script.Script.{Script};
 ghost use Rattle.iom_script.specs.Grammar.{IsScript, IsFirstBadLine, IsWorldSize};
-ghost use Rattle.iom_world.specs.Queue.{no_commands};
+ghost use Rattle.iom_world.specs.Seen.{commands_of};
 ghost use Rattle.iom_world.specs.Shows.{Shows};
 ghost use Rattle.iom_runner.specs.Bytes.{ExplainsUnparsed};
 ghost use Rattle.iom_runner.specs.Reading.{ConsumesAtMost};
@@ -36,7 +36,7 @@ fn world_of(alloc: Global, size: WorldSize) -> Result<World, RunFault>
     requires { IsWorldSize size }
     ensures opening { IfOk result (λ world. Shows world (power_on size)) }
     ensures count { IfOk result (λ world. world.events ≡ 0) }
-    ensures commands { IfOk result (λ world. world.commands ≡ no_commands) }
+    ensures commands { IfOk result (λ world. commands_of world ≡ []) }
     ensures fault { IfErr result (λ fault. fault ≡ RunFault.Memory) }
 {
     World::new(alloc, size.frames as u32, size.levels as u8).map_err(|_| RunFault::Memory)
@@ -50,7 +50,7 @@ fn tell_events<W: Write>(
 ) -> Result<(), WriteFault>
     requires events { All IsEvent events.now }
     requires count { world.old.events + length events.now < 2 ^ 64 }
-    requires commands { world.old.commands ≡ no_commands }
+    requires commands { commands_of world.old ≡ [] }
     requires empty { lines.old.buffer ≡ [] }
     ensures same_writer { (frames levels : ℕ) → Shows world.old (opening frames levels) → KeepsWriter lines.old lines.new }
     ensures told { (frames levels : ℕ) → Shows world.old (opening frames levels)
@@ -74,7 +74,7 @@ fn tell_run<W: Write>(
 ) -> Result<(), RunFault>
     requires events { All IsEvent events.now }
     requires count { world.old.events + length events.now < 2 ^ 64 }
-    requires commands { world.old.commands ≡ no_commands }
+    requires commands { commands_of world.old ≡ [] }
     requires empty { buffer ≡ [] }
     ensures told { (frames levels : ℕ) → Shows world.old (opening frames levels)
         → OnOk result (WritesRun (opening frames levels) events.now (W.contents writer.old) (W.contents writer.new)) }

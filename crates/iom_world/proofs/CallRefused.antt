@@ -1,5 +1,5 @@
 -- A refusal of a call of the driver changes nothing, and a fetch is never refused.
-use Rattle.std.proofs.Common.{◌≡◌, ◌+◌, ◌-◌, ◌==◌, ◌∙◌, ℕ, Bool, true, false, List, Result, Ok, Err, refl, sym, ap, subst, if◌then◌else◌}
+use Rattle.std.proofs.Common.{◌≡◌, ◌+◌, ◌-◌, ◌==◌, ◌∙◌, ℕ, Bool, true, false, Result, Ok, Err, refl, sym, ap, subst, if◌then◌else◌}
 use Rattle.iom_base.specs.declared.grant_rights.GrantRights.{GrantRights}
 use Rattle.iom_driver.specs.declared.answers.Polled.{Polled}
 use Rattle.iom_driver.specs.declared.answers.Ticket as answers
@@ -7,13 +7,11 @@ use Rattle.iom_driver.specs.Calls.{Plugs, Attaches, Grants, Releases, Polls}
 use Rattle.iom_driver.specs.State.{DriverState}
 use Rattle.iom_iommu.specs.Parts.{registers_of, mmio}
 use Rattle.iom_ledger.specs.Changes.{IsUnchanged}
-use Rattle.iom_ledger.specs.declared.ledger.Ledger.{Ledger}
 use Rattle.iom_ledger.specs.declared.refusal.Refusal.{Refusal}
 use Rattle.iom_machine.specs.declared.outcome.Fetched.{Fetched}
 use Rattle.iom_machine.specs.declared.outcome.Outcome.{Outcome}
 use Rattle.iom_machine.specs.declared.outcome.Outcome.TheVariants as outcome
 use Rattle.iom_machine.specs.declared.state.DeviceKind.{DeviceKind}
-use Rattle.iom_world.specs.declared.device.Device.{Device}
 use Rattle.iom_world.specs.Does.{PlugsDevice, AttachesDevice, GrantsFrame, ReleasesPage, FetchesNext, PollsTickets, told_of, ticket_told_of, polled_told_of, devices_after}
 use Rattle.iom_world.specs.Happens.{IsSame, SameIfRefused}
 use Rattle.iom_world.specs.Parts.{Parts}

@@ -1,10 +1,9 @@
 -- Accesses in flight stay covered, whatever the driver's calls do to what its ledger shows.
-use Rattle.std.proofs.Common.{◌≡◌, ◌+◌, ◌/◌, ◌<◌, ◌≤◌, ◌==◌, ◌&&◌, ◌||◌, inl, inr, ◌∙◌, ℕ, Bool, true, false, nat_le, nat_lt, List, Option, Some, None, option_map, slice_get, refl, sym, ap, subst, arith, if◌then◌else◌}
+use Rattle.std.proofs.Common.{◌≡◌, ◌+◌, ◌/◌, ◌<◌, ◌≤◌, ◌==◌, ◌&&◌, ◌||◌, inl, inr, ◌∙◌, ℕ, Bool, true, false, nat_le, nat_lt, List, Option, Some, None, option_map, refl, sym, ap, subst, arith, if◌then◌else◌}
 use Rattle.std.specs.Option.{option_map_or}
 use Rattle.std.proofs.lemmas.Bool.{false≢true, lt-ltb, le-ltb, ltb-true, and_parts, and_left}
 use Rattle.iom_base.specs.declared.access.AcceptedAccess.{AcceptedAccess}
 use Rattle.iom_base.specs.declared.access.AccessKind.{AccessKind}
-use Rattle.iom_base.specs.declared.rights.Rights.{Rights}
 use Rattle.iom_driver.proofs.Keeps.{here_or_there}
 use Rattle.iom_ledger.specs.Changes.{IsUnchanged, ShowsGrant, ShowsRelease, released_from}
 use Rattle.iom_ledger.specs.Confirmations.{is_among_next, unless_among, ConfirmsFrom}

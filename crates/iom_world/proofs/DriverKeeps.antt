@@ -1,5 +1,5 @@
 -- What stays true of a world when its driver is asked to attach a device, to grant a frame, and to poll.
-use Rattle.std.proofs.Common.{zero, suc, ◌≡◌, ◌≢◌, ◌+◌, ◌-◌, ◌^◌, ◌<◌, ◌≤◌, ◌==◌, ◌||◌, ◌∙◌, min, is_some, ℕ, Bool, true, false, List, [], ◌∷◌, ◌++◌, length, map, Option, Some, None, Result, Ok, Err, slice_get, slice_set, refl, sym, ap, subst, arith, if◌then◌else◌}
+use Rattle.std.proofs.Common.{zero, suc, ◌≡◌, ◌≢◌, ◌+◌, ◌-◌, ◌^◌, ◌<◌, ◌≤◌, ◌==◌, ◌||◌, ◌∙◌, min, is_some, ℕ, Bool, true, false, List, [], ◌∷◌, length, map, Option, Some, None, Result, Ok, Err, slice_get, refl, sym, ap, subst, arith, if◌then◌else◌}
 use Rattle.std.specs.Option.{option_map_or}
 use Rattle.std.proofs.Math.Nat.{min-eq_left, min-le_right}
 use Rattle.std.proofs.lemmas.Bool.{false≢true, eqb-true}
@@ -13,12 +13,12 @@ use Rattle.iom_command_queue.specs.Waiting.{commands_in}
 use Rattle.iom_driver.specs.declared.answers.Polled.{Polled}
 use Rattle.iom_driver.specs.declared.device.Device as driver
 use Rattle.iom_driver.specs.declared.device.FirstStage.{FirstStage}
-use Rattle.iom_driver.specs.Calls.{Attaches, TakesRoot, Grants, TakesTables, Polls, ConfirmsDone, IsSame}
+use Rattle.iom_driver.specs.Calls.{Attaches, Grants, Polls}
 use Rattle.iom_driver.specs.Choices.{AreHighestFree, marked_for}
 use Rattle.iom_driver.specs.Devices.{with_stage}
-use Rattle.iom_driver.specs.Layout.{AreFixed, command_frame, completion_frame, completion_address}
-use Rattle.iom_driver.specs.Ready.{IsReady, IsRing}
-use Rattle.iom_driver.specs.Reasons.{grant_reasons, granting_reasons}
+use Rattle.iom_driver.specs.Layout.{command_frame, completion_frame, completion_address}
+use Rattle.iom_driver.specs.Ready.{IsReady}
+use Rattle.iom_driver.specs.Reasons.{grant_reasons}
 use Rattle.iom_driver.specs.State.{DriverState}
 use Rattle.iom_driver.proofs.Choosing.{are_chosen}
 use Rattle.iom_driver.proofs.Keeps.{unmarked, owned_differs}
@@ -31,7 +31,6 @@ use Rattle.iom_ledger.specs.declared.refusal.Refusal.TheVariants.{IovaBusy}
 use Rattle.iom_ledger.specs.Refusals.{NoneApplies}
 use Rattle.iom_ledger.specs.Shown.{held_in, lingering_in}
 use Rattle.iom_machine.specs.declared.outcome.Outcome.{Outcome}
-use Rattle.iom_registers.specs.declared.registers.Registers.{Registers}
 use Rattle.iom_table_frames.specs.Marks.{IsFreeForTable}
 use Rattle.iom_registers.specs.Queues.{is_processing_commands}
 use Rattle.iom_world.specs.declared.device.Device.{Device}

@@ -1,18 +1,16 @@
 -- What stays true of a world when the IOMMU takes a command: a fence is done only while nothing is in flight, and stores the next number.
-use Rattle.std.proofs.Common.{◌≡◌, ◌≢◌, ◌↔◌, ◌+◌, ◌*◌, ◌/◌, ◌%◌, ◌^◌, ◌<◌, ◌≤◌, ◌⊎◌, inl, inr, ◌∙◌, ℕ, Bool, true, false, IsTrue, List, [], ◌∷◌, length, Option, Some, None, slice_get, refl, sym, ap, subst, arith, ◌&&◌, ◌||◌}
+use Rattle.std.proofs.Common.{◌≡◌, ◌↔◌, ◌+◌, ◌/◌, ◌^◌, ◌<◌, ◌≤◌, ◌⊎◌, inl, inr, ◌∙◌, ℕ, Bool, false, IsTrue, List, [], ◌∷◌, length, Option, Some, None, slice_get, refl, sym, ap, subst, arith}
 use Rattle.std.specs.Option.{option_map_or}
 use Rattle.std.proofs.lemmas.Bool.{false≢true}
-use Rattle.iom_base.specs.declared.owner.Owner.{Owner}
 use Rattle.iom_command_queue.specs.declared.command.Command.{Command as Commanded}
 use Rattle.iom_command_queue.specs.declared.command.Command.TheVariants.{IotinvalVma, IotinvalGvma, IofenceC, IodirInvalDdt, AtsInval}
-use Rattle.iom_command_queue.specs.declared.command.FenceStore.{FenceStore}
 use Rattle.iom_command_queue.specs.declared.entry.QueueEntry.{QueueEntry}
 use Rattle.iom_command_queue.specs.declared.entry.QueueEntry.TheVariants.{Command, Illegal, Outside}
-use Rattle.iom_command_queue.specs.Waiting.{commands_in, place_of}
+use Rattle.iom_command_queue.specs.Waiting.{commands_in}
 use Rattle.iom_driver.specs.Appends.{fence}
 use Rattle.iom_driver.specs.Laws.{KeepsReserved, KeepsRing}
-use Rattle.iom_driver.specs.Layout.{command_frame, completion_frame, completion_address}
-use Rattle.iom_driver.specs.Ready.{IsReady, IsRing}
+use Rattle.iom_driver.specs.Layout.{completion_frame, completion_address}
+use Rattle.iom_driver.specs.Ready.{IsRing}
 use Rattle.iom_driver.proofs.Ring.{in_ring}
 use Rattle.iom_driver.proofs.Stays.{ready_stays}
 use Rattle.iom_iommu.specs.declared.fetched.Fetched.{Fetched}
@@ -26,7 +24,7 @@ use Rattle.iom_machine.specs.declared.outcome.Outcome.{Outcome}
 use Rattle.iom_phys_mem.specs.Words.{word_at, with_word}
 use Rattle.iom_phys_mem.proofs.Stores.{word_back, put_word}
 use Rattle.iom_registers.specs.declared.registers.Registers.{Registers}
-use Rattle.iom_registers.specs.Queues.{command_entries, is_processing_commands}
+use Rattle.iom_registers.specs.Queues.{is_processing_commands}
 use Rattle.iom_world.specs.declared.device.Device.{Device}
 use Rattle.iom_world.specs.Commands.{completed_in, FencesFollow}
 use Rattle.iom_world.specs.Does.{FetchesNext}

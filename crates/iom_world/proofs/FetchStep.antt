@@ -1,11 +1,10 @@
 -- A fetch is a step of the ledger machine, which sees nothing of it: no frame changes but that of the completion word, which is the system's.
-use Rattle.std.proofs.Common.{◌≡◌, ◌≢◌, ◌≤◌, ◌∙◌, ℕ, Bool, List, length, Option, Some, None, slice_get, refl, sym, ap, subst, arith}
+use Rattle.std.proofs.Common.{◌≡◌, ◌∙◌, ℕ, Bool, List, length, Option, Some, None, slice_get, refl, sym, subst}
 use Rattle.iom_base.specs.declared.owner.Owner.{Owner}
 use Rattle.iom_base.specs.declared.owner.Owner.TheVariants.{System}
-use Rattle.iom_command_queue.specs.declared.command.Command.{Command as Commanded}
 use Rattle.iom_command_queue.specs.declared.entry.QueueEntry.TheVariants.{Command}
 use Rattle.iom_command_queue.specs.Waiting.{commands_in}
-use Rattle.iom_driver.specs.Layout.{completion_frame, completion_address}
+use Rattle.iom_driver.specs.Layout.{completion_address}
 use Rattle.iom_iommu.specs.declared.fetched.Fetched.{Fetched}
 use Rattle.iom_iommu.specs.declared.fetched.Fetched.TheVariants.{Did, Waiting, Empty, Stopped}
 use Rattle.iom_iommu.specs.Fetches.{FetchesCommand}

@@ -1,5 +1,5 @@
 -- What an event does to the parts of a world is a lawful step of the ledger machine, and a refusal changes nothing.
-use Rattle.std.proofs.Common.{◌≡◌, ◌+◌, ◌∙◌, ℕ, List, refl, sym, ap, subst}
+use Rattle.std.proofs.Common.{◌≡◌, ◌+◌, ℕ}
 use Rattle.iom_base.specs.Accesses.{read_of, write_of}
 use Rattle.iom_machine.specs.declared.event.Event.{Event}
 use Rattle.iom_machine.specs.declared.event.Event.TheVariants as events

@@ -1,5 +1,5 @@
 -- An access in flight that is covered may still reach its frame.
-use Rattle.std.proofs.Common.{◌≡◌, ◌/◌, inl, inr, ◌==◌, ℕ, true, false, nat_lt, List, [], ◌∷◌, All, Contains, map, ◌∙◌, Option, Some, None, refl, sym, ap, subst, suc}
+use Rattle.std.proofs.Common.{◌≡◌, ◌/◌, inl, inr, ◌==◌, ℕ, true, false, nat_lt, List, [], ◌∷◌, All, Contains, ◌∙◌, Option, Some, None, refl, sym, ap, subst, suc}
 use Rattle.std.specs.Option.{option_map_or, option_to_list}
 use Rattle.std.proofs.lemmas.Bool.{or_cases, and_parts, eqb-true, false≢true}
 use Rattle.std.proofs.lemmas.List.Elements.{All-nil, All-cons, Contains-push}

@@ -1,5 +1,5 @@
 -- What stays true of a world when what a device holds at a page is released: two more commands wait, an invalidation and the ticket's fence.
-use Rattle.std.proofs.Common.{suc, zero, ◌≡◌, ◌≢◌, ◌+◌, ◌-◌, ◌^◌, ◌<◌, ◌≤◌, ◌++◌, ◌∙◌, nat_le, ℕ, Bool, true, false, List, [], ◌∷◌, length, map, Option, Some, None, Result, Ok, Err, slice_get, refl, sym, ap, subst, arith}
+use Rattle.std.proofs.Common.{◌≡◌, ◌≢◌, ◌+◌, ◌<◌, ◌≤◌, ◌++◌, ◌∙◌, nat_le, ℕ, false, List, [], ◌∷◌, length, map, Option, Some, Result, Ok, Err, slice_get, refl, sym, ap, arith}
 use Rattle.std.proofs.lemmas.Bool.{leb-false}
 use Rattle.iom_base.specs.declared.owner.Owner.{Owner}
 use Rattle.iom_base.specs.declared.owner.Owner.TheVariants.{System, OneDevice}
@@ -10,8 +10,8 @@ use Rattle.iom_driver.specs.declared.answers.Ticket as answers
 use Rattle.iom_driver.specs.declared.device.Device as driver
 use Rattle.iom_driver.specs.Appends.{invalidation, fence, AppendsTwo}
 use Rattle.iom_driver.specs.Calls.{Releases, QueuesRelease}
-use Rattle.iom_driver.specs.Layout.{command_frame, completion_frame, completion_address}
-use Rattle.iom_driver.specs.Ready.{IsReady, IsRing}
+use Rattle.iom_driver.specs.Layout.{completion_frame, completion_address}
+use Rattle.iom_driver.specs.Ready.{IsReady}
 use Rattle.iom_driver.specs.Reasons.{release_reasons}
 use Rattle.iom_iommu.specs.declared.iommu.Iommu.{Iommu}
 use Rattle.iom_iommu.specs.Parts.{registers_of, mmio}
@@ -20,9 +20,8 @@ use Rattle.iom_ledger.specs.declared.refusal.Refusal.TheVariants.{NumbersUsedUp}
 use Rattle.iom_machine.specs.declared.outcome.Outcome.{Outcome}
 use Rattle.iom_page_table.specs.Sv39.{unmapped}
 use Rattle.iom_registers.specs.Queues.{is_processing_commands}
-use Rattle.iom_world.specs.Commands.{completed_in, FencesFollow}
+use Rattle.iom_world.specs.Commands.{completed_in}
 use Rattle.iom_world.specs.Does.{ReleasesPage}
-use Rattle.iom_world.specs.Facts.{AreSoundDevices, HaveOwnIds, AreKnown}
 use Rattle.iom_world.specs.Parts.{Parts}
 use Rattle.iom_world.specs.Sound.{IsSound}
 use Rattle.iom_world.proofs.CoverLemmas.{devices_released}

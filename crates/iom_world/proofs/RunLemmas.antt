@@ -1,5 +1,5 @@
 -- Runs that go on by one event, where the outcomes go to a sink.
-use Rattle.std.proofs.Common.{suc, ◌≡◌, ◌+◌, ◌<◌, ◌≤◌, ◌++◌, ◌∙◌, ℕ, List, Option, [], ◌∷◌, length, take, get_or, refl, sym, ap, subst, arith}
+use Rattle.std.proofs.Common.{suc, ◌≡◌, ◌+◌, ◌<◌, ◌≤◌, ◌++◌, ◌∙◌, ℕ, List, [], ◌∷◌, length, take, get_or, refl, sym, ap, subst, arith}
 use Rattle.std.proofs.lemmas.List.{take_more, length-take-le}
 use Rattle.iom_machine.specs.declared.choice.Choice.{Choice}
 use Rattle.iom_machine.specs.declared.event.Event.{Event}

@@ -1,5 +1,5 @@
 -- A world at power-on.
-use Rattle.std.proofs.Common.{suc, zero, ◌≡◌, ◌+◌, ◌-◌, ◌/◌, ◌%◌, ◌<◌, ◌≤◌, ◌++◌, ◌∙◌, ℕ, true, List, [], ◌∷◌, length, replicate, Option, Some, None, option_map, slice_get, slice_set, set, refl, sym, ap, subst, arith, length-append}
+use Rattle.std.proofs.Common.{suc, zero, ◌≡◌, ◌+◌, ◌-◌, ◌/◌, ◌%◌, ◌<◌, ◌≤◌, ◌++◌, ◌∙◌, ℕ, true, List, [], ◌∷◌, length, replicate, Option, Some, None, option_map, slice_get, slice_set, set, refl, sym, ap, subst, arith}
 use Rattle.std.specs.Option.{option_map_or}
 use Rattle.std.proofs.lemmas.List.{length-set, length-replicate, set-append_right, replicate-append-replicate}
 use Rattle.byteorder.specs.Endian.{little_bytes}

@@ -1,5 +1,5 @@
 -- What the ledger machine sees of the devices: some of it the driver knows, and some each device itself.
-use Rattle.std.specs.Prelude.{ℕ, false, List, map, Option, None, Some}
+use Rattle.std.specs.Prelude.{false, List, map, Option, None, Some}
 use Rattle.iom_driver.specs.declared.device.Device as driver
 use Rattle.iom_driver.specs.declared.device.FirstStage.{FirstStage}
 use Rattle.iom_driver.specs.Devices.{stage_of}

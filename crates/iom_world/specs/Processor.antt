@@ -7,7 +7,7 @@ use Rattle.iom_driver.specs.Calls.{IsFree}
 use Rattle.iom_ledger.specs.declared.refusal.Refusal.{Refusal}
 use Rattle.iom_ledger.specs.declared.refusal.Refusal.TheVariants.{FrameOutOfRange, FrameReserved}
 use Rattle.iom_machine.specs.declared.outcome.Outcome.{Outcome}
-use Rattle.iom_machine.specs.declared.outcome.Outcome.TheVariants.{Done, Refused, Ticket, Confirmed, NoneConfirmed, Fetched, Accepted, Busy, BadSpan, Fault, Read, Wrote, NothingInFlight, Bytes, Free}
+use Rattle.iom_machine.specs.declared.outcome.Outcome.TheVariants.{Done, Refused, BadSpan, Bytes, Free}
 use Rattle.iom_table_frames.specs.Marks.{is_marked}
 use Rattle.iom_world.specs.Parts.{Parts}
 

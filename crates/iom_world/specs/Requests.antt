@@ -4,7 +4,6 @@ use Rattle.iom_base.specs.declared.access.Access.{Access}
 use Rattle.iom_base.specs.declared.access.AccessKind.{AccessKind}
 use Rattle.iom_base.specs.declared.cause.Cause.{Cause}
 use Rattle.iom_base.specs.declared.cause.Cause.TheVariants.{DirectoryEntryNotValid, TransactionTypeDisallowed}
-use Rattle.iom_base.specs.Accesses.{page_of}
 use Rattle.iom_base.specs.Causes.{page_fault_of}
 use Rattle.iom_base.specs.Spans.{FitsInPage}
 use Rattle.iom_driver.specs.declared.device.FirstStage.{FirstStage}

@@ -1,7 +1,14 @@
--- A world by its parts.
+-- A world by its parts, and the commands that wait in it.
+use Rattle.std.specs.Prelude.{List}
+use Rattle.iom_command_queue.specs.declared.entry.QueueEntry.{QueueEntry}
+use Rattle.iom_command_queue.specs.Waiting.{commands_in}
 use Rattle.iom_driver.specs.Seen.{state_of}
+use Rattle.iom_iommu.specs.Parts.{registers_of}
 use Rattle.iom_world.specs.declared.world.World.{World}
 use Rattle.iom_world.specs.Parts.{Parts}
 
 abbrev pub parts_of : World → Parts
 parts_of world = record { memory = world.memory; iommu = world.iommu; driver = state_of world.driver; devices = world.devices.items }
+
+abbrev pub commands_of : World → List QueueEntry
+commands_of world = commands_in world.memory (registers_of world.iommu)

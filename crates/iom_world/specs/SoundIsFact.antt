@@ -7,7 +7,6 @@ use Rattle.iom_command_queue.specs.declared.entry.QueueEntry.{QueueEntry}
 use Rattle.iom_command_queue.specs.declared.entry.QueueEntry.TheVariants.{Command, Illegal, Outside}
 use Rattle.iom_driver.specs.declared.driver.Driver.{Driver}
 use Rattle.iom_driver.specs.ReadyIsFact.{ready_prop}
-use Rattle.iom_driver.specs.Seen.{state_of}
 use Rattle.iom_iommu.specs.declared.iommu.Iommu.{Iommu}
 use Rattle.iom_world.specs.declared.device.Device.{Device}
 use Rattle.iom_world.specs.Commands.{FencesFollow}

@@ -1,12 +1,11 @@
 // A world at power-on.
 ghost use Rattle.std.specs.Prelude.{◌≡◌, ◌↔◌, [], length, replicate, IfOk, IsErrOf};
-ghost use Rattle.iom_command_queue.specs.Waiting.{commands_in};
-ghost use Rattle.iom_iommu.specs.Parts.{registers_of};
 ghost use Rattle.iom_machine.specs.PowerOn.{opening};
 ghost use Rattle.iom_phys_mem.specs.Sizes.{IsMemorySize};
 ghost use Rattle.iom_phys_mem.specs.Words.{zeroed};
 ghost use Rattle.iom_phys_mem.specs.declared.memory.MemError.TheVariants.{BadSize};
 ghost use Rattle.iom_driver.specs.Layout.{IsLevels};
+ghost use Rattle.iom_world.specs.Seen.{commands_of};
 ghost use Rattle.iom_world.specs.Shows.{Shows};
 
 use crate::world::World;
@@ -26,7 +25,7 @@ impl World {
         ensures opening { IfOk result (λ world. Shows world (opening frames levels)) }
         ensures memory { IfOk result (λ world. world.memory ≡ replicate frames zeroed) }
         ensures count { IfOk result (λ world. world.events ≡ 0) }
-        ensures commands { IfOk result (λ world. commands_in world.memory (registers_of world.iommu) ≡ []) }
+        ensures commands { IfOk result (λ world. commands_of world ≡ []) }
         ensures size { IfOk result (λ world. IsMemorySize frames × IsLevels levels) }
         ensures bad_size { (IsErrOf result BadSize) ↔ ¬ (IsMemorySize frames × IsLevels levels) }
     {

@@ -1,4 +1,4 @@
-use Rattle.std.proofs.Common.{refl, subst}
+use Rattle.std.proofs.Common.{subst}
 use Rattle.iom_driver.specs.Calls.{Starts}
 use Rattle.iom_iommu.specs.Parts.{mmio}
 use Rattle.iom_driver.specs.Seen.{state_of}

@@ -1,10 +1,7 @@
-use Rattle.iom_world.proofs.FetchStep.{fetch_step}
-use Rattle.iom_world.proofs.PollStep.{poll_step}
-use Rattle.std.proofs.Common.{rules, ◌≡◌, ◌<◌, ◌≤◌, ◌∙◌, length, refl, sym, ap, arith, Ok, Err}
+use Rattle.std.proofs.Common.{rules, ◌∙◌, refl, sym, arith, Ok, Err}
 use Rattle.iom_driver.specs.Seen.{state_of}
 use Rattle.iom_ledger.specs.declared.refusal.Refusal.TheVariants.{AlreadyPlugged, TooManyDevices, Memory}
 use Rattle.iom_machine.specs.declared.outcome.Outcome.TheVariants.{Done}
-use Rattle.iom_world.specs.Does.{new_device}
 use Rattle.iom_world.specs.Parts.{Parts}
 use Rattle.iom_world.specs.Places.{IsAbsent}
 use Rattle.iom_world.specs.Seen.{parts_of}
