@@ -18,8 +18,8 @@ use Rattle.iom_world.specs.declared.requests.Reply.TheVariants.{Accepted, Busy, 
 use Rattle.iom_world.specs.Held.{NoneIsHeldFor}
 use Rattle.iom_world.specs.Oldest.{IsOldestAt}
 use Rattle.iom_world.specs.Parts.{Parts}
-use Rattle.iom_world.specs.Places.{IsPlaceOf}
-use Rattle.iom_world.specs.Requests.{IsReply, IsFaulty, AsksFor, with_flight}
+use Rattle.iom_world.specs.Places.{HasPlace}
+use Rattle.iom_world.specs.Requests.{IsReply, IsFaulty, AsksAccess, with_flight}
 
 -- a device that has tables: the access isn't translated, for the cause
 pub faulty_by_root : (stage : Option FirstStage) (d : DriverState) (id page root : ℕ) (kind : AccessKind) (cause : Cause) → Some root ≡ option_map (λ (s : FirstStage). s.root) stage
@@ -35,9 +35,9 @@ pub room_by_idle : (device here : Device) → device ≡ here → (¬ IsBusy her
 room_by_idle device here same idle = rw same (elim (cases_lt (length here.in_flight) 8) [ inl few ↦ few | inr busy ↦ absurd (idle busy) ])
 
 -- the device that stands here is answered
-module _ (old : Parts) (id place : ℕ) (access : Access) (is : IsPlaceOf old.devices id place) where
+module _ (old : Parts) (id place : ℕ) (access : Access) (is : HasPlace old.devices id place) where
   pub asks_accepted : (number frame : ℕ) (now : Device) → IsReply old.driver is.0 access.address access.len access.kind (Accepted frame) → number ≡ is.0.accepted + 1
-      → now ≡ with_flight is.0 access frame → AsksFor old id access (outcome.Accepted number) (record old { devices = slice_set old.devices place now })
+      → now ≡ with_flight is.0 access frame → AsksAccess old id access (outcome.Accepted number) (record old { devices = slice_set old.devices place now })
   asks_accepted number frame now right counted same = inr (record {
     place = place;
     stands = is;
@@ -49,10 +49,10 @@ module _ (old : Parts) (id place : ℕ) (access : Access) (is : IsPlaceOf old.de
     driver = refl;
   })
 
-  pub asks_busy : IsReply old.driver is.0 access.address access.len access.kind Busy → AsksFor old id access outcome.Busy old
+  pub asks_busy : IsReply old.driver is.0 access.address access.len access.kind Busy → AsksAccess old id access outcome.Busy old
   asks_busy right = inr (record { place = place; stands = is; reply = Busy; right = right; told_so = (refl, refl); memory = refl; iommu = refl; driver = refl })
 
-  pub asks_fault : (cause : Cause) → IsReply old.driver is.0 access.address access.len access.kind (Fault cause) → AsksFor old id access (outcome.Fault cause) old
+  pub asks_fault : (cause : Cause) → IsReply old.driver is.0 access.address access.len access.kind (Fault cause) → AsksAccess old id access (outcome.Fault cause) old
   asks_fault cause right = inr (record { place = place; stands = is; reply = Fault cause; right = right; told_so = (refl, refl); memory = refl; iommu = refl; driver = refl })
 
 -- the oldest access of those in flight

@@ -35,10 +35,10 @@ use Rattle.iom_world.specs.Facts.{HaveOwnIds}
 use Rattle.iom_world.specs.Parts.{Parts}
 use Rattle.iom_world.specs.Places.{IsAbsent}
 use Rattle.iom_world.specs.Shows.{PartsShow}
-use Rattle.iom_world.specs.Sound.{IsSound}
+use Rattle.iom_world.specs.Sound.{AreSound}
 use Rattle.iom_world.proofs.FrameLemmas.{shows_reserved}
 use Rattle.iom_world.proofs.FreeLemmas.{free_in_machine, free_in_world}
-use Rattle.iom_world.proofs.ListLemmas.{get_set_other}
+use Rattle.iom_driver.proofs.Lists.{get_set_other}
 use Rattle.iom_world.proofs.PlaceLemmas.{shown_of, attached_so}
 use Rattle.iom_world.proofs.ReasonLemmas.{attach_first, plugged_shown, refused_as}
 use Rattle.iom_world.proofs.RefusalLemmas.{some_and}
@@ -129,7 +129,7 @@ abbrev attached_state : State → ℕ → declared.Device → ℕ → State
 attached_state state id device root =
     record (with_device state (record device { attachment = Attached First false })) { frames = reserved_for (OneDevice id) (root ∷ []) state.frames }
 
-shows_attached : (old new : Parts) (events id : ℕ) (found : declared.Device) → IsSound old events → is_plugged old.driver.devices id ≡ true
+shows_attached : (old new : Parts) (events id : ℕ) (found : declared.Device) → AreSound old events → is_plugged old.driver.devices id ≡ true
     → (takes : TakesRoot old.driver old.memory id new.driver new.memory) → new.devices ≡ old.devices
     → (state : State) → PartsShow old state → device_of state id ≡ Some found → PartsShow new (attached_state state id found takes.stage.root)
 shows_attached old new events id found sound there takes devices state shows at =
@@ -154,7 +154,7 @@ shows_attached old new events id found sound there takes devices state shows at 
       levels = shows.levels ∙ sym (ap (λ (x : DriverState). x.levels) takes.driver);
     }
 
-pub attach_step : (old new : Parts) (events id : ℕ) (told : Outcome) → IsSound old events → AttachesDevice old id told new
+pub attach_step : (old new : Parts) (events id : ℕ) (told : Outcome) → AreSound old events → AttachesDevice old id told new
     → (state : State) → PartsShow old state → (taken : List ℕ) × (next : State) × machine.Attaches taken state id First false told next × PartsShow new next
 attach_step old new events id told sound does state shows = by does.answer does.told_so does.call
   where

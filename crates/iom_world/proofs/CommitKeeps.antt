@@ -19,9 +19,9 @@ use Rattle.iom_world.specs.Commands.{completed_in}
 use Rattle.iom_world.specs.Commits.{CommitsOldest, MakesAt, without_oldest}
 use Rattle.iom_world.specs.Facts.{IsCovered, AllCovered, IsSoundDevice, serves_still}
 use Rattle.iom_world.specs.Parts.{Parts}
-use Rattle.iom_world.specs.Sound.{IsSound}
+use Rattle.iom_world.specs.Sound.{AreSound}
 use Rattle.iom_world.proofs.DriverLemmas.{IsSoundDriver}
-use Rattle.iom_world.proofs.ListLemmas.{get_within, get_there}
+use Rattle.iom_driver.proofs.Lists.{get_within, get_there}
 use Rattle.iom_world.proofs.MemoryKeeps.{keeps_stored}
 use Rattle.iom_world.proofs.ReplaceLemmas.{keeps_device, parts_are}
 
@@ -56,7 +56,7 @@ pub record IsMakeable (old : Parts) (flight : AcceptedAccess) : Type 0 where
   pub there : slice_get old.memory flight.frame ≡ Some bytes
   pub within : flight.access.address % 4096 + flight.access.len ≤ 4096
 
-pub makeable : (old : Parts) (events place : ℕ) (device : Device) (flight : AcceptedAccess) → IsSound old events → AreGrants old.driver.marks old.driver.ledger
+pub makeable : (old : Parts) (events place : ℕ) (device : Device) (flight : AcceptedAccess) → AreSound old events → AreGrants old.driver.marks old.driver.ledger
     → slice_get old.devices place ≡ Some device → slice_get device.in_flight 0 ≡ Some flight → IsMakeable old flight
 makeable old events place device flight sound grants at oldest =
     let covered = (sound.each place device at).covered 0 flight oldest in
@@ -76,22 +76,22 @@ device_made ledger completed events device is = record {
 }
 
 -- the device that made its oldest access, among the others
-pub keeps_made : (old : Parts) (place : ℕ) (device now : Device) (events : ℕ) → IsSound old events → slice_get old.devices place ≡ Some device → now ≡ without_oldest device
-    → IsSound (record old { devices = slice_set old.devices place now }) events
+pub keeps_made : (old : Parts) (place : ℕ) (device now : Device) (events : ℕ) → AreSound old events → slice_get old.devices place ≡ Some device → now ≡ without_oldest device
+    → AreSound (record old { devices = slice_set old.devices place now }) events
 keeps_made old place device now events sound at is =
     keeps_device old place device now events sound at (ap (λ (d : Device). d.id) is)
     (subst (λ d. IsSoundDevice old.driver.ledger (completed_in old.memory) events d) (sym is)
     (device_made old.driver.ledger (completed_in old.memory) events device (sound.each place device at)))
 
-keeps_made_at : (old new : Parts) (events place : ℕ) (told : Outcome) → IsSound old events → IsSoundDriver old.driver → MakesAt old place told new → IsSound new events
+keeps_made_at : (old new : Parts) (events place : ℕ) (told : Outcome) → AreSound old events → IsSoundDriver old.driver → MakesAt old place told new → AreSound new events
 keeps_made_at old new events place told sound own makes = elim makes.effect [
-  | inl gives ↦ subst (λ parts. IsSound parts events) (sym (parts_are new old.memory old.iommu old.driver after gives.memory_stays makes.iommu makes.driver makes.devices))
+  | inl gives ↦ subst (λ parts. AreSound parts events) (sym (parts_are new old.memory old.iommu old.driver after gives.memory_stays makes.iommu makes.driver makes.devices))
       (keeps_made old place makes.device (without_oldest makes.device) events sound makes.stands refl)
   | inr stores ↦
       let bytes = with_bytes stores.bytes (offset_of made.access) made.access.bytes in
       let free = (makeable old events place makes.device made sound own.grants makes.stands makes.oldest).free in
       let changed : Parts = record old { memory = slice_set old.memory made.frame bytes } in
-      subst (λ parts. IsSound parts events) (sym (parts_are new changed.memory old.iommu old.driver after stores.stored makes.iommu makes.driver makes.devices))
+      subst (λ parts. AreSound parts events) (sym (parts_are new changed.memory old.iommu old.driver after stores.stored makes.iommu makes.driver makes.devices))
       (keeps_made changed place makes.device (without_oldest makes.device) events (keeps_stored old made.frame bytes events sound own free) makes.stands refl)
 ]
   where
@@ -101,11 +101,11 @@ keeps_made_at old new events place told sound own makes = elim makes.effect [
     after : List Device
     after = slice_set old.devices place (without_oldest makes.device)
 
-pub keeps_committed : (old new : Parts) (events id : ℕ) (told : Outcome) → IsSound old events → IsSoundDriver old.driver → CommitsOldest old id told new → IsSound new events
+pub keeps_committed : (old new : Parts) (events id : ℕ) (told : Outcome) → AreSound old events → IsSoundDriver old.driver → CommitsOldest old id told new → AreSound new events
 keeps_committed old new events id told sound own commits = elim commits [
-  | inl unknown ↦ subst (λ parts. IsSound parts events) (sym unknown.same) sound
+  | inl unknown ↦ subst (λ parts. AreSound parts events) (sym unknown.same) sound
   | inr there ↦ elim there [
-    | inl none ↦ subst (λ parts. IsSound parts events) (sym none.same) sound
+    | inl none ↦ subst (λ parts. AreSound parts events) (sym none.same) sound
     | inr makes ↦ keeps_made_at old new events makes.place told sound own makes.makes
   ]
 ]

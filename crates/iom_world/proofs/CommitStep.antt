@@ -12,12 +12,12 @@ use Rattle.iom_machine.specs.Frames.{stored}
 use Rattle.iom_machine.specs.Machine.{Commits, Makes, with_oldest_made}
 use Rattle.iom_world.specs.declared.device.Device.{Device}
 use Rattle.iom_world.specs.Commands.{completed_in}
-use Rattle.iom_world.specs.Commits.{CommitsOldest, MakesAt, GivesBytes, StoresBytes, HasNone, without_oldest}
+use Rattle.iom_world.specs.Commits.{CommitsOldest, MakesAt, ReadsBytes, WritesBytes, HasNone, without_oldest}
 use Rattle.iom_world.specs.Devices.{shown_device, shown_devices}
 use Rattle.iom_world.specs.Parts.{Parts}
-use Rattle.iom_world.specs.Places.{IsPlaceOf}
+use Rattle.iom_world.specs.Places.{HasPlace}
 use Rattle.iom_world.specs.Shows.{PartsShow}
-use Rattle.iom_world.specs.Sound.{IsSound}
+use Rattle.iom_world.specs.Sound.{AreSound}
 use Rattle.iom_world.proofs.CommitKeeps.{makeable, IsMakeable}
 use Rattle.iom_world.proofs.DriverLemmas.{IsSoundDriver}
 use Rattle.iom_world.proofs.MayLemmas.{May-covered}
@@ -26,8 +26,8 @@ use Rattle.iom_world.proofs.RequestStep.{acts_at, acts_absent, shows_same}
 use Rattle.iom_world.proofs.StoreLemmas.{bytes_shown, frames_stored}
 
 -- the access is made where its device stands
-module _ (old new : Parts) (events id place : ℕ) (told : Outcome) (sound : IsSound old events) (own : IsSoundDriver old.driver) (makes : MakesAt old place told new)
-    (is : IsPlaceOf old.devices id place) (same : makes.device ≡ is.0) (state : State) (shows : PartsShow old state) where
+module _ (old new : Parts) (events id place : ℕ) (told : Outcome) (sound : AreSound old events) (own : IsSoundDriver old.driver) (makes : MakesAt old place told new)
+    (is : HasPlace old.devices id place) (same : makes.device ≡ is.0) (state : State) (shows : PartsShow old state) where
   abbrev made : AcceptedAccess
   made = makes.made
 
@@ -49,7 +49,7 @@ module _ (old new : Parts) (events id place : ℕ) (told : Outcome) (sound : IsS
   devices_shown : (with_oldest_made state (shown_device old.driver.devices is.0)).devices ≡ shown_devices old.driver.devices after
   devices_shown = shown_changed old.driver.devices state old.devices id place (without_oldest is.0) shows.devices is is.2
 
-  step_read : GivesBytes old.memory made told new.memory → (next : State) × Commits state id told next × PartsShow new next
+  step_read : ReadsBytes old.memory made told new.memory → (next : State) × Commits state id told next × PartsShow new next
   step_read gives =
       let next = with_oldest_made state (shown_device old.driver.devices is.0) in
       let held = gives.told_so.0 in
@@ -77,7 +77,7 @@ module _ (old new : Parts) (events id place : ℕ) (told : Outcome) (sound : IsS
         }),
       )
 
-  step_write : StoresBytes old.memory made told new.memory → (next : State) × Commits state id told next × PartsShow new next
+  step_write : WritesBytes old.memory made told new.memory → (next : State) × Commits state id told next × PartsShow new next
   step_write stores =
       let next = record (with_oldest_made state (shown_device old.driver.devices is.0)) { frames = stored state.frames made.frame (offset_of made.access) made.access.bytes } in
       let memory = slice_set old.memory made.frame (with_bytes stores.bytes (offset_of made.access) made.access.bytes) in
@@ -114,7 +114,7 @@ step_none old new id told none state shows = (
   shows_same old new state none.same shows,
 )
 
-pub committed_step : (old new : Parts) (events id : ℕ) (told : Outcome) → IsSound old events → IsSoundDriver old.driver → CommitsOldest old id told new
+pub committed_step : (old new : Parts) (events id : ℕ) (told : Outcome) → AreSound old events → IsSoundDriver old.driver → CommitsOldest old id told new
     → (state : State) → PartsShow old state → (next : State) × Commits state id told next × PartsShow new next
 committed_step old new events id told sound own commits state shows = elim commits [
   | inl unknown ↦ (

@@ -8,7 +8,6 @@ use Rattle.iom_base.specs.declared.grant_rights.GrantRights.{GrantRights}
 use Rattle.iom_base.specs.declared.owner.Owner.{Owner}
 use Rattle.iom_base.specs.declared.owner.Owner.TheVariants.{System, OneDevice}
 use Rattle.iom_base.specs.GrantRights.{rights_of}
-use Rattle.iom_command_queue.specs.declared.entry.QueueEntry.{QueueEntry}
 use Rattle.iom_command_queue.specs.Waiting.{commands_in}
 use Rattle.iom_driver.specs.declared.answers.Polled.{Polled}
 use Rattle.iom_driver.specs.declared.device.Device as driver
@@ -34,14 +33,14 @@ use Rattle.iom_machine.specs.declared.outcome.Outcome.{Outcome}
 use Rattle.iom_table_frames.specs.Marks.{IsFreeForTable}
 use Rattle.iom_registers.specs.Queues.{is_processing_commands}
 use Rattle.iom_world.specs.declared.device.Device.{Device}
-use Rattle.iom_world.specs.Commands.{completed_in, FencesFollow}
-use Rattle.iom_world.specs.Does.{AttachesDevice, GrantsFrame, PollsTickets}
+use Rattle.iom_world.specs.Commands.{completed_in}
+use Rattle.iom_world.specs.Does.{AttachesDevice, GrantsPage, PollsTickets}
 use Rattle.iom_world.specs.Facts.{AreSoundDevices, HaveOwnIds, AreKnown}
 use Rattle.iom_world.specs.Parts.{Parts}
-use Rattle.iom_world.specs.Sound.{IsSound}
+use Rattle.iom_world.specs.Sound.{AreSound}
 use Rattle.iom_world.proofs.CoverLemmas.{devices_unchanged, devices_granted, devices_polled}
 use Rattle.iom_world.proofs.DriverLemmas.{IsSoundDriver}
-use Rattle.iom_world.proofs.RingLemmas.{same_completed, follow_le}
+use Rattle.iom_world.proofs.RingLemmas.{same_completed, follow_as, follow_le}
 use Rattle.iom_driver.proofs.Ring.{same_commands}
 
 -- what such a call leaves: the IOMMU and the devices, the ring and the completion word, and the last ticket
@@ -53,15 +52,10 @@ pub record LeavesQueue (old new : Parts) : Type 0 where
   pub given : new.driver.given ≡ old.driver.given
   pub started : new.driver.started ≡ old.driver.started
 
--- the same fences follow, where all that tells of them is the same
-pub follow_as : (address address' done done' : ℕ) (waiting waiting' : List QueueEntry) (given given' : ℕ) → address' ≡ address → done' ≡ done → waiting' ≡ waiting → given' ≡ given
-    → FencesFollow address done waiting given → FencesFollow address' done' waiting' given'
-follow_as address address' done done' waiting waiting' given given' a d w g follow = rw (a, d, w, g) follow
-
 -- so the facts stay, where they do of the devices and of the tickets that are confirmed
-pub sound_from : (old new : Parts) (events : ℕ) → IsSound old events → LeavesQueue old new → IsReady new.driver new.memory (registers_of new.iommu)
+pub sound_from : (old new : Parts) (events : ℕ) → AreSound old events → LeavesQueue old new → IsReady new.driver new.memory (registers_of new.iommu)
     → AreKnown new.driver.devices new.devices → HaveOwnIds new.devices → new.driver.confirmed ≤ completed_in old.memory
-    → AreSoundDevices new.driver.ledger (completed_in old.memory) events new.devices → IsSound new events
+    → AreSoundDevices new.driver.ledger (completed_in old.memory) events new.devices → AreSound new events
 sound_from old new events sound leaves ready known own confirmed each =
     let done : completed_in new.memory ≡ completed_in old.memory = same_completed old.memory new.memory leaves.size leaves.word in
     let commands : commands_in new.memory (registers_of new.iommu) ≡ commands_in old.memory (registers_of old.iommu) =
@@ -92,14 +86,14 @@ ids_attached (device ∷ others) id stage = by (device.id == id) (ids_attached o
     by false rest = ap (λ ids. device.id ∷ ids) rest
 
 -- ATTACH
-pub keeps_attached : (old new : Parts) (events id : ℕ) (told : Outcome) → IsSound old events → IsSoundDriver old.driver → IsReady new.driver new.memory (registers_of new.iommu)
-    → AttachesDevice old id told new → IsSound new events
+pub keeps_attached : (old new : Parts) (events id : ℕ) (told : Outcome) → AreSound old events → IsSoundDriver old.driver → IsReady new.driver new.memory (registers_of new.iommu)
+    → AttachesDevice old id told new → AreSound new events
 keeps_attached old new events id told sound own ready attaches = by attaches.answer attaches.call
   where
     size : length old.memory ≡ length old.driver.marks
     size = sound.ready.stand.size
 
-    by : (answer : Result (Unit {0}) Refusal) → Attaches old.driver old.memory id answer new.driver new.memory → IsSound new events
+    by : (answer : Result (Unit {0}) Refusal) → Attaches old.driver old.memory id answer new.driver new.memory → AreSound new events
     by (Ok done) (admitted, takes) =
         let root = takes.stage.root in
         let inside : root < length old.driver.marks = rw (sym size) takes.highest.below in
@@ -159,14 +153,14 @@ system_stays marks ledger named limit count id tables long highest n system now 
     (λ free. owned_differs marks n n System system (unmarked marks n (subst (λ m. n < m) long free.0) free.1.unmarked) refl) in
     let both : ◌≡◌ {A = Option (Option Owner)} (Some (Some System)) (Some (Some (OneDevice id))) = sym system ∙ sym (mark_stays id n tables marks apart) ∙ now in cc
 
-pub keeps_granted : (old new : Parts) (events id page frame : ℕ) (rights : GrantRights) (told : Outcome) → IsSound old events → IsSoundDriver old.driver
-    → IsReady new.driver new.memory (registers_of new.iommu) → GrantsFrame old id page frame rights told new → IsSound new events
+pub keeps_granted : (old new : Parts) (events id page frame : ℕ) (rights : GrantRights) (told : Outcome) → AreSound old events → IsSoundDriver old.driver
+    → IsReady new.driver new.memory (registers_of new.iommu) → GrantsPage old id page frame rights told new → AreSound new events
 keeps_granted old new events id page frame rights told sound own ready grants = by grants.answer grants.call
   where
     size : length old.memory ≡ length old.driver.marks
     size = sound.ready.stand.size
 
-    by : (answer : Result (Unit {0}) Refusal) → Grants old.driver old.memory id page frame rights answer new.driver new.memory → IsSound new events
+    by : (answer : Result (Unit {0}) Refusal) → Grants old.driver old.memory id page frame rights answer new.driver new.memory → AreSound new events
     by (Ok done) (admitted, takes) =
         let vacant = vacant_where old.driver id page frame admitted in
         let marks : new.driver.marks ≡ marked_for id takes.tables old.driver.marks = ap (λ d. d.marks) takes.driver in
@@ -203,7 +197,7 @@ keeps_granted old new events id page frame rights told sound own ready grants = 
         (rw grants.devices (devices_unchanged old.driver.ledger new.driver.ledger (completed_in old.memory) events old.devices same.ledger sound.each))
 
 -- POLL: all tickets that wait and whose fences are done are confirmed, since the completion word is that of a fence that was given
-pub keeps_polled : (old new : Parts) (events : ℕ) (told : Outcome) → IsSound old events → IsReady new.driver new.memory (registers_of new.iommu) → PollsTickets old told new → IsSound new events
+pub keeps_polled : (old new : Parts) (events : ℕ) (told : Outcome) → AreSound old events → IsReady new.driver new.memory (registers_of new.iommu) → PollsTickets old told new → AreSound new events
 keeps_polled old new events told sound ready polls = by polls.answer polls.call
   where
     leaves : new.driver.given ≡ old.driver.given → new.driver.started ≡ old.driver.started → LeavesQueue old new
@@ -216,7 +210,7 @@ keeps_polled old new events told sound ready polls = by polls.answer polls.call
       started = started;
     }
 
-    by : (answer : Result Polled Refusal) → Polls (registers_of old.iommu) old.driver old.memory answer new.driver → IsSound new events
+    by : (answer : Result Polled Refusal) → Polls (registers_of old.iommu) old.driver old.memory answer new.driver → AreSound new events
     by (Ok polled) (admitted, confirms) =
         let completed : completed_in old.memory ≡ confirms.word = ap (λ o. option_map_or (λ word. word) o 0) confirms.read in
         let given : completed_in old.memory ≤ old.driver.given = follow_le (completion_address (length old.memory)) (completed_in old.memory) (commands_in old.memory (registers_of old.iommu)) old.driver.given sound.commands in
@@ -235,7 +229,7 @@ keeps_polled old new events told sound ready polls = by polls.answer polls.call
         (rw polls.devices sound.own_ids) (rw same sound.confirmed) (rw polls.devices (rw same sound.each))
 
 -- the tickets that a poll tells are 32 bits wide
-pub polled_low : (old : Parts) (events : ℕ) (polled : Polled) (next : DriverState) → IsSound old events → Polls (registers_of old.iommu) old.driver old.memory (Ok polled) next
+pub polled_low : (old : Parts) (events : ℕ) (polled : Polled) (next : DriverState) → AreSound old events → Polls (registers_of old.iommu) old.driver old.memory (Ok polled) next
     → polled.first + polled.count ≤ 2 ^ 32
 polled_low old events polled next sound (admitted, confirms) =
     let small = sound.small in

@@ -31,11 +31,10 @@ use Rattle.iom_world.specs.Does.{FetchesNext}
 use Rattle.iom_world.specs.Facts.{AreSoundDevices, IsSoundDevice}
 use Rattle.iom_world.specs.Parts.{Parts}
 use Rattle.iom_world.specs.Places.{SomeInFlight}
-use Rattle.iom_world.specs.Sound.{IsSound}
-use Rattle.iom_world.proofs.DriverKeeps.{follow_as}
+use Rattle.iom_world.specs.Sound.{AreSound}
 use Rattle.iom_world.proofs.DriverLemmas.{IsSoundDriver}
-use Rattle.iom_world.proofs.ListLemmas.{get_there}
-use Rattle.iom_world.proofs.RingLemmas.{follow_le}
+use Rattle.iom_driver.proofs.Lists.{get_there}
+use Rattle.iom_world.proofs.RingLemmas.{follow_as, follow_le}
 
 -- what a command is that stands first among those that follow: an invalidation, or the next fence
 abbrev pub IsNext : ℕ → ℕ → Commanded → Type 0
@@ -145,7 +144,7 @@ devices_fetched ledger events done after devices any some (inr none) each k devi
 }
 
 -- processing doesn't stop
-pub never_stops : (old : Parts) (events : ℕ) (any : Bool) (next : Iommu) → IsSound old events → 64 ≤ length old.memory → StopsFetching (is_processing_commands (registers_of old.iommu)) old.memory any old.iommu next → ⊥
+pub never_stops : (old : Parts) (events : ℕ) (any : Bool) (next : Iommu) → AreSound old events → 64 ≤ length old.memory → StopsFetching (is_processing_commands (registers_of old.iommu)) old.memory any old.iommu next → ⊥
 never_stops old events any next sound many stops =
     by (head_entry old.memory (registers_of old.iommu)) refl (subst (λ on. StopsFetching on old.memory any old.iommu next) sound.processing stops)
   where
@@ -161,8 +160,8 @@ never_stops old events any next sound many stops =
         let head = head_follows (completion_address (length old.memory)) (completed_in old.memory) (commands_in old.memory (registers_of old.iommu)) old.driver.given Outside sound.commands at in let e = head.1 in cc
 
 -- a command is done
-keeps_done : (old new : Parts) (events : ℕ) (any : Bool) (command : Commanded) → IsSound old events → IsSoundDriver old.driver → (IsTrue any ↔ SomeInFlight old.devices)
-    → FetchesCommand old.memory old.iommu any (Did command) new.memory new.iommu → new.driver ≡ old.driver → new.devices ≡ old.devices → IsSound new events
+keeps_done : (old new : Parts) (events : ℕ) (any : Bool) (command : Commanded) → AreSound old events → IsSoundDriver old.driver → (IsTrue any ↔ SomeInFlight old.devices)
+    → FetchesCommand old.memory old.iommu any (Did command) new.memory new.iommu → new.driver ≡ old.driver → new.devices ≡ old.devices → AreSound new events
 keeps_done old new events any command sound own some fetches driver devices =
     let r = registers_of old.iommu in
     let size : length old.memory ≡ length old.driver.marks = sound.ready.stand.size in
@@ -209,16 +208,16 @@ keeps_done old new events any command sound own some fetches driver devices =
     more_done done (IodirInvalDdt device) = omega arith
     more_done done (AtsInval device range) = omega arith
 
-pub keeps_fetched : (old new : Parts) (events : ℕ) (told : Outcome) → IsSound old events → IsSoundDriver old.driver → FetchesNext old told new → IsSound new events
+pub keeps_fetched : (old new : Parts) (events : ℕ) (told : Outcome) → AreSound old events → IsSoundDriver old.driver → FetchesNext old told new → AreSound new events
 keeps_fetched old new events told sound own fetches = by fetches.answer fetches.call
   where
     many : 64 ≤ length old.memory
     many = let m = own.sizes.size.0 in let size = sound.ready.stand.size in omega (arith, size, m)
 
-    same : new.memory ≡ old.memory → new.iommu ≡ old.iommu → IsSound new events
+    same : new.memory ≡ old.memory → new.iommu ≡ old.iommu → AreSound new events
     same memory iommu = rw (memory, iommu, fetches.driver, fetches.devices) sound
 
-    by : (answer : Fetched) → FetchesCommand old.memory old.iommu fetches.any_in_flight answer new.memory new.iommu → IsSound new events
+    by : (answer : Fetched) → FetchesCommand old.memory old.iommu fetches.any_in_flight answer new.memory new.iommu → AreSound new events
     by (Did command) call = keeps_done old new events fetches.any_in_flight command sound own fetches.counted call fetches.driver fetches.devices
     by Waiting call = same call.2 call.3
     by Empty call = same call.2 call.3

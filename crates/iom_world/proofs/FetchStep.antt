@@ -18,7 +18,7 @@ use Rattle.iom_world.specs.Does.{FetchesNext}
 use Rattle.iom_world.specs.Frames.{ShowsFrames}
 use Rattle.iom_world.specs.Parts.{Parts}
 use Rattle.iom_world.specs.Shows.{PartsShow}
-use Rattle.iom_world.specs.Sound.{IsSound}
+use Rattle.iom_world.specs.Sound.{AreSound}
 use Rattle.iom_world.proofs.DriverLemmas.{IsSoundDriver}
 use Rattle.iom_world.proofs.FetchKeeps.{IsNext, head_follows, stored_there}
 use Rattle.iom_world.proofs.FrameLemmas.{shows_kept}
@@ -28,7 +28,7 @@ not_free : (marks : List (Option Owner)) (n : ℕ) → slice_get marks n ≡ Som
 not_free marks n system free = let both : ◌≡◌ {A = Option (Option Owner)} (Some (Some System)) (Some None) = sym system ∙ free in cc
 
 -- the machine's frames are shown still
-frames_fetched : (old new : Parts) (events : ℕ) (answer : Fetched) (any : Bool) (state : State) → IsSound old events → IsSoundDriver old.driver
+frames_fetched : (old new : Parts) (events : ℕ) (answer : Fetched) (any : Bool) (state : State) → AreSound old events → IsSoundDriver old.driver
     → FetchesCommand old.memory old.iommu any answer new.memory new.iommu → ShowsFrames old.memory old.driver.marks state.frames → ShowsFrames new.memory old.driver.marks state.frames
 frames_fetched old new events (Did command) any state sound own fetches shows =
     let size : length old.memory ≡ length old.driver.marks = sound.ready.stand.size in
@@ -43,7 +43,7 @@ frames_fetched old new events Waiting any state sound own fetches shows = rw fet
 frames_fetched old new events Empty any state sound own fetches shows = rw fetches.2 shows
 frames_fetched old new events Stopped any state sound own fetches shows = rw fetches.1 shows
 
-pub fetch_step : (old new : Parts) (events : ℕ) (told : Outcome) → IsSound old events → IsSoundDriver old.driver → FetchesNext old told new
+pub fetch_step : (old new : Parts) (events : ℕ) (told : Outcome) → AreSound old events → IsSoundDriver old.driver → FetchesNext old told new
     → (state : State) → PartsShow old state → (next : State) × machine.Fetches state told next × PartsShow new next
 fetch_step old new events told sound own does state shows = (
   state,

@@ -8,7 +8,7 @@ use Rattle.iom_machine.specs.Frames.{is_reserved, with_frame}
 use Rattle.iom_base.specs.declared.owner.Owner.{Owner}
 use Rattle.iom_table_frames.specs.Marks as marks
 use Rattle.iom_world.specs.Frames.{ShowsFrames}
-use Rattle.iom_world.proofs.ListLemmas.{get_set_same, get_set_other, get_within, get_there}
+use Rattle.iom_driver.proofs.Lists.{get_set_same, get_set_other, get_within, get_there}
 
 -- a frame of the machine where an owner takes it
 abbrev pub owned : Owner → Frame → Frame

@@ -30,11 +30,11 @@ use Rattle.iom_machine.specs.Refusals as refusals
 use Rattle.iom_machine.specs.Refusals.{MayRefuseGrant}
 use Rattle.iom_page_table.specs.Sv39.{missing_for}
 use Rattle.iom_table_frames.specs.Marks.{IsFreeForTable, HasFree}
-use Rattle.iom_world.specs.Does.{GrantsFrame, told_of}
+use Rattle.iom_world.specs.Does.{GrantsPage, told_of}
 use Rattle.iom_world.specs.Frames.{ShowsFrames}
 use Rattle.iom_world.specs.Parts.{Parts}
 use Rattle.iom_world.specs.Shows.{PartsShow}
-use Rattle.iom_world.specs.Sound.{IsSound}
+use Rattle.iom_world.specs.Sound.{AreSound}
 use Rattle.iom_world.proofs.FrameLemmas.{shows_reserved, shows_kept}
 use Rattle.iom_world.proofs.FreeLemmas.{free_in_machine, free_in_world}
 use Rattle.iom_world.proofs.ReasonLemmas.{grant_first, refused_as}
@@ -149,7 +149,7 @@ free_tables old new id page frame rights takes state shows = λ k n lt.
       λ same. free.other (ap Some (sym same)),
     )
 
-pub grant_step : (old new : Parts) (events id page frame : ℕ) (rights : GrantRights) (told : Outcome) → IsSound old events → GrantsFrame old id page frame rights told new
+pub grant_step : (old new : Parts) (events id page frame : ℕ) (rights : GrantRights) (told : Outcome) → AreSound old events → GrantsPage old id page frame rights told new
     → (state : State) → PartsShow old state → (taken : List ℕ) × (next : State) × machine.Grants taken state id page frame rights told next × PartsShow new next
 grant_step old new events id page frame rights told sound does state shows = by does.answer does.told_so does.call
   where

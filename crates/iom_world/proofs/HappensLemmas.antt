@@ -12,7 +12,7 @@ use Rattle.iom_world.specs.Happens.{Happens, SameIfRefused}
 use Rattle.iom_world.specs.Parts.{Parts}
 use Rattle.iom_world.specs.Seen.{parts_of}
 use Rattle.iom_world.specs.Shows.{PartsShow}
-use Rattle.iom_world.specs.Sound.{IsSound}
+use Rattle.iom_world.specs.Sound.{AreSound}
 use Rattle.iom_world.proofs.AttachStep.{attach_step}
 use Rattle.iom_world.proofs.CallRefused.{plug_refused, attach_refused, grant_refused, release_refused, fetch_refused, poll_refused}
 use Rattle.iom_world.proofs.CommitStep.{committed_step}
@@ -28,7 +28,7 @@ use Rattle.iom_world.proofs.RequestStep.{asked_step}
 use Rattle.iom_world.proofs.RunLemmas.{no_choice, frame_chosen, frames_taken}
 
 -- a step by the event
-steps : (old new : Parts) (counted before : ℕ) (event : Event) (told : Outcome) → IsEvent event → IsSound old before → IsSoundDriver old.driver → IsSound new counted
+steps : (old new : Parts) (counted before : ℕ) (event : Event) (told : Outcome) → IsEvent event → AreSound old before → IsSoundDriver old.driver → AreSound new counted
     → Does old event told new → (state : State) → PartsShow old state → (next : State) × Step state event told next × PartsShow new next
 steps old new counted before (events.Plug id kind) told may sound own sound' does state shows =
     let step = plug_step old new before id kind told sound does state shows in (step.0, (no_choice, step.1), step.2)

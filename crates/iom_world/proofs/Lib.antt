@@ -1,4 +1,3 @@
-pub mod ListLemmas
 pub mod FrameLemmas
 pub mod FreeLemmas
 pub mod RefusalLemmas

@@ -21,8 +21,10 @@ use Rattle.iom_world.specs.Commands.{completed_in}
 use Rattle.iom_world.specs.Does.{PlugsDevice, new_device, devices_after}
 use Rattle.iom_world.specs.Facts.{IsSoundDevice, HaveOwnIds, AreKnown}
 use Rattle.iom_world.specs.Parts.{Parts}
-use Rattle.iom_world.specs.Places.{IsAbsent, IsPlaceOf}
-use Rattle.iom_world.specs.Sound.{IsSound}
+use Rattle.iom_world.specs.Places.{IsAbsent, HasPlace}
+use Rattle.iom_world.specs.Sound.{AreSound}
+use Rattle.iom_world.proofs.ReasonLemmas.{length-known}
+use Rattle.iom_world.proofs.ReplaceLemmas.{get_pushed}
 use Rattle.iom_world.proofs.DriverKeeps.{none_at, sound_from}
 
 -- the ids of two lists agree at their first, and behind it
@@ -30,7 +32,7 @@ first_ids : (a b : ℕ) (xs ys : List ℕ) → a ∷ xs ≡ b ∷ ys → (a ≡ 
 first_ids a b xs ys same = (cc, cc)
 
 -- the driver knows a device that is there, and none that isn't
-pub known_place : (known : List driver.Device) (devices : List Device) (id place : ℕ) → AreKnown known devices → IsPlaceOf devices id place → is_plugged known id ≡ true
+pub known_place : (known : List driver.Device) (devices : List Device) (id place : ℕ) → AreKnown known devices → HasPlace devices id place → is_plugged known id ≡ true
 known_place [] [] id place same p = cc
 known_place [] (device ∷ others) id place same p = cc
 known_place (own ∷ rest) [] id place same p = cc
@@ -61,15 +63,8 @@ absent_known (own ∷ rest) (first ∷ others) id same none k device at = by (ow
         false≢true (sym test ∙ eq-eqb own.id id ((first_ids _ _ _ _ same).0 ∙ ap (λ (d : Device). d.id) here ∙ e))
     by false test none (suc k) at later = later none k device at
 
--- as many devices are known as are there
-pub length-known : (known : List driver.Device) (devices : List Device) → AreKnown known devices → length known ≡ length devices
-length-known [] [] same = refl
-length-known [] (device ∷ others) same = cc
-length-known (own ∷ rest) [] same = cc
-length-known (own ∷ rest) (device ∷ others) same = ap suc (length-known rest others (first_ids _ _ _ _ same).1)
-
 -- why a device isn't plugged in, before the driver is asked
-pub already_plugged : (d : DriverState) (devices : List Device) (id place : ℕ) → AreKnown d.devices devices → IsPlaceOf devices id place → Plugs d id (Err AlreadyPlugged) d
+pub already_plugged : (d : DriverState) (devices : List Device) (id place : ℕ) → AreKnown d.devices devices → HasPlace devices id place → Plugs d id (Err AlreadyPlugged) d
 already_plugged d devices id place known p = (rw (known_place d.devices devices id place known p) refl, refl)
 
 pub too_many : (d : DriverState) (devices : List Device) (id : ℕ) → AreKnown d.devices devices → IsAbsent devices id → 16 ≤ length devices → Plugs d id (Err TooManyDevices) d
@@ -81,13 +76,6 @@ pub no_memory : (d : DriverState) (devices : List Device) (id : ℕ) → AreKnow
 no_memory d devices id known absent few =
     let room : nat_le 16 (length d.devices) ≡ false = lt-leb 16 (length d.devices) (rw (length-known d.devices devices known) few) in
     (rw (known_absent d.devices devices id known absent, room) refl, refl)
-
--- an item of a list with one more at its end is one of the list, or the last
-get_pushed : {X : Type 0} (xs : List X) (x y : X) (k : ℕ) → slice_get (xs ++ x ∷ []) k ≡ Some y → (slice_get xs k ≡ Some y) ⊎ ((k ≡ length xs) × (y ≡ x))
-get_pushed [] x y zero at = inr (refl, cc)
-get_pushed [] x y (suc k) at = cc
-get_pushed (first ∷ xs) x y zero at = inl at
-get_pushed (first ∷ xs) x y (suc k) at = elim (get_pushed xs x y k at) [ inl e ↦ inl e | inr e ↦ inr (ap suc e.0, e.1) ]
 
 own_ids_new : (devices : List Device) (device : Device) (id : ℕ) → HaveOwnIds devices → IsAbsent devices id → device.id ≡ id → HaveOwnIds (devices ++ device ∷ [])
 own_ids_new devices device id own absent new j k one other at at' same =
@@ -114,11 +102,11 @@ ids_plugged (own ∷ rest) (device ∷ others) id kind same =
     let behind = ids_plugged rest others id kind (first_ids _ _ _ _ same).1 in
     ap (λ i. i ∷ map (λ (d : driver.Device). d.id) (rest ++ detached id ∷ [])) (first_ids _ _ _ _ same).0 ∙ ap (λ is. device.id ∷ is) behind
 
-pub keeps_plugged : (old new : Parts) (events id : ℕ) (kind : DeviceKind) (told : Outcome) → IsSound old events → IsReady new.driver new.memory (registers_of new.iommu)
-    → PlugsDevice old id kind told new → IsSound new events
+pub keeps_plugged : (old new : Parts) (events id : ℕ) (kind : DeviceKind) (told : Outcome) → AreSound old events → IsReady new.driver new.memory (registers_of new.iommu)
+    → PlugsDevice old id kind told new → AreSound new events
 keeps_plugged old new events id kind told sound ready plugs = by plugs.answer plugs.call plugs.devices
   where
-    by : (answer : Result (Unit {0}) Refusal) → Plugs old.driver id answer new.driver → new.devices ≡ devices_after answer old.devices id kind → IsSound new events
+    by : (answer : Result (Unit {0}) Refusal) → Plugs old.driver id answer new.driver → new.devices ≡ devices_after answer old.devices id kind → AreSound new events
     by (Ok done) (admitted, driver) devices =
         let absent = absent_known old.driver.devices old.devices id sound.known (none_at (plug_reasons old.driver id) 0 (is_plugged old.driver.devices id) AlreadyPlugged refl admitted) in
         sound_from old new events sound

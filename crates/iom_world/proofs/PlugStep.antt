@@ -21,7 +21,7 @@ use Rattle.iom_world.specs.Devices.{shown_attachment, shown_device, shown_device
 use Rattle.iom_world.specs.Does.{PlugsDevice, told_of, new_device, devices_after}
 use Rattle.iom_world.specs.Parts.{Parts}
 use Rattle.iom_world.specs.Shows.{PartsShow}
-use Rattle.iom_world.specs.Sound.{IsSound}
+use Rattle.iom_world.specs.Sound.{AreSound}
 use Rattle.iom_world.proofs.PlaceLemmas.{attached_so}
 use Rattle.iom_world.proofs.ReasonLemmas.{plug_first, none_stage, refused_as}
 use Rattle.iom_world.proofs.StayLemmas.{shows_same}
@@ -59,7 +59,7 @@ shows_plugged old new id kind none driver memory devices state shows =
       levels = shows.levels ∙ sym (ap (λ (x : DriverState). x.levels) driver);
     }
 
-pub plug_step : (old new : Parts) (events id : ℕ) (kind : DeviceKind) (told : Outcome) → IsSound old events → PlugsDevice old id kind told new
+pub plug_step : (old new : Parts) (events id : ℕ) (kind : DeviceKind) (told : Outcome) → AreSound old events → PlugsDevice old id kind told new
     → (state : State) → PartsShow old state → (next : State) × machine.Plugs state id kind told next × PartsShow new next
 plug_step old new events id kind told sound does state shows = by does.answer does.told_so does.call does.devices
   where

@@ -22,7 +22,7 @@ use Rattle.iom_world.specs.Commands.{completed_in}
 use Rattle.iom_world.specs.Does.{PollsTickets, polled_told_of}
 use Rattle.iom_world.specs.Parts.{Parts}
 use Rattle.iom_world.specs.Shows.{PartsShow}
-use Rattle.iom_world.specs.Sound.{IsSound}
+use Rattle.iom_world.specs.Sound.{AreSound}
 use Rattle.iom_command_queue.specs.Waiting.{commands_in}
 use Rattle.iom_driver.specs.Layout.{completion_address}
 use Rattle.iom_world.proofs.MayLemmas.{each_may}
@@ -59,12 +59,12 @@ abbrev told_of_count : ℕ → ℕ → Outcome
 told_of_count first count = if count == 0 then NoneConfirmed else Confirmed first (first + count - 1)
 
 -- each access in flight may still reach its frame, by what a world shows
-may_still : (parts : Parts) (events : ℕ) (state : State) → IsSound parts events → PartsShow parts state → EachInFlightMay state
+may_still : (parts : Parts) (events : ℕ) (state : State) → AreSound parts events → PartsShow parts state → EachInFlightMay state
 may_still parts events state sound shows =
     rw shows.devices (each_may parts.driver.devices parts.driver.ledger state.history (completed_in parts.memory) events parts.devices shows.ledger sound.each)
 
 -- the tickets are told and confirmed, by how many they are
-confirmed_so : (old new : Parts) (events first count : ℕ) (state : State) → IsSound new events → PartsShow old state
+confirmed_so : (old new : Parts) (events first count : ℕ) (state : State) → AreSound new events → PartsShow old state
     → PartsShow new (record state { history = confirmed_from (old.driver.confirmed + 1) count state.history }) → old.driver.confirmed + count ≤ old.driver.given
     → (n : ℕ) → count ≡ n → first ≡ (if n == 0 then 0 else old.driver.confirmed + 1)
     → (next : State) × machine.Polls state (told_of_count first n) next × PartsShow new next
@@ -95,7 +95,7 @@ started_refuses : (started : Bool) (why : Refusal) → started ≡ true → firs
 started_refuses true why on refused = cc
 started_refuses false why on refused = false≢true on
 
-pub poll_step : (old new : Parts) (events after : ℕ) (told : Outcome) → IsSound old events → IsSound new after → PollsTickets old told new
+pub poll_step : (old new : Parts) (events after : ℕ) (told : Outcome) → AreSound old events → AreSound new after → PollsTickets old told new
     → (state : State) → PartsShow old state → (next : State) × machine.Polls state told next × PartsShow new next
 poll_step old new events after told sound sound' does state shows = by does.answer does.told_so does.call
   where

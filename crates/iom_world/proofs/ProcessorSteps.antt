@@ -14,10 +14,10 @@ use Rattle.iom_ledger.specs.Refusals.{IsRefusedBy, NoneApplies}
 use Rattle.iom_world.specs.Parts.{Parts}
 use Rattle.iom_world.specs.Processor.{PokesBytes, PeeksBytes, AsksFree, StoresIfAny, ShowsAt, IsNoPlace}
 use Rattle.iom_world.specs.Shows.{PartsShow}
-use Rattle.iom_world.specs.Sound.{IsSound}
+use Rattle.iom_world.specs.Sound.{AreSound}
 use Rattle.iom_world.proofs.FrameLemmas.{reserved_shown}
 use Rattle.iom_world.proofs.FreeLemmas.{free_in_machine, free_in_world}
-use Rattle.iom_world.proofs.ListLemmas.{get_within}
+use Rattle.iom_driver.proofs.Lists.{get_within}
 use Rattle.iom_world.proofs.ProcessorKeeps.{stored_free}
 use Rattle.iom_world.proofs.ReplaceLemmas.{parts_are}
 use Rattle.iom_world.proofs.RequestStep.{shows_same}
@@ -43,7 +43,7 @@ module _ (old : Parts) (state : State) (shows : PartsShow old state) where
   no_place frame FrameReserved place = rw (is_inside frame place.0, reserved_shown old.memory old.driver.marks state.frames frame shows.frames ∙ place.1) refl
   no_place frame _ place = absurd place
 
-  step_if_any : (events address : ℕ) (bytes : List ℕ) (told : Outcome) (memory : List (List ℕ)) → IsSound old events → StoresIfAny old address bytes told memory
+  step_if_any : (events address : ℕ) (bytes : List ℕ) (told : Outcome) (memory : List (List ℕ)) → AreSound old events → StoresIfAny old address bytes told memory
       → (next : State) × Pokes state address bytes told next × PartsShow (record old { memory = memory }) next
   step_if_any events address bytes Done memory sound stores =
       let frame = address / 4096 in
@@ -67,7 +67,7 @@ module _ (old : Parts) (state : State) (shows : PartsShow old state) where
   step_if_any events address bytes _ memory sound stores = absurd stores
 
   -- what is read of a frame that is nobody's is what the machine has
-  shown_bytes : (events address len : ℕ) (shown : List ℕ) → IsSound old events → ShowsAt old address len shown → address / 4096 < length old.memory → ShowsBytes state address len shown
+  shown_bytes : (events address len : ℕ) (shown : List ℕ) → AreSound old events → ShowsAt old address len shown → address / 4096 < length old.memory → ShowsBytes state address len shown
   shown_bytes events address len shown sound at below = (
     at.long,
     (λ unreserved.
@@ -76,7 +76,7 @@ module _ (old : Parts) (state : State) (shows : PartsShow old state) where
         at.part ∙ ap (λ b. slice_range b (address % 4096) (address % 4096 + len)) (sym (bytes_shown old.memory old.driver.marks state.frames frame at.bytes shows.frames free at.there))),
   )
 
-  peeks : (events address len : ℕ) (told : Outcome) → IsSound old events → PeeksBytes old address len told → Peeks state address len told state
+  peeks : (events address len : ℕ) (told : Outcome) → AreSound old events → PeeksBytes old address len told → Peeks state address len told state
   peeks events address len (Bytes shown) sound at =
       let below = get_within old.memory (address / 4096) at.bytes at.there in
       (at.fits, none_applies (address / 4096) below, shown_bytes events address len shown.items sound at below, refl)
@@ -85,7 +85,7 @@ module _ (old : Parts) (state : State) (shows : PartsShow old state) where
   peeks events address len _ sound never = absurd never
 
   -- a frame is free in the machine exactly where the driver finds it free
-  tells_free : (events frame : ℕ) (told : Outcome) → IsSound old events → AsksFree old frame told → TellsFree state frame told state
+  tells_free : (events frame : ℕ) (told : Outcome) → AreSound old events → AsksFree old frame told → TellsFree state frame told state
   tells_free events frame (Free is_free) sound asks = (
     none_applies frame asks.0,
     (
@@ -101,16 +101,16 @@ module _ (old : Parts) (state : State) (shows : PartsShow old state) where
   tells_free events frame (Refused why) sound asks = (refused_outside frame why asks.0 asks.1, refl)
   tells_free events frame _ sound asks = absurd asks
 
-pub poked_step : (old new : Parts) (events address : ℕ) (bytes : List ℕ) (told : Outcome) → IsSound old events → PokesBytes old address bytes told new
+pub poked_step : (old new : Parts) (events address : ℕ) (bytes : List ℕ) (told : Outcome) → AreSound old events → PokesBytes old address bytes told new
     → (state : State) → PartsShow old state → (next : State) × Pokes state address bytes told next × PartsShow new next
 poked_step old new events address bytes told sound pokes state shows =
     let step = step_if_any old state shows events address bytes told new.memory sound pokes.memory in
     (step.0, step.1, shows_same (record old { memory = new.memory }) new step.0 (parts_are new new.memory old.iommu old.driver old.devices refl pokes.iommu pokes.driver pokes.devices) step.2)
 
-pub peeked_step : (old : Parts) (events address len : ℕ) (told : Outcome) → IsSound old events → PeeksBytes old address len told
+pub peeked_step : (old : Parts) (events address len : ℕ) (told : Outcome) → AreSound old events → PeeksBytes old address len told
     → (state : State) → PartsShow old state → Peeks state address len told state
 peeked_step old events address len told sound shown state shows = peeks old state shows events address len told sound shown
 
-pub asked_free_step : (old : Parts) (events frame : ℕ) (told : Outcome) → IsSound old events → AsksFree old frame told
+pub asked_free_step : (old : Parts) (events frame : ℕ) (told : Outcome) → AreSound old events → AsksFree old frame told
     → (state : State) → PartsShow old state → TellsFree state frame told state
 asked_free_step old events frame told sound asks state shows = tells_free old state shows events frame told sound asks

@@ -32,7 +32,7 @@ use Rattle.iom_world.specs.Devices.{shown_attachment, shown_devices}
 use Rattle.iom_world.specs.Facts.{AreKnown}
 use Rattle.iom_world.specs.Parts.{Parts}
 use Rattle.iom_world.specs.Shows.{PartsShow}
-use Rattle.iom_world.specs.Sound.{IsSound}
+use Rattle.iom_world.specs.Sound.{AreSound}
 use Rattle.iom_world.proofs.FrameLemmas.{reserved_shown}
 use Rattle.iom_world.proofs.PlaceLemmas.{shown_of}
 
@@ -120,7 +120,7 @@ busy_shown a a' b b' one other = rw (one, other) refl
 
 -- FRAMES AND TICKETS
 
-pub frames_shown : (parts : Parts) (events : ℕ) (state : State) → IsSound parts events → PartsShow parts state → length state.frames ≡ length parts.driver.marks
+pub frames_shown : (parts : Parts) (events : ℕ) (state : State) → AreSound parts events → PartsShow parts state → length state.frames ≡ length parts.driver.marks
 frames_shown parts events state sound shows = shows.frames.size ∙ sound.ready.stand.size
 
 pub pending_shown : (parts : Parts) (state : State) → PartsShow parts state → pending_tickets state ≡ parts.driver.given - parts.driver.confirmed
@@ -216,7 +216,7 @@ not_some b (Some x) same = rw same refl
 
 -- THE CALLS
 
-pub plug_first : (parts : Parts) (events : ℕ) (state : State) (id : ℕ) → IsSound parts events → PartsShow parts state
+pub plug_first : (parts : Parts) (events : ℕ) (state : State) (id : ℕ) → AreSound parts events → PartsShow parts state
     → first_that_applies (machine.plug_reasons state id) ≡ first_that_applies (plug_reasons parts.driver id)
 plug_first parts events state id sound shows =
     let d = parts.driver in
@@ -224,7 +224,7 @@ plug_first parts events state id sound shows =
     (plugged_shown d.devices parts.devices state id sound.known shows.devices)
     (ap (nat_le 16) (ap (λ (ds : List declared.Device). length ds) shows.devices ∙ length-shown d.devices parts.devices ∙ sym (length-known d.devices parts.devices sound.known)))
 
-pub attach_first : (parts : Parts) (events : ℕ) (state : State) (id : ℕ) → IsSound parts events → PartsShow parts state
+pub attach_first : (parts : Parts) (events : ℕ) (state : State) (id : ℕ) → AreSound parts events → PartsShow parts state
     → first_that_applies (machine.attach_reasons state id false) ≡ first_that_applies (attach_reasons parts.driver id)
 attach_first parts events state id sound shows =
     let d = parts.driver in
@@ -233,7 +233,7 @@ attach_first parts events state id sound shows =
     (attachment_shown d.devices parts.devices state id sound.known shows.devices)
     (ap (λ levels. nat_le (id_limit levels) id) shows.levels) sound.started
 
-pub grant_first : (parts : Parts) (events : ℕ) (state : State) (id page frame : ℕ) → IsSound parts events → PartsShow parts state
+pub grant_first : (parts : Parts) (events : ℕ) (state : State) (id page frame : ℕ) → AreSound parts events → PartsShow parts state
     → first_that_applies (machine.grant_reasons state id page frame) ≡ first_that_applies (grant_reasons parts.driver id page frame)
 grant_first parts events state id page frame sound shows =
     let d = parts.driver in
@@ -252,7 +252,7 @@ release_shown parts id page =
     machine_first (is_plugged d.devices id) (shown_attachment (stage_of d.devices id))
     ((is_none (held_in d.ledger id page), NotGranted) ∷ (nat_le pending_limit (d.given - d.confirmed), TooManyPending) ∷ [])
 
-release_first : (parts : Parts) (events : ℕ) (state : State) (id page : ℕ) → IsSound parts events → PartsShow parts state
+release_first : (parts : Parts) (events : ℕ) (state : State) (id page : ℕ) → AreSound parts events → PartsShow parts state
     → first_that_applies (machine.release_reasons state id page) ≡ release_shown parts id page
 release_first parts events state id page sound shows =
     let d = parts.driver in
@@ -267,7 +267,7 @@ started_first : (started there : Bool) (stage : Option FirstStage) (later : List
     → driver_first true there stage later ≡ told
 started_first started there stage later told on first = subst (λ s. driver_first s there stage later ≡ told) on first
 
-pub release_refused_by : (parts : Parts) (events : ℕ) (state : State) (id page : ℕ) (why : Refusal) → IsSound parts events → PartsShow parts state
+pub release_refused_by : (parts : Parts) (events : ℕ) (state : State) (id page : ℕ) (why : Refusal) → AreSound parts events → PartsShow parts state
     → first_that_applies (release_reasons parts.driver (registers_of parts.iommu) id page) ≡ Some why → IsRefusedBy (machine.release_reasons state id page) MayRefuseRelease why
 release_refused_by parts events state id page why sound shows first =
     let d = parts.driver in
@@ -276,7 +276,7 @@ release_refused_by parts events state id page why sound shows first =
     (release_refused (is_plugged d.devices id) (stage_of d.devices id) (is_none (held_in d.ledger id page)) (nat_le pending_limit (d.given - d.confirmed)) (lacks_two_places r) (nat_le 4294967295 d.given) why
     (started_first d.started (is_plugged d.devices id) (stage_of d.devices id) (releasing_reasons d r id page) (Some why) sound.started first))
 
-pub may_release : (parts : Parts) (events : ℕ) (state : State) (id page : ℕ) → IsSound parts events → PartsShow parts state
+pub may_release : (parts : Parts) (events : ℕ) (state : State) (id page : ℕ) → AreSound parts events → PartsShow parts state
     → NoneApplies (release_reasons parts.driver (registers_of parts.iommu) id page) → NoneApplies (machine.release_reasons state id page)
 may_release parts events state id page sound shows none =
     let d = parts.driver in

@@ -9,15 +9,15 @@ use Rattle.iom_machine.specs.declared.outcome.Outcome.TheVariants as outcome
 use Rattle.iom_world.specs.declared.requests.Reply.{Reply}
 use Rattle.iom_world.specs.declared.requests.Reply.TheVariants.{Accepted, Busy, BadSpan, Fault}
 use Rattle.iom_world.specs.Commits.{CommitsOldest, MakesAt}
-use Rattle.iom_world.specs.Happens.{IsSame}
+use Rattle.iom_world.specs.Happens.{AreSame}
 use Rattle.iom_world.specs.Parts.{Parts}
 use Rattle.iom_world.specs.Processor.{PokesBytes, StoresIfAny}
-use Rattle.iom_world.specs.Requests.{AsksFor, IsAnswered, IsTold}
+use Rattle.iom_world.specs.Requests.{AsksAccess, IsAnswered, IsTold}
 use Rattle.iom_world.proofs.ReplaceLemmas.{parts_are}
 
 -- parts that are the same
-pub same_parts : (old new : Parts) → new ≡ old → IsSame old new
-same_parts old new same = subst (λ parts. IsSame old parts) (sym same) (record {
+pub same_parts : (old new : Parts) → new ≡ old → AreSame old new
+same_parts old new same = subst (λ parts. AreSame old parts) (sym same) (record {
   memory = refl;
   iommu = refl;
   devices = refl;
@@ -38,9 +38,6 @@ not_bad_span told why is other = cc
 not_fault : (told : Outcome) (cause : Cause) (why : Refusal) → told ≡ outcome.Fault cause → told ≡ outcome.Refused why → ⊥
 not_fault told cause why is other = cc
 
-not_nothing : (told : Outcome) (why : Refusal) → told ≡ outcome.NothingInFlight → told ≡ outcome.Refused why → ⊥
-not_nothing told why is other = cc
-
 not_a_read : (told : Outcome) (held : ArrayVec ℕ) (why : Refusal) → told ≡ outcome.Read held → told ≡ outcome.Refused why → ⊥
 not_a_read told held why is other = cc
 
@@ -56,7 +53,7 @@ never_answered old new id access told why answered refused = by answered.reply a
     by BadSpan tells = not_bad_span told why tells.0 refused
     by (Fault cause) tells = not_fault told cause why tells.0 refused
 
-pub asked_refused : (old new : Parts) (id : ℕ) (access : Access) (told : Outcome) → AsksFor old id access told new → (why : Refusal) → told ≡ outcome.Refused why → IsSame old new
+pub asked_refused : (old new : Parts) (id : ℕ) (access : Access) (told : Outcome) → AsksAccess old id access told new → (why : Refusal) → told ≡ outcome.Refused why → AreSame old new
 asked_refused old new id access told asks why refused = elim asks [
   | inl unknown ↦ same_parts old new unknown.same
   | inr answered ↦ absurd (never_answered old new id access told why answered refused)
@@ -68,7 +65,7 @@ never_made old new place told why makes refused = elim makes.effect [
   | inr stores ↦ not_a_write told makes.made.access.len why stores.told_so refused
 ]
 
-pub committed_refused : (old new : Parts) (id : ℕ) (told : Outcome) → CommitsOldest old id told new → (why : Refusal) → told ≡ outcome.Refused why → IsSame old new
+pub committed_refused : (old new : Parts) (id : ℕ) (told : Outcome) → CommitsOldest old id told new → (why : Refusal) → told ≡ outcome.Refused why → AreSame old new
 committed_refused old new id told commits why refused = elim commits [
   | inl unknown ↦ same_parts old new unknown.same
   | inr there ↦ elim there [
@@ -77,7 +74,7 @@ committed_refused old new id told commits why refused = elim commits [
   ]
 ]
 
-pub poked_refused : (old new : Parts) (address : ℕ) (bytes : List ℕ) (told : Outcome) → PokesBytes old address bytes told new → (why : Refusal) → told ≡ outcome.Refused why → IsSame old new
+pub poked_refused : (old new : Parts) (address : ℕ) (bytes : List ℕ) (told : Outcome) → PokesBytes old address bytes told new → (why : Refusal) → told ≡ outcome.Refused why → AreSame old new
 poked_refused old new address bytes told pokes why refused =
     let same = subst (λ t. StoresIfAny old address bytes t new.memory) refused pokes.memory in
     same_parts old new (parts_are new old.memory old.iommu old.driver old.devices same.2 pokes.iommu pokes.driver pokes.devices)

@@ -23,11 +23,11 @@ use Rattle.iom_registers.specs.Queues.{is_processing_commands}
 use Rattle.iom_world.specs.Commands.{completed_in}
 use Rattle.iom_world.specs.Does.{ReleasesPage}
 use Rattle.iom_world.specs.Parts.{Parts}
-use Rattle.iom_world.specs.Sound.{IsSound}
+use Rattle.iom_world.specs.Sound.{AreSound}
 use Rattle.iom_world.proofs.CoverLemmas.{devices_released}
-use Rattle.iom_world.proofs.DriverKeeps.{none_at, follow_as}
+use Rattle.iom_world.proofs.DriverKeeps.{none_at}
 use Rattle.iom_world.proofs.DriverLemmas.{IsSoundDriver}
-use Rattle.iom_world.proofs.RingLemmas.{same_completed, follow_le, follow-release}
+use Rattle.iom_world.proofs.RingLemmas.{follow_as, same_completed, follow_le, follow-release}
 
 -- a frame of the system's isn't a device's
 not_of_device : (marks : List (Option Owner)) (n id : ℕ) → slice_get marks n ≡ Some (Some System) → slice_get marks n ≢ Some (Some (OneDevice id))
@@ -39,8 +39,8 @@ still_processing : (mid memory : List (List ℕ)) (old new : Iommu) (one other :
 still_processing mid memory old new one other two =
     ap (λ i. is_processing_commands (registers_of i)) two.second.rung ∙ ap (λ i. is_processing_commands (registers_of i)) two.first.rung
 
-released : (old new : Parts) (events id page ticket : ℕ) → IsSound old events → IsSoundDriver old.driver → IsReady new.driver new.memory (registers_of new.iommu)
-    → nat_le 4294967295 old.driver.given ≡ false → (queues : QueuesRelease mmio old.driver old.memory old.iommu id page ticket new.driver new.memory new.iommu) → new.devices ≡ old.devices → IsSound new events
+released : (old new : Parts) (events id page ticket : ℕ) → AreSound old events → IsSoundDriver old.driver → IsReady new.driver new.memory (registers_of new.iommu)
+    → nat_le 4294967295 old.driver.given ≡ false → (queues : QueuesRelease mmio old.driver old.memory old.iommu id page ticket new.driver new.memory new.iommu) → new.devices ≡ old.devices → AreSound new events
 released old new events id page ticket sound own ready numbers queues devices =
     let size : length old.memory ≡ length old.driver.marks = sound.ready.stand.size in
     let marks : new.driver.marks ≡ old.driver.marks = ap (λ d. d.marks) queues.driver in
@@ -70,11 +70,11 @@ released old new events id page ticket sound own ready numbers queues devices =
       each = rw (devices, done) (devices_released old.driver.ledger new.driver.ledger (completed_in old.memory) events id page ticket old.devices queues.shown later sound.each);
     }
 
-pub keeps_released : (old new : Parts) (events id page : ℕ) (told : Outcome) → IsSound old events → IsSoundDriver old.driver → IsReady new.driver new.memory (registers_of new.iommu)
-    → ReleasesPage old id page told new → IsSound new events
+pub keeps_released : (old new : Parts) (events id page : ℕ) (told : Outcome) → AreSound old events → IsSoundDriver old.driver → IsReady new.driver new.memory (registers_of new.iommu)
+    → ReleasesPage old id page told new → AreSound new events
 keeps_released old new events id page told sound own ready releases = by releases.answer releases.call
   where
-    by : (answer : Result answers.Ticket Refusal) → Releases mmio old.driver old.memory old.iommu id page answer new.driver new.memory new.iommu → IsSound new events
+    by : (answer : Result answers.Ticket Refusal) → Releases mmio old.driver old.memory old.iommu id page answer new.driver new.memory new.iommu → AreSound new events
     by (Ok ticket) (admitted, queues) =
         released old new events id page ticket.0 sound own ready
         (none_at (release_reasons old.driver (registers_of old.iommu) id page) 6 (nat_le 4294967295 old.driver.given) NumbersUsedUp refl admitted) queues releases.devices

@@ -17,7 +17,7 @@ use Rattle.iom_world.specs.Does.{ReleasesPage, ticket_told_of}
 use Rattle.iom_world.specs.Frames.{ShowsFrames}
 use Rattle.iom_world.specs.Parts.{Parts}
 use Rattle.iom_world.specs.Shows.{PartsShow}
-use Rattle.iom_world.specs.Sound.{IsSound}
+use Rattle.iom_world.specs.Sound.{AreSound}
 use Rattle.iom_world.proofs.DriverLemmas.{IsSoundDriver}
 use Rattle.iom_world.proofs.FrameLemmas.{shows_kept}
 use Rattle.iom_world.proofs.ReasonLemmas.{release_refused_by, may_release}
@@ -57,7 +57,7 @@ shows_released old new id page ticket many sound queues devices state shows =
       levels = shows.levels ∙ sym (ap (λ (x : DriverState). x.levels) queues.driver);
     }
 
-pub release_step : (old new : Parts) (events id page : ℕ) (told : Outcome) → IsSound old events → IsSoundDriver old.driver → ReleasesPage old id page told new
+pub release_step : (old new : Parts) (events id page : ℕ) (told : Outcome) → AreSound old events → IsSoundDriver old.driver → ReleasesPage old id page told new
     → (state : State) → PartsShow old state → (next : State) × machine.Releases state id page told next × PartsShow new next
 release_step old new events id page told sound sound_driver does state shows = by does.answer does.told_so does.call
   where

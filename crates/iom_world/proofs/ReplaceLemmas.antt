@@ -11,9 +11,9 @@ use Rattle.iom_world.specs.Commands.{completed_in}
 use Rattle.iom_world.specs.Devices.{shown_device, shown_devices}
 use Rattle.iom_world.specs.Facts.{IsSoundDevice, HaveOwnIds}
 use Rattle.iom_world.specs.Parts.{Parts}
-use Rattle.iom_world.specs.Places.{IsPlaceOf}
-use Rattle.iom_world.specs.Sound.{IsSound}
-use Rattle.iom_world.proofs.ListLemmas.{get_set_same, get_set_other, get_within}
+use Rattle.iom_world.specs.Places.{HasPlace}
+use Rattle.iom_world.specs.Sound.{AreSound}
+use Rattle.iom_driver.proofs.Lists.{get_set_same, get_set_other, get_within}
 use Rattle.iom_world.proofs.PlaceLemmas.{place_replaced}
 
 -- what is read from a list at a place is what stands there
@@ -78,8 +78,8 @@ ids_changed (device ∷ others) zero old now was still =
 ids_changed (device ∷ others) (suc place) old now was still = ap (λ ids. device.id ∷ ids) (ids_changed others place old now was still)
 
 -- a world stays sound where one device changes, of which it holds what holds of devices
-pub keeps_device : (old : Parts) (place : ℕ) (device now : Device) (events : ℕ) → IsSound old events → slice_get old.devices place ≡ Some device → now.id ≡ device.id
-    → IsSoundDevice old.driver.ledger (completed_in old.memory) events now → IsSound (record old { devices = slice_set old.devices place now }) events
+pub keeps_device : (old : Parts) (place : ℕ) (device now : Device) (events : ℕ) → AreSound old events → slice_get old.devices place ≡ Some device → now.id ≡ device.id
+    → IsSoundDevice old.driver.ledger (completed_in old.memory) events now → AreSound (record old { devices = slice_set old.devices place now }) events
 keeps_device old place device now events sound was still is = record {
   ready = sound.ready;
   started = sound.started;
@@ -96,7 +96,7 @@ keeps_device old place device now events sound was still is = record {
 }
 
 -- the machine's devices, where this one is replaced
-pub shown_changed : (known : List driver.Device) (state : State) (devices : List Device) (id place : ℕ) (now : Device) → state.devices ≡ shown_devices known devices → IsPlaceOf devices id place → now.id ≡ id
+pub shown_changed : (known : List driver.Device) (state : State) (devices : List Device) (id place : ℕ) (now : Device) → state.devices ≡ shown_devices known devices → HasPlace devices id place → now.id ≡ id
     → (with_device state (shown_device known now)).devices ≡ shown_devices known (slice_set devices place now)
 shown_changed known state devices id place now shown is own =
     rw shown (ap (λ i. replaced_device (shown_devices known devices) i (shown_device known now)) own ∙ place_replaced known devices id place now is)

@@ -22,8 +22,8 @@ use Rattle.iom_world.specs.Commands.{completed_in}
 use Rattle.iom_world.specs.Facts.{IsSoundDevice, IsCovered}
 use Rattle.iom_world.specs.Parts.{Parts}
 use Rattle.iom_world.specs.Places.{CountsBelow}
-use Rattle.iom_world.specs.Requests.{IsTranslated, IsReply, IsTold, AsksFor, with_flight}
-use Rattle.iom_world.specs.Sound.{IsSound}
+use Rattle.iom_world.specs.Requests.{IsTranslated, IsReply, IsTold, AsksAccess, with_flight}
+use Rattle.iom_world.specs.Sound.{AreSound}
 use Rattle.iom_world.proofs.ReplaceLemmas.{get_pushed, keeps_device, parts_are}
 
 -- an access that is accepted is covered by what is held
@@ -52,9 +52,9 @@ device_accepted ledger completed events device access frame is covered counted =
 }
 
 -- a device that has one more access in flight, among the others
-pub keeps_accepted : (old : Parts) (events place : ℕ) (device now : Device) (access : Access) (frame : ℕ) → IsSound old events → CountsBelow old.devices events
+pub keeps_accepted : (old : Parts) (events place : ℕ) (device now : Device) (access : Access) (frame : ℕ) → AreSound old events → CountsBelow old.devices events
     → slice_get old.devices place ≡ Some device → IsReply old.driver device access.address access.len access.kind (Accepted frame) → now ≡ with_flight device access frame
-    → IsSound (record old { devices = slice_set old.devices place now }) events
+    → AreSound (record old { devices = slice_set old.devices place now }) events
 keeps_accepted old events place device now access frame sound below at right is =
     let flight : AcceptedAccess = record { access = access; frame = frame } in
     let covered = covered_by_held (stage_of old.driver.devices device.id) old.driver (completed_in old.memory) device.id flight right.0.0 right.1 in
@@ -63,22 +63,22 @@ keeps_accepted old events place device now access frame sound below at right is 
     (device_accepted old.driver.ledger (completed_in old.memory) events device access frame (sound.each place device at) covered (below place device at)))
 
 -- by what is replied
-keeps_replied : (old : Parts) (events place : ℕ) (device : Device) (access : Access) (reply : Reply) (told : Outcome) (new : Parts) → IsSound old events → CountsBelow old.devices events
+keeps_replied : (old : Parts) (events place : ℕ) (device : Device) (access : Access) (reply : Reply) (told : Outcome) (new : Parts) → AreSound old events → CountsBelow old.devices events
     → slice_get old.devices place ≡ Some device → IsReply old.driver device access.address access.len access.kind reply
-    → IsTold old.devices place device access reply told new.devices → new.memory ≡ old.memory → new.iommu ≡ old.iommu → new.driver ≡ old.driver → IsSound new events
+    → IsTold old.devices place device access reply told new.devices → new.memory ≡ old.memory → new.iommu ≡ old.iommu → new.driver ≡ old.driver → AreSound new events
 keeps_replied old events place device access (Accepted frame) told new sound below at right is memory iommu driver =
-    subst (λ parts. IsSound parts events) (sym (parts_are new old.memory old.iommu old.driver (slice_set old.devices place (with_flight device access frame)) memory iommu driver is.1))
+    subst (λ parts. AreSound parts events) (sym (parts_are new old.memory old.iommu old.driver (slice_set old.devices place (with_flight device access frame)) memory iommu driver is.1))
     (keeps_accepted old events place device (with_flight device access frame) access frame sound below at right refl)
 keeps_replied old events place device access Busy told new sound below at right is memory iommu driver =
-    subst (λ parts. IsSound parts events) (sym (parts_are new old.memory old.iommu old.driver old.devices memory iommu driver is.1)) sound
+    subst (λ parts. AreSound parts events) (sym (parts_are new old.memory old.iommu old.driver old.devices memory iommu driver is.1)) sound
 keeps_replied old events place device access BadSpan told new sound below at right is memory iommu driver =
-    subst (λ parts. IsSound parts events) (sym (parts_are new old.memory old.iommu old.driver old.devices memory iommu driver is.1)) sound
+    subst (λ parts. AreSound parts events) (sym (parts_are new old.memory old.iommu old.driver old.devices memory iommu driver is.1)) sound
 keeps_replied old events place device access (Fault cause) told new sound below at right is memory iommu driver =
-    subst (λ parts. IsSound parts events) (sym (parts_are new old.memory old.iommu old.driver old.devices memory iommu driver is.1)) sound
+    subst (λ parts. AreSound parts events) (sym (parts_are new old.memory old.iommu old.driver old.devices memory iommu driver is.1)) sound
 
-pub keeps_asked : (old new : Parts) (events id : ℕ) (access : Access) (told : Outcome) → IsSound old events → CountsBelow old.devices events → AsksFor old id access told new → IsSound new events
+pub keeps_asked : (old new : Parts) (events id : ℕ) (access : Access) (told : Outcome) → AreSound old events → CountsBelow old.devices events → AsksAccess old id access told new → AreSound new events
 keeps_asked old new events id access told sound below asks = elim asks [
-  | inl unknown ↦ subst (λ parts. IsSound parts events) (sym unknown.same) sound
+  | inl unknown ↦ subst (λ parts. AreSound parts events) (sym unknown.same) sound
   | inr answered ↦ keeps_replied old events answered.place answered.stands.0 access answered.reply told new sound below answered.stands.1 answered.right answered.told_so
       answered.memory answered.iommu answered.driver
 ]

@@ -22,16 +22,16 @@ use Rattle.iom_world.specs.declared.requests.Reply.TheVariants.{Accepted, Busy, 
 use Rattle.iom_world.specs.Devices.{shown_device, shown_devices, shown_attachment}
 use Rattle.iom_world.specs.Held.{IsHeldFor, NoneIsHeldFor}
 use Rattle.iom_world.specs.Parts.{Parts}
-use Rattle.iom_world.specs.Places.{IsAbsent, IsPlaceOf}
-use Rattle.iom_world.specs.Requests.{IsTranslated, IsFaulty, IsReply, IsTold, AsksFor, detached_cause, with_flight}
+use Rattle.iom_world.specs.Places.{IsAbsent, HasPlace}
+use Rattle.iom_world.specs.Requests.{IsTranslated, IsFaulty, IsReply, IsTold, AsksAccess, detached_cause, with_flight}
 use Rattle.iom_world.specs.Shows.{PartsShow}
-use Rattle.iom_world.specs.Sound.{IsSound}
+use Rattle.iom_world.specs.Sound.{AreSound}
 use Rattle.iom_world.proofs.PlaceLemmas.{absent_shown, place_shown}
 use Rattle.iom_world.proofs.ReplaceLemmas.{parts_are, shown_changed}
 
 -- a device acts where it stands; one that isn't there is refused
 pub acts_at : (IfPlugged : machine.Device → Type 0) (state : State) (known : List driver.Device) (devices : List Device) (id place : ℕ) (told : Outcome) (next : State)
-    → state.devices ≡ shown_devices known devices → (is : IsPlaceOf devices id place) → IfPlugged (shown_device known is.0) → Acts IfPlugged state id told next
+    → state.devices ≡ shown_devices known devices → (is : HasPlace devices id place) → IfPlugged (shown_device known is.0) → Acts IfPlugged state id told next
 acts_at IfPlugged state known devices id place told next shown is acts = rw (shown, place_shown known devices id place is) acts
 
 pub acts_absent : (IfPlugged : machine.Device → Type 0) (state : State) (known : List driver.Device) (devices : List Device) (id : ℕ) (told : Outcome)
@@ -67,7 +67,7 @@ Steps state id access told new = (frame : ℕ) × (next : State) × Requests fra
 pub shows_same : (old new : Parts) (state : State) → new ≡ old → PartsShow old state → PartsShow new state
 shows_same old new state same shows = subst (λ parts. PartsShow parts state) (sym same) shows
 
-module _ (old : Parts) (id place : ℕ) (access : Access) (state : State) (shows : PartsShow old state) (is : IsPlaceOf old.devices id place) where
+module _ (old : Parts) (id place : ℕ) (access : Access) (state : State) (shows : PartsShow old state) (is : HasPlace old.devices id place) where
   abbrev MayTell : ℕ → State → Outcome → machine.Device → Type 0
   MayTell frame next told device = MayAnswer state device access frame told × (next ≡ state_after state device access frame told)
 
@@ -115,7 +115,7 @@ module _ (old : Parts) (id place : ℕ) (access : Access) (state : State) (shows
         shows_same old new state (parts_are new old.memory old.iommu old.driver old.devices memory iommu driver tells.1) shows,
       )
 
-pub asked_step : (old new : Parts) (events id : ℕ) (access : Access) (told : Outcome) → IsSound old events → AsksFor old id access told new
+pub asked_step : (old new : Parts) (events id : ℕ) (access : Access) (told : Outcome) → AreSound old events → AsksAccess old id access told new
     → (state : State) → PartsShow old state → (frame : ℕ) × (next : State) × Requests frame state id access told next × PartsShow new next
 asked_step old new events id access told sound asks state shows = elim asks [
   | inl unknown ↦ (

@@ -19,6 +19,11 @@ same_completed m n size same =
     ap (λ k. option_map_or (λ word. word) (word_at 4 n (completion_address k)) 0) size
     ∙ ap (λ o. option_map_or (λ word. word) o 0) (word_of_frame m n (completion_frame (length m)) same)
 
+-- the same fences follow, where all that tells of them is the same
+pub follow_as : (address address' done done' : ℕ) (waiting waiting' : List QueueEntry) (given given' : ℕ) → address' ≡ address → done' ≡ done → waiting' ≡ waiting → given' ≡ given
+    → FencesFollow address done waiting given → FencesFollow address' done' waiting' given'
+follow_as address address' done done' waiting waiting' given given' a d w g follow = rw (a, d, w, g) follow
+
 -- the last fence isn't before the number that they follow
 pub follow_le : (address done : ℕ) (waiting : List QueueEntry) (given : ℕ) → FencesFollow address done waiting given → done ≤ given
 follow_le address done [] given follow = omega (arith, follow)

@@ -13,7 +13,7 @@ use Rattle.iom_world.specs.Parts.{Parts}
 use Rattle.iom_world.specs.Places.{CountsBelow}
 use Rattle.iom_world.specs.Runs.{TakesAll, GoesThrough, AreOutcomes, RunsTo, FailsAfter}
 use Rattle.iom_world.specs.Shows.{Shows}
-use Rattle.iom_world.specs.Sound.{IsSound}
+use Rattle.iom_world.specs.Sound.{AreSound}
 
 -- nothing is left free
 abbrev pub no_choice : Choice
@@ -28,7 +28,7 @@ abbrev pub frames_taken : List ℕ → Choice
 frames_taken taken = record { taken = taken; frame = 0 }
 
 -- what is sound stays so where one more event is counted
-pub sound_counted : (parts : Parts) (events : ℕ) → IsSound parts events → IsSound parts (events + 1)
+pub sound_counted : (parts : Parts) (events : ℕ) → AreSound parts events → AreSound parts (events + 1)
 sound_counted parts events sound = record {
   ready = sound.ready;
   started = sound.started;
@@ -45,7 +45,7 @@ sound_counted parts events sound = record {
 }
 
 -- no device has had more accesses accepted than events before the one that is counted
-pub below_counted : (parts : Parts) (events : ℕ) → IsSound parts events → CountsBelow parts.devices (events + 1)
+pub below_counted : (parts : Parts) (events : ℕ) → AreSound parts events → CountsBelow parts.devices (events + 1)
 below_counted parts events sound k device at =
     let count : device.accepted ≤ events = (sound.each k device at).counted in omega arith
 

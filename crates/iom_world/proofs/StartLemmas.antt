@@ -26,9 +26,9 @@ use Rattle.iom_world.specs.declared.device.Device.{Device}
 use Rattle.iom_world.specs.Commands.{completed_in}
 use Rattle.iom_world.specs.Frames.{ShowsFrames}
 use Rattle.iom_world.specs.Shows.{PartsShow}
-use Rattle.iom_world.specs.Sound.{IsSound}
-use Rattle.iom_world.proofs.DriverKeeps.{follow_as}
+use Rattle.iom_world.specs.Sound.{AreSound}
 use Rattle.iom_world.proofs.FetchKeeps.{word_after}
+use Rattle.iom_world.proofs.RingLemmas.{follow_as}
 use Rattle.iom_world.proofs.FrameLemmas.{shows_reserved}
 
 -- there is nothing in an empty list
@@ -162,7 +162,7 @@ module _ (n levels : ℕ) (first next : DriverState) (before memory : List (List
   driver_is : next ≡ record first { marks = opening_marks n; devices = []; levels = levels; started = true; given = 0; confirmed = 0 }
   driver_is = started.starts.driver ∙ ap (λ (d : DriverState). record d { started = true }) started.opening_driver.rest
 
-  pub sound_started : IsSound (record { memory = memory; iommu = iommu; driver = next; devices = devices }) 0
+  pub sound_started : AreSound (record { memory = memory; iommu = iommu; driver = next; devices = devices }) 0
   sound_started = record {
     ready = started.ready;
     started = ap (λ (d : DriverState). d.started) started.starts.driver;

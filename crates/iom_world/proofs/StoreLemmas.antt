@@ -8,7 +8,7 @@ use Rattle.iom_base.specs.Bytes.{with_bytes}
 use Rattle.iom_machine.specs.declared.state.Frame.{Frame}
 use Rattle.iom_machine.specs.Frames.{bytes_of, stored}
 use Rattle.iom_world.specs.Frames.{ShowsFrames}
-use Rattle.iom_world.proofs.ListLemmas.{get_set_same, get_set_other, get_within}
+use Rattle.iom_driver.proofs.Lists.{get_set_same, get_set_other, get_within}
 
 -- the frame of the machine that has these bytes
 frame_by_bytes : (o : Option Frame) (bytes : List ℕ) → option_map (λ (f : Frame). f.bytes) o ≡ Some bytes → (frame : Frame) × (o ≡ Some frame) × (frame.bytes ≡ bytes)

@@ -8,7 +8,7 @@ use Rattle.iom_machine.specs.declared.outcome.Outcome.{Outcome}
 use Rattle.iom_machine.specs.declared.outcome.Outcome.TheVariants as outcome
 use Rattle.iom_world.specs.declared.device.Device.{Device}
 use Rattle.iom_world.specs.Parts.{Parts}
-use Rattle.iom_world.specs.Places.{IsPlaceOf}
+use Rattle.iom_world.specs.Places.{HasPlace}
 use Rattle.iom_world.specs.Requests.{IsUnknown}
 use Rattle.iom_world.specs.Told.{TellsBytes}
 
@@ -17,7 +17,7 @@ abbrev pub without_oldest : Device → Device
 without_oldest device = record device { in_flight = drop 1 device.in_flight }
 
 -- the access is a read, which gives the bytes that stand in its frame
-pub record GivesBytes (memory : List (List ℕ)) (made : AcceptedAccess) (told : Outcome) (new : List (List ℕ)) : Type 0 where
+pub record ReadsBytes (memory : List (List ℕ)) (made : AcceptedAccess) (told : Outcome) (new : List (List ℕ)) : Type 0 where
   pub reads : made.access.kind ≡ Read
   pub bytes : List ℕ
   pub there : slice_get memory made.frame ≡ Some bytes
@@ -25,7 +25,7 @@ pub record GivesBytes (memory : List (List ℕ)) (made : AcceptedAccess) (told :
   pub memory_stays : new ≡ memory
 
 -- the access is a write, whose bytes stand in its frame afterwards
-pub record StoresBytes (memory : List (List ℕ)) (made : AcceptedAccess) (told : Outcome) (new : List (List ℕ)) : Type 0 where
+pub record WritesBytes (memory : List (List ℕ)) (made : AcceptedAccess) (told : Outcome) (new : List (List ℕ)) : Type 0 where
   pub writes : made.access.kind ≡ Write
   pub bytes : List ℕ
   pub there : slice_get memory made.frame ≡ Some bytes
@@ -38,7 +38,7 @@ pub record MakesAt (old : Parts) (place : ℕ) (told : Outcome) (new : Parts) : 
   pub stands : slice_get old.devices place ≡ Some device
   pub made : AcceptedAccess
   pub oldest : slice_get device.in_flight 0 ≡ Some made
-  pub effect : GivesBytes old.memory made told new.memory ⊎ StoresBytes old.memory made told new.memory
+  pub effect : ReadsBytes old.memory made told new.memory ⊎ WritesBytes old.memory made told new.memory
   pub devices : new.devices ≡ slice_set old.devices place (without_oldest device)
   pub iommu : new.iommu ≡ old.iommu
   pub driver : new.driver ≡ old.driver
@@ -46,13 +46,13 @@ pub record MakesAt (old : Parts) (place : ℕ) (told : Outcome) (new : Parts) : 
 -- that of the device with the id
 pub record MakesOldest (old : Parts) (id : ℕ) (told : Outcome) (new : Parts) : Type 0 where
   pub place : ℕ
-  pub stands : IsPlaceOf old.devices id place
+  pub stands : HasPlace old.devices id place
   pub makes : MakesAt old place told new
 
 -- the device with the id has none in flight, and nothing changes
 pub record HasNone (old : Parts) (id : ℕ) (told : Outcome) (new : Parts) : Type 0 where
   pub place : ℕ
-  pub stands : IsPlaceOf old.devices id place
+  pub stands : HasPlace old.devices id place
   pub idle : stands.0.in_flight ≡ []
   pub told_so : told ≡ outcome.NothingInFlight
   pub same : new ≡ old

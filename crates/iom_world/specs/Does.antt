@@ -26,7 +26,7 @@ use Rattle.iom_world.specs.Commits.{CommitsOldest}
 use Rattle.iom_world.specs.Parts.{Parts}
 use Rattle.iom_world.specs.Places.{SomeInFlight}
 use Rattle.iom_world.specs.Processor.{PokesBytes, PeeksBytes, AsksFree}
-use Rattle.iom_world.specs.Requests.{AsksFor}
+use Rattle.iom_world.specs.Requests.{AsksAccess}
 
 -- what an answer of the driver is told as: of a call that gives nothing, of a release, and of a poll
 abbrev pub told_of : Result (Unit {0}) Refusal → Outcome
@@ -83,7 +83,7 @@ pub record AttachesDevice (old : Parts) (id : ℕ) (told : Outcome) (new : Parts
   pub devices : new.devices ≡ old.devices
 
 -- a device gets a frame at a page
-pub record GrantsFrame (old : Parts) (id page frame : ℕ) (rights : GrantRights) (told : Outcome) (new : Parts) : Type 0 where
+pub record GrantsPage (old : Parts) (id page frame : ℕ) (rights : GrantRights) (told : Outcome) (new : Parts) : Type 0 where
   pub answer : Result (Unit {0}) Refusal
   pub told_so : told ≡ told_of answer
   pub call : Grants old.driver old.memory id page frame rights answer new.driver new.memory
@@ -120,12 +120,12 @@ pub record PollsTickets (old : Parts) (told : Outcome) (new : Parts) : Type 0 wh
 abbrev pub Does : Parts → Event → Outcome → Parts → Type 0
 Does old (events.Plug id kind) told new = PlugsDevice old id kind told new
 Does old (events.Attach id mode ats) told new = AttachesDevice old id told new
-Does old (events.Grant id page frame rights) told new = GrantsFrame old id page frame rights told new
+Does old (events.Grant id page frame rights) told new = GrantsPage old id page frame rights told new
 Does old (events.Release id page) told new = ReleasesPage old id page told new
 Does old events.Fetch told new = FetchesNext old told new
 Does old events.Poll told new = PollsTickets old told new
-Does old (events.Read id address len) told new = AsksFor old id (read_of address len) told new
-Does old (events.Write id address bytes) told new = AsksFor old id (write_of address bytes) told new
+Does old (events.Read id address len) told new = AsksAccess old id (read_of address len) told new
+Does old (events.Write id address bytes) told new = AsksAccess old id (write_of address bytes) told new
 Does old (events.Commit id) told new = CommitsOldest old id told new
 Does old (events.Poke address bytes) told new = PokesBytes old address bytes told new
 Does old (events.Peek address len) told new = PeeksBytes old address len told × (new ≡ old)

@@ -14,7 +14,7 @@ use Rattle.iom_world.specs.Seen.{parts_of}
 use Rattle.iom_world.specs.Shows.{Shows}
 
 -- all is the same but what room the driver's ledger has
-pub record IsSame (old new : Parts) : Type 0 where
+pub record AreSame (old new : Parts) : Type 0 where
   pub memory : new.memory ≡ old.memory
   pub iommu : new.iommu ≡ old.iommu
   pub devices : new.devices ≡ old.devices
@@ -23,7 +23,7 @@ pub record IsSame (old new : Parts) : Type 0 where
 
 -- a refusal changes nothing
 abbrev pub SameIfRefused : Outcome → Parts → Parts → Type 0
-SameIfRefused told old new = (why : Refusal) → told ≡ Refused why → IsSame old new
+SameIfRefused told old new = (why : Refusal) → told ≡ Refused why → AreSame old new
 
 -- An event that is answered so. It is a lawful step of the ledger machine, from every state that the world shows, to one that it shows then. It does to
 -- memory, IOMMU, driver and devices what the call behind it says. A refusal changes nothing. And the event is counted.

@@ -7,8 +7,8 @@ abbrev pub IsAbsent : List Device → ℕ → Type 0
 IsAbsent devices id = (k : ℕ) (device : Device) → slice_get devices k ≡ Some device → device.id ≢ id
 
 -- the first device with this id stands here
-abbrev pub IsPlaceOf : List Device → ℕ → ℕ → Type 0
-IsPlaceOf devices id place =
+abbrev pub HasPlace : List Device → ℕ → ℕ → Type 0
+HasPlace devices id place =
     (device : Device) × (slice_get devices place ≡ Some device) × (device.id ≡ id)
     × ((k : ℕ) (other : Device) → k < place → slice_get devices k ≡ Some other → other.id ≢ id)
 

@@ -19,7 +19,7 @@ use Rattle.iom_world.specs.declared.requests.Reply.{Reply}
 use Rattle.iom_world.specs.declared.requests.Reply.TheVariants.{Accepted, Busy, BadSpan, Fault}
 use Rattle.iom_world.specs.Held.{IsHeldFor, NoneIsHeldFor}
 use Rattle.iom_world.specs.Parts.{Parts}
-use Rattle.iom_world.specs.Places.{IsAbsent, IsPlaceOf}
+use Rattle.iom_world.specs.Places.{IsAbsent, HasPlace}
 
 -- why a device that isn't attached is refused: the device directory can't name its id, or has no valid entry for it
 abbrev pub detached_cause : ℕ → ℕ → Cause
@@ -62,7 +62,7 @@ IsTold devices place device access (Fault cause) told new = (told ≡ outcome.Fa
 -- the device with the id is answered: memory, IOMMU and driver stay
 pub record IsAnswered (old : Parts) (id : ℕ) (access : Access) (told : Outcome) (new : Parts) : Type 0 where
   pub place : ℕ
-  pub stands : IsPlaceOf old.devices id place
+  pub stands : HasPlace old.devices id place
   pub reply : Reply
   pub right : IsReply old.driver stands.0 access.address access.len access.kind reply
   pub told_so : IsTold old.devices place stands.0 access reply told new.devices
@@ -77,5 +77,5 @@ pub record IsUnknown (old : Parts) (id : ℕ) (told : Outcome) (new : Parts) : T
   pub same : new ≡ old
 
 -- A DEVICE ASKS for an access
-abbrev pub AsksFor : Parts → ℕ → Access → Outcome → Parts → Type 0
-AsksFor old id access told new = IsUnknown old id told new ⊎ IsAnswered old id access told new
+abbrev pub AsksAccess : Parts → ℕ → Access → Outcome → Parts → Type 0
+AsksAccess old id access told new = IsUnknown old id told new ⊎ IsAnswered old id access told new

@@ -16,7 +16,7 @@ use Rattle.iom_world.specs.Parts.{Parts}
 
 -- the driver is started and ready; the IOMMU takes commands; the driver knows the devices, which have ids of their own; fences wait in order, and only
 -- tickets whose fences are done are confirmed; and each access in flight is one of what is held, or was released under a ticket whose fence isn't done
-pub record IsSound (parts : Parts) (events : ℕ) : Type 0 where
+pub record AreSound (parts : Parts) (events : ℕ) : Type 0 where
   pub ready : IsReady parts.driver parts.memory (registers_of parts.iommu)
   pub started : parts.driver.started ≡ true
   pub processing : is_processing_commands (registers_of parts.iommu) ≡ true
@@ -30,4 +30,4 @@ pub record IsSound (parts : Parts) (events : ℕ) : Type 0 where
 -- a world of these parts is so
 abbrev pub IsSoundWorld : List (List ℕ) → Iommu → Driver → List Device → ℕ → Type 0
 IsSoundWorld memory iommu driver devices events =
-    IsSound (record { memory = memory; iommu = iommu; driver = state_of driver; devices = devices }) events
+    AreSound (record { memory = memory; iommu = iommu; driver = state_of driver; devices = devices }) events

@@ -1,6 +1,6 @@
 // What the driver is asked to do.
 ghost use Rattle.std.specs.Prelude.{◌≡◌, ◌+◌, ◌≤◌, ◌^◌};
-ghost use Rattle.iom_world.specs.Does.{told_of, polled_told_of, AttachesDevice, GrantsFrame, ReleasesPage, PollsTickets};
+ghost use Rattle.iom_world.specs.Does.{told_of, polled_told_of, AttachesDevice, GrantsPage, ReleasesPage, PollsTickets};
 ghost use Rattle.iom_world.specs.Seen.{parts_of};
 ghost use Rattle.iom_world.specs.Told.{outcome_of};
 
@@ -47,7 +47,7 @@ impl World {
 
     /// A device gets a frame at a page.
     pub(crate) fn grant(&mut self, id: DeviceId, page: u64, frame: u64, rights: GrantRights) -> Told
-        ensures does { GrantsFrame (parts_of self.old) id page frame rights (outcome_of result) (parts_of self.new) }
+        ensures does { GrantsPage (parts_of self.old) id page frame rights (outcome_of result) (parts_of self.new) }
         ensures events { self.new.events ≡ self.old.events }
     {
         Told::of(self.driver.grant(&mut self.memory, id, page, frame, rights))

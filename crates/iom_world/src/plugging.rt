@@ -2,7 +2,7 @@
 ghost use Rattle.std.specs.Prelude.{◌≡◌, MatchOption};
 ghost use Rattle.iom_world.specs.Does.{PlugsDevice};
 ghost use Rattle.iom_world.specs.Seen.{parts_of};
-ghost use Rattle.iom_world.specs.Places.{IsAbsent, IsPlaceOf};
+ghost use Rattle.iom_world.specs.Places.{IsAbsent, HasPlace};
 ghost use Rattle.iom_world.specs.Told.{outcome_of};
 
 use crate::device::Device;
@@ -16,7 +16,7 @@ use iom_machine::DeviceKind;
 impl World {
     /// Where the device with this id is.
     pub(crate) fn place_of(&self, id: DeviceId) -> Option<usize>
-        ensures { MatchOption result (IsAbsent self.now.devices.items id) (IsPlaceOf self.now.devices.items id) }
+        ensures { MatchOption result (IsAbsent self.now.devices.items id) (HasPlace self.now.devices.items id) }
     {
         self.devices.iter().position(|device| device.id == id)
     }

@@ -5,7 +5,7 @@ ghost use Rattle.iom_base.specs.Sizes.{page_size, in_flight_limit};
 ghost use Rattle.iom_world.specs.declared.device.Device.{Device};
 ghost use Rattle.iom_world.specs.Seen.{parts_of};
 ghost use Rattle.iom_world.specs.Places.{CountsBelow};
-ghost use Rattle.iom_world.specs.Requests.{IsReply, AsksFor, with_flight};
+ghost use Rattle.iom_world.specs.Requests.{IsReply, AsksAccess, with_flight};
 ghost use Rattle.iom_world.specs.Told.{outcome_of};
 
 use crate::device::Device;
@@ -96,7 +96,7 @@ impl World {
     /// `BadSpan`, `Busy`, or `Fault` with its cause.
     pub(crate) fn read(&mut self, id: DeviceId, address: u64, len: u64) -> Told
         requires { CountsBelow self.old.devices.items self.old.events }
-        ensures does { AsksFor (parts_of self.old) id (read_of address len) (outcome_of result) (parts_of self.new) }
+        ensures does { AsksAccess (parts_of self.old) id (read_of address len) (outcome_of result) (parts_of self.new) }
         ensures events { self.new.events ≡ self.old.events }
     {
         let Some(place) = self.place_of(id) else {
@@ -118,7 +118,7 @@ impl World {
     /// kept until it is made.
     pub(crate) fn write(&mut self, id: DeviceId, address: u64, bytes: &[u8]) -> Told
         requires { CountsBelow self.old.devices.items self.old.events }
-        ensures does { AsksFor (parts_of self.old) id (write_of address bytes.now) (outcome_of result) (parts_of self.new) }
+        ensures does { AsksAccess (parts_of self.old) id (write_of address bytes.now) (outcome_of result) (parts_of self.new) }
         ensures events { self.new.events ≡ self.old.events }
     {
         let Some(place) = self.place_of(id) else {

@@ -7,7 +7,7 @@ use Rattle.iom_world.specs.Commits.{without_oldest}
 use Rattle.iom_world.specs.Seen.{parts_of}
 use Rattle.iom_world.proofs.AskLemmas.{oldest_is_read, some_by_map}
 use Rattle.iom_world.proofs.CommitKeeps.{makeable, keeps_made}
-use Rattle.iom_world.proofs.ListLemmas.{get_within}
+use Rattle.iom_driver.proofs.Lists.{get_within}
 use Rattle.iom_world.proofs.ReplaceLemmas.{same_item}
 use Rattle.iom_world.proofs.world.World.commit_read.Goals as goal
 

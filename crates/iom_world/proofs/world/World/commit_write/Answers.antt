@@ -12,7 +12,7 @@ use Rattle.iom_world.specs.Seen.{parts_of}
 use Rattle.iom_world.proofs.AskLemmas.{oldest_writes, some_by_map, known_of_some}
 use Rattle.iom_world.proofs.CommitKeeps.{makeable, keeps_made}
 use Rattle.iom_world.proofs.DriverLemmas.{sound_driver}
-use Rattle.iom_world.proofs.ListLemmas.{get_within}
+use Rattle.iom_driver.proofs.Lists.{get_within}
 use Rattle.iom_world.proofs.MemoryKeeps.{keeps_stored}
 use Rattle.iom_world.proofs.ReplaceLemmas.{same_item}
 use Rattle.iom_world.proofs.world.World.commit_write.Goals as goal

@@ -12,7 +12,7 @@ use Rattle.iom_stage_walk.specs.declared.walked.Walked.{Walked}
 use Rattle.iom_stage_walk.specs.declared.walked.WalkFault.{WalkFault}
 use Rattle.iom_world.specs.declared.world.World.{World}
 use Rattle.iom_world.specs.Held.{NoneIsHeldFor}
-use Rattle.iom_world.proofs.ListLemmas.{get_within}
+use Rattle.iom_driver.proofs.Lists.{get_within}
 use Rattle.iom_world.proofs.world.World.translate.Goals as goal
 
 -- the pair whose leaf a page has
