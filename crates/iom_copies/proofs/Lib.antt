@@ -12,3 +12,4 @@ pub mod RestartLemmas
 pub mod AttachLemmas
 pub mod OccurrenceLemmas
 pub mod LawLemmas
+pub mod WorkedLemmas

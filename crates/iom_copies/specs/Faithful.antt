@@ -48,7 +48,7 @@ pub record IsOrdered (scene : Scene) : Type 0 where
   pub cached : (device : ℕ) → has_ats (scene.attachment_of device) ≡ true → caches_translations (scene.kind_of device) ≡ true
 
 -- the epochs and serials of messages and slots were given
-pub record AreGiven (messages : List AtsMessage) (slots : List Invalidation) (kind_of : ℕ → Option DeviceKind) (epoch_of : ℕ → ℕ) (last_serial : ℕ) : Type 0 where
+pub record HaveGivenNumbers (messages : List AtsMessage) (slots : List Invalidation) (kind_of : ℕ → Option DeviceKind) (epoch_of : ℕ → ℕ) (last_serial : ℕ) : Type 0 where
   -- no question has a later epoch than its device, unless the device forges it
   pub asked : (device epoch page : ℕ) → Contains messages (Question device epoch page) → may_forge (kind_of device) ≡ false → epoch ≤ epoch_of device
   -- nor has an answer, and its device has a cache of its own
@@ -64,7 +64,7 @@ pub record AreGiven (messages : List AtsMessage) (slots : List Invalidation) (ki
 -- No copy outlives what it copies: one fact for each kind of copy, and those of which they need to be kept.
 pub record IsFaithful (scene : Scene) : Type 0 where
   pub order : IsOrdered scene
-  pub numbers : AreGiven scene.messages scene.slots scene.kind_of scene.epoch_of scene.last_serial
+  pub numbers : HaveGivenNumbers scene.messages scene.slots scene.kind_of scene.epoch_of scene.last_serial
   -- cached contexts
   pub contexts : (device : ℕ) → Contains scene.contexts device → IsFaithfulContext scene device
   -- cached translations

@@ -13,3 +13,4 @@ pub mod Deliveries
 pub mod DriverCalls
 pub mod Occurrences
 pub mod Laws
+pub mod Worked

@@ -3,6 +3,7 @@ ghost use Rattle.iom_copies.specs.Faithful.{IsFaithful};
 ghost use Rattle.iom_copies.specs.Laws.{scene_at_power_on, OccurrencesKeepFaith, FaithfulAccessesMay, AccessesAlwaysMay};
 ghost use Rattle.iom_copies.specs.Laws.{OfTranslations, OfEntries, OfAnswers, NamesReachable, NamesHeld};
 ghost use Rattle.iom_copies.specs.Laws.{ContextsAreNotOver, IsOfKnown, AccessesAreKnown};
+ghost use Rattle.iom_copies.specs.Worked.{StaleWritesOccur};
 
 /// The facts hold at power-on, and whatever hardware or driver does keeps them: each copy names what is held,
 /// or what lingers under a ticket that can't be confirmed before the copy is gone. So each access in flight
@@ -40,4 +41,11 @@ pub fn forgotten_law()
     ensures entries { OfEntries IsOfKnown }
     ensures answers { OfAnswers IsOfKnown }
     ensures accesses { AccessesAreKnown }
+{}
+
+/// The facts aren't those of a world in which nothing occurs: from power-on a device with a cache of its own
+/// can write to a page that was released, and then that write is made, all caches forget the page, and the
+/// ticket is confirmed.
+pub fn worked_law()
+    ensures stale_write { StaleWritesOccur }
 {}
