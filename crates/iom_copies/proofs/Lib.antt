@@ -13,3 +13,4 @@ pub mod AttachLemmas
 pub mod OccurrenceLemmas
 pub mod LawLemmas
 pub mod WorkedLemmas
+pub mod RevivalLemmas

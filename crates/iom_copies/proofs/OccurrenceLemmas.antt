@@ -93,37 +93,36 @@ faithful_plugged s device kind faithful none = record {
 so : (new is : Scene) → new ≡ is → IsFaithful is → IsFaithful new
 so new is same faithful = subst IsFaithful (sym same) faithful
 
-pub occurrences_keep_faith : (occurrence : Occurrence) (old new : Scene) → IsFaithful old → Occurs occurrence old new → IsFaithful new
-occurrences_keep_faith (Plug device kind) old new faithful (none, is) = so new _ is (faithful_plugged old device kind faithful none)
-occurrences_keep_faith (Attach device mode ats) old new faithful (at, caches, is) = so new _ is (faithful_attached old device mode ats faithful at caches)
-occurrences_keep_faith (Grant device page frame rights) old new faithful (at, none, free, is) = so new _ is (faithful_granted old device page frame rights faithful at none free)
-occurrences_keep_faith (Release device page) old new faithful (mode, ats, at, is) = so new _ is (faithful_released old device page mode ats faithful at)
-occurrences_keep_faith (Detach device) old new faithful (mode, ats, at, holds, lingers, is) = so new _ is (faithful_detached old device mode ats faithful at holds lingers)
-occurrences_keep_faith (Quarantine device) old new faithful (mode, ats, at, is) = so new _ is (faithful_quarantined old device mode ats faithful at)
-occurrences_keep_faith (Revive device) old new faithful (ticket, mode, ats, left, at, over, kept, is) = so new _ is (faithful_revived old device ticket mode ats left faithful at over kept)
-occurrences_keep_faith (Restart devices) old new faithful (known, is) = so new _ is (faithful_restarted old devices faithful known)
-occurrences_keep_faith (Confirm ticket) old new faithful (fence, later, oldest, done, is) = so new _ is (faithful_confirmed old ticket fence later faithful oldest done)
-occurrences_keep_faith (KeepContext device) old new faithful (kept, at, among, is) = so new _ is (faithful_context_kept old device kept faithful at among)
-occurrences_keep_faith (KeepTranslation copy) old new faithful (kept, holds, among, is) = so new _ is (faithful_translation_kept old copy kept faithful holds among)
-occurrences_keep_faith (Accept copy kind) old new faithful (source, allowed, is) = so new _ is (faithful_accepted old copy kind faithful source allowed)
-occurrences_keep_faith Make old new faithful (left, among, is) = so new _ is (faithful_made old left faithful among)
-occurrences_keep_faith (FetchIotinval device extent) old new faithful (later, left, head, dropped, is) = so new _ is (faithful_translations_dropped old device extent later left faithful head dropped)
-occurrences_keep_faith (FetchIodir device) old new faithful (later, left, head, dropped, is) = so new _ is (faithful_context_dropped old device later left faithful head dropped)
-occurrences_keep_faith (FetchAtsInval device extent) old new faithful (later, messages, head, sent, is) =
+pub occurrences_keep_facts : (occurrence : Occurrence) (old new : Scene) → IsFaithful old → Occurs occurrence old new → IsFaithful new
+occurrences_keep_facts (Plug device kind) old new faithful (none, is) = so new _ is (faithful_plugged old device kind faithful none)
+occurrences_keep_facts (Attach device mode ats) old new faithful (at, caches, is) = so new _ is (faithful_attached old device mode ats faithful at caches)
+occurrences_keep_facts (Grant device page frame rights) old new faithful (at, none, free, is) = so new _ is (faithful_granted old device page frame rights faithful at none free)
+occurrences_keep_facts (Release device page) old new faithful (mode, ats, at, is) = so new _ is (faithful_released old device page mode ats faithful at)
+occurrences_keep_facts (Detach device) old new faithful (mode, ats, at, holds, lingers, is) = so new _ is (faithful_detached old device mode ats faithful at holds lingers)
+occurrences_keep_facts (Quarantine device) old new faithful (mode, ats, at, is) = so new _ is (faithful_quarantined old device mode ats faithful at)
+occurrences_keep_facts (Revive device) old new faithful (ticket, mode, ats, left, at, over, kept, is) = so new _ is (faithful_revived old device ticket mode ats left faithful at over kept)
+occurrences_keep_facts (Restart devices) old new faithful (known, is) = so new _ is (faithful_restarted old devices faithful known)
+occurrences_keep_facts (Confirm ticket) old new faithful (fence, later, oldest, done, is) = so new _ is (faithful_confirmed old ticket fence later faithful oldest done)
+occurrences_keep_facts (KeepContext device) old new faithful (kept, at, among, is) = so new _ is (faithful_context_kept old device kept faithful at among)
+occurrences_keep_facts (KeepTranslation copy) old new faithful (kept, holds, among, is) = so new _ is (faithful_translation_kept old copy kept faithful holds among)
+occurrences_keep_facts (Accept copy kind) old new faithful (source, allowed, is) = so new _ is (faithful_accepted old copy kind faithful source allowed)
+occurrences_keep_facts Make old new faithful (left, among, is) = so new _ is (faithful_made old left faithful among)
+occurrences_keep_facts (FetchIotinval device extent) old new faithful (later, left, head, dropped, is) = so new _ is (faithful_translations_dropped old device extent later left faithful head dropped)
+occurrences_keep_facts (FetchIodir device) old new faithful (later, left, head, dropped, is) = so new _ is (faithful_context_dropped old device later left faithful head dropped)
+occurrences_keep_facts (FetchAtsInval device extent) old new faithful (later, messages, head, sent, is) =
     so new _ is (faithful_slot_opened old device extent later (old.slots ++ next_invalidation old device ∷ []) messages faithful head refl sent)
-occurrences_keep_faith (TakeStock fence) old new faithful (later, head, closed, fetches, is) = so new _ is (faithful_stocked old fence later faithful head closed fetches)
-occurrences_keep_faith (CompleteFence fence) old new faithful (later, accepted, head, taken, made, is) = so new _ is (faithful_fence_done old fence accepted later faithful head taken made)
-occurrences_keep_faith TimeOut old new faithful is = so new _ is (faithful_timed_out old faithful)
-occurrences_keep_faith CarryMessages old new faithful (messages, sent, is) = so new _ is (faithful_messages old messages faithful sent)
-occurrences_keep_faith (DeliverAnswer copy) old new faithful (epoch, kept, there, now, among, is) = so new _ is (faithful_answer_kept old epoch copy kept faithful there now among)
-occurrences_keep_faith (DeliverRequest slot extent) old new faithful (left, messages, there, caches, kept, sent, is) = so new _ is (faithful_invalidated old slot extent left messages faithful there kept sent)
-occurrences_keep_faith (DeliverCompletion slot) old new faithful (slots, messages, there, among, others, fewer, is) = so new _ is (faithful_closed old slot slots messages faithful there among others fewer)
-occurrences_keep_faith (Reset device) old new faithful (left, kept, is) = so new _ is (faithful_reset old device left faithful kept)
+occurrences_keep_facts (TakeStock fence) old new faithful (later, head, closed, fetches, is) = so new _ is (faithful_stocked old fence later faithful head closed fetches)
+occurrences_keep_facts (CompleteFence fence) old new faithful (later, accepted, head, taken, made, is) = so new _ is (faithful_fence_done old fence accepted later faithful head taken made)
+occurrences_keep_facts TimeOut old new faithful is = so new _ is (faithful_timed_out old faithful)
+occurrences_keep_facts CarryMessages old new faithful (messages, sent, is) = so new _ is (faithful_messages old messages faithful sent)
+occurrences_keep_facts (DeliverAnswer copy) old new faithful (epoch, kept, there, now, among, is) = so new _ is (faithful_answer_kept old epoch copy kept faithful there now among)
+occurrences_keep_facts (DeliverRequest slot extent) old new faithful (left, messages, there, caches, kept, sent, is) = so new _ is (faithful_invalidated old slot extent left messages faithful there kept sent)
+occurrences_keep_facts (DeliverCompletion slot) old new faithful (slots, messages, there, among, others, fewer, is) = so new _ is (faithful_closed old slot slots messages faithful there among others fewer)
+occurrences_keep_facts (Reset device) old new faithful (left, kept, is) = so new _ is (faithful_reset old device left faithful kept)
 
--- after a run
-faithful_run : (old : Scene) (occurrences : List Occurrence) (new : Scene) → IsFaithful old → OccurInTurn old occurrences new → IsFaithful new
-faithful_run old [] new faithful is = so new old is faithful
-faithful_run old (first ∷ others) new faithful (between, now, later) = faithful_run between others new (occurrences_keep_faith first old between faithful now) later
+pub turns_keep_facts : (occurrences : List Occurrence) (old new : Scene) → IsFaithful old → OccurInTurn old occurrences new → IsFaithful new
+turns_keep_facts [] old new faithful is = so new old is faithful
+turns_keep_facts (first ∷ others) old new faithful (between, now, later) = turns_keep_facts others between new (occurrences_keep_facts first old between faithful now) later
 
 pub accesses_always_may : AccessesAlwaysMay
-accesses_always_may occurrences scene run = accesses_may scene (faithful_run scene_at_power_on occurrences scene faithful_at_power_on run)
+accesses_always_may occurrences scene run = accesses_may scene (turns_keep_facts occurrences scene_at_power_on scene faithful_at_power_on run)

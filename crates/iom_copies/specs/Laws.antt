@@ -39,8 +39,12 @@ scene_at_power_on = record {
 }
 
 -- Whatever occurs, all facts stay.
-abbrev pub OccurrencesKeepFaith : Type 0
-OccurrencesKeepFaith = (occurrence : Occurrence) (old new : Scene) → IsFaithful old → Occurs occurrence old new → IsFaithful new
+abbrev pub OccurrencesKeepFacts : Type 0
+OccurrencesKeepFacts = (occurrence : Occurrence) (old new : Scene) → IsFaithful old → Occurs occurrence old new → IsFaithful new
+
+-- So they do where several things occur one after another, as in most events.
+abbrev pub TurnsKeepFacts : Type 0
+TurnsKeepFacts = (occurrences : List Occurrence) (old new : Scene) → IsFaithful old → OccurInTurn old occurrences new → IsFaithful new
 
 -- each access in flight may still reach its frame
 abbrev pub AccessesMay : Scene → Type 0

@@ -1,17 +1,20 @@
--- A worked list of occurrences. It shows that these definitions let happen what they are about: a device with a cache of its own writes to a page that was
--- released, and the ticket is confirmed once that write is made and all caches have forgotten the page.
-use Rattle.std.specs.Prelude.{◌≡◌, true, List, [], ◌∷◌, Contains, None}
+-- Two worked lists of occurrences. They show that these definitions let happen what they are about.
+use Rattle.std.specs.Prelude.{◌≡◌, true, List, [], ◌∷◌, Contains, None, false}
 use Rattle.iom_base.specs.declared.access.AccessKind.TheVariants.{Write}
 use Rattle.iom_base.specs.declared.grant_rights.GrantRights.TheVariants.{ReadWrite}
 use Rattle.iom_base.specs.declared.rights.Rights.{Rights}
 use Rattle.iom_base.specs.GrantRights.{rights_of}
 use Rattle.iom_ledger.specs.History.{held_at, confirms}
+use Rattle.iom_machine.specs.declared.state.Attachment.TheVariants.{Detached, Attached, Quarantined}
 use Rattle.iom_machine.specs.declared.state.DeviceKind.TheVariants.{Ats}
-use Rattle.iom_machine.specs.declared.state.Mode.TheVariants.{First}
-use Rattle.iom_copies.specs.Queue.{OnePage}
+use Rattle.iom_machine.specs.declared.state.Mode.TheVariants.{First, Second, Both}
+use Rattle.iom_copies.specs.Queue.{OnePage, WholeSpace}
 use Rattle.iom_copies.specs.Scene.{Copy, AccessInFlight, Invalidation, Scene}
-use Rattle.iom_copies.specs.Occurrences.{Occurrence, Plug, Attach, Grant, Release, Confirm, KeepContext, KeepTranslation, Accept, Make, FetchIotinval, FetchAtsInval, TakeStock, CompleteFence, CarryMessages, DeliverAnswer, DeliverRequest, DeliverCompletion, OccurInTurn}
+use Rattle.iom_copies.specs.Occurrences.{Occurrence, Plug, Attach, Grant, Release, Confirm, KeepContext, KeepTranslation, Accept, Make, FetchIotinval, FetchAtsInval, TakeStock, CompleteFence, CarryMessages, DeliverAnswer, DeliverRequest, DeliverCompletion, OccurInTurn, Detach, FetchIodir, Quarantine, TimeOut, Restart, Revive}
 use Rattle.iom_copies.specs.Laws.{scene_at_power_on}
+
+-- A device with a cache of its own writes to a page that was released, and the ticket is confirmed once that write is made and all caches have forgotten the
+-- page.
 
 -- the right that the device is granted
 abbrev pub both_rights : Rights
@@ -52,3 +55,27 @@ abbrev pub StaleWritesOccur : Type 0
 StaleWritesOccur = (between after : Scene)
     × OccurInTurn scene_at_power_on stale_write between × IsStale between
     × OccurInTurn between its_end after × (confirms after.history 1 ≡ true)
+
+-- A device is detached and attached again, an invalidation is lost, and the device is quarantined while the fence waits for it; a timeout, a restart, and a revival.
+
+-- The device is attached and detached, and the detach is confirmed.
+abbrev pub attach_and_detach : List Occurrence
+attach_and_detach =
+    Plug 2 Ats ∷ Attach 2 Second false ∷ Detach 2 ∷ FetchIodir 2 ∷ FetchIotinval 2 WholeSpace ∷ TakeStock 1 ∷ CompleteFence 1 ∷ Confirm 1 ∷ []
+
+-- It is attached in both stages with ATS, and granted a guest page, which is released; the invalidation is sent, or lost. The device is cut off.
+abbrev pub cut_off : List Occurrence
+cut_off =
+    Attach 2 Both true ∷ Grant 2 3 5 both_rights ∷ Release 2 3 ∷ FetchIotinval 2 WholeSpace ∷ FetchAtsInval 2 WholeSpace ∷ Quarantine 2 ∷ []
+
+-- The fence of the release times out. After a restart one fence ends both tickets, and the device is revived.
+abbrev pub revival : List Occurrence
+revival =
+    TimeOut ∷ Restart (2 ∷ []) ∷ FetchIodir 2 ∷ FetchIotinval 2 WholeSpace ∷ TakeStock 4 ∷ CompleteFence 4 ∷ Confirm 2 ∷ Confirm 3 ∷ Revive 2 ∷ []
+
+-- this can occur, each in its turn, and leaves the device attached
+abbrev pub RevivalsOccur : Type 0
+RevivalsOccur = (detached quarantined after : Scene)
+    × OccurInTurn scene_at_power_on attach_and_detach detached × (detached.attachment_of 2 ≡ Detached)
+    × OccurInTurn detached cut_off quarantined × (quarantined.attachment_of 2 ≡ Quarantined 3 Both true)
+    × OccurInTurn quarantined revival after × (after.attachment_of 2 ≡ Attached Both true)

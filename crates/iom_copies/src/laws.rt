@@ -1,16 +1,18 @@
 //! What the facts on copies give the layers above.
 ghost use Rattle.iom_copies.specs.Faithful.{IsFaithful};
-ghost use Rattle.iom_copies.specs.Laws.{scene_at_power_on, OccurrencesKeepFaith, FaithfulAccessesMay, AccessesAlwaysMay};
+ghost use Rattle.iom_copies.specs.Laws.{scene_at_power_on, OccurrencesKeepFacts, TurnsKeepFacts, FaithfulAccessesMay, AccessesAlwaysMay};
 ghost use Rattle.iom_copies.specs.Laws.{OfTranslations, OfEntries, OfAnswers, NamesReachable, NamesHeld};
 ghost use Rattle.iom_copies.specs.Laws.{ContextsAreNotOver, IsOfKnown, AccessesAreKnown};
-ghost use Rattle.iom_copies.specs.Worked.{StaleWritesOccur};
+ghost use Rattle.iom_copies.specs.Worked.{StaleWritesOccur, RevivalsOccur};
 
-/// The facts hold at power-on, and whatever hardware or driver does keeps them: each copy names what is held,
-/// or what lingers under a ticket that can't be confirmed before the copy is gone. So each access in flight
-/// may still reach its frame, where the facts hold and so after anything that can occur.
+/// The facts hold at power-on, and whatever hardware or driver does keeps them, one thing or several in turn:
+/// each copy names what is held, or what lingers under a ticket that can't be confirmed before the copy is
+/// gone. So each access in flight may still reach its frame, where the facts hold, and so after anything that
+/// can occur from power-on.
 pub fn reclaim_law()
     ensures opening { IsFaithful scene_at_power_on }
-    ensures kept { OccurrencesKeepFaith }
+    ensures kept { OccurrencesKeepFacts }
+    ensures in_turn { TurnsKeepFacts }
     ensures may { FaithfulAccessesMay }
     ensures run { AccessesAlwaysMay }
 {}
@@ -43,9 +45,11 @@ pub fn forgotten_law()
     ensures accesses { AccessesAreKnown }
 {}
 
-/// The facts aren't those of a world in which nothing occurs: from power-on a device with a cache of its own
+/// The facts aren't those of a world in which nothing occurs. From power-on a device with a cache of its own
 /// can write to a page that was released, and then that write is made, all caches forget the page, and the
-/// ticket is confirmed.
+/// ticket is confirmed. And a device can be detached and attached again, lose an invalidation, be quarantined
+/// while its fence waits for that, and after a timeout and a restart be revived.
 pub fn worked_law()
     ensures stale_write { StaleWritesOccur }
+    ensures revival { RevivalsOccur }
 {}
