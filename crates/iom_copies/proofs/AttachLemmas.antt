@@ -1,5 +1,5 @@
 -- Power-on, attach and revive.
-use Rattle.std.proofs.Common.{◌≡◌, ℕ, ◌≤◌, inl, inr, Bool, true, false, ◌==◌, List, Contains, Option, None, Some, refl, sym, ap, ◌∙◌, subst, arith}
+use Rattle.std.proofs.Common.{◌≡◌, ℕ, inl, inr, Bool, true, false, ◌==◌, List, Contains, Option, None, Some, refl, sym, ap, ◌∙◌, subst, arith}
 use Rattle.std.proofs.lemmas.Bool.{false≢true, eqb-true}
 use Rattle.iom_ledger.specs.History.{Pair, held_at, confirms}
 use Rattle.iom_copies.specs.Attachments.{IsQuarantined, has_ats, in_both_stages, caches_translations}
@@ -50,9 +50,9 @@ faithful_attached_bare s device mode ats faithful bare caches = record {
     New : Scene
     New = record s { attachment_of = with_attachment s.attachment_of device (Attached mode ats) }
 
-    grants : (d : ℕ) (b : Bool) → (device == d) ≡ b → GrantsFit New d (with_attachment s.attachment_of device (Attached mode ats) d)
-    grants d true e = subst (GrantsFit New d) (sym (own_attachment s.attachment_of device (Attached mode ats) d e)) tt
-    grants d false e = subst (GrantsFit New d) (sym (other_attachment s.attachment_of device (Attached mode ats) d e)) (faithful.order.grants d)
+    grants : (d : ℕ) (b : Bool) → (device == d) ≡ b → GrantsFit New.history d (with_attachment s.attachment_of device (Attached mode ats) d)
+    grants d true e = subst (GrantsFit New.history d) (sym (own_attachment s.attachment_of device (Attached mode ats) d e)) tt
+    grants d false e = subst (GrantsFit New.history d) (sym (other_attachment s.attachment_of device (Attached mode ats) d e)) (faithful.order.grants d)
 
     cached : (d : ℕ) (b : Bool) → (device == d) ≡ b → has_ats (with_attachment s.attachment_of device (Attached mode ats) d) ≡ true → caches_translations (s.kind_of d) ≡ true
     cached d true e has = subst (λ x. caches_translations (s.kind_of x) ≡ true) (eqb-true device d e) (caches (sym (ap has_ats (own_attachment s.attachment_of device (Attached mode ats) d e)) ∙ has))
@@ -93,7 +93,7 @@ pub faithful_attached : (s : Scene) (device : ℕ) (mode : Mode) (ats : Bool) �
     → IsFaithful (record s { attachment_of = with_attachment s.attachment_of device (Attached mode ats) })
 faithful_attached s device mode ats faithful at caches = faithful_attached_bare s device mode ats faithful (record {
   translations = λ copy there its.
-      let none = subst (GrantsFit s device) at (faithful.order.grants device) in
+      let none = subst (GrantsFit s.history device) at (faithful.order.grants device) in
       backed-never (in_both_stages (s.attachment_of copy.device)) s.history (TranslationGoes s copy.device copy.page) copy
       (λ from. subst (λ x. held_at s.history x from ≡ None) its (none.0 from))
       (λ from t p c. none.1 from t p (subst (λ x. Lingering s.history x from t p) (sym its) c))
@@ -125,8 +125,8 @@ faithful_revived s device ticket mode ats left faithful at confirmed kept =
     own : (copy : Copy) → device ≡ copy.device → (device == copy.device) ≡ true
     own copy its = subst (λ x. (device == x) ≡ true) its (same_number device)
 
-    fits : HoldsNothing s.history device × LingersUpTo s.history device ticket × (ticket ≤ s.given)
-    fits = subst (GrantsFit s device) at (faithful.order.grants device)
+    fits : HoldsNothing s.history device × LingersUpTo s.history device ticket
+    fits = subst (GrantsFit s.history device) at (faithful.order.grants device)
 
     none : (copy : Copy) → device ≡ copy.device → IsFaithfulTranslation s copy → ⊥
     none copy its (from, r, comes, inl holds) =

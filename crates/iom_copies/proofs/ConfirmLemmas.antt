@@ -69,14 +69,14 @@ quarantined_after ticket (Attached mode ats) q = q
 quarantined_after ticket (Quarantined t mode ats) q = q
 quarantined_after ticket (Leaving t mode ats) q = absurd (false≢true q)
 
-grants-confirmed : (s : Scene) (ticket : ℕ) (later : List PendingTicket) (d : ℕ) (attachment : Attachment) → GrantsFit s d attachment
-    → GrantsFit (ConfirmedScene s ticket later) d (once_confirmed ticket attachment)
+grants-confirmed : (s : Scene) (ticket : ℕ) (later : List PendingTicket) (d : ℕ) (attachment : Attachment) → GrantsFit s.history d attachment
+    → GrantsFit (Confirmed ticket ∷ s.history) d (once_confirmed ticket attachment)
 grants-confirmed s ticket later d Detached (holds, lingers) = (holds, λ a t pair c. lingers a t pair (lingers_confirmed s.history ticket d a t pair c))
 grants-confirmed s ticket later d (Attached mode ats) fits = tt
-grants-confirmed s ticket later d (Quarantined x mode ats) (holds, lingers, given) = (holds, (λ a t pair c. lingers a t pair (lingers_confirmed s.history ticket d a t pair c)), given)
+grants-confirmed s ticket later d (Quarantined x mode ats) (holds, lingers) = (holds, λ a t pair c. lingers a t pair (lingers_confirmed s.history ticket d a t pair c))
 grants-confirmed s ticket later d (Leaving x mode ats) (holds, lingers) = by (ticket == x)
   where
-    by : (b : Bool) → GrantsFit (ConfirmedScene s ticket later) d (if b then Detached else Leaving x mode ats)
+    by : (b : Bool) → GrantsFit (Confirmed ticket ∷ s.history) d (if b then Detached else Leaving x mode ats)
     by true = (holds, λ a t pair c. lingers a t pair (lingers_confirmed s.history ticket d a t pair c))
     by false = (holds, λ a t pair c. lingers a t pair (lingers_confirmed s.history ticket d a t pair c))
 
@@ -157,7 +157,7 @@ faithful_confirmed s ticket fence later faithful oldest done = record {
 
     none : (copy : Copy) (x : ℕ) (mode : Mode) (ats : Bool) (S : ℕ → Type 0) → s.attachment_of copy.device ≡ Leaving x mode ats → NamesGrant s S copy → ⊥
     none copy x mode ats S at old =
-        let nothing = subst (GrantsFit s copy.device) at (faithful.order.grants copy.device) in
+        let nothing = subst (GrantsFit s.history copy.device) at (faithful.order.grants copy.device) in
         backed-never (in_both_stages (s.attachment_of copy.device)) s.history S copy nothing.0 nothing.1 old
 
     -- what the copy names it still names

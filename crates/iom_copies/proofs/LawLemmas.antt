@@ -77,7 +77,7 @@ contexts_are_not_over scene device faithful there = by (scene.attachment_of devi
 known : (scene : Scene) (device : ℕ) → IsFaithful scene → (HoldsNothing scene.history device → LingersOnNothing scene.history device → ⊥) → IsKnown (scene.attachment_of device)
 known scene device faithful something = by (scene.attachment_of device) (faithful.order.grants device)
   where
-    by : (attachment : Attachment) → GrantsFit scene device attachment → IsKnown attachment
+    by : (attachment : Attachment) → GrantsFit scene.history device attachment → IsKnown attachment
     by Detached (holds, lingers) = absurd (something holds lingers)
     by (Attached mode ats) fits = refl
     by (Quarantined t mode ats) fits = refl

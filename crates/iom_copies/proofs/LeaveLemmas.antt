@@ -117,19 +117,19 @@ faithful_quarantined s device mode ats faithful at = record {
         old (inl (new, held)) = let both : ◌≡◌ {A = Option Pair} None (Some pair) = sym (holds a) ∙ held in cc
         old (inr before) = before
 
-    others : (d : ℕ) → (device == d) ≡ false → (attachment : Attachment) → GrantsFit s d attachment → GrantsFit New d attachment
+    others : (d : ℕ) → (device == d) ≡ false → (attachment : Attachment) → GrantsFit s.history d attachment → GrantsFit New.history d attachment
     others d e Detached (holds, lingers) = ((λ a. none_after_all_released s.history device (s.given + 1) d a (holds a)), λ a t pair c. lingers a t pair (elsewhere d e a t pair holds c))
     others d e (Attached m x) fits = tt
-    others d e (Quarantined x m y) (holds, lingers, given) =
-        ((λ a. none_after_all_released s.history device (s.given + 1) d a (holds a)), (λ a t pair c. lingers a t pair (elsewhere d e a t pair holds c)), omega (arith, given))
+    others d e (Quarantined x m y) (holds, lingers) =
+        ((λ a. none_after_all_released s.history device (s.given + 1) d a (holds a)), λ a t pair c. lingers a t pair (elsewhere d e a t pair holds c))
     others d e (Leaving x m y) (holds, lingers) = ((λ a. none_after_all_released s.history device (s.given + 1) d a (holds a)), λ a t pair c. lingers a t pair (elsewhere d e a t pair holds c))
 
-    own : GrantsFit New device (Quarantined (s.given + 1) mode ats)
-    own = ((λ a. none_held s.history device (s.given + 1) a), (λ a t pair c. lingering device a t pair c), omega arith)
+    own : GrantsFit New.history device (Quarantined (s.given + 1) mode ats)
+    own = ((λ a. none_held s.history device (s.given + 1) a), λ a t pair c. lingering device a t pair c)
 
-    grants : (d : ℕ) (b : Bool) → (device == d) ≡ b → GrantsFit New d (with_attachment s.attachment_of device (Quarantined (s.given + 1) mode ats) d)
-    grants d true e = subst (GrantsFit New d) (sym (own_attachment s.attachment_of device Now d e)) (subst (λ x. GrantsFit New x Now) (eqb-true device d e) own)
-    grants d false e = subst (GrantsFit New d) (sym (other_attachment s.attachment_of device Now d e)) (others d e (s.attachment_of d) (faithful.order.grants d))
+    grants : (d : ℕ) (b : Bool) → (device == d) ≡ b → GrantsFit New.history d (with_attachment s.attachment_of device (Quarantined (s.given + 1) mode ats) d)
+    grants d true e = subst (GrantsFit New.history d) (sym (own_attachment s.attachment_of device Now d e)) (subst (λ x. GrantsFit New.history x Now) (eqb-true device d e) own)
+    grants d false e = subst (GrantsFit New.history d) (sym (other_attachment s.attachment_of device Now d e)) (others d e (s.attachment_of d) (faithful.order.grants d))
 
     differs : (d : ℕ) → (device == d) ≡ false → device ≡ d → ⊥
     differs d e same = false≢true (sym e ∙ subst (λ x. (device == x) ≡ true) same (same_number device))
@@ -237,15 +237,9 @@ faithful_detached s device mode ats faithful at holds lingers = record {
     New : Scene
     New = LeavingScene s device mode ats
 
-    others : (d : ℕ) (attachment : Attachment) → GrantsFit s d attachment → GrantsFit New d attachment
-    others d Detached fits = fits
-    others d (Attached m x) fits = tt
-    others d (Quarantined x m y) (none, up_to, given) = (none, up_to, omega (arith, given))
-    others d (Leaving x m y) fits = fits
-
-    grants : (d : ℕ) (b : Bool) → (device == d) ≡ b → GrantsFit New d (with_attachment s.attachment_of device (Leaving (s.given + 1) mode ats) d)
-    grants d true e = subst (GrantsFit New d) (sym (own_attachment s.attachment_of device Now d e)) (subst (λ x. HoldsNothing s.history x × LingersOnNothing s.history x) (eqb-true device d e) (holds, lingers))
-    grants d false e = subst (GrantsFit New d) (sym (other_attachment s.attachment_of device Now d e)) (others d (s.attachment_of d) (faithful.order.grants d))
+    grants : (d : ℕ) (b : Bool) → (device == d) ≡ b → GrantsFit New.history d (with_attachment s.attachment_of device (Leaving (s.given + 1) mode ats) d)
+    grants d true e = subst (GrantsFit New.history d) (sym (own_attachment s.attachment_of device Now d e)) (subst (λ x. HoldsNothing s.history x × LingersOnNothing s.history x) (eqb-true device d e) (holds, lingers))
+    grants d false e = subst (GrantsFit New.history d) (sym (other_attachment s.attachment_of device Now d e)) (faithful.order.grants d)
 
     none : (S : ℕ → Type 0) (d a : ℕ) (pair : Pair) → device ≡ d → IsBacked (in_both_stages (s.attachment_of d)) s.history S (record { device = d; page = a; pair = pair }) → ⊥
     none S d a pair same old =

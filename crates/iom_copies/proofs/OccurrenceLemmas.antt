@@ -116,7 +116,7 @@ occurrences_keep_facts (CompleteFence fence) old new faithful (later, accepted, 
 occurrences_keep_facts TimeOut old new faithful is = so new _ is (faithful_timed_out old faithful)
 occurrences_keep_facts CarryMessages old new faithful (messages, sent, is) = so new _ is (faithful_messages old messages faithful sent)
 occurrences_keep_facts (DeliverAnswer copy) old new faithful (epoch, kept, there, now, among, is) = so new _ is (faithful_answer_kept old epoch copy kept faithful there now among)
-occurrences_keep_facts (DeliverRequest slot extent) old new faithful (left, messages, there, caches, kept, sent, is) = so new _ is (faithful_invalidated old slot extent left messages faithful there kept sent)
+occurrences_keep_facts (DeliverRequest slot extent) old new faithful (left, messages, there, kept, sent, is) = so new _ is (faithful_invalidated old slot extent left messages faithful there kept sent)
 occurrences_keep_facts (DeliverCompletion slot) old new faithful (slots, messages, there, among, others, fewer, is) = so new _ is (faithful_closed old slot slots messages faithful there among others fewer)
 occurrences_keep_facts (Reset device) old new faithful (left, kept, is) = so new _ is (faithful_reset old device left faithful kept)
 

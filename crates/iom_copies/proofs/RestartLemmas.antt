@@ -104,8 +104,8 @@ faithful_restarted s devices faithful known = record {
     nothing S d a pair none old = backed-never (in_both_stages (s.attachment_of d)) s.history S (record { device = d; page = a; pair = pair }) none.0 none.1 old
 
     translation : (d a : ℕ) (pair : Pair) (attachment : Attachment) → s.attachment_of d ≡ attachment → IsFaithfulTranslation s (record { device = d; page = a; pair = pair }) → IsFaithfulTranslation New (record { device = d; page = a; pair = pair })
-    translation d a pair Detached at old = absurd (nothing (TranslationGoes s d a) d a pair (subst (GrantsFit s d) at (faithful.order.grants d)) old)
-    translation d a pair (Leaving x mode ats) at old = absurd (nothing (TranslationGoes s d a) d a pair (subst (GrantsFit s d) at (faithful.order.grants d)) old)
+    translation d a pair Detached at old = absurd (nothing (TranslationGoes s d a) d a pair (subst (GrantsFit s.history d) at (faithful.order.grants d)) old)
+    translation d a pair (Leaving x mode ats) at old = absurd (nothing (TranslationGoes s d a) d a pair (subst (GrantsFit s.history d) at (faithful.order.grants d)) old)
     translation d a pair (Attached mode false) at old = backed-still (in_both_stages (s.attachment_of d)) s.history (TranslationGoes s d a) (TranslationGoes New d a) (record { device = d; page = a; pair = pair }) (λ t goes. (
       to_come d (Attached mode false) at refl t (drops_translation d a ∷ []) (drops_translation d a ∷ []) goes.0 (inr (inl (rw (same_number d) refl, tt))),
       λ has. absurd (false≢true (sym (ap has_ats at) ∙ has)),
@@ -147,7 +147,7 @@ faithful_restarted s devices faithful known = record {
 
     entry : (d a : ℕ) (pair : Pair) (attachment : Attachment) → s.attachment_of d ≡ attachment → IsFaithfulEntry s (record { device = d; page = a; pair = pair }) → IsFaithfulEntry New (record { device = d; page = a; pair = pair })
     entry d a pair Detached at fact in_use = let old = fact in_use in absurd (false≢true (sym (ap has_ats at) ∙ old.0))
-    entry d a pair (Leaving x mode ats) at fact in_use = let old = fact in_use in absurd (nothing (EntryGoes s d a) d a pair (subst (GrantsFit s d) at (faithful.order.grants d)) old.1)
+    entry d a pair (Leaving x mode ats) at fact in_use = let old = fact in_use in absurd (nothing (EntryGoes s d a) d a pair (subst (GrantsFit s.history d) at (faithful.order.grants d)) old.1)
     entry d a pair (Attached mode false) at fact in_use = let old = fact in_use in absurd (false≢true (sym (ap has_ats at) ∙ old.0))
     entry d a pair (Attached mode true) at fact in_use =
         let old = fact in_use in (

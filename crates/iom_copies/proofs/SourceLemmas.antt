@@ -38,12 +38,12 @@ granted_elsewhere : (s : Scene) (device page frame : ℕ) (rights : Rights) (d :
 granted_elsewhere s device page frame rights d other holds a = rw other (holds a)
 
 grants-granted : (s : Scene) (device page frame : ℕ) (rights : Rights) → IsAttached (s.attachment_of device) → (d : ℕ) (attachment : Attachment) → s.attachment_of d ≡ attachment
-    → GrantsFit s d attachment → GrantsFit (record s { history = Granted device page frame rights ∷ s.history }) d attachment
+    → GrantsFit s.history d attachment → GrantsFit (Granted device page frame rights ∷ s.history) d attachment
 grants-granted s device page frame rights attached d Detached at (holds, lingers) =
     (granted_elsewhere s device page frame rights d (away s device d attached (λ x. false≢true (subst IsAttached at x))) holds, λ a t pair c. lingers a t pair (lingers_granted s.history device page frame rights d a t pair c))
 grants-granted s device page frame rights attached d (Attached mode ats) at fits = tt
-grants-granted s device page frame rights attached d (Quarantined ticket mode ats) at (holds, lingers, given) =
-    (granted_elsewhere s device page frame rights d (away s device d attached (λ x. false≢true (subst IsAttached at x))) holds, (λ a t pair c. lingers a t pair (lingers_granted s.history device page frame rights d a t pair c)), given)
+grants-granted s device page frame rights attached d (Quarantined ticket mode ats) at (holds, lingers) =
+    (granted_elsewhere s device page frame rights d (away s device d attached (λ x. false≢true (subst IsAttached at x))) holds, λ a t pair c. lingers a t pair (lingers_granted s.history device page frame rights d a t pair c))
 grants-granted s device page frame rights attached d (Leaving ticket mode ats) at (holds, lingers) =
     (granted_elsewhere s device page frame rights d (away s device d attached (λ x. false≢true (subst IsAttached at x))) holds, λ a t pair c. lingers a t pair (lingers_granted s.history device page frame rights d a t pair c))
 

@@ -101,7 +101,7 @@ pub ordered-ticket : (s : Scene) (commands : List QueuedCommand) (h : History) (
     → ((t : ℕ) → confirms h t ≡ confirms s.history t)
     → ((d a t : ℕ) (pair : Pair) → Lingering h d a t pair → t ≤ s.given + 1)
     → AreApart h
-    → ((d : ℕ) → GrantsFit (Ticketed s commands h of) d (of d))
+    → ((d : ℕ) → GrantsFit h d (of d))
     → ((d : ℕ) → has_ats (of d) ≡ true → caches_translations (s.kind_of d) ≡ true)
     → IsOrdered (Ticketed s commands h of)
 ordered-ticket s commands h of ordered no_fence as_confirmed lingering apart grants cached = record {
@@ -125,7 +125,7 @@ ordered-ticket s commands h of ordered no_fence as_confirmed lingering apart gra
 abbrev pub ReleasedScene : Scene → ℕ → ℕ → Mode → Bool → Scene
 ReleasedScene s device page mode ats = Ticketed s (release_commands device (released_extent mode page) ats) (Released device page (s.given + 1) ∷ s.history) s.attachment_of
 
-grants-released : (s : Scene) (device page : ℕ) (mode : Mode) (ats : Bool) (d : ℕ) (attachment : Attachment) → GrantsFit s d attachment → GrantsFit (ReleasedScene s device page mode ats) d attachment
+grants-released : (s : Scene) (device page : ℕ) (mode : Mode) (ats : Bool) (d : ℕ) (attachment : Attachment) → GrantsFit s.history d attachment → GrantsFit (Released device page (s.given + 1) ∷ s.history) d attachment
 grants-released s device page mode ats d attachment = by attachment
   where
     none : ((a : ℕ) → held_at s.history d a ≡ None) → (a : ℕ) → held_at (Released device page (s.given + 1) ∷ s.history) d a ≡ None
@@ -137,10 +137,10 @@ grants-released s device page mode ats d attachment = by attachment
       | inr old ↦ old
     ]
 
-    by : (att : Attachment) → GrantsFit s d att → GrantsFit (ReleasedScene s device page mode ats) d att
+    by : (att : Attachment) → GrantsFit s.history d att → GrantsFit (Released device page (s.given + 1) ∷ s.history) d att
     by Detached (holds, lingers) = (none holds, λ a t pair c. lingers a t pair (lingered holds a t pair c))
     by (Attached m x) fits = tt
-    by (Quarantined t m x) (holds, lingers, given) = (none holds, (λ a u pair c. lingers a u pair (lingered holds a u pair c)), omega (arith, given))
+    by (Quarantined t m x) (holds, lingers) = (none holds, λ a u pair c. lingers a u pair (lingered holds a u pair c))
     by (Leaving t m x) (holds, lingers) = (none holds, λ a u pair c. lingers a u pair (lingered holds a u pair c))
 
 -- what is to come for a page that the release covers

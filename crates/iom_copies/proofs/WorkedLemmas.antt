@@ -174,7 +174,6 @@ request_is_delivered = (
   [],
   invalidated.messages,
   contains_head (InvalidateRequest first_invalidation (OnePage 3)) [],
-  refl,
   (λ copy there. absurd (in_none copy there)),
   (λ message there. inl (only (InvalidateCompletion first_invalidation) message there)),
   refl,

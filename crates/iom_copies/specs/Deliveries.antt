@@ -43,11 +43,10 @@ EntryIsKept old copy new = (epoch : ℕ) × (kept : List Copy)
     × Contains old.messages (Answer epoch copy) × (epoch ≡ old.epoch_of copy.device)
     × AreAmongWith kept copy old.entries × (new ≡ record old { entries = kept })
 
--- a request to invalidate is delivered to a device with a cache: the device drops what it covers, raises its epoch and says that it is done
+-- a request to invalidate is delivered and obeyed: the device drops what it covers, raises its epoch and says that it is done
 abbrev pub EntriesAreInvalidated : Scene → Invalidation → Extent → Scene → Type 0
 EntriesAreInvalidated old invalidation extent new = (left : List Copy) × (messages : List AtsMessage)
     × Contains old.messages (InvalidateRequest invalidation extent)
-    × (caches_translations (old.kind_of invalidation.device) ≡ true)
     × AreOutside left invalidation.device extent old.entries
     × AreAmongWith messages (InvalidateCompletion invalidation) old.messages
     × (new ≡ record old {

@@ -1,6 +1,6 @@
 -- The facts that hold between any two events: no copy outlives what it copies.
 use Rattle.std.specs.Prelude.{◌≡◌, ℕ, ◌≤◌, Bool, true, false, List, ◌∷◌, Contains, Some, Option, ⊤}
-use Rattle.iom_ledger.specs.History.{confirms}
+use Rattle.iom_ledger.specs.History.{History, confirms}
 use Rattle.iom_machine.specs.declared.state.Attachment.{Attachment}
 use Rattle.iom_machine.specs.declared.state.Attachment.TheVariants.{Detached, Attached, Quarantined, Leaving}
 use Rattle.iom_machine.specs.declared.state.DeviceKind.{DeviceKind}
@@ -12,12 +12,11 @@ use Rattle.iom_copies.specs.ToCome.{FencesRise, TicketsRise}
 use Rattle.iom_copies.specs.Copies.{IsFaithfulTranslation, IsFaithfulAccess, IsFaithfulContext, IsFaithfulEntry}
 
 -- what a device that is attached so may hold and linger on
-abbrev pub GrantsFit : Scene → ℕ → Attachment → Type 0
-GrantsFit scene device Detached = HoldsNothing scene.history device × LingersOnNothing scene.history device
-GrantsFit scene device (Attached mode ats) = ⊤
-GrantsFit scene device (Quarantined ticket mode ats) =
-    HoldsNothing scene.history device × LingersUpTo scene.history device ticket × (ticket ≤ scene.given)
-GrantsFit scene device (Leaving ticket mode ats) = HoldsNothing scene.history device × LingersOnNothing scene.history device
+abbrev pub GrantsFit : History → ℕ → Attachment → Type 0
+GrantsFit history device Detached = HoldsNothing history device × LingersOnNothing history device
+GrantsFit history device (Attached mode ats) = ⊤
+GrantsFit history device (Quarantined ticket mode ats) = HoldsNothing history device × LingersUpTo history device ticket
+GrantsFit history device (Leaving ticket mode ats) = HoldsNothing history device × LingersOnNothing history device
 
 -- the fence is at the head, no slot is open, and commands are fetched
 pub record IsStocked (waiting : List QueuedCommand) (slots : List Invalidation) (is_stopped : Bool) (fence : ℕ) : Type 0 where
@@ -43,7 +42,7 @@ pub record IsOrdered (scene : Scene) : Type 0 where
   pub stocked : (fence accepted : ℕ) → scene.stock ≡ Some (record { fence = fence; accepted = accepted })
       → IsStocked scene.waiting scene.slots scene.is_stopped fence
   -- a device holds and lingers on no more than its attachment lets it
-  pub grants : (device : ℕ) → GrantsFit scene device (scene.attachment_of device)
+  pub grants : (device : ℕ) → GrantsFit scene.history device (scene.attachment_of device)
   -- a device that is attached with ATS has a cache of its own
   pub cached : (device : ℕ) → has_ats (scene.attachment_of device) ≡ true → caches_translations (scene.kind_of device) ≡ true
 
