@@ -49,8 +49,11 @@ attached = record plugged { attachment_of = with_attachment plugged.attachment_o
 abbrev leaving : Scene
 leaving = record (with_ticket attached (leave_commands 2)) { attachment_of = with_attachment attached.attachment_of 2 (Leaving (attached.given + 1) Second false) }
 
+abbrev reset : Scene
+reset = record leaving { entries = []; epoch_of = raised leaving.kind_of leaving.epoch_of 2 }
+
 abbrev without_context : Scene
-without_context = Fetched leaving (DropTranslations 2 WholeSpace ∷ Fence 1 ∷ [])
+without_context = Fetched reset (DropTranslations 2 WholeSpace ∷ Fence 1 ∷ [])
 
 abbrev without_translations : Scene
 without_translations = Fetched without_context (Fence 1 ∷ [])
@@ -90,18 +93,22 @@ detach_occurs = (
       leaving,
       (Second, false, refl, (λ page. refl), (λ page ticket pair there. in_none (ticket, pair) there), refl),
       (
-        without_context,
-        context_goes leaving 2 (DropTranslations 2 WholeSpace ∷ Fence 1 ∷ []) refl refl,
+        reset,
+        ([], (λ copy there. absurd (in_none copy there)), refl),
         (
-          without_translations,
-          translations_go without_context 2 WholeSpace (Fence 1 ∷ []) refl refl,
+          without_context,
+          context_goes reset 2 (DropTranslations 2 WholeSpace ∷ Fence 1 ∷ []) refl refl,
           (
-            counted,
-            stock_is_taken without_translations 1 refl refl refl,
+            without_translations,
+            translations_go without_context 2 WholeSpace (Fence 1 ∷ []) refl refl,
             (
-              done,
-              fence_is_done without_translations 1 refl refl,
-              (gone, (1, [], refl, omega arith, refl), refl),
+              counted,
+              stock_is_taken without_translations 1 refl refl refl,
+              (
+                done,
+                fence_is_done without_translations 1 refl refl,
+                (gone, (1, [], refl, omega arith, refl), refl),
+              ),
             ),
           ),
         ),

@@ -1,13 +1,12 @@
 -- A grant, an acceptance, an access that is made, a translation that is kept.
-use Rattle.std.proofs.Common.{◌≡◌, ℕ, ◌+◌, ◌≤◌, ◌⊎◌, inl, inr, Bool, true, false, ◌==◌, List, [], ◌∷◌, ◌++◌, Contains, None, Some, refl, sym, ap, ◌∙◌, subst, arith}
+use Rattle.std.proofs.Common.{◌≡◌, ℕ, ◌+◌, ◌≤◌, ◌⊎◌, inl, inr, Bool, true, false, ◌==◌, List, [], ◌∷◌, Contains, None, Some, refl, sym, ap, ◌∙◌, subst, arith}
 use Rattle.std.proofs.lemmas.Bool.{false≢true, eqb-true}
-use Rattle.std.proofs.lemmas.List.Elements.{Contains-push_cases}
 use Rattle.iom_base.specs.declared.access.AccessKind.{AccessKind}
 use Rattle.iom_base.specs.declared.rights.Rights.{Rights}
 use Rattle.iom_base.specs.Rights.{allows}
 use Rattle.iom_ledger.specs.declared.entry.HistoryEntry.TheVariants.{Granted}
 use Rattle.iom_ledger.specs.History.{Pair, held_at, lingering_at, May, History}
-use Rattle.iom_copies.specs.Among.{AreAmong}
+use Rattle.iom_copies.specs.Among.{AreAmong, AreAmongWith}
 use Rattle.iom_copies.specs.Attachments.{IsAttached, in_both_stages}
 use Rattle.iom_copies.specs.Backing.{ComesFrom, IsBacked}
 use Rattle.iom_copies.specs.Copies.{AccessGoes, EntryGoes, IsFaithfulAccess, TranslationGoes}
@@ -138,13 +137,13 @@ order-accesses s accepted flights ordered counted = record {
 }
 
 -- An acceptance keeps all facts.
-pub faithful_accepted : (s : Scene) (copy : Copy) (kind : AccessKind) → IsFaithful s → IsSource s copy → allows copy.pair.1 kind ≡ true
-    → IsFaithful (record s { accepted = s.accepted + 1; in_flight = s.in_flight ++ next_access s copy kind ∷ [] })
-faithful_accepted s copy kind faithful source allowed = record {
-  order = order-accesses s (s.accepted + 1) (s.in_flight ++ next_access s copy kind ∷ []) faithful.order (λ flight there. number flight (Contains-push_cases s.in_flight (next_access s copy kind) flight there));
+pub faithful_accepted : (s : Scene) (copy : Copy) (kind : AccessKind) (flights : List AccessInFlight) → IsFaithful s → IsSource s copy → allows copy.pair.1 kind ≡ true
+    → AreAmongWith flights (next_access s copy kind) s.in_flight → IsFaithful (record s { accepted = s.accepted + 1; in_flight = flights })
+faithful_accepted s copy kind flights faithful source allowed among = record {
+  order = order-accesses s (s.accepted + 1) flights faithful.order (λ flight there. number flight (among flight there));
   numbers = faithful.numbers;
   translations = faithful.translations;
-  accesses = λ flight there. flies flight (Contains-push_cases s.in_flight (next_access s copy kind) flight there);
+  accesses = λ flight there. flies flight (among flight there);
   contexts = faithful.contexts;
   entries = faithful.entries;
   answers = faithful.answers;
@@ -157,13 +156,13 @@ faithful_accepted s copy kind faithful source allowed = record {
     from : IsBacked (in_both_stages (s.attachment_of copy.device)) s.history (AccessGoes s (s.accepted + 1)) copy → IsFaithfulAccess s (next_access s copy kind)
     from (a, r, comes, reach) = (a, r, reach, allows_it (in_both_stages (s.attachment_of copy.device)) a r comes)
 
-    number : (flight : AccessInFlight) → Contains s.in_flight flight ⊎ (next_access s copy kind ≡ flight) → flight.number ≤ s.accepted + 1
-    number flight (inl there) = let within = faithful.order.counted flight there in omega (arith, within)
-    number flight (inr same) = let its : s.accepted + 1 ≡ flight.number = ap (λ (f : AccessInFlight). f.number) same in omega (arith, its)
+    number : (flight : AccessInFlight) → (flight ≡ next_access s copy kind) ⊎ Contains s.in_flight flight → flight.number ≤ s.accepted + 1
+    number flight (inl same) = let its : flight.number ≡ s.accepted + 1 = ap (λ (f : AccessInFlight). f.number) same in omega (arith, its)
+    number flight (inr there) = let within = faithful.order.counted flight there in omega (arith, within)
 
-    flies : (flight : AccessInFlight) → Contains s.in_flight flight ⊎ (next_access s copy kind ≡ flight) → IsFaithfulAccess s flight
-    flies flight (inl there) = faithful.accesses flight there
-    flies flight (inr same) = subst (IsFaithfulAccess s) same (from (source-reach s copy (s.accepted + 1) faithful source))
+    flies : (flight : AccessInFlight) → (flight ≡ next_access s copy kind) ⊎ Contains s.in_flight flight → IsFaithfulAccess s flight
+    flies flight (inr there) = faithful.accesses flight there
+    flies flight (inl same) = subst (IsFaithfulAccess s) (sym same) (from (source-reach s copy (s.accepted + 1) faithful source))
 
 -- An access that is made leaves all facts.
 pub faithful_made : (s : Scene) (left : List AccessInFlight) → IsFaithful s → AreAmong left s.in_flight → IsFaithful (record s { in_flight = left })

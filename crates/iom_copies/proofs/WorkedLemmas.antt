@@ -9,7 +9,6 @@ use Rattle.iom_copies.specs.Fetches.{next_invalidation}
 use Rattle.iom_copies.specs.Laws.{scene_at_power_on}
 use Rattle.iom_copies.specs.Occurrences.{Accept, CarryMessages, CompleteFence, Confirm, DeliverAnswer, DeliverCompletion, DeliverRequest, FetchAtsInval, FetchIotinval, Grant, KeepContext, KeepTranslation, Make, OccurInTurn, Occurs, TakeStock}
 use Rattle.iom_copies.specs.Queue.{Fence, Invalidate, OnePage}
-use Rattle.iom_copies.specs.Requests.{next_access}
 use Rattle.iom_copies.specs.Scene.{Answer, InvalidateCompletion, InvalidateRequest, Question, Scene}
 use Rattle.iom_copies.specs.Worked.{StaleWritesOccur, both_rights, first_invalidation, first_write, its_end, remembered, stale_write}
 use Rattle.iom_machine.specs.declared.state.Attachment.TheVariants.{Attached}
@@ -51,7 +50,7 @@ abbrev released_page : Scene
 released_page = record (with_ticket quiet (release_commands 2 (released_extent First 3) true)) { history = Released 2 3 (quiet.given + 1) ∷ quiet.history }
 
 abbrev stale : Scene
-stale = record released_page { accepted = released_page.accepted + 1; in_flight = released_page.in_flight ++ next_access released_page remembered Write ∷ [] }
+stale = record released_page { accepted = released_page.accepted + 1; in_flight = first_write ∷ [] }
 
 abbrev dropped : Scene
 dropped = record stale { waiting = Invalidate 2 (OnePage 3) ∷ Fence 1 ∷ []; translations = [] }
@@ -122,7 +121,8 @@ entry_is_kept : Occurs (DeliverAnswer remembered) answered with_entry
 entry_is_kept = (0, remembered ∷ [], contains_head (Answer 0 remembered) [], refl, (λ copy there. inl (only remembered copy there)), refl)
 
 write_is_accepted : Occurs (Accept remembered Write) released_page stale
-write_is_accepted = (inr (inr (contains_head remembered [], λ q. contains_head 2 [])), refl, refl)
+write_is_accepted =
+    (first_write ∷ [], inr (inr (contains_head remembered [], λ q. contains_head 2 [])), refl, (λ access there. inl (only first_write access there)), refl)
 
 stale_write_occurs : OccurInTurn scene_at_power_on stale_write stale
 stale_write_occurs = (

@@ -10,7 +10,7 @@ use Rattle.iom_machine.specs.declared.state.DeviceKind.TheVariants.{Ats}
 use Rattle.iom_machine.specs.declared.state.Mode.TheVariants.{First, Second, Both}
 use Rattle.iom_copies.specs.Queue.{OnePage, WholeSpace}
 use Rattle.iom_copies.specs.Scene.{Copy, AccessInFlight, Invalidation, Scene}
-use Rattle.iom_copies.specs.Occurrences.{Occurrence, Plug, Attach, Grant, Release, Confirm, KeepContext, KeepTranslation, Accept, Make, FetchIotinval, FetchAtsInval, TakeStock, CompleteFence, CarryMessages, DeliverAnswer, DeliverRequest, DeliverCompletion, OccurInTurn, Detach, FetchIodir, Quarantine, TimeOut, Restart, Revive}
+use Rattle.iom_copies.specs.Occurrences.{Occurrence, Plug, Attach, Grant, Release, Confirm, KeepContext, KeepTranslation, Accept, Make, FetchIotinval, FetchAtsInval, TakeStock, CompleteFence, CarryMessages, DeliverAnswer, DeliverRequest, DeliverCompletion, OccurInTurn, Detach, FetchIodir, Quarantine, TimeOut, Restart, Revive, Reset}
 use Rattle.iom_copies.specs.Laws.{scene_at_power_on}
 
 -- A device with a cache of its own writes to a page that was released, and the ticket is confirmed once that write is made and all caches have forgotten the
@@ -58,10 +58,10 @@ StaleWritesOccur = (between after : Scene)
 
 -- A device is detached and attached again, an invalidation is lost, and the device is quarantined while the fence waits for it; a timeout, a restart, and a revival.
 
--- The device is attached and detached, and the detach is confirmed.
+-- The device is attached, detached and reset, and the detach is confirmed.
 abbrev pub attach_and_detach : List Occurrence
 attach_and_detach =
-    Plug 2 Ats ∷ Attach 2 Second false ∷ Detach 2 ∷ FetchIodir 2 ∷ FetchIotinval 2 WholeSpace ∷ TakeStock 1 ∷ CompleteFence 1 ∷ Confirm 1 ∷ []
+    Plug 2 Ats ∷ Attach 2 Second false ∷ Detach 2 ∷ Reset 2 ∷ FetchIodir 2 ∷ FetchIotinval 2 WholeSpace ∷ TakeStock 1 ∷ CompleteFence 1 ∷ Confirm 1 ∷ []
 
 -- It is attached in both stages with ATS, and granted a guest page, which is released; the invalidation is sent, or lost. The device is cut off.
 abbrev pub cut_off : List Occurrence
