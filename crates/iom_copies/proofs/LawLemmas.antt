@@ -1,14 +1,15 @@
 -- What follows from the facts.
-use Rattle.std.proofs.Common.{◌≡◌, ℕ, ◌⊎◌, inl, inr, Bool, true, false, List, [], ◌∷◌, refl, subst, arith}
+use Rattle.std.proofs.Common.{◌≡◌, ℕ, ◌⊎◌, inl, inr, Bool, true, false, List, [], ◌∷◌, refl, subst, arith, sym, ◌∙◌}
+use Rattle.std.proofs.lemmas.Bool.{false≢true}
 use Rattle.iom_ledger.specs.History.{History, Holds, Lingers, confirms}
 use Rattle.iom_copies.proofs.LedgerLemmas.{backed-never, current, never}
-use Rattle.iom_copies.proofs.ToComeLemmas.{ticket_within}
+use Rattle.iom_copies.proofs.ToComeLemmas.{fence_above, ticket_within}
 use Rattle.iom_copies.specs.Attachments.{IsKnown, in_both_stages}
 use Rattle.iom_copies.specs.Backing.{IsBacked}
 use Rattle.iom_copies.specs.Copies.{AccessGoes, ContextFits, EntryGoes, IsFaithfulAccess, NamesGrant, TranslationGoes}
 use Rattle.iom_copies.specs.Faithful.{GrantsFit, IsFaithful}
 use Rattle.iom_copies.specs.Holdings.{AreApart, HoldsNothing, HoldsOrLingers, LingersOnNothing}
-use Rattle.iom_copies.specs.Laws.{AccessesAreKnown, ContextsAreNotOver, IsNotOver, IsOfKnown, IsReachable, NamesHeld, NamesReachable, OfAnswers, OfEntries, OfTranslations}
+use Rattle.iom_copies.specs.Laws.{AccessesAreKnown, ContextsAreNotOver, DoneFencesAreGone, IsNotOver, IsOfKnown, IsReachable, NamesHeld, NamesReachable, OfAnswers, OfEntries, OfTranslations, OpenSlotsHoldFences, StoppedQueuesHoldFences}
 use Rattle.iom_copies.specs.Scene.{Copy, Scene}
 use Rattle.iom_copies.specs.ToCome.{AreToCome, QueuedStep, drops_context}
 use Rattle.iom_machine.specs.declared.state.Attachment.{Attachment}
@@ -102,3 +103,16 @@ accesses_are_known scene access faithful there = by (faithful.accesses access th
     by : IsFaithfulAccess scene access → IsKnown (scene.attachment_of access.device)
     by (page, rights, reach, allowed) = known scene access.device faithful
         (λ holds lingers. never scene.history (AccessGoes scene access.number) access.device page (access.frame, rights) (holds page) (λ t c. lingers page t (access.frame, rights) c) reach)
+
+-- What a fence waits for.
+
+pub open_slots_hold_fences : OpenSlotsHoldFences
+open_slots_hold_fences scene new slot fence faithful there (later, accepted, head, taken, made, is) = (faithful.order.stocked fence accepted taken).closed slot there
+
+pub stopped_queues_hold_fences : StoppedQueuesHoldFences
+stopped_queues_hold_fences scene new fence faithful stopped (later, accepted, head, taken, made, is) = false≢true (sym (faithful.order.stocked fence accepted taken).goes_on ∙ stopped)
+
+pub done_fences_are_gone : DoneFencesAreGone
+done_fences_are_gone scene fence faithful done order =
+    let above = fence_above fence scene.completed scene.waiting scene.last_fence faithful.order.fences order in
+    omega (arith, above, done)

@@ -1,15 +1,16 @@
 -- What the facts on copies give the layers above.
-use Rattle.std.specs.Prelude.{◌≡◌, ℕ, ◌⊎◌, Bool, true, false, List, [], Contains, None, ⊤}
+use Rattle.std.specs.Prelude.{◌≡◌, ℕ, ◌⊎◌, Bool, true, false, List, [], Contains, None, ⊤, ◌≤◌, ◌∷◌}
 use Rattle.iom_base.specs.declared.access.AccessKind.{AccessKind}
 use Rattle.iom_base.specs.Rights.{allows}
 use Rattle.iom_ledger.specs.History.{History, Pair, Holds, Lingers, May, confirms}
 use Rattle.iom_machine.specs.declared.state.Attachment.{Attachment}
 use Rattle.iom_machine.specs.declared.state.Attachment.TheVariants.{Detached, Attached, Quarantined, Leaving}
-use Rattle.iom_copies.specs.Scene.{Copy, AccessInFlight, Answer, Scene}
+use Rattle.iom_copies.specs.Scene.{Copy, AccessInFlight, Invalidation, Answer, Scene}
+use Rattle.iom_copies.specs.ToCome.{InOrder, is_fence}
 use Rattle.iom_copies.specs.Attachments.{in_both_stages, IsKnown}
 use Rattle.iom_copies.specs.Copies.{IsInUse}
 use Rattle.iom_copies.specs.Faithful.{IsFaithful}
-use Rattle.iom_copies.specs.Occurrences.{Occurrence, Occurs, OccurInTurn}
+use Rattle.iom_copies.specs.Occurrences.{Occurrence, CompleteFence, Occurs, OccurInTurn}
 
 -- The facts, and what they are for.
 
@@ -108,3 +109,17 @@ IsOfKnown scene copy = IsKnown (scene.attachment_of copy.device)
 -- Each access in flight is of a device that is attached, quarantined or leaving.
 abbrev pub AccessesAreKnown : Type 0
 AccessesAreKnown = (scene : Scene) (access : AccessInFlight) → IsFaithful scene → Contains scene.in_flight access → IsKnown (scene.attachment_of access.device)
+
+-- What a fence waits for.
+
+-- While a slot is open no fence is done.
+abbrev pub OpenSlotsHoldFences : Type 0
+OpenSlotsHoldFences = (scene new : Scene) (slot : Invalidation) (fence : ℕ) → IsFaithful scene → Contains scene.slots slot → ¬ Occurs (CompleteFence fence) scene new
+
+-- From a timeout to the next restart no fence is done.
+abbrev pub StoppedQueuesHoldFences : Type 0
+StoppedQueuesHoldFences = (scene new : Scene) (fence : ℕ) → IsFaithful scene → scene.is_stopped ≡ true → ¬ Occurs (CompleteFence fence) scene new
+
+-- No fence stands in the queue whose number the completion word has reached: what a poll confirms waits for no command any more.
+abbrev pub DoneFencesAreGone : Type 0
+DoneFencesAreGone = (scene : Scene) (fence : ℕ) → IsFaithful scene → fence ≤ scene.completed → ¬ InOrder (is_fence fence ∷ []) scene.waiting

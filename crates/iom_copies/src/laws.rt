@@ -3,6 +3,7 @@ ghost use Rattle.iom_copies.specs.Faithful.{IsFaithful};
 ghost use Rattle.iom_copies.specs.Laws.{scene_at_power_on, OccurrencesKeepFacts, TurnsKeepFacts, FaithfulAccessesMay, AccessesAlwaysMay};
 ghost use Rattle.iom_copies.specs.Laws.{OfTranslations, OfEntries, OfAnswers, NamesReachable, NamesHeld};
 ghost use Rattle.iom_copies.specs.Laws.{ContextsAreNotOver, IsOfKnown, AccessesAreKnown};
+ghost use Rattle.iom_copies.specs.Laws.{OpenSlotsHoldFences, StoppedQueuesHoldFences, DoneFencesAreGone};
 ghost use Rattle.iom_copies.specs.Worked.{StaleWritesOccur, RevivalsOccur};
 
 /// The facts hold at power-on, and whatever hardware or driver does keeps them, one thing or several in turn:
@@ -43,6 +44,14 @@ pub fn forgotten_law()
     ensures entries { OfEntries IsOfKnown }
     ensures answers { OfAnswers IsOfKnown }
     ensures accesses { AccessesAreKnown }
+{}
+
+/// A fence is done only while no slot is open, and from a timeout to the next restart none is. No fence stands
+/// in the queue whose number the completion word has reached: so a poll confirms no ticket too early.
+pub fn fence_law()
+    ensures slots { OpenSlotsHoldFences }
+    ensures stopped { StoppedQueuesHoldFences }
+    ensures gone { DoneFencesAreGone }
 {}
 
 /// The facts aren't those of a world in which nothing occurs. From power-on a device with a cache of its own

@@ -15,4 +15,4 @@
 
 mod laws;
 
-pub use laws::{current_law, forgotten_law, reachable_law, reclaim_law, worked_law};
+pub use laws::{current_law, fence_law, forgotten_law, reachable_law, reclaim_law, worked_law};
