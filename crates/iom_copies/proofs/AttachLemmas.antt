@@ -1,7 +1,7 @@
 -- Power-on, attach and revive.
-use Rattle.std.proofs.Common.{◌≡◌, ℕ, inl, inr, Bool, true, false, ◌==◌, List, Contains, Option, None, Some, refl, sym, ap, ◌∙◌, subst, arith}
+use Rattle.std.proofs.Common.{◌≤◌, ◌≡◌, ℕ, inl, inr, Bool, true, false, ◌==◌, List, Contains, Option, None, Some, refl, sym, ap, ◌∙◌, subst, arith}
 use Rattle.std.proofs.lemmas.Bool.{false≢true, eqb-true}
-use Rattle.iom_ledger.specs.History.{Pair, held_at, confirms}
+use Rattle.iom_ledger.specs.History.{Pair, held_at}
 use Rattle.iom_copies.specs.Attachments.{IsQuarantined, has_ats, in_both_stages, caches_translations}
 use Rattle.iom_copies.specs.Copies.{ContextFits, EntryGoes, IsFaithfulEntry, IsFaithfulTranslation, TranslationGoes}
 use Rattle.iom_copies.specs.Deliveries.{raised}
@@ -109,7 +109,7 @@ faithful_attached s device mode ats faithful at caches = faithful_attached_bare 
         false≢true (sym (ap has_ats is) ∙ old.0)
 
 -- A revive keeps all facts: it resets the device, so that nothing is left that was cut off.
-pub faithful_revived : (s : Scene) (device ticket : ℕ) (mode : Mode) (ats : Bool) (left : List Copy) → IsFaithful s → s.attachment_of device ≡ Quarantined ticket mode ats → confirms s.history ticket ≡ true
+pub faithful_revived : (s : Scene) (device ticket : ℕ) (mode : Mode) (ats : Bool) (left : List Copy) → IsFaithful s → s.attachment_of device ≡ Quarantined ticket mode ats → ticket ≤ s.confirmed
     → ((copy : Copy) → Contains left copy → Contains s.entries copy × ((device == copy.device) ≡ false))
     → IsFaithful (record s { entries = left; epoch_of = raised s.kind_of s.epoch_of device; attachment_of = with_attachment s.attachment_of device (Attached mode ats) })
 faithful_revived s device ticket mode ats left faithful at confirmed kept =
@@ -134,6 +134,5 @@ faithful_revived s device ticket mode ats left faithful at confirmed kept =
         let both : ◌≡◌ {A = Option Pair} None (Some (copy.pair.0, r)) = sym nothing ∙ holds in cc
     none copy its (from, r, comes, inr (t, lingers, ((fence, there, order), goes))) =
         let up_to = fits.1 from t (copy.pair.0, r) (subst (λ x. Lingering s.history x from t (copy.pair.0, r)) (sym its) lingers) in
-        let low = faithful.order.confirmed ticket confirmed in
         let above = (ticket_within s.confirmed s.pending s.given t fence faithful.order.tickets there).0 in
-        absurd (omega (arith, up_to, low, above))
+        absurd (omega (arith, up_to, confirmed, above))

@@ -9,7 +9,7 @@ use Rattle.iom_copies.specs.Backing.{IsBacked}
 use Rattle.iom_copies.specs.Copies.{AccessGoes, ContextFits, EntryGoes, IsFaithfulAccess, NamesGrant, TranslationGoes}
 use Rattle.iom_copies.specs.Faithful.{GrantsFit, IsFaithful}
 use Rattle.iom_copies.specs.Holdings.{AreApart, HoldsNothing, HoldsOrLingers, LingersOnNothing}
-use Rattle.iom_copies.specs.Laws.{AccessesAreKnown, ContextsAreNotOver, DoneFencesAreGone, IsNotOver, IsOfKnown, IsReachable, NamesHeld, NamesReachable, OfAnswers, OfEntries, OfTranslations, OpenSlotsHoldFences, StoppedQueuesHoldFences}
+use Rattle.iom_copies.specs.Laws.{AccessesAreKnown, ContextsAreNotOver, DoneFencesAreGone, IsNotOver, IsOfKnown, IsReachable, NamesHeld, NamesReachable, OfAnswers, OfEntries, OfTranslations, OpenSlotsHoldFences, StoppedQueuesHoldFences, IsUnconfirmed}
 use Rattle.iom_copies.specs.Scene.{Copy, Scene}
 use Rattle.iom_copies.specs.ToCome.{AreToCome, QueuedStep, drops_context}
 use Rattle.iom_machine.specs.declared.state.Attachment.{Attachment}
@@ -62,8 +62,8 @@ answers_held scene epoch copy faithful there now in_use = held scene (EntryGoes 
 pub contexts_are_not_over : ContextsAreNotOver
 contexts_are_not_over scene device faithful there = by (scene.attachment_of device) (faithful.contexts device there)
   where
-    pending : (ticket : ℕ) (steps : List QueuedStep) → AreToCome scene ticket steps → (b : Bool) → confirms scene.history ticket ≡ b → confirms scene.history ticket ≡ false
-    pending ticket steps come false e = e
+    pending : (ticket : ℕ) (steps : List QueuedStep) → AreToCome scene ticket steps → (b : Bool) → confirms scene.history ticket ≡ b → IsUnconfirmed scene ticket
+    pending ticket steps (fence, waits, order) false e = (e, (ticket_within scene.confirmed scene.pending scene.given ticket fence faithful.order.tickets waits).0)
     pending ticket steps (fence, waits, order) true e =
         let low = faithful.order.confirmed ticket e in
         let above = (ticket_within scene.confirmed scene.pending scene.given ticket fence faithful.order.tickets waits).0 in absurd (omega (arith, low, above))

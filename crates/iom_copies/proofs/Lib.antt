@@ -14,3 +14,4 @@ pub mod OccurrenceLemmas
 pub mod LawLemmas
 pub mod WorkedLemmas
 pub mod RevivalLemmas
+pub mod HistoryLemmas

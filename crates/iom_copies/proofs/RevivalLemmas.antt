@@ -223,7 +223,7 @@ revival_occurs = (
               (
                 both_over,
                 (4, [], refl, omega arith, refl),
-                (revived, (3, Both, true, [], refl, refl, (λ copy there. absurd (in_none copy there)), refl), refl),
+                (revived, (3, Both, true, [], refl, omega arith, (λ copy there. absurd (in_none copy there)), refl), refl),
               ),
             ),
           ),

@@ -2,7 +2,7 @@
 use Rattle.std.specs.Prelude.{◌≡◌, ℕ, ◌+◌, ◌≤◌, Bool, true, false, ◌==◌, List, [], ◌∷◌, ◌++◌, map, Contains, Option, None, Some, if◌then◌else◌}
 use Rattle.iom_base.specs.declared.rights.Rights.{Rights}
 use Rattle.iom_ledger.specs.declared.entry.HistoryEntry.TheVariants.{Granted, Released, AllReleased, Confirmed}
-use Rattle.iom_ledger.specs.History.{Pair, held_at, lingering_at, confirms}
+use Rattle.iom_ledger.specs.History.{Pair, held_at, lingering_at}
 use Rattle.iom_machine.specs.declared.state.Attachment.{Attachment}
 use Rattle.iom_machine.specs.declared.state.Attachment.TheVariants.{Detached, Attached, Quarantined, Leaving}
 use Rattle.iom_machine.specs.declared.state.DeviceKind.{DeviceKind}
@@ -84,10 +84,10 @@ DeviceIsQuarantined old device new = (mode : Mode) × (ats : Bool) × (old.attac
       attachment_of = with_attachment old.attachment_of device (Quarantined (old.given + 1) mode ats);
     })
 
--- a device whose quarantine is confirmed is reset, and attached as before
+-- a device whose quarantine's ticket is confirmed is reset, and attached as before
 abbrev pub DeviceIsRevived : Scene → ℕ → Scene → Type 0
 DeviceIsRevived old device new = (ticket : ℕ) × (mode : Mode) × (ats : Bool) × (left : List Copy)
-    × (old.attachment_of device ≡ Quarantined ticket mode ats) × (confirms old.history ticket ≡ true)
+    × (old.attachment_of device ≡ Quarantined ticket mode ats) × (ticket ≤ old.confirmed)
     × AreOthers left device old.entries
     × (new ≡ record old {
       entries = left;

@@ -1,5 +1,5 @@
 -- What the facts on copies give the layers above.
-use Rattle.std.specs.Prelude.{◌≡◌, ℕ, ◌⊎◌, Bool, true, false, List, [], Contains, None, ⊤, ◌≤◌, ◌∷◌}
+use Rattle.std.specs.Prelude.{◌≡◌, ℕ, ◌⊎◌, Bool, true, false, List, [], Contains, None, ⊤, ◌≤◌, ◌∷◌, ◌<◌}
 use Rattle.iom_base.specs.declared.access.AccessKind.{AccessKind}
 use Rattle.iom_base.specs.Rights.{allows}
 use Rattle.iom_ledger.specs.History.{History, Pair, Holds, Lingers, May, confirms}
@@ -11,6 +11,7 @@ use Rattle.iom_copies.specs.Attachments.{in_both_stages, IsKnown}
 use Rattle.iom_copies.specs.Copies.{IsInUse}
 use Rattle.iom_copies.specs.Faithful.{IsFaithful}
 use Rattle.iom_copies.specs.Occurrences.{Occurrence, CompleteFence, Occurs, OccurInTurn}
+use Rattle.iom_copies.specs.Holdings.{SayTheSame}
 
 -- The facts, and what they are for.
 
@@ -46,6 +47,12 @@ OccurrencesKeepFacts = (occurrence : Occurrence) (old new : Scene) → IsFaithfu
 -- So they do where several things occur one after another, as in most events.
 abbrev pub TurnsKeepFacts : Type 0
 TurnsKeepFacts = (occurrences : List Occurrence) (old new : Scene) → IsFaithful old → OccurInTurn old occurrences new → IsFaithful new
+
+-- A scene's facts are those of each history that says the same of what is held and what lingers, and confirms no later ticket: so they hold of each with
+-- which a ledger agrees, if they do of one.
+abbrev pub FactsAreOfAllHistories : Type 0
+FactsAreOfAllHistories = (scene : Scene) (other : History) → IsFaithful scene → SayTheSame scene.history other
+    → ((ticket : ℕ) → confirms other ticket ≡ true → ticket ≤ scene.confirmed) → IsFaithful (record scene { history = other })
 
 -- each access in flight may still reach its frame
 abbrev pub AccessesMay : Scene → Type 0
@@ -90,12 +97,16 @@ OfAnswers Fact = (scene : Scene) (epoch : ℕ) (copy : Copy) → IsFaithful scen
 
 -- What is forgotten.
 
+-- the ticket isn't confirmed, by the history and by the driver's last ticket
+abbrev pub IsUnconfirmed : Scene → ℕ → Type 0
+IsUnconfirmed scene ticket = (confirms scene.history ticket ≡ false) × (scene.confirmed < ticket)
+
 -- the ticket under which a device leaves or is quarantined isn't confirmed
 abbrev pub IsNotOver : Scene → Attachment → Type 0
 IsNotOver scene Detached = ⊥
 IsNotOver scene (Attached mode ats) = ⊤
-IsNotOver scene (Quarantined ticket mode ats) = confirms scene.history ticket ≡ false
-IsNotOver scene (Leaving ticket mode ats) = confirms scene.history ticket ≡ false
+IsNotOver scene (Quarantined ticket mode ats) = IsUnconfirmed scene ticket
+IsNotOver scene (Leaving ticket mode ats) = IsUnconfirmed scene ticket
 
 -- A cached context is of a device that is attached, or that is quarantined or leaving under a ticket that isn't confirmed: so a detach that is confirmed gives
 -- back tables that no cached context names.
