@@ -1,4 +1,4 @@
--- Power-on, attach and revive.
+-- Attach and revive.
 use Rattle.std.proofs.Common.{◌≤◌, ◌≡◌, ℕ, inl, inr, Bool, true, false, ◌==◌, List, Contains, Option, None, Some, refl, sym, ap, ◌∙◌, subst, arith}
 use Rattle.std.proofs.lemmas.Bool.{false≢true, eqb-true}
 use Rattle.iom_ledger.specs.History.{Pair, held_at}

@@ -1,4 +1,4 @@
--- Detach, quarantine, attach.
+-- Quarantine and detach.
 use Rattle.std.proofs.Common.{◌≡◌, ℕ, ◌+◌, ◌≤◌, ◌⊎◌, inl, inr, Bool, true, false, ◌==◌, [], ◌∷◌, ◌++◌, Option, None, Some, refl, sym, ap, ◌∙◌, subst, arith}
 use Rattle.std.proofs.lemmas.Bool.{false≢true, eqb-true}
 use Rattle.iom_ledger.specs.declared.entry.HistoryEntry.TheVariants.{AllReleased}

@@ -1,4 +1,4 @@
--- A grant, an acceptance, an access that is made, a translation that is kept.
+-- A grant, an acceptance, an access that is made.
 use Rattle.std.proofs.Common.{◌≡◌, ℕ, ◌+◌, ◌≤◌, ◌⊎◌, inl, inr, Bool, true, false, ◌==◌, List, [], ◌∷◌, Contains, None, Some, refl, sym, ap, ◌∙◌, subst, arith}
 use Rattle.std.proofs.lemmas.Bool.{false≢true, eqb-true}
 use Rattle.iom_base.specs.declared.access.AccessKind.{AccessKind}
