@@ -18,10 +18,13 @@ GrantsFit history device (Attached mode ats) = ⊤
 GrantsFit history device (Quarantined ticket mode ats) = HoldsNothing history device × LingersUpTo history device ticket
 GrantsFit history device (Leaving ticket mode ats) = HoldsNothing history device × LingersOnNothing history device
 
--- the fence is at the head, no slot is open, and commands are fetched
+-- the fence may have taken stock: it is at the head, no slot is open, and commands are fetched
 pub record IsStocked (waiting : List QueuedCommand) (slots : List Invalidation) (is_stopped : Bool) (fence : ℕ) : Type 0 where
+  -- the fence is what the next fetch finds
   pub head : (later : List QueuedCommand) × (waiting ≡ Fence fence ∷ later)
+  -- no slot is open
   pub closed : (slot : Invalidation) → ¬ Contains slots slot
+  -- no fence has timed out since the last restart
   pub goes_on : is_stopped ≡ false
 
 -- fences, tickets, grants and attachments
@@ -62,7 +65,9 @@ pub record HaveGivenNumbers (messages : List AtsMessage) (slots : List Invalidat
 
 -- No copy outlives what it copies: one fact for each kind of copy, and those of which they need to be kept.
 pub record IsFaithful (scene : Scene) : Type 0 where
+  -- fences, tickets, grants and attachments
   pub order : IsOrdered scene
+  -- epochs and serials
   pub numbers : HaveGivenNumbers scene.messages scene.slots scene.kind_of scene.epoch_of scene.last_serial
   -- cached contexts
   pub contexts : (device : ℕ) → Contains scene.contexts device → IsFaithfulContext scene device

@@ -28,6 +28,7 @@ pub record AccessInFlight : Type 0 where
 
 -- a ticket that isn't confirmed
 pub record PendingTicket : Type 0 where
+  -- its number
   pub ticket : ℕ
   -- the number of the fence that it waits for
   pub fence : ℕ
