@@ -1,0 +1,4 @@
+pub mod EntryLemmas
+pub mod KeyLemmas
+pub mod PlainLemmas
+pub mod LawLemmas

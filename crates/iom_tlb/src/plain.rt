@@ -1,0 +1,92 @@
+ghost use Rattle.std.specs.Prelude.{◌≡◌, [], option_map, IfOk, false};
+ghost use Rattle.std.specs.List.{find};
+ghost use Rattle.iom_tlb.specs.Covers.{covers};
+ghost use Rattle.iom_tlb.specs.Entries.{content_of};
+
+use crate::cover::Cover;
+use crate::space::Space;
+use crate::trans_cache::{TransCache, Translation};
+use lru::LruCache;
+use std::alloc::{AllocError, Global};
+use std::marker::Model;
+use std::num::NonZeroUsize;
+
+/// The most translations that a [`PlainCache`] has.
+pub const MAX_TRANSLATIONS: usize = 64;
+
+/// A cache of 64 translations: a new one takes out the least recently used. Seen as the list of its entries,
+/// the most recently used first.
+///
+/// A keep takes memory, and keeps nothing where it finds none.
+#[derive(Drop)]
+pub struct PlainCache {
+    entries: LruCache<(Space, u64), Translation>,
+}
+
+impl Model for PlainCache {
+    ghost use Rattle.std.specs.Prelude.{◌≡◌, List};
+    ghost use Rattle.iom_tlb.specs.Content.{Key};
+    ghost use Rattle.iom_tlb.specs.declared.trans_cache.Translation.{Translation};
+
+    ghost Value = { List (Key × Translation) };
+
+    ghost view = { λ cache. cache.entries.entries };
+
+    ghost invariant = { λ cache. cache.entries.cap ≡ 64 };
+}
+
+impl PlainCache {
+    /// A cache that has nothing. It is refused for want of memory alone.
+    pub fn new(alloc: Global) -> Result<PlainCache, AllocError>
+        ensures { IfOk result (λ cache. cache ≡ []) }
+    {
+        let entries = LruCache::new(alloc, NonZeroUsize::new(MAX_TRANSLATIONS).unwrap())?;
+        Ok(PlainCache { entries })
+    }
+}
+
+// The first entry that is covered, from the most recently used on.
+fn first_covered(
+    entries: &LruCache<(Space, u64), Translation>,
+    cover: &Cover,
+) -> Option<(Space, u64)>
+    ensures { result ≡ option_map (λ entry. entry.0) (find (λ entry. covers cover.now entry.0) entries.now.entries) }
+{
+    for (key, _) in entries.iter() {
+        if cover.covers(key.0, key.1) {
+            return Some(*key);
+        }
+    }
+    None
+}
+
+impl TransCache for PlainCache {
+    const SURE: bool = false;
+
+    ghost SURE = { false };
+
+    ghost content = { content_of };
+
+    fn look(&mut self, space: Space, page: u64) -> Option<Translation> {
+        let _ = self.entries.len();
+        let found = self.entries.peek(&(space, page)).copied();
+        self.entries.promote(&(space, page));
+        found
+    }
+
+    fn keep(&mut self, space: Space, page: u64, translation: Translation) {
+        let _ = self.entries.len();
+        let _ = self.entries.put((space, page), translation);
+    }
+
+    fn drop_where(&mut self, cover: &Cover) {
+        while let Some(key) = first_covered(&self.entries, cover) {
+            let _ = self.entries.len();
+            self.entries.pop(&key);
+        }
+    }
+
+    fn drop_all(&mut self) {
+        self.entries.clear();
+    }
+}
