@@ -1,6 +1,6 @@
 -- What is found at each key in the entries of a least-recently-used cache, after each of its calls; for any keys whose test tells whether they
 -- are one.
-use Rattle.std.proofs.Common.{◌≡◌, ◌≢◌, ◌+◌, ◌-◌, ◌<◌, ◌≤◌, ◌++◌, ◌∙◌, ◌⊎◌, inl, inr, ℕ, Bool, true, false, cond, drop, append-nil, length-drop, List, [], ◌∷◌, length, take, Option, Some, None, refl, sym, ap, subst, arith, option_map}
+use Rattle.std.proofs.Common.{◌≡◌, ◌≢◌, ◌-◌, ◌<◌, ◌≤◌, ◌++◌, ◌∙◌, ◌⊎◌, inl, inr, Bool, true, false, cond, drop, append-nil, length-drop, List, [], ◌∷◌, length, take, Option, Some, None, refl, sym, ap, subst, arith, option_map}
 use Rattle.std.specs.List.{IsDistinct, AllByRecursion, find}
 use Rattle.std.specs.Option.{option_map_or}
 use Rattle.std.specs.Map.{keys_of, lookup, lookup_entry, remove_entry}

@@ -1,10 +1,10 @@
 -- What a cache answers was kept, call by call; and what the widest commands cover.
-use Rattle.std.proofs.Common.{◌≡◌, ◌≢◌, ◌⊎◌, ◌∙◌, inl, inr, Bool, true, false, ◌||◌, List, [], ◌∷◌, Option, Some, None, cond, refl, sym, ap}
+use Rattle.std.proofs.Common.{◌≡◌, ◌≢◌, ◌⊎◌, ◌∙◌, inl, inr, Bool, true, false, ◌||◌, List, [], ◌∷◌, Some, None, cond, refl, sym, ap}
 use Rattle.iom_command_queue.specs.declared.command.Command.TheVariants.{IotinvalVma, IotinvalGvma}
 use Rattle.iom_tlb.specs.declared.space.Space.TheVariants.{First, Second, Both}
 use Rattle.iom_tlb.specs.declared.cover.Cover.{Cover}
 use Rattle.iom_tlb.specs.declared.trans_cache.Translation.{Translation}
-use Rattle.iom_tlb.specs.Content.{Key, Content, IsEmpty, Stays, Keeps, Sets, Drops}
+use Rattle.iom_tlb.specs.Content.{Key, Content, IsEmpty, Keeps, Sets}
 use Rattle.iom_tlb.specs.Covers.{covers, are_covering}
 use Rattle.iom_tlb.specs.Invalidations.{covers_of}
 use Rattle.iom_tlb.specs.Laws.{CacheCall, look, keep, drop_where, drop_all, RunsCache, WasKept}

@@ -1,5 +1,5 @@
 -- The content of a plain cache after a call of the least-recently-used cache below it.
-use Rattle.std.proofs.Common.{◌≡◌, ℕ, ◌<◌, ◌≤◌, Bool, false, List, Option, Some, None, Result, Ok, Err, OnOk, OnErr, inl, inr, refl, length, option_map}
+use Rattle.std.proofs.Common.{◌≡◌, ◌<◌, false, List, Option, Some, None, Result, Ok, Err, OnOk, OnErr, inl, inr, refl, length, option_map}
 use Rattle.std.specs.List.{IsDistinct, find}
 use Rattle.std.specs.Map.{keys_of, remove_entry}
 use Rattle.lru.specs.LruCache.{LruCache, lru_cache, put_entries, promoted, IsValid}
@@ -41,3 +41,8 @@ stays cover es at key d found out = entries.drop_keeps is_key key_laws one_key (
 pub dropped : (cover : Cover) (old new : List (Key × Translation)) → None ≡ option_map (λ e. e.0) (find (λ e. covers cover e.0) new)
     → ((key : Key) → covers cover key ≡ false → content_of new key ≡ content_of old key) → Drops (covers cover) (content_of old) (content_of new)
 dropped cover old new none same = entries.drop_done is_key key_laws one_key (covers cover) old new none same
+
+-- without the entry of the only key that is covered, what was covered is gone, and nothing else
+pub dropped_key : (cover : Cover) (at : Key) (es : List (Key × Translation)) → IsDistinct is_key (keys_of es)
+    → ((key : Key) → covers cover key ≡ is_key at key) → Drops (covers cover) (content_of es) (content_of (remove_entry (is_key at) es))
+dropped_key cover at es d only = λ key. rw (only key) (entries.removed is_key key_laws one_key at key es d)

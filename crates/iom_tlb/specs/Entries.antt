@@ -1,5 +1,5 @@
 -- A cache as the list of its entries, the most recently used first.
-use Rattle.std.specs.Prelude.{ℕ, Bool, List, ◌==◌, ◌&&◌}
+use Rattle.std.specs.Prelude.{Bool, List, ◌==◌, ◌&&◌}
 use Rattle.std.specs.Map.{lookup}
 use Rattle.iom_tlb.specs.contracts.space.SpacePartialEq.TheImpl as space
 use Rattle.iom_tlb.specs.declared.trans_cache.Translation.{Translation}

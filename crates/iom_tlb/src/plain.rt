@@ -1,7 +1,8 @@
-ghost use Rattle.std.specs.Prelude.{◌≡◌, [], option_map, IfOk, false};
+ghost use Rattle.std.specs.Prelude.{◌≡◌, [], option_map, IfSome, IfOk, false};
 ghost use Rattle.std.specs.List.{find};
 ghost use Rattle.iom_tlb.specs.Covers.{covers};
-ghost use Rattle.iom_tlb.specs.Entries.{content_of};
+ghost use Rattle.iom_tlb.specs.Content.{Key, Drops};
+ghost use Rattle.iom_tlb.specs.Entries.{is_key, content_of};
 
 use crate::cover::Cover;
 use crate::space::Space;
@@ -45,6 +46,28 @@ impl PlainCache {
     }
 }
 
+// The one key that is covered, where the cover leaves nothing of it open.
+fn only_key(cover: &Cover) -> Option<(Space, u64)>
+    ensures { IfSome result (λ key. (other : Key) → covers cover.now other ≡ is_key key other) }
+{
+    match *cover {
+        Cover::First {
+            pscid: Some(pscid),
+            page: Some(page),
+        } => Some((Space::First { pscid }, page)),
+        Cover::Second {
+            gscid: Some(gscid),
+            page: Some(page),
+        } => Some((Space::Second { gscid }, page)),
+        Cover::Both {
+            gscid: Some(gscid),
+            pscid: Some(pscid),
+            page: Some(page),
+        } => Some((Space::Both { gscid, pscid }, page)),
+        Cover::First { .. } | Cover::Second { .. } | Cover::Both { .. } => None,
+    }
+}
+
 // The first entry that is covered, from the most recently used on.
 fn first_covered(
     entries: &LruCache<(Space, u64), Translation>,
@@ -58,6 +81,17 @@ fn first_covered(
         }
     }
     None
+}
+
+// Takes out the entries that are covered, one after the other.
+fn drop_covered(entries: &mut LruCache<(Space, u64), Translation>, cover: &Cover)
+    ensures dropped { Drops (covers cover.now) (content_of entries.old.entries) (content_of entries.new.entries) }
+    ensures capacity { entries.new.cap ≡ entries.old.cap }
+{
+    while let Some(key) = first_covered(entries, cover) {
+        let _ = entries.len();
+        entries.pop(&key);
+    }
 }
 
 impl TransCache for PlainCache {
@@ -80,9 +114,12 @@ impl TransCache for PlainCache {
     }
 
     fn drop_where(&mut self, cover: &Cover) {
-        while let Some(key) = first_covered(&self.entries, cover) {
-            let _ = self.entries.len();
-            self.entries.pop(&key);
+        match only_key(cover) {
+            Some(key) => {
+                let _ = self.entries.len();
+                self.entries.pop(&key);
+            }
+            None => drop_covered(&mut self.entries, cover),
         }
     }
 

@@ -1,15 +1,6 @@
-use Rattle.std.proofs.Common.{◌∙◌}
-use Rattle.iom_tlb.proofs.PlainLemmas.{fewer, stays, dropped}
+use Rattle.iom_tlb.proofs.PlainLemmas.{dropped_key}
 use Rattle.iom_tlb.proofs.plain.PlainCacheTransCache.drop_where.Goals as goal
 
-pub loop-key-smaller : goal.loop-key-smaller
-loop-key-smaller c = rw c.pop.ensures.entries (fewer c.args.cover.now c.loop-key.self-inside.entries.entries c.in-Some.key c.in-Some.ensures)
-
-pub loop-key-preserved : goal.loop-key-preserved
-loop-key-preserved c = (
-  λ key out. rw c.pop.ensures.entries (stays c.args.cover.now c.loop-key.self-inside.entries.entries c.in-Some.key key c.len.ensures.valid.0 c.in-Some.ensures out ∙ c.loop-key.invariant.0 key out),
-  rw c.pop.ensures.entries c.loop-key.invariant.1,
-)
-
-pub returns : goal.returns
-returns c = record { dropped = dropped c.args.cover.now c.args.self.now c.loop-key.self-inside.entries.entries (rw c.in_default.is at c.first_covered.ensures) c.loop-key.invariant.0 }
+pub returns-in-Some : goal.returns-in-Some
+returns-in-Some c =
+    record { dropped = rw (← c.self.view_is, c.pop.ensures.entries) (dropped_key c.args.cover.now c.in-Some.key c.self.inside.entries.entries c.len.ensures.valid.0 c.in-Some.ensures) }
