@@ -34,7 +34,7 @@ impl TransCache for OneTranslation {
     ghost content = { content_of_one };
 
     fn look(&mut self, space: Space, page: u64) -> Option<Translation> {
-        match self.only {
+        match &self.only {
             Some(kept) if space == kept.space && page == kept.page => Some(kept.translation),
             _ => None,
         }
