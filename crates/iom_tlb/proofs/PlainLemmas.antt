@@ -11,7 +11,7 @@ use Rattle.iom_tlb.specs.Entries.{is_key, content_of}
 use Rattle.iom_tlb.proofs.EntryLemmas as entries
 use Rattle.iom_tlb.proofs.KeyLemmas.{key_laws, one_key}
 
--- a look makes its entry the most recently used, and the content stays
+-- an entry becomes the most recently used, and the content stays
 pub looked : (at : Key) (es : List (Key × Translation)) → IsDistinct is_key (keys_of es) → Stays (content_of es) (content_of (promoted (is_key at) es))
 looked at es d = λ key. entries.lookup-promoted is_key key_laws one_key at key es d
 
@@ -42,7 +42,6 @@ pub dropped : (cover : Cover) (old new : List (Key × Translation)) → None ≡
     → ((key : Key) → covers cover key ≡ false → content_of new key ≡ content_of old key) → Drops (covers cover) (content_of old) (content_of new)
 dropped cover old new none same = entries.drop_done is_key key_laws one_key (covers cover) old new none same
 
--- without the entry of the only key that is covered, what was covered is gone, and nothing else
-pub dropped_key : (cover : Cover) (at : Key) (es : List (Key × Translation)) → IsDistinct is_key (keys_of es)
-    → ((key : Key) → covers cover key ≡ is_key at key) → Drops (covers cover) (content_of es) (content_of (remove_entry (is_key at) es))
-dropped_key cover at es d only = λ key. rw (only key) (entries.removed is_key key_laws one_key at key es d)
+-- without the entry of a key
+pub dropped_key : (at : Key) (es : List (Key × Translation)) → IsDistinct is_key (keys_of es) → Drops (is_key at) (content_of es) (content_of (remove_entry (is_key at) es))
+dropped_key at es d = λ key. entries.removed is_key key_laws one_key at key es d

@@ -13,6 +13,7 @@
 #![tactic(auto)]
 
 mod cover;
+mod entries;
 mod invalidation;
 pub mod laws;
 mod plain;

@@ -5,6 +5,7 @@ ghost use Rattle.iom_tlb.specs.Content.{Key, Drops};
 ghost use Rattle.iom_tlb.specs.Entries.{is_key, content_of};
 
 use crate::cover::Cover;
+use crate::entries;
 use crate::space::Space;
 use crate::trans_cache::{TransCache, Translation};
 use lru::LruCache;
@@ -68,32 +69,6 @@ fn only_key(cover: &Cover) -> Option<(Space, u64)>
     }
 }
 
-// The first entry that is covered, from the most recently used on.
-fn first_covered(
-    entries: &LruCache<(Space, u64), Translation>,
-    cover: &Cover,
-) -> Option<(Space, u64)>
-    ensures { result ≡ option_map (λ entry. entry.0) (find (λ entry. covers cover.now entry.0) entries.now.entries) }
-{
-    for (key, _) in entries.iter() {
-        if cover.covers(key.0, key.1) {
-            return Some(*key);
-        }
-    }
-    None
-}
-
-// Takes out the entries that are covered, one after the other.
-fn drop_covered(entries: &mut LruCache<(Space, u64), Translation>, cover: &Cover)
-    ensures dropped { Drops (covers cover.now) (content_of entries.old.entries) (content_of entries.new.entries) }
-    ensures capacity { entries.new.cap ≡ entries.old.cap }
-{
-    while let Some(key) = first_covered(entries, cover) {
-        let _ = entries.len();
-        entries.pop(&key);
-    }
-}
-
 impl TransCache for PlainCache {
     const SURE: bool = false;
 
@@ -102,24 +77,17 @@ impl TransCache for PlainCache {
     ghost content = { content_of };
 
     fn look(&mut self, space: Space, page: u64) -> Option<Translation> {
-        let _ = self.entries.len();
-        let found = self.entries.peek(&(space, page)).copied();
-        self.entries.promote(&(space, page));
-        found
+        entries::find(&mut self.entries, (space, page))
     }
 
     fn keep(&mut self, space: Space, page: u64, translation: Translation) {
-        let _ = self.entries.len();
-        let _ = self.entries.put((space, page), translation);
+        entries::put(&mut self.entries, (space, page), translation);
     }
 
     fn drop_where(&mut self, cover: &Cover) {
         match only_key(cover) {
-            Some(key) => {
-                let _ = self.entries.len();
-                self.entries.pop(&key);
-            }
-            None => drop_covered(&mut self.entries, cover),
+            Some(key) => entries::remove(&mut self.entries, key),
+            None => entries::remove_covered(&mut self.entries, cover),
         }
     }
 

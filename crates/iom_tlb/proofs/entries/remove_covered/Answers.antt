@@ -1,6 +1,6 @@
 use Rattle.std.proofs.Common.{◌∙◌}
 use Rattle.iom_tlb.proofs.PlainLemmas.{fewer, stays, dropped}
-use Rattle.iom_tlb.proofs.plain.drop_covered.Goals as goal
+use Rattle.iom_tlb.proofs.entries.remove_covered.Goals as goal
 
 pub loop-key-smaller : goal.loop-key-smaller
 loop-key-smaller c = rw c.pop.ensures.entries (fewer c.args.cover.now c.loop-key.entries.entries c.in-Some.key c.in-Some.ensures)

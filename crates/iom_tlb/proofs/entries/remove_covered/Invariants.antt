@@ -2,7 +2,7 @@ use Rattle.std.proofs.Common.{◌≡◌, false, length}
 use Rattle.iom_tlb.specs.Content.{Key}
 use Rattle.iom_tlb.specs.Covers.{covers}
 use Rattle.iom_tlb.specs.Entries.{content_of}
-use Rattle.iom_tlb.proofs.plain.drop_covered.Given as goal
+use Rattle.iom_tlb.proofs.entries.remove_covered.Given as goal
 
 -- what isn't covered is as it was, and the capacity is
 abbrev pub invariant-loop-key : goal.invariant-loop-key

@@ -1,7 +1,7 @@
 use Rattle.std.proofs.Common.{◌≡◌}
 use Rattle.std.specs.List.{find}
 use Rattle.iom_tlb.specs.Covers.{covers}
-use Rattle.iom_tlb.proofs.plain.first_covered.Given as goal
+use Rattle.iom_tlb.proofs.entries.first_covered.Given as goal
 
 -- what is left decides
 abbrev pub invariant-loop-key : goal.invariant-loop-key
