@@ -1,4 +1,5 @@
 ghost use Rattle.std.specs.Prelude.{◌≡◌, true, None};
+ghost use Rattle.iom_tlb.specs.Content.{Sets};
 ghost use Rattle.iom_tlb_tests.specs.One.{content_of_one};
 
 use iom_tlb::{Cover, Space, TransCache, Translation};
@@ -24,6 +25,12 @@ impl OneTranslation {
     {
         OneTranslation { only: None }
     }
+
+    fn set(&mut self, kept: Kept)
+        ensures { Sets (content_of_one self.old) (kept.space, kept.page) kept.translation (content_of_one self.new) }
+    {
+        self.only = Some(kept);
+    }
 }
 
 impl TransCache for OneTranslation {
@@ -41,11 +48,12 @@ impl TransCache for OneTranslation {
     }
 
     fn keep(&mut self, space: Space, page: u64, translation: Translation) {
-        self.only = Some(Kept {
+        let kept = Kept {
             space,
             page,
             translation,
-        });
+        };
+        self.set(kept);
     }
 
     fn drop_where(&mut self, cover: &Cover) {
