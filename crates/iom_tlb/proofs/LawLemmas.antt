@@ -4,7 +4,7 @@ use Rattle.iom_command_queue.specs.declared.command.Command.TheVariants.{Iotinva
 use Rattle.iom_tlb.specs.declared.space.Space.TheVariants.{First, Second, Both}
 use Rattle.iom_tlb.specs.declared.cover.Cover.{Cover}
 use Rattle.iom_tlb.specs.declared.trans_cache.Translation.{Translation}
-use Rattle.iom_tlb.specs.Content.{Key, Content, IsEmpty, Keeps, Drops}
+use Rattle.iom_tlb.specs.Content.{Key, Content, HasNothing, Keeps, Drops}
 use Rattle.iom_tlb.specs.Covers.{covers, are_covering}
 use Rattle.iom_tlb.specs.Invalidations.{covers_of}
 use Rattle.iom_tlb.specs.Laws.{CacheCall, look, keep, drop_where, drop_all, RunsCache, WasKept}
@@ -23,7 +23,7 @@ module _ (sure : Bool) (key : Key) (t : Translation) (earlier : List CacheCall) 
   dropped : (cover : Cover) → Drops (covers cover) old new → WasKept sure key t (drop_where cover ∷ earlier)
   dropped cover drops = let was = found_before_drop old new key t found (covers cover) drops in (was.0, before was.1)
 
-pub answers_kept : (sure : Bool) (old : Content) (calls : List CacheCall) (new : Content) → IsEmpty old → RunsCache sure old calls new
+pub answers_kept : (sure : Bool) (old : Content) (calls : List CacheCall) (new : Content) → HasNothing old → RunsCache sure old calls new
     → (key : Key) (t : Translation) → new key ≡ Some t → WasKept sure key t calls
 answers_kept sure old [] new empty run key t found = absurd (let e : new key ≡ None = run key ∙ empty key in cc)
 answers_kept sure old (look at answer ∷ earlier) new empty run key t found =

@@ -12,8 +12,8 @@ abbrev pub Content : Type 0
 Content = Key → Option Translation
 
 -- it has nothing
-abbrev pub IsEmpty : Content → Type 0
-IsEmpty content = (key : Key) → content key ≡ None
+abbrev pub HasNothing : Content → Type 0
+HasNothing content = (key : Key) → content key ≡ None
 
 -- it has what it had
 abbrev pub Stays : Content → Content → Type 0

@@ -3,7 +3,7 @@ use Rattle.std.specs.Prelude.{◌≡◌, ◌≢◌, ◌⊎◌, Bool, true, false
 use Rattle.iom_command_queue.specs.declared.command.Command.TheVariants.{IotinvalVma, IotinvalGvma}
 use Rattle.iom_tlb.specs.declared.cover.Cover.{Cover}
 use Rattle.iom_tlb.specs.declared.trans_cache.Translation.{Translation}
-use Rattle.iom_tlb.specs.Content.{Key, Content, IsEmpty, Stays, Keeps, Drops}
+use Rattle.iom_tlb.specs.Content.{Key, Content, HasNothing, Stays, Keeps, Drops}
 use Rattle.iom_tlb.specs.Covers.{covers, are_covering}
 use Rattle.iom_tlb.specs.Invalidations.{covers_of}
 
@@ -19,7 +19,7 @@ abbrev pub CallsCache : Bool → Content → CacheCall → Content → Type 0
 CallsCache sure old (look key found) new = (found ≡ old key) × Stays old new
 CallsCache sure old (keep key translation) new = Keeps sure old key translation new
 CallsCache sure old (drop_where cover) new = Drops (covers cover) old new
-CallsCache sure old drop_all new = IsEmpty new
+CallsCache sure old drop_all new = HasNothing new
 
 -- calls one after the other, the newest first
 abbrev pub RunsCache : Bool → Content → List CacheCall → Content → Type 0
@@ -39,7 +39,7 @@ WasKept sure key translation (drop_all ∷ earlier) = ⊥
 -- THE LAW
 abbrev pub AnswersOnlyWhatWasKept : Type 0
 AnswersOnlyWhatWasKept =
-    (sure : Bool) (old : Content) (calls : List CacheCall) (new : Content) → IsEmpty old → RunsCache sure old calls new
+    (sure : Bool) (old : Content) (calls : List CacheCall) (new : Content) → HasNothing old → RunsCache sure old calls new
     → (key : Key) (translation : Translation) → new key ≡ Some translation → WasKept sure key translation calls
 
 -- IOTINVAL.VMA and IOTINVAL.GVMA, both without any field, cover every page of every address space

@@ -1,7 +1,6 @@
-ghost use Rattle.std.specs.Prelude.{◌≡◌, [], option_map, IfSome, IfOk, false};
-ghost use Rattle.std.specs.List.{find};
+ghost use Rattle.std.specs.Prelude.{◌≡◌, [], IfSome, IfOk, false};
 ghost use Rattle.iom_tlb.specs.Covers.{covers};
-ghost use Rattle.iom_tlb.specs.Content.{Key, Drops};
+ghost use Rattle.iom_tlb.specs.Content.{Key};
 ghost use Rattle.iom_tlb.specs.Entries.{is_key, content_of};
 
 use crate::cover::Cover;
@@ -16,10 +15,10 @@ use std::num::NonZeroUsize;
 /// The most translations that a [`PlainCache`] has.
 pub const MAX_TRANSLATIONS: usize = 64;
 
-/// A cache of 64 translations: a new one takes out the least recently used. Seen as the list of its entries,
-/// the most recently used first.
+/// A cache of 64 translations, seen as the list of them, the most recently used first. Where it is full a new one
+/// takes out the least recently used.
 ///
-/// A keep takes memory, and keeps nothing where it finds none.
+/// A keep takes memory, and keeps nothing where there is none. No other call takes any.
 #[derive(Drop)]
 pub struct PlainCache {
     entries: LruCache<(Space, u64), Translation>,
@@ -38,7 +37,7 @@ impl Model for PlainCache {
 }
 
 impl PlainCache {
-    /// A cache that has nothing. It is refused for want of memory alone.
+    /// A cache that has nothing.
     pub fn new(alloc: Global) -> Result<PlainCache, AllocError>
         ensures { IfOk result (λ cache. cache ≡ []) }
     {

@@ -1,5 +1,5 @@
 ghost use Rattle.std.specs.Prelude.{◌≡◌, Bool};
-ghost use Rattle.iom_tlb.specs.Content.{Content, Stays, Keeps, Drops, IsEmpty};
+ghost use Rattle.iom_tlb.specs.Content.{Content, Stays, Keeps, Drops, HasNothing};
 ghost use Rattle.iom_tlb.specs.Covers.{covers};
 
 use crate::cover::Cover;
@@ -38,5 +38,5 @@ pub trait TransCache {
 
     /// Takes out everything.
     fn drop_all(&mut self)
-        ensures empty { IsEmpty (content self.new) };
+        ensures empty { HasNothing (content self.new) };
 }

@@ -3,7 +3,7 @@ use std::alloc::Global;
 use std::process::Abort;
 
 // A second call succeeds where the first was refused memory.
-pub fn new_cache(rt: &impl Abort, alloc: Global) -> PlainCache {
+pub(crate) fn new_cache(rt: &impl Abort, alloc: Global) -> PlainCache {
     match PlainCache::new(alloc) {
         Ok(cache) => cache,
         Err(_) => PlainCache::new(alloc).expect(rt, "memory for the cache"),
@@ -11,7 +11,7 @@ pub fn new_cache(rt: &impl Abort, alloc: Global) -> PlainCache {
 }
 
 // The same of a keep.
-pub fn keep<C: TransCache>(cache: &mut C, space: Space, page: u64, translation: Translation) {
+pub(crate) fn keep<C: TransCache>(cache: &mut C, space: Space, page: u64, translation: Translation) {
     cache.keep(space, page, translation);
     if cache.look(space, page) != Some(translation) {
         cache.keep(space, page, translation);
