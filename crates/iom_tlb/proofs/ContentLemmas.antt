@@ -17,14 +17,16 @@ module _ (old new : Content) (key : Key) (t : Translation) (found : new key ≡ 
     | inr gone ↦ absurd (let e : new key ≡ None = gone.1 in cc)
   ]
 
-  -- it was kept now, or was there, elsewhere
-  pub found_by_set : (at : Key) (kept : Translation) → Sets old at kept new → ((key ≡ at) × (t ≡ kept)) ⊎ ((key ≢ at) × (old key ≡ Some t))
-  found_by_set at kept sets = set_at at kept sets (one_or_other key at)
+  refused_at : (at : Key) → old at ≡ None → (key ≡ at) ⊎ (key ≢ at) → old key ≡ Some t → key ≢ at
+  refused_at at none (inl same) was = absurd (let e : old key ≡ None = ap old same ∙ none in cc)
+  refused_at at none (inr apart) was = apart
 
-  -- the same, where it may have been refused
-  pub found_by_keep : (sure : Bool) (at : Key) (kept : Translation) → Keeps sure old at kept new → ((key ≡ at) × (t ≡ kept)) ⊎ (old key ≡ Some t)
-  found_by_keep sure at kept (inl sets) = elim (found_by_set at kept sets) [ inl now ↦ inl now | inr before ↦ inr before.1 ]
-  found_by_keep sure at kept (inr same) = inr (found_before_look same.1)
+  -- it was kept now, or was there, elsewhere
+  pub found_by_keep : (sure : Bool) (at : Key) (kept : Translation) → Keeps sure old at kept new → ((key ≡ at) × (t ≡ kept)) ⊎ ((key ≢ at) × (old key ≡ Some t))
+  found_by_keep sure at kept (inl sets) = set_at at kept sets (one_or_other key at)
+  found_by_keep sure at kept (inr refused) =
+      let was = found_before_look refused.2 in
+      inr (refused_at at refused.1 (one_or_other key at) was, was)
 
   not_out : (b out : Bool) → out ≡ b → new key ≡ cond b None (old key) → (out ≡ false) × (old key ≡ Some t)
   not_out true out is e = absurd (cc)

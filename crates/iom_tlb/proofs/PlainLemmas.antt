@@ -1,5 +1,5 @@
 -- The content of a plain cache after a call of the least-recently-used cache below it.
-use Rattle.std.proofs.Common.{◌≡◌, ◌<◌, false, List, Option, Some, None, Result, Ok, Err, OnOk, OnErr, inl, inr, refl, length, option_map}
+use Rattle.std.proofs.Common.{◌≡◌, ◌<◌, false, List, Option, Some, None, Result, Ok, Err, OnOk, OnErr, IsOk, IsSome, inl, inr, refl, length, option_map}
 use Rattle.std.specs.List.{IsDistinct, find}
 use Rattle.std.specs.Map.{keys_of, remove_entry}
 use Rattle.lru.specs.LruCache.{LruCache, lru_cache, put_entries, promoted, IsValid}
@@ -20,11 +20,16 @@ sets c at t valid =
     let puts = entries.Puts-put_entries is_key key_laws one_key c at t valid.0 valid.1 valid.2 in
     record { kept = puts.put; others = puts.others }
 
--- a put keeps, or is refused and changes nothing
+refused_at : (o : Option Translation) → (IsSome o → ⊥) → o ≡ None
+refused_at None refused = refl
+refused_at (Some x) refused = absurd (refused refl)
+
+-- a put keeps; or it is refused, of a new key, and changes nothing
 pub kept : {E : Type 0} (r : Result (Option Translation) E) (c new : LruCache Key Translation) (at : Key) (t : Translation) → IsValid is_key c
-    → OnOk r (new ≡ lru_cache (put_entries is_key c at t) c.cap) → OnErr r (new ≡ c) → Keeps false (content_of c.entries) at t (content_of new.entries)
-kept (Ok x) c new at t valid ok err = inl (rw ok (sets c at t valid))
-kept (Err x) c new at t valid ok err = inr (refl, λ key. rw err refl)
+    → OnOk r (new ≡ lru_cache (put_entries is_key c at t) c.cap) → OnErr r (new ≡ c) → (IsSome (content_of c.entries at) → IsOk r)
+    → Keeps false (content_of c.entries) at t (content_of new.entries)
+kept (Ok x) c new at t valid ok err sure = inl (rw ok (sets c at t valid))
+kept (Err x) c new at t valid ok err sure = inr (refl, refused_at (content_of c.entries at) (λ there. let wrong = sure there in cc), λ key. rw err refl)
 
 -- each pop of a covered entry leaves fewer entries
 pub fewer : (cover : Cover) (es : List (Key × Translation)) (key : Key) → Some key ≡ option_map (λ e. e.0) (find (λ e. covers cover e.0) es)

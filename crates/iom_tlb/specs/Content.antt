@@ -24,9 +24,10 @@ pub record Sets (old : Content) (at : Key) (translation : Translation) (new : Co
   pub kept : new at ≡ Some translation
   pub others : (out : Key) × ((key : Key) → key ≢ at → (new key ≡ old key) ⊎ ((key ≡ out) × (new key ≡ None)))
 
--- THE RELATION of a keep: it sets the translation, or, in a cache that isn't sure, all stays
+-- THE RELATION of a keep: it sets the translation. Or it is refused, and all stays: never in a cache that is sure, nor where there is one
+-- already, whose place is taken
 abbrev pub Keeps : Bool → Content → Key → Translation → Content → Type 0
-Keeps sure old at translation new = Sets old at translation new ⊎ ((sure ≡ false) × Stays old new)
+Keeps sure old at translation new = Sets old at translation new ⊎ ((sure ≡ false) × (old at ≡ None) × Stays old new)
 
 -- THE RELATION of a drop: what is taken out is exactly that of which the test is true
 abbrev pub Drops : (Key → Bool) → Content → Content → Type 0

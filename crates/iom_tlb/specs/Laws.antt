@@ -26,21 +26,19 @@ abbrev pub RunsCache : Bool → Content → List CacheCall → Content → Type 
 RunsCache sure old [] new = Stays old new
 RunsCache sure old (call ∷ earlier) new = (between : Content) × RunsCache sure old earlier between × CallsCache sure between call new
 
--- the translation was kept there by one of the calls, and taken out by none since. A later keep there takes its place, which only a cache that
--- isn't sure may refuse
-abbrev pub WasKept : Bool → Key → Translation → List CacheCall → Type 0
-WasKept sure key translation [] = ⊥
-WasKept sure key translation (look asked found ∷ earlier) = WasKept sure key translation earlier
-WasKept sure key translation (keep at other ∷ earlier) =
-    ((at ≡ key) × (other ≡ translation)) ⊎ (((at ≢ key) ⊎ (sure ≡ false)) × WasKept sure key translation earlier)
-WasKept sure key translation (drop_where cover ∷ earlier) = (covers cover key ≡ false) × WasKept sure key translation earlier
-WasKept sure key translation (drop_all ∷ earlier) = ⊥
+-- the translation was kept there by one of the calls; no later one kept another there, and none took it out
+abbrev pub WasKept : Key → Translation → List CacheCall → Type 0
+WasKept key translation [] = ⊥
+WasKept key translation (look asked found ∷ earlier) = WasKept key translation earlier
+WasKept key translation (keep at other ∷ earlier) = ((at ≡ key) × (other ≡ translation)) ⊎ ((at ≢ key) × WasKept key translation earlier)
+WasKept key translation (drop_where cover ∷ earlier) = (covers cover key ≡ false) × WasKept key translation earlier
+WasKept key translation (drop_all ∷ earlier) = ⊥
 
 -- THE LAW
 abbrev pub AnswersOnlyWhatWasKept : Type 0
 AnswersOnlyWhatWasKept =
     (sure : Bool) (old : Content) (calls : List CacheCall) (new : Content) → HasNothing old → RunsCache sure old calls new
-    → (key : Key) (translation : Translation) → new key ≡ Some translation → WasKept sure key translation calls
+    → (key : Key) (translation : Translation) → new key ≡ Some translation → WasKept key translation calls
 
 -- IOTINVAL.VMA and IOTINVAL.GVMA, both without any field, cover every page of every address space
 abbrev pub TakeOutEverything : Type 0

@@ -27,7 +27,7 @@ pub(crate) fn find(
 }
 
 /// Keeps a translation as the most recently used, in place of the least recently used where the cache is full.
-/// Keeps nothing where there is no memory for it.
+/// Keeps nothing where there is no memory for a new one.
 pub(crate) fn put(
     entries: &mut LruCache<(Space, u64), Translation>,
     key: (Space, u64),

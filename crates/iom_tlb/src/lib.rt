@@ -7,7 +7,7 @@
 //! The layers above may rely on [`TransCache`], whichever cache stands behind it: a cache is seen as its
 //! content, which has a translation or none for each page of each address space. A look answers the content,
 //! a keep changes it at its page and takes out at most one other translation, a drop takes out exactly what a
-//! [`Cover`] covers. So a cache answers only what was kept there and not taken out since
+//! [`Cover`] covers. So a cache answers only what was kept there last and not taken out since
 //! ([`laws::answers_only_what_was_kept`]). [`invalidate`] does what a command asks. [`PlainCache`] is such a
 //! cache, of 64 translations.
 #![tactic(auto)]

@@ -1,6 +1,6 @@
-ghost use Rattle.std.specs.Prelude.{◌≡◌, [], IfSome, IfOk, false};
+ghost use Rattle.std.specs.Prelude.{◌≡◌, IfSome, IfOk, false};
 ghost use Rattle.iom_tlb.specs.Covers.{covers};
-ghost use Rattle.iom_tlb.specs.Content.{Key};
+ghost use Rattle.iom_tlb.specs.Content.{Key, HasNothing};
 ghost use Rattle.iom_tlb.specs.Entries.{is_key, content_of};
 
 use crate::cover::Cover;
@@ -18,7 +18,7 @@ pub const MAX_TRANSLATIONS: usize = 64;
 /// A cache of 64 translations, seen as the list of them, the most recently used first. Where it is full a new one
 /// takes out the least recently used.
 ///
-/// A keep takes memory, and keeps nothing where there is none. No other call takes any.
+/// A keep of a new page takes memory, and keeps nothing where there is none. No other call takes any.
 #[derive(Drop)]
 pub struct PlainCache {
     entries: LruCache<(Space, u64), Translation>,
@@ -39,7 +39,7 @@ impl Model for PlainCache {
 impl PlainCache {
     /// A cache that has nothing.
     pub fn new(alloc: Global) -> Result<PlainCache, AllocError>
-        ensures { IfOk result (λ cache. cache ≡ []) }
+        ensures { IfOk result (λ cache. HasNothing (content_of cache)) }
     {
         let entries = LruCache::new(alloc, NonZeroUsize::new(MAX_TRANSLATIONS).unwrap())?;
         Ok(PlainCache { entries })

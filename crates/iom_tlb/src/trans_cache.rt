@@ -27,8 +27,8 @@ pub trait TransCache {
         ensures found { result ≡ content self.old (space, page) }
         ensures stays { Stays (content self.old) (content self.new) };
 
-    /// Caches a translation, in place of the page's old one, and takes out at most one other. Or it keeps
-    /// nothing, and all stays: never in a cache that is `SURE`.
+    /// Caches a translation, in place of the page's old one, and takes out at most one other. Or it is refused, and
+    /// all stays: never in a cache that is `SURE`, nor where the page has a translation already.
     fn keep(&mut self, space: Space, page: u64, translation: Translation)
         ensures kept { Keeps SURE (content self.old) (space, page) translation (content self.new) };
 

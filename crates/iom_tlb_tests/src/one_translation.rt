@@ -1,5 +1,5 @@
-ghost use Rattle.std.specs.Prelude.{◌≡◌, true, None};
-ghost use Rattle.iom_tlb.specs.Content.{Sets};
+ghost use Rattle.std.specs.Prelude.{true};
+ghost use Rattle.iom_tlb.specs.Content.{Sets, HasNothing};
 ghost use Rattle.iom_tlb_tests.specs.One.{content_of_one};
 
 use iom_tlb::{Cover, Space, TransCache, Translation};
@@ -21,7 +21,7 @@ pub struct OneTranslation {
 impl OneTranslation {
     /// A cache that has nothing.
     pub fn new() -> OneTranslation
-        ensures { result.only ≡ None }
+        ensures { HasNothing (content_of_one result) }
     {
         OneTranslation { only: None }
     }
