@@ -33,7 +33,8 @@ pub(crate) fn put(
     key: (Space, u64),
     translation: Translation,
 )
-    ensures kept { Keeps false (content_of entries.old.entries) key translation (content_of entries.new.entries) }
+    ensures kept { Keeps false (content_of entries.old.entries) key translation
+        (content_of entries.new.entries) }
     ensures capacity { entries.new.cap ≡ entries.old.cap }
 {
     let _ = entries.len();
@@ -42,7 +43,8 @@ pub(crate) fn put(
 
 /// Takes out what is at a key.
 pub(crate) fn remove(entries: &mut LruCache<(Space, u64), Translation>, key: (Space, u64))
-    ensures dropped { Drops (is_key key) (content_of entries.old.entries) (content_of entries.new.entries) }
+    ensures dropped { Drops (is_key key) (content_of entries.old.entries)
+        (content_of entries.new.entries) }
     ensures capacity { entries.new.cap ≡ entries.old.cap }
 {
     let _ = entries.len();
@@ -51,7 +53,8 @@ pub(crate) fn remove(entries: &mut LruCache<(Space, u64), Translation>, key: (Sp
 
 /// Takes out what is covered, one entry after the other.
 pub(crate) fn remove_covered(entries: &mut LruCache<(Space, u64), Translation>, cover: &Cover)
-    ensures dropped { Drops (covers cover.now) (content_of entries.old.entries) (content_of entries.new.entries) }
+    ensures dropped { Drops (covers cover.now) (content_of entries.old.entries)
+        (content_of entries.new.entries) }
     ensures capacity { entries.new.cap ≡ entries.old.cap }
 {
     while let Some(key) = first_covered(entries, cover) {
@@ -65,7 +68,8 @@ fn first_covered(
     entries: &LruCache<(Space, u64), Translation>,
     cover: &Cover,
 ) -> Option<(Space, u64)>
-    ensures { result ≡ option_map (λ entry. entry.0) (first_of (λ entry. covers cover.now entry.0) entries.now.entries) }
+    ensures { result ≡ option_map (λ entry. entry.0)
+        (first_of (λ entry. covers cover.now entry.0) entries.now.entries) }
 {
     for (key, _) in entries.iter() {
         if cover.covers(key.0, key.1) {

@@ -9,7 +9,8 @@ use iom_command_queue::Command;
 /// Takes out what the command says, and nothing else: a command that isn't IOTINVAL.VMA or IOTINVAL.GVMA
 /// takes out nothing (IOMMU specification, section 3.1.1).
 pub fn invalidate<C: TransCache>(cache: &mut C, command: &Command)
-    ensures dropped { Drops (are_covering (covers_of command.now)) (C.content cache.old) (C.content cache.new) }
+    ensures dropped { Drops (are_covering (covers_of command.now)) (C.content cache.old)
+        (C.content cache.new) }
 {
     match *command {
         Command::IotinvalVma { gscid, pscid, page } => {
@@ -31,7 +32,8 @@ fn invalidate_first_stage<C: TransCache>(
     pscid: Option<u32>,
     page: Option<u64>,
 )
-    ensures dropped { Drops (are_covering (vma_covers gscid pscid page)) (C.content cache.old) (C.content cache.new) }
+    ensures dropped { Drops (are_covering (vma_covers gscid pscid page)) (C.content cache.old)
+        (C.content cache.new) }
 {
     if gscid.is_none() {
         cache.drop_where(&Cover::First { pscid, page });
@@ -45,7 +47,8 @@ fn invalidate_first_stage<C: TransCache>(
 
 // IOTINVAL.GVMA.
 fn invalidate_second_stage<C: TransCache>(cache: &mut C, gscid: Option<u16>, page: Option<u64>)
-    ensures dropped { Drops (are_covering (gvma_covers gscid page)) (C.content cache.old) (C.content cache.new) }
+    ensures dropped { Drops (are_covering (gvma_covers gscid page)) (C.content cache.old)
+        (C.content cache.new) }
 {
     let page = if gscid.is_some() { page } else { None };
     cache.drop_where(&Cover::Both {

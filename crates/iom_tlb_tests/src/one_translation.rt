@@ -27,7 +27,8 @@ impl OneTranslation {
     }
 
     fn set(&mut self, kept: Kept)
-        ensures { Sets (content_of_one self.old) (kept.space, kept.page) kept.translation (content_of_one self.new) }
+        ensures { Sets (content_of_one self.old) (kept.space, kept.page) kept.translation
+            (content_of_one self.new) }
     {
         self.only = Some(kept);
     }
