@@ -25,7 +25,7 @@ pub fn invalidate<C: TransCache>(cache: &mut C, command: &Command)
     }
 }
 
-// IOTINVAL.VMA.
+// IOTINVAL.VMA: of a host address space, or of those within a VM.
 fn invalidate_first_stage<C: TransCache>(
     cache: &mut C,
     gscid: Option<u16>,
@@ -40,17 +40,20 @@ fn invalidate_first_stage<C: TransCache>(
         return;
     }
     cache.drop_where(&Cover::Both { gscid, pscid, page });
+    // All address spaces of the VM: those of its second stage alone are among them.
     if pscid.is_none() && page.is_none() {
         cache.drop_where(&Cover::Second { gscid, page });
     }
 }
 
-// IOTINVAL.GVMA.
+// IOTINVAL.GVMA: of one VM, or of all.
 fn invalidate_second_stage<C: TransCache>(cache: &mut C, gscid: Option<u16>, page: Option<u64>)
     ensures dropped { Drops (are_covering (gvma_covers gscid page)) (C.content cache.old)
         (C.content cache.new) }
 {
+    // AV is ignored where GV is 0.
     let page = if gscid.is_some() { page } else { None };
+    // A translation through both stages doesn't tell from which guest physical pages it was made.
     cache.drop_where(&Cover::Both {
         gscid,
         pscid: None,
