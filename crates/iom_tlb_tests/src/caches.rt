@@ -11,7 +11,12 @@ pub(crate) fn new_cache(rt: &impl Abort, alloc: Global) -> PlainCache {
 }
 
 // The same of a keep.
-pub(crate) fn keep<C: TransCache>(cache: &mut C, space: Space, page: u64, translation: Translation) {
+pub(crate) fn keep<C: TransCache>(
+    cache: &mut C,
+    space: Space,
+    page: u64,
+    translation: Translation,
+) {
     cache.keep(space, page, translation);
     if cache.look(space, page) != Some(translation) {
         cache.keep(space, page, translation);
