@@ -1,0 +1,52 @@
+-- The content of a plain cache after a call of the least-recently-used cache below it.
+use Rattle.std.proofs.Common.{◌≡◌, ◌<◌, false, List, Option, Some, None, Result, Ok, Err, OnOk, OnErr, IsOk, IsSome, inl, inr, refl, length, option_map}
+use Rattle.std.specs.List.{IsDistinct, find}
+use Rattle.std.specs.Map.{keys_of, remove_entry}
+use Rattle.lru.specs.LruCache.{LruCache, lru_cache, put_entries, promoted, IsValid}
+use Rattle.iom_tlb.specs.declared.trans_cache.Translation.{Translation}
+use Rattle.iom_tlb.specs.declared.cover.Cover.{Cover}
+use Rattle.iom_tlb.specs.Content.{Key, Stays, Keeps, Sets, Drops}
+use Rattle.iom_tlb.specs.Covers.{covers}
+use Rattle.iom_tlb.specs.Entries.{is_key, content_of}
+use Rattle.iom_tlb.proofs.EntryLemmas as entries
+use Rattle.iom_tlb.proofs.KeyLemmas.{key_laws, one_key}
+
+-- an entry becomes the most recently used, and the content stays
+pub looked : (at : Key) (es : List (Key × Translation)) → IsDistinct is_key (keys_of es) → Stays (content_of es) (content_of (promoted (is_key at) es))
+looked at es d = λ key. entries.lookup-promoted is_key key_laws one_key at key es d
+
+sets : (c : LruCache Key Translation) (at : Key) (t : Translation) → IsValid is_key c → Sets (content_of c.entries) at t (content_of (put_entries is_key c at t))
+sets c at t valid =
+    let puts = entries.Puts-put_entries is_key key_laws one_key c at t valid.0 valid.1 valid.2 in
+    record { kept = puts.put; others = puts.others }
+
+refused_at : (o : Option Translation) → (IsSome o → ⊥) → o ≡ None
+refused_at None refused = refl
+refused_at (Some x) refused = absurd (refused refl)
+
+-- a put keeps; or it is refused, of a new key, and changes nothing
+pub kept : {E : Type 0} (r : Result (Option Translation) E) (c new : LruCache Key Translation) (at : Key) (t : Translation) → IsValid is_key c
+    → OnOk r (new ≡ lru_cache (put_entries is_key c at t) c.cap) → OnErr r (new ≡ c) → (IsSome (content_of c.entries at) → IsOk r)
+    → Keeps false (content_of c.entries) at t (content_of new.entries)
+kept (Ok x) c new at t valid ok err sure = inl (rw ok (sets c at t valid))
+kept (Err x) c new at t valid ok err sure = inr (refl, refused_at (content_of c.entries at) (λ there. let wrong = sure there in cc), λ key. rw err refl)
+
+-- each pop of a covered entry leaves fewer entries
+pub fewer : (cover : Cover) (es : List (Key × Translation)) (key : Key) → Some key ≡ option_map (λ e. e.0) (find (λ e. covers cover e.0) es)
+    → length (remove_entry (is_key key) es) < length es
+fewer cover es key found = entries.drop_fewer is_key key_laws one_key (covers cover) es key found
+
+-- and what isn't covered stays
+pub stays : (cover : Cover) (es : List (Key × Translation)) (at key : Key) → IsDistinct is_key (keys_of es)
+    → Some at ≡ option_map (λ e. e.0) (find (λ e. covers cover e.0) es) → covers cover key ≡ false
+    → content_of (remove_entry (is_key at) es) key ≡ content_of es key
+stays cover es at key d found out = entries.drop_keeps is_key key_laws one_key (covers cover) es at key d found out
+
+-- with no covered entry left, what was covered is gone, and nothing else
+pub dropped : (cover : Cover) (old new : List (Key × Translation)) → None ≡ option_map (λ e. e.0) (find (λ e. covers cover e.0) new)
+    → ((key : Key) → covers cover key ≡ false → content_of new key ≡ content_of old key) → Drops (covers cover) (content_of old) (content_of new)
+dropped cover old new none same = entries.drop_done is_key key_laws one_key (covers cover) old new none same
+
+-- without the entry of a key
+pub dropped_key : (at : Key) (es : List (Key × Translation)) → IsDistinct is_key (keys_of es) → Drops (is_key at) (content_of es) (content_of (remove_entry (is_key at) es))
+dropped_key at es d = λ key. entries.removed is_key key_laws one_key at key es d

@@ -1,0 +1,5 @@
+pub mod Content
+pub mod Covers
+pub mod Invalidations
+pub mod Entries
+pub mod Laws

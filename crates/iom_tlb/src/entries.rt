@@ -1,0 +1,80 @@
+// The entries of a plain cache: the least-recently-used cache below it, by what it has at each key. A call asks for
+// the length first, since from there on it is known that no two entries have one key.
+ghost use Rattle.std.specs.Prelude.{◌≡◌, false, option_map};
+ghost use Rattle.std.specs.List.{find as first_of};
+ghost use Rattle.iom_tlb.specs.Content.{Stays, Keeps, Drops};
+ghost use Rattle.iom_tlb.specs.Covers.{covers};
+ghost use Rattle.iom_tlb.specs.Entries.{is_key, content_of};
+
+use crate::cover::Cover;
+use crate::space::Space;
+use crate::trans_cache::Translation;
+use lru::LruCache;
+
+/// The translation at a key, which becomes the most recently used.
+pub(crate) fn find(
+    entries: &mut LruCache<(Space, u64), Translation>,
+    key: (Space, u64),
+) -> Option<Translation>
+    ensures found { result ≡ content_of entries.old.entries key }
+    ensures stays { Stays (content_of entries.old.entries) (content_of entries.new.entries) }
+    ensures capacity { entries.new.cap ≡ entries.old.cap }
+{
+    let _ = entries.len();
+    let found = entries.peek(&key).copied();
+    entries.promote(&key);
+    found
+}
+
+/// Keeps a translation as the most recently used, in place of the least recently used where the cache is full.
+/// Keeps nothing where there is no memory for a new one.
+pub(crate) fn put(
+    entries: &mut LruCache<(Space, u64), Translation>,
+    key: (Space, u64),
+    translation: Translation,
+)
+    ensures kept { Keeps false (content_of entries.old.entries) key translation
+        (content_of entries.new.entries) }
+    ensures capacity { entries.new.cap ≡ entries.old.cap }
+{
+    let _ = entries.len();
+    let _ = entries.put(key, translation);
+}
+
+/// Takes out what is at a key.
+pub(crate) fn remove(entries: &mut LruCache<(Space, u64), Translation>, key: (Space, u64))
+    ensures dropped { Drops (is_key key) (content_of entries.old.entries)
+        (content_of entries.new.entries) }
+    ensures capacity { entries.new.cap ≡ entries.old.cap }
+{
+    let _ = entries.len();
+    entries.pop(&key);
+}
+
+/// Takes out what is covered, one entry after the other.
+pub(crate) fn remove_covered(entries: &mut LruCache<(Space, u64), Translation>, cover: &Cover)
+    ensures dropped { Drops (covers cover.now) (content_of entries.old.entries)
+        (content_of entries.new.entries) }
+    ensures capacity { entries.new.cap ≡ entries.old.cap }
+{
+    while let Some(key) = first_covered(entries, cover) {
+        let _ = entries.len();
+        entries.pop(&key);
+    }
+}
+
+// The key of the first entry that is covered, from the most recently used on.
+fn first_covered(
+    entries: &LruCache<(Space, u64), Translation>,
+    cover: &Cover,
+) -> Option<(Space, u64)>
+    ensures { result ≡ option_map (λ entry. entry.0)
+        (first_of (λ entry. covers cover.now entry.0) entries.now.entries) }
+{
+    for (key, _) in entries.iter() {
+        if cover.covers(key.0, key.1) {
+            return Some(*key);
+        }
+    }
+    None
+}

@@ -1,0 +1,27 @@
+//! The cache of translations of the IOMMU (IOATC), and what invalidation commands take out of it.
+//!
+//! RISC-V IOMMU Architecture Specification 1.0, sections 2.1.3 (GSCID and PSCID, which name address spaces),
+//! 2.8, "Caching in-memory data structures", and 3.1.1 (IOTINVAL.VMA and IOTINVAL.GVMA). Each translation is
+//! that of one page of 4 KiB: each page of a superpage has one of its own.
+//!
+//! The layers above may rely on [`TransCache`], whichever cache stands behind it: a cache is seen as its
+//! content, which has a translation or none for each page of each address space. A look answers the content,
+//! a keep changes it at its page and takes out at most one other translation, a drop takes out exactly what a
+//! [`Cover`] covers. So a cache answers only what was kept there last and not taken out since
+//! ([`laws::answers_only_what_was_kept`]). [`invalidate`] does what a command asks. [`PlainCache`] is such a
+//! cache, of 64 translations.
+#![tactic(auto)]
+
+mod cover;
+mod entries;
+mod invalidation;
+pub mod laws;
+mod plain;
+mod space;
+mod trans_cache;
+
+pub use cover::Cover;
+pub use invalidation::invalidate;
+pub use plain::{MAX_TRANSLATIONS, PlainCache};
+pub use space::Space;
+pub use trans_cache::{TransCache, Translation};

@@ -1,0 +1,42 @@
+ghost use Rattle.std.specs.Prelude.{◌≡◌, Bool};
+ghost use Rattle.iom_tlb.specs.Content.{Content, Stays, Keeps, Drops, HasNothing};
+ghost use Rattle.iom_tlb.specs.Covers.{covers};
+
+use crate::cover::Cover;
+use crate::space::Space;
+use iom_base::Rights;
+
+/// Where a page is translated to: its frame of 4 KiB, and what may be done there.
+#[derive(Clone, Copy, PartialEq, Eq, Debug)]
+pub struct Translation {
+    pub frame: u32,
+    pub rights: Rights,
+}
+
+/// A cache of translations, seen as its content: what it has for each page of each address space.
+pub trait TransCache {
+    /// Whether each keep keeps: it takes no memory, and never refuses.
+    const SURE: bool;
+
+    ghost SURE: { Bool };
+
+    ghost content: { Self → Content };
+
+    /// What is cached for the page, if something is. The content stays.
+    fn look(&mut self, space: Space, page: u64) -> Option<Translation>
+        ensures found { result ≡ content self.old (space, page) }
+        ensures stays { Stays (content self.old) (content self.new) };
+
+    /// Caches a translation, in place of the page's old one, and takes out at most one other. Or it is refused, and
+    /// all stays: never in a cache that is `SURE`, nor where the page has a translation already.
+    fn keep(&mut self, space: Space, page: u64, translation: Translation)
+        ensures kept { Keeps SURE (content self.old) (space, page) translation (content self.new) };
+
+    /// Takes out what is covered, and nothing else.
+    fn drop_where(&mut self, cover: &Cover)
+        ensures dropped { Drops (covers cover.now) (content self.old) (content self.new) };
+
+    /// Takes out everything.
+    fn drop_all(&mut self)
+        ensures empty { HasNothing (content self.new) };
+}

@@ -1,0 +1,17 @@
+//! Tests of the translation cache: that a plain cache keeps what it is handed and lets go of the least
+//! recently used, and each row of the standard's tables of invalidations.
+//!
+//! [`OneTranslation`] is a cache beside it that takes no memory: it shows that the contract of a cache that is
+//! sure of its keeps can be met. Nothing stands on this crate. It stands apart from the crate that it calls
+//! because a crate with tests of its own is proved twice, without them and with them.
+#![tactic(auto)]
+
+#[cfg(test)]
+mod caches;
+#[cfg(test)]
+mod invalidations;
+mod one_translation;
+#[cfg(test)]
+mod recency;
+
+pub use one_translation::{Kept, OneTranslation};
