@@ -9,7 +9,7 @@
 use std::alloc::Global;
 use std::fs;
 
-const ROWS: [&str; 8] = [
+const ROWS: [&str; 10] = [
     "empty-script",
     "first-path",
     "grant-boundaries",
@@ -18,6 +18,8 @@ const ROWS: [&str; 8] = [
     "read-only-serves-no-write",
     "script-fault",
     "missing-line-feed",
+    "queue-bytes",
+    "drain",
 ];
 
 /// The number of the first line that differs, counted from 1.
