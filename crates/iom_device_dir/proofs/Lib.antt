@@ -1,3 +1,4 @@
+pub mod SameValues
 pub mod Exact
 pub mod Bytes
 pub mod Encodes

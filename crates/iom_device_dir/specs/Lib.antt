@@ -1,4 +1,5 @@
 pub mod Words
+pub mod Values
 pub mod Formats
 pub mod Decoded
 pub mod Encoded
