@@ -4,3 +4,4 @@ pub mod Bytes
 pub mod Encodes
 pub mod Ends
 pub mod Alike
+pub mod Pairs

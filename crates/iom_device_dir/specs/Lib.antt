@@ -6,3 +6,5 @@ pub mod Encoded
 pub mod Paths
 pub mod Located
 pub mod Laws
+pub mod Contents
+pub mod Cached

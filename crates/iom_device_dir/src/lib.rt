@@ -8,6 +8,7 @@
 //! context, or with the cause with which it stops.
 #![tactic(auto)]
 
+mod cache;
 mod context;
 mod directory;
 mod entry;
@@ -17,6 +18,7 @@ mod stages;
 mod values;
 mod words;
 
+pub use cache::DirCache;
 pub use context::{CONTEXT_SIZE, Context};
 pub use directory::locate;
 pub use entry::NonLeafEntry;

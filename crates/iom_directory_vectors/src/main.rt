@@ -1,0 +1,165 @@
+//! Runs translations at whose device contexts an emulated RISC-V IOMMU was watched, and prints how many agree
+//! with [`iom_device_dir::locate`], and with the walk of the first stage that the context names.
+//!
+//! `data/directory.tsv` has a case a line: group, name, ddtp, device id, address, `r` or `w`, the words of
+//! memory (`address=value`, hexadecimal; all other bytes of its 2,048 frames are zero), the wanted answer,
+//! and who confirmed it. The first line names the columns.
+#![tactic(auto)]
+
+ghost use Rattle.std.specs.Prelude.{◌≢◌};
+ghost use Rattle.iom_registers.specs.declared.directory.DirectoryMode.TheVariants.{Bare};
+
+use iom_base::{AccessKind, Cause, DeviceId, PAGE_SIZE};
+use iom_device_dir::{Context, FirstStage, locate};
+use iom_phys_mem::{Bytes, Memory};
+use iom_registers::{DirectoryMode, DirectoryPointer, Register, Registers};
+use iom_stage_walk::walk_first;
+use std::fs;
+
+/// A translation, and the answer that is wanted.
+#[derive(Clone, Copy)]
+struct Case<'a> {
+    ddtp: u64,
+    device: DeviceId,
+    address: u64,
+    kind: AccessKind,
+    words: &'a str,
+    want: &'a str,
+}
+
+/// How the cases went.
+#[derive(Clone, Copy)]
+struct Tally {
+    agreed: u32,
+    differed: u32,
+    unread: u32,
+}
+
+fn hex(text: &str) -> Option<u64> {
+    let digits = match text.strip_prefix("0x") {
+        Some(rest) => rest,
+        None => text,
+    };
+    u64::from_str_radix(digits, 16).ok()
+}
+
+fn kind_of(letter: &str) -> Option<AccessKind> {
+    match letter {
+        "r" => Some(AccessKind::Read),
+        "w" => Some(AccessKind::Write),
+        _ => None,
+    }
+}
+
+/// The case of a line; None where it isn't one.
+fn parse(line: &str) -> Option<Case<'_>> {
+    let mut columns = line.split('\t');
+    let _group = columns.next()?;
+    let _name = columns.next()?;
+    Some(Case {
+        ddtp: hex(columns.next()?)?,
+        device: u32::from_str_radix(columns.next()?, 16).ok()?,
+        address: hex(columns.next()?)?,
+        kind: kind_of(columns.next()?)?,
+        words: columns.next()?,
+        want: columns.next()?,
+    })
+}
+
+/// Stores the words, of which there may be none; with `clear` zero in place of each.
+fn store_words(memory: &mut Memory, words: &str, clear: bool) -> Option<()> {
+    if words.is_empty() {
+        return Some(());
+    }
+    for word in words.split(',') {
+        let (address, value) = word.split_once('=')?;
+        let value = if clear { 0 } else { hex(value)? };
+        memory.store_u64(hex(address)?, value)?;
+    }
+    Some(())
+}
+
+/// What `ddtp` holds after a write of the value.
+fn pointer_of(value: u64) -> DirectoryPointer {
+    let mut registers = Registers::new();
+    registers.set(Register::Ddtp, value);
+    DirectoryPointer {
+        mode: registers.directory_mode(),
+        ppn: registers.directory_root(),
+    }
+}
+
+/// Where the address leads by the context's first stage: itself where that is Bare.
+fn translate(
+    memory: &Memory,
+    context: &Context,
+    address: u64,
+    kind: AccessKind,
+) -> Result<u64, Cause> {
+    match context.first_stage {
+        FirstStage::Bare => Ok(address),
+        FirstStage::Sv39(root) => match walk_first(memory, root.number(), address, kind) {
+            Ok(walked) => Ok(PAGE_SIZE * u64::from(walked.frame) + address % PAGE_SIZE),
+            Err(fault) => Err(fault.cause),
+        },
+    }
+}
+
+/// What the directory and the first stage answer to the case.
+fn answer(memory: &Memory, ddtp: DirectoryPointer, case: Case<'_>) -> Result<u64, Cause>
+    requires { ddtp.mode ≢ Bare }
+{
+    let context = locate(memory, ddtp, case.device)?;
+    translate(memory, &context, case.address, case.kind)
+}
+
+/// Whether this is what is wanted: `at X`, or `cause C iotval2 0`.
+fn is_wanted(answer: Result<u64, Cause>, want: &str) -> bool {
+    match answer {
+        Ok(place) => match want.strip_prefix("at ") {
+            Some(wanted) => hex(wanted) == Some(place),
+            None => false,
+        },
+        Err(cause) => match want.strip_prefix("cause ") {
+            Some(rest) => match rest.strip_suffix(" iotval2 0") {
+                Some(code) => u16::from_str_radix(code, 10).ok() == Some(cause.code()),
+                None => false,
+            },
+            None => false,
+        },
+    }
+}
+
+/// Whether the case agrees; None where the program can't read it. Leaves the memory zero.
+fn run(memory: &mut Memory, case: Case<'_>) -> Option<bool> {
+    let ddtp = pointer_of(case.ddtp);
+    if ddtp.mode == DirectoryMode::Bare {
+        return None;
+    }
+    store_words(memory, case.words, false)?;
+    let answer = answer(memory, ddtp, case);
+    store_words(memory, case.words, true)?;
+    Some(is_wanted(answer, case.want))
+}
+
+fn main(rt: HostRuntime) -> anyhow::Result<()> {
+    let text = fs::read_to_string(&rt, "directory.tsv")?;
+    let mut memory = Memory::new(rt.alloc(), 2048)?;
+    let mut tally = Tally {
+        agreed: 0,
+        differed: 0,
+        unread: 0,
+    };
+    for line in text.as_str().lines().skip(1) {
+        match parse(line).and_then(|case| run(&mut memory, case)) {
+            Some(true) => tally.agreed = tally.agreed.saturating_add(1),
+            Some(false) => tally.differed = tally.differed.saturating_add(1),
+            None => tally.unread = tally.unread.saturating_add(1),
+        }
+    }
+    println!(rt;
+        "directory: {} agree, {} differ, {} not read",
+        tally.agreed, tally.differed, tally.unread
+    )?;
+    Ok(())
+}
