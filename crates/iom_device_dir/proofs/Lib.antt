@@ -5,3 +5,4 @@ pub mod Encodes
 pub mod Ends
 pub mod Alike
 pub mod Pairs
+pub mod CachedIds

@@ -12,7 +12,7 @@ use Rattle.iom_device_dir.specs.declared.stages.SecondStage.TheVariants as secon
 use Rattle.iom_device_dir.specs.declared.words.ContextWords.{ContextWords}
 use Rattle.iom_device_dir.specs.Words.{context_words}
 
--- NON-LEAF ENTRY (section 2.1.2): V 0, PPN 53:10; bits 9:1 and 63:54 are reserved
+-- NON-LEAF ENTRY (section 2.1, "Non-leaf DDT entry"): V 0, PPN 53:10; bits 9:1 and 63:54 are reserved
 pub record IsNonLeafEntry (word : ℕ) (entry : NonLeafEntry) : Type 0 where
   pub valid : bits 0 0 word ≡ 1
   pub clear_below : bits 9 1 word ≡ 0
