@@ -6,3 +6,4 @@ pub mod Ends
 pub mod Alike
 pub mod Pairs
 pub mod CachedIds
+pub mod SoundCaches

@@ -1,4 +1,6 @@
 -- Look-ups in the entries of a cache that gives up the least recently used, after each of its calls. Of any keys, told apart by `eq`, and values.
+use Rattle.std.specs.Prelude.{IsSome, IsOk}
+use Rattle.std.proofs.lemmas.Bool.{false≢true}
 use Rattle.std.proofs.Common.{◌≡◌, ◌≢◌, ◌-◌, ◌<◌, ◌≤◌, ◌++◌, ◌∙◌, ◌⊎◌, inl, inr, ℕ, Bool, true, false, cond, drop, append-nil, length-drop, List, [], ◌∷◌, length, take, Option, Some, None, Ok, Err, Result, OnOk, OnErr, refl, sym, ap, subst, arith, option_map}
 use Rattle.std.specs.List.{IsDistinct, AllByRecursion}
 use Rattle.std.specs.Option.{option_map_or}
@@ -115,10 +117,14 @@ module _ {K V : Type 0} (eq : K → K → Bool) (laws : IsEquivalence eq) (same_
   put_at k v es cap d le pos None f = put_new k v es cap d le pos (drop (cap - 1) es) refl
   put_at k v es cap d le pos (Some e) f = put_there k v es d e f
 
+  nothing : (o : Option V) → (IsSome o → ⊥) → o ≡ None
+  nothing None none = refl
+  nothing (Some v) none = absurd (none refl)
+
   -- a put keeps, or changes nothing
   pub put_keeps : {E : Type 0} (r : Result (Option V) E) (old new : LruCache K V) (k : K) (v : V)
       → IsDistinct eq (keys_of old.entries) → length old.entries ≤ old.cap → 0 < old.cap
-      → OnOk r (new ≡ lru_cache (put_entries eq old k v) old.cap) → OnErr r (new ≡ old)
+      → OnOk r (new ≡ lru_cache (put_entries eq old k v) old.cap) → OnErr r (new ≡ old) → (IsSome (lookup (eq k) old.entries) → IsOk r)
       → KeepsOne (answers old.entries) k v (answers new.entries)
-  put_keeps (Ok x) old new k v d le pos ok err = inl (rw ok (put_at k v old.entries old.cap d le pos (lookup_entry (eq k) old.entries) refl))
-  put_keeps (Err x) old new k v d le pos ok err = inr (λ q. rw err refl)
+  put_keeps (Ok x) old new k v d le pos ok err sure = inl (rw ok (put_at k v old.entries old.cap d le pos (lookup_entry (eq k) old.entries) refl))
+  put_keeps (Err x) old new k v d le pos ok err sure = inr (nothing (lookup (eq k) old.entries) (λ some. false≢true (sure some)), λ q. rw err refl)

@@ -1,5 +1,4 @@
--- What a cache answers at each key, as a map; and the three things that may be done to it. A cache that only ever does these is *sound*: it
--- answers nothing but what it was last handed at the key and has not been told to drop. The definitions are of any keys and values.
+-- What a cache answers at each key, as a map, and the three things that may be done to it. The definitions are of any keys and values.
 use Rattle.std.specs.Prelude.{◌≡◌, ◌≢◌, ◌⊎◌, Bool, Option, Some, None, if◌then◌else◌}
 
 abbrev pub Content : Type 0 → Type 0 → Type 0
@@ -22,9 +21,9 @@ SetsOne {K = K} old key value new =
     (new key ≡ Some value)
     × (lost : K) × ((other : K) → other ≢ key → (new other ≡ old other) ⊎ ((other ≡ lost) × (new other ≡ None)))
 
--- A KEEP sets the value at the key; or, where it finds no memory, it changes nothing
+-- A KEEP sets the value at the key; or, where nothing is there yet and it finds no memory, it changes nothing
 abbrev pub KeepsOne : {K V : Type 0} → Content K V → K → V → Content K V → Type 0
-KeepsOne old key value new = SetsOne old key value new ⊎ IsSameContent old new
+KeepsOne old key value new = SetsOne old key value new ⊎ ((old key ≡ None) × IsSameContent old new)
 
 -- A DROP takes out what it covers, and nothing else
 abbrev pub DropsCovered : {K V : Type 0} → Content K V → (K → Bool) → Content K V → Type 0

@@ -8,3 +8,4 @@ pub mod Located
 pub mod Laws
 pub mod Contents
 pub mod Cached
+pub mod CacheLaws

@@ -45,8 +45,8 @@ impl DirCache {
         found
     }
 
-    /// Caches the context for the device. At most one other goes. Where there is no memory for it nothing
-    /// changes, and nobody is told: the next look finds what it found before.
+    /// Caches the context for the device. At most one other goes. Where none is cached for it yet, and there is
+    /// no memory for it, nothing changes and nobody is told: the next look finds none.
     #[tactic(auto, using(crate::proofs::CachedIds::kept), unfolding(crate::specs::Cached::cached_contexts))]
     pub fn keep(&mut self, id: DeviceId, context: Context)
         ensures { KeepsOne (cached_contexts self.old) id context (cached_contexts self.new) }

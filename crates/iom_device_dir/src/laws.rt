@@ -1,10 +1,12 @@
-//! Laws of contexts and of paths, each the contract of a function that does nothing.
+//! Laws of contexts, of paths and of caches, each the contract of a function that does nothing.
 ghost use Rattle.std.specs.Prelude.{◌≡◌, Ok};
+ghost use Rattle.iom_device_dir.specs.declared.context.Context.{Context};
 ghost use Rattle.iom_device_dir.specs.Words.{context_words};
 ghost use Rattle.iom_device_dir.specs.Formats.{IsContext};
 ghost use Rattle.iom_device_dir.specs.Decoded.{decoded_context, decoded_non_leaf_entry};
 ghost use Rattle.iom_device_dir.specs.Encoded.{encoded_context_words, encoded_context, encoded_non_leaf_entry};
 ghost use Rattle.iom_device_dir.specs.Laws.{PathsEndOnce, PathsDependOnLoadedWords, PathsDependOnLoadedFrames, ContextsDontOverlap, IndicesNameOneId};
+ghost use Rattle.iom_device_dir.specs.CacheLaws.{AnswersWhatWasHanded};
 
 use crate::context::{CONTEXT_SIZE, Context};
 use crate::entry::NonLeafEntry;
@@ -50,4 +52,10 @@ pub fn contexts_apart()
 /// Ids that differ have an index that differs.
 pub fn one_id_by_indices()
     ensures { IndicesNameOneId }
+{}
+
+/// A cache that only looks, keeps and drops answers nothing but what it was handed for the id since a drop last
+/// covered it.
+pub fn answers_what_was_handed()
+    ensures { AnswersWhatWasHanded Context }
 {}
