@@ -1,6 +1,6 @@
--- A cache that only ever looks, keeps and drops is *sound*: at a key it answers nothing but what it was handed for that key since a drop last
--- covered it.
-use Rattle.std.specs.Prelude.{◌≡◌, ◌⊎◌, ℕ, Bool, false, List, [], ◌∷◌, Option, Some}
+-- A cache that only ever looks, keeps and drops is *sound*: at a key it answers nothing but the value that it was last handed for it, where
+-- no drop has covered the key since.
+use Rattle.std.specs.Prelude.{◌≡◌, ◌≢◌, ◌⊎◌, ℕ, Bool, false, List, [], ◌∷◌, Option, Some}
 use Rattle.iom_device_dir.specs.Contents.{Content, IsEmptyContent, LooksUp, KeepsOne, DropsCovered}
 
 -- what may be done to a cache whose keys are numbers
@@ -19,15 +19,15 @@ abbrev pub CallsLeadTo : {V : Type 0} → List (CacheCall V) → Content ℕ V �
 CallsLeadTo [] content = IsEmptyContent content
 CallsLeadTo {V = V} (call ∷ calls) content = (before : Content ℕ V) × CallsLeadTo calls before × IsCacheCall call before content
 
--- the value was handed for the key, and no drop since covered it
-abbrev pub WasHandedSince : {V : Type 0} → List (CacheCall V) → ℕ → V → Type 0
-WasHandedSince [] key value = ⊥
-WasHandedSince (looked other found ∷ calls) key value = WasHandedSince calls key value
-WasHandedSince (kept other handed ∷ calls) key value = ((other ≡ key) × (handed ≡ value)) ⊎ WasHandedSince calls key value
-WasHandedSince (dropped covers ∷ calls) key value = (covers key ≡ false) × WasHandedSince calls key value
+-- of the values that were handed for the key this is the last, and no drop since covered it
+abbrev pub WasLastHanded : {V : Type 0} → List (CacheCall V) → ℕ → V → Type 0
+WasLastHanded [] key value = ⊥
+WasLastHanded (looked other found ∷ calls) key value = WasLastHanded calls key value
+WasLastHanded (kept other handed ∷ calls) key value = ((other ≡ key) × (handed ≡ value)) ⊎ ((other ≢ key) × WasLastHanded calls key value)
+WasLastHanded (dropped covers ∷ calls) key value = (covers key ≡ false) × WasLastHanded calls key value
 
 -- THE LAW
-abbrev pub AnswersWhatWasHanded : Type 0 → Type 0
-AnswersWhatWasHanded V =
+abbrev pub AnswersWhatWasLastHanded : Type 0 → Type 0
+AnswersWhatWasLastHanded V =
     (calls : List (CacheCall V)) (content : Content ℕ V) → CallsLeadTo calls content
-    → (key : ℕ) (value : V) → content key ≡ Some value → WasHandedSince calls key value
+    → (key : ℕ) (value : V) → content key ≡ Some value → WasLastHanded calls key value

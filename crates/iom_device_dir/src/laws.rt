@@ -6,7 +6,7 @@ ghost use Rattle.iom_device_dir.specs.Formats.{IsContext};
 ghost use Rattle.iom_device_dir.specs.Decoded.{decoded_context, decoded_non_leaf_entry};
 ghost use Rattle.iom_device_dir.specs.Encoded.{encoded_context_words, encoded_context, encoded_non_leaf_entry};
 ghost use Rattle.iom_device_dir.specs.Laws.{PathsEndOnce, PathsDependOnLoadedWords, PathsDependOnLoadedFrames, ContextsDontOverlap, IndicesNameOneId};
-ghost use Rattle.iom_device_dir.specs.CacheLaws.{AnswersWhatWasHanded};
+ghost use Rattle.iom_device_dir.specs.CacheLaws.{AnswersWhatWasLastHanded};
 
 use crate::context::{CONTEXT_SIZE, Context};
 use crate::entry::NonLeafEntry;
@@ -54,8 +54,8 @@ pub fn one_id_by_indices()
     ensures { IndicesNameOneId }
 {}
 
-/// A cache that only looks, keeps and drops answers nothing but what it was handed for the id since a drop last
-/// covered it.
-pub fn answers_what_was_handed()
-    ensures { AnswersWhatWasHanded Context }
+/// A cache that only looks, keeps and drops answers nothing but what it was last handed for the id, where no drop
+/// has covered it since.
+pub fn answers_what_was_last_handed()
+    ensures { AnswersWhatWasLastHanded Context }
 {}
