@@ -47,6 +47,13 @@ fn has_all(rt: &impl Abort, cache: &mut DirCache, first: u16, last: u16) {
     }
 }
 
+// These devices have the contexts of these numbers, or none.
+fn has(rt: &impl Abort, cache: &mut DirCache, wanted: &[(u16, Option<u16>)]) {
+    for (number, want) in wanted {
+        assert_eq!(rt; number_at(cache, *number), *want, "device {number}");
+    }
+}
+
 // Sixteen are kept. A seventeenth takes out the one that was looked at the longest ago, and a look at one makes
 // the next go in its place.
 #[test]
@@ -57,31 +64,25 @@ fn least_recently_used_goes(rt: HostRuntime) -> Result<(), Fail> {
     }
     has_all(&rt, &mut cache, 0, 16);
     keep(&mut cache, 16)?;
-    assert_eq!(rt; number_at(&mut cache, 0), None);
+    has(&rt, &mut cache, &[(0, None)]);
     has_all(&rt, &mut cache, 1, 17);
-    assert_eq!(rt; number_at(&mut cache, 1), Some(1));
+    has(&rt, &mut cache, &[(1, Some(1))]);
     keep(&mut cache, 17)?;
-    assert_eq!(rt; number_at(&mut cache, 2), None);
-    assert_eq!(rt; number_at(&mut cache, 1), Some(1));
+    has(&rt, &mut cache, &[(2, None), (1, Some(1))]);
     has_all(&rt, &mut cache, 3, 18);
     Ok(())
 }
 
-// A device's context takes the place of its older one. A drop of one leaves the others, and a drop of all none.
+// A drop of one leaves the others, and a drop of all none.
 #[test]
 fn drops(rt: HostRuntime) -> Result<(), Fail> {
     let mut cache = cache(&rt, rt.alloc());
-    keep(&mut cache, 1)?;
-    keep(&mut cache, 2)?;
-    keep(&mut cache, 3)?;
-    cache.keep(2, context(9)?);
-    assert_eq!(rt; number_at(&mut cache, 2), Some(9));
+    for number in 1..4 {
+        keep(&mut cache, number)?;
+    }
     cache.drop_one(2);
-    assert_eq!(rt; number_at(&mut cache, 2), None);
-    assert_eq!(rt; number_at(&mut cache, 1), Some(1));
-    assert_eq!(rt; number_at(&mut cache, 3), Some(3));
+    has(&rt, &mut cache, &[(1, Some(1)), (2, None), (3, Some(3))]);
     cache.drop_all();
-    assert_eq!(rt; number_at(&mut cache, 1), None);
-    assert_eq!(rt; number_at(&mut cache, 3), None);
+    has(&rt, &mut cache, &[(1, None), (3, None)]);
     Ok(())
 }

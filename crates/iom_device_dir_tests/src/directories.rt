@@ -41,21 +41,38 @@ fn root_of(memory: &Memory, mode: DirectoryMode, ppn: u64, id: DeviceId) -> Resu
     }
 }
 
+// By this mode and in this page the path of each id ends so: at a context with this root, or with this cause.
+fn end(
+    rt: &impl Abort,
+    memory: &Memory,
+    mode: DirectoryMode,
+    ppn: u64,
+    wanted: &[(DeviceId, Result<u64, Cause>)],
+)
+    requires mode { mode ≢ Bare }
+    requires ppn { ppn < 2 ^ 44 }
+{
+    for (id, want) in wanted {
+        assert_eq!(rt; root_of(memory, mode, ppn, *id), *want, "id {id}");
+    }
+}
+
 // One level: ids have 7 bits. Each has its own context, and an id that is wider has none: not that of its lower
 // bits.
 #[test]
 fn one_level(rt: HostRuntime) {
     let mut memory = memory_of_64(&rt, rt.alloc());
     for id in 0..128u32 {
-        store_context(&rt, &mut memory, 0x3_c000 + 32 * u64::from(id), 1000 + u64::from(id));
+        let root = 1000 + u64::from(id);
+        store_context(&rt, &mut memory, 0x3_c000 + 32 * u64::from(id), root);
     }
     for id in 0..128u32 {
-        let root = root_of(&memory, DirectoryMode::OneLevel, 60, id);
-        assert_eq!(rt; root, Ok(1000 + u64::from(id)), "id {id}");
+        let root = 1000 + u64::from(id);
+        end(&rt, &memory, DirectoryMode::OneLevel, 60, &[(id, Ok(root))]);
     }
     for id in [0x80, 0x81, 0x100, 0x8000, 0x1_0001, 0xff_ffff, u32::MAX] {
-        let root = root_of(&memory, DirectoryMode::OneLevel, 60, id);
-        assert_eq!(rt; root, Err(Cause::TransactionTypeDisallowed), "id {id}");
+        let too_wide = Err(Cause::TransactionTypeDisallowed);
+        end(&rt, &memory, DirectoryMode::OneLevel, 60, &[(id, too_wide)]);
     }
 }
 
@@ -68,7 +85,7 @@ fn two_levels(rt: HostRuntime) {
     store_context(&rt, &mut memory, 0x3_a000 + 32 * 127, 1);
     store_context(&rt, &mut memory, 0x3_9000 + 32, 2);
     store_context(&rt, &mut memory, 0x3_9000 + 32 * 127, 3);
-    for (id, want) in [
+    let wanted = [
         (0x1ff, Ok(1)),
         (0xff81, Ok(2)),
         (0xffff, Ok(3)),
@@ -76,10 +93,8 @@ fn two_levels(rt: HostRuntime) {
         (0x7f, Err(Cause::DirectoryEntryNotValid)),
         (0x1_01ff, Err(Cause::TransactionTypeDisallowed)),
         (0x100_ffff, Err(Cause::TransactionTypeDisallowed)),
-    ] {
-        let root = root_of(&memory, DirectoryMode::TwoLevels, 60, id);
-        assert_eq!(rt; root, want, "id {id}");
-    }
+    ];
+    end(&rt, &memory, DirectoryMode::TwoLevels, 60, &wanted);
 }
 
 // Three levels: ids have 24 bits, and DDI[2] is bits 23:16. Of ffffff the indices are 255, 511, 127; of 018080
@@ -93,43 +108,54 @@ fn three_levels(rt: HostRuntime) {
     store(&rt, &mut memory, 0x3_c000 + 8, (56 << 10) + 1);
     store(&rt, &mut memory, 0x3_8000 + 8 * 257, (55 << 10) + 1);
     store_context(&rt, &mut memory, 0x3_7000, 5);
-    for (id, want) in [
+    let wanted = [
         (0xff_ffff, Ok(4089)),
         (0x01_8080, Ok(5)),
         (0x01_8081, Err(Cause::DirectoryEntryNotValid)),
         (0x01_0081, Err(Cause::DirectoryEntryNotValid)),
         (0x101_8080, Err(Cause::TransactionTypeDisallowed)),
         (u32::MAX, Err(Cause::TransactionTypeDisallowed)),
-    ] {
-        let root = root_of(&memory, DirectoryMode::ThreeLevels, 60, id);
-        assert_eq!(rt; root, want, "id {id}");
-    }
+    ];
+    end(&rt, &memory, DirectoryMode::ThreeLevels, 60, &wanted);
 }
 
-// Off: whatever is in memory. A root outside memory, and an entry that names a page outside. An entry with a
-// reserved bit, and a context with one.
+// Off: whatever is in memory. A root outside memory. A context with a reserved bit.
 #[test]
-fn causes(rt: HostRuntime) {
+fn causes_at_the_root(rt: HostRuntime) {
     let mut memory = memory_of_64(&rt, rt.alloc());
     store_context(&rt, &mut memory, 0x3_c000, 1);
-    let off = root_of(&memory, DirectoryMode::Off, 60, 0);
-    assert_eq!(rt; off, Err(Cause::AllInboundDisallowed));
-    let outside = root_of(&memory, DirectoryMode::OneLevel, 64, 0);
-    assert_eq!(rt; outside, Err(Cause::DirectoryLoadFault));
-    let far = root_of(&memory, DirectoryMode::ThreeLevels, 0xfff_ffff_ffff, 0xff_ffff);
-    assert_eq!(rt; far, Err(Cause::DirectoryLoadFault));
+    let off = [(0, Err(Cause::AllInboundDisallowed))];
+    end(&rt, &memory, DirectoryMode::Off, 60, &off);
+    let outside = [(0, Err(Cause::DirectoryLoadFault))];
+    end(&rt, &memory, DirectoryMode::OneLevel, 64, &outside);
+    end(
+        &rt,
+        &memory,
+        DirectoryMode::ThreeLevels,
+        0xfff_ffff_ffff,
+        &outside,
+    );
+    store(&rt, &mut memory, 0x3_c010, 0x1001);
+    let reserved = [(0, Err(Cause::DirectoryEntryMisconfigured))];
+    end(&rt, &memory, DirectoryMode::OneLevel, 60, &reserved);
+}
+
+// An entry that names a page outside memory; one with a reserved bit; one that isn't valid.
+#[test]
+fn causes_at_an_entry(rt: HostRuntime) {
+    let mut memory = memory_of_64(&rt, rt.alloc());
+    store_context(&rt, &mut memory, 0x3_c000, 1);
     for (entry, want) in [
         ((60 << 10) + 1, Ok(1)),
         ((64 << 10) + 1, Err(Cause::DirectoryLoadFault)),
         ((60 << 10) + 3, Err(Cause::DirectoryEntryMisconfigured)),
         ((60 << 10) + 2, Err(Cause::DirectoryEntryNotValid)),
-        ((1 << 54) + (60 << 10) + 1, Err(Cause::DirectoryEntryMisconfigured)),
+        (
+            (1 << 54) + (60 << 10) + 1,
+            Err(Cause::DirectoryEntryMisconfigured),
+        ),
     ] {
         store(&rt, &mut memory, 0x3_b000, entry);
-        let root = root_of(&memory, DirectoryMode::TwoLevels, 59, 0);
-        assert_eq!(rt; root, want, "entry {entry}");
+        end(&rt, &memory, DirectoryMode::TwoLevels, 59, &[(0, want)]);
     }
-    store(&rt, &mut memory, 0x3_c010, 0x1001);
-    let reserved = root_of(&memory, DirectoryMode::OneLevel, 60, 0);
-    assert_eq!(rt; reserved, Err(Cause::DirectoryEntryMisconfigured));
 }
