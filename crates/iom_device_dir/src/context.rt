@@ -13,9 +13,9 @@ pub struct Context {
     pub en_ats: bool,
     pub first_stage: FirstStage,
     pub second_stage: SecondStage,
-    /// The number of the device's address space.
+    /// The number of the device's address space (PSCID).
     pub pscid: Pscid,
-    /// The number of the guest.
+    /// The number of the guest (GSCID).
     pub gscid: u16,
 }
 
