@@ -6,14 +6,14 @@ use Rattle.std.proofs.Math.Seq.{drop-append_seam}
 use Rattle.std.proofs.Math.Nat.{mul-zero}
 use Rattle.std.proofs.lemmas.List.{drop-drop}
 use Rattle.iom_device_dir.specs.declared.words.ContextWords.{ContextWords}
-use Rattle.iom_device_dir.specs.Words.{word_of, words_of, word_bytes, bytes_of}
+use Rattle.iom_device_dir.specs.Words.{context_word, context_words, words_as_bytes, context_bytes}
 
 -- the bytes of words, each of n bytes
 unfoldable bytes_by : ℕ → List ℕ → List ℕ
 bytes_by n [] = []
 bytes_by n (word ∷ words) = little_bytes n word ++ bytes_by n words
 
-by_eight : (words : List ℕ) → word_bytes words ≡ bytes_by 8 words
+by_eight : (words : List ℕ) → words_as_bytes words ≡ bytes_by 8 words
 unfolding bytes_by
 by_eight [] = refl
 by_eight (word ∷ words) = ap (λ bytes. little_bytes 8 word ++ bytes) (by_eight words)
@@ -54,19 +54,19 @@ same_words v w a b c d =
     let of_fsc : ℕ → ContextWords = λ x. record { tc = w.tc; iohgatp = w.iohgatp; ta = w.ta; fsc = x } in
     ap of_tc a ∙ ap of_iohgatp b ∙ ap of_ta c ∙ ap of_fsc d
 
-by_list : (words : List ℕ) (w : ContextWords) → words ≡ w.tc ∷ w.iohgatp ∷ w.ta ∷ w.fsc ∷ [] → AreWide w → words_of (word_bytes words) ≡ w
-unfolding word_of
+by_list : (words : List ℕ) (w : ContextWords) → words ≡ w.tc ∷ w.iohgatp ∷ w.ta ∷ w.fsc ∷ [] → AreWide w → context_words (words_as_bytes words) ≡ w
+unfolding context_word
 by_list words w is wide =
     let e = by_eight words in
     let long : length words ≡ 4 = ap length is in
-    let back : (k word : ℕ) (rest : List ℕ) → k < 4 → drop k words ≡ word ∷ rest → word < 18446744073709551616 → word_of (word_bytes words) k ≡ word =
-    λ k word rest lt at small. ap (λ bytes. word_of bytes k) e ∙ word_back 8 k word words rest (omega arith) at small in
-    same_words (words_of (word_bytes words)) w
+    let back : (k word : ℕ) (rest : List ℕ) → k < 4 → drop k words ≡ word ∷ rest → word < 18446744073709551616 → context_word (words_as_bytes words) k ≡ word =
+    λ k word rest lt at small. ap (λ bytes. context_word bytes k) e ∙ word_back 8 k word words rest (omega arith) at small in
+    same_words (context_words (words_as_bytes words)) w
     (back 0 w.tc (w.iohgatp ∷ w.ta ∷ w.fsc ∷ []) (omega arith) is wide.tc)
     (back 1 w.iohgatp (w.ta ∷ w.fsc ∷ []) (omega arith) (ap (drop 1) is) wide.iohgatp)
     (back 2 w.ta (w.fsc ∷ []) (omega arith) (ap (drop 2) is) wide.ta)
     (back 3 w.fsc [] (omega arith) (ap (drop 3) is) wide.fsc)
 
 -- the words of the bytes of words are those words
-pub words_back : (w : ContextWords) → AreWide w → words_of (bytes_of w) ≡ w
+pub words_back : (w : ContextWords) → AreWide w → context_words (context_bytes w) ≡ w
 words_back w wide = by_list (w.tc ∷ w.iohgatp ∷ w.ta ∷ w.fsc ∷ []) w refl wide

@@ -1,26 +1,25 @@
 -- The words that are written for a context are that context.
-use Rattle.std.proofs.Common.{◌≡◌, ◌<◌, ◌+◌, ◌*◌, ◌^◌, ℕ, Bool, true, false, Result, Ok, refl, sym, ap, subst, ◌∙◌, ◌==◌, arith}
+use Rattle.std.proofs.Common.{◌≡◌, ◌<◌, ◌+◌, ◌*◌, ◌^◌, ℕ, Bool, true, false, Ok, refl, sym, ap, subst, ◌==◌, arith}
 use Rattle.iom_registers.specs.Bits.{bits, bit}
 use Rattle.iom_device_dir.specs.declared.context.Context.{Context}
 use Rattle.iom_device_dir.specs.declared.stages.FirstStage.{FirstStage}
 use Rattle.iom_device_dir.specs.declared.stages.FirstStage.TheVariants as first
 use Rattle.iom_device_dir.specs.declared.stages.SecondStage.{SecondStage}
 use Rattle.iom_device_dir.specs.declared.stages.SecondStage.TheVariants as second
-use Rattle.iom_device_dir.specs.declared.words.ContextWords.{ContextWords}
-use Rattle.iom_device_dir.specs.Words.{words_of, bytes_of}
-use Rattle.iom_device_dir.specs.Formats.{IsFirstStage, IsSecondStage, AreWordsOf, IsContext}
-use Rattle.iom_device_dir.specs.Decoded.{decoded}
-use Rattle.iom_device_dir.specs.Encoded.{first_stage_word, second_stage_word, words_for, encoded, UnusedAreZero}
+use Rattle.iom_device_dir.specs.Words.{context_words}
+use Rattle.iom_device_dir.specs.Formats.{IsFirstStage, IsSecondStage, AreContextWords, IsContext}
+use Rattle.iom_device_dir.specs.Decoded.{decoded_context}
+use Rattle.iom_device_dir.specs.Encoded.{first_stage_word, second_stage_word, encoded_context_words, encoded_context, RootsOfBareStagesAreZero}
 use Rattle.iom_device_dir.proofs.Bytes.{AreWide, words_back}
 use Rattle.iom_device_dir.proofs.Exact.{found}
 
 -- no field is wider than its bits: what the fields' own types say
 abbrev pub StageFits : FirstStage → Type 0
 StageFits first.Bare = Unit {0}
-StageFits (first.Sv39 root) = root < 2 ^ 44
+StageFits (first.Sv39 root) = root.number < 2 ^ 44
 
 abbrev pub ContextFits : Context → Type 0
-ContextFits context = (context.pscid < 2 ^ 20) × (context.gscid < 2 ^ 16) × StageFits context.first_stage
+ContextFits context = (context.pscid.number < 2 ^ 20) × (context.gscid < 2 ^ 16) × StageFits context.first_stage
 
 tc_wide : (b : Bool) → 1 + bit 1 b < 18446744073709551616
 tc_wide true = omega arith
@@ -62,8 +61,8 @@ first_wide : (stage : FirstStage) → StageFits stage → first_stage_word stage
 first_wide first.Bare fits = omega arith
 first_wide (first.Sv39 root) fits = omega arith
 
-are_wide : (context : Context) → ContextFits context → AreWide (words_for context)
-unfolding words_for
+are_wide : (context : Context) → ContextFits context → AreWide (encoded_context_words context)
+unfolding encoded_context_words
 are_wide context fits =
     let pscid = fits.0 in
     record {
@@ -74,8 +73,8 @@ are_wide context fits =
     }
 
 -- the words mean the context
-pub means : (context : Context) → ContextFits context → AreWordsOf (words_for context) context
-unfolding words_for
+pub means : (context : Context) → ContextFits context → AreContextWords (encoded_context_words context) context
+unfolding encoded_context_words
 means context fits =
     let pscid = fits.0 in
     record {
@@ -88,23 +87,23 @@ means context fits =
       clear = record { tc = tc_clear context.en_ats; ta_below = omega arith; ta_above = omega arith; fsc = first_clear context.first_stage fits.2 };
     }
 
-bytes_back : (context : Context) → ContextFits context → words_of (encoded context) ≡ words_for context
-bytes_back context fits = words_back (words_for context) (are_wide context fits)
+bytes_back : (context : Context) → ContextFits context → context_words (encoded_context context) ≡ encoded_context_words context
+bytes_back context fits = words_back (encoded_context_words context) (are_wide context fits)
 
-pub bytes_mean : (context : Context) → ContextFits context → IsContext (encoded context) context
-bytes_mean context fits = subst (λ w. AreWordsOf w context) (sym (bytes_back context fits)) (means context fits)
+pub bytes_mean : (context : Context) → ContextFits context → IsContext (encoded_context context) context
+bytes_mean context fits = subst (λ w. AreContextWords w context) (sym (bytes_back context fits)) (means context fits)
 
-unused : (context : Context) → ContextFits context → UnusedAreZero context (words_for context)
-unfolding words_for
+unused : (context : Context) → ContextFits context → RootsOfBareStagesAreZero context (encoded_context_words context)
+unfolding encoded_context_words
 unused context fits =
     (λ bare. ap (λ stage. bits 43 0 (first_stage_word stage)) bare, λ bare. second_unused context.second_stage context.gscid fits.1)
 
-pub bytes_unused : (context : Context) → ContextFits context → UnusedAreZero context (words_of (encoded context))
-bytes_unused context fits = subst (UnusedAreZero context) (sym (bytes_back context fits)) (unused context fits)
+pub bytes_unused : (context : Context) → ContextFits context → RootsOfBareStagesAreZero context (context_words (encoded_context context))
+bytes_unused context fits = subst (RootsOfBareStagesAreZero context) (sym (bytes_back context fits)) (unused context fits)
 
 -- what is written is decoded to the context
-pub words_read_back : (context : Context) → ContextFits context → decoded (words_for context) ≡ Ok context
-words_read_back context fits = found (words_for context) context (means context fits)
+pub words_read_back : (context : Context) → ContextFits context → decoded_context (encoded_context_words context) ≡ Ok context
+words_read_back context fits = found (encoded_context_words context) context (means context fits)
 
-pub bytes_read_back : (context : Context) → ContextFits context → decoded (words_of (encoded context)) ≡ Ok context
-bytes_read_back context fits = found (words_of (encoded context)) context (bytes_mean context fits)
+pub bytes_read_back : (context : Context) → ContextFits context → decoded_context (context_words (encoded_context context)) ≡ Ok context
+bytes_read_back context fits = found (context_words (encoded_context context)) context (bytes_mean context fits)

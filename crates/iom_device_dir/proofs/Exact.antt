@@ -1,5 +1,5 @@
 -- Decoding is exact to the grammars: what it answers is what the words are, and what they are is what it answers.
-use Rattle.std.proofs.Common.{◌≡◌, ◌≢◌, ◌<◌, ◌∙◌, ◌&&◌, ◌==◌, ℕ, zero, suc, Bool, true, false, inl, inr, Option, Some, None, Result, Ok, Err, refl, sym, ap, subst, arith, if◌then◌else◌}
+use Rattle.std.proofs.Common.{◌≡◌, ◌≢◌, ◌<◌, ◌∙◌, ◌==◌, ℕ, zero, suc, Bool, true, false, inl, inr, Option, Some, None, Result, Ok, Err, refl, sym, ap, subst, arith, if◌then◌else◌}
 use Rattle.std.specs.Prelude.{◌↔◌}
 use Rattle.std.proofs.lemmas.Bool.Decides.{eqb_tells}
 use Rattle.iom_base.specs.declared.cause.Cause.{Cause}
@@ -11,9 +11,12 @@ use Rattle.iom_device_dir.specs.declared.stages.FirstStage.{FirstStage}
 use Rattle.iom_device_dir.specs.declared.stages.FirstStage.TheVariants as first
 use Rattle.iom_device_dir.specs.declared.stages.SecondStage.{SecondStage}
 use Rattle.iom_device_dir.specs.declared.stages.SecondStage.TheVariants as second
+use Rattle.iom_device_dir.specs.declared.values.Ppn.{Ppn}
 use Rattle.iom_device_dir.specs.declared.words.ContextWords.{ContextWords}
-use Rattle.iom_device_dir.specs.Formats.{IsNonLeaf, IsRefusedNonLeaf, IsFirstStage, IsSecondStage, IsClear, AreWordsOf, IsMisconfigured, IsRefused}
-use Rattle.iom_device_dir.specs.Decoded.{decoded_non_leaf, first_stage_at, second_stage_at, is_clear, with_stages, decoded}
+use Rattle.iom_device_dir.specs.Values.{page_from, address_space_from}
+use Rattle.iom_device_dir.specs.Formats.{IsNonLeafEntry, IsNonLeafEntryRefused, IsFirstStage, IsSecondStage, SetsOnlyOfferedBits, AreContextWords, IsContextMisconfigured, IsContextRefused}
+use Rattle.iom_device_dir.specs.Decoded.{decoded_non_leaf_entry, first_stage_at, second_stage_at, sets_only_offered_bits, context_with_stages, decoded_context}
+use Rattle.iom_device_dir.proofs.SameValues.{same_page, same_space}
 
 -- a bit that isn't 0 is 1
 one_of_two : (n : ℕ) → n < 2 → n ≢ 0 → n ≡ 1
@@ -26,10 +29,10 @@ bit_is_one word some = one_of_two (bits 0 0 word) (omega arith) some
 
 -- the test of the bits that may not be set
 abbrev SaysClear : ContextWords → Bool → Type 0
-SaysClear w true = IsClear w
-SaysClear w false = ¬ IsClear w
+SaysClear w true = SetsOnlyOfferedBits w
+SaysClear w false = ¬ SetsOnlyOfferedBits w
 
-clear_told : (w : ContextWords) → SaysClear w (is_clear w)
+clear_told : (w : ContextWords) → SaysClear w (sets_only_offered_bits w)
 clear_told w =
     elim (eqb_tells (bits 63 2 w.tc) 0) [
       | inl a ↦ elim (eqb_tells (bits 11 0 w.ta) 0) [
@@ -54,16 +57,16 @@ no_first : (mode ppn : ℕ) → mode ≢ 0 → mode ≢ 8 → (stage : FirstStag
 no_first mode ppn bare sv39 first.Bare h = bare h
 no_first mode ppn bare sv39 (first.Sv39 root) h = sv39 h.0
 
-first_told : (mode ppn : ℕ) → TellsFirst mode ppn (first_stage_at mode ppn)
-first_told mode ppn =
+first_told : (mode : ℕ) (root : Ppn) → TellsFirst mode root.number (first_stage_at mode root)
+first_told mode root =
     elim (eqb_tells mode 0) [
       | inl z ↦ rw z.0 z.1
-      | inr z ↦ rw z.0 (elim (eqb_tells mode 8) [ inl e ↦ rw e.0 (e.1, refl) | inr e ↦ rw e.0 (no_first mode ppn z.1 e.1) ])
+      | inr z ↦ rw z.0 (elim (eqb_tells mode 8) [ inl e ↦ rw e.0 (e.1, refl) | inr e ↦ rw e.0 (no_first mode root.number z.1 e.1) ])
     ]
 
-first_found : (mode ppn : ℕ) (stage : FirstStage) → IsFirstStage mode ppn stage → first_stage_at mode ppn ≡ Some stage
-first_found mode ppn first.Bare h = rw h refl
-first_found mode ppn (first.Sv39 root) h = rw (h.0, h.1) refl
+first_found : (mode : ℕ) (root : Ppn) (stage : FirstStage) → IsFirstStage mode root.number stage → first_stage_at mode root ≡ Some stage
+first_found mode root first.Bare h = rw h refl
+first_found mode root (first.Sv39 own) h = rw h.0 (ap (λ page. Some (first.Sv39 page)) (sym (same_page own root h.1)))
 
 -- what the mode of the second stage tells
 abbrev TellsSecond : ℕ → Option SecondStage → Type 0
@@ -81,95 +84,95 @@ second_found mode second.Bare h = rw h refl
 
 -- what decoding answers, judged by the grammar
 abbrev pub Judges : ContextWords → Result Context Cause → Type 0
-Judges w (Ok context) = AreWordsOf w context
-Judges w (Err cause) = IsRefused w cause
+Judges w (Ok context) = AreContextWords w context
+Judges w (Err cause) = IsContextRefused w cause
 
-judged_stages : (w : ContextWords) → bits 0 0 w.tc ≡ 1 → IsClear w → (f : Option FirstStage) (s : Option SecondStage)
-    → TellsFirst (bits 63 60 w.fsc) (bits 43 0 w.fsc) f → TellsSecond (bits 63 60 w.iohgatp) s → Judges w (with_stages w f s)
+judged_stages : (w : ContextWords) → bits 0 0 w.tc ≡ 1 → SetsOnlyOfferedBits w → (f : Option FirstStage) (s : Option SecondStage)
+    → TellsFirst (bits 63 60 w.fsc) (bits 43 0 w.fsc) f → TellsSecond (bits 63 60 w.iohgatp) s → Judges w (context_with_stages w f s)
 judged_stages w valid clear (Some f) (Some s) tf ts =
     record { valid = valid; en_ats = refl; second_stage = ts; gscid = refl; pscid = refl; first_stage = tf; clear = clear }
 judged_stages w valid clear (Some f) None tf ts = inr (valid, inr (inr ts), refl)
 judged_stages w valid clear None s tf ts = inr (valid, inr (inl tf), refl)
 
 abbrev stages_of : ContextWords → Result Context Cause
-stages_of w = with_stages w (first_stage_at (bits 63 60 w.fsc) (bits 43 0 w.fsc)) (second_stage_at (bits 63 60 w.iohgatp))
+stages_of w = context_with_stages w (first_stage_at (bits 63 60 w.fsc) (page_from 0 w.fsc)) (second_stage_at (bits 63 60 w.iohgatp))
 
 judged_clear : (w : ContextWords) → bits 0 0 w.tc ≡ 1 → (b : Bool) → SaysClear w b → Judges w (if b then stages_of w else Err DirectoryEntryMisconfigured)
 judged_clear w valid true says =
-    judged_stages w valid says (first_stage_at (bits 63 60 w.fsc) (bits 43 0 w.fsc)) (second_stage_at (bits 63 60 w.iohgatp))
-    (first_told (bits 63 60 w.fsc) (bits 43 0 w.fsc)) (second_told (bits 63 60 w.iohgatp))
+    judged_stages w valid says (first_stage_at (bits 63 60 w.fsc) (page_from 0 w.fsc)) (second_stage_at (bits 63 60 w.iohgatp))
+    (first_told (bits 63 60 w.fsc) (page_from 0 w.fsc)) (second_told (bits 63 60 w.iohgatp))
 judged_clear w valid false says = inr (valid, inl says, refl)
 
 -- SOUND: what decoding answers is so
-pub judged : (w : ContextWords) → Judges w (decoded w)
-unfolding decoded
+pub judged : (w : ContextWords) → Judges w (decoded_context w)
+unfolding decoded_context
 judged w =
     elim (eqb_tells (bits 0 0 w.tc) 0) [
       | inl z ↦ rw z.0 (inl (z.1, refl))
-      | inr z ↦ rw z.0 (judged_clear w (bit_is_one w.tc z.1) (is_clear w) (clear_told w))
+      | inr z ↦ rw z.0 (judged_clear w (bit_is_one w.tc z.1) (sets_only_offered_bits w) (clear_told w))
     ]
 
-if_clear : (w : ContextWords) (b : Bool) → SaysClear w b → IsClear w → b ≡ true
+if_clear : (w : ContextWords) (b : Bool) → SaysClear w b → SetsOnlyOfferedBits w → b ≡ true
 if_clear w true says clear = refl
 if_clear w false says clear = absurd (says clear)
 
-by_fields : (w : ContextWords) (context : Context) → AreWordsOf w context
-    → with_stages w (Some context.first_stage) (Some context.second_stage) ≡ Ok context
-by_fields w context are = rw (are.en_ats, are.gscid, are.pscid) refl
+by_fields : (w : ContextWords) (context : Context) → AreContextWords w context
+    → context_with_stages w (Some context.first_stage) (Some context.second_stage) ≡ Ok context
+by_fields w context are = rw (are.en_ats, are.gscid, same_space context.pscid (address_space_from 12 w.ta) are.pscid) refl
 
 -- COMPLETE: what is so is what decoding answers
-pub found : (w : ContextWords) (context : Context) → AreWordsOf w context → decoded w ≡ Ok context
-unfolding decoded
+pub found : (w : ContextWords) (context : Context) → AreContextWords w context → decoded_context w ≡ Ok context
+unfolding decoded_context
 found w context are =
     let valid : (bits 0 0 w.tc == 0) ≡ false = ap (λ n. n == 0) are.valid in
-    let clear = if_clear w (is_clear w) (clear_told w) are.clear in
-    ap (λ b. if b then Err DirectoryEntryNotValid else if is_clear w then stages_of w else Err DirectoryEntryMisconfigured) valid
+    let clear = if_clear w (sets_only_offered_bits w) (clear_told w) are.clear in
+    ap (λ b. if b then Err DirectoryEntryNotValid else if sets_only_offered_bits w then stages_of w else Err DirectoryEntryMisconfigured) valid
     ∙ ap (λ b. if b then stages_of w else Err DirectoryEntryMisconfigured) clear
-    ∙ ap (λ f. with_stages w f (second_stage_at (bits 63 60 w.iohgatp))) (first_found (bits 63 60 w.fsc) (bits 43 0 w.fsc) context.first_stage are.first_stage)
-    ∙ ap (λ s. with_stages w (Some context.first_stage) s) (second_found (bits 63 60 w.iohgatp) context.second_stage are.second_stage)
+    ∙ ap (λ f. context_with_stages w f (second_stage_at (bits 63 60 w.iohgatp))) (first_found (bits 63 60 w.fsc) (page_from 0 w.fsc) context.first_stage are.first_stage)
+    ∙ ap (λ s. context_with_stages w (Some context.first_stage) s) (second_found (bits 63 60 w.iohgatp) context.second_stage are.second_stage)
     ∙ by_fields w context are
 
 no_stage_first : (w : ContextWords) (f : Option FirstStage) (s : Option SecondStage) → TellsFirst (bits 63 60 w.fsc) (bits 43 0 w.fsc) f
-    → ((stage : FirstStage) → ¬ IsFirstStage (bits 63 60 w.fsc) (bits 43 0 w.fsc) stage) → with_stages w f s ≡ Err DirectoryEntryMisconfigured
+    → ((stage : FirstStage) → ¬ IsFirstStage (bits 63 60 w.fsc) (bits 43 0 w.fsc) stage) → context_with_stages w f s ≡ Err DirectoryEntryMisconfigured
 no_stage_first w (Some f) s tell none = absurd (none f tell)
 no_stage_first w None s tell none = refl
 
 no_stage_second : (w : ContextWords) (f : Option FirstStage) (s : Option SecondStage) → TellsSecond (bits 63 60 w.iohgatp) s
-    → ((stage : SecondStage) → ¬ IsSecondStage (bits 63 60 w.iohgatp) stage) → with_stages w f s ≡ Err DirectoryEntryMisconfigured
+    → ((stage : SecondStage) → ¬ IsSecondStage (bits 63 60 w.iohgatp) stage) → context_with_stages w f s ≡ Err DirectoryEntryMisconfigured
 no_stage_second w (Some f) (Some s) tell none = absurd (none s tell)
 no_stage_second w (Some f) None tell none = refl
 no_stage_second w None s tell none = refl
 
-misconfigured : (w : ContextWords) (b : Bool) → SaysClear w b → IsMisconfigured w
+misconfigured : (w : ContextWords) (b : Bool) → SaysClear w b → IsContextMisconfigured w
     → (if b then stages_of w else Err DirectoryEntryMisconfigured) ≡ Err DirectoryEntryMisconfigured
 misconfigured w false says h = refl
 misconfigured w true says (inl unclear) = absurd (unclear says)
 misconfigured w true says (inr (inl none)) =
-    no_stage_first w (first_stage_at (bits 63 60 w.fsc) (bits 43 0 w.fsc)) (second_stage_at (bits 63 60 w.iohgatp)) (first_told (bits 63 60 w.fsc) (bits 43 0 w.fsc)) none
+    no_stage_first w (first_stage_at (bits 63 60 w.fsc) (page_from 0 w.fsc)) (second_stage_at (bits 63 60 w.iohgatp)) (first_told (bits 63 60 w.fsc) (page_from 0 w.fsc)) none
 misconfigured w true says (inr (inr none)) =
-    no_stage_second w (first_stage_at (bits 63 60 w.fsc) (bits 43 0 w.fsc)) (second_stage_at (bits 63 60 w.iohgatp)) (second_told (bits 63 60 w.iohgatp)) none
+    no_stage_second w (first_stage_at (bits 63 60 w.fsc) (page_from 0 w.fsc)) (second_stage_at (bits 63 60 w.iohgatp)) (second_told (bits 63 60 w.iohgatp)) none
 
-pub refused : (w : ContextWords) (cause : Cause) → IsRefused w cause → decoded w ≡ Err cause
-unfolding decoded
+pub refused : (w : ContextWords) (cause : Cause) → IsContextRefused w cause → decoded_context w ≡ Err cause
+unfolding decoded_context
 refused w cause (inl h) = rw (h.0, h.1) refl
 refused w cause (inr h) =
     let valid : (bits 0 0 w.tc == 0) ≡ false = ap (λ n. n == 0) h.0 in
-    ap (λ b. if b then Err DirectoryEntryNotValid else if is_clear w then stages_of w else Err DirectoryEntryMisconfigured) valid
-    ∙ misconfigured w (is_clear w) (clear_told w) h.1 ∙ ap (λ x. Err x) (sym h.2)
+    ap (λ b. if b then Err DirectoryEntryNotValid else if sets_only_offered_bits w then stages_of w else Err DirectoryEntryMisconfigured) valid
+    ∙ misconfigured w (sets_only_offered_bits w) (clear_told w) h.1 ∙ ap (λ x. Err x) (sym h.2)
 
 -- both ways at once, for whatever was answered
-pub answers : (w : ContextWords) (result : Result Context Cause) → result ≡ decoded w → (context : Context) → (result ≡ Ok context) ↔ AreWordsOf w context
+pub answers : (w : ContextWords) (result : Result Context Cause) → result ≡ decoded_context w → (context : Context) → (result ≡ Ok context) ↔ AreContextWords w context
 answers w result is context = (λ e. subst (Judges w) (sym is ∙ e) (judged w), λ are. is ∙ found w context are)
 
-pub refuses : (w : ContextWords) (result : Result Context Cause) → result ≡ decoded w → (cause : Cause) → (result ≡ Err cause) ↔ IsRefused w cause
+pub refuses : (w : ContextWords) (result : Result Context Cause) → result ≡ decoded_context w → (cause : Cause) → (result ≡ Err cause) ↔ IsContextRefused w cause
 refuses w result is cause = (λ e. subst (Judges w) (sym is ∙ e) (judged w), λ h. is ∙ refused w cause h)
 
 -- the same of a non-leaf entry
 abbrev pub JudgesNonLeaf : ℕ → Result NonLeafEntry Cause → Type 0
-JudgesNonLeaf word (Ok entry) = IsNonLeaf word entry
-JudgesNonLeaf word (Err cause) = IsRefusedNonLeaf word cause
+JudgesNonLeaf word (Ok entry) = IsNonLeafEntry word entry
+JudgesNonLeaf word (Err cause) = IsNonLeafEntryRefused word cause
 
-pub judged_non_leaf : (word : ℕ) → JudgesNonLeaf word (decoded_non_leaf word)
+pub judged_non_leaf : (word : ℕ) → JudgesNonLeaf word (decoded_non_leaf_entry word)
 judged_non_leaf word =
     elim (eqb_tells (bits 0 0 word) 0) [
       | inl z ↦ rw z.0 (inl (z.1, refl))
@@ -182,10 +185,10 @@ judged_non_leaf word =
       ]
     ]
 
-pub found_non_leaf : (word : ℕ) (entry : NonLeafEntry) → IsNonLeaf word entry → decoded_non_leaf word ≡ Ok entry
-found_non_leaf word entry is = rw (is.valid, is.clear_below, is.clear_above, is.next) refl
+pub found_non_leaf : (word : ℕ) (entry : NonLeafEntry) → IsNonLeafEntry word entry → decoded_non_leaf_entry word ≡ Ok entry
+found_non_leaf word entry is = rw (is.valid, is.clear_below, is.clear_above, same_page entry.next (page_from 10 word) is.next) refl
 
-pub refused_non_leaf : (word : ℕ) (cause : Cause) → IsRefusedNonLeaf word cause → decoded_non_leaf word ≡ Err cause
+pub refused_non_leaf : (word : ℕ) (cause : Cause) → IsNonLeafEntryRefused word cause → decoded_non_leaf_entry word ≡ Err cause
 refused_non_leaf word cause (inl h) = rw (h.0, h.1) refl
 refused_non_leaf word cause (inr h) =
     elim (eqb_tells (bits 9 1 word) 0) [
@@ -195,3 +198,13 @@ refused_non_leaf word cause (inr h) =
       ]
       | inr a ↦ rw (h.0, a.0, h.2) refl
     ]
+
+pub answers_non_leaf : (word : ℕ) (result : Result NonLeafEntry Cause) → result ≡ decoded_non_leaf_entry word
+    → (entry : NonLeafEntry) → (result ≡ Ok entry) ↔ IsNonLeafEntry word entry
+answers_non_leaf word result is entry =
+    (λ e. subst (JudgesNonLeaf word) (sym is ∙ e) (judged_non_leaf word), λ are. is ∙ found_non_leaf word entry are)
+
+pub refuses_non_leaf : (word : ℕ) (result : Result NonLeafEntry Cause) → result ≡ decoded_non_leaf_entry word
+    → (cause : Cause) → (result ≡ Err cause) ↔ IsNonLeafEntryRefused word cause
+refuses_non_leaf word result is cause =
+    (λ e. subst (JudgesNonLeaf word) (sym is ∙ e) (judged_non_leaf word), λ h. is ∙ refused_non_leaf word cause h)

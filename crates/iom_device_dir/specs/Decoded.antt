@@ -9,36 +9,38 @@ use Rattle.iom_device_dir.specs.declared.stages.FirstStage.{FirstStage}
 use Rattle.iom_device_dir.specs.declared.stages.FirstStage.TheVariants as first
 use Rattle.iom_device_dir.specs.declared.stages.SecondStage.{SecondStage}
 use Rattle.iom_device_dir.specs.declared.stages.SecondStage.TheVariants as second
+use Rattle.iom_device_dir.specs.declared.values.Ppn.{Ppn}
 use Rattle.iom_device_dir.specs.declared.words.ContextWords.{ContextWords}
+use Rattle.iom_device_dir.specs.Values.{page_from, address_space_from}
 
 -- the non-leaf entry that a word is, or the cause
-abbrev pub decoded_non_leaf : ℕ → Result NonLeafEntry Cause
-decoded_non_leaf word =
+abbrev pub decoded_non_leaf_entry : ℕ → Result NonLeafEntry Cause
+decoded_non_leaf_entry word =
     if bits 0 0 word == 0 then Err DirectoryEntryNotValid
-    else if (bits 9 1 word == 0) && (bits 63 54 word == 0) then Ok (record { next = bits 53 10 word })
+    else if (bits 9 1 word == 0) && (bits 63 54 word == 0) then Ok (record { next = page_from 10 word })
     else Err DirectoryEntryMisconfigured
 
 -- the stage of a mode; None where the mode isn't offered
-abbrev pub first_stage_at : ℕ → ℕ → Option FirstStage
+abbrev pub first_stage_at : ℕ → Ppn → Option FirstStage
 first_stage_at mode ppn = if mode == 0 then Some first.Bare else if mode == 8 then Some (first.Sv39 ppn) else None
 
 abbrev pub second_stage_at : ℕ → Option SecondStage
 second_stage_at mode = if mode == 0 then Some second.Bare else None
 
 -- whether no bit is set that may not be
-abbrev pub is_clear : ContextWords → Bool
-is_clear w = (bits 63 2 w.tc == 0) && ((bits 11 0 w.ta == 0) && ((bits 63 32 w.ta == 0) && (bits 59 44 w.fsc == 0)))
+abbrev pub sets_only_offered_bits : ContextWords → Bool
+sets_only_offered_bits w = (bits 63 2 w.tc == 0) && ((bits 11 0 w.ta == 0) && ((bits 63 32 w.ta == 0) && (bits 59 44 w.fsc == 0)))
 
 -- the context with these stages, where both are offered
-abbrev pub with_stages : ContextWords → Option FirstStage → Option SecondStage → Result Context Cause
-with_stages w (Some first_stage) (Some second_stage) =
-    Ok (record { en_ats = bits 1 1 w.tc == 1; first_stage = first_stage; second_stage = second_stage; pscid = bits 31 12 w.ta; gscid = bits 59 44 w.iohgatp })
-with_stages w (Some first_stage) None = Err DirectoryEntryMisconfigured
-with_stages w None second_stage = Err DirectoryEntryMisconfigured
+abbrev pub context_with_stages : ContextWords → Option FirstStage → Option SecondStage → Result Context Cause
+context_with_stages w (Some first_stage) (Some second_stage) =
+    Ok (record { en_ats = bits 1 1 w.tc == 1; first_stage = first_stage; second_stage = second_stage; pscid = address_space_from 12 w.ta; gscid = bits 59 44 w.iohgatp })
+context_with_stages w (Some first_stage) None = Err DirectoryEntryMisconfigured
+context_with_stages w None second_stage = Err DirectoryEntryMisconfigured
 
 -- the context that words are, or the cause
-unfoldable pub decoded : ContextWords → Result Context Cause
-decoded w =
+unfoldable pub decoded_context : ContextWords → Result Context Cause
+decoded_context w =
     if bits 0 0 w.tc == 0 then Err DirectoryEntryNotValid
-    else if is_clear w then with_stages w (first_stage_at (bits 63 60 w.fsc) (bits 43 0 w.fsc)) (second_stage_at (bits 63 60 w.iohgatp))
+    else if sets_only_offered_bits w then context_with_stages w (first_stage_at (bits 63 60 w.fsc) (page_from 0 w.fsc)) (second_stage_at (bits 63 60 w.iohgatp))
     else Err DirectoryEntryMisconfigured

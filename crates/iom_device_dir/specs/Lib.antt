@@ -1,7 +1,11 @@
 pub mod Words
+pub mod Values
 pub mod Formats
 pub mod Decoded
 pub mod Encoded
 pub mod Paths
 pub mod Located
 pub mod Laws
+pub mod Contents
+pub mod Cached
+pub mod CacheLaws

@@ -10,8 +10,9 @@ use Rattle.iom_registers.specs.declared.directory.DirectoryMode.{DirectoryMode}
 use Rattle.iom_registers.specs.declared.directory.DirectoryMode.TheVariants.{Off, Bare, OneLevel, TwoLevels, ThreeLevels}
 use Rattle.iom_registers.specs.declared.directory.DirectoryPointer.{DirectoryPointer}
 use Rattle.iom_device_dir.specs.declared.context.Context.{Context}
+use Rattle.iom_device_dir.specs.declared.entry.NonLeafEntry.{NonLeafEntry}
 use Rattle.iom_device_dir.specs.declared.words.ContextWords.{ContextWords}
-use Rattle.iom_device_dir.specs.Formats.{IsNonLeaf, IsRefusedNonLeaf, AreWordsOf, IsRefused}
+use Rattle.iom_device_dir.specs.Formats.{IsNonLeafEntry, IsNonLeafEntryRefused, AreContextWords, IsContextRefused}
 
 -- the bytes of a context
 abbrev pub context_size : ℕ
@@ -33,50 +34,52 @@ abbrev pub context_place : ℕ → ℕ → ℕ
 context_place page index = page_size * page + context_size * index
 
 -- four words, where each of them is there
-abbrev pub all_words : Option ℕ → Option ℕ → Option ℕ → Option ℕ → Option ContextWords
-all_words (Some tc) (Some iohgatp) (Some ta) (Some fsc) = Some (record { tc = tc; iohgatp = iohgatp; ta = ta; fsc = fsc })
-all_words (Some tc) (Some iohgatp) (Some ta) None = None
-all_words (Some tc) (Some iohgatp) None fsc = None
-all_words (Some tc) None ta fsc = None
-all_words None iohgatp ta fsc = None
+abbrev pub four_context_words : Option ℕ → Option ℕ → Option ℕ → Option ℕ → Option ContextWords
+four_context_words (Some tc) (Some iohgatp) (Some ta) (Some fsc) = Some (record { tc = tc; iohgatp = iohgatp; ta = ta; fsc = fsc })
+four_context_words (Some tc) (Some iohgatp) (Some ta) None = None
+four_context_words (Some tc) (Some iohgatp) None fsc = None
+four_context_words (Some tc) None ta fsc = None
+four_context_words None iohgatp ta fsc = None
 
 -- the words of the context at an address; None where one is outside memory
-unfoldable pub words_at : List (List ℕ) → ℕ → Option ContextWords
-words_at memory address =
-    all_words (word_at 8 memory address) (word_at 8 memory (address + 8)) (word_at 8 memory (address + 16)) (word_at 8 memory (address + 24))
+unfoldable pub context_words_at : List (List ℕ) → ℕ → Option ContextWords
+context_words_at memory address =
+    four_context_words (word_at 8 memory address) (word_at 8 memory (address + 8)) (word_at 8 memory (address + 16)) (word_at 8 memory (address + 24))
 
--- the word that was loaded is an entry that names this page
-abbrev pub Names : Option ℕ → ℕ → Type 0
-Names None next = ⊥
-Names (Some word) next = IsNonLeaf word (record { next = next })
+-- the word that was loaded is this entry
+abbrev pub LoadsEntry : Option ℕ → NonLeafEntry → Type 0
+LoadsEntry None entry = ⊥
+LoadsEntry (Some word) entry = IsNonLeafEntry word entry
 
 -- the path stops at the word that was loaded: it is outside memory, or no entry
-abbrev pub StopsAtEntry : Option ℕ → Cause → Type 0
-StopsAtEntry None cause = cause ≡ DirectoryLoadFault
-StopsAtEntry (Some word) cause = IsRefusedNonLeaf word cause
+abbrev pub StopsAtLoadedEntry : Option ℕ → Cause → Type 0
+StopsAtLoadedEntry None cause = cause ≡ DirectoryLoadFault
+StopsAtLoadedEntry (Some word) cause = IsNonLeafEntryRefused word cause
 
 -- the words that were loaded are this context
-abbrev pub Holds : Option ContextWords → Context → Type 0
-Holds None context = ⊥
-Holds (Some words) context = AreWordsOf words context
+abbrev pub LoadsContext : Option ContextWords → Context → Type 0
+LoadsContext None context = ⊥
+LoadsContext (Some words) context = AreContextWords words context
 
 -- the path stops at the words that were loaded: they are outside memory, or no context
-abbrev pub StopsAtContext : Option ContextWords → Cause → Type 0
-StopsAtContext None cause = cause ≡ DirectoryLoadFault
-StopsAtContext (Some words) cause = IsRefused words cause
+abbrev pub StopsAtLoadedContext : Option ContextWords → Cause → Type 0
+StopsAtLoadedContext None cause = cause ≡ DirectoryLoadFault
+StopsAtLoadedContext (Some words) cause = IsContextRefused words cause
 
 -- from the directory page of a level the indices of the id, one a level, lead to this context
-abbrev pub Leads : List (List ℕ) → ℕ → ℕ → ℕ → Context → Type 0
-Leads memory zero page id context = Holds (words_at memory (context_place page (ddi 0 id))) context
-Leads memory (suc level) page id context =
-    (next : ℕ) × Names (word_at 8 memory (entry_place page (ddi (suc level) id))) next × Leads memory level next id context
+abbrev pub LeadsToContext : List (List ℕ) → ℕ → ℕ → ℕ → Context → Type 0
+LeadsToContext memory zero page id context = LoadsContext (context_words_at memory (context_place page (ddi 0 id))) context
+LeadsToContext memory (suc level) page id context =
+    (entry : NonLeafEntry) × LoadsEntry (word_at 8 memory (entry_place page (ddi (suc level) id))) entry
+    × LeadsToContext memory level entry.next.number id context
 
 -- from the directory page of a level the indices lead to an entry or a load that has this cause
-abbrev pub Stops : List (List ℕ) → ℕ → ℕ → ℕ → Cause → Type 0
-Stops memory zero page id cause = StopsAtContext (words_at memory (context_place page (ddi 0 id))) cause
-Stops memory (suc level) page id cause =
-    StopsAtEntry (word_at 8 memory (entry_place page (ddi (suc level) id))) cause
-    ⊎ ((next : ℕ) × Names (word_at 8 memory (entry_place page (ddi (suc level) id))) next × Stops memory level next id cause)
+abbrev pub StopsBeforeContext : List (List ℕ) → ℕ → ℕ → ℕ → Cause → Type 0
+StopsBeforeContext memory zero page id cause = StopsAtLoadedContext (context_words_at memory (context_place page (ddi 0 id))) cause
+StopsBeforeContext memory (suc level) page id cause =
+    StopsAtLoadedEntry (word_at 8 memory (entry_place page (ddi (suc level) id))) cause
+    ⊎ ((entry : NonLeafEntry) × LoadsEntry (word_at 8 memory (entry_place page (ddi (suc level) id))) entry
+    × StopsBeforeContext memory level entry.next.number id cause)
 
 -- the id has no bits above those of DDI[0], .., up to the level of the root: 7, 16 or 24 bits
 abbrev pub ids_below : ℕ → ℕ
@@ -85,32 +88,32 @@ ids_below (suc zero) = 2 ^ 16
 ids_below (suc (suc level)) = 2 ^ 24
 
 -- in a directory whose root has this level the id's path finds a context
-abbrev pub FindsFrom : ℕ → List (List ℕ) → ℕ → ℕ → Context → Type 0
-FindsFrom level memory root id context = (id < ids_below level) × Leads memory level root id context
+abbrev pub FindsFromLevel : ℕ → List (List ℕ) → ℕ → ℕ → Context → Type 0
+FindsFromLevel level memory root id context = (id < ids_below level) × LeadsToContext memory level root id context
 
 -- it stops: the id is too wide for the levels that there are, or its indices lead to an entry or a load with this cause
-abbrev pub StopsFrom : ℕ → List (List ℕ) → ℕ → ℕ → Cause → Type 0
-StopsFrom level memory root id cause =
-    ((ids_below level ≤ id) × (cause ≡ TransactionTypeDisallowed)) ⊎ ((id < ids_below level) × Stops memory level root id cause)
+abbrev pub StopsFromLevel : ℕ → List (List ℕ) → ℕ → ℕ → Cause → Type 0
+StopsFromLevel level memory root id cause =
+    ((ids_below level ≤ id) × (cause ≡ TransactionTypeDisallowed)) ⊎ ((id < ids_below level) × StopsBeforeContext memory level root id cause)
 
 -- THE PATH, by ddtp's mode: the id finds this context. Where the mode is Off or Bare there is no directory
-abbrev pub FindsBy : DirectoryMode → List (List ℕ) → ℕ → ℕ → Context → Type 0
-FindsBy Off memory root id context = ⊥
-FindsBy Bare memory root id context = ⊥
-FindsBy OneLevel memory root id context = FindsFrom 0 memory root id context
-FindsBy TwoLevels memory root id context = FindsFrom 1 memory root id context
-FindsBy ThreeLevels memory root id context = FindsFrom 2 memory root id context
+abbrev pub FindsByMode : DirectoryMode → List (List ℕ) → ℕ → ℕ → Context → Type 0
+FindsByMode Off memory root id context = ⊥
+FindsByMode Bare memory root id context = ⊥
+FindsByMode OneLevel memory root id context = FindsFromLevel 0 memory root id context
+FindsByMode TwoLevels memory root id context = FindsFromLevel 1 memory root id context
+FindsByMode ThreeLevels memory root id context = FindsFromLevel 2 memory root id context
 
 abbrev pub FindsContext : List (List ℕ) → DirectoryPointer → ℕ → Context → Type 0
-FindsContext memory ddtp id context = FindsBy ddtp.mode memory ddtp.ppn id context
+FindsContext memory ddtp id context = FindsByMode ddtp.mode memory ddtp.ppn id context
 
 -- the id's path stops with this cause: where the mode is Off, no transaction is allowed. Where it is Bare nobody looks for a context
-abbrev pub StopsBy : DirectoryMode → List (List ℕ) → ℕ → ℕ → Cause → Type 0
-StopsBy Off memory root id cause = cause ≡ AllInboundDisallowed
-StopsBy Bare memory root id cause = ⊥
-StopsBy OneLevel memory root id cause = StopsFrom 0 memory root id cause
-StopsBy TwoLevels memory root id cause = StopsFrom 1 memory root id cause
-StopsBy ThreeLevels memory root id cause = StopsFrom 2 memory root id cause
+abbrev pub StopsByMode : DirectoryMode → List (List ℕ) → ℕ → ℕ → Cause → Type 0
+StopsByMode Off memory root id cause = cause ≡ AllInboundDisallowed
+StopsByMode Bare memory root id cause = ⊥
+StopsByMode OneLevel memory root id cause = StopsFromLevel 0 memory root id cause
+StopsByMode TwoLevels memory root id cause = StopsFromLevel 1 memory root id cause
+StopsByMode ThreeLevels memory root id cause = StopsFromLevel 2 memory root id cause
 
 abbrev pub StopsLocating : List (List ℕ) → DirectoryPointer → ℕ → Cause → Type 0
-StopsLocating memory ddtp id cause = StopsBy ddtp.mode memory ddtp.ppn id cause
+StopsLocating memory ddtp id cause = StopsByMode ddtp.mode memory ddtp.ppn id cause

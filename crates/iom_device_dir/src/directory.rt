@@ -3,8 +3,8 @@ ghost use Rattle.iom_base.specs.declared.cause.Cause.{Cause};
 ghost use Rattle.iom_phys_mem.specs.Words.{word_at};
 ghost use Rattle.iom_registers.specs.declared.directory.DirectoryMode.TheVariants.{Bare};
 ghost use Rattle.iom_device_dir.specs.declared.context.Context.{Context};
-ghost use Rattle.iom_device_dir.specs.Paths.{entry_place, words_at, FindsContext, StopsLocating};
-ghost use Rattle.iom_device_dir.specs.Located.{entry_read, end_from, located_by, located};
+ghost use Rattle.iom_device_dir.specs.Paths.{entry_place, context_words_at, FindsContext, StopsLocating};
+ghost use Rattle.iom_device_dir.specs.Located.{loaded_entry, path_end_from, located_by_mode, located_context};
 
 use crate::context::{CONTEXT_SIZE, Context};
 use crate::entry::NonLeafEntry;
@@ -17,10 +17,10 @@ use iom_registers::{DirectoryMode, DirectoryPointer};
 
 /// The four words at an address. None exactly where one of them is outside memory, or the address isn't a
 /// multiple of 8.
-#[tactic(auto, unfolding(crate::specs::Paths::words_at))]
+#[tactic(auto, unfolding(crate::specs::Paths::context_words_at))]
 fn load_words<B: Bytes>(memory: &B, address: u64) -> Option<ContextWords>
     requires { address < 2 ^ 63 }
-    ensures { result ≡ words_at (B.frames_of memory.now) address }
+    ensures { result ≡ context_words_at (B.frames_of memory.now) address }
 {
     let tc = memory.load_u64(address)?;
     let iohgatp = memory.load_u64(address + 8)?;
@@ -37,7 +37,7 @@ fn load_words<B: Bytes>(memory: &B, address: u64) -> Option<ContextWords>
 /// The page that an entry of a directory page names.
 fn next_page<B: Bytes>(memory: &B, page: Ppn, index: u64) -> Result<NonLeafEntry, Cause>
     requires { index < 512 }
-    ensures { result ≡ entry_read (word_at 8 (B.frames_of memory.now) (entry_place page index)) }
+    ensures { result ≡ loaded_entry (word_at 8 (B.frames_of memory.now) (entry_place page.number index)) }
 {
     match memory.load_u64(PAGE_SIZE * page.number() + ENTRY_SIZE * index) {
         Some(word) => NonLeafEntry::decode(word),
@@ -47,7 +47,7 @@ fn next_page<B: Bytes>(memory: &B, page: Ppn, index: u64) -> Result<NonLeafEntry
 
 /// From a page of contexts, by DDI[0].
 fn from_contexts<B: Bytes>(memory: &B, page: Ppn, id: DeviceId) -> Result<Context, Cause>
-    ensures { result ≡ end_from (B.frames_of memory.now) 0 page id }
+    ensures { result ≡ path_end_from (B.frames_of memory.now) 0 page.number id }
 {
     let index = field(u64::from(id), 6, 0);
     match load_words(
@@ -61,7 +61,7 @@ fn from_contexts<B: Bytes>(memory: &B, page: Ppn, id: DeviceId) -> Result<Contex
 
 /// From a page of entries one level above, by DDI[1].
 fn from_middle<B: Bytes>(memory: &B, page: Ppn, id: DeviceId) -> Result<Context, Cause>
-    ensures { result ≡ end_from (B.frames_of memory.now) 1 page id }
+    ensures { result ≡ path_end_from (B.frames_of memory.now) 1 page.number id }
 {
     let entry = next_page(memory, page, field(u64::from(id), 15, 7))?;
     from_contexts(memory, entry.next, id)
@@ -69,14 +69,14 @@ fn from_middle<B: Bytes>(memory: &B, page: Ppn, id: DeviceId) -> Result<Context,
 
 /// From a page of entries two levels above, by DDI[2].
 fn from_top<B: Bytes>(memory: &B, page: Ppn, id: DeviceId) -> Result<Context, Cause>
-    ensures { result ≡ end_from (B.frames_of memory.now) 2 page id }
+    ensures { result ≡ path_end_from (B.frames_of memory.now) 2 page.number id }
 {
     let entry = next_page(memory, page, field(u64::from(id), 23, 16))?;
     from_middle(memory, entry.next, id)
 }
 
 /// Where the path of the id ends, by the levels that the mode gives the directory.
-#[tactic(auto, unfolding(crate::specs::Located::located_by))]
+#[tactic(auto, unfolding(crate::specs::Located::located_by_mode))]
 fn follow<B: Bytes>(
     memory: &B,
     mode: DirectoryMode,
@@ -84,7 +84,7 @@ fn follow<B: Bytes>(
     id: DeviceId,
 ) -> Result<Context, Cause>
     requires { mode ≢ Bare }
-    ensures { result ≡ located_by mode (B.frames_of memory.now) root id }
+    ensures { result ≡ located_by_mode mode (B.frames_of memory.now) root.number id }
 {
     match mode {
         DirectoryMode::Off => Err(Cause::AllInboundDisallowed),
@@ -110,7 +110,7 @@ pub fn locate<B: Bytes>(memory: &B, ddtp: DirectoryPointer, id: DeviceId) -> Res
         (result ≡ Err cause) ↔ StopsLocating (B.frames_of memory.now) ddtp id cause }
 
     // What the clauses above say one by one, as one equation.
-    ensures value { result ≡ located (B.frames_of memory.now) ddtp id }
+    ensures value { result ≡ located_context (B.frames_of memory.now) ddtp id }
 {
     let root = Ppn::new(ddtp.ppn).unwrap();
     follow(memory, ddtp.mode, root, id)

@@ -12,18 +12,18 @@ impl NonLeafEntry {
     ghost use Rattle.std.specs.Prelude.{◌≡◌, ◌↔◌, Ok, Err};
     ghost use Rattle.iom_base.specs.declared.cause.Cause.{Cause};
     ghost use Rattle.iom_device_dir.specs.declared.entry.NonLeafEntry.{NonLeafEntry};
-    ghost use Rattle.iom_device_dir.specs.Formats.{IsNonLeaf, IsRefusedNonLeaf};
-    ghost use Rattle.iom_device_dir.specs.Decoded.{decoded_non_leaf};
-    ghost use Rattle.iom_device_dir.specs.Encoded.{encoded_non_leaf};
+    ghost use Rattle.iom_device_dir.specs.Formats.{IsNonLeafEntry, IsNonLeafEntryRefused};
+    ghost use Rattle.iom_device_dir.specs.Decoded.{decoded_non_leaf_entry};
+    ghost use Rattle.iom_device_dir.specs.Encoded.{encoded_non_leaf_entry};
 
     /// The entry that a word is. Exactly where it is none, the cause: `DirectoryEntryNotValid` where V is 0, else
     /// `DirectoryEntryMisconfigured`.
     pub fn decode(word: u64) -> Result<NonLeafEntry, Cause>
-        ensures entry { (entry : NonLeafEntry) → (result ≡ Ok entry) ↔ IsNonLeaf word entry }
-        ensures refused { (cause : Cause) → (result ≡ Err cause) ↔ IsRefusedNonLeaf word cause }
+        ensures entry { (entry : NonLeafEntry) → (result ≡ Ok entry) ↔ IsNonLeafEntry word entry }
+        ensures refused { (cause : Cause) → (result ≡ Err cause) ↔ IsNonLeafEntryRefused word cause }
 
         // What the clauses above say one by one, as one equation.
-        ensures value { result ≡ decoded_non_leaf word }
+        ensures value { result ≡ decoded_non_leaf_entry word }
     {
         if field(word, 0, 0) == 0 {
             return Err(Cause::DirectoryEntryNotValid);
@@ -32,16 +32,16 @@ impl NonLeafEntry {
             return Err(Cause::DirectoryEntryMisconfigured);
         }
         Ok(NonLeafEntry {
-            next: Ppn::new(field(word, 53, 10)).unwrap(),
+            next: Ppn::from_word(word, 10),
         })
     }
 
     /// The word of the entry: V and PPN, and nothing else.
     pub fn encode(self) -> u64
-        ensures entry { IsNonLeaf result self }
+        ensures entry { IsNonLeafEntry result self }
 
         // Which word it is.
-        ensures value { result ≡ encoded_non_leaf self }
+        ensures value { result ≡ encoded_non_leaf_entry self }
     {
         (self.next.number() << 10) + 1
     }

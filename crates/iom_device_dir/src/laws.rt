@@ -1,10 +1,12 @@
-//! Laws of contexts and of paths, each the contract of a function that does nothing.
+//! Laws of contexts, of paths and of caches, each the contract of a function that does nothing.
 ghost use Rattle.std.specs.Prelude.{◌≡◌, Ok};
-ghost use Rattle.iom_device_dir.specs.Words.{words_of};
+ghost use Rattle.iom_device_dir.specs.declared.context.Context.{Context};
+ghost use Rattle.iom_device_dir.specs.Words.{context_words};
 ghost use Rattle.iom_device_dir.specs.Formats.{IsContext};
-ghost use Rattle.iom_device_dir.specs.Decoded.{decoded, decoded_non_leaf};
-ghost use Rattle.iom_device_dir.specs.Encoded.{words_for, encoded, encoded_non_leaf};
-ghost use Rattle.iom_device_dir.specs.Laws.{OneEnd, SamePath, SameFrames, ContextsApart, OneIdByIndices};
+ghost use Rattle.iom_device_dir.specs.Decoded.{decoded_context, decoded_non_leaf_entry};
+ghost use Rattle.iom_device_dir.specs.Encoded.{encoded_context_words, encoded_context, encoded_non_leaf_entry};
+ghost use Rattle.iom_device_dir.specs.Laws.{PathsEndOnce, PathsDependOnLoadedWords, PathsDependOnLoadedFrames, ContextsDontOverlap, IndicesNameOneId};
+ghost use Rattle.iom_device_dir.specs.CacheLaws.{AnswersWhatWasLastHanded};
 
 use crate::context::{CONTEXT_SIZE, Context};
 use crate::entry::NonLeafEntry;
@@ -18,36 +20,42 @@ pub fn one_meaning(bytes: &[u8; CONTEXT_SIZE], one: Context, other: Context)
 
 /// What is written for a context is decoded to it: its words, and so its bytes.
 pub fn reads_back(context: Context)
-    ensures words { decoded (words_for context) ≡ Ok context }
-    ensures bytes { decoded (words_of (encoded context)) ≡ Ok context }
+    ensures words { decoded_context (encoded_context_words context) ≡ Ok context }
+    ensures bytes { decoded_context (context_words (encoded_context context)) ≡ Ok context }
 {}
 
 /// What is written for an entry is decoded to it.
 pub fn entry_reads_back(entry: NonLeafEntry)
-    ensures { decoded_non_leaf (encoded_non_leaf entry) ≡ Ok entry }
+    ensures { decoded_non_leaf_entry (encoded_non_leaf_entry entry) ≡ Ok entry }
 {}
 
 /// The path of an id has one end.
 pub fn one_end()
-    ensures { OneEnd }
+    ensures { PathsEndOnce }
 {}
 
 /// A change of memory outside the words that the path of an id loads leaves it.
 pub fn same_path()
-    ensures { SamePath }
+    ensures { PathsDependOnLoadedWords }
 {}
 
 /// A change of memory outside the frames that the path of an id goes through leaves it.
 pub fn same_frames()
-    ensures { SameFrames }
+    ensures { PathsDependOnLoadedFrames }
 {}
 
 /// Contexts of other pages, or with other indices, have other bytes.
 pub fn contexts_apart()
-    ensures { ContextsApart }
+    ensures { ContextsDontOverlap }
 {}
 
 /// Ids that differ have an index that differs.
 pub fn one_id_by_indices()
-    ensures { OneIdByIndices }
+    ensures { IndicesNameOneId }
+{}
+
+/// A cache that only looks, keeps and drops answers nothing but what it was last handed for the id, where no drop
+/// has covered it since.
+pub fn answers_what_was_last_handed()
+    ensures { AnswersWhatWasLastHanded Context }
 {}

@@ -1,5 +1,5 @@
 // The stages of translation that a context asks for, by their modes.
-ghost use Rattle.std.specs.Prelude.{◌≡◌, ◌<◌, ◌^◌};
+ghost use Rattle.std.specs.Prelude.{◌≡◌};
 ghost use Rattle.iom_device_dir.specs.Decoded.{first_stage_at, second_stage_at};
 ghost use Rattle.iom_device_dir.specs.Encoded.{first_stage_word, second_stage_word};
 
@@ -29,13 +29,12 @@ const MODE: u32 = 60;
 
 impl FirstStage {
     // None where the mode isn't offered.
-    pub(crate) fn at(mode: u64, ppn: u64) -> Option<FirstStage>
-        requires { ppn < 2 ^ 44 }
-        ensures { result ≡ first_stage_at mode ppn }
+    pub(crate) fn at(mode: u64, root: Ppn) -> Option<FirstStage>
+        ensures { result ≡ first_stage_at mode root }
     {
         match mode {
             0 => Some(FirstStage::Bare),
-            SV39 => Some(FirstStage::Sv39(Ppn::new(ppn)?)),
+            SV39 => Some(FirstStage::Sv39(root)),
             _ => None,
         }
     }

@@ -1,14 +1,14 @@
 // The four words of a context, and its bytes.
 ghost use Rattle.std.specs.Prelude.{◌≡◌, ◌≤◌, ◌+◌, ◌++◌, ◌∷◌, ◌==◌, [], take, drop, length};
 ghost use Rattle.byteorder.specs.Endian.{little_bytes};
-ghost use Rattle.iom_device_dir.specs.Words.{word_of, words_of, word_bytes, bytes_of};
-ghost use Rattle.iom_device_dir.specs.Decoded.{decoded, is_clear};
-ghost use Rattle.iom_device_dir.specs.Encoded.{words_for};
+ghost use Rattle.iom_device_dir.specs.Words.{context_word, context_words, words_as_bytes, context_bytes};
+ghost use Rattle.iom_device_dir.specs.Decoded.{decoded_context, sets_only_offered_bits};
+ghost use Rattle.iom_device_dir.specs.Encoded.{encoded_context_words};
 
 use crate::context::{CONTEXT_SIZE, Context};
 use crate::fields::field;
 use crate::stages::{FirstStage, SecondStage};
-use crate::values::Pscid;
+use crate::values::{Ppn, Pscid};
 use byteorder::{ByteOrder, LittleEndian};
 use iom_base::Cause;
 
@@ -27,9 +27,9 @@ pub(crate) struct ContextWords {
 
 impl ContextWords {
     /// The words that 32 bytes are.
-    #[tactic(auto, unfolding(crate::specs::Words::word_of))]
+    #[tactic(auto, unfolding(crate::specs::Words::context_word))]
     pub(crate) fn from_bytes(bytes: &[u8; CONTEXT_SIZE]) -> ContextWords
-        ensures { result ≡ words_of bytes.now }
+        ensures { result ≡ context_words bytes.now }
     {
         ContextWords {
             tc: LittleEndian::read_u64(bytes),
@@ -41,14 +41,14 @@ impl ContextWords {
 
     /// The bytes of the words.
     pub(crate) fn to_bytes(self) -> [u8; CONTEXT_SIZE]
-        ensures { result ≡ bytes_of self }
+        ensures { result ≡ context_bytes self }
     {
         bytes_of_words([self.tc, self.iohgatp, self.ta, self.fsc])
     }
 
     // Whether no reserved bit is set, nor one that asks for what isn't offered.
-    fn is_clear(self) -> bool
-        ensures { result ≡ is_clear self }
+    fn sets_only_offered_bits(self) -> bool
+        ensures { result ≡ sets_only_offered_bits self }
     {
         field(self.tc, 63, 2) == 0
             && field(self.ta, 11, 0) == 0
@@ -57,24 +57,24 @@ impl ContextWords {
     }
 
     /// The context that the words are; exactly where they are none, the cause.
-    #[tactic(auto, unfolding(crate::specs::Decoded::decoded))]
+    #[tactic(auto, unfolding(crate::specs::Decoded::decoded_context))]
     pub(crate) fn context(self) -> Result<Context, Cause>
-        ensures { result ≡ decoded self }
+        ensures { result ≡ decoded_context self }
     {
         if field(self.tc, 0, 0) == 0 {
             return Err(Cause::DirectoryEntryNotValid);
         }
-        if !self.is_clear() {
+        if !self.sets_only_offered_bits() {
             return Err(Cause::DirectoryEntryMisconfigured);
         }
-        let first = FirstStage::at(field(self.fsc, 63, 60), field(self.fsc, 43, 0));
+        let first = FirstStage::at(field(self.fsc, 63, 60), Ppn::from_word(self.fsc, 0));
         let second = SecondStage::at(field(self.iohgatp, 63, 60));
         match (first, second) {
             (Some(first_stage), Some(second_stage)) => Ok(Context {
                 en_ats: field(self.tc, 1, 1) == 1,
                 first_stage,
                 second_stage,
-                pscid: Pscid::new(field(self.ta, 31, 12) as u32).unwrap(),
+                pscid: Pscid::from_word(self.ta, 12),
                 gscid: field(self.iohgatp, 59, 44) as u16,
             }),
             _ => Err(Cause::DirectoryEntryMisconfigured),
@@ -82,9 +82,9 @@ impl ContextWords {
     }
 
     /// The words that are written for a context.
-    #[tactic(auto, unfolding(crate::specs::Encoded::words_for))]
+    #[tactic(auto, unfolding(crate::specs::Encoded::encoded_context_words))]
     pub(crate) fn of(context: Context) -> ContextWords
-        ensures { result ≡ words_for context }
+        ensures { result ≡ encoded_context_words context }
     {
         ContextWords {
             tc: 1 + (u64::from(context.en_ats) << 1),
@@ -96,7 +96,7 @@ impl ContextWords {
 }
 
 fn bytes_of_words(words: [u64; 4]) -> [u8; CONTEXT_SIZE]
-    ensures { result ≡ word_bytes words }
+    ensures { result ≡ words_as_bytes words }
 {
     let mut bytes = [0; CONTEXT_SIZE];
     for place in 0..4 {

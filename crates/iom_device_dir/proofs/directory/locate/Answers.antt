@@ -1,6 +1,5 @@
 -- The answer is the end of the path, exactly.
-use Rattle.std.proofs.Common.{◌≡◌, rules}
-use Rattle.iom_device_dir.specs.Located.{located}
+use Rattle.std.proofs.Common.{rules}
 use Rattle.iom_device_dir.proofs.Ends.{located_exactly, stopped_exactly}
 use Rattle.iom_device_dir.proofs.directory.locate.Goals as goal
 

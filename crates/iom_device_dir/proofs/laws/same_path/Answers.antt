@@ -1,5 +1,4 @@
 -- Memories that are alike on the words of a path have the same path.
-use Rattle.std.proofs.Common.{sym}
 use Rattle.iom_device_dir.proofs.Alike.{same_located, ends_alike}
 use Rattle.iom_device_dir.proofs.laws.same_path.Goals as goal
 

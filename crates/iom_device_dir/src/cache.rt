@@ -1,0 +1,74 @@
+use crate::context::Context;
+use iom_base::DeviceId;
+use lru::LruCache;
+use std::alloc::{AllocError, Global};
+use std::num::NonZeroUsize;
+
+/// How many contexts the cache holds at most.
+const CACHED_CONTEXTS: usize = 16;
+
+/// A cache of device contexts (chapter 2, "Caching in-memory data structures"): 16 of them, by device id. Where
+/// a seventeenth is kept, that one goes which was looked at or kept the longest ago.
+///
+/// What it answers is the map `cached_contexts`, from ids to contexts, at first empty. A context is there until
+/// it is dropped or another takes its place: the cache never finds out that memory has changed.
+#[derive(Drop)]
+pub struct DirCache {
+    contexts: LruCache<DeviceId, Context>,
+}
+
+impl DirCache {
+    ghost use Rattle.std.specs.Prelude.{◌==◌, true, IfOk};
+    ghost use Rattle.iom_device_dir.specs.Contents.{IsEmptyContent, LooksUp, KeepsOne, DropsCovered};
+    ghost use Rattle.iom_device_dir.specs.Cached.{cached_contexts};
+
+    /// A cache of nothing, or the want of memory.
+    #[tactic(auto, unfolding(crate::specs::Cached::cached_contexts))]
+    pub fn new(alloc: Global) -> Result<DirCache, AllocError>
+        ensures { IfOk result (λ cache. IsEmptyContent (cached_contexts cache)) }
+    {
+        let capacity = NonZeroUsize::new(CACHED_CONTEXTS).unwrap();
+        Ok(DirCache {
+            contexts: LruCache::new(alloc, capacity)?,
+        })
+    }
+
+    /// The context that is cached for the device. Nothing changes but which goes next.
+    #[tactic(auto, using(crate::proofs::CachedIds::looked), unfolding(crate::specs::Cached::cached_contexts))]
+    pub fn look(&mut self, id: DeviceId) -> Option<Context>
+        ensures { LooksUp (cached_contexts self.old) id result (cached_contexts self.new) }
+    {
+        // Its contract says that the keys are distinct, here and below.
+        let _ = self.contexts.len();
+        let found = self.contexts.peek(&id).copied();
+        self.contexts.promote(&id);
+        found
+    }
+
+    /// Caches the context for the device. At most one other goes. Where none is cached for it yet, and there is
+    /// no memory for it, nothing changes and nobody is told: the next look finds none.
+    #[tactic(auto, using(crate::proofs::CachedIds::kept), unfolding(crate::specs::Cached::cached_contexts))]
+    pub fn keep(&mut self, id: DeviceId, context: Context)
+        ensures { KeepsOne (cached_contexts self.old) id context (cached_contexts self.new) }
+    {
+        let _ = self.contexts.len();
+        let _ = self.contexts.put(id, context);
+    }
+
+    /// Drops the context of the device alone (IODIR.INVAL_DDT with DV).
+    #[tactic(auto, using(crate::proofs::CachedIds::dropped), unfolding(crate::specs::Cached::cached_contexts))]
+    pub fn drop_one(&mut self, id: DeviceId)
+        ensures { DropsCovered (cached_contexts self.old) (λ key. key == id) (cached_contexts self.new) }
+    {
+        let _ = self.contexts.len();
+        self.contexts.pop(&id);
+    }
+
+    /// Drops the contexts of all devices (IODIR.INVAL_DDT without DV).
+    #[tactic(auto, unfolding(crate::specs::Cached::cached_contexts))]
+    pub fn drop_all(&mut self)
+        ensures { DropsCovered (cached_contexts self.old) (λ key. true) (cached_contexts self.new) }
+    {
+        self.contexts.clear();
+    }
+}
