@@ -9,10 +9,11 @@ use std::alloc::Global;
 use std::fs;
 
 /// The examples, in the order in which they are best read.
-const NAMES: [&str; 7] = [
+const NAMES: [&str; 8] = [
     "first-path",
     "stale-read",
     "draining",
+    "commands-in-memory",
     "too-early",
     "busy",
     "double-grant",
