@@ -1,5 +1,5 @@
 -- What stays true of a world when an access in flight is made: it is covered, so its frame is nobody's.
-use Rattle.std.proofs.Common.{suc, ◌≡◌, ◌+◌, ◌/◌, ◌%◌, ◌≤◌, ◌==◌, inl, inr, nat_lt, ℕ, true, false, List, [], ◌∷◌, drop, Option, Some, None, option_map, slice_get, slice_set, refl, sym, ap, subst}
+use Rattle.std.proofs.Common.{is_some, suc, ◌≡◌, ◌+◌, ◌/◌, ◌%◌, ◌≤◌, ◌==◌, inl, inr, nat_lt, ℕ, true, false, List, [], ◌∷◌, drop, Option, Some, None, option_map, slice_get, slice_set, refl, sym, ap, subst}
 use Rattle.std.specs.Option.{option_map_or}
 use Rattle.std.proofs.lemmas.Bool.{or_cases, and_parts, eqb-true, false≢true}
 use Rattle.iom_base.specs.declared.access.AcceptedAccess.{AcceptedAccess}
@@ -16,6 +16,7 @@ use Rattle.iom_ledger.specs.Shown.{held_in, released_in}
 use Rattle.iom_machine.specs.declared.outcome.Outcome.{Outcome}
 use Rattle.iom_world.specs.declared.device.Device.{Device}
 use Rattle.iom_world.specs.Commands.{completed_in}
+use Rattle.iom_table_frames.specs.Marks.{is_marked}
 use Rattle.iom_world.specs.Commits.{CommitsOldest, MakesAt, without_oldest}
 use Rattle.iom_world.specs.Facts.{IsCovered, AllCovered, IsSoundDevice, serves_still}
 use Rattle.iom_world.specs.Parts.{Parts}
@@ -64,6 +65,10 @@ makeable old events place device flight sound grants at oldest =
     let below = get_within old.driver.marks flight.frame None free in
     let there = get_there old.memory flight.frame (rw (sound.ready.stand.size) below) in
     record { free = free; bytes = there.0; there = there.1; within = covered.within.1 }
+
+-- a frame that is nobody's isn't reserved
+pub not_marked : (marks : List (Option Owner)) (frame : ℕ) → slice_get marks frame ≡ Some None → is_marked marks frame ≡ false
+not_marked marks frame free = ap (λ (o : Option (Option Owner)). option_map_or (λ mark. is_some mark) o false) free
 
 rest_covered : (ledger : Ledger) (completed id : ℕ) (flights : List AcceptedAccess) → AllCovered ledger completed id flights → AllCovered ledger completed id (drop 1 flights)
 rest_covered ledger completed id [] covered k flight at = cc

@@ -12,7 +12,7 @@ use Rattle.iom_command_queue.specs.Waiting.{commands_in}
 use Rattle.iom_driver.specs.declared.answers.Polled.{Polled}
 use Rattle.iom_driver.specs.declared.device.Device as driver
 use Rattle.iom_driver.specs.declared.device.FirstStage.{FirstStage}
-use Rattle.iom_driver.specs.Calls.{Attaches, Grants, Polls}
+use Rattle.iom_driver.specs.Calls.{Attaches, TakesRoot, Grants, TakesTables, Polls}
 use Rattle.iom_driver.specs.Choices.{AreHighestFree, marked_for}
 use Rattle.iom_driver.specs.Devices.{with_stage}
 use Rattle.iom_driver.specs.Layout.{command_frame, completion_frame, completion_address}
@@ -85,7 +85,15 @@ ids_attached (device ∷ others) id stage = by (device.id == id) (ids_attached o
     by true rest = refl
     by false rest = ap (λ ids. device.id ∷ ids) rest
 
--- ATTACH
+-- ATTACH: the system's frames keep their bytes
+pub root_keeps_system : (d : DriverState) (memory : List (List ℕ)) (id : ℕ) (d' : DriverState) (memory' : List (List ℕ)) → length memory ≡ length d.marks → TakesRoot d memory id d' memory'
+    → (n : ℕ) → slice_get d.marks n ≡ Some (Some System) → slice_get memory' n ≡ slice_get memory n
+root_keeps_system d memory id d' memory' size takes n system =
+    let root = takes.stage.root in
+    let inside : root < length d.marks = rw (sym size) takes.highest.below in
+    let free : slice_get d.marks root ≡ Some None = unmarked d.marks root inside takes.highest.free.unmarked in
+    ap (λ m. slice_get m n) takes.bytes ∙ get_set_other memory root n _ (owned_differs d.marks n root System system free)
+
 pub keeps_attached : (old new : Parts) (events id : ℕ) (told : Outcome) → AreSound old events → IsSoundDriver old.driver → IsReady new.driver new.memory (registers_of new.iommu)
     → AttachesDevice old id told new → AreSound new events
 keeps_attached old new events id told sound own ready attaches = by attaches.answer attaches.call
@@ -96,10 +104,7 @@ keeps_attached old new events id told sound own ready attaches = by attaches.ans
     by : (answer : Result (Unit {0}) Refusal) → Attaches old.driver old.memory id answer new.driver new.memory → AreSound new events
     by (Ok done) (admitted, takes) =
         let root = takes.stage.root in
-        let inside : root < length old.driver.marks = rw (sym size) takes.highest.below in
-        let free : slice_get old.driver.marks root ≡ Some None = unmarked old.driver.marks root inside takes.highest.free.unmarked in
-        let kept : (n : ℕ) → slice_get old.driver.marks n ≡ Some (Some System) → slice_get new.memory n ≡ slice_get old.memory n =
-        λ n system. ap (λ m. slice_get m n) takes.bytes ∙ get_set_other old.memory root n _ (owned_differs old.driver.marks n root System system free) in
+        let kept = root_keeps_system old.driver old.memory id new.driver new.memory size takes in
         sound_from old new events sound
         (record {
           size = ap (λ m. length m) takes.bytes ∙ length-set old.memory root _;
@@ -153,6 +158,13 @@ system_stays marks ledger named limit count id tables long highest n system now 
     (λ free. owned_differs marks n n System system (unmarked marks n (subst (λ m. n < m) long free.0) free.1.unmarked) refl) in
     let both : ◌≡◌ {A = Option (Option Owner)} (Some (Some System)) (Some (Some (OneDevice id))) = sym system ∙ sym (mark_stays id n tables marks apart) ∙ now in cc
 
+-- so the system's frames keep their bytes
+pub tables_keep_system : (d : DriverState) (memory : List (List ℕ)) (id page frame : ℕ) (rights : GrantRights) (d' : DriverState) (memory' : List (List ℕ)) → length memory ≡ length d.marks
+    → TakesTables d memory id page frame rights d' memory' → (n : ℕ) → slice_get d.marks n ≡ Some (Some System) → slice_get memory' n ≡ slice_get memory n
+tables_keep_system d memory id page frame rights d' memory' size takes n system =
+    takes.others n (λ now. system_stays d.marks d.ledger frame (length memory) _ id takes.tables size takes.chosen n system
+    (sym (ap (λ (e : DriverState). slice_get e.marks n) takes.driver) ∙ now))
+
 pub keeps_granted : (old new : Parts) (events id page frame : ℕ) (rights : GrantRights) (told : Outcome) → AreSound old events → IsSoundDriver old.driver
     → IsReady new.driver new.memory (registers_of new.iommu) → GrantsPage old id page frame rights told new → AreSound new events
 keeps_granted old new events id page frame rights told sound own ready grants = by grants.answer grants.call
@@ -164,8 +176,7 @@ keeps_granted old new events id page frame rights told sound own ready grants = 
     by (Ok done) (admitted, takes) =
         let vacant = vacant_where old.driver id page frame admitted in
         let marks : new.driver.marks ≡ marked_for id takes.tables old.driver.marks = ap (λ d. d.marks) takes.driver in
-        let stays : (n : ℕ) → slice_get old.driver.marks n ≡ Some (Some System) → slice_get new.memory n ≡ slice_get old.memory n =
-        λ n system. takes.others n (λ now. system_stays old.driver.marks old.driver.ledger frame (length old.memory) _ id takes.tables size takes.chosen n system (ap (λ ms. slice_get ms n) (sym marks) ∙ now)) in
+        let stays = tables_keep_system old.driver old.memory id page frame rights new.driver new.memory size takes in
         sound_from old new events sound
         (record {
           size = ready.stand.size ∙ ap (λ ms. length ms) marks ∙ length-marked_for id takes.tables old.driver.marks ∙ sym size;

@@ -15,6 +15,7 @@ use Rattle.iom_world.specs.Shows.{PartsShow}
 use Rattle.iom_world.specs.Sound.{AreSound}
 use Rattle.iom_world.proofs.AttachStep.{attach_step}
 use Rattle.iom_world.proofs.CallRefused.{plug_refused, attach_refused, grant_refused, release_refused, fetch_refused, poll_refused}
+use Rattle.iom_world.proofs.CommandsStay.{commands_stay}
 use Rattle.iom_world.proofs.CommitStep.{committed_step}
 use Rattle.iom_world.proofs.DriverLemmas.{IsSoundDriver, sound_driver}
 use Rattle.iom_world.proofs.FetchStep.{fetch_step}
@@ -75,6 +76,7 @@ pub happens : (old new : World) (event : Event) (told : Outcome) → IsEvent eve
 happens old new event told may does counted = record {
   step = steps (parts_of old) (parts_of new) new.events old.events event told may old.sound (sound_driver old.driver) new.sound does;
   does = does;
+  commands = commands_stay (parts_of old) (parts_of new) old.events event told old.sound (sound_driver old.driver) does;
   refused = refuses (parts_of old) (parts_of new) event told does;
   events = counted;
 }

@@ -31,5 +31,6 @@ pub mod ProcessorSteps
 pub mod AskLemmas
 pub mod CallRefused
 pub mod RunLemmas
+pub mod CommandsStay
 pub mod HappensLemmas
 pub mod StartLemmas

@@ -1,11 +1,12 @@
 -- What becomes of an access in flight: it is made, on the frame that it was translated to.
-use Rattle.std.specs.Prelude.{◌≡◌, ℕ, ◌+◌, ◌⊎◌, List, [], drop, Some, slice_get, slice_range, slice_set}
+use Rattle.std.specs.Prelude.{◌≡◌, ℕ, ◌+◌, ◌⊎◌, false, List, [], drop, Some, slice_get, slice_range, slice_set}
 use Rattle.iom_base.specs.declared.access.AcceptedAccess.{AcceptedAccess}
 use Rattle.iom_base.specs.declared.access.AccessKind.TheVariants.{Read, Write}
 use Rattle.iom_base.specs.Accesses.{offset_of}
 use Rattle.iom_base.specs.Bytes.{with_bytes}
 use Rattle.iom_machine.specs.declared.outcome.Outcome.{Outcome}
 use Rattle.iom_machine.specs.declared.outcome.Outcome.TheVariants as outcome
+use Rattle.iom_table_frames.specs.Marks.{is_marked}
 use Rattle.iom_world.specs.declared.device.Device.{Device}
 use Rattle.iom_world.specs.Parts.{Parts}
 use Rattle.iom_world.specs.Places.{HasPlace}
@@ -32,12 +33,13 @@ pub record WritesBytes (memory : List (List ℕ)) (made : AcceptedAccess) (told 
   pub told_so : told ≡ outcome.Wrote made.access.len
   pub stored : new ≡ slice_set memory made.frame (with_bytes bytes (offset_of made.access) made.access.bytes)
 
--- the oldest access of the device that stands here is made: IOMMU and driver stay
+-- the oldest access of the device that stands here is made, on a frame that isn't reserved: IOMMU and driver stay
 pub record MakesAt (old : Parts) (place : ℕ) (told : Outcome) (new : Parts) : Type 0 where
   pub device : Device
   pub stands : slice_get old.devices place ≡ Some device
   pub made : AcceptedAccess
   pub oldest : slice_get device.in_flight 0 ≡ Some made
+  pub unreserved : is_marked old.driver.marks made.frame ≡ false
   pub effect : ReadsBytes old.memory made told new.memory ⊎ WritesBytes old.memory made told new.memory
   pub devices : new.devices ≡ slice_set old.devices place (without_oldest device)
   pub iommu : new.iommu ≡ old.iommu

@@ -1,8 +1,12 @@
 -- What an event does to a world, and what comes of it.
-use Rattle.std.specs.Prelude.{◌≡◌, ◌+◌}
+use Rattle.std.specs.Prelude.{◌≡◌, ◌+◌, ⊤, List}
+use Rattle.iom_command_queue.specs.declared.entry.QueueEntry.{QueueEntry}
+use Rattle.iom_command_queue.specs.Waiting.{commands_in}
+use Rattle.iom_iommu.specs.Parts.{registers_of}
 use Rattle.iom_ledger.specs.Changes.{IsUnchanged}
 use Rattle.iom_ledger.specs.declared.refusal.Refusal.{Refusal}
 use Rattle.iom_machine.specs.declared.event.Event.{Event}
+use Rattle.iom_machine.specs.declared.event.Event.TheVariants as events
 use Rattle.iom_machine.specs.declared.outcome.Outcome.{Outcome}
 use Rattle.iom_machine.specs.declared.outcome.Outcome.TheVariants.{Refused}
 use Rattle.iom_machine.specs.declared.state.State.{State}
@@ -25,10 +29,31 @@ pub record AreSame (old new : Parts) : Type 0 where
 abbrev pub SameIfRefused : Outcome → Parts → Parts → Type 0
 SameIfRefused told old new = (why : Refusal) → told ≡ Refused why → AreSame old new
 
+-- the commands that wait, read off memory and registers
+abbrev pub waiting_in : Parts → List QueueEntry
+waiting_in parts = commands_in parts.memory (registers_of parts.iommu)
+
+-- a release and a fetch say what they do to the commands that wait, and nothing else changes them
+abbrev pub KeepsCommands : Event → Parts → Parts → Type 0
+KeepsCommands (events.Release device page) old new = ⊤
+KeepsCommands events.Fetch old new = ⊤
+KeepsCommands (events.Plug device kind) old new = waiting_in new ≡ waiting_in old
+KeepsCommands (events.Attach device mode ats) old new = waiting_in new ≡ waiting_in old
+KeepsCommands (events.Grant device page frame rights) old new = waiting_in new ≡ waiting_in old
+KeepsCommands events.Poll old new = waiting_in new ≡ waiting_in old
+KeepsCommands (events.Read device address len) old new = waiting_in new ≡ waiting_in old
+KeepsCommands (events.Write device address bytes) old new = waiting_in new ≡ waiting_in old
+KeepsCommands (events.Commit device) old new = waiting_in new ≡ waiting_in old
+KeepsCommands (events.Poke address bytes) old new = waiting_in new ≡ waiting_in old
+KeepsCommands (events.Peek address len) old new = waiting_in new ≡ waiting_in old
+KeepsCommands (events.Free frame) old new = waiting_in new ≡ waiting_in old
+
 -- An event that is answered so. It is a lawful step of the ledger machine, from every state that the world shows, to one that it shows then. It does to
--- memory, IOMMU, driver and devices what the call behind it says. A refusal changes nothing. And the event is counted.
+-- memory, IOMMU, driver and devices what the call behind it says; commands that wait change by a release and a fetch alone. A refusal changes nothing. And
+-- the event is counted.
 pub record Happens (old : World) (event : Event) (told : Outcome) (new : World) : Type 0 where
   pub step : (state : State) → Shows old state → (next : State) × Step state event told next × Shows new next
   pub does : Does (parts_of old) event told (parts_of new)
+  pub commands : KeepsCommands event (parts_of old) (parts_of new)
   pub refused : SameIfRefused told (parts_of old) (parts_of new)
   pub events : new.events ≡ old.events + 1

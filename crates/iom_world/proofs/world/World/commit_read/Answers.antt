@@ -6,7 +6,7 @@ use Rattle.iom_world.specs.declared.device.Device.{Device}
 use Rattle.iom_world.specs.Commits.{without_oldest}
 use Rattle.iom_world.specs.Seen.{parts_of}
 use Rattle.iom_world.proofs.AskLemmas.{oldest_is_read, some_by_map}
-use Rattle.iom_world.proofs.CommitKeeps.{makeable, keeps_made}
+use Rattle.iom_world.proofs.CommitKeeps.{not_marked, makeable, keeps_made}
 use Rattle.iom_driver.proofs.Lists.{get_within}
 use Rattle.iom_world.proofs.ReplaceLemmas.{same_item}
 use Rattle.iom_world.proofs.world.World.commit_read.Goals as goal
@@ -53,6 +53,8 @@ returns-clause-does c =
       stands = c.requires.2;
       made = c.requires.1;
       oldest = c.requires.3;
+      unreserved = not_marked world.driver.marks c.requires.1.frame
+          (makeable (parts_of world) world.events c.args.place c.requires.0 c.requires.1 world.sound world.driver.sound.grants c.requires.2 c.requires.3).free;
       effect = inl (record { reads = c.requires.5; bytes = bytes; there = there; told_so = (c.tell_read.ensures.0, c.tell_read.ensures.1, items); memory_stays = refl });
       devices = ap (λ (d : Device). slice_set world.devices.items c.args.place d) is;
       iommu = refl;

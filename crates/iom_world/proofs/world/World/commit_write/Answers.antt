@@ -10,7 +10,7 @@ use Rattle.iom_world.specs.Commits.{without_oldest}
 use Rattle.iom_world.specs.Parts.{Parts}
 use Rattle.iom_world.specs.Seen.{parts_of}
 use Rattle.iom_world.proofs.AskLemmas.{oldest_writes, some_by_map, known_of_some}
-use Rattle.iom_world.proofs.CommitKeeps.{makeable, keeps_made}
+use Rattle.iom_world.proofs.CommitKeeps.{not_marked, makeable, keeps_made}
 use Rattle.iom_world.proofs.DriverLemmas.{sound_driver}
 use Rattle.iom_driver.proofs.Lists.{get_within}
 use Rattle.iom_world.proofs.MemoryKeeps.{keeps_stored}
@@ -66,6 +66,8 @@ returns-clause-does c =
       stands = c.requires.2;
       made = flight;
       oldest = c.requires.3;
+      unreserved = not_marked world.driver.marks c.requires.1.frame
+          (makeable (parts_of world) world.events c.args.place c.requires.0 c.requires.1 world.sound world.driver.sound.grants c.requires.2 c.requires.3).free;
       effect = inr (record {
         writes = c.requires.5;
         bytes = bytes;
