@@ -21,34 +21,35 @@ impl World {
         ensures counted { self.new.events ≡ self.old.events + 1 }
     {
         self.events += 1;
-        match event {
-            Event::Plug { device, kind } => self.plug(*device, *kind).tell(told),
+        let answer = match event {
+            Event::Plug { device, kind } => self.plug(*device, *kind),
             // No other mode can come yet, and no ATS.
-            Event::Attach { device, .. } => self.attach(*device).tell(told),
+            Event::Attach { device, .. } => self.attach(*device),
             Event::Grant {
                 device,
                 page,
                 frame,
                 rights,
-            } => self.grant(*device, *page, *frame, *rights).tell(told),
-            Event::Release { device, page } => self.release(*device, *page).tell(told),
-            Event::Fetch => self.fetch().tell(told),
-            Event::Poll => self.poll().tell(told),
+            } => self.grant(*device, *page, *frame, *rights),
+            Event::Release { device, page } => self.release(*device, *page),
+            Event::Fetch => self.fetch(),
+            Event::Poll => self.poll(),
             Event::Read {
                 device,
                 address,
                 len,
-            } => self.read(*device, *address, *len).tell(told),
+            } => self.read(*device, *address, *len),
             Event::Write {
                 device,
                 address,
                 bytes,
-            } => self.write(*device, *address, bytes.as_slice()).tell(told),
-            Event::Commit { device } => self.commit(*device, told),
-            Event::Poke { address, bytes } => self.poke(*address, bytes.as_slice()).tell(told),
-            Event::Peek { address, len } => self.peek(*address, *len, told),
-            Event::Free { frame } => self.free(*frame).tell(told),
-        }
+            } => self.write(*device, *address, bytes.as_slice()),
+            Event::Commit { device } => return self.commit(*device, told),
+            Event::Poke { address, bytes } => self.poke(*address, bytes.as_slice()),
+            Event::Peek { address, len } => return self.peek(*address, *len, told),
+            Event::Free { frame } => self.free(*frame),
+        };
+        answer.tell(told)
     }
 
     /// One event, as [`World::step`] says: what comes of it is told in the place.

@@ -88,6 +88,10 @@ pub(crate) fn tell_read(bytes: &[u8], place: &mut Outcome)
     ensures { TellsBytes place.new bytes.now }
 {
     if let Outcome::Read(held) = place {
+        if held.len() == bytes.len() {
+            held.as_mut_slice().copy_from_slice(bytes);
+            return;
+        }
         held.clear();
         held.try_extend_from_slice(bytes).unwrap();
         return;
