@@ -50,9 +50,9 @@ pub record Starts {M : Type 0} (g : Ghosts M) (d : DriverState) (memory : List (
   pub empty : commands_in memory' (g.registers io') ≡ []
 
 -- PLUG: one more device, attached to nothing; or a refusal, which changes nothing
-abbrev pub Plugs : DriverState → ℕ → Result (Unit {0}) Refusal → DriverState → Type 0
-Plugs d id (Ok done) d' = NoneApplies (plug_reasons d id) × (d' ≡ record d { devices = d.devices ++ detached id ∷ [] })
-Plugs d id (Err why) d' = IsRefusedBy (plug_reasons d id) (λ may. may ≡ Memory) why × (d' ≡ d)
+abbrev pub AnswersPlug : DriverState → ℕ → Result (Unit {0}) Refusal → DriverState → Type 0
+AnswersPlug d id (Ok done) d' = NoneApplies (plug_reasons d id) × (d' ≡ record d { devices = d.devices ++ detached id ∷ [] })
+AnswersPlug d id (Err why) d' = IsRefusedBy (plug_reasons d id) (λ may. may ≡ Memory) why × (d' ≡ d)
 
 -- the highest free frame, all bytes zero, becomes the device's root, and the lowest free number its address space
 pub record TakesRoot (d : DriverState) (memory : List (List ℕ)) (id : ℕ) (d' : DriverState) (memory' : List (List ℕ)) : Type 0 where
@@ -68,9 +68,9 @@ LacksRoot d memory NoFrames = NoneIsFree d.marks d.ledger None 0 (length memory)
 LacksRoot d memory _ = ⊥
 
 -- ATTACH
-abbrev pub Attaches : DriverState → List (List ℕ) → ℕ → Result (Unit {0}) Refusal → DriverState → List (List ℕ) → Type 0
-Attaches d memory id (Ok done) d' memory' = NoneApplies (attach_reasons d id) × TakesRoot d memory id d' memory'
-Attaches d memory id (Err why) d' memory' = IsRefusedBy (attach_reasons d id) (LacksRoot d memory) why × (d' ≡ d) × (memory' ≡ memory)
+abbrev pub AnswersAttach : DriverState → List (List ℕ) → ℕ → Result (Unit {0}) Refusal → DriverState → List (List ℕ) → Type 0
+AnswersAttach d memory id (Ok done) d' memory' = NoneApplies (attach_reasons d id) × TakesRoot d memory id d' memory'
+AnswersAttach d memory id (Err why) d' memory' = IsRefusedBy (attach_reasons d id) (LacksRoot d memory) why × (d' ≡ d) × (memory' ≡ memory)
 
 -- nothing changes but what room the ledger has: it shows the same, and agrees with the same histories
 pub record IsSame (d d' : DriverState) : Type 0 where
@@ -113,9 +113,9 @@ LacksTables d memory id page frame Memory = HasFrames d memory id page frame
 LacksTables d memory id page frame _ = ⊥
 
 -- GRANT
-abbrev pub Grants : DriverState → List (List ℕ) → ℕ → ℕ → ℕ → GrantRights → Result (Unit {0}) Refusal → DriverState → List (List ℕ) → Type 0
-Grants d memory id page frame rights (Ok done) d' memory' = NoneApplies (grant_reasons d id page frame) × TakesTables d memory id page frame rights d' memory'
-Grants d memory id page frame rights (Err why) d' memory' =
+abbrev pub AnswersGrant : DriverState → List (List ℕ) → ℕ → ℕ → ℕ → GrantRights → Result (Unit {0}) Refusal → DriverState → List (List ℕ) → Type 0
+AnswersGrant d memory id page frame rights (Ok done) d' memory' = NoneApplies (grant_reasons d id page frame) × TakesTables d memory id page frame rights d' memory'
+AnswersGrant d memory id page frame rights (Err why) d' memory' =
     IsRefusedBy (grant_reasons d id page frame) (LacksTables d memory id page frame) why × IsSame d d' × (memory' ≡ memory)
 
 -- The next ticket is given; the page's leaf is cleared; an invalidation of the page and the ticket's fence are appended: no frame but the device's and
@@ -133,10 +133,10 @@ pub record QueuesRelease {M : Type 0} (g : Ghosts M) (d : DriverState) (memory :
   pub others : (f : ℕ) → slice_get d.marks f ≢ Some (Some (OneDevice id)) → f ≢ command_frame (length memory) → slice_get memory' f ≡ slice_get memory f
 
 -- RELEASE
-abbrev pub Releases : {M : Type 0} → Ghosts M → DriverState → List (List ℕ) → M → ℕ → ℕ → Result Ticket Refusal → DriverState → List (List ℕ) → M → Type 0
-Releases g d memory io id page (Ok ticket) d' memory' io' =
+abbrev pub AnswersRelease : {M : Type 0} → Ghosts M → DriverState → List (List ℕ) → M → ℕ → ℕ → Result Ticket Refusal → DriverState → List (List ℕ) → M → Type 0
+AnswersRelease g d memory io id page (Ok ticket) d' memory' io' =
     NoneApplies (release_reasons d (g.registers io) id page) × QueuesRelease g d memory io id page ticket.0 d' memory' io'
-Releases g d memory io id page (Err why) d' memory' io' =
+AnswersRelease g d memory io id page (Err why) d' memory' io' =
     (first_that_applies (release_reasons d (g.registers io) id page) ≡ Some why) × (d' ≡ d) × (memory' ≡ memory) × (io' ≡ io)
 
 -- The completion word is a number. The tickets that wait and aren't above it are confirmed, from the oldest on, and no others.
@@ -151,12 +151,12 @@ pub record ConfirmsDone (r : Registers) (d : DriverState) (memory : List (List �
   pub driver : d' ≡ record d { ledger = d'.ledger; confirmed = d.confirmed + polled.count }
 
 -- POLL, which leaves memory and registers
-abbrev pub Polls : Registers → DriverState → List (List ℕ) → Result Polled Refusal → DriverState → Type 0
-Polls r d memory (Ok polled) d' = NoneApplies (poll_reasons d) × ConfirmsDone r d memory polled d'
-Polls r d memory (Err why) d' = (first_that_applies (poll_reasons d) ≡ Some why) × (d' ≡ d)
+abbrev pub AnswersPoll : Registers → DriverState → List (List ℕ) → Result Polled Refusal → DriverState → Type 0
+AnswersPoll r d memory (Ok polled) d' = NoneApplies (poll_reasons d) × ConfirmsDone r d memory polled d'
+AnswersPoll r d memory (Err why) d' = (first_that_applies (poll_reasons d) ≡ Some why) × (d' ≡ d)
 
 -- FREE: the frame is one of memory, isn't reserved, and no device holds or lingers on it
-pub record IsFree (d : DriverState) (frame : ℕ) : Type 0 where
+pub record IsFreeFrame (d : DriverState) (frame : ℕ) : Type 0 where
   pub inside : frame < length d.marks
   pub unreserved : is_marked d.marks frame ≡ false
   pub ungranted : IsFreeIn d.ledger frame

@@ -1,7 +1,7 @@
 // A device is attached in its first stage.
 ghost use Rattle.std.specs.Prelude.{◌≡◌, ◌≤◌, length};
 ghost use Rattle.iom_registers.specs.declared.registers.Registers.{Registers};
-ghost use Rattle.iom_driver.specs.Calls.{Attaches};
+ghost use Rattle.iom_driver.specs.Calls.{AnswersAttach};
 ghost use Rattle.iom_driver.specs.Devices.{is_used, IsLowestNumber};
 ghost use Rattle.iom_driver.specs.Ready.{TablesStand, IsReady};
 ghost use Rattle.iom_driver.specs.Seen.{state_of};
@@ -45,7 +45,7 @@ impl Driver {
     /// `NoSuchDevice`, `AlreadyAttached`, `IdTooWide`, `NoFrames`: the first that applies. Takes no memory.
     pub fn attach(&mut self, memory: &mut Memory, id: DeviceId) -> Result<(), Refusal>
         requires stand { TablesStand (state_of self.old) memory.old }
-        ensures effect { Attaches (state_of self.old) memory.old id result (state_of self.new) memory.new }
+        ensures effect { AnswersAttach (state_of self.old) memory.old id result (state_of self.new) memory.new }
         ensures stand { TablesStand (state_of self.new) memory.new }
         ensures ready { (r : Registers) → IsReady (state_of self.old) memory.old r → IsReady (state_of self.new) memory.new r }
     {

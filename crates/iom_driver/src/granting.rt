@@ -1,7 +1,7 @@
 // A device gets a frame at a page.
 ghost use Rattle.std.specs.Prelude.{◌≡◌, ◌<◌, ◌≤◌, Some, None, All, length, IfSome, IfNone};
 ghost use Rattle.iom_registers.specs.declared.registers.Registers.{Registers};
-ghost use Rattle.iom_driver.specs.Calls.{Grants};
+ghost use Rattle.iom_driver.specs.Calls.{AnswersGrant};
 ghost use Rattle.iom_driver.specs.Choices.{AreHighestFree, marked_for, cleared};
 ghost use Rattle.iom_driver.specs.Ready.{TablesStand, IsReady};
 ghost use Rattle.iom_driver.specs.Seen.{state_of};
@@ -63,7 +63,7 @@ impl Driver {
         rights: GrantRights,
     ) -> Result<(), Refusal>
         requires stand { TablesStand (state_of self.old) memory.old }
-        ensures effect { Grants (state_of self.old) memory.old id page frame rights result (state_of self.new) memory.new }
+        ensures effect { AnswersGrant (state_of self.old) memory.old id page frame rights result (state_of self.new) memory.new }
         ensures stand { TablesStand (state_of self.new) memory.new }
         ensures ready { (r : Registers) → IsReady (state_of self.old) memory.old r → IsReady (state_of self.new) memory.new r }
     {

@@ -5,7 +5,7 @@ ghost use Rattle.iom_phys_mem.specs.Sizes.{IsMemorySize};
 ghost use Rattle.iom_phys_mem.specs.declared.memory.MemError.TheVariants.{BadSize};
 ghost use Rattle.iom_registers.specs.declared.registers.Registers.{Registers};
 ghost use Rattle.iom_table_frames.specs.Marks.{is_marked};
-ghost use Rattle.iom_driver.specs.Calls.{IsOpening, IsFree};
+ghost use Rattle.iom_driver.specs.Calls.{IsOpening, IsFreeFrame};
 ghost use Rattle.iom_driver.specs.Devices.{device_of, stage_of};
 ghost use Rattle.iom_driver.specs.Layout.{IsLevels, id_limit};
 ghost use Rattle.iom_driver.specs.Places.{IsPlaceOf};
@@ -97,7 +97,7 @@ impl Driver {
     /// Whether the frame is one of memory, isn't reserved, and no device holds or lingers on it: so it may
     /// be handed on.
     pub fn is_free(&self, frame: u32) -> bool
-        ensures { IsTrue result ↔ IsFree (state_of self.now) frame }
+        ensures { IsTrue result ↔ IsFreeFrame (state_of self.now) frame }
     {
         if frame >= self.frames || self.marks.is_reserved(frame) {
             return false;

@@ -1,7 +1,7 @@
 // A device is plugged in.
 ghost use Rattle.std.specs.Prelude.{ℕ, List};
 ghost use Rattle.iom_registers.specs.declared.registers.Registers.{Registers};
-ghost use Rattle.iom_driver.specs.Calls.{Plugs};
+ghost use Rattle.iom_driver.specs.Calls.{AnswersPlug};
 ghost use Rattle.iom_driver.specs.Ready.{IsReady};
 ghost use Rattle.iom_driver.specs.Seen.{state_of};
 
@@ -15,7 +15,7 @@ impl Driver {
     /// A device is plugged in, and attached to nothing. May come before the start. `AlreadyPlugged`, else
     /// `TooManyDevices` where there are 16, else `Memory`.
     pub fn plug(&mut self, id: DeviceId) -> Result<(), Refusal>
-        ensures effect { Plugs (state_of self.old) id result (state_of self.new) }
+        ensures effect { AnswersPlug (state_of self.old) id result (state_of self.new) }
         ensures ready { (memory : List (List ℕ)) (r : Registers)
             → IsReady (state_of self.old) memory r → IsReady (state_of self.new) memory r }
     {

@@ -5,7 +5,7 @@ ghost use Rattle.iom_ledger.specs.Confirmations.{confirmed_from, ConfirmsFrom};
 ghost use Rattle.iom_ledger.specs.History.{History};
 ghost use Rattle.iom_ledger.specs.Shown.{Agrees};
 ghost use Rattle.iom_phys_mem.specs.Words.{word_at};
-ghost use Rattle.iom_driver.specs.Calls.{Polls};
+ghost use Rattle.iom_driver.specs.Calls.{AnswersPoll};
 ghost use Rattle.iom_driver.specs.Ready.{IsReady};
 ghost use Rattle.iom_driver.specs.Seen.{state_of};
 
@@ -61,7 +61,7 @@ impl Driver {
     /// whether the IOMMU gave a command up. `NotStarted` is its one refusal. Takes no memory.
     pub fn poll<M: Mmio>(&mut self, memory: &Memory, io: &M) -> Result<Polled, Refusal>
         requires ready { IsReady (state_of self.old) memory.now (M.registers io.now) }
-        ensures effect { Polls (M.registers io.now) (state_of self.old) memory.now result (state_of self.new) }
+        ensures effect { AnswersPoll (M.registers io.now) (state_of self.old) memory.now result (state_of self.new) }
         ensures ready { IsReady (state_of self.new) memory.now (M.registers io.now) }
     {
         if !self.started {

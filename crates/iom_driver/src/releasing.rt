@@ -1,5 +1,5 @@
 // What a device holds at a page is released.
-ghost use Rattle.iom_driver.specs.Calls.{Releases};
+ghost use Rattle.iom_driver.specs.Calls.{AnswersRelease};
 ghost use Rattle.iom_driver.specs.Ready.{IsReady};
 ghost use Rattle.iom_driver.specs.Seen.{state_of};
 
@@ -26,7 +26,7 @@ impl Driver {
         page: u64,
     ) -> Result<Ticket, Refusal>
         requires ready { IsReady (state_of self.old) memory.old (M.registers io.old) }
-        ensures effect { Releases M.Mmio (state_of self.old) memory.old io.old id page result (state_of self.new) memory.new io.new }
+        ensures effect { AnswersRelease M.Mmio (state_of self.old) memory.old io.old id page result (state_of self.new) memory.new io.new }
         ensures ready { IsReady (state_of self.new) memory.new (M.registers io.new) }
     {
         let stage = match self.admit_release(io, id, page) {

@@ -7,7 +7,7 @@ use Rattle.std.proofs.lemmas.List.Elements.{All-cons, All-nil}
 use Rattle.iom_base.specs.declared.owner.Owner.TheVariants.{OneDevice}
 use Rattle.iom_driver.specs.declared.device.Device as driver
 use Rattle.iom_driver.specs.declared.device.FirstStage.{FirstStage}
-use Rattle.iom_driver.specs.Calls.{Attaches, TakesRoot, LacksRoot}
+use Rattle.iom_driver.specs.Calls.{AnswersAttach, TakesRoot, LacksRoot}
 use Rattle.iom_driver.specs.Devices.{is_plugged, stage_of, with_stage}
 use Rattle.iom_driver.specs.Layout.{id_limit}
 use Rattle.iom_driver.specs.Reasons.{attach_reasons}
@@ -174,7 +174,7 @@ attach_step old new events id told sound does state shows = by does.answer does.
           shows_attached old new events id found.0 sound there takes does.devices state shows found.1,
         )
 
-    by : (answer : Result (Unit {0}) Refusal) → told ≡ told_of answer → Attaches old.driver old.memory id answer new.driver new.memory
+    by : (answer : Result (Unit {0}) Refusal) → told ≡ told_of answer → AnswersAttach old.driver old.memory id answer new.driver new.memory
         → (taken : List ℕ) × (next : State) × machine.Attaches taken state id First false told next × PartsShow new next
     by (Ok done) is call =
         let d = old.driver in

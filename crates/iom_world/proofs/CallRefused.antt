@@ -3,7 +3,7 @@ use Rattle.std.proofs.Common.{◌≡◌, ◌+◌, ◌-◌, ◌==◌, ◌∙◌, 
 use Rattle.iom_base.specs.declared.grant_rights.GrantRights.{GrantRights}
 use Rattle.iom_driver.specs.declared.answers.Polled.{Polled}
 use Rattle.iom_driver.specs.declared.answers.Ticket as answers
-use Rattle.iom_driver.specs.Calls.{Plugs, Attaches, Grants, Releases, Polls}
+use Rattle.iom_driver.specs.Calls.{AnswersPlug, AnswersAttach, AnswersGrant, AnswersRelease, AnswersPoll}
 use Rattle.iom_driver.specs.State.{DriverState}
 use Rattle.iom_iommu.specs.Parts.{registers_of, mmio}
 use Rattle.iom_ledger.specs.Changes.{IsUnchanged}
@@ -33,28 +33,28 @@ done_refused why same = cc
 pub plug_refused : (old new : Parts) (id : ℕ) (kind : DeviceKind) (told : Outcome) → PlugsDevice old id kind told new → SameIfRefused told old new
 plug_refused old new id kind told does why is = by does.answer (sym does.told_so ∙ is) does.call does.devices
   where
-    by : (answer : Result (Unit {0}) Refusal) → told_of answer ≡ outcome.Refused why → Plugs old.driver id answer new.driver → new.devices ≡ devices_after answer old.devices id kind → AreSame old new
+    by : (answer : Result (Unit {0}) Refusal) → told_of answer ≡ outcome.Refused why → AnswersPlug old.driver id answer new.driver → new.devices ≡ devices_after answer old.devices id kind → AreSame old new
     by (Ok done) refused call devices = absurd (done_refused why refused)
     by (Err reason) refused call devices = same_of old new does.memory does.iommu devices call.1
 
 pub attach_refused : (old new : Parts) (id : ℕ) (told : Outcome) → AttachesDevice old id told new → SameIfRefused told old new
 attach_refused old new id told does why is = by does.answer (sym does.told_so ∙ is) does.call
   where
-    by : (answer : Result (Unit {0}) Refusal) → told_of answer ≡ outcome.Refused why → Attaches old.driver old.memory id answer new.driver new.memory → AreSame old new
+    by : (answer : Result (Unit {0}) Refusal) → told_of answer ≡ outcome.Refused why → AnswersAttach old.driver old.memory id answer new.driver new.memory → AreSame old new
     by (Ok done) refused call = absurd (done_refused why refused)
     by (Err reason) refused call = same_of old new call.2 does.iommu does.devices call.1
 
 pub grant_refused : (old new : Parts) (id page frame : ℕ) (rights : GrantRights) (told : Outcome) → GrantsPage old id page frame rights told new → SameIfRefused told old new
 grant_refused old new id page frame rights told does why is = by does.answer (sym does.told_so ∙ is) does.call
   where
-    by : (answer : Result (Unit {0}) Refusal) → told_of answer ≡ outcome.Refused why → Grants old.driver old.memory id page frame rights answer new.driver new.memory → AreSame old new
+    by : (answer : Result (Unit {0}) Refusal) → told_of answer ≡ outcome.Refused why → AnswersGrant old.driver old.memory id page frame rights answer new.driver new.memory → AreSame old new
     by (Ok done) refused call = absurd (done_refused why refused)
     by (Err reason) refused call = record { memory = call.2; iommu = does.iommu; devices = does.devices; ledger = call.1.ledger; driver = call.1.rest }
 
 pub release_refused : (old new : Parts) (id page : ℕ) (told : Outcome) → ReleasesPage old id page told new → SameIfRefused told old new
 release_refused old new id page told does why is = by does.answer (sym does.told_so ∙ is) does.call
   where
-    by : (answer : Result answers.Ticket Refusal) → ticket_told_of answer ≡ outcome.Refused why → Releases mmio old.driver old.memory old.iommu id page answer new.driver new.memory new.iommu → AreSame old new
+    by : (answer : Result answers.Ticket Refusal) → ticket_told_of answer ≡ outcome.Refused why → AnswersRelease mmio old.driver old.memory old.iommu id page answer new.driver new.memory new.iommu → AreSame old new
     by (Ok ticket) refused call = cc
     by (Err reason) refused call = same_of old new call.2 call.3 does.devices call.1
 
@@ -71,6 +71,6 @@ poll_refused old new told does why is = by does.answer (sym does.told_so ∙ is)
     never true first last same = cc
     never false first last same = cc
 
-    by : (answer : Result Polled Refusal) → polled_told_of answer ≡ outcome.Refused why → Polls (registers_of old.iommu) old.driver old.memory answer new.driver → AreSame old new
+    by : (answer : Result Polled Refusal) → polled_told_of answer ≡ outcome.Refused why → AnswersPoll (registers_of old.iommu) old.driver old.memory answer new.driver → AreSame old new
     by (Ok polled) refused call = absurd (never (polled.count == 0) polled.first (polled.first + polled.count - 1) refused)
     by (Err reason) refused call = same_of old new does.memory does.iommu does.devices call.1

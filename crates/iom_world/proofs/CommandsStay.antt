@@ -5,7 +5,7 @@ use Rattle.iom_base.specs.declared.owner.Owner.TheVariants.{System}
 use Rattle.iom_base.specs.Accesses.{read_of, write_of}
 use Rattle.iom_base.specs.declared.access.Access.{Access}
 use Rattle.iom_command_queue.specs.Waiting.{commands_in}
-use Rattle.iom_driver.specs.Calls.{Attaches, Grants}
+use Rattle.iom_driver.specs.Calls.{AnswersAttach, AnswersGrant}
 use Rattle.iom_driver.specs.Layout.{command_frame}
 use Rattle.iom_driver.proofs.Keeps.{owned_differs, unmarked}
 use Rattle.iom_driver.proofs.Lists.{get_set_other, get_within}
@@ -50,14 +50,14 @@ stored_keeps old frame bytes memory free stored n system =
 attach_keeps : (old new : Parts) (events id : ℕ) (told : Outcome) → AreSound old events → AttachesDevice old id told new → KeepsSystem old new.memory
 attach_keeps old new events id told sound does = by does.answer does.call
   where
-    by : (answer : Result (Unit {0}) Refusal) → Attaches old.driver old.memory id answer new.driver new.memory → KeepsSystem old new.memory
+    by : (answer : Result (Unit {0}) Refusal) → AnswersAttach old.driver old.memory id answer new.driver new.memory → KeepsSystem old new.memory
     by (Ok done) (admitted, takes) = root_keeps_system old.driver old.memory id new.driver new.memory sound.ready.stand.size takes
     by (Err why) (refused, driver, memory) = λ n system. ap (λ m. slice_get m n) memory
 
 grant_keeps : (old new : Parts) (events id page frame : ℕ) (rights : GrantRights) (told : Outcome) → AreSound old events → GrantsPage old id page frame rights told new → KeepsSystem old new.memory
 grant_keeps old new events id page frame rights told sound does = by does.answer does.call
   where
-    by : (answer : Result (Unit {0}) Refusal) → Grants old.driver old.memory id page frame rights answer new.driver new.memory → KeepsSystem old new.memory
+    by : (answer : Result (Unit {0}) Refusal) → AnswersGrant old.driver old.memory id page frame rights answer new.driver new.memory → KeepsSystem old new.memory
     by (Ok done) (admitted, takes) = tables_keep_system old.driver old.memory id page frame rights new.driver new.memory sound.ready.stand.size takes
     by (Err why) (refused, driver, memory) = λ n system. ap (λ m. slice_get m n) memory
 

@@ -12,7 +12,7 @@ use Rattle.iom_command_queue.specs.Waiting.{commands_in}
 use Rattle.iom_driver.specs.declared.answers.Polled.{Polled}
 use Rattle.iom_driver.specs.declared.device.Device as driver
 use Rattle.iom_driver.specs.declared.device.FirstStage.{FirstStage}
-use Rattle.iom_driver.specs.Calls.{Attaches, TakesRoot, Grants, TakesTables, Polls}
+use Rattle.iom_driver.specs.Calls.{AnswersAttach, TakesRoot, AnswersGrant, TakesTables, AnswersPoll}
 use Rattle.iom_driver.specs.Choices.{AreHighestFree, marked_for}
 use Rattle.iom_driver.specs.Devices.{with_stage}
 use Rattle.iom_driver.specs.Layout.{command_frame, completion_frame, completion_address}
@@ -101,7 +101,7 @@ keeps_attached old new events id told sound own ready attaches = by attaches.ans
     size : length old.memory ≡ length old.driver.marks
     size = sound.ready.stand.size
 
-    by : (answer : Result (Unit {0}) Refusal) → Attaches old.driver old.memory id answer new.driver new.memory → AreSound new events
+    by : (answer : Result (Unit {0}) Refusal) → AnswersAttach old.driver old.memory id answer new.driver new.memory → AreSound new events
     by (Ok done) (admitted, takes) =
         let root = takes.stage.root in
         let kept = root_keeps_system old.driver old.memory id new.driver new.memory size takes in
@@ -172,7 +172,7 @@ keeps_granted old new events id page frame rights told sound own ready grants = 
     size : length old.memory ≡ length old.driver.marks
     size = sound.ready.stand.size
 
-    by : (answer : Result (Unit {0}) Refusal) → Grants old.driver old.memory id page frame rights answer new.driver new.memory → AreSound new events
+    by : (answer : Result (Unit {0}) Refusal) → AnswersGrant old.driver old.memory id page frame rights answer new.driver new.memory → AreSound new events
     by (Ok done) (admitted, takes) =
         let vacant = vacant_where old.driver id page frame admitted in
         let marks : new.driver.marks ≡ marked_for id takes.tables old.driver.marks = ap (λ d. d.marks) takes.driver in
@@ -221,7 +221,7 @@ keeps_polled old new events told sound ready polls = by polls.answer polls.call
       started = started;
     }
 
-    by : (answer : Result Polled Refusal) → Polls (registers_of old.iommu) old.driver old.memory answer new.driver → AreSound new events
+    by : (answer : Result Polled Refusal) → AnswersPoll (registers_of old.iommu) old.driver old.memory answer new.driver → AreSound new events
     by (Ok polled) (admitted, confirms) =
         let completed : completed_in old.memory ≡ confirms.word = ap (λ o. option_map_or (λ word. word) o 0) confirms.read in
         let given : completed_in old.memory ≤ old.driver.given = follow_le (completion_address (length old.memory)) (completed_in old.memory) (commands_in old.memory (registers_of old.iommu)) old.driver.given sound.commands in
@@ -240,7 +240,7 @@ keeps_polled old new events told sound ready polls = by polls.answer polls.call
         (rw polls.devices sound.own_ids) (rw same sound.confirmed) (rw polls.devices (rw same sound.each))
 
 -- the tickets that a poll tells are 32 bits wide
-pub polled_low : (old : Parts) (events : ℕ) (polled : Polled) (next : DriverState) → AreSound old events → Polls (registers_of old.iommu) old.driver old.memory (Ok polled) next
+pub polled_low : (old : Parts) (events : ℕ) (polled : Polled) (next : DriverState) → AreSound old events → AnswersPoll (registers_of old.iommu) old.driver old.memory (Ok polled) next
     → polled.first + polled.count ≤ 2 ^ 32
 polled_low old events polled next sound (admitted, confirms) =
     let small = sound.small in

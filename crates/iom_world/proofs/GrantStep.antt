@@ -8,7 +8,7 @@ use Rattle.iom_base.specs.declared.owner.Owner.{Owner}
 use Rattle.iom_base.specs.declared.owner.Owner.TheVariants.{OneDevice}
 use Rattle.iom_base.specs.GrantRights.{rights_of}
 use Rattle.iom_driver.specs.declared.device.FirstStage.{FirstStage}
-use Rattle.iom_driver.specs.Calls.{Grants, TakesTables, LacksTables, granted_leaf}
+use Rattle.iom_driver.specs.Calls.{AnswersGrant, TakesTables, LacksTables, granted_leaf}
 use Rattle.iom_driver.specs.Choices.{marked_for, cleared}
 use Rattle.iom_driver.specs.Devices.{is_plugged, stage_of}
 use Rattle.iom_driver.specs.Reasons.{grant_reasons, granting_reasons}
@@ -153,7 +153,7 @@ pub grant_step : (old new : Parts) (events id page frame : ℕ) (rights : GrantR
     → (state : State) → PartsShow old state → (taken : List ℕ) × (next : State) × machine.Grants taken state id page frame rights told next × PartsShow new next
 grant_step old new events id page frame rights told sound does state shows = by does.answer does.told_so does.call
   where
-    by : (answer : Result (Unit {0}) Refusal) → told ≡ told_of answer → Grants old.driver old.memory id page frame rights answer new.driver new.memory
+    by : (answer : Result (Unit {0}) Refusal) → told ≡ told_of answer → AnswersGrant old.driver old.memory id page frame rights answer new.driver new.memory
         → (taken : List ℕ) × (next : State) × machine.Grants taken state id page frame rights told next × PartsShow new next
     by (Ok done) is call =
         let takes = call.1 in

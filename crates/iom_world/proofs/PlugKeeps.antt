@@ -3,7 +3,7 @@ use Rattle.std.proofs.Common.{suc, zero, ◌≡◌, ◌≢◌, ◌<◌, ◌≤�
 use Rattle.std.proofs.lemmas.Bool.{false≢true, le-leb, lt-leb, eq-eqb}
 use Rattle.iom_base.specs.declared.access.AcceptedAccess.{AcceptedAccess}
 use Rattle.iom_driver.specs.declared.device.Device as driver
-use Rattle.iom_driver.specs.Calls.{Plugs}
+use Rattle.iom_driver.specs.Calls.{AnswersPlug}
 use Rattle.iom_driver.specs.Devices.{device_of, is_plugged, detached}
 use Rattle.iom_driver.specs.Ready.{IsReady}
 use Rattle.iom_driver.specs.Reasons.{plug_reasons}
@@ -64,15 +64,15 @@ absent_known (own ∷ rest) (first ∷ others) id same none k device at = by (ow
     by false test none (suc k) at later = later none k device at
 
 -- why a device isn't plugged in, before the driver is asked
-pub already_plugged : (d : DriverState) (devices : List Device) (id place : ℕ) → AreKnown d.devices devices → HasPlace devices id place → Plugs d id (Err AlreadyPlugged) d
+pub already_plugged : (d : DriverState) (devices : List Device) (id place : ℕ) → AreKnown d.devices devices → HasPlace devices id place → AnswersPlug d id (Err AlreadyPlugged) d
 already_plugged d devices id place known p = (rw (known_place d.devices devices id place known p) refl, refl)
 
-pub too_many : (d : DriverState) (devices : List Device) (id : ℕ) → AreKnown d.devices devices → IsAbsent devices id → 16 ≤ length devices → Plugs d id (Err TooManyDevices) d
+pub too_many : (d : DriverState) (devices : List Device) (id : ℕ) → AreKnown d.devices devices → IsAbsent devices id → 16 ≤ length devices → AnswersPlug d id (Err TooManyDevices) d
 too_many d devices id known absent many =
     let full : nat_le 16 (length d.devices) ≡ true = le-leb 16 (length d.devices) (rw (length-known d.devices devices known) many) in
     (rw (known_absent d.devices devices id known absent, full) refl, refl)
 
-pub no_memory : (d : DriverState) (devices : List Device) (id : ℕ) → AreKnown d.devices devices → IsAbsent devices id → length devices < 16 → Plugs d id (Err Memory) d
+pub no_memory : (d : DriverState) (devices : List Device) (id : ℕ) → AreKnown d.devices devices → IsAbsent devices id → length devices < 16 → AnswersPlug d id (Err Memory) d
 no_memory d devices id known absent few =
     let room : nat_le 16 (length d.devices) ≡ false = lt-leb 16 (length d.devices) (rw (length-known d.devices devices known) few) in
     (rw (known_absent d.devices devices id known absent, room) refl, refl)
@@ -106,7 +106,7 @@ pub keeps_plugged : (old new : Parts) (events id : ℕ) (kind : DeviceKind) (tol
     → PlugsDevice old id kind told new → AreSound new events
 keeps_plugged old new events id kind told sound ready plugs = by plugs.answer plugs.call plugs.devices
   where
-    by : (answer : Result (Unit {0}) Refusal) → Plugs old.driver id answer new.driver → new.devices ≡ devices_after answer old.devices id kind → AreSound new events
+    by : (answer : Result (Unit {0}) Refusal) → AnswersPlug old.driver id answer new.driver → new.devices ≡ devices_after answer old.devices id kind → AreSound new events
     by (Ok done) (admitted, driver) devices =
         let absent = absent_known old.driver.devices old.devices id sound.known (none_at (plug_reasons old.driver id) 0 (is_plugged old.driver.devices id) AlreadyPlugged refl admitted) in
         sound_from old new events sound

@@ -1,7 +1,7 @@
 -- A plug of the driver is one of the ledger machine.
 use Rattle.std.proofs.Common.{◌≡◌, ◌++◌, ◌∙◌, ℕ, Bool, true, false, List, [], ◌∷◌, length, nat_le, None, Result, Ok, Err, refl, sym, ap, subst}
 use Rattle.iom_driver.specs.declared.device.Device as driver
-use Rattle.iom_driver.specs.Calls.{Plugs}
+use Rattle.iom_driver.specs.Calls.{AnswersPlug}
 use Rattle.iom_driver.specs.Devices.{is_plugged, stage_of, detached}
 use Rattle.iom_driver.specs.Reasons.{plug_reasons}
 use Rattle.iom_driver.specs.State.{DriverState}
@@ -63,7 +63,7 @@ pub plug_step : (old new : Parts) (events id : ℕ) (kind : DeviceKind) (told : 
     → (state : State) → PartsShow old state → (next : State) × machine.Plugs state id kind told next × PartsShow new next
 plug_step old new events id kind told sound does state shows = by does.answer does.told_so does.call does.devices
   where
-    by : (answer : Result (Unit {0}) Refusal) → told ≡ told_of answer → Plugs old.driver id answer new.driver → new.devices ≡ devices_after answer old.devices id kind
+    by : (answer : Result (Unit {0}) Refusal) → told ≡ told_of answer → AnswersPlug old.driver id answer new.driver → new.devices ≡ devices_after answer old.devices id kind
         → (next : State) × machine.Plugs state id kind told next × PartsShow new next
     by (Ok done) is call devices = (
       plugged_state state id kind,

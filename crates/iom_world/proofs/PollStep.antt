@@ -3,7 +3,7 @@ use Rattle.std.proofs.Common.{suc, zero, ◌≡◌, ◌≢◌, ◌+◌, ◌-◌,
 use Rattle.std.proofs.Math.Nat.{min-le_right}
 use Rattle.std.proofs.lemmas.Bool.{false≢true, or_from}
 use Rattle.iom_driver.specs.declared.answers.Polled.{Polled}
-use Rattle.iom_driver.specs.Calls.{Polls, ConfirmsDone}
+use Rattle.iom_driver.specs.Calls.{AnswersPoll, ConfirmsDone}
 use Rattle.iom_driver.specs.State.{DriverState}
 use Rattle.iom_driver.proofs.Lists.{differs}
 use Rattle.iom_iommu.specs.Parts.{registers_of}
@@ -99,7 +99,7 @@ pub poll_step : (old new : Parts) (events after : ℕ) (told : Outcome) → AreS
     → (state : State) → PartsShow old state → (next : State) × machine.Polls state told next × PartsShow new next
 poll_step old new events after told sound sound' does state shows = by does.answer does.told_so does.call
   where
-    by : (answer : Result Polled Refusal) → told ≡ polled_told_of answer → Polls (registers_of old.iommu) old.driver old.memory answer new.driver
+    by : (answer : Result Polled Refusal) → told ≡ polled_told_of answer → AnswersPoll (registers_of old.iommu) old.driver old.memory answer new.driver
         → (next : State) × machine.Polls state told next × PartsShow new next
     by (Ok polled) tells (admitted, confirms) =
         let given : completed_in old.memory ≤ old.driver.given =

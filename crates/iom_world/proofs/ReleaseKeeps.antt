@@ -9,7 +9,7 @@ use Rattle.iom_command_queue.specs.Waiting.{commands_in}
 use Rattle.iom_driver.specs.declared.answers.Ticket as answers
 use Rattle.iom_driver.specs.declared.device.Device as driver
 use Rattle.iom_driver.specs.Appends.{invalidation, fence, AppendsTwo}
-use Rattle.iom_driver.specs.Calls.{Releases, QueuesRelease}
+use Rattle.iom_driver.specs.Calls.{AnswersRelease, QueuesRelease}
 use Rattle.iom_driver.specs.Layout.{completion_frame, completion_address}
 use Rattle.iom_driver.specs.Ready.{IsReady}
 use Rattle.iom_driver.specs.Reasons.{release_reasons}
@@ -74,7 +74,7 @@ pub keeps_released : (old new : Parts) (events id page : ℕ) (told : Outcome) �
     → ReleasesPage old id page told new → AreSound new events
 keeps_released old new events id page told sound own ready releases = by releases.answer releases.call
   where
-    by : (answer : Result answers.Ticket Refusal) → Releases mmio old.driver old.memory old.iommu id page answer new.driver new.memory new.iommu → AreSound new events
+    by : (answer : Result answers.Ticket Refusal) → AnswersRelease mmio old.driver old.memory old.iommu id page answer new.driver new.memory new.iommu → AreSound new events
     by (Ok ticket) (admitted, queues) =
         released old new events id page ticket.0 sound own ready
         (none_at (release_reasons old.driver (registers_of old.iommu) id page) 6 (nat_le 4294967295 old.driver.given) NumbersUsedUp refl admitted) queues releases.devices

@@ -3,7 +3,7 @@ use Rattle.std.proofs.Common.{◌≡◌, ◌≢◌, ◌+◌, ◌∙◌, ℕ, Lis
 use Rattle.iom_base.specs.declared.owner.Owner.{Owner}
 use Rattle.iom_base.specs.declared.owner.Owner.TheVariants.{System, OneDevice}
 use Rattle.iom_driver.specs.declared.answers.Ticket.{Ticket}
-use Rattle.iom_driver.specs.Calls.{Releases, QueuesRelease}
+use Rattle.iom_driver.specs.Calls.{AnswersRelease, QueuesRelease}
 use Rattle.iom_driver.specs.Layout.{command_frame}
 use Rattle.iom_driver.specs.State.{DriverState}
 use Rattle.iom_iommu.specs.declared.iommu.Iommu.{Iommu}
@@ -61,7 +61,7 @@ pub release_step : (old new : Parts) (events id page : ℕ) (told : Outcome) →
     → (state : State) → PartsShow old state → (next : State) × machine.Releases state id page told next × PartsShow new next
 release_step old new events id page told sound sound_driver does state shows = by does.answer does.told_so does.call
   where
-    by : (answer : Result Ticket Refusal) → told ≡ ticket_told_of answer → Releases mmio old.driver old.memory old.iommu id page answer new.driver new.memory new.iommu
+    by : (answer : Result Ticket Refusal) → told ≡ ticket_told_of answer → AnswersRelease mmio old.driver old.memory old.iommu id page answer new.driver new.memory new.iommu
         → (next : State) × machine.Releases state id page told next × PartsShow new next
     by (Ok ticket) is call = (
       released state id page ticket.0,

@@ -6,7 +6,7 @@ use Rattle.iom_command_queue.specs.declared.command.Command.{Command}
 use Rattle.iom_command_queue.specs.declared.command.Command.TheVariants.{IotinvalVma, IotinvalGvma, IofenceC, IodirInvalDdt, AtsInval}
 use Rattle.iom_driver.specs.declared.answers.Polled.{Polled}
 use Rattle.iom_driver.specs.declared.answers.Ticket as driver
-use Rattle.iom_driver.specs.Calls.{Plugs, Attaches, Grants, Releases, Polls}
+use Rattle.iom_driver.specs.Calls.{AnswersPlug, AnswersAttach, AnswersGrant, AnswersRelease, AnswersPoll}
 use Rattle.iom_iommu.specs.declared.fetched.Fetched.{Fetched}
 use Rattle.iom_iommu.specs.declared.fetched.Fetched.TheVariants.{Did, Waiting, Empty, Stopped}
 use Rattle.iom_iommu.specs.Fetches.{FetchesCommand}
@@ -69,7 +69,7 @@ devices_after (Err why) devices id kind = devices
 pub record PlugsDevice (old : Parts) (id : ℕ) (kind : DeviceKind) (told : Outcome) (new : Parts) : Type 0 where
   pub answer : Result (Unit {0}) Refusal
   pub told_so : told ≡ told_of answer
-  pub call : Plugs old.driver id answer new.driver
+  pub call : AnswersPlug old.driver id answer new.driver
   pub devices : new.devices ≡ devices_after answer old.devices id kind
   pub memory : new.memory ≡ old.memory
   pub iommu : new.iommu ≡ old.iommu
@@ -78,7 +78,7 @@ pub record PlugsDevice (old : Parts) (id : ℕ) (kind : DeviceKind) (told : Outc
 pub record AttachesDevice (old : Parts) (id : ℕ) (told : Outcome) (new : Parts) : Type 0 where
   pub answer : Result (Unit {0}) Refusal
   pub told_so : told ≡ told_of answer
-  pub call : Attaches old.driver old.memory id answer new.driver new.memory
+  pub call : AnswersAttach old.driver old.memory id answer new.driver new.memory
   pub iommu : new.iommu ≡ old.iommu
   pub devices : new.devices ≡ old.devices
 
@@ -86,7 +86,7 @@ pub record AttachesDevice (old : Parts) (id : ℕ) (told : Outcome) (new : Parts
 pub record GrantsPage (old : Parts) (id page frame : ℕ) (rights : GrantRights) (told : Outcome) (new : Parts) : Type 0 where
   pub answer : Result (Unit {0}) Refusal
   pub told_so : told ≡ told_of answer
-  pub call : Grants old.driver old.memory id page frame rights answer new.driver new.memory
+  pub call : AnswersGrant old.driver old.memory id page frame rights answer new.driver new.memory
   pub iommu : new.iommu ≡ old.iommu
   pub devices : new.devices ≡ old.devices
 
@@ -94,7 +94,7 @@ pub record GrantsPage (old : Parts) (id page frame : ℕ) (rights : GrantRights)
 pub record ReleasesPage (old : Parts) (id page : ℕ) (told : Outcome) (new : Parts) : Type 0 where
   pub answer : Result driver.Ticket Refusal
   pub told_so : told ≡ ticket_told_of answer
-  pub call : Releases mmio old.driver old.memory old.iommu id page answer new.driver new.memory new.iommu
+  pub call : AnswersRelease mmio old.driver old.memory old.iommu id page answer new.driver new.memory new.iommu
   pub devices : new.devices ≡ old.devices
 
 -- the IOMMU takes a command
@@ -111,7 +111,7 @@ pub record FetchesNext (old : Parts) (told : Outcome) (new : Parts) : Type 0 whe
 pub record PollsTickets (old : Parts) (told : Outcome) (new : Parts) : Type 0 where
   pub answer : Result Polled Refusal
   pub told_so : told ≡ polled_told_of answer
-  pub call : Polls (registers_of old.iommu) old.driver old.memory answer new.driver
+  pub call : AnswersPoll (registers_of old.iommu) old.driver old.memory answer new.driver
   pub memory : new.memory ≡ old.memory
   pub iommu : new.iommu ≡ old.iommu
   pub devices : new.devices ≡ old.devices

@@ -3,7 +3,7 @@ use Rattle.std.specs.Prelude.{◌≡◌, ◌↔◌, ℕ, ◌+◌, ◌/◌, ◌%�
 use Rattle.iom_base.specs.Bytes.{with_bytes}
 use Rattle.iom_base.specs.Sizes.{page_size}
 use Rattle.iom_base.specs.Spans.{FitsInPage}
-use Rattle.iom_driver.specs.Calls.{IsFree}
+use Rattle.iom_driver.specs.Calls.{IsFreeFrame}
 use Rattle.iom_ledger.specs.declared.refusal.Refusal.{Refusal}
 use Rattle.iom_ledger.specs.declared.refusal.Refusal.TheVariants.{FrameOutOfRange, FrameReserved}
 use Rattle.iom_machine.specs.declared.outcome.Outcome.{Outcome}
@@ -58,6 +58,6 @@ PeeksBytes old address len _ = ⊥
 
 -- THE DRIVER IS ASKED whether a frame is free, and nothing changes
 abbrev pub AsksFree : Parts → ℕ → Outcome → Type 0
-AsksFree old frame (Free is_free) = (frame < length old.memory) × (IsTrue is_free ↔ IsFree old.driver frame)
+AsksFree old frame (Free is_free) = (frame < length old.memory) × (IsTrue is_free ↔ IsFreeFrame old.driver frame)
 AsksFree old frame (Refused why) = (why ≡ FrameOutOfRange) × (length old.memory ≤ frame)
 AsksFree old frame _ = ⊥
