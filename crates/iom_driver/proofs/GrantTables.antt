@@ -27,10 +27,11 @@ use Rattle.iom_driver.specs.declared.device.Device.{Device}
 use Rattle.iom_driver.specs.declared.device.FirstStage.{FirstStage}
 use Rattle.iom_driver.specs.Calls.{KeepsOthers}
 use Rattle.iom_driver.specs.Choices.{marked_for, cleared}
-use Rattle.iom_driver.specs.Devices.{stage_of}
+use Rattle.iom_driver.specs.Devices.{owned_stage_of}
 use Rattle.iom_driver.specs.Tables.{AreTablesOf, HaveTables, leaf_for}
-use Rattle.iom_driver.proofs.Choosing.{AreChosen}
-use Rattle.iom_driver.proofs.Keeps.{unmarked, owned_differs, here_or_there}
+use Rattle.iom_driver.proofs.Chosen.{AreChosen}
+use Rattle.iom_driver.proofs.Keeps.{here_or_there}
+use Rattle.iom_driver.proofs.Taken.{unmarked, owned_differs}
 use Rattle.iom_driver.proofs.Marks.{NotAmong, not_among, among_contained, among_get, mark_stays, bytes_stay, marked_still, marked_among, zero_among}
 use Rattle.iom_driver.proofs.Stays.{tables_stay}
 
@@ -114,29 +115,29 @@ pub record IsMapped (memory memory' : List (List ℕ)) (root page : ℕ) (mappin
 
 -- each frame of the mapped tables is the device's
 mapped_own : (memory memory' : List (List ℕ)) (marks : List (Option Owner)) (ledger : Ledger) (id root page named count : ℕ) (leaf : PageLeaf) (chosen : List ℕ) → length marks ≡ length memory → AreTablesOf memory marks ledger id root
-    → AreChosen marks ledger (Some named) (length memory) count chosen → IsMapped (cleared chosen memory) memory' root page leaf chosen → (f : ℕ) → HasTable memory' root f → slice_get (marked_for id chosen marks) f ≡ Some (Some (OneDevice id))
+    → AreChosen marks ledger (Some named) (length memory) count chosen → IsMapped (cleared chosen memory) memory' root page leaf chosen → (f : ℕ) → HasTable memory' root f → slice_get (marked_for (OneDevice id) chosen marks) f ≡ Some (Some (OneDevice id))
 mapped_own memory memory' marks ledger id root page named count leaf chosen long tables chose mapped f at = by ((mapped.tables f).0 at)
   where
-    by : HasTable (cleared chosen memory) root f ⊎ Contains chosen f → slice_get (marked_for id chosen marks) f ≡ Some (Some (OneDevice id))
-    by (inl was) = marked_still id f chosen marks (tables.own f (((stays memory (cleared chosen memory) root tables.tree (table_bytes memory marks ledger id root named chosen tables chose.free)).tables f).0 was))
-    by (inr new) = marked_among id f chosen marks (λ k d lt. subst (λ n. get_or chosen k d < n) (sym long) (chose.inside k d lt)) (among_contained f chosen new)
+    by : HasTable (cleared chosen memory) root f ⊎ Contains chosen f → slice_get (marked_for (OneDevice id) chosen marks) f ≡ Some (Some (OneDevice id))
+    by (inl was) = marked_still (OneDevice id) f chosen marks (tables.own f (((stays memory (cleared chosen memory) root tables.tree (table_bytes memory marks ledger id root named chosen tables chose.free)).tables f).0 was))
+    by (inr new) = marked_among (OneDevice id) f chosen marks (λ k d lt. subst (λ n. get_or chosen k d < n) (sym long) (chose.inside k d lt)) (among_contained f chosen new)
 
 -- a frame that is another's, or nobody's, keeps its bytes
 pub mapped_others : (memory memory' : List (List ℕ)) (marks : List (Option Owner)) (ledger : Ledger) (id root page named count n : ℕ) (leaf : PageLeaf) (chosen : List ℕ) → length marks ≡ length memory → AreTablesOf memory marks ledger id root
     → AreChosen marks ledger (Some named) (length memory) count chosen → IsMapped (cleared chosen memory) memory' root page leaf chosen
-    → (slice_get (marked_for id chosen marks) n ≡ Some (Some (OneDevice id)) → ⊥) → slice_get memory' n ≡ slice_get (cleared chosen memory) n
+    → (slice_get (marked_for (OneDevice id) chosen marks) n ≡ Some (Some (OneDevice id)) → ⊥) → slice_get memory' n ≡ slice_get (cleared chosen memory) n
 mapped_others memory memory' marks ledger id root page named count n leaf chosen long tables chose mapped differs =
     mapped.outside n (λ at. differs (mapped_own memory memory' marks ledger id root page named count leaf chosen long tables chose mapped n at))
 
 -- each frame that isn't the device's afterwards keeps its bytes
 pub others_kept : (memory memory' : List (List ℕ)) (marks : List (Option Owner)) (ledger : Ledger) (id root page named count : ℕ) (leaf : PageLeaf) (chosen : List ℕ) → length marks ≡ length memory → AreTablesOf memory marks ledger id root
     → AreChosen marks ledger (Some named) (length memory) count chosen → IsMapped (cleared chosen memory) memory' root page leaf chosen
-    → KeepsOthers (marked_for id chosen marks) id memory memory'
+    → KeepsOthers (marked_for (OneDevice id) chosen marks) id memory memory'
 others_kept memory memory' marks ledger id root page named count leaf chosen long tables chose mapped f differs =
     let inside : All (λ n. n < length marks) chosen = λ k d lt. subst (λ n. get_or chosen k d < n) (sym long) (chose.inside k d lt) in
     mapped_others memory memory' marks ledger id root page named count f leaf chosen long tables chose mapped differs
-    ∙ bytes_stay f chosen memory (not_among (λ n. slice_get (marked_for id chosen marks) n ≡ Some (Some (OneDevice id))) f chosen
-    (λ k d lt. marked_among id (get_or chosen k d) chosen marks inside (among_get chosen k d lt)) differs)
+    ∙ bytes_stay f chosen memory (not_among (λ n. slice_get (marked_for (OneDevice id) chosen marks) n ≡ Some (Some (OneDevice id))) f chosen
+    (λ k d lt. marked_among (OneDevice id) (get_or chosen k d) chosen marks inside (among_get chosen k d lt)) differs)
 
 -- a frame that is somebody's isn't chosen
 not_chosen : (memory : List (List ℕ)) (marks : List (Option Owner)) (ledger : Ledger) (named count n : ℕ) (chosen : List ℕ) (owner : Owner) → length marks ≡ length memory
@@ -152,7 +153,7 @@ pub kept_others : (memory memory' : List (List ℕ)) (marks : List (Option Owner
 kept_others memory memory' marks ledger id root page named count n leaf chosen owner long tables chose mapped mark other =
     let apart = not_chosen memory marks ledger named count n chosen owner long chose mark in
     mapped_others memory memory' marks ledger id root page named count n leaf chosen long tables chose mapped
-    (λ now. let both : ◌≡◌ {A = Option (Option Owner)} (Some (Some owner)) (Some (Some (OneDevice id))) = sym mark ∙ sym (mark_stays id n chosen marks apart) ∙ now in other cc)
+    (λ now. let both : ◌≡◌ {A = Option (Option Owner)} (Some (Some owner)) (Some (Some (OneDevice id))) = sym mark ∙ sym (mark_stays (OneDevice id) n chosen marks apart) ∙ now in other cc)
     ∙ bytes_stay n chosen memory apart
 
 -- what the map of the page writes, where the frames are cleared first
@@ -164,19 +165,19 @@ mapped_is memory before after root page leaf granted clears maps chosen whole is
 
 -- the tables of all devices
 pub tables_granted : (memory memory' : List (List ℕ)) (marks : List (Option Owner)) (old new : Ledger) (devices : List Device) (id page frame count : ℕ) (rights : Rights) (stage : FirstStage) (chosen : List ℕ)
-    → length marks ≡ length memory → HaveTables memory marks old devices → stage_of devices id ≡ Some stage → page < 2 ^ 26
+    → length marks ≡ length memory → HaveTables memory marks old devices → owned_stage_of devices id ≡ Some stage → page < 2 ^ 26
     → changes.ShowsGrant old new id page (frame, rights) → AreChosen marks old (Some frame) (length memory) count chosen
-    → IsMapped (cleared chosen memory) memory' stage.root page (record { frame = frame; rights = rights }) chosen → HaveTables memory' (marked_for id chosen marks) new devices
+    → IsMapped (cleared chosen memory) memory' stage.root page (record { frame = frame; rights = rights }) chosen → HaveTables memory' (marked_for (OneDevice id) chosen marks) new devices
 tables_granted memory memory' marks old new devices id page frame count rights stage chosen long tables attached low granted chose mapped other found at =
     elim (eqb_tells other id) [
       | inl e ↦
-          let both : Some stage ≡ Some found = sym attached ∙ ap (λ i. stage_of devices i) (sym e.1) ∙ at in
+          let both : Some stage ≡ Some found = sym attached ∙ ap (λ i. owned_stage_of devices i) (sym e.1) ∙ at in
           let root : stage.root ≡ found.root = let same : stage ≡ found = cc in ap (λ (s : FirstStage). s.root) same in
-          subst (λ i. AreTablesOf memory' (marked_for id chosen marks) new i found.root) (sym e.1) (subst (λ q. AreTablesOf memory' (marked_for id chosen marks) new id q) root own_tables)
-      | inr ne ↦ tables_stay memory memory' marks (marked_for id chosen marks) old new other found.root (tables other found at)
+          subst (λ i. AreTablesOf memory' (marked_for (OneDevice id) chosen marks) new i found.root) (sym e.1) (subst (λ q. AreTablesOf memory' (marked_for (OneDevice id) chosen marks) new id q) root own_tables)
+      | inr ne ↦ tables_stay memory memory' marks (marked_for (OneDevice id) chosen marks) old new other found.root (tables other found at)
           (λ n mark. (
             kept_others memory memory' marks old id stage.root page frame count n (record { frame = frame; rights = rights }) chosen (OneDevice other) long before chose mapped mark (λ same. ne.1 (one_id other same)),
-            mark_stays id n chosen marks (not_chosen memory marks old frame count n chosen (OneDevice other) long chose mark),
+            mark_stays (OneDevice id) n chosen marks (not_chosen memory marks old frame count n chosen (OneDevice other) long chose mark),
           ))
           (λ p. elim (here_or_there id page other p (frame, rights) (held_in old other p) (held_in new other p) (granted.held other p)) [ inl now ↦ absurd (ne.1 (sym now.0)) | inr still ↦ still.1 ])
     ]
@@ -197,7 +198,7 @@ tables_granted memory memory' marks old new devices id page frame count rights s
       | inr ne ↦ rw ne.0 (was ∙ sym (ap (option_map leaf_for) (elim (here_or_there id page id p (frame, rights) (held_in old id p) (held_in new id p) (granted.held id p)) [ inl now ↦ absurd (ne.1 (sym now.1)) | inr still ↦ still.1 ])))
     ]
 
-    own_tables : AreTablesOf memory' (marked_for id chosen marks) new id stage.root
+    own_tables : AreTablesOf memory' (marked_for (OneDevice id) chosen marks) new id stage.root
     own_tables =
         let stay = stays memory (cleared chosen memory) stage.root before.tree (table_bytes memory marks old id stage.root frame chosen before chose.free) in
         record {

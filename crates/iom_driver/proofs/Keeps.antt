@@ -1,8 +1,8 @@
 -- What stays true of a driver by itself at each of its calls.
-use Rattle.std.proofs.Common.{suc, zero, ◌≡◌, ◌≢◌, ◌+◌, ◌-◌, ◌<◌, ◌≤◌, ◌==◌, ◌&&◌, ◌⊎◌, inl, inr, ◌∙◌, ◌++◌, if◌then◌else◌, ℕ, Bool, true, false, not, List, [], ◌∷◌, length, filter, Option, Some, None, option_map, slice_get, slice_set, refl, sym, ap, subst, arith, length-append, All}
+use Rattle.std.proofs.Common.{◌≡◌, ◌≢◌, ◌+◌, ◌-◌, ◌<◌, ◌≤◌, ◌==◌, ◌&&◌, ◌⊎◌, inl, inr, ◌∙◌, ◌++◌, if◌then◌else◌, ℕ, Bool, true, false, List, [], ◌∷◌, length, map, Option, Some, None, option_map, slice_get, refl, sym, ap, subst, arith, length-append, All}
 use Rattle.std.proofs.lemmas.Bool.{false≢true, and_parts, eqb-true, eq-eqb}
 use Rattle.std.proofs.lemmas.Bool.Decides.{eqb_tells}
-use Rattle.std.proofs.lemmas.List.{length-set}
+use Rattle.std.proofs.lemmas.List.{length-map}
 use Rattle.iom_base.specs.declared.owner.Owner.{Owner}
 use Rattle.iom_base.specs.declared.owner.Owner.TheVariants.{OneDevice, System}
 use Rattle.iom_base.specs.declared.rights.Rights.{Rights}
@@ -11,38 +11,49 @@ use Rattle.iom_ledger.specs.declared.ledger.Ledger.{Ledger}
 use Rattle.iom_ledger.specs.Changes.{ShowsGrant, ShowsRelease, IsUnchanged, released_from}
 use Rattle.iom_ledger.specs.Confirmations.{ConfirmsFrom, is_among_next, unless_among}
 use Rattle.iom_ledger.specs.History.{Pair}
-use Rattle.iom_ledger.specs.Shown.{held_in, lingering_in, released_in, IsFreeIn}
-use Rattle.iom_table_frames.specs.Marks.{is_marked, IsFreeForTable}
+use Rattle.iom_ledger.specs.Shown.{held_in, released_in, pending_in}
+use Rattle.iom_table_frames.specs.Marks.{IsFreeForTable}
+use Rattle.iom_driver.specs.declared.device.Attachment.{Attachment}
+use Rattle.iom_driver.specs.declared.device.Attachment.TheVariants.{Attached, Leaving}
 use Rattle.iom_driver.specs.declared.device.Device.{Device}
 use Rattle.iom_driver.specs.declared.device.FirstStage.{FirstStage}
 use Rattle.iom_driver.specs.Choices.{marked_for}
-use Rattle.iom_driver.specs.Devices.{stage_of, is_plugged, detached, with_stage, IsLowestNumber}
-use Rattle.iom_driver.specs.Layout.{AreFixed}
-use Rattle.iom_driver.specs.Sound.{IsGrant, AreGrants, IsSound, tickets_after}
-use Rattle.iom_driver.proofs.Confirms.{among_yes, among_above}
-use Rattle.iom_driver.proofs.Lists.{get_set_other, get_there}
-use Rattle.iom_driver.proofs.Marks.{not_among, mark_stays, length-marked_for}
+use Rattle.iom_driver.specs.Confirmed.{once_confirmed, given_back}
+use Rattle.iom_driver.specs.Devices.{device_of, attachment_of, attached_stage, owned_stage, stage_of, owned_stage_of, is_plugged, detached, with_attachment, IsLowestNumber}
+use Rattle.iom_driver.specs.Layout.{AreFixed, id_limit}
+use Rattle.iom_driver.specs.Sound.{IsGrant, AreGrants, IsSound, RiseBetween}
+use Rattle.iom_driver.proofs.Chosen.{AreChosen}
+use Rattle.iom_driver.proofs.Gone.{attachment_confirmed, stage_confirmed, still_owned, still_leaving, detached_after, ids_confirmed, unmarked_back, marked_back}
+use Rattle.iom_driver.proofs.Ids.{ids_with, ids_plugged}
+use Rattle.iom_driver.proofs.Marks.{NotAmong, not_among, mark_stays, length-marked_for}
 use Rattle.iom_driver.proofs.Numbers.{numbers_attached}
-use Rattle.iom_driver.proofs.Places.{stage_set, stage_other, stage_plugged, length-with_stage}
+use Rattle.iom_driver.proofs.Places.{attachment_set, attachment_other, attachment_plugged, attached_there, attached_owns, length-with_attachment}
+use Rattle.iom_driver.proofs.Taken.{unmarked, owned_differs, owned_not_chosen, taken_marks, length-taken, taken_stays}
+use Rattle.iom_driver.proofs.Tickets.{rise_further, rise_more, rise_left}
 
 -- PLUG
 
 pub sound_plugged : (ledger : Ledger) (marks : List (Option Owner)) (devices : List Device) (frames levels : ℕ) (started : Bool) (given confirmed id : ℕ)
-    → IsSound ledger marks devices frames levels started given confirmed → length devices < 16
+    → IsSound ledger marks devices frames levels started given confirmed → device_of devices id ≡ None → length devices < 16
     → IsSound ledger marks (devices ++ detached id ∷ []) frames levels started given confirmed
-sound_plugged ledger marks devices frames levels started given confirmed id sound few = record {
-  sizes = sound.sizes;
-  fixed = sound.fixed;
-  grants = sound.grants;
-  holders = λ other page none. sound.holders other page (sym (stage_plugged devices id other) ∙ none);
-  numbers = record {
-    small = λ other stage at. sound.numbers.small other stage (sym (stage_plugged devices id other) ∙ at);
-    own = λ one other a b at_one at_other same. sound.numbers.own one other a b (sym (stage_plugged devices id one) ∙ at_one) (sym (stage_plugged devices id other) ∙ at_other) same;
-  };
-  tickets = sound.tickets;
-  few = omega (arith, length-append devices (detached id ∷ []));
-  idle = λ stopped other. stage_plugged devices id other ∙ sound.idle stopped other;
-}
+sound_plugged ledger marks devices frames levels started given confirmed id sound none few =
+    let same : (other : ℕ) → attachment_of (devices ++ detached id ∷ []) other ≡ attachment_of devices other = λ other. attachment_plugged devices id other in
+    record {
+      sizes = sound.sizes;
+      fixed = sound.fixed;
+      grants = sound.grants;
+      holders = λ other page free. sound.holders other page (sym (ap attached_stage (same other)) ∙ free);
+      numbers = record {
+        small = λ other stage at. sound.numbers.small other stage (sym (ap owned_stage (same other)) ∙ at);
+        own = λ one other a b at_one at_other equal. sound.numbers.own one other a b (sym (ap owned_stage (same one)) ∙ at_one) (sym (ap owned_stage (same other)) ∙ at_other) equal;
+      };
+      named = λ other stage at. sound.named other stage (sym (ap owned_stage (same other)) ∙ at);
+      tickets = sound.tickets;
+      leaving = λ other ticket stage at. sound.leaving other ticket stage (sym (same other) ∙ at);
+      ids = ids_plugged devices id none sound.ids;
+      few = omega (arith, length-append devices (detached id ∷ []));
+      idle = λ stopped other. same other ∙ sound.idle stopped other;
+    }
 
 -- POLL
 
@@ -63,58 +74,50 @@ grants_polled marks old new first n confirmed grants = record {
       grants.lingering d a frame rights (unless_some first n (released_in old d a) (frame, rights) (sym (ap (option_map (λ (r : ℕ × Pair). r.1)) (confirmed.lingering d a)) ∙ lingers));
 }
 
--- the tickets that wait after these
-keep_above : (first n last k : ℕ) → first + n ≤ last + 1 → filter (λ t. not (is_among_next first n t)) (tickets_after last k) ≡ tickets_after last k
-keep_above first n last zero end = refl
-keep_above first n last (suc k) end = rw (among_above first n (last + 1) end) (ap (λ ts. (last + 1) ∷ ts) (keep_above first n (last + 1) k (omega arith)))
+-- grants, where marks of devices that have left are given back
+grants_back : (marks : List (Option Owner)) (ledger : Ledger) (done : ℕ) (devices : List Device) → AreGrants marks ledger → AreGrants (map (given_back done devices) marks) ledger
+grants_back marks ledger done devices grants = record {
+  held = λ d a frame rights held.
+      let grant = grants.held d a frame rights held in record { page_low = grant.page_low; unreserved = unmarked_back done devices marks frame grant.unreserved };
+  lingering = λ d a frame rights lingers.
+      let grant = grants.lingering d a frame rights lingers in record { page_low = grant.page_low; unreserved = unmarked_back done devices marks frame grant.unreserved };
+}
 
-drop_among : (first n from last m j k : ℕ) → first ≤ from + 1 → first + n ≡ last + 1 → last ≡ from + m → k ≡ m + j
-    → filter (λ t. not (is_among_next first n t)) (tickets_after from k) ≡ tickets_after last j
-drop_among first n from last zero j k low end is all =
-    let same : last ≡ from = omega arith in
-    let as_many : k ≡ j = omega arith in
-    rw (same, as_many) (keep_above first n from j (omega arith))
-drop_among first n from last (suc m) j zero low end is all = absurd (omega arith)
-drop_among first n from last (suc m) j (suc k) low end is all =
-    rw (among_yes first n (from + 1) low (omega arith)) (drop_among first n (from + 1) last m j k (omega arith) end (omega arith) (omega arith))
+-- the fixed frames are the system's, which never leaves
+fixed_back : (marks : List (Option Owner)) (done : ℕ) (devices : List Device) (frames : ℕ) → AreFixed marks frames → AreFixed (map (given_back done devices) marks) frames
+fixed_back marks done devices frames fixed = record {
+  command = marked_back done devices marks (frames - 1) System fixed.command refl;
+  fault = marked_back done devices marks (frames - 2) System fixed.fault refl;
+  completion = marked_back done devices marks (frames - 3) System fixed.completion refl;
+  directory = marked_back done devices marks (frames - 4) System fixed.directory refl;
+}
 
 pub sound_polled : (old new : Ledger) (marks : List (Option Owner)) (devices : List Device) (frames levels : ℕ) (started : Bool) (given confirmed done : ℕ)
     → IsSound old marks devices frames levels started given confirmed → ConfirmsFrom old new (confirmed + 1) (done - confirmed) → confirmed ≤ done → done ≤ given
-    → IsSound new marks devices frames levels started given done
+    → IsSound new (map (given_back done devices) marks) (map (once_confirmed done) devices) frames levels started given done
 sound_polled old new marks devices frames levels started given confirmed done sound shown low high = record {
-  sizes = sound.sizes;
-  fixed = sound.fixed;
-  grants = grants_polled marks old new (confirmed + 1) (done - confirmed) shown sound.grants;
-  holders = λ id page none. shown.held id page ∙ sound.holders id page none;
-  numbers = sound.numbers;
+  sizes = record { marked = length-map marks (given_back done devices) ∙ sound.sizes.marked; size = sound.sizes.size; in_range = sound.sizes.in_range };
+  fixed = fixed_back marks done devices frames sound.fixed;
+  grants = grants_back marks new done devices (grants_polled marks old new (confirmed + 1) (done - confirmed) shown sound.grants);
+  holders = λ id page none. shown.held id page ∙ sound.holders id page (sym (stage_confirmed done devices id) ∙ none);
+  numbers = record {
+    small = λ id stage at. sound.numbers.small id stage (still_owned done devices id stage at).0;
+    own = λ one other a b at_one at_other same. sound.numbers.own one other a b (still_owned done devices one a at_one).0 (still_owned done devices other b at_other).0 same;
+  };
+  named = λ id stage at. sound.named id stage (still_owned done devices id stage at).0;
   tickets = record {
     pending =
-        shown.pending ∙ ap (filter (λ t. not (is_among_next (confirmed + 1) (done - confirmed) t))) sound.tickets.pending
-        ∙ drop_among (confirmed + 1) (done - confirmed) confirmed done (done - confirmed) (given - done) (given - confirmed)
-        (omega arith) (omega arith) (omega arith) (omega arith);
+        subst (λ ts. RiseBetween done given ts) (sym shown.pending)
+        (rise_left (confirmed + 1) (done - confirmed) done confirmed given (pending_in old) (omega arith) (omega (arith, low)) sound.tickets.pending);
     ordered = high;
   };
-  few = sound.few;
-  idle = sound.idle;
+  leaving = λ id ticket stage at. let still = still_leaving done devices id ticket stage at in (still.1, (sound.leaving id ticket stage still.0).1);
+  ids = ids_confirmed done devices sound.ids;
+  few = omega (arith, length-map devices (once_confirmed done), sound.few);
+  idle = λ stopped id. attachment_confirmed done devices id ∙ detached_after done (attachment_of devices id) (sound.idle stopped id);
 }
 
 -- ATTACH
-
--- a frame that isn't marked has no mark
-pub unmarked : (marks : List (Option Owner)) (n : ℕ) → n < length marks → is_marked marks n ≡ false → slice_get marks n ≡ Some None
-unmarked marks n lt free = by (get_there marks n lt) free
-  where
-    by : (m : Option Owner) × (slice_get marks n ≡ Some m) → is_marked marks n ≡ false → slice_get marks n ≡ Some None
-    by (None, at) free = at
-    by (Some owner, at) free = absurd (contra (rw at at free))
-      where
-        contra : true ≡ false → ⊥
-        contra e = cc
-
--- a frame that is somebody's isn't one that is nobody's
-pub owned_differs : (marks : List (Option Owner)) (n free : ℕ) (owner : Owner) → slice_get marks n ≡ Some (Some owner) → slice_get marks free ≡ Some None → n ≢ free
-owned_differs marks n free owner own none e =
-    let both : ◌≡◌ {A = Option (Option Owner)} (Some (Some owner)) (Some None) = sym own ∙ ap (λ j. slice_get marks j) e ∙ none in cc
 
 -- the fixed frames, where each frame that is somebody's stays so
 fixed_stay : (marks marks' : List (Option Owner)) (frames : ℕ) → ((n : ℕ) → slice_get marks n ≡ Some (Some System) → slice_get marks' n ≡ slice_get marks n) → AreFixed marks frames → AreFixed marks' frames
@@ -125,40 +128,113 @@ fixed_stay marks marks' frames stay fixed = record {
   directory = stay (frames - 4) fixed.directory ∙ fixed.directory;
 }
 
--- grants where another frame that no pair names is reserved
-grants_reserved : (marks : List (Option Owner)) (ledger : Ledger) (n : ℕ) (owner : Owner) → AreGrants marks ledger → IsFreeIn ledger n → AreGrants (slice_set marks n (Some owner)) ledger
-grants_reserved marks ledger n owner grants free = record {
+-- grants where other frames that no pair names are reserved
+grants_reserved : (marks marks' : List (Option Owner)) (ledger : Ledger) (chosen : List ℕ) → AreGrants marks ledger → All (λ f. IsFreeForTable marks ledger None f) chosen
+    → ((n : ℕ) → NotAmong n chosen → slice_get marks' n ≡ slice_get marks n) → AreGrants marks' ledger
+grants_reserved marks marks' ledger chosen grants free stay = record {
   held = λ device page frame rights held.
       let grant = grants.held device page frame rights held in
-      let other : frame ≢ n = λ same. (free device page rights).0 (subst (λ f. held_in ledger device page ≡ Some (f, rights)) same held) in
-      record { page_low = grant.page_low; unreserved = get_set_other marks n frame (Some owner) other ∙ grant.unreserved };
+      record {
+        page_low = grant.page_low;
+        unreserved = stay frame (not_among (λ t. IsFreeForTable marks ledger None t) frame chosen free (λ is_free. (is_free.ungranted device page rights).0 held)) ∙ grant.unreserved;
+      };
   lingering = λ device page frame rights lingers.
       let grant = grants.lingering device page frame rights lingers in
-      let other : frame ≢ n = λ same. (free device page rights).1 (subst (λ f. lingering_in ledger device page ≡ Some (f, rights)) same lingers) in
-      record { page_low = grant.page_low; unreserved = get_set_other marks n frame (Some owner) other ∙ grant.unreserved };
+      record {
+        page_low = grant.page_low;
+        unreserved = stay frame (not_among (λ t. IsFreeForTable marks ledger None t) frame chosen free (λ is_free. (is_free.ungranted device page rights).1 lingers)) ∙ grant.unreserved;
+      };
 }
 
-pub sound_attached : (ledger : Ledger) (marks : List (Option Owner)) (devices : List Device) (frames levels : ℕ) (started : Bool) (given confirmed id : ℕ) (stage : FirstStage)
-    → IsSound ledger marks devices frames levels started given confirmed → started ≡ true → is_plugged devices id ≡ true
-    → stage.root < length marks → IsFreeForTable marks ledger None stage.root → IsLowestNumber devices stage.number → stage.number ≤ 17
-    → IsSound ledger (slice_set marks stage.root (Some (OneDevice id))) (with_stage devices id stage) frames levels started given confirmed
-sound_attached ledger marks devices frames levels started given confirmed id stage sound runs plugged inside free lowest small = record {
-  sizes = record { marked = length-set marks stage.root (Some (OneDevice id)) ∙ sound.sizes.marked; size = sound.sizes.size; in_range = sound.sizes.in_range };
-  fixed = fixed_stay marks (slice_set marks stage.root (Some (OneDevice id))) frames
-      (λ n system. get_set_other marks stage.root n (Some (OneDevice id)) (owned_differs marks n stage.root System system (unmarked marks stage.root inside free.unmarked))) sound.fixed;
-  grants = grants_reserved marks ledger stage.root (OneDevice id) sound.grants free.ungranted;
-  holders = λ other page none. elim (eqb_tells other id) [
-    | inl e ↦ absurd (some_none (sym (stage_set devices id stage plugged) ∙ ap (λ i. stage_of (with_stage devices id stage) i) (sym e.1) ∙ none))
-    | inr ne ↦ sound.holders other page (sym (stage_other devices id other stage ne.1) ∙ none)
-  ];
-  numbers = numbers_attached devices id stage sound.numbers plugged lowest small;
-  tickets = sound.tickets;
-  few = omega (arith, length-with_stage devices id stage, sound.few);
-  idle = λ stopped. absurd (false≢true (sym stopped ∙ runs));
-}
+-- how each device is attached, once one attachment is set
+pub set_or_other : (devices : List Device) (id : ℕ) (a : Attachment) (other : ℕ) → is_plugged devices id ≡ true
+    → ((other ≡ id) × (attachment_of (with_attachment devices id a) other ≡ a)) ⊎ ((other ≢ id) × (attachment_of (with_attachment devices id a) other ≡ attachment_of devices other))
+set_or_other devices id a other plugged = elim (eqb_tells other id) [
+  | inl e ↦ inl (e.1, ap (λ i. attachment_of (with_attachment devices id a) i) e.1 ∙ attachment_set devices id a plugged)
+  | inr ne ↦ inr (ne.1, attachment_other devices id other a ne.1)
+]
+
+pub sound_attached : (ledger : Ledger) (marks : List (Option Owner)) (devices : List Device) (frames levels : ℕ) (started : Bool) (given confirmed id count : ℕ) (stage : FirstStage) (pages : List ℕ)
+    → IsSound ledger marks devices frames levels started given confirmed → started ≡ true → is_plugged devices id ≡ true → id < id_limit levels
+    → AreChosen marks ledger None frames count (pages ++ stage.root ∷ []) → IsLowestNumber devices stage.number → stage.number ≤ 17
+    → IsSound ledger (taken_marks id pages stage.root marks) (with_attachment devices id (Attached stage)) frames levels started given confirmed
+sound_attached ledger marks devices frames levels started given confirmed id count stage pages sound runs plugged narrow chosen lowest small =
+    let either : (other : ℕ) → ((other ≡ id) × (attachment_of (with_attachment devices id (Attached stage)) other ≡ Attached stage)) ⊎ ((other ≢ id) × (attachment_of (with_attachment devices id (Attached stage)) other ≡ attachment_of devices other)) =
+    λ other. set_or_other devices id (Attached stage) other plugged in
+    record {
+      sizes = record { marked = length-taken id pages stage.root marks ∙ sound.sizes.marked; size = sound.sizes.size; in_range = sound.sizes.in_range };
+      fixed = fixed_stay marks (taken_marks id pages stage.root marks) frames
+          (λ n system. taken_stays id n pages stage.root marks (owned_not_chosen marks ledger None frames count n (pages ++ stage.root ∷ []) System sound.sizes.marked chosen system)) sound.fixed;
+      grants = grants_reserved marks (taken_marks id pages stage.root marks) ledger (pages ++ stage.root ∷ []) sound.grants chosen.free (λ n apart. taken_stays id n pages stage.root marks apart);
+      holders = λ other page none. elim (either other) [
+        | inl now ↦ absurd (some_none (sym (ap attached_stage now.1) ∙ none))
+        | inr was ↦ sound.holders other page (sym (ap attached_stage was.1) ∙ none)
+      ];
+      numbers = numbers_attached devices id stage sound.numbers plugged lowest small;
+      named = λ other s at. elim (either other) [
+        | inl now ↦ subst (λ i. i < id_limit levels) (sym now.0) narrow
+        | inr was ↦ sound.named other s (sym (ap owned_stage was.1) ∙ at)
+      ];
+      tickets = sound.tickets;
+      leaving = λ other ticket s at. elim (either other) [
+        | inl now ↦ absurd (attached_leaving ticket s (sym now.1 ∙ at))
+        | inr was ↦ sound.leaving other ticket s (sym was.1 ∙ at)
+      ];
+      ids = ids_with devices id (Attached stage) sound.ids;
+      few = omega (arith, length-with_attachment devices id (Attached stage), sound.few);
+      idle = λ stopped. absurd (false≢true (sym stopped ∙ runs));
+    }
   where
     some_none : ◌≡◌ {A = Option FirstStage} (Some stage) None → ⊥
     some_none same = cc
+
+    attached_leaving : (ticket : ℕ) (s : FirstStage) → ◌≡◌ {A = Attachment} (Attached stage) (Leaving ticket s) → ⊥
+    attached_leaving ticket s same = cc
+
+-- DETACH
+
+-- a device that begins to leave owns what it owned
+pub owned_leaving : (devices : List Device) (id ticket : ℕ) (stage : FirstStage) → stage_of devices id ≡ Some stage → (other : ℕ)
+    → owned_stage_of (with_attachment devices id (Leaving ticket stage)) other ≡ owned_stage_of devices other
+owned_leaving devices id ticket stage attached other = elim (set_or_other devices id (Leaving ticket stage) other (attached_there devices id stage attached)) [
+  | inl now ↦ ap owned_stage now.1 ∙ sym (attached_owns (attachment_of devices id) stage attached) ∙ ap (λ i. owned_stage_of devices i) (sym now.0)
+  | inr was ↦ ap owned_stage was.1
+]
+
+pub sound_detached : (ledger : Ledger) (marks : List (Option Owner)) (devices : List Device) (frames levels : ℕ) (started : Bool) (given confirmed id : ℕ) (stage : FirstStage)
+    → IsSound ledger marks devices frames levels started given confirmed → started ≡ true → stage_of devices id ≡ Some stage → ((page : ℕ) → held_in ledger id page ≡ None)
+    → IsSound ledger marks (with_attachment devices id (Leaving (given + 1) stage)) frames levels started (given + 1) confirmed
+sound_detached ledger marks devices frames levels started given confirmed id stage sound runs attached none =
+    let either : (other : ℕ) → ((other ≡ id) × (attachment_of (with_attachment devices id (Leaving (given + 1) stage)) other ≡ Leaving (given + 1) stage))
+    ⊎ ((other ≢ id) × (attachment_of (with_attachment devices id (Leaving (given + 1) stage)) other ≡ attachment_of devices other)) =
+    λ other. set_or_other devices id (Leaving (given + 1) stage) other (attached_there devices id stage attached) in
+    let owned = owned_leaving devices id (given + 1) stage attached in
+    let le = sound.tickets.ordered in
+    record {
+      sizes = sound.sizes;
+      fixed = sound.fixed;
+      grants = sound.grants;
+      holders = λ other page free. elim (either other) [
+        | inl now ↦ ap (λ i. held_in ledger i page) now.0 ∙ none page
+        | inr was ↦ sound.holders other page (sym (ap attached_stage was.1) ∙ free)
+      ];
+      numbers = record {
+        small = λ other s at. sound.numbers.small other s (sym (owned other) ∙ at);
+        own = λ one other a b at_one at_other same. sound.numbers.own one other a b (sym (owned one) ∙ at_one) (sym (owned other) ∙ at_other) same;
+      };
+      named = λ other s at. sound.named other s (sym (owned other) ∙ at);
+      tickets = record { pending = rise_further confirmed given (given + 1) (pending_in ledger) (omega arith) sound.tickets.pending; ordered = omega (arith, le) };
+      leaving = λ other ticket s at. elim (either other) [
+        | inl now ↦ let same = own_ticket ticket s (sym now.1 ∙ at) in (omega (arith, same, le), omega (arith, same))
+        | inr was ↦ let before = sound.leaving other ticket s (sym was.1 ∙ at) in let high : ticket ≤ given = before.1 in (before.0, omega (arith, high))
+      ];
+      ids = ids_with devices id (Leaving (given + 1) stage) sound.ids;
+      few = omega (arith, length-with_attachment devices id (Leaving (given + 1) stage), sound.few);
+      idle = λ stopped. absurd (false≢true (sym stopped ∙ runs));
+    }
+  where
+    own_ticket : (ticket : ℕ) (s : FirstStage) → ◌≡◌ {A = Attachment} (Leaving (given + 1) stage) (Leaving ticket s) → given + 1 ≡ ticket
+    own_ticket ticket s same = cc
 
 -- GRANT
 
@@ -173,39 +249,39 @@ here_or_there id page device p pair held found is = by ((id == device) && (page 
 
 grants_more : (marks : List (Option Owner)) (old new : Ledger) (id page frame : ℕ) (rights : Rights) (tables : List ℕ)
     → AreGrants marks old → ShowsGrant old new id page (frame, rights) → page < page_limit → slice_get marks frame ≡ Some None → All (λ f. IsFreeForTable marks old (Some frame) f) tables
-    → AreGrants (marked_for id tables marks) new
+    → AreGrants (marked_for (OneDevice id) tables marks) new
 grants_more marks old new id page frame rights tables grants granted low unreserved free = record {
   held = λ device p f r held. by_held device p f r held (here_or_there id page device p (frame, rights) (held_in old device p) (held_in new device p) (granted.held device p));
   lingering = λ device p f r lingers.
       let was = ap (λ (o : Option (ℕ × Pair)). option_map (λ released. released.1) o) (sym (granted.lingering device p)) ∙ lingers in
       let grant = grants.lingering device p f r was in
-      record { page_low = grant.page_low; unreserved = mark_stays id f tables marks (not_among (λ t. IsFreeForTable marks old (Some frame) t) f tables free (λ is_free. (is_free.ungranted device p r).1 was)) ∙ grant.unreserved };
+      record { page_low = grant.page_low; unreserved = mark_stays (OneDevice id) f tables marks (not_among (λ t. IsFreeForTable marks old (Some frame) t) f tables free (λ is_free. (is_free.ungranted device p r).1 was)) ∙ grant.unreserved };
 }
   where
-    own_frame : slice_get (marked_for id tables marks) frame ≡ Some None
-    own_frame = mark_stays id frame tables marks (not_among (λ t. IsFreeForTable marks old (Some frame) t) frame tables free (λ is_free. is_free.other refl)) ∙ unreserved
+    own_frame : slice_get (marked_for (OneDevice id) tables marks) frame ≡ Some None
+    own_frame = mark_stays (OneDevice id) frame tables marks (not_among (λ t. IsFreeForTable marks old (Some frame) t) frame tables free (λ is_free. is_free.other refl)) ∙ unreserved
 
     by_held : (device p f : ℕ) (r : Rights) → held_in new device p ≡ Some (f, r)
         → ((id ≡ device) × (page ≡ p) × (held_in new device p ≡ Some (frame, rights))) ⊎ ((((id ≡ device) × (page ≡ p)) → ⊥) × (held_in new device p ≡ held_in old device p))
-        → IsGrant (marked_for id tables marks) p f
+        → IsGrant (marked_for (OneDevice id) tables marks) p f
     by_held device p f r held (inl now) =
         let pairs : ◌≡◌ {A = Option Pair} (Some (frame, rights)) (Some (f, r)) = sym now.2 ∙ held in
         let pair : ◌≡◌ {A = Pair} (frame, rights) (f, r) = cc in
         let same : frame ≡ f = ap (λ (q : Pair). q.0) pair in
-        record { page_low = subst (λ n. n < page_limit) now.1 low; unreserved = subst (λ n. slice_get (marked_for id tables marks) n ≡ Some None) same own_frame }
+        record { page_low = subst (λ n. n < page_limit) now.1 low; unreserved = subst (λ n. slice_get (marked_for (OneDevice id) tables marks) n ≡ Some None) same own_frame }
     by_held device p f r held (inr was) =
         let before = sym was.1 ∙ held in
         let grant = grants.held device p f r before in
-        record { page_low = grant.page_low; unreserved = mark_stays id f tables marks (not_among (λ t. IsFreeForTable marks old (Some frame) t) f tables free (λ is_free. (is_free.ungranted device p r).0 before)) ∙ grant.unreserved }
+        record { page_low = grant.page_low; unreserved = mark_stays (OneDevice id) f tables marks (not_among (λ t. IsFreeForTable marks old (Some frame) t) f tables free (λ is_free. (is_free.ungranted device p r).0 before)) ∙ grant.unreserved }
 
 pub sound_granted : (old new : Ledger) (marks : List (Option Owner)) (devices : List Device) (frames levels : ℕ) (started : Bool) (given confirmed id page frame : ℕ) (rights : Rights) (stage : FirstStage) (tables : List ℕ)
     → IsSound old marks devices frames levels started given confirmed → ShowsGrant old new id page (frame, rights) → stage_of devices id ≡ Some stage
     → page < page_limit → slice_get marks frame ≡ Some None → All (λ f. f < length marks) tables → All (λ f. IsFreeForTable marks old (Some frame) f) tables
-    → IsSound new (marked_for id tables marks) devices frames levels started given confirmed
+    → IsSound new (marked_for (OneDevice id) tables marks) devices frames levels started given confirmed
 sound_granted old new marks devices frames levels started given confirmed id page frame rights stage tables sound granted attached low unreserved inside free = record {
-  sizes = record { marked = length-marked_for id tables marks ∙ sound.sizes.marked; size = sound.sizes.size; in_range = sound.sizes.in_range };
-  fixed = fixed_stay marks (marked_for id tables marks) frames
-      (λ n system. mark_stays id n tables marks (not_among (λ t. (t < length marks) × IsFreeForTable marks old (Some frame) t) n tables (λ k d lt. (inside k d lt, free k d lt))
+  sizes = record { marked = length-marked_for (OneDevice id) tables marks ∙ sound.sizes.marked; size = sound.sizes.size; in_range = sound.sizes.in_range };
+  fixed = fixed_stay marks (marked_for (OneDevice id) tables marks) frames
+      (λ n system. mark_stays (OneDevice id) n tables marks (not_among (λ t. (t < length marks) × IsFreeForTable marks old (Some frame) t) n tables (λ k d lt. (inside k d lt, free k d lt))
       (λ is_free. owned_differs marks n n System system (unmarked marks n is_free.0 is_free.1.unmarked) refl))) sound.fixed;
   grants = grants_more marks old new id page frame rights tables sound.grants granted low unreserved free;
   holders = λ other p none. elim (here_or_there id page other p (frame, rights) (held_in old other p) (held_in new other p) (granted.held other p)) [
@@ -213,7 +289,10 @@ sound_granted old new marks devices frames levels started given confirmed id pag
     | inr still ↦ still.1 ∙ sound.holders other p none
   ];
   numbers = sound.numbers;
-  tickets = record { pending = granted.pending ∙ sound.tickets.pending; ordered = sound.tickets.ordered };
+  named = sound.named;
+  tickets = record { pending = subst (λ ts. RiseBetween confirmed given ts) (sym granted.pending) sound.tickets.pending; ordered = sound.tickets.ordered };
+  leaving = sound.leaving;
+  ids = sound.ids;
   few = sound.few;
   idle = sound.idle;
 }
@@ -234,31 +313,15 @@ sound_unchanged old new marks devices frames levels started given confirmed soun
   };
   holders = λ id page none. same.held id page ∙ sound.holders id page none;
   numbers = sound.numbers;
-  tickets = record { pending = same.pending ∙ sound.tickets.pending; ordered = sound.tickets.ordered };
+  named = sound.named;
+  tickets = record { pending = subst (λ ts. RiseBetween confirmed given ts) (sym same.pending) sound.tickets.pending; ordered = sound.tickets.ordered };
+  leaving = sound.leaving;
+  ids = sound.ids;
   few = sound.few;
   idle = sound.idle;
 }
 
 -- RELEASE
-
--- as many tickets
-pub length-tickets_after : (first n : ℕ) → length (tickets_after first n) ≡ n
-length-tickets_after first zero = refl
-length-tickets_after first (suc n) = ap suc (length-tickets_after (first + 1) n)
-
--- one more ticket stands at the end
-tickets_after-more : (first n : ℕ) → tickets_after first (suc n) ≡ tickets_after first n ++ (first + n + 1) ∷ []
-tickets_after-more first zero = let e : first + 1 ≡ first + 0 + 1 = omega arith in ap (λ t. t ∷ []) e
-tickets_after-more first (suc n) =
-    let e : first + 1 + n + 1 ≡ first + suc n + 1 = omega arith in
-    ap (λ ts. (first + 1) ∷ ts) (tickets_after-more (first + 1) n ∙ ap (λ t. tickets_after (first + 1) n ++ t ∷ []) e)
-
--- the tickets that wait, with the next one
-tickets_given : (confirmed given : ℕ) → confirmed ≤ given → tickets_after confirmed (given + 1 - confirmed) ≡ tickets_after confirmed (given - confirmed) ++ (given + 1) ∷ []
-tickets_given confirmed given le =
-    let more : given + 1 - confirmed ≡ suc (given - confirmed) = omega arith in
-    let last : confirmed + (given - confirmed) + 1 ≡ given + 1 = omega arith in
-    ap (λ n. tickets_after confirmed n) more ∙ tickets_after-more confirmed (given - confirmed) ∙ ap (λ t. tickets_after confirmed (given - confirmed) ++ t ∷ []) last
 
 -- what is held afterwards was held before
 still_held : (b : Bool) (held : Option Pair) (pair : Pair) → (if b then None else held) ≡ Some pair → held ≡ Some pair
@@ -297,10 +360,13 @@ sound_released old new marks devices frames levels started given confirmed id pa
   grants = grants_released marks old new id page (given + 1) released sound.grants;
   holders = λ d p none. released.held d p ∙ still_none ((id == d) && (page == p)) (held_in old d p) (sound.holders d p none);
   numbers = sound.numbers;
+  named = sound.named;
   tickets = record {
-    pending = released.pending ∙ ap (λ ts. ts ++ (given + 1) ∷ []) sound.tickets.pending ∙ sym (tickets_given confirmed given sound.tickets.ordered);
+    pending = subst (λ ts. RiseBetween confirmed (given + 1) ts) (sym released.pending) (rise_more confirmed given (pending_in old) sound.tickets.ordered sound.tickets.pending);
     ordered = let le = sound.tickets.ordered in omega (arith, le);
   };
+  leaving = λ other ticket stage at. let before = sound.leaving other ticket stage at in let high : ticket ≤ given = before.1 in (before.0, omega (arith, high));
+  ids = sound.ids;
   few = sound.few;
   idle = sound.idle;
 }

@@ -1,5 +1,5 @@
 -- Items of a list after one is set, or one more is there.
-use Rattle.std.proofs.Common.{suc, zero, ◌≡◌, ◌≢◌, ◌==◌, ◌<◌, ◌⊎◌, ◌∙◌, ℕ, false, List, [], ◌∷◌, length, Some, slice_get, set, get_or, replicate, refl, sym, ap, inl, inr, arith}
+use Rattle.std.proofs.Common.{suc, zero, ◌≡◌, ◌≢◌, ◌==◌, ◌<◌, ◌⊎◌, ◌∙◌, ℕ, false, List, [], ◌∷◌, ◌++◌, take, length, Option, None, Some, slice_get, set, get_or, replicate, refl, sym, ap, inl, inr, arith}
 use Rattle.std.proofs.lemmas.Bool.Decides.{eqb_tells}
 use Rattle.std.proofs.lemmas.List.{length-set, get_or-set_same, get_or-set_other}
 use Rattle.std.proofs.lemmas.Option.{slice_get_read, slice_get_cases, slice_get_past, slice_get-get_or, get_or_from_slice_get}
@@ -49,3 +49,25 @@ get_set xs i k x y lt at =
       | inl e ↦ inl (e.1, (let same : Some x ≡ Some y = sym (get_set_same xs i x lt) ∙ ap (λ j. slice_get (set xs i x) j) (sym e.1) ∙ at in (let back : x ≡ y = cc in sym back)))
       | inr ne ↦ inr (ne.1, sym (get_set_other xs i k x ne.1) ∙ at)
     ]
+
+-- two lists of the same items
+pub same_items : {X : Type 0} (xs ys : List X) → ((k : ℕ) → slice_get xs k ≡ slice_get ys k) → xs ≡ ys
+same_items [] [] same = refl
+same_items {X = X} [] (y ∷ ys) same = absurd (none_some y (same 0))
+  where
+    none_some : (y : X) → ◌≡◌ {A = Option X} None (Some y) → ⊥
+    none_some y e = cc
+same_items {X = X} (x ∷ xs) [] same = absurd (some_none x (same 0))
+  where
+    some_none : (x : X) → ◌≡◌ {A = Option X} (Some x) None → ⊥
+    some_none x e = cc
+same_items {X = X} (x ∷ xs) (y ∷ ys) same =
+    let first : ◌≡◌ {A = Option X} (Some x) (Some y) = same 0 in
+    let head : x ≡ y = cc in
+    ap (λ z. z ∷ xs) head ∙ ap (λ zs. y ∷ zs) (same_items xs ys (λ k. same (suc k)))
+
+-- one item more of a list's beginning
+pub take_more : {X : Type 0} (xs : List X) (k : ℕ) (x : X) → slice_get xs k ≡ Some x → take (suc k) xs ≡ take k xs ++ x ∷ []
+take_more [] k x at = cc
+take_more (y ∷ ys) zero x at = let same : y ≡ x = cc in ap (λ z. z ∷ []) same
+take_more (y ∷ ys) (suc k) x at = ap (λ zs. y ∷ zs) (take_more ys k x at)

@@ -1,10 +1,9 @@
--- Some frames become a device's tables: their marks, their bytes, and what stays.
-use Rattle.std.proofs.Common.{suc, zero, ◌≡◌, ◌≢◌, ◌<◌, ◌⊎◌, inl, inr, ◌∙◌, ℕ, List, [], ◌∷◌, length, Option, Some, slice_get, slice_set, get_or, refl, sym, subst, arith, All, Contains}
+-- Some frames become an owner's: their marks, their bytes, and what stays.
+use Rattle.std.proofs.Common.{suc, zero, ◌≡◌, ◌≢◌, ◌<◌, ◌⊎◌, inl, inr, ◌∙◌, ℕ, List, [], ◌∷◌, ◌++◌, length, Option, Some, slice_get, slice_set, get_or, refl, sym, subst, arith, All, Contains}
 use Rattle.std.proofs.lemmas.List.{length-set}
 use Rattle.std.proofs.lemmas.Bool.Decides.{eqb_tells}
 use Rattle.iom_phys_mem.specs.Words.{zeroed}
 use Rattle.iom_base.specs.declared.owner.Owner.{Owner}
-use Rattle.iom_base.specs.declared.owner.Owner.TheVariants.{OneDevice}
 use Rattle.iom_driver.specs.Choices.{marked_for, cleared}
 use Rattle.iom_driver.proofs.Lists.{get_set_same, get_set_other, get_within}
 
@@ -48,42 +47,42 @@ among_get (f ∷ fs) (suc k) d lt = inr (among_get fs k d (omega arith))
 pub among_contained : (n : ℕ) (fs : List ℕ) → Contains fs n → Among n fs
 among_contained n fs here = among_at n fs here.0 here.1 here.2
 
-pub length-marked_for : (id : ℕ) (fs : List ℕ) (marks : List (Option Owner)) → length (marked_for id fs marks) ≡ length marks
-length-marked_for id [] marks = refl
-length-marked_for id (f ∷ fs) marks = length-marked_for id fs (slice_set marks f (Some (OneDevice id))) ∙ length-set marks f (Some (OneDevice id))
+pub length-marked_for : (owner : Owner) (fs : List ℕ) (marks : List (Option Owner)) → length (marked_for owner fs marks) ≡ length marks
+length-marked_for owner [] marks = refl
+length-marked_for owner (f ∷ fs) marks = length-marked_for owner fs (slice_set marks f (Some owner)) ∙ length-set marks f (Some owner)
 
 pub length-cleared : (fs : List ℕ) (memory : List (List ℕ)) → length (cleared fs memory) ≡ length memory
 length-cleared [] memory = refl
 length-cleared (f ∷ fs) memory = length-cleared fs (slice_set memory f zeroed) ∙ length-set memory f zeroed
 
 -- another frame keeps its mark, and its bytes
-pub mark_stays : (id n : ℕ) (fs : List ℕ) (marks : List (Option Owner)) → NotAmong n fs → slice_get (marked_for id fs marks) n ≡ slice_get marks n
-mark_stays id n [] marks other = refl
-mark_stays id n (f ∷ fs) marks other = mark_stays id n fs (slice_set marks f (Some (OneDevice id))) other.1 ∙ get_set_other marks f n (Some (OneDevice id)) other.0
+pub mark_stays : (owner : Owner) (n : ℕ) (fs : List ℕ) (marks : List (Option Owner)) → NotAmong n fs → slice_get (marked_for owner fs marks) n ≡ slice_get marks n
+mark_stays owner n [] marks other = refl
+mark_stays owner n (f ∷ fs) marks other = mark_stays owner n fs (slice_set marks f (Some owner)) other.1 ∙ get_set_other marks f n (Some owner) other.0
 
 pub bytes_stay : (n : ℕ) (fs : List ℕ) (memory : List (List ℕ)) → NotAmong n fs → slice_get (cleared fs memory) n ≡ slice_get memory n
 bytes_stay n [] memory other = refl
 bytes_stay n (f ∷ fs) memory other = bytes_stay n fs (slice_set memory f zeroed) other.1 ∙ get_set_other memory f n zeroed other.0
 
 -- a frame that is marked so, or is one of the list, is marked so afterwards
-pub marked_still : (id n : ℕ) (fs : List ℕ) (marks : List (Option Owner)) → slice_get marks n ≡ Some (Some (OneDevice id)) → slice_get (marked_for id fs marks) n ≡ Some (Some (OneDevice id))
-marked_still id n [] marks own = own
-marked_still id n (f ∷ fs) marks own =
-    marked_still id n fs (slice_set marks f (Some (OneDevice id)))
+pub marked_still : (owner : Owner) (n : ℕ) (fs : List ℕ) (marks : List (Option Owner)) → slice_get marks n ≡ Some (Some owner) → slice_get (marked_for owner fs marks) n ≡ Some (Some owner)
+marked_still owner n [] marks own = own
+marked_still owner n (f ∷ fs) marks own =
+    marked_still owner n fs (slice_set marks f (Some owner))
     (elim (eqb_tells n f) [
-      | inl e ↦ subst (λ k. slice_get (slice_set marks f (Some (OneDevice id))) k ≡ Some (Some (OneDevice id))) (sym e.1)
-          (get_set_same marks f (Some (OneDevice id)) (subst (λ k. k < length marks) e.1 (get_within marks n (Some (OneDevice id)) own)))
-      | inr ne ↦ get_set_other marks f n (Some (OneDevice id)) ne.1 ∙ own
+      | inl e ↦ subst (λ k. slice_get (slice_set marks f (Some owner)) k ≡ Some (Some owner)) (sym e.1)
+          (get_set_same marks f (Some owner) (subst (λ k. k < length marks) e.1 (get_within marks n (Some owner) own)))
+      | inr ne ↦ get_set_other marks f n (Some owner) ne.1 ∙ own
     ])
 
-pub marked_among : (id n : ℕ) (fs : List ℕ) (marks : List (Option Owner)) → All (λ f. f < length marks) fs → Among n fs → slice_get (marked_for id fs marks) n ≡ Some (Some (OneDevice id))
-marked_among id n [] marks inside here = absurd here
-marked_among id n (f ∷ fs) marks inside (inl same) =
-    marked_still id n fs (slice_set marks f (Some (OneDevice id)))
-    (subst (λ k. slice_get (slice_set marks f (Some (OneDevice id))) k ≡ Some (Some (OneDevice id))) (sym same) (get_set_same marks f (Some (OneDevice id)) (all_head (λ g. g < length marks) f fs inside)))
-marked_among id n (f ∷ fs) marks inside (inr later) =
-    marked_among id n fs (slice_set marks f (Some (OneDevice id)))
-    (λ k d lt. subst (λ m. get_or fs k d < m) (sym (length-set marks f (Some (OneDevice id)))) (all_tail (λ g. g < length marks) f fs inside k d lt)) later
+pub marked_among : (owner : Owner) (n : ℕ) (fs : List ℕ) (marks : List (Option Owner)) → All (λ f. f < length marks) fs → Among n fs → slice_get (marked_for owner fs marks) n ≡ Some (Some owner)
+marked_among owner n [] marks inside here = absurd here
+marked_among owner n (f ∷ fs) marks inside (inl same) =
+    marked_still owner n fs (slice_set marks f (Some owner))
+    (subst (λ k. slice_get (slice_set marks f (Some owner)) k ≡ Some (Some owner)) (sym same) (get_set_same marks f (Some owner) (all_head (λ g. g < length marks) f fs inside)))
+marked_among owner n (f ∷ fs) marks inside (inr later) =
+    marked_among owner n fs (slice_set marks f (Some owner))
+    (λ k d lt. subst (λ m. get_or fs k d < m) (sym (length-set marks f (Some owner))) (all_tail (λ g. g < length marks) f fs inside k d lt)) later
 
 pub zero_still : (n : ℕ) (fs : List ℕ) (memory : List (List ℕ)) → slice_get memory n ≡ Some zeroed → slice_get (cleared fs memory) n ≡ Some zeroed
 zero_still n [] memory own = own
@@ -103,3 +102,13 @@ zero_among (f ∷ fs) memory inside n (inl same) =
 zero_among (f ∷ fs) memory inside n (inr later) =
     zero_among fs (slice_set memory f zeroed)
     (λ k d lt. subst (λ m. get_or fs k d < m) (sym (length-set memory f zeroed)) (all_tail (λ g. g < length memory) f fs inside k d lt)) n later
+
+-- frames that are cleared one after another
+pub cleared_append : (fs gs : List ℕ) (memory : List (List ℕ)) → cleared (fs ++ gs) memory ≡ cleared gs (cleared fs memory)
+cleared_append [] gs memory = refl
+cleared_append (f ∷ fs) gs memory = cleared_append fs gs (slice_set memory f zeroed)
+
+-- a frame that isn't contained is none of them
+pub not_contained : (n : ℕ) (fs : List ℕ) → (Contains fs n → ⊥) → NotAmong n fs
+not_contained n [] without = tt
+not_contained n (f ∷ fs) without = ((λ same. without (0, omega arith, sym same)), not_contained n fs (λ (here : Contains fs n). without (suc here.0, (let lt = here.1 in omega (arith, lt)), here.2)))

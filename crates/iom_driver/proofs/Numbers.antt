@@ -1,4 +1,4 @@
--- The address-space numbers of attached devices: of more numbers than there are devices one is free.
+-- The address-space numbers of attached and leaving devices: of more numbers than there are devices one is free.
 use Rattle.std.proofs.Common.{suc, zero, ◌≡◌, ◌≢◌, ◌==◌, ◌<◌, ◌≤◌, ◌||◌, ◌∙◌, ◌⊎◌, ℕ, Bool, true, false, List, [], ◌∷◌, length, eqb, Option, Some, None, refl, sym, ap, subst, inl, inr, arith}
 use Rattle.std.specs.List.{list_any}
 use Rattle.std.specs.Option.{option_map_or}
@@ -7,18 +7,19 @@ use Rattle.std.proofs.lemmas.Bool.{eq-eqb, false≢true}
 use Rattle.std.proofs.lemmas.Map.Steps.{le-length_from_below}
 use Rattle.iom_driver.specs.declared.device.Device.{Device}
 use Rattle.iom_driver.specs.declared.device.FirstStage.{FirstStage}
-use Rattle.iom_driver.specs.Devices.{stage_of, with_stage, is_plugged, is_used, has_number, IsLowestNumber}
+use Rattle.iom_driver.specs.Devices.{owned_stage_of, owned_stage, with_attachment, is_plugged, is_used, has_number, IsLowestNumber}
 use Rattle.iom_driver.specs.Sound.{HaveNumbers}
-use Rattle.iom_driver.proofs.Places.{stage_set, stage_other}
+use Rattle.iom_driver.specs.declared.device.Attachment.TheVariants.{Attached}
+use Rattle.iom_driver.proofs.Places.{attachment_set, attachment_other}
 
--- the numbers of the attached devices
+-- the numbers of the attached and leaving devices
 abbrev numbers_of : List Device → List ℕ
 numbers_of [] = []
-numbers_of (device ∷ others) = option_map_or (λ (stage : FirstStage). stage.number ∷ numbers_of others) device.stage (numbers_of others)
+numbers_of (device ∷ others) = option_map_or (λ (stage : FirstStage). stage.number ∷ numbers_of others) (owned_stage device.attachment) (numbers_of others)
 
 few_numbers : (devices : List Device) → length (numbers_of devices) ≤ length devices
 few_numbers [] = omega arith
-few_numbers (device ∷ others) = by device.stage (few_numbers others)
+few_numbers (device ∷ others) = by (owned_stage device.attachment) (few_numbers others)
   where
     by : (o : Option FirstStage) → length (numbers_of others) ≤ length others
         → length (option_map_or (λ (stage : FirstStage). stage.number ∷ numbers_of others) o (numbers_of others)) ≤ suc (length others)
@@ -28,7 +29,7 @@ few_numbers (device ∷ others) = by device.stage (few_numbers others)
 -- a number that is used is one of them
 among : (devices : List Device) (n : ℕ) → is_used devices n ≡ true → list_any (eqb n) (numbers_of devices) ≡ true
 among [] n used = used
-among (device ∷ others) n used = by device.stage used (λ is. among others n is)
+among (device ∷ others) n used = by (owned_stage device.attachment) used (λ is. among others n is)
   where
     by : (o : Option FirstStage) → (option_map_or (λ (stage : FirstStage). stage.number == n) o false || is_used others n) ≡ true
         → (is_used others n ≡ true → list_any (eqb n) (numbers_of others) ≡ true)
@@ -57,11 +58,11 @@ last_unused devices few used = by (is_used devices 17) refl
     by false e = e
     by true e = absurd (omega (arith, le-length_from_below (zero ∷ numbers_of devices) 18 (below e), few_numbers devices, few))
 
--- a device that is attached holds its number
-pub holder_uses : (devices : List Device) (id : ℕ) (stage : FirstStage) → stage_of devices id ≡ Some stage → is_used devices stage.number ≡ true
+-- a device that is attached or leaving holds its number
+pub holder_uses : (devices : List Device) (id : ℕ) (stage : FirstStage) → owned_stage_of devices id ≡ Some stage → is_used devices stage.number ≡ true
 holder_uses [] id stage at = cc
 holder_uses (device ∷ others) id stage at = elim (eqb_tells device.id id) [
-  | inl e ↦ here device.stage (rw e.0 at at)
+  | inl e ↦ here (owned_stage device.attachment) (rw e.0 at at)
   | inr ne ↦ there (has_number stage.number device) (holder_uses others id stage (rw ne.0 at at))
 ]
   where
@@ -75,7 +76,7 @@ holder_uses (device ∷ others) id stage at = elim (eqb_tells device.id id) [
 
 -- where one more device is attached under the lowest free number
 pub numbers_attached : (devices : List Device) (id : ℕ) (stage : FirstStage) → HaveNumbers devices → is_plugged devices id ≡ true → IsLowestNumber devices stage.number → stage.number ≤ 17
-    → HaveNumbers (with_stage devices id stage)
+    → HaveNumbers (with_attachment devices id (Attached stage))
 numbers_attached devices id stage numbers plugged lowest small = record {
   small = λ other s at. elim (whose other s at) [
     | inl e ↦ let n : s.number ≡ stage.number = ap (λ (t : FirstStage). t.number) e.1 in (omega (arith, n, lowest.from_one), omega (arith, n, small))
@@ -84,20 +85,20 @@ numbers_attached devices id stage numbers plugged lowest small = record {
   own = λ one other a b at_one at_other same. by one other a b same (whose one a at_one) (whose other b at_other);
 }
   where
-    whose : (other : ℕ) (s : FirstStage) → stage_of (with_stage devices id stage) other ≡ Some s → ((other ≡ id) × (s ≡ stage)) ⊎ ((other ≢ id) × (stage_of devices other ≡ Some s))
+    whose : (other : ℕ) (s : FirstStage) → owned_stage_of (with_attachment devices id (Attached stage)) other ≡ Some s → ((other ≡ id) × (s ≡ stage)) ⊎ ((other ≢ id) × (owned_stage_of devices other ≡ Some s))
     whose other s at = elim (eqb_tells other id) [
       | inl e ↦
-          let now : stage_of (with_stage devices id stage) id ≡ Some s = ap (λ i. stage_of (with_stage devices id stage) i) (sym e.1) ∙ at in
-          let both : Some s ≡ Some stage = sym now ∙ stage_set devices id stage plugged in
+          let now : owned_stage_of (with_attachment devices id (Attached stage)) id ≡ Some s = ap (λ i. owned_stage_of (with_attachment devices id (Attached stage)) i) (sym e.1) ∙ at in
+          let both : Some s ≡ Some stage = sym now ∙ ap owned_stage (attachment_set devices id (Attached stage) plugged) in
           inl (e.1, cc)
-      | inr ne ↦ inr (ne.1, sym (stage_other devices id other stage ne.1) ∙ at)
+      | inr ne ↦ inr (ne.1, sym (ap owned_stage (attachment_other devices id other (Attached stage) ne.1)) ∙ at)
     ]
 
-    unused : (other : ℕ) (s : FirstStage) → stage_of devices other ≡ Some s → s.number ≡ stage.number → ⊥
+    unused : (other : ℕ) (s : FirstStage) → owned_stage_of devices other ≡ Some s → s.number ≡ stage.number → ⊥
     unused other s at same = false≢true (sym lowest.unused ∙ ap (λ n. is_used devices n) (sym same) ∙ holder_uses devices other s at)
 
-    by : (one other : ℕ) (a b : FirstStage) → a.number ≡ b.number → ((one ≡ id) × (a ≡ stage)) ⊎ ((one ≢ id) × (stage_of devices one ≡ Some a))
-        → ((other ≡ id) × (b ≡ stage)) ⊎ ((other ≢ id) × (stage_of devices other ≡ Some b)) → one ≡ other
+    by : (one other : ℕ) (a b : FirstStage) → a.number ≡ b.number → ((one ≡ id) × (a ≡ stage)) ⊎ ((one ≢ id) × (owned_stage_of devices one ≡ Some a))
+        → ((other ≡ id) × (b ≡ stage)) ⊎ ((other ≢ id) × (owned_stage_of devices other ≡ Some b)) → one ≡ other
     by one other a b same (inl x) (inl y) = x.0 ∙ sym y.0
     by one other a b same (inl x) (inr y) = absurd (unused other b y.1 (sym same ∙ ap (λ (t : FirstStage). t.number) x.1))
     by one other a b same (inr x) (inl y) = absurd (unused one a x.1 (same ∙ ap (λ (t : FirstStage). t.number) y.1))

@@ -1,5 +1,5 @@
 -- A driver with nothing in it.
-use Rattle.std.proofs.Common.{suc, zero, ◌≡◌, ◌+◌, ◌-◌, ◌≤◌, ◌++◌, ◌∙◌, ℕ, false, List, [], ◌∷◌, length, replicate, Option, Some, None, option_map, slice_get, refl, sym, ap, arith, length-append}
+use Rattle.std.proofs.Common.{suc, zero, ◌≡◌, ◌+◌, ◌-◌, ◌≤◌, ◌++◌, ◌∙◌, ℕ, false, List, [], ◌∷◌, length, replicate, Option, Some, None, option_map, slice_get, refl, sym, ap, subst, arith, length-append}
 use Rattle.std.specs.Option.{option_to_list}
 use Rattle.std.proofs.lemmas.Bool.{false≢true}
 use Rattle.std.proofs.lemmas.List.{length-replicate}
@@ -12,12 +12,12 @@ use Rattle.iom_phys_mem.specs.Sizes.{IsMemorySize}
 use Rattle.iom_table_frames.specs.Marks.{opening_marks}
 use Rattle.iom_driver.specs.declared.device.Device.{Device}
 use Rattle.iom_driver.specs.declared.device.FirstStage.{FirstStage}
-use Rattle.iom_driver.specs.Devices.{stage_of}
+use Rattle.iom_driver.specs.Devices.{owned_stage_of}
 use Rattle.iom_driver.specs.Layout.{IsLevels, AreFixed}
 use Rattle.iom_driver.specs.Ready.{IsReady}
 use Rattle.iom_driver.specs.State.{DriverState}
 use Rattle.iom_registers.specs.declared.registers.Registers.{Registers}
-use Rattle.iom_driver.specs.Sound.{IsSound}
+use Rattle.iom_driver.specs.Sound.{IsSound, RiseBetween}
 
 -- an option that lists nothing is none
 none_listed : {X : Type 0} (o : Option X) → [] ≡ option_to_list o → o ≡ None
@@ -69,7 +69,10 @@ sound_at_start ledger n levels size range agrees = record {
   };
   holders = λ id page none. none_held ledger agrees id page;
   numbers = record { small = λ id stage at. cc; own = λ one other a b at_one at_other same. cc };
-  tickets = record { pending = sym agrees.pending; ordered = omega arith };
+  named = λ id stage at. cc;
+  tickets = record { pending = subst (λ ts. RiseBetween 0 0 ts) agrees.pending tt; ordered = omega arith };
+  leaving = λ id ticket stage at. cc;
+  ids = tt;
   few = omega arith;
   idle = λ stopped id. refl;
 }
@@ -83,9 +86,11 @@ pub ready_opening : (d : DriverState) (frames : ℕ) (memory : List (List ℕ)) 
 ready_opening d frames memory r marked size none stopped = record {
   stand = record {
     size = size ∙ sym marked;
-    tables = λ id stage at. absurd (none_attached id stage (ap (λ (ds : List Device). stage_of ds id) (sym none) ∙ at));
+    tables = λ id stage at. absurd (none_attached id stage (ap (λ (ds : List Device). owned_stage_of ds id) (sym none) ∙ at));
+    directory = λ runs. absurd (false≢true (sym stopped ∙ runs));
   };
   ring = λ runs. absurd (false≢true (sym stopped ∙ runs));
+  directory = λ runs. absurd (false≢true (sym stopped ∙ runs));
 }
   where
     none_attached : (id : ℕ) (stage : FirstStage) → ◌≡◌ {A = Option FirstStage} None (Some stage) → ⊥

@@ -1,11 +1,13 @@
--- Looking a device up by its id, and what its first stage is once one is set.
+-- Looking a device up by its id, and how it is attached once that is set.
 use Rattle.std.proofs.Common.{suc, zero, ◌≡◌, ◌≢◌, ◌==◌, ◌<◌, ◌∙◌, ◌++◌, ℕ, Bool, true, false, List, [], ◌∷◌, length, Option, Some, None, slice_get, refl, sym, ap, inl, inr, arith, if◌then◌else◌}
-use Rattle.std.specs.Option.{option_and_then}
+use Rattle.std.specs.Option.{option_map_or}
 use Rattle.std.proofs.lemmas.Bool.Decides.{eqb_tells}
 use Rattle.std.proofs.lemmas.Bool.{eq-eqb, false≢true}
+use Rattle.iom_driver.specs.declared.device.Attachment.{Attachment}
+use Rattle.iom_driver.specs.declared.device.Attachment.TheVariants.{Detached, Attached, Leaving}
 use Rattle.iom_driver.specs.declared.device.Device.{Device}
 use Rattle.iom_driver.specs.declared.device.FirstStage.{FirstStage}
-use Rattle.iom_driver.specs.Devices.{device_of, is_plugged, stage_of, detached, with_stage}
+use Rattle.iom_driver.specs.Devices.{device_of, is_plugged, attachment_of, attached_stage, owned_stage, stage_of, detached, with_attachment}
 use Rattle.iom_driver.specs.Places.{IsPlaceOf}
 use Rattle.iom_driver.proofs.Lists.{differs}
 
@@ -22,55 +24,90 @@ place_is [] id place device at own none = cc
 place_is (first ∷ others) id zero device at own none =
     let same : first ≡ device = cc in
     let own_first : first.id ≡ id = ap (λ (d : Device). d.id) same ∙ own in
-    (first, refl, rw (eq-eqb first.id id own_first) refl, (λ stage. rw (eq-eqb first.id id own_first) refl))
+    (first, refl, rw (eq-eqb first.id id own_first) refl, (λ attachment. rw (eq-eqb first.id id own_first) refl))
 place_is (first ∷ others) id (suc place) device at own none =
     let other = differs first.id id (none 0 first (omega arith) refl) in
     let rest = place_is others id place device at own (λ k d lt there. none (suc k) d (omega arith) there) in
-    (rest.0, rest.1, rw other rest.2, (λ stage. rw other (ap (λ ds. first ∷ ds) (rest.3 stage))))
+    (rest.0, rest.1, rw other rest.2, (λ attachment. rw other (ap (λ ds. first ∷ ds) (rest.3 attachment))))
 
--- the first stage of a device
-pub stage_is : (devices : List Device) (id : ℕ) (device : Device) → device_of devices id ≡ Some device → stage_of devices id ≡ device.stage
-stage_is devices id device at = ap (λ (o : Option Device). option_and_then (λ (d : Device). d.stage) o) at
+-- how a device is attached
+pub attachment_is : (devices : List Device) (id : ℕ) (device : Device) → device_of devices id ≡ Some device → attachment_of devices id ≡ device.attachment
+attachment_is devices id device at = ap (λ (o : Option Device). option_map_or (λ (d : Device). d.attachment) o Detached) at
 
-pub stage_of_none : (devices : List Device) (id : ℕ) → device_of devices id ≡ None → stage_of devices id ≡ None
-stage_of_none devices id at = ap (λ (o : Option Device). option_and_then (λ (d : Device). d.stage) o) at
+pub attachment_absent : (devices : List Device) (id : ℕ) → device_of devices id ≡ None → attachment_of devices id ≡ Detached
+attachment_absent devices id at = ap (λ (o : Option Device). option_map_or (λ (d : Device). d.attachment) o Detached) at
+
+-- an attached device owns its stage; one that owns none is detached
+pub attached_owns : (a : Attachment) (stage : FirstStage) → attached_stage a ≡ Some stage → owned_stage a ≡ Some stage
+attached_owns Detached stage at = at
+attached_owns (Attached own) stage at = at
+attached_owns (Leaving ticket own) stage at = cc
+
+pub owns_nothing : (a : Attachment) → owned_stage a ≡ None → a ≡ Detached
+owns_nothing Detached none = refl
+owns_nothing (Attached stage) none = cc
+owns_nothing (Leaving ticket stage) none = cc
+
+pub not_attached : (a : Attachment) → owned_stage a ≡ None → attached_stage a ≡ None
+not_attached a none = ap attached_stage (owns_nothing a none)
+
+pub attached_is : (a : Attachment) (stage : FirstStage) → attached_stage a ≡ Some stage → a ≡ Attached stage
+attached_is Detached stage at = cc
+attached_is (Attached own) stage at = let same : own ≡ stage = cc in ap Attached same
+attached_is (Leaving ticket own) stage at = cc
+
+-- an attached device is there
+pub attached_there : (devices : List Device) (id : ℕ) (stage : FirstStage) → stage_of devices id ≡ Some stage → is_plugged devices id ≡ true
+attached_there [] id stage at = cc
+attached_there (device ∷ others) id stage at = elim (eqb_tells device.id id) [ inl e ↦ rw e.0 refl | inr ne ↦ rw ne.0 (attached_there others id stage (rw ne.0 at at)) ]
 
 -- once it is set: that of the device, and as it was of each other
-pub stage_set : (devices : List Device) (id : ℕ) (stage : FirstStage) → is_plugged devices id ≡ true → stage_of (with_stage devices id stage) id ≡ Some stage
-stage_set [] id stage there = absurd (false≢true there)
-stage_set (device ∷ others) id stage there = elim (eqb_tells device.id id) [
+pub attachment_set : (devices : List Device) (id : ℕ) (a : Attachment) → is_plugged devices id ≡ true → attachment_of (with_attachment devices id a) id ≡ a
+attachment_set [] id a there = absurd (false≢true there)
+attachment_set (device ∷ others) id a there = elim (eqb_tells device.id id) [
   | inl e ↦ rw (e.0, e.0) refl
-  | inr ne ↦ rw (ne.0, ne.0) (stage_set others id stage (rw ne.0 at there))
+  | inr ne ↦ rw (ne.0, ne.0) (attachment_set others id a (rw ne.0 at there))
 ]
 
-pub stage_other : (devices : List Device) (id other : ℕ) (stage : FirstStage) → other ≢ id → stage_of (with_stage devices id stage) other ≡ stage_of devices other
-stage_other [] id other stage ne = refl
-stage_other (device ∷ others) id other stage ne = elim (eqb_tells device.id id) [
+pub attachment_other : (devices : List Device) (id other : ℕ) (a : Attachment) → other ≢ id → attachment_of (with_attachment devices id a) other ≡ attachment_of devices other
+attachment_other [] id other a ne = refl
+attachment_other (device ∷ others) id other a ne = elim (eqb_tells device.id id) [
   | inl e ↦ let apart : device.id ≢ other = λ same. ne (sym same ∙ e.1) in rw (e.0, differs device.id other apart) refl
-  | inr apart ↦ rw apart.0 (by (device.id == other) (stage_other others id other stage ne))
+  | inr apart ↦ rw apart.0 (by (device.id == other) (attachment_other others id other a ne))
 ]
   where
-    by : (b : Bool) → stage_of (with_stage others id stage) other ≡ stage_of others other
-        → ◌≡◌ {A = Option FirstStage} (option_and_then (λ (d : Device). d.stage) (if b then Some device else device_of (with_stage others id stage) other))
-        (option_and_then (λ (d : Device). d.stage) (if b then Some device else device_of others other))
+    by : (b : Bool) → attachment_of (with_attachment others id a) other ≡ attachment_of others other
+        → ◌≡◌ {A = Attachment} (option_map_or (λ (d : Device). d.attachment) (if b then Some device else device_of (with_attachment others id a) other) Detached)
+        (option_map_or (λ (d : Device). d.attachment) (if b then Some device else device_of others other) Detached)
     by true rest = refl
     by false rest = rest
 
--- a detached device more at the end changes no first stage
-pub stage_plugged : (devices : List Device) (id other : ℕ) → stage_of (devices ++ detached id ∷ []) other ≡ stage_of devices other
-stage_plugged [] id other = by (id == other)
+-- where there is no such device, nothing is set
+pub with_absent : (devices : List Device) (id : ℕ) (a : Attachment) → device_of devices id ≡ None → with_attachment devices id a ≡ devices
+with_absent [] id a none = refl
+with_absent (device ∷ others) id a none = elim (eqb_tells device.id id) [
+  | inl e ↦ absurd (some_none (rw e.0 at none))
+  | inr ne ↦ rw ne.0 (ap (λ ds. device ∷ ds) (with_absent others id a (rw ne.0 at none)))
+]
   where
-    by : (b : Bool) → ◌≡◌ {A = Option FirstStage} (option_and_then (λ (d : Device). d.stage) (if b then Some (detached id) else None)) None
+    some_none : ◌≡◌ {A = Option Device} (Some device) None → ⊥
+    some_none same = cc
+
+-- a detached device more at the end changes nothing of how any is attached
+pub attachment_plugged : (devices : List Device) (id other : ℕ) → attachment_of (devices ++ detached id ∷ []) other ≡ attachment_of devices other
+attachment_plugged [] id other = by (id == other)
+  where
+    by : (b : Bool) → ◌≡◌ {A = Attachment} (option_map_or (λ (d : Device). d.attachment) (if b then Some (detached id) else None) Detached) Detached
     by true = refl
     by false = refl
-stage_plugged (device ∷ others) id other = by (device.id == other) (stage_plugged others id other)
+attachment_plugged (device ∷ others) id other = by (device.id == other) (attachment_plugged others id other)
   where
-    by : (b : Bool) → stage_of (others ++ detached id ∷ []) other ≡ stage_of others other
-        → ◌≡◌ {A = Option FirstStage} (option_and_then (λ (d : Device). d.stage) (if b then Some device else device_of (others ++ detached id ∷ []) other))
-        (option_and_then (λ (d : Device). d.stage) (if b then Some device else device_of others other))
+    by : (b : Bool) → attachment_of (others ++ detached id ∷ []) other ≡ attachment_of others other
+        → ◌≡◌ {A = Attachment} (option_map_or (λ (d : Device). d.attachment) (if b then Some device else device_of (others ++ detached id ∷ []) other) Detached)
+        (option_map_or (λ (d : Device). d.attachment) (if b then Some device else device_of others other) Detached)
     by true rest = refl
     by false rest = rest
 
-pub length-with_stage : (devices : List Device) (id : ℕ) (stage : FirstStage) → length (with_stage devices id stage) ≡ length devices
-length-with_stage [] id stage = refl
-length-with_stage (device ∷ others) id stage = elim (eqb_tells device.id id) [ inl e ↦ rw e.0 refl | inr ne ↦ rw ne.0 (ap suc (length-with_stage others id stage)) ]
+pub length-with_attachment : (devices : List Device) (id : ℕ) (a : Attachment) → length (with_attachment devices id a) ≡ length devices
+length-with_attachment [] id a = refl
+length-with_attachment (device ∷ others) id a = elim (eqb_tells device.id id) [ inl e ↦ rw e.0 refl | inr ne ↦ rw ne.0 (ap suc (length-with_attachment others id a)) ]

@@ -13,7 +13,7 @@ use Rattle.iom_base.specs.declared.owner.Owner.{Owner}
 use Rattle.iom_base.specs.declared.owner.Owner.TheVariants.{OneDevice}
 use Rattle.iom_driver.specs.declared.device.Device.{Device}
 use Rattle.iom_driver.specs.declared.device.FirstStage.{FirstStage}
-use Rattle.iom_driver.specs.Devices.{stage_of}
+use Rattle.iom_driver.specs.Devices.{owned_stage_of}
 use Rattle.iom_driver.specs.Tables.{AreTablesOf, HaveTables, leaf_for}
 use Rattle.iom_driver.proofs.Lists.{differs}
 use Rattle.iom_driver.proofs.Stays.{tables_kept}
@@ -74,12 +74,12 @@ other_tables memory memory' marks ledger ledger' id root page ticket other other
 
 -- the tables of all devices
 pub tables_released : (memory memory' : List (List ℕ)) (marks : List (Option Owner)) (ledger ledger' : Ledger) (devices : List Device) (id page ticket : ℕ) (stage : FirstStage)
-    → HaveTables memory marks ledger devices → stage_of devices id ≡ Some stage → IsUnmapped memory memory' stage.root page → ShowsRelease ledger ledger' id page ticket
+    → HaveTables memory marks ledger devices → owned_stage_of devices id ≡ Some stage → IsUnmapped memory memory' stage.root page → ShowsRelease ledger ledger' id page ticket
     → HaveTables memory' marks ledger' devices
 tables_released memory memory' marks ledger ledger' devices id page ticket stage tables attached unmapped released other found at =
     elim (eqb_tells other id) [
       | inl e ↦
-          let both : Some stage ≡ Some found = sym attached ∙ ap (λ i. stage_of devices i) (sym e.1) ∙ at in
+          let both : Some stage ≡ Some found = sym attached ∙ ap (λ i. owned_stage_of devices i) (sym e.1) ∙ at in
           let root : stage.root ≡ found.root = let same : stage ≡ found = cc in ap (λ (s : FirstStage). s.root) same in
           subst (λ i. AreTablesOf memory' marks ledger' i found.root) (sym e.1)
           (subst (λ r. AreTablesOf memory' marks ledger' id r) root

@@ -1,5 +1,5 @@
 -- The registers go on to name the driver's ring, and the list of the commands in it.
-use Rattle.std.proofs.Common.{◌≡◌, ◌+◌, ◌-◌, ◌*◌, ◌/◌, ◌%◌, ◌^◌, ◌<◌, ◌≤◌, ◌++◌, ◌∙◌, ℕ, true, List, [], ◌∷◌, length, slice_get, refl, sym, ap, subst, arith}
+use Rattle.std.proofs.Common.{zero, suc, ◌≡◌, ◌+◌, ◌-◌, ◌*◌, ◌/◌, ◌%◌, ◌^◌, ◌<◌, ◌≤◌, ◌++◌, ◌∙◌, ℕ, true, List, [], ◌∷◌, length, slice_get, refl, sym, ap, subst, arith}
 use Rattle.std.proofs.Math.Nat.{zero-mod}
 use Rattle.iom_command_queue.specs.declared.command.Command.{Command}
 use Rattle.iom_command_queue.specs.declared.entry.QueueEntry.{QueueEntry}
@@ -10,11 +10,12 @@ use Rattle.iom_registers.specs.declared.mmio.Mmio.{Ghosts}
 use Rattle.iom_registers.specs.declared.registers.Registers.{Registers}
 use Rattle.iom_registers.specs.declared.register.Register.TheVariants.{Ddtp, Cqb, Cqcsr}
 use Rattle.iom_registers.specs.Fields.{entry_count}
-use Rattle.iom_registers.specs.Queues.{command_base, command_entries, command_head, command_tail, is_command_queue_on}
+use Rattle.iom_registers.specs.Queues.{command_base, command_entries, command_head, command_tail, directory_mode, directory_root, is_command_queue_on}
 use Rattle.iom_registers.specs.Table.{written}
-use Rattle.iom_driver.specs.Appends.{AppendsTwo}
+use Rattle.iom_driver.specs.Appends.{AppendsTwo, AppendsThree}
 use Rattle.iom_driver.specs.Calls.{IsOff}
-use Rattle.iom_driver.specs.Layout.{command_frame, cqb_of}
+use Rattle.iom_driver.specs.Directory.{NamesDirectory}
+use Rattle.iom_driver.specs.Layout.{IsLevels, command_frame, cqb_of, ddtp_of}
 use Rattle.iom_driver.specs.Ready.{IsRing}
 
 -- after a start
@@ -71,3 +72,37 @@ pub two_last : {M : Type 0} (g : Ghosts M) (memory memory' : List (List ℕ)) (i
 two_last g memory memory' io io' one other two =
     two.second.list ∙ ap (λ (xs : List QueueEntry). xs ++ stands.Command other ∷ []) two.first.list
     ∙ after_both (commands_in memory (g.registers io)) (stands.Command one) (stands.Command other)
+
+-- three
+pub three_last : {M : Type 0} (g : Ghosts M) (memory memory' : List (List ℕ)) (io io' : M) (one two three : Command) → AppendsThree g memory io one two three memory' io'
+    → commands_in memory' (g.registers io') ≡ commands_in memory (g.registers io) ++ stands.Command one ∷ stands.Command two ∷ stands.Command three ∷ []
+three_last g memory memory' io io' one two three all =
+    two_last g all.between_memory memory' all.between_io io' two three all.rest
+    ∙ ap (λ (xs : List QueueEntry). xs ++ stands.Command two ∷ stands.Command three ∷ []) all.first.list
+    ∙ after_first (commands_in memory (g.registers io)) (stands.Command one) (stands.Command two ∷ stands.Command three ∷ [])
+  where
+    after_first : (xs : List QueueEntry) (x : QueueEntry) (ys : List QueueEntry) → (xs ++ x ∷ []) ++ ys ≡ xs ++ x ∷ ys
+    after_first [] x ys = refl
+    after_first (z ∷ zs) x ys = ap (λ ws. z ∷ ws) (after_first zs x ys)
+
+-- registers whose ddtp stays name the same directory
+pub stays_named : (frames levels : ℕ) (old new : Registers) → (directory_mode new ≡ directory_mode old) × (directory_root new ≡ directory_root old) → NamesDirectory frames levels old
+    → NamesDirectory frames levels new
+stays_named frames levels old new same names = record { mode = same.0 ∙ names.mode; root = same.1 ∙ names.root }
+
+-- after a start the registers name the directory
+pub started_names : (r : Registers) (frames levels : ℕ) → IsOff r → frames ≤ 4096 → IsLevels levels → NamesDirectory frames levels (started r (ddtp_of frames levels) (cqb_of frames))
+started_names r frames levels off few range = by levels range.0 range.1
+  where
+    low : (n : ℕ) → n ≤ 3 → ddtp_of frames n / 2 ^ 0 % 2 ^ (3 + 1 - 0) ≡ n + 1
+    low n le = omega (arith, le)
+
+    high : (n : ℕ) → n ≤ 3 → ddtp_of frames n / 2 ^ 10 % 2 ^ (53 + 1 - 10) ≡ frames - 4
+    high n le = omega (arith, le, few)
+
+    by : (n : ℕ) → 1 ≤ n → n ≤ 3 → NamesDirectory frames n (started r (ddtp_of frames n) (cqb_of frames))
+    by zero one three = absurd (omega arith)
+    by (suc zero) one three = record { mode = rw off.off (rw (low 1 three) refl); root = rw off.off (rw (low 1 three) (high 1 three)) }
+    by (suc (suc zero)) one three = record { mode = rw off.off (rw (low 2 three) refl); root = rw off.off (rw (low 2 three) (high 2 three)) }
+    by (suc (suc (suc zero))) one three = record { mode = rw off.off (rw (low 3 three) refl); root = rw off.off (rw (low 3 three) (high 3 three)) }
+    by (suc (suc (suc (suc n)))) one three = absurd (omega arith)

@@ -7,13 +7,15 @@ use Rattle.iom_base.specs.declared.owner.Owner.{Owner}
 use Rattle.iom_base.specs.declared.owner.Owner.TheVariants.{OneDevice, System}
 use Rattle.iom_registers.specs.declared.registers.Registers.{Registers}
 use Rattle.iom_driver.specs.declared.device.Device.{Device}
-use Rattle.iom_driver.specs.Devices.{detached}
+use Rattle.iom_driver.specs.Devices.{detached, attached_stage, owned_stage}
+use Rattle.iom_driver.specs.Directory.{located_for, NamesDirectory}
 use Rattle.iom_driver.specs.Laws.{KeepsReserved, KeepsRing}
-use Rattle.iom_driver.specs.Layout.{AreFixed, completion_frame}
+use Rattle.iom_driver.specs.Layout.{AreFixed, IsLevels, completion_frame, directory_frame}
 use Rattle.iom_driver.specs.Ready.{TablesStand, IsRing, IsReady}
 use Rattle.iom_driver.specs.State.{DriverState}
 use Rattle.iom_driver.specs.Tables.{AreTablesOf, HaveTables, leaf_for}
-use Rattle.iom_driver.proofs.Places.{stage_plugged}
+use Rattle.iom_driver.proofs.Directories.{directory_stay, stands_in, in_stands}
+use Rattle.iom_driver.proofs.Places.{attachment_plugged}
 
 -- the frames that are marked for the device stay as they are, mark and bytes, and so does what it holds: its tables do
 pub tables_stay : (memory memory' : List (List ℕ)) (marks marks' : List (Option Owner)) (ledger ledger' : Ledger) (id root : ℕ) → AreTablesOf memory marks ledger id root
@@ -46,13 +48,18 @@ pub of_one : (marks : List (Option Owner)) (n m id : ℕ) → slice_get marks n 
 of_one marks n m id system own same =
     let both : ◌≡◌ {A = Option (Option Owner)} (Some (Some (OneDevice id))) (Some (Some System)) = sym own ∙ ap (λ k. slice_get marks k) same ∙ system in cc
 
--- a driver is ready while others keep its reserved frames, but that of the completion word, and its ring
-pub ready_stays : (d : DriverState) (old new : List (List ℕ)) (r s : Registers) → AreFixed d.marks (length old) → IsReady d old r → KeepsReserved d old new → KeepsRing r s → IsReady d new s
-ready_stays d old new r s fixed ready keeps ring = record {
+-- a driver is ready while others keep its reserved frames, but that of the completion word, and its ring and its directory's place
+pub ready_stays : (d : DriverState) (old new : List (List ℕ)) (r s : Registers) → AreFixed d.marks (length old) → IsLevels d.levels → IsReady d old r → KeepsReserved d old new → KeepsRing r s → IsReady d new s
+ready_stays d old new r s fixed range ready keeps ring = record {
   stand = record {
     size = keeps.size ∙ ready.stand.size;
     tables = all_stay old new d.marks d.ledger d.ledger d.devices ready.stand.tables
         (λ n id own. keeps.bytes n (OneDevice id) own (of_one d.marks (completion_frame (length old)) n id fixed.completion own)) (λ id page. refl);
+    directory = λ started.
+        stands_in (length old) new d.marks d.devices d.levels keeps.size
+        (directory_stay (length old) old new d.marks d.marks d.devices d.devices d.levels range keeps.size
+        (λ n own. (keeps.bytes n System own.system own.no_completion, refl)) (λ id. refl)
+        (in_stands (length old) old d.marks d.devices d.levels refl (ready.stand.directory started)));
   };
   ring = λ started.
       let was = ready.ring started in
@@ -61,13 +68,17 @@ ready_stays d old new r s fixed ready keeps ring = record {
         base = ring.base ∙ was.base ∙ ap (λ n. 4096 * (n - 1)) (sym keeps.size);
         entries = ring.entries ∙ was.entries;
       };
+  directory = λ started.
+      let was = ready.directory started in record { mode = ring.mode ∙ was.mode; root = ring.root ∙ was.root ∙ ap directory_frame (sym keeps.size) };
 }
 
 -- a call that starts nothing and leaves how large memory is, leaves what the registers name
-pub ready_from : (d d' : DriverState) (memory memory' : List (List ℕ)) (r : Registers) → TablesStand d' memory' → length memory' ≡ length memory → d'.started ≡ d.started → IsReady d memory r → IsReady d' memory' r
-ready_from d d' memory memory' r stand size started ready = record {
+pub ready_from : (d d' : DriverState) (memory memory' : List (List ℕ)) (r : Registers) → TablesStand d' memory' → length memory' ≡ length memory → d'.started ≡ d.started → d'.levels ≡ d.levels
+    → IsReady d memory r → IsReady d' memory' r
+ready_from d d' memory memory' r stand size started levels ready = record {
   stand = stand;
   ring = λ runs. subst (λ n. IsRing n r) (sym size) (ready.ring (sym started ∙ runs));
+  directory = λ runs. subst (λ n. NamesDirectory n d'.levels r) (sym size) (subst (λ l. NamesDirectory (length memory) l r) (sym levels) (ready.directory (sym started ∙ runs)));
 }
 
 -- and so does one more device that is attached to nothing
@@ -75,7 +86,15 @@ pub ready_plugged : (d : DriverState) (memory : List (List ℕ)) (r : Registers)
 ready_plugged d memory r id ready = record {
   stand = record {
     size = ready.stand.size;
-    tables = λ other stage at. ready.stand.tables other stage (sym (stage_plugged d.devices id other) ∙ at);
+    tables = λ other stage at. ready.stand.tables other stage (sym (ap owned_stage (attachment_plugged d.devices id other)) ∙ at);
+    directory = λ runs.
+        let stands = ready.stand.directory runs in
+        record {
+          tree = stands.tree;
+          own = stands.own;
+          contexts = λ other low. stands.contexts other low ∙ ap located_for (sym (ap attached_stage (attachment_plugged d.devices id other)));
+        };
   };
   ring = ready.ring;
+  directory = ready.directory;
 }

@@ -26,3 +26,11 @@ pub record MayBeReleased (d : DriverState) (r : Registers) (id page : ℕ) (stag
   pub few : d.given - d.confirmed < pending_limit
   pub room : how_many r + 3 ≤ queue_entries
   pub number : d.given < 4294967295
+
+pub record MayBeDetached (d : DriverState) (r : Registers) (id : ℕ) (stage : FirstStage) : Type 0 where
+  pub started : d.started ≡ true
+  pub attached : stage_of d.devices id ≡ Some stage
+  pub none_held : (page : ℕ) → held_in d.ledger id page ≡ None
+  pub few : d.given - d.confirmed < pending_limit
+  pub room : how_many r + 4 ≤ queue_entries
+  pub number : d.given < 4294967295

@@ -1,7 +1,7 @@
--- The commands of a release, and what appending them does to memory and to whatever has registers.
+-- The commands of a release and of a detach, and what appending them does to memory and to whatever has registers.
 use Rattle.std.specs.Prelude.{◌≡◌, ℕ, ◌++◌, true, false, List, [], ◌∷◌, None, Some}
 use Rattle.iom_command_queue.specs.declared.command.Command.{Command}
-use Rattle.iom_command_queue.specs.declared.command.Command.TheVariants.{IotinvalVma, IofenceC}
+use Rattle.iom_command_queue.specs.declared.command.Command.TheVariants.{IotinvalVma, IofenceC, IodirInvalDdt}
 use Rattle.iom_command_queue.specs.declared.entry.QueueEntry.TheVariants as stands
 use Rattle.iom_command_queue.specs.Waiting.{commands_in, place_of, WritesCommand}
 use Rattle.iom_registers.specs.declared.mmio.Mmio.{Ghosts}
@@ -11,6 +11,14 @@ use Rattle.iom_registers.specs.Queues.{command_entries, command_tail, next_index
 -- IOTINVAL.VMA: translations of the page go, in this address space (IOMMU specification, section 3.1.1, "IOMMU Page-Table cache invalidation commands")
 abbrev pub invalidation : ℕ → ℕ → Command
 invalidation number page = IotinvalVma None (Some number) (Some page)
+
+-- all translations go, in this address space
+abbrev pub space_invalidation : ℕ → Command
+space_invalidation number = IotinvalVma None (Some number) None
+
+-- IODIR.INVAL_DDT: the context of the device goes (section 3.1.3, "IOMMU directory cache invalidation commands")
+abbrev pub context_invalidation : ℕ → Command
+context_invalidation id = IodirInvalDdt (Some id)
 
 -- IOFENCE.C: once earlier commands are complete, and reads and writes that were processed before them, the number stands at the address (section
 -- 3.1.2, "IOMMU Command-Queue Fence command")
@@ -29,3 +37,10 @@ pub record AppendsTwo {M : Type 0} (g : Ghosts M) (memory : List (List ℕ)) (io
   pub between_io : M
   pub first : Appends g memory io one between_memory between_io
   pub second : Appends g between_memory between_io other memory' io'
+
+-- three, one after the other
+pub record AppendsThree {M : Type 0} (g : Ghosts M) (memory : List (List ℕ)) (io : M) (one two three : Command) (memory' : List (List ℕ)) (io' : M) : Type 0 where
+  pub between_memory : List (List ℕ)
+  pub between_io : M
+  pub first : Appends g memory io one between_memory between_io
+  pub rest : AppendsTwo g between_memory between_io two three memory' io'

@@ -1,5 +1,6 @@
--- What each call answers, what it leaves, and what stays: over the driver, memory, and whatever has registers.
-use Rattle.std.specs.Prelude.{◌≡◌, ◌≢◌, ℕ, ◌+◌, ◌-◌, ◌<◌, ◌==◌, min, true, false, List, [], ◌∷◌, ◌++◌, length, None, Some, Result, Ok, Err, Option, slice_get, slice_set, if◌then◌else◌}
+-- What each call answers, what it leaves, and what stays: over the driver, memory, and whatever has registers. Attach, detach and poll have files of
+-- their own: Attaching, Leaving and Polling.
+use Rattle.std.specs.Prelude.{◌≡◌, ◌≢◌, ℕ, ◌+◌, ◌<◌, true, false, List, [], ◌∷◌, ◌++◌, length, Some, Result, Ok, Err, Option, slice_get, slice_set}
 use Rattle.iom_base.specs.GrantRights.{rights_of}
 use Rattle.iom_base.specs.declared.grant_rights.GrantRights.{GrantRights}
 use Rattle.iom_base.specs.declared.owner.Owner.{Owner}
@@ -7,7 +8,6 @@ use Rattle.iom_base.specs.declared.owner.Owner.TheVariants.{OneDevice}
 use Rattle.iom_command_queue.specs.declared.entry.QueueEntry.TheVariants as stands
 use Rattle.iom_command_queue.specs.Waiting.{commands_in}
 use Rattle.iom_ledger.specs.Changes.{IsUnchanged, ShowsGrant, ShowsRelease}
-use Rattle.iom_ledger.specs.Confirmations.{confirmed_from, ConfirmsFrom}
 use Rattle.iom_ledger.specs.declared.entry.HistoryEntry.TheVariants as entry
 use Rattle.iom_ledger.specs.declared.refusal.Refusal.{Refusal}
 use Rattle.iom_ledger.specs.declared.refusal.Refusal.TheVariants.{NoFrames, Memory}
@@ -15,21 +15,20 @@ use Rattle.iom_ledger.specs.History.{History, confirms}
 use Rattle.iom_ledger.specs.Refusals.{first_that_applies, NoneApplies, IsRefusedBy}
 use Rattle.iom_page_table.specs.declared.leaf.PageLeaf.{PageLeaf}
 use Rattle.iom_page_table.specs.Sv39.{missing_for, mapped, unmapped}
-use Rattle.iom_phys_mem.specs.Words.{word_at, with_word, zeroed}
+use Rattle.iom_phys_mem.specs.Words.{with_word, zeroed}
 use Rattle.iom_registers.specs.declared.mmio.Mmio.{Ghosts}
 use Rattle.iom_registers.specs.declared.register.Register.TheVariants.{Ddtp, Cqb, Cqcsr}
 use Rattle.iom_registers.specs.declared.registers.Registers.{Registers}
-use Rattle.iom_registers.specs.Queues.{command_status, is_command_queue_on}
-use Rattle.iom_table_frames.specs.Marks.{NoneIsFree, IsHighestFree, HasFree, opening_marks, is_marked}
+use Rattle.iom_registers.specs.Queues.{is_command_queue_on}
+use Rattle.iom_table_frames.specs.Marks.{HasFree, opening_marks, is_marked}
 use Rattle.iom_ledger.specs.Shown.{Agrees, IsFreeIn}
-use Rattle.iom_driver.specs.declared.answers.Polled.{Polled}
 use Rattle.iom_driver.specs.declared.answers.Ticket.{Ticket}
 use Rattle.iom_driver.specs.declared.device.FirstStage.{FirstStage}
 use Rattle.iom_driver.specs.Appends.{invalidation, fence, AppendsTwo}
 use Rattle.iom_driver.specs.Choices.{AreHighestFree, marked_for, cleared}
-use Rattle.iom_driver.specs.Devices.{stage_of, detached, with_stage, IsLowestNumber}
+use Rattle.iom_driver.specs.Devices.{stage_of, detached}
 use Rattle.iom_driver.specs.Layout.{command_frame, directory_frame, completion_address, ddtp_of, cqb_of}
-use Rattle.iom_driver.specs.Reasons.{plug_reasons, attach_reasons, grant_reasons, release_reasons, poll_reasons}
+use Rattle.iom_driver.specs.Reasons.{why_not_plug, why_not_grant, why_not_release}
 use Rattle.iom_driver.specs.State.{DriverState}
 
 -- NEW: nothing is held or waits, the last four frames are the system's, there is no device, and it isn't started
@@ -51,26 +50,8 @@ pub record Starts {M : Type 0} (g : Ghosts M) (d : DriverState) (memory : List (
 
 -- PLUG: one more device, attached to nothing; or a refusal, which changes nothing
 abbrev pub AnswersPlug : DriverState → ℕ → Result (Unit {0}) Refusal → DriverState → Type 0
-AnswersPlug d id (Ok done) d' = NoneApplies (plug_reasons d id) × (d' ≡ record d { devices = d.devices ++ detached id ∷ [] })
-AnswersPlug d id (Err why) d' = IsRefusedBy (plug_reasons d id) (λ may. may ≡ Memory) why × (d' ≡ d)
-
--- the highest free frame, all bytes zero, becomes the device's root, and the lowest free number its address space
-pub record TakesRoot (d : DriverState) (memory : List (List ℕ)) (id : ℕ) (d' : DriverState) (memory' : List (List ℕ)) : Type 0 where
-  pub stage : FirstStage
-  pub highest : IsHighestFree d.marks d.ledger None (length memory) stage.root
-  pub lowest : IsLowestNumber d.devices stage.number
-  pub driver : d' ≡ record d { marks = slice_set d.marks stage.root (Some (OneDevice id)); devices = with_stage d.devices id stage }
-  pub bytes : memory' ≡ slice_set memory stage.root zeroed
-
--- an attach finds no free frame for the root
-abbrev pub LacksRoot : DriverState → List (List ℕ) → Refusal → Type 0
-LacksRoot d memory NoFrames = NoneIsFree d.marks d.ledger None 0 (length memory)
-LacksRoot d memory _ = ⊥
-
--- ATTACH
-abbrev pub AnswersAttach : DriverState → List (List ℕ) → ℕ → Result (Unit {0}) Refusal → DriverState → List (List ℕ) → Type 0
-AnswersAttach d memory id (Ok done) d' memory' = NoneApplies (attach_reasons d id) × TakesRoot d memory id d' memory'
-AnswersAttach d memory id (Err why) d' memory' = IsRefusedBy (attach_reasons d id) (LacksRoot d memory) why × (d' ≡ d) × (memory' ≡ memory)
+AnswersPlug d id (Ok done) d' = NoneApplies (why_not_plug d id) × (d' ≡ record d { devices = d.devices ++ detached id ∷ [] })
+AnswersPlug d id (Err why) d' = IsRefusedBy (why_not_plug d id) (λ may. may ≡ Memory) why × (d' ≡ d)
 
 -- nothing changes but what room the ledger has: it shows the same, and agrees with the same histories
 pub record IsSame (d d' : DriverState) : Type 0 where
@@ -96,7 +77,7 @@ pub record TakesTables (d : DriverState) (memory : List (List ℕ)) (id page fra
   pub chosen : AreHighestFree d.marks d.ledger (Some frame) (length memory) (missing_for memory stage.root page) tables
   pub shown : ShowsGrant d.ledger d'.ledger id page (frame, rights_of rights)
   pub agrees : (h : History) → Agrees d.ledger h → Agrees d'.ledger (entry.Granted id page frame (rights_of rights) ∷ h)
-  pub driver : d' ≡ record d { ledger = d'.ledger; marks = marked_for id tables d.marks }
+  pub driver : d' ≡ record d { ledger = d'.ledger; marks = marked_for (OneDevice id) tables d.marks }
   pub bytes : memory' ≡ mapped (cleared tables memory) stage.root page (granted_leaf frame rights) tables
   pub others : KeepsOthers d'.marks id memory memory'
 
@@ -114,9 +95,9 @@ LacksTables d memory id page frame _ = ⊥
 
 -- GRANT
 abbrev pub AnswersGrant : DriverState → List (List ℕ) → ℕ → ℕ → ℕ → GrantRights → Result (Unit {0}) Refusal → DriverState → List (List ℕ) → Type 0
-AnswersGrant d memory id page frame rights (Ok done) d' memory' = NoneApplies (grant_reasons d id page frame) × TakesTables d memory id page frame rights d' memory'
+AnswersGrant d memory id page frame rights (Ok done) d' memory' = NoneApplies (why_not_grant d id page frame) × TakesTables d memory id page frame rights d' memory'
 AnswersGrant d memory id page frame rights (Err why) d' memory' =
-    IsRefusedBy (grant_reasons d id page frame) (LacksTables d memory id page frame) why × IsSame d d' × (memory' ≡ memory)
+    IsRefusedBy (why_not_grant d id page frame) (LacksTables d memory id page frame) why × IsSame d d' × (memory' ≡ memory)
 
 -- The next ticket is given; the page's leaf is cleared; an invalidation of the page and the ticket's fence are appended: no frame but the device's and
 -- the ring's changes. The ledger has the release.
@@ -135,25 +116,9 @@ pub record QueuesRelease {M : Type 0} (g : Ghosts M) (d : DriverState) (memory :
 -- RELEASE
 abbrev pub AnswersRelease : {M : Type 0} → Ghosts M → DriverState → List (List ℕ) → M → ℕ → ℕ → Result Ticket Refusal → DriverState → List (List ℕ) → M → Type 0
 AnswersRelease g d memory io id page (Ok ticket) d' memory' io' =
-    NoneApplies (release_reasons d (g.registers io) id page) × QueuesRelease g d memory io id page ticket.0 d' memory' io'
+    NoneApplies (why_not_release d (g.registers io) id page) × QueuesRelease g d memory io id page ticket.0 d' memory' io'
 AnswersRelease g d memory io id page (Err why) d' memory' io' =
-    (first_that_applies (release_reasons d (g.registers io) id page) ≡ Some why) × (d' ≡ d) × (memory' ≡ memory) × (io' ≡ io)
-
--- The completion word is a number. The tickets that wait and aren't above it are confirmed, from the oldest on, and no others.
-pub record ConfirmsDone (r : Registers) (d : DriverState) (memory : List (List ℕ)) (polled : Polled) (d' : DriverState) : Type 0 where
-  pub word : ℕ
-  pub read : word_at 4 memory (completion_address (length memory)) ≡ Some word
-  pub count : polled.count ≡ min word d.given - d.confirmed
-  pub first : polled.first ≡ (if polled.count == 0 then 0 else d.confirmed + 1)
-  pub timed_out : polled.timed_out ≡ (command_status r).cmd_to
-  pub shown : ConfirmsFrom d.ledger d'.ledger (d.confirmed + 1) polled.count
-  pub agrees : (h : History) → Agrees d.ledger h → Agrees d'.ledger (confirmed_from (d.confirmed + 1) polled.count h)
-  pub driver : d' ≡ record d { ledger = d'.ledger; confirmed = d.confirmed + polled.count }
-
--- POLL, which leaves memory and registers
-abbrev pub AnswersPoll : Registers → DriverState → List (List ℕ) → Result Polled Refusal → DriverState → Type 0
-AnswersPoll r d memory (Ok polled) d' = NoneApplies (poll_reasons d) × ConfirmsDone r d memory polled d'
-AnswersPoll r d memory (Err why) d' = (first_that_applies (poll_reasons d) ≡ Some why) × (d' ≡ d)
+    (first_that_applies (why_not_release d (g.registers io) id page) ≡ Some why) × (d' ≡ d) × (memory' ≡ memory) × (io' ≡ io)
 
 -- FREE: the frame is one of memory, isn't reserved, and no device holds or lingers on it
 pub record IsFreeFrame (d : DriverState) (frame : ℕ) : Type 0 where

@@ -1,7 +1,6 @@
--- The frames that become tables.
+-- The frames that become tables, or pages of the directory.
 use Rattle.std.specs.Prelude.{ℕ, zero, suc, ⊤, List, [], ◌∷◌, Option, Some, slice_set}
 use Rattle.iom_base.specs.declared.owner.Owner.{Owner}
-use Rattle.iom_base.specs.declared.owner.Owner.TheVariants.{OneDevice}
 use Rattle.iom_ledger.specs.declared.ledger.Ledger.{Ledger}
 use Rattle.iom_phys_mem.specs.Words.{zeroed}
 use Rattle.iom_table_frames.specs.Marks.{IsHighestFree}
@@ -14,10 +13,10 @@ AreHighestFree marks ledger named limit (suc count) [] = ⊥
 AreHighestFree marks ledger named limit (suc count) (frame ∷ frames) =
     IsHighestFree marks ledger named limit frame × AreHighestFree marks ledger named frame count frames
 
--- the marks, where the frames are the device's
-abbrev pub marked_for : ℕ → List ℕ → List (Option Owner) → List (Option Owner)
-marked_for id [] marks = marks
-marked_for id (frame ∷ frames) marks = marked_for id frames (slice_set marks frame (Some (OneDevice id)))
+-- the marks, where the frames are the owner's
+abbrev pub marked_for : Owner → List ℕ → List (Option Owner) → List (Option Owner)
+marked_for owner [] marks = marks
+marked_for owner (frame ∷ frames) marks = marked_for owner frames (slice_set marks frame (Some owner))
 
 -- the memory, where the frames are zero
 abbrev pub cleared : List ℕ → List (List ℕ) → List (List ℕ)

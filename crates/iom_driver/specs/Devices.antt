@@ -1,7 +1,9 @@
--- The devices that are plugged in, and the first stages of those that are attached.
-use Rattle.std.specs.Prelude.{◌≡◌, ◌==◌, ℕ, ◌<◌, ◌≤◌, Bool, true, false, List, [], ◌∷◌, Option, None, Some, is_some, if◌then◌else◌}
+-- The devices that are plugged in: how each is attached, and which address spaces are theirs.
+use Rattle.std.specs.Prelude.{◌≡◌, ◌==◌, ℕ, ◌<◌, ◌≤◌, ⊤, Bool, true, false, List, [], ◌∷◌, Option, None, Some, is_some, if◌then◌else◌}
 use Rattle.std.specs.List.{list_any}
-use Rattle.std.specs.Option.{option_and_then, option_map_or}
+use Rattle.std.specs.Option.{option_map_or}
+use Rattle.iom_driver.specs.declared.device.Attachment.{Attachment}
+use Rattle.iom_driver.specs.declared.device.Attachment.TheVariants.{Detached, Attached, Leaving}
 use Rattle.iom_driver.specs.declared.device.Device.{Device}
 use Rattle.iom_driver.specs.declared.device.FirstStage.{FirstStage}
 
@@ -14,28 +16,54 @@ device_of (device ∷ others) id = if device.id == id then Some device else devi
 abbrev pub is_plugged : List Device → ℕ → Bool
 is_plugged devices id = is_some (device_of devices id)
 
+-- how the device with this id is attached; Detached where there is none
+abbrev pub attachment_of : List Device → ℕ → Attachment
+attachment_of devices id = option_map_or (λ (device : Device). device.attachment) (device_of devices id) Detached
+
+-- the first stage of an attached device
+abbrev pub attached_stage : Attachment → Option FirstStage
+attached_stage Detached = None
+attached_stage (Attached stage) = Some stage
+attached_stage (Leaving ticket stage) = None
+
+-- that of an attached or a leaving one: its tables and its number are still its own
+abbrev pub owned_stage : Attachment → Option FirstStage
+owned_stage Detached = None
+owned_stage (Attached stage) = Some stage
+owned_stage (Leaving ticket stage) = Some stage
+
 -- the first stage of the device with this id, where it is attached
 abbrev pub stage_of : List Device → ℕ → Option FirstStage
-stage_of devices id = option_and_then (λ (device : Device). device.stage) (device_of devices id)
+stage_of devices id = attached_stage (attachment_of devices id)
+
+-- where it is attached, or leaving
+abbrev pub owned_stage_of : List Device → ℕ → Option FirstStage
+owned_stage_of devices id = owned_stage (attachment_of devices id)
 
 -- a device as it is plugged in: attached to nothing
 abbrev pub detached : ℕ → Device
-detached id = record { id = id; stage = None }
+detached id = record { id = id; attachment = Detached }
 
 -- the devices, where the one with this id is attached so
-abbrev pub with_stage : List Device → ℕ → FirstStage → List Device
-with_stage [] id stage = []
-with_stage (device ∷ others) id stage = if device.id == id then (record device { stage = Some stage }) ∷ others else device ∷ with_stage others id stage
+abbrev pub with_attachment : List Device → ℕ → Attachment → List Device
+with_attachment [] id attachment = []
+with_attachment (device ∷ others) id attachment =
+    if device.id == id then (record device { attachment = attachment }) ∷ others else device ∷ with_attachment others id attachment
 
--- whether the device is attached under this address-space number
+-- each device has an id of its own
+abbrev pub HaveOwnIds : List Device → Type 0
+HaveOwnIds [] = ⊤
+HaveOwnIds (device ∷ others) = (device_of others device.id ≡ None) × HaveOwnIds others
+
+-- whether the device, attached or leaving, has this address-space number
 abbrev pub has_number : ℕ → Device → Bool
-has_number number device = option_map_or (λ (stage : FirstStage). stage.number == number) device.stage false
+has_number number device = option_map_or (λ (stage : FirstStage). stage.number == number) (owned_stage device.attachment) false
 
--- whether an attached device holds the number
+-- whether an attached or leaving device holds the number
 abbrev pub is_used : List Device → ℕ → Bool
 is_used devices number = list_any (has_number number) devices
 
--- no attached device holds the number, and it is the lowest such from 1 on
+-- no attached or leaving device holds the number, and it is the lowest such from 1 on
 pub record IsLowestNumber (devices : List Device) (number : ℕ) : Type 0 where
   pub from_one : 1 ≤ number
   pub unused : is_used devices number ≡ false

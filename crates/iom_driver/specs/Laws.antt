@@ -2,7 +2,7 @@
 use Rattle.std.specs.Prelude.{◌≡◌, ◌≢◌, ℕ, List, Some, length, slice_get}
 use Rattle.iom_base.specs.declared.owner.Owner.{Owner}
 use Rattle.iom_registers.specs.declared.registers.Registers.{Registers}
-use Rattle.iom_registers.specs.Queues.{command_base, command_entries, is_command_queue_on}
+use Rattle.iom_registers.specs.Queues.{command_base, command_entries, directory_mode, directory_root, is_command_queue_on}
 use Rattle.iom_driver.specs.declared.driver.Driver.{Driver}
 use Rattle.iom_driver.specs.Layout.{completion_frame}
 use Rattle.iom_driver.specs.Ready.{IsReady}
@@ -14,11 +14,13 @@ pub record KeepsReserved (d : DriverState) (old new : List (List ℕ)) : Type 0 
   pub size : length new ≡ length old
   pub bytes : (frame : ℕ) (owner : Owner) → slice_get d.marks frame ≡ Some (Some owner) → frame ≢ completion_frame (length old) → slice_get new frame ≡ slice_get old frame
 
--- the queue is where it was, and on as it was; head, tail and whatever is wrong may be others
+-- the queue and the directory are where they were, and the queue on as it was; head, tail and whatever is wrong may be others
 pub record KeepsRing (old new : Registers) : Type 0 where
   pub on : is_command_queue_on new ≡ is_command_queue_on old
   pub base : command_base new ≡ command_base old
   pub entries : command_entries new ≡ command_entries old
+  pub mode : directory_mode new ≡ directory_mode old
+  pub root : directory_root new ≡ directory_root old
 
 -- a driver stays ready while its reserved frames are kept, and its ring is
 abbrev pub ReadyStays : Type 0

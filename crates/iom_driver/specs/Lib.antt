@@ -5,6 +5,8 @@ pub mod Layout
 pub mod Sound
 pub mod Seen
 pub mod Tables
+pub mod Directory
+pub mod Confirmed
 pub mod Ready
 pub mod ReadyIsFact
 pub mod Reasons
@@ -12,4 +14,7 @@ pub mod Admitted
 pub mod Choices
 pub mod Appends
 pub mod Calls
+pub mod Attaching
+pub mod Leaving
+pub mod Polling
 pub mod Laws

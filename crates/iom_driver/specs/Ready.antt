@@ -3,14 +3,16 @@ use Rattle.std.specs.Prelude.{◌≡◌, ℕ, ◌*◌, true, List, length}
 use Rattle.iom_base.specs.Sizes.{page_size}
 use Rattle.iom_registers.specs.declared.registers.Registers.{Registers}
 use Rattle.iom_registers.specs.Queues.{command_base, command_entries, is_command_queue_on}
+use Rattle.iom_driver.specs.Directory.{DirectoryStands, NamesDirectory}
 use Rattle.iom_driver.specs.Layout.{command_frame, queue_entries}
 use Rattle.iom_driver.specs.State.{DriverState}
 use Rattle.iom_driver.specs.Tables.{HaveTables}
 
--- memory has a frame for each mark, and the tables of each attached device stand in it
+-- memory has a frame for each mark; the tables of each attached or leaving device stand in it, and once the driver was started its directory
 pub record TablesStand (d : DriverState) (memory : List (List ℕ)) : Type 0 where
   pub size : length memory ≡ length d.marks
   pub tables : HaveTables memory d.marks d.ledger d.devices
+  pub directory : d.started ≡ true → DirectoryStands memory d.marks d.devices d.levels
 
 -- the command queue is on, and its ring fills the last frame of memory
 pub record IsRing (frames : ℕ) (r : Registers) : Type 0 where
@@ -18,7 +20,8 @@ pub record IsRing (frames : ℕ) (r : Registers) : Type 0 where
   pub base : command_base r ≡ page_size * command_frame frames
   pub entries : command_entries r ≡ queue_entries
 
--- the tables stand in memory, and once the driver was started the registers name its ring
+-- the tables stand in memory, and once the driver was started the registers name its ring and its directory
 pub record IsReady (d : DriverState) (memory : List (List ℕ)) (r : Registers) : Type 0 where
   pub stand : TablesStand d memory
   pub ring : d.started ≡ true → IsRing (length memory) r
+  pub directory : d.started ≡ true → NamesDirectory (length memory) d.levels r

@@ -1,12 +1,20 @@
--- That a driver is ready is a fact: it has one proof at most.
-use Rattle.std.specs.Prelude.{ℕ, List}
+-- That a driver is sound, or ready, is a fact: it has one proof at most.
+use Rattle.std.specs.Prelude.{ℕ, Bool, Option, List, [], ◌∷◌, Result, Ok, Err}
 use Rattle.std.specs.Coded.{Unit-prop}
 use Rattle.std.proofs.Props.{props}
+use Rattle.iom_base.specs.declared.cause.Cause.{Cause}
+use Rattle.iom_base.specs.declared.owner.Owner.{Owner}
+use Rattle.iom_device_dir.specs.declared.context.Context.{Context}
+use Rattle.iom_directory.specs.Pages.{EndsLawfully}
+use Rattle.iom_ledger.specs.declared.ledger.Ledger.{Ledger}
 use Rattle.iom_page_table.specs.Trees.{IsUpper, IsLowest}
 use Rattle.iom_registers.specs.declared.registers.Registers.{Registers}
 use Rattle.iom_stage_walk.specs.declared.entry.Entry.{Entry}
 use Rattle.iom_stage_walk.specs.declared.entry.Entry.TheVariants.{Outside, Invalid, Pointer, Leaf}
+use Rattle.iom_driver.specs.declared.device.Device.{Device}
+use Rattle.iom_driver.specs.Devices.{HaveOwnIds}
 use Rattle.iom_driver.specs.Ready.{TablesStand, IsReady}
+use Rattle.iom_driver.specs.Sound.{RiseBetween, IsSound}
 use Rattle.iom_driver.specs.State.{DriverState}
 
 pub upper_prop : (e : Entry) → IsProp (IsUpper e)
@@ -21,8 +29,24 @@ lowest_prop Invalid = Unit-prop
 lowest_prop (Pointer next) = hlevel props
 lowest_prop (Leaf base rights) = Unit-prop
 
+pub ends_prop : (found : Result Context Cause) → IsProp (EndsLawfully found)
+ends_prop (Ok context) = Unit-prop
+ends_prop (Err cause) = hlevel props
+
+pub rise_prop : (first last : ℕ) (tickets : List ℕ) → IsProp (RiseBetween first last tickets)
+rise_prop first last [] = hlevel props
+rise_prop first last (ticket ∷ tickets) = let rest = rise_prop ticket last tickets in hlevel (props, rest)
+
+pub own_ids_prop : (devices : List Device) → IsProp (HaveOwnIds devices)
+own_ids_prop [] = hlevel props
+own_ids_prop (device ∷ others) = let rest = own_ids_prop others in hlevel (props, rest)
+
+pub sound_prop : (ledger : Ledger) (marks : List (Option Owner)) (devices : List Device) (frames levels : ℕ) (started : Bool) (given confirmed : ℕ)
+    → IsProp (IsSound ledger marks devices frames levels started given confirmed)
+sound_prop ledger marks devices frames levels started given confirmed = hlevel (props, rise_prop, own_ids_prop)
+
 pub stand_prop : (d : DriverState) (memory : List (List ℕ)) → IsProp (TablesStand d memory)
-stand_prop d memory = hlevel (props, upper_prop, lowest_prop)
+stand_prop d memory = hlevel (props, upper_prop, lowest_prop, ends_prop)
 
 pub ready_prop : (d : DriverState) (memory : List (List ℕ)) (r : Registers) → IsProp (IsReady d memory r)
-ready_prop d memory r = hlevel (props, upper_prop, lowest_prop)
+ready_prop d memory r = hlevel (props, upper_prop, lowest_prop, ends_prop)

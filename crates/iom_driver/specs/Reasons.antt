@@ -1,15 +1,16 @@
 -- Why a call is refused: its reasons, in the order in which it tests them.
-use Rattle.std.specs.Prelude.{ℕ, ◌+◌, ◌-◌, Bool, not, ◌||◌, nat_le, nat_lt, List, [], ◌∷◌, length, is_some, is_none}
+use Rattle.std.specs.Prelude.{ℕ, ◌+◌, ◌-◌, Bool, not, ◌||◌, nat_le, nat_lt, List, [], ◌∷◌, length, is_some, is_none, IsSome, ◌⊎◌}
 use Rattle.iom_base.specs.Sizes.{page_limit}
 use Rattle.iom_command_queue.specs.Waiting.{how_many}
+use Rattle.iom_ledger.specs.declared.ledger.Ledger.{Ledger}
 use Rattle.iom_ledger.specs.declared.refusal.Refusal.{Refusal}
-use Rattle.iom_ledger.specs.declared.refusal.Refusal.TheVariants.{NoSuchDevice, AlreadyAttached, NotAttached, FrameOutOfRange, FrameReserved, IovaOutOfRange, IovaBusy, NotGranted, QueueFull, TooManyPending, NumbersUsedUp, IdTooWide, TooManyDevices, NotStarted, AlreadyPlugged}
+use Rattle.iom_ledger.specs.declared.refusal.Refusal.TheVariants.{NoSuchDevice, AlreadyAttached, NotAttached, FrameOutOfRange, FrameReserved, IovaOutOfRange, IovaBusy, NotGranted, QueueFull, TooManyPending, NumbersUsedUp, StillGranted, IdTooWide, TooManyDevices, NotStarted, AlreadyPlugged}
 use Rattle.iom_ledger.specs.Pending.{pending_limit}
 use Rattle.iom_ledger.specs.Shown.{held_in, lingering_in}
 use Rattle.iom_registers.specs.declared.registers.Registers.{Registers}
 use Rattle.iom_registers.specs.Queues.{command_entries}
 use Rattle.iom_table_frames.specs.Marks.{is_marked}
-use Rattle.iom_driver.specs.Devices.{is_plugged, stage_of}
+use Rattle.iom_driver.specs.Devices.{is_plugged, stage_of, owned_stage_of}
 use Rattle.iom_driver.specs.Layout.{id_limit}
 use Rattle.iom_driver.specs.State.{DriverState}
 
@@ -21,25 +22,29 @@ is_busy d id page = is_some (held_in d.ledger id page) || is_some (lingering_in 
 abbrev pub lacks_two_places : Registers → Bool
 lacks_two_places r = nat_lt (command_entries r) (how_many r + 3)
 
+-- whether fewer than three are
+abbrev pub lacks_three_places : Registers → Bool
+lacks_three_places r = nat_lt (command_entries r) (how_many r + 4)
+
 -- a device is plugged in
-abbrev pub plug_reasons : DriverState → ℕ → List (Bool × Refusal)
-plug_reasons d id =
+abbrev pub why_not_plug : DriverState → ℕ → List (Bool × Refusal)
+why_not_plug d id =
     (is_plugged d.devices id, AlreadyPlugged)
     ∷ (nat_le 16 (length d.devices), TooManyDevices)
     ∷ []
 
 -- a device is attached
-abbrev pub attach_reasons : DriverState → ℕ → List (Bool × Refusal)
-attach_reasons d id =
+abbrev pub why_not_attach : DriverState → ℕ → List (Bool × Refusal)
+why_not_attach d id =
     (not d.started, NotStarted)
     ∷ (not (is_plugged d.devices id), NoSuchDevice)
-    ∷ (is_some (stage_of d.devices id), AlreadyAttached)
+    ∷ (is_some (owned_stage_of d.devices id), AlreadyAttached)
     ∷ (nat_le (id_limit d.levels) id, IdTooWide)
     ∷ []
 
 -- the driver isn't started, or the device isn't there, or isn't attached
-abbrev pub attachment_reasons : DriverState → ℕ → List (Bool × Refusal) → List (Bool × Refusal)
-attachment_reasons d id later =
+abbrev pub why_not_attached : DriverState → ℕ → List (Bool × Refusal) → List (Bool × Refusal)
+why_not_attached d id later =
     (not d.started, NotStarted)
     ∷ (not (is_plugged d.devices id), NoSuchDevice)
     ∷ (is_none (stage_of d.devices id), NotAttached)
@@ -54,8 +59,8 @@ granting_reasons d id page frame =
     ∷ (is_busy d id page, IovaBusy)
     ∷ []
 
-abbrev pub grant_reasons : DriverState → ℕ → ℕ → ℕ → List (Bool × Refusal)
-grant_reasons d id page frame = attachment_reasons d id (granting_reasons d id page frame)
+abbrev pub why_not_grant : DriverState → ℕ → ℕ → ℕ → List (Bool × Refusal)
+why_not_grant d id page frame = why_not_attached d id (granting_reasons d id page frame)
 
 -- and: a page is released
 abbrev pub releasing_reasons : DriverState → Registers → ℕ → ℕ → List (Bool × Refusal)
@@ -66,9 +71,25 @@ releasing_reasons d r id page =
     ∷ (nat_le 4294967295 d.given, NumbersUsedUp)
     ∷ []
 
-abbrev pub release_reasons : DriverState → Registers → ℕ → ℕ → List (Bool × Refusal)
-release_reasons d r id page = attachment_reasons d id (releasing_reasons d r id page)
+abbrev pub why_not_release : DriverState → Registers → ℕ → ℕ → List (Bool × Refusal)
+why_not_release d r id page = why_not_attached d id (releasing_reasons d r id page)
+
+-- a device is detached, where it holds or lingers on something or not: `granted` says which
+abbrev pub detaching_reasons : DriverState → Registers → Bool → List (Bool × Refusal)
+detaching_reasons d r granted =
+    (granted, StillGranted)
+    ∷ (nat_le pending_limit (d.given - d.confirmed), TooManyPending)
+    ∷ (lacks_three_places r, QueueFull)
+    ∷ (nat_le 4294967295 d.given, NumbersUsedUp)
+    ∷ []
+
+abbrev pub why_not_detach : DriverState → Registers → Bool → ℕ → List (Bool × Refusal)
+why_not_detach d r granted id = why_not_attached d id (detaching_reasons d r granted)
+
+-- the device holds something, or lingers on it
+abbrev pub HasGrants : Ledger → ℕ → Type 0
+HasGrants ledger id = (page : ℕ) × (IsSome (held_in ledger id page) ⊎ IsSome (lingering_in ledger id page))
 
 -- the completion word is polled
-abbrev pub poll_reasons : DriverState → List (Bool × Refusal)
-poll_reasons d = (not d.started, NotStarted) ∷ []
+abbrev pub why_not_poll : DriverState → List (Bool × Refusal)
+why_not_poll d = (not d.started, NotStarted) ∷ []

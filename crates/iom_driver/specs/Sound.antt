@@ -1,5 +1,5 @@
 -- What stays true of a driver by itself, whatever its calls and whatever happens to memory and registers.
-use Rattle.std.specs.Prelude.{◌≡◌, ℕ, zero, suc, ◌+◌, ◌-◌, ◌<◌, ◌≤◌, Bool, false, List, [], ◌∷◌, length, Option, None, Some, slice_get}
+use Rattle.std.specs.Prelude.{◌≡◌, ℕ, ◌<◌, ⊤, ◌≤◌, Bool, false, List, [], ◌∷◌, length, Option, None, Some, slice_get}
 use Rattle.iom_base.specs.Sizes.{page_limit}
 use Rattle.iom_base.specs.declared.owner.Owner.{Owner}
 use Rattle.iom_base.specs.declared.rights.Rights.{Rights}
@@ -8,8 +8,9 @@ use Rattle.iom_ledger.specs.Shown.{held_in, lingering_in, pending_in}
 use Rattle.iom_phys_mem.specs.Sizes.{IsMemorySize}
 use Rattle.iom_driver.specs.declared.device.Device.{Device}
 use Rattle.iom_driver.specs.declared.device.FirstStage.{FirstStage}
-use Rattle.iom_driver.specs.Devices.{stage_of}
-use Rattle.iom_driver.specs.Layout.{AreFixed, IsLevels}
+use Rattle.iom_driver.specs.declared.device.Attachment.TheVariants.{Detached, Leaving}
+use Rattle.iom_driver.specs.Devices.{attachment_of, stage_of, owned_stage_of, HaveOwnIds}
+use Rattle.iom_driver.specs.Layout.{AreFixed, IsLevels, id_limit}
 
 -- a pair that is granted at a page: the page is one that tables map, and the frame is of memory and isn't reserved
 pub record IsGrant (marks : List (Option Owner)) (page frame : ℕ) : Type 0 where
@@ -25,19 +26,29 @@ pub record AreGrants (marks : List (Option Owner)) (ledger : Ledger) : Type 0 wh
 abbrev pub HoldersAreAttached : Ledger → List Device → Type 0
 HoldersAreAttached ledger devices = (id page : ℕ) → stage_of devices id ≡ None → held_in ledger id page ≡ None
 
--- the address-space numbers of attached devices count from 1, there are no more than devices may be, and no two devices have the same
+-- the address-space numbers of attached and leaving devices count from 1, there are no more than devices may be, and no two devices have the same
 pub record HaveNumbers (devices : List Device) : Type 0 where
-  pub small : (id : ℕ) (stage : FirstStage) → stage_of devices id ≡ Some stage → (1 ≤ stage.number) × (stage.number ≤ 17)
-  pub own : (one other : ℕ) (a b : FirstStage) → stage_of devices one ≡ Some a → stage_of devices other ≡ Some b → a.number ≡ b.number → one ≡ other
+  pub small : (id : ℕ) (stage : FirstStage) → owned_stage_of devices id ≡ Some stage → (1 ≤ stage.number) × (stage.number ≤ 17)
+  pub own : (one other : ℕ) (a b : FirstStage) → owned_stage_of devices one ≡ Some a → owned_stage_of devices other ≡ Some b → a.number ≡ b.number → one ≡ other
 
--- the tickets after the first number, so many
-abbrev pub tickets_after : ℕ → ℕ → List ℕ
-tickets_after first zero = []
-tickets_after first (suc n) = (first + 1) ∷ tickets_after (first + 1) n
+-- the directory can name each attached or leaving device
+abbrev pub AreNamed : List Device → ℕ → Type 0
+AreNamed devices levels = (id : ℕ) (stage : FirstStage) → owned_stage_of devices id ≡ Some stage → id < id_limit levels
 
--- the tickets that wait are those after the last that was confirmed, up to the last that was given
+-- a device leaves under a ticket that was given and isn't confirmed
+abbrev pub LeaveUnderTickets : List Device → ℕ → ℕ → Type 0
+LeaveUnderTickets devices given confirmed =
+    (id ticket : ℕ) (stage : FirstStage) → attachment_of devices id ≡ Leaving ticket stage → (confirmed < ticket) × (ticket ≤ given)
+
+-- the tickets rise, from above the first number up to the last at most
+abbrev pub RiseBetween : ℕ → ℕ → List ℕ → Type 0
+RiseBetween first last [] = ⊤
+RiseBetween first last (ticket ∷ tickets) = (first < ticket) × (ticket ≤ last) × RiseBetween ticket last tickets
+
+-- The ledger's tickets that wait are some of those after the last that was confirmed, up to the last that was given: the ticket of a device that leaves
+-- isn't in the ledger.
 pub record AreTickets (ledger : Ledger) (given confirmed : ℕ) : Type 0 where
-  pub pending : pending_in ledger ≡ tickets_after confirmed (given - confirmed)
+  pub pending : RiseBetween confirmed given (pending_in ledger)
   pub ordered : confirmed ≤ given
 
 -- memory has so many frames, each of which has a mark, and the directory so many levels
@@ -52,6 +63,9 @@ pub record IsSound (ledger : Ledger) (marks : List (Option Owner)) (devices : Li
   pub grants : AreGrants marks ledger
   pub holders : HoldersAreAttached ledger devices
   pub numbers : HaveNumbers devices
+  pub named : AreNamed devices levels
   pub tickets : AreTickets ledger given confirmed
+  pub leaving : LeaveUnderTickets devices given confirmed
+  pub ids : HaveOwnIds devices
   pub few : length devices ≤ 16
-  pub idle : started ≡ false → (id : ℕ) → stage_of devices id ≡ None
+  pub idle : started ≡ false → (id : ℕ) → attachment_of devices id ≡ Detached

@@ -1,4 +1,4 @@
--- The page tables of attached devices.
+-- The page tables of attached and leaving devices.
 use Rattle.std.specs.Prelude.{◌≡◌, ℕ, ◌^◌, ◌<◌, List, Option, Some, option_map, slice_get}
 use Rattle.iom_base.specs.declared.owner.Owner.{Owner}
 use Rattle.iom_base.specs.declared.owner.Owner.TheVariants.{OneDevice}
@@ -11,7 +11,7 @@ use Rattle.iom_page_table.specs.Sv39.{IsRoot, HasTable}
 use Rattle.iom_stage_walk.specs.Paths.{first_levels}
 use Rattle.iom_driver.specs.declared.device.Device.{Device}
 use Rattle.iom_driver.specs.declared.device.FirstStage.{FirstStage}
-use Rattle.iom_driver.specs.Devices.{stage_of}
+use Rattle.iom_driver.specs.Devices.{owned_stage_of}
 
 -- the leaf that maps a page to what is held there
 abbrev pub leaf_for : Pair → PageLeaf
@@ -23,7 +23,7 @@ pub record AreTablesOf (memory : List (List ℕ)) (marks : List (Option Owner)) 
   pub own : (f : ℕ) → HasTable memory root f → slice_get marks f ≡ Some (Some (OneDevice id))
   pub leaves : (page : ℕ) → page < 2 ^ 52 → leaf_of first_levels memory root page ≡ option_map leaf_for (held_in ledger id page)
 
--- each attached device has such tables
+-- each attached or leaving device has such tables
 abbrev pub HaveTables : List (List ℕ) → List (Option Owner) → Ledger → List Device → Type 0
 HaveTables memory marks ledger devices =
-    (id : ℕ) (stage : FirstStage) → stage_of devices id ≡ Some stage → AreTablesOf memory marks ledger id stage.root
+    (id : ℕ) (stage : FirstStage) → owned_stage_of devices id ≡ Some stage → AreTablesOf memory marks ledger id stage.root

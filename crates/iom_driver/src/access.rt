@@ -4,7 +4,7 @@ ghost use Rattle.iom_command_queue.specs.Waiting.{how_many};
 ghost use Rattle.iom_registers.specs.Queues.{command_entries, command_status};
 ghost use Rattle.iom_registers.specs.Table.{value_of};
 ghost use Rattle.iom_driver.specs.Layout.{queue_entries};
-ghost use Rattle.iom_driver.specs.Reasons.{lacks_two_places};
+ghost use Rattle.iom_driver.specs.Reasons.{lacks_two_places, lacks_three_places};
 
 use crate::layout::QUEUE_ENTRIES;
 use bitflags::Flags;
@@ -44,6 +44,14 @@ pub(crate) fn lacks_two_places<M: Mmio>(io: &M) -> bool
     ensures { result ≡ lacks_two_places (M.registers io.now) }
 {
     how_many(io) + 3 > QUEUE_ENTRIES
+}
+
+/// Whether the ring has no room for the three commands of a detach.
+pub(crate) fn lacks_three_places<M: Mmio>(io: &M) -> bool
+    requires { command_entries (M.registers io.now) ≡ queue_entries }
+    ensures { result ≡ lacks_three_places (M.registers io.now) }
+{
+    how_many(io) + 4 > QUEUE_ENTRIES
 }
 
 /// Whether a command took too long.

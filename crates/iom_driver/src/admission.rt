@@ -1,16 +1,16 @@
 // Whether a call is refused, and why.
-ghost use Rattle.std.specs.Prelude.{◌≡◌, ◌^◌, ◌<◌, ℕ, Bool, List, IfOk, IfErr, Some, None, true, false};
+ghost use Rattle.std.specs.Prelude.{◌≡◌, ◌^◌, ◌<◌, ◌↔◌, ℕ, Bool, IsTrue, List, IfOk, IfErr, Some, None, true, false};
 ghost use Rattle.iom_base.specs.Sizes.{page_limit};
 ghost use Rattle.iom_ledger.specs.declared.refusal.Refusal.{Refusal};
 ghost use Rattle.iom_ledger.specs.Refusals.{first_that_applies, NoneApplies};
 ghost use Rattle.iom_registers.specs.Queues.{command_entries};
-ghost use Rattle.iom_driver.specs.Admitted.{MayBeGranted, MayBeReleased};
+ghost use Rattle.iom_driver.specs.Admitted.{MayBeGranted, MayBeReleased, MayBeDetached};
 ghost use Rattle.iom_driver.specs.Devices.{device_of, stage_of};
 ghost use Rattle.iom_driver.specs.Layout.{queue_entries};
-ghost use Rattle.iom_driver.specs.Reasons.{attachment_reasons, grant_reasons, release_reasons};
+ghost use Rattle.iom_driver.specs.Reasons.{why_not_attached, why_not_grant, why_not_release, why_not_detach, HasGrants};
 ghost use Rattle.iom_driver.specs.Seen.{state_of};
 
-use crate::access::lacks_two_places;
+use crate::access::{lacks_three_places, lacks_two_places};
 use crate::device::FirstStage;
 use crate::driver::Driver;
 use iom_base::{DeviceId, PAGE_LIMIT};
@@ -23,9 +23,9 @@ impl Driver {
         ensures started { IfOk result (λ stage. self.now.started ≡ true) }
         ensures attached { IfOk result (λ stage. stage_of self.now.devices.items id ≡ Some stage) }
         ensures goes_on { IfOk result (λ stage. (later : List (Bool × Refusal))
-            → first_that_applies (attachment_reasons (state_of self.now) id later) ≡ first_that_applies later) }
+            → first_that_applies (why_not_attached (state_of self.now) id later) ≡ first_that_applies later) }
         ensures refused { IfErr result (λ why. (later : List (Bool × Refusal))
-            → first_that_applies (attachment_reasons (state_of self.now) id later) ≡ Some why) }
+            → first_that_applies (why_not_attached (state_of self.now) id later) ≡ Some why) }
     {
         if !self.started {
             return Err(Refusal::NotStarted);
@@ -33,7 +33,7 @@ impl Driver {
         let Some(device) = self.device_of(id) else {
             return Err(Refusal::NoSuchDevice);
         };
-        match device.stage {
+        match device.attachment.attached_stage() {
             None => Err(Refusal::NotAttached),
             Some(stage) => Ok(stage),
         }
@@ -46,10 +46,10 @@ impl Driver {
         page: u64,
         frame: u64,
     ) -> Result<FirstStage, Refusal>
-        ensures admitted { IfOk result (λ stage. NoneApplies (grant_reasons (state_of self.now) id page frame)) }
+        ensures admitted { IfOk result (λ stage. NoneApplies (why_not_grant (state_of self.now) id page frame)) }
         ensures may { IfOk result (λ stage. MayBeGranted (state_of self.now) id page frame stage) }
         ensures refused { IfErr result (λ why.
-            first_that_applies (grant_reasons (state_of self.now) id page frame) ≡ Some why) }
+            first_that_applies (why_not_grant (state_of self.now) id page frame) ≡ Some why) }
     {
         let stage = self.stage_of(id)?;
         if frame >= u64::from(self.frames) {
@@ -76,10 +76,10 @@ impl Driver {
     ) -> Result<FirstStage, Refusal>
         requires { self.now.started ≡ true → command_entries (M.registers io.now) ≡ queue_entries }
         ensures admitted { IfOk result (λ stage.
-            NoneApplies (release_reasons (state_of self.now) (M.registers io.now) id page)) }
+            NoneApplies (why_not_release (state_of self.now) (M.registers io.now) id page)) }
         ensures may { IfOk result (λ stage. MayBeReleased (state_of self.now) (M.registers io.now) id page stage) }
         ensures refused { IfErr result (λ why.
-            first_that_applies (release_reasons (state_of self.now) (M.registers io.now) id page) ≡ Some why) }
+            first_that_applies (why_not_release (state_of self.now) (M.registers io.now) id page) ≡ Some why) }
     {
         let stage = self.stage_of(id)?;
         if self.ledger.holds(id, page).is_none() {
@@ -89,6 +89,41 @@ impl Driver {
             return Err(Refusal::TooManyPending);
         }
         if lacks_two_places(io) {
+            return Err(Refusal::QueueFull);
+        }
+        if self.given == u32::MAX {
+            return Err(Refusal::NumbersUsedUp);
+        }
+        Ok(stage)
+    }
+
+    /// Whether the device holds something, or lingers on it.
+    fn has_grants(&self, id: DeviceId) -> bool
+        ensures { IsTrue result ↔ HasGrants self.now.ledger id }
+    {
+        if self.ledger.holds_anything(id) {
+            return true;
+        }
+        self.ledger.lingers_anything(id)
+    }
+
+    /// The first stage of the device, where it may be detached, or why it may not.
+    pub(crate) fn admit_detach<M: Mmio>(&self, io: &M, id: DeviceId) -> Result<FirstStage, Refusal>
+        requires { self.now.started ≡ true → command_entries (M.registers io.now) ≡ queue_entries }
+        ensures admitted { IfOk result (λ stage. (granted : Bool) → (IsTrue granted ↔ HasGrants self.now.ledger id)
+            → NoneApplies (why_not_detach (state_of self.now) (M.registers io.now) granted id)) }
+        ensures may { IfOk result (λ stage. MayBeDetached (state_of self.now) (M.registers io.now) id stage) }
+        ensures refused { IfErr result (λ why. (granted : Bool) → (IsTrue granted ↔ HasGrants self.now.ledger id)
+            → first_that_applies (why_not_detach (state_of self.now) (M.registers io.now) granted id) ≡ Some why) }
+    {
+        let stage = self.stage_of(id)?;
+        if self.has_grants(id) {
+            return Err(Refusal::StillGranted);
+        }
+        if self.given - self.confirmed >= MAX_PENDING as u32 {
+            return Err(Refusal::TooManyPending);
+        }
+        if lacks_three_places(io) {
             return Err(Refusal::QueueFull);
         }
         if self.given == u32::MAX {

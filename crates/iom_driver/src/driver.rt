@@ -1,3 +1,4 @@
+ghost use Rattle.iom_driver.specs.ReadyIsFact.{sound_prop};
 ghost use Rattle.iom_driver.specs.Sound.{IsSound};
 
 use crate::device::Device;
@@ -23,5 +24,5 @@ pub struct Driver {
     pub(crate) given: u32,
     /// The last ticket that was confirmed.
     pub(crate) confirmed: u32,
-    ghost sound: { IsSound ledger marks devices.items frames levels started given confirmed },
+    ghost sound: { IsSound ledger marks devices.items frames levels started given confirmed } by { sound_prop ledger marks devices.items frames levels started given confirmed },
 }

@@ -1,20 +1,20 @@
 // What the driver tells of itself.
-ghost use Rattle.std.specs.Prelude.{◌≡◌, ◌↔◌, ◌-◌, IsTrue, IfOk, MatchOption, option_map, nat_le, ℕ, List, length};
+ghost use Rattle.std.specs.Prelude.{◌≡◌, ◌↔◌, ◌-◌, IsTrue, IfOk, MatchOption, ℕ, List, length};
 ghost use Rattle.std.specs.Prelude.{IsErrOf};
 ghost use Rattle.iom_phys_mem.specs.Sizes.{IsMemorySize};
 ghost use Rattle.iom_phys_mem.specs.declared.memory.MemError.TheVariants.{BadSize};
 ghost use Rattle.iom_registers.specs.declared.registers.Registers.{Registers};
 ghost use Rattle.iom_table_frames.specs.Marks.{is_marked};
 ghost use Rattle.iom_driver.specs.Calls.{IsOpening, IsFreeFrame};
-ghost use Rattle.iom_driver.specs.Devices.{device_of, stage_of};
-ghost use Rattle.iom_driver.specs.Layout.{IsLevels, id_limit};
+ghost use Rattle.iom_driver.specs.Devices.{device_of, with_attachment};
+ghost use Rattle.iom_driver.specs.Layout.{IsLevels};
 ghost use Rattle.iom_driver.specs.Places.{IsPlaceOf};
 ghost use Rattle.iom_driver.specs.Ready.{IsReady};
 ghost use Rattle.iom_driver.specs.Seen.{state_of};
 
-use crate::device::Device;
+use crate::device::{Attachment, Device};
 use crate::driver::Driver;
-use crate::layout::{MAX_DEVICES, id_limit};
+use crate::layout::MAX_DEVICES;
 use iom_base::DeviceId;
 use iom_ledger::Ledger;
 use iom_phys_mem::{MAX_FRAMES, MIN_FRAMES, MemError};
@@ -57,6 +57,15 @@ pub(crate) fn place_of(devices: &[Device], id: DeviceId) -> Option<usize>
         }
     }
     None
+}
+
+/// The device with this id is attached so from now on.
+pub(crate) fn set_attachment(devices: &mut Vec<Device>, id: DeviceId, attachment: Attachment)
+    ensures { devices.new.items ≡ with_attachment devices.old.items id attachment }
+{
+    if let Some(place) = place_of(devices, id) {
+        devices[place].attachment = attachment;
+    }
 }
 
 impl Driver {
@@ -110,20 +119,5 @@ impl Driver {
         ensures { result ≡ (state_of self.now).given - (state_of self.now).confirmed }
     {
         (self.given - self.confirmed) as usize
-    }
-
-    /// Whether the device directory can't name the id, by its levels.
-    pub fn is_too_wide(&self, id: DeviceId) -> bool
-        ensures { result ≡ nat_le (id_limit (state_of self.now).levels) id }
-    {
-        id >= id_limit(self.levels)
-    }
-
-    /// The frame of the root of the device's tables. None exactly where no such device is attached.
-    pub fn root_of(&self, id: DeviceId) -> Option<u32>
-        ensures { result ≡ option_map (λ stage. stage.root) (stage_of (state_of self.now).devices id) }
-    {
-        let stage = self.device_of(id)?.stage?;
-        Some(stage.root)
     }
 }

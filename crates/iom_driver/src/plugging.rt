@@ -5,7 +5,7 @@ ghost use Rattle.iom_driver.specs.Calls.{AnswersPlug};
 ghost use Rattle.iom_driver.specs.Ready.{IsReady};
 ghost use Rattle.iom_driver.specs.Seen.{state_of};
 
-use crate::device::Device;
+use crate::device::{Attachment, Device};
 use crate::driver::Driver;
 use crate::layout::MAX_DEVICES;
 use iom_base::DeviceId;
@@ -25,7 +25,8 @@ impl Driver {
         if self.devices.len() >= MAX_DEVICES {
             return Err(Refusal::TooManyDevices);
         }
-        match self.devices.push(Device { id, stage: None }) {
+        let attachment = Attachment::Detached;
+        match self.devices.push(Device { id, attachment }) {
             Ok(()) => Ok(()),
             Err(_) => Err(Refusal::Memory),
         }

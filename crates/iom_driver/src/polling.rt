@@ -1,22 +1,27 @@
 // What the driver learns of its fences.
-ghost use Rattle.std.specs.Prelude.{◌≡◌, ◌+◌, ◌-◌, ◌≤◌, ◌<◌, ◌*◌, min, max, Some, length};
+ghost use Rattle.std.specs.Prelude.{◌≡◌, ◌+◌, ◌-◌, ◌≤◌, ◌<◌, ◌*◌, min, Some, length, map};
 ghost use Rattle.iom_base.specs.Sizes.{page_size};
 ghost use Rattle.iom_ledger.specs.Confirmations.{confirmed_from, ConfirmsFrom};
 ghost use Rattle.iom_ledger.specs.History.{History};
 ghost use Rattle.iom_ledger.specs.Shown.{Agrees};
 ghost use Rattle.iom_phys_mem.specs.Words.{word_at};
-ghost use Rattle.iom_driver.specs.Calls.{AnswersPoll};
+ghost use Rattle.iom_driver.specs.Confirmed.{once_confirmed, given_back, ClearsGone};
+ghost use Rattle.iom_driver.specs.Devices.{HaveOwnIds};
+ghost use Rattle.iom_driver.specs.Polling.{AnswersPoll};
 ghost use Rattle.iom_driver.specs.Ready.{IsReady};
 ghost use Rattle.iom_driver.specs.Seen.{state_of};
 
 use crate::access::has_timed_out;
 use crate::answers::Polled;
+use crate::device::{Attachment, Device};
 use crate::driver::Driver;
 use crate::layout::completion_frame;
 use byteorder::{ByteOrder, LittleEndian};
+use iom_base::Owner;
 use iom_ledger::{Ledger, Refusal};
 use iom_phys_mem::Memory;
 use iom_registers::Mmio;
+use iom_table_frames::TableFrames;
 
 /// The number in the first four bytes of the frame.
 fn first_word(memory: &Memory, frame: u32) -> u32
@@ -56,24 +61,52 @@ fn last_done(word: u32, confirmed: u32, given: u32) -> u32
     }
 }
 
+/// Each device that leaves under a ticket up to this one is attached to nothing from now on; its frames have
+/// no owner any more, and are zero.
+fn let_go(devices: &mut Vec<Device>, marks: &mut TableFrames, memory: &mut Memory, done: u32)
+    requires ids { HaveOwnIds devices.old.items }
+    requires size { length marks.old ≡ length memory.old }
+    ensures devices { devices.new.items ≡ map (once_confirmed done) devices.old.items }
+    ensures marks { marks.new ≡ map (given_back done devices.old.items) marks.old }
+    ensures memory { ClearsGone done devices.old.items marks.old memory.old memory.new }
+{
+    for place in 0..devices.len() {
+        let device = devices[place];
+        if device.attachment.has_left(done) {
+            marks.give_back(memory, Owner::OneDevice(device.id));
+            devices[place].attachment = Attachment::Detached;
+        }
+    }
+}
+
 impl Driver {
     /// Reads the completion word, confirms each ticket that isn't above it, from the oldest on, and says
-    /// whether the IOMMU gave a command up. `NotStarted` is its one refusal. Takes no memory.
-    pub fn poll<M: Mmio>(&mut self, memory: &Memory, io: &M) -> Result<Polled, Refusal>
-        requires ready { IsReady (state_of self.old) memory.now (M.registers io.now) }
-        ensures effect { AnswersPoll (M.registers io.now) (state_of self.old) memory.now result (state_of self.new) }
-        ensures ready { IsReady (state_of self.new) memory.now (M.registers io.now) }
+    /// whether the IOMMU gave a command up. A device that leaves under one of them is attached to nothing from
+    /// then on, and its frames and its number are given back: devices are looked at only where something is
+    /// confirmed. `NotStarted` is its one refusal, and then nothing changes. Takes no memory.
+    pub fn poll<M: Mmio>(&mut self, memory: &mut Memory, io: &M) -> Result<Polled, Refusal>
+        requires ready { IsReady (state_of self.old) memory.old (M.registers io.now) }
+        ensures effect { AnswersPoll (M.registers io.now) (state_of self.old) memory.old result (state_of self.new) memory.new }
+        ensures ready { IsReady (state_of self.new) memory.new (M.registers io.now) }
     {
         if !self.started {
             return Err(Refusal::NotStarted);
         }
+        let timed_out = has_timed_out(io);
         let word = first_word(memory, completion_frame(self.frames));
         let done = last_done(word, self.confirmed, self.given);
+        if done == self.confirmed {
+            return Ok(Polled {
+                first: 0,
+                count: 0,
+                timed_out,
+            });
+        }
+        let first = self.confirmed + 1;
         let count = done - self.confirmed;
-        let first = if count == 0 { 0 } else { self.confirmed + 1 };
         confirm_after(&mut self.ledger, self.confirmed, done);
+        let_go(&mut self.devices, &mut self.marks, memory, done);
         self.confirmed = done;
-        let timed_out = has_timed_out(io);
         Ok(Polled {
             first,
             count,

@@ -12,7 +12,7 @@ use std::marker::Model;
 /// How many frames the memory of a bench has.
 const FRAMES: u32 = 64;
 
-/// Memory of 64 frames, registers that remember their writes, and a driver that is ready for them.
+/// Memory, registers that remember their writes, and a driver that is ready for them.
 #[derive(Drop)]
 pub(crate) struct Bench {
     memory: Memory,
@@ -41,16 +41,21 @@ impl Bench {
         Ok(Bench { memory, io, driver })
     }
 
-    /// Started.
-    pub(crate) fn new(alloc: Global) -> Result<Bench, MemError> {
-        let mut memory = Memory::new(alloc, FRAMES)?;
-        let mut driver = Driver::new(alloc, FRAMES, 1)?;
+    /// Started, with so many frames and levels of the directory.
+    pub(crate) fn of_size(alloc: Global, frames: u32, levels: u8) -> Result<Bench, MemError> {
+        let mut memory = Memory::new(alloc, frames)?;
+        let mut driver = Driver::new(alloc, frames, levels)?;
         let mut io = Recording::new();
         driver.start(&mut memory, &mut io);
         Ok(Bench { memory, io, driver })
     }
 
-    /// Started, and the device is attached: `root_of` shows it.
+    /// Started, with 64 frames and a directory of one level.
+    pub(crate) fn new(alloc: Global) -> Result<Bench, MemError> {
+        Bench::of_size(alloc, FRAMES, 1)
+    }
+
+    /// Started so, and the device is attached.
     pub(crate) fn with_device(alloc: Global, id: DeviceId) -> Result<Bench, MemError> {
         let mut bench = Bench::new(alloc)?;
         let _ = bench.plug(id);
@@ -76,8 +81,12 @@ impl Bench {
             .release(&mut self.memory, &mut self.io, id, page)
     }
 
+    pub(crate) fn detach(&mut self, id: DeviceId) -> Result<Ticket, Refusal> {
+        self.driver.detach(&mut self.memory, &mut self.io, id)
+    }
+
     pub(crate) fn poll(&mut self) -> Result<Polled, Refusal> {
-        self.driver.poll(&self.memory, &self.io)
+        self.driver.poll(&mut self.memory, &self.io)
     }
 
     pub(crate) fn is_free(&self, frame: u32) -> bool {
@@ -90,10 +99,6 @@ impl Bench {
 
     pub(crate) fn pending(&self) -> usize {
         self.driver.pending()
-    }
-
-    pub(crate) fn root_of(&self, id: DeviceId) -> Option<u32> {
-        self.driver.root_of(id)
     }
 
     /// The eight bytes at the address.

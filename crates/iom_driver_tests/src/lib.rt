@@ -1,5 +1,5 @@
-//! Tests of the driver: the bytes of its commands and tables against the standard's figures, the order of
-//! its register writes, its refusals, and what a poll confirms.
+//! Tests of the driver: the bytes of its commands, tables and contexts against the standard's figures, the
+//! order of its register writes, its refusals, and what a poll confirms and gives back.
 //!
 //! The driver stands on memory and on registers with no IOMMU around them: a test takes its place, and
 //! writes what a fence would. The crate has tests alone, and nothing stands on it, since a crate with tests
@@ -7,7 +7,11 @@
 #![tactic(auto)]
 
 #[cfg(test)]
+mod attaches;
+#[cfg(test)]
 mod bench;
+#[cfg(test)]
+mod detaches;
 #[cfg(test)]
 mod expect;
 #[cfg(test)]

@@ -13,6 +13,7 @@ fn before_the_start(rt: HostRuntime) -> Result<(), Fail> {
     expect(&rt, bench.attach(1) == Err(Refusal::NotStarted));
     expect(&rt, bench.grant(1, 3, 5) == Err(Refusal::NotStarted));
     expect(&rt, bench.release(1, 3) == Err(Refusal::NotStarted));
+    expect(&rt, bench.detach(1) == Err(Refusal::NotStarted));
     expect(&rt, bench.poll() == Err(Refusal::NotStarted));
     Ok(())
 }

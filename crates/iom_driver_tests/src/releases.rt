@@ -10,7 +10,7 @@ use std::test::Fail;
 #[test]
 fn a_grant_writes_tables(rt: HostRuntime) -> Result<(), Fail> {
     let mut bench = Bench::with_device(rt.alloc(), 1)?;
-    expect(&rt, bench.root_of(1) == Some(59));
+    expect(&rt, bench.is_reserved(59));
     expect(&rt, bench.grant(1, 3, 5) == Ok(()));
     expect(&rt, bench.word(0x3b000) == Some(58 << 10 | 1));
     expect(&rt, bench.word(0x3a000) == Some(57 << 10 | 1));

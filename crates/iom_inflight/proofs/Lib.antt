@@ -1,1 +1,7 @@
-pub mod FlightLemmas
+pub mod Accesses
+pub mod RowCalls
+pub mod Rows
+pub mod Kept
+pub mod InMemory
+pub mod ByPlace
+pub mod Added

@@ -1,11 +1,11 @@
--- For the invariant of `InFlight` alone: how the accesses stand in two rings, what describes them in one, the bytes of the writes in the other.
-use Rattle.std.specs.Prelude.{◌≡◌, ℕ, ◌+◌, ◌*◌, ◌≤◌, List, [], ◌∷◌, length, take, drop}
-use Rattle.iom_base.specs.declared.access.AcceptedAccess.{AcceptedAccess}
+-- For the invariant of `Row` alone: how the accesses of a device stand in two rings, what describes them in one, the bytes of the writes in the other.
+use Rattle.std.specs.Prelude.{◌≡◌, ℕ, ◌+◌, ◌*◌, ◌≤◌, nat_le, Bool, ◌&&◌, List, [], ◌∷◌, length, take, drop}
 use Rattle.iom_base.specs.declared.access.AccessKind.{AccessKind}
 use Rattle.iom_base.specs.declared.access.AccessKind.TheVariants.{Read, Write}
 use Rattle.iom_base.specs.Sizes.{page_size, in_flight_limit}
 use Rattle.circular_buffer.specs.Buffer.{Buffer}
-use Rattle.iom_inflight.specs.declared.in_flight.AccessHeader.{AccessHeader}
+use Rattle.iom_inflight.specs.declared.header.AccessHeader.{AccessHeader}
+use Rattle.iom_inflight.specs.Flights.{NumberedAccess, is_same_kind}
 
 -- how many bytes an access keeps: those of a write
 abbrev pub kept_bytes : AccessKind → ℕ → ℕ
@@ -13,14 +13,17 @@ kept_bytes Read len = 0
 kept_bytes Write len = len
 
 -- an access with the bytes that it keeps
-abbrev pub accepted_with : AccessHeader → List ℕ → AcceptedAccess
-accepted_with a bytes = record { access = record { address = a.address; len = a.len; kind = a.kind; bytes = bytes }; frame = a.frame }
+abbrev pub access_with : AccessHeader → List ℕ → NumberedAccess
+access_with a bytes = record {
+  accepted = record { access = record { address = a.address; len = a.len; kind = a.kind; bytes = bytes }; frame = a.frame };
+  number = a.number;
+}
 
 -- the accesses, each with its bytes off the front
-abbrev pub flights_of : List AccessHeader → List ℕ → List AcceptedAccess
-flights_of [] bytes = []
-flights_of (a ∷ later) bytes =
-    accepted_with a (take (kept_bytes a.kind a.len) bytes) ∷ flights_of later (drop (kept_bytes a.kind a.len) bytes)
+abbrev pub accesses_of : List AccessHeader → List ℕ → List NumberedAccess
+accesses_of [] bytes = []
+accesses_of (a ∷ later) bytes =
+    access_with a (take (kept_bytes a.kind a.len) bytes) ∷ accesses_of later (drop (kept_bytes a.kind a.len) bytes)
 
 -- how many bytes all of them keep
 abbrev pub bytes_kept : List AccessHeader → ℕ
@@ -31,6 +34,10 @@ bytes_kept (a ∷ later) = kept_bytes a.kind a.len + bytes_kept later
 abbrev pub AreShort : List AccessHeader → Type 0
 AreShort [] = Unit {0}
 AreShort (a ∷ later) = (kept_bytes a.kind a.len ≤ page_size) × AreShort later
+
+-- what `is_awaited` says, without the bytes
+abbrev pub is_header_awaited : ℕ → AccessKind → AccessHeader → Bool
+is_header_awaited before kind a = is_same_kind a.kind kind && nat_le a.number before
 
 -- the rings have their room, and the bytes are those of the writes
 pub record AreRings (waiting : Buffer AccessHeader) (bytes : Buffer ℕ) : Type 0 where

@@ -1,123 +1,263 @@
-ghost use Rattle.std.specs.Prelude.{◌≡◌, ◌↔◌, ◌<◌, ◌≤◌, [], ◌∷◌, ◌++◌, length, drop, IfOk, Some, None, slice_get, option_map, OnSome, IsSome, IfNone};
+ghost use Rattle.std.specs.Prelude.{◌≡◌, ◌↔◌, ◌<◌, ◌≤◌, ◌+◌, ◌^◌, length, IfOk, MatchOption, None, is_some, nat_le};
 ghost use Rattle.iom_base.specs.Accesses.{read_of, write_of};
-ghost use Rattle.iom_base.specs.Sizes.{page_size, in_flight_limit};
-ghost use Rattle.iom_inflight.specs.Oldest.{header_of, OldestIsRead, OldestWrites};
+ghost use Rattle.iom_base.specs.Sizes.{in_flight_limit, device_limit};
+ghost use Rattle.iom_base.specs.Spans.{FitsInPage};
+ghost use Rattle.iom_inflight.specs.Flights.{Flights, no_flights, row_of, IsAdded, count_in, oldest_in, some_in_flight, are_drained};
+ghost use Rattle.iom_inflight.specs.Calls.{Adds, Accepts, Makes, IsReady};
+ghost use Rattle.iom_inflight.specs.Rows.{StandsAt};
+ghost use Rattle.iom_inflight.specs.Sound.{AreFlights};
 
-use circular_buffer::HeapCircularBuffer;
-use iom_base::{AccessKind, FRAME_SIZE, MAX_IN_FLIGHT};
+use crate::made::MadeAt;
+use crate::row::Row;
+use iom_base::{AccessKind, DeviceId, MAX_DEVICES, MAX_IN_FLIGHT};
+use iom_phys_mem::Memory;
 use std::alloc::{AllocError, Global};
 use std::marker::Model;
 
-/// What [`InFlight::oldest`] tells of an [`AcceptedAccess`](iom_base::AcceptedAccess): all of it but the
-/// bytes of a write, so that it is small and can be copied.
-#[derive(Clone, Copy, PartialEq, Eq, Debug)]
-pub struct AccessHeader {
-    /// The address that the device asked for.
-    pub address: u64,
-    /// How many bytes, at most 4,096.
-    pub len: u16,
-    pub kind: AccessKind,
-    /// The frame that it was translated to.
-    pub frame: u32,
-}
-
-/// The accesses of one device in flight, the oldest first.
+/// The accesses of all devices in flight.
 #[derive(Drop)]
 pub struct InFlight {
-    waiting: HeapCircularBuffer<AccessHeader>,
-    /// The bytes of the writes among them, one after another.
-    bytes: HeapCircularBuffer<u8>,
+    /// The rows of the devices that were added.
+    rows: Vec<Row>,
+    /// The rows of those that may be added yet.
+    spare: Vec<Row>,
+    /// How many accesses were ever accepted.
+    so_far: u64,
 }
 
 impl Model for InFlight {
-    ghost use Rattle.std.specs.Prelude.{List};
-    ghost use Rattle.iom_base.specs.declared.access.AcceptedAccess.{AcceptedAccess};
+    ghost use Rattle.iom_inflight.specs.Flights.{Flights};
 
-    ghost Value = { List AcceptedAccess };
+    ghost Value = { Flights };
 
-    ghost use Rattle.iom_inflight.specs.Rings.{flights_of, AreRings};
+    ghost use Rattle.std.specs.Prelude.{◌≡◌, ◌≤◌, ◌+◌, length, vec_capacity};
+    ghost use Rattle.iom_base.specs.Sizes.{device_limit};
+    ghost use Rattle.iom_inflight.specs.Sound.{AreFlights};
 
-    ghost view = { λ f. flights_of f.waiting.items f.bytes.items };
+    ghost view = { λ f. record { rows = f.rows.items; so_far = f.so_far } };
 
-    ghost invariant = { λ f. AreRings f.waiting f.bytes };
+    ghost invariant = { λ f. (device_limit ≤ vec_capacity f.rows) × (length f.rows.items + length f.spare.items ≡ device_limit)
+        × AreFlights (record { rows = f.rows.items; so_far = f.so_far }) };
+}
+
+/// The place of the device's row, where it has one.
+fn find(rows: &[Row], device: DeviceId) -> Option<usize>
+    ensures { MatchOption result (row_of rows.now device ≡ None) (StandsAt rows.now device) }
+{
+    for place in 0..rows.len() {
+        if rows[place].device() == device {
+            return Some(place);
+        }
+    }
+    None
+}
+
+/// Rows for 16 devices.
+fn spare_rows(alloc: Global) -> Result<Vec<Row>, AllocError>
+    ensures { IfOk result (λ rows. length rows.items ≡ device_limit) }
+{
+    let mut rows = Vec::with_capacity(alloc, MAX_DEVICES)?;
+    for made in 0..MAX_DEVICES {
+        rows.push(Row::new(alloc)?)?;
+    }
+    Ok(rows)
 }
 
 impl InFlight {
-    /// None in flight, with room for eight.
+    /// No device, with room for 16 of them and eight accesses of each. Takes all its memory here.
     pub fn new(alloc: Global) -> Result<InFlight, AllocError>
-        ensures { IfOk result (λ flights. flights ≡ []) }
+        ensures { IfOk result (λ flights. flights ≡ no_flights) }
     {
-        let waiting = HeapCircularBuffer::with_capacity(alloc, MAX_IN_FLIGHT)?;
-        let bytes = HeapCircularBuffer::with_capacity(alloc, MAX_IN_FLIGHT * FRAME_SIZE)?;
-        Ok(InFlight { waiting, bytes })
+        Ok(InFlight {
+            rows: Vec::with_capacity(alloc, MAX_DEVICES)?,
+            spare: spare_rows(alloc)?,
+            so_far: 0,
+        })
     }
 
-    /// How many are in flight.
-    pub fn count(&self) -> usize
-        ensures count { result ≡ length self.now }
+    /// What holds of them, whatever calls were made. It does nothing.
+    pub fn facts(&self)
+        ensures { AreFlights self.now }
+    {
+        let _so_far = &self.so_far;
+    }
+
+    /// Adds the device, after all others. False exactly where it is there or 16 are, and then nothing
+    /// changes.
+    pub fn add(&mut self, device: DeviceId) -> bool
+        ensures { Adds self.old device result self.new }
+    {
+        if find(&self.rows, device).is_some() {
+            return false;
+        }
+        match self.spare.pop() {
+            Some(mut row) => {
+                row.start(device);
+                self.rows.push(row).unwrap();
+                true
+            }
+            None => false,
+        }
+    }
+
+    /// Whether the device was added.
+    pub fn is_added(&self, device: DeviceId) -> bool
+        ensures { result ≡ is_some (row_of self.now.rows device) }
+    {
+        find(&self.rows, device).is_some()
+    }
+
+    /// The place of the device's row, by which the calls below find it without a search.
+    pub fn place_of(&self, device: DeviceId) -> usize
+        requires { IsAdded self.now device }
+        ensures { StandsAt self.now.rows device result }
+    {
+        find(&self.rows, device).unwrap()
+    }
+
+    /// How many accesses of the device are in flight; 0 where it wasn't added.
+    pub fn count(&self, device: DeviceId) -> usize
+        ensures count { result ≡ count_in (row_of self.now.rows device) }
         ensures few { result ≤ in_flight_limit }
     {
-        self.waiting.len()
+        match find(&self.rows, device) {
+            Some(place) => self.rows[place].count(),
+            None => 0,
+        }
     }
 
-    /// The oldest, which is made next.
-    #[tactic(auto, using(crate::proofs::FlightLemmas::oldest_of))]
-    pub fn oldest(&self) -> Option<AccessHeader>
-        ensures { result ≡ option_map header_of (slice_get self.now 0) }
+    /// What [`make`](InFlight::make) would make; None where nothing of the device is in flight, or it wasn't
+    /// added.
+    pub fn oldest(&self, device: DeviceId) -> Option<MadeAt>
+        ensures { result ≡ oldest_in (row_of self.now.rows device) }
     {
-        self.waiting.front().copied()
+        let place = find(&self.rows, device)?;
+        self.rows[place].oldest()
     }
 
-    /// Accepts a read of so many bytes at the address, on the frame: it goes last. None exactly where eight
-    /// are in flight, and then nothing changes. Takes no memory.
-    pub fn accept_read(&mut self, address: u64, len: u16, frame: u32) -> Option<()>
-        ensures room { IsSome result ↔ (length self.old < in_flight_limit) }
-        ensures accepted { OnSome result (self.new ≡ self.old ++ record { access = read_of address len; frame = frame } ∷ []) }
-        ensures refused { IfNone result (self.new ≡ self.old) }
+    /// What holds whatever calls were made. It does nothing.
+    pub fn hold(&self)
+        ensures { AreFlights self.now }
     {
-        let access = AccessHeader {
-            address,
-            len,
-            kind: AccessKind::Read,
-            frame,
-        };
-        self.waiting.try_push_back(access).ok()
+        let _so_far = self.so_far;
     }
 
-    /// Accepts a write of the bytes at the address, on the frame: it goes last, with its bytes. None exactly
-    /// where eight are in flight, and then nothing changes. Takes no memory.
-    pub fn accept_write(&mut self, address: u64, bytes: &[u8], frame: u32) -> Option<()>
-        requires { length bytes.now ≤ page_size }
-        ensures room { IsSome result ↔ (length self.old < in_flight_limit) }
-        ensures accepted { OnSome result (self.new ≡ self.old ++ record { access = write_of address bytes.now; frame = frame } ∷ []) }
-        ensures refused { IfNone result (self.new ≡ self.old) }
+    /// How many accesses of all devices were ever accepted: the number of the last one.
+    pub fn so_far(&self) -> u64
+        ensures { result ≡ self.now.so_far }
     {
-        let access = AccessHeader {
-            address,
-            len: bytes.len() as u16,
-            kind: AccessKind::Write,
-            frame,
-        };
-        self.waiting.try_push_back(access).ok()?;
-        self.bytes.fill_from_slice(bytes);
-        Some(())
+        self.so_far
     }
 
-    /// The oldest is a read: it is made, and no more in flight.
-    pub fn take_read(&mut self)
-        requires { OldestIsRead self.old }
-        ensures { self.new ≡ drop 1 self.old }
+    /// Whether no access of the kind that was accepted up to this number is in flight.
+    pub fn drained(&self, before: u64, kind: AccessKind) -> bool
+        ensures { result ≡ are_drained self.now before kind }
     {
-        let _made = self.waiting.pop_front();
+        self.rows.iter().all(|row| row.is_drained(before, kind))
     }
 
-    /// The oldest is a write: its bytes come out, and it is no more in flight.
-    pub fn take_write(&mut self, target: &mut [u8])
-        requires write { OldestWrites self.old (length target.old) }
-        ensures bytes { option_map (λ f. f.access.bytes) (slice_get self.old 0) ≡ Some target.new }
-        ensures rest { self.new ≡ drop 1 self.old }
+    /// Whether any access is in flight.
+    pub fn is_any(&self) -> bool
+        ensures { result ≡ some_in_flight self.now }
     {
-        self.waiting.pop_front();
-        self.bytes.read_into(target);
+        self.rows.iter().any(|row| row.has_access())
+    }
+
+    /// Whether eight accesses of the device are in flight, whose row stands at this place.
+    pub fn is_full_at(&self, device: DeviceId, place: usize) -> bool
+        requires { StandsAt self.now.rows device place }
+        ensures { result ≡ nat_le in_flight_limit (count_in (row_of self.now.rows device)) }
+    {
+        self.rows[place].count() >= MAX_IN_FLIGHT
+    }
+
+    /// Accepts a read of the device, whose row stands at this place.
+    pub fn accept_read_at(
+        &mut self,
+        device: DeviceId,
+        place: usize,
+        address: u64,
+        len: u16,
+        frame: u32,
+    ) -> Option<u64>
+        requires stands { StandsAt self.old.rows device place }
+        requires within { FitsInPage address len }
+        requires room { self.old.so_far + 1 < 2 ^ 64 }
+        ensures { Accepts self.old device (record { access = read_of address len; frame = frame }) result self.new }
+    {
+        let number = self.so_far + 1;
+        let row = &mut self.rows[place];
+        let found = row.accept_read(address, len, frame, number)?;
+        self.so_far = number;
+        Some(found)
+    }
+
+    /// Accepts a write of the device, whose row stands at this place.
+    pub fn accept_write_at(
+        &mut self,
+        device: DeviceId,
+        place: usize,
+        address: u64,
+        bytes: &[u8],
+        frame: u32,
+    ) -> Option<u64>
+        requires stands { StandsAt self.old.rows device place }
+        requires within { FitsInPage address (length bytes.now) }
+        requires room { self.old.so_far + 1 < 2 ^ 64 }
+        ensures { Accepts self.old device (record { access = write_of address bytes.now; frame = frame }) result self.new }
+    {
+        let number = self.so_far + 1;
+        let row = &mut self.rows[place];
+        let found = row.accept_write(address, bytes, frame, number)?;
+        self.so_far = number;
+        Some(found)
+    }
+
+    /// Accepts a read of so many bytes at the address, on the frame: it goes last. The device's number of
+    /// it, from 1; None exactly where eight of the device are in flight, and then nothing changes.
+    pub fn accept_read(
+        &mut self,
+        device: DeviceId,
+        address: u64,
+        len: u16,
+        frame: u32,
+    ) -> Option<u64>
+        requires added { IsAdded self.old device }
+        requires within { FitsInPage address len }
+        requires room { self.old.so_far + 1 < 2 ^ 64 }
+        ensures { Accepts self.old device (record { access = read_of address len; frame = frame }) result self.new }
+    {
+        let place = self.place_of(device);
+        self.accept_read_at(device, place, address, len, frame)
+    }
+
+    /// Accepts a write of the bytes at the address, on the frame: it goes last, with its bytes. It is
+    /// answered as a read is.
+    pub fn accept_write(
+        &mut self,
+        device: DeviceId,
+        address: u64,
+        bytes: &[u8],
+        frame: u32,
+    ) -> Option<u64>
+        requires added { IsAdded self.old device }
+        requires within { FitsInPage address (length bytes.now) }
+        requires room { self.old.so_far + 1 < 2 ^ 64 }
+        ensures { Accepts self.old device (record { access = write_of address bytes.now; frame = frame }) result self.new }
+    {
+        let place = self.place_of(device);
+        self.accept_write_at(device, place, address, bytes, frame)
+    }
+
+    /// Makes the oldest access of the device: it is no more in flight. A read leaves memory; a write stores
+    /// its bytes in its frame. None exactly where nothing of the device is in flight, and then nothing
+    /// changes.
+    pub fn make(&mut self, device: DeviceId, memory: &mut Memory) -> Option<MadeAt>
+        requires { IsReady (length memory.old) (row_of self.old.rows device) }
+        ensures { Makes memory.old self.old device result memory.new self.new }
+    {
+        let place = self.place_of(device);
+        let row = &mut self.rows[place];
+        row.make(memory)
     }
 }

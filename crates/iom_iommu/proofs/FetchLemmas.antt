@@ -18,7 +18,8 @@ use Rattle.iom_command_queue.proofs.Waits.{first_is, none_is, drops, stays_by_fr
 use Rattle.iom_iommu.specs.declared.iommu.Iommu.{Iommu}
 use Rattle.iom_iommu.specs.declared.fetched.Fetched.{Fetched}
 use Rattle.iom_iommu.specs.declared.fetched.Fetched.TheVariants.{Did, Waiting, Empty, Stopped}
-use Rattle.iom_iommu.specs.Parts.{registers_of}
+use Rattle.iom_inflight.specs.Flights.{some_in_flight}
+use Rattle.iom_iommu.specs.Parts.{registers_of, flights_of}
 use Rattle.iom_iommu.specs.Fetches.{store_of, asks_for_interrupt, with_store, IsStoredIn, IsOffRing, head_entry, WaitsAt, StopsAtEntry, StopsFetching, FetchesCommand}
 
 -- something stands at the head, so head and tail aren't the same
@@ -55,9 +56,9 @@ store_length m None = refl
 store_length m (Some store) = word_length 4 store.data store.address m
 
 -- THE FRAMES that no word was stored in
-pub leaves_frames : (m n : List (List ℕ)) (i j : Iommu) (any : Bool) (command : Command) → FetchesCommand m i any (Did command) n j
+pub leaves_frames : (m n : List (List ℕ)) (i j : Iommu) (command : Command) → FetchesCommand m i (Did command) n j
     → ((k : ℕ) → ¬ IsStoredIn (store_of command) k → slice_get n k ≡ slice_get m k) × (length n ≡ length m)
-leaves_frames m n i j any command f = (
+leaves_frames m n i j command f = (
   (λ k ne. ap (λ x. slice_get x k) f.4 ∙ store_elsewhere m (store_of command) k ne),
   ap (λ x. length x) f.4 ∙ store_length m (store_of command),
 )
@@ -78,30 +79,31 @@ stop_list false m any i j s = ap (λ x. commands_in m (registers_of x)) s
 stop_list true m any i j s = stop_at_list m (head_entry m (registers_of i)) any i j s
 
 -- THE FIRST is taken, and the rest stays
-pub takes_first : (m n : List (List ℕ)) (i j : Iommu) (any : Bool) (command : Command) → FetchesCommand m i any (Did command) n j
+pub takes_first : (m n : List (List ℕ)) (i j : Iommu) (command : Command) → FetchesCommand m i (Did command) n j
     → IsOffRing (registers_of i) (store_of command) → commands_in m (registers_of i) ≡ stands.Command command ∷ commands_in n (registers_of j)
-takes_first m n i j any command f off =
+takes_first m n i j command f off =
     let r = registers_of i in let done = with_command_done r in
     let alike : (k : ℕ) → k < command_entries done → slice_get n (place_of done k / 4096) ≡ slice_get m (place_of done k / 4096)
     = λ k lt. ap (λ x. slice_get x (place_of r k / 4096)) f.4 ∙ store_elsewhere m (store_of command) (place_of r k / 4096) (off k lt) in
     drops m r (apart m r (stands.Command command) f.1)
     ∙ ap (λ x. x ∷ commands_in m done) (first_of m r (stands.Command command) f.1)
-    ∙ ap (λ xs. stands.Command command ∷ xs) (sym (stays_by_frames m n done alike) ∙ sym (fence_list n done (asks_for_interrupt command)) ∙ sym (ap (λ x. commands_in n (registers_of x)) f.5))
+    ∙ ap (λ xs. stands.Command command ∷ xs) (sym (stays_by_frames m n done alike) ∙ sym (fence_list n done (asks_for_interrupt command)) ∙ sym (ap (λ x. commands_in n x) f.5.registers))
 
 -- any other answer leaves memory, and the list
-pub leaves_memory : (m n : List (List ℕ)) (i j : Iommu) (any : Bool) (answer : Fetched) → FetchesCommand m i any answer n j
+pub leaves_memory : (m n : List (List ℕ)) (i j : Iommu) (answer : Fetched) → FetchesCommand m i answer n j
     → ((command : Command) → ¬ (answer ≡ Did command)) → n ≡ m
-leaves_memory m n i j any (Did command) f not_done = absurd (not_done command refl)
-leaves_memory m n i j any Waiting f not_done = f.2
-leaves_memory m n i j any Empty f not_done = f.2
-leaves_memory m n i j any Stopped f not_done = f.1
+leaves_memory m n i j (Did command) f not_done = absurd (not_done command refl)
+leaves_memory m n i j Waiting f not_done = f.2
+leaves_memory m n i j Empty f not_done = f.2
+leaves_memory m n i j Stopped f not_done = f.1
 
-pub leaves_list : (m n : List (List ℕ)) (i j : Iommu) (any : Bool) (answer : Fetched) → FetchesCommand m i any answer n j
+pub leaves_list : (m n : List (List ℕ)) (i j : Iommu) (answer : Fetched) → FetchesCommand m i answer n j
     → ((command : Command) → ¬ (answer ≡ Did command)) → commands_in n (registers_of j) ≡ commands_in m (registers_of i)
-leaves_list m n i j any (Did command) f not_done = absurd (not_done command refl)
-leaves_list m n i j any Waiting f not_done = ap (λ x. commands_in x (registers_of j)) f.2 ∙ ap (λ x. commands_in m (registers_of x)) f.3
-leaves_list m n i j any Empty f not_done = ap (λ x. commands_in x (registers_of j)) f.2 ∙ ap (λ x. commands_in m (registers_of x)) f.3
-leaves_list m n i j any Stopped f not_done = ap (λ x. commands_in x (registers_of j)) f.1 ∙ stop_list (is_processing_commands (registers_of i)) m any i j f.0
+leaves_list m n i j (Did command) f not_done = absurd (not_done command refl)
+leaves_list m n i j Waiting f not_done = ap (λ x. commands_in x (registers_of j)) f.2 ∙ ap (λ x. commands_in m (registers_of x)) f.3
+leaves_list m n i j Empty f not_done = ap (λ x. commands_in x (registers_of j)) f.2 ∙ ap (λ x. commands_in m (registers_of x)) f.3
+leaves_list m n i j Stopped f not_done =
+    ap (λ x. commands_in x (registers_of j)) f.1 ∙ stop_list (is_processing_commands (registers_of i)) m (some_in_flight (flights_of i)) i j f.0
 
 none_first : (xs : List QueueEntry) → slice_get xs 0 ≡ None → xs ≡ []
 none_first [] e = refl
@@ -115,17 +117,17 @@ none_stops : (m : List (List ℕ)) (on any : Bool) (i j : Iommu) → on ≡ true
 none_stops m on any i j is_on none s = subst (λ entry. StopsAtEntry m entry any i j) none (subst (λ b. StopsFetching b m any i j) is_on s)
 
 -- EMPTY exactly where processing is on and nothing waits
-pub empty_then : (m n : List (List ℕ)) (i j : Iommu) (any : Bool) (answer : Fetched) → FetchesCommand m i any answer n j
+pub empty_then : (m n : List (List ℕ)) (i j : Iommu) (answer : Fetched) → FetchesCommand m i answer n j
     → answer ≡ Empty → (is_processing_commands (registers_of i) ≡ true) × (commands_in m (registers_of i) ≡ [])
-empty_then m n i j any (Did command) f e = cc
-empty_then m n i j any Waiting f e = cc
-empty_then m n i j any Empty f e = (f.0, none_first (commands_in m (registers_of i)) f.1)
-empty_then m n i j any Stopped f e = cc
+empty_then m n i j (Did command) f e = cc
+empty_then m n i j Waiting f e = cc
+empty_then m n i j Empty f e = (f.0, none_first (commands_in m (registers_of i)) f.1)
+empty_then m n i j Stopped f e = cc
 
-pub empty_where : (m n : List (List ℕ)) (i j : Iommu) (any : Bool) (answer : Fetched) → FetchesCommand m i any answer n j
+pub empty_where : (m n : List (List ℕ)) (i j : Iommu) (answer : Fetched) → FetchesCommand m i answer n j
     → (is_processing_commands (registers_of i) ≡ true) × (commands_in m (registers_of i) ≡ []) → answer ≡ Empty
-empty_where m n i j any (Did command) f p = let e = sym (ap (λ xs. slice_get xs 0) p.1) ∙ f.1 in cc
-empty_where m n i j any Waiting f p = absurd (none_waits m (registers_of i) any (ap (λ xs. slice_get xs 0) p.1) f.1)
-empty_where m n i j any Empty f p = refl
-empty_where m n i j any Stopped f p =
-    absurd (none_stops m (is_processing_commands (registers_of i)) any i j p.0 (ap (λ xs. slice_get xs 0) p.1) f.0)
+empty_where m n i j (Did command) f p = let e = sym (ap (λ xs. slice_get xs 0) p.1) ∙ f.1 in cc
+empty_where m n i j Waiting f p = absurd (none_waits m (registers_of i) (some_in_flight (flights_of i)) (ap (λ xs. slice_get xs 0) p.1) f.1)
+empty_where m n i j Empty f p = refl
+empty_where m n i j Stopped f p =
+    absurd (none_stops m (is_processing_commands (registers_of i)) (some_in_flight (flights_of i)) i j p.0 (ap (λ xs. slice_get xs 0) p.1) f.0)

@@ -1,1 +1,3 @@
 pub mod FetchLemmas
+pub mod ServiceLemmas
+pub mod MadeLemmas

@@ -1,5 +1,5 @@
 -- What a fetch answers, and what it leaves (IOMMU specification, section 3.1, "Command-Queue (CQ)").
-use Rattle.std.specs.Prelude.{◌≡◌, ℕ, ◌/◌, ◌<◌, Bool, true, false, ◌&&◌, ◌||◌, List, Option, Some, None, slice_get, if◌then◌else◌}
+use Rattle.std.specs.Prelude.{◌≡◌, ℕ, ◌/◌, ◌<◌, ◌==◌, Bool, true, false, ◌&&◌, ◌||◌, List, Option, Some, None, slice_get, if◌then◌else◌}
 use Rattle.iom_base.specs.Sizes.{page_size}
 use Rattle.iom_phys_mem.specs.Words.{IsPlace, with_word}
 use Rattle.iom_registers.specs.declared.registers.Registers.{Registers}
@@ -13,7 +13,10 @@ use Rattle.iom_command_queue.specs.Waiting.{commands_in, place_of}
 use Rattle.iom_iommu.specs.declared.iommu.Iommu.{Iommu}
 use Rattle.iom_iommu.specs.declared.fetched.Fetched.{Fetched}
 use Rattle.iom_iommu.specs.declared.fetched.Fetched.TheVariants.{Did, Waiting, Empty, Stopped}
-use Rattle.iom_iommu.specs.Parts.{registers_of, with_registers}
+use Rattle.iom_device_dir.specs.declared.context.Context.{Context}
+use Rattle.iom_device_dir.specs.Contents.{Content, IsSameContent, DropsCovered}
+use Rattle.iom_inflight.specs.Flights.{some_in_flight}
+use Rattle.iom_iommu.specs.Parts.{registers_of, contexts_of, flights_of, frames_of, with_registers}
 
 -- section 3.1.2, "IOMMU Command-queue Fence commands": a fence with PR or PW waits for accesses in flight
 abbrev pub must_wait : Command → Bool → Bool
@@ -87,28 +90,60 @@ StopsAtEntry memory (Some (stands.Illegal reason)) any_in_flight old new = new �
 StopsAtEntry memory (Some (stands.Command command)) any_in_flight old new =
     (must_wait command any_in_flight ≡ false) × (¬ IsStorable memory (store_of command)) × (new ≡ with_registers old (with_cqmf (registers_of old)))
 
+-- which contexts go: that of the device, or all of them (section 3.1.3, IODIR.INVAL_DDT with and without DV)
+abbrev pub covers_device : Option ℕ → ℕ → Bool
+covers_device None id = true
+covers_device (Some device) id = id == device
+
+-- the cached contexts once the command is done: IODIR.INVAL_DDT drops those that it names, and no other command drops any
+abbrev pub DropsContexts : Command → Content ℕ Context → Content ℕ Context → Type 0
+DropsContexts (IotinvalVma gscid pscid page) old new = IsSameContent old new
+DropsContexts (IotinvalGvma gscid page) old new = IsSameContent old new
+DropsContexts (IofenceC store wsi pr pw) old new = IsSameContent old new
+DropsContexts (IodirInvalDdt device) old new = DropsCovered old (covers_device device) new
+DropsContexts (AtsInval device range) old new = IsSameContent old new
+
+-- what is left once the command at the head is done: registers, cached contexts, and all else as it was
+pub record IsLeft (command : Command) (old new : Iommu) : Type 0 where
+  pub registers : registers_of new ≡ with_done (registers_of old) command
+  pub contexts : DropsContexts command (contexts_of old) (contexts_of new)
+  pub flights : flights_of new ≡ flights_of old
+  pub frames : frames_of new ≡ frames_of old
+
 -- processing had stopped before and nothing changes, or it stops at what stands at the head
 abbrev pub StopsFetching : Bool → List (List ℕ) → Bool → Iommu → Iommu → Type 0
 StopsFetching false memory any_in_flight old new = new ≡ old
 StopsFetching true memory any_in_flight old new = StopsAtEntry memory (head_entry memory (registers_of old)) any_in_flight old new
 
--- THE RELATION of a fetch, by its answer: memory and IOMMU before, whether an access is in flight, the answer, memory and IOMMU after
-abbrev pub FetchesCommand : List (List ℕ) → Iommu → Bool → Fetched → List (List ℕ) → Iommu → Type 0
-FetchesCommand memory iommu any_in_flight (Did command) new_memory new_iommu =
+-- a fetch by its answer, where this says whether an access of any device is in flight
+abbrev pub FetchesWhere : Bool → List (List ℕ) → Iommu → Fetched → List (List ℕ) → Iommu → Type 0
+FetchesWhere any_in_flight memory iommu (Did command) new_memory new_iommu =
     (is_processing_commands (registers_of iommu) ≡ true)
     × (head_entry memory (registers_of iommu) ≡ Some (stands.Command command))
     × (must_wait command any_in_flight ≡ false)
     × IsStorable memory (store_of command)
     × (new_memory ≡ with_store memory (store_of command))
-    × (new_iommu ≡ with_registers iommu (with_done (registers_of iommu) command))
-FetchesCommand memory iommu any_in_flight Waiting new_memory new_iommu =
+    × IsLeft command iommu new_iommu
+FetchesWhere any_in_flight memory iommu Waiting new_memory new_iommu =
     (is_processing_commands (registers_of iommu) ≡ true)
     × WaitsAt (head_entry memory (registers_of iommu)) any_in_flight
     × (new_memory ≡ memory) × (new_iommu ≡ iommu)
-FetchesCommand memory iommu any_in_flight Empty new_memory new_iommu =
+FetchesWhere any_in_flight memory iommu Empty new_memory new_iommu =
     (is_processing_commands (registers_of iommu) ≡ true)
     × (head_entry memory (registers_of iommu) ≡ None)
     × (new_memory ≡ memory) × (new_iommu ≡ iommu)
-FetchesCommand memory iommu any_in_flight Stopped new_memory new_iommu =
+FetchesWhere any_in_flight memory iommu Stopped new_memory new_iommu =
     StopsFetching (is_processing_commands (registers_of iommu)) memory any_in_flight iommu new_iommu
     × (new_memory ≡ memory)
+
+-- THE RELATION of a fetch, by its answer: memory and IOMMU before, the answer, memory and IOMMU after
+abbrev pub FetchesCommand : List (List ℕ) → Iommu → Fetched → List (List ℕ) → Iommu → Type 0
+FetchesCommand memory iommu answer new_memory new_iommu =
+    FetchesWhere (some_in_flight (flights_of iommu)) memory iommu answer new_memory new_iommu
+
+-- two that have the same registers, the same contexts cached, the same accesses in flight and as many frames
+pub record AreAlike (one other : Iommu) : Type 0 where
+  pub registers : registers_of one ≡ registers_of other
+  pub contexts : IsSameContent (contexts_of one) (contexts_of other)
+  pub flights : flights_of one ≡ flights_of other
+  pub frames : frames_of one ≡ frames_of other

@@ -1,12 +1,14 @@
 // The commands are taken one by one (IOMMU specification, section 3.1, "Command-Queue (CQ)").
-ghost use Rattle.std.specs.Prelude.{◌≡◌, true, Some};
+ghost use Rattle.std.specs.Prelude.{◌≡◌, true, Some, length};
 ghost use Rattle.iom_registers.specs.Queues.{is_processing_commands};
-ghost use Rattle.iom_iommu.specs.Parts.{registers_of};
-ghost use Rattle.iom_iommu.specs.Fetches.{FetchesCommand, must_wait, store_of, asks_for_interrupt, Stores, head_entry};
+ghost use Rattle.iom_device_dir.specs.Cached.{cached_contexts};
+ghost use Rattle.iom_iommu.specs.Parts.{registers_of, frames_of};
+ghost use Rattle.iom_iommu.specs.Fetches.{FetchesCommand, must_wait, store_of, asks_for_interrupt, Stores, head_entry, DropsContexts};
 
 use crate::fetched::Fetched;
 use crate::iommu::Iommu;
 use iom_command_queue::{Command, CommandRing, FenceStore, QueueEntry};
+use iom_device_dir::DirCache;
 use iom_phys_mem::{Bytes, Memory};
 
 /// Whether the command has to wait, where `any_in_flight` says that an access is in flight.
@@ -55,15 +57,29 @@ fn store(memory: &mut Memory, store: Option<FenceStore>) -> bool
     }
 }
 
+/// Drops the cached contexts that the command names.
+fn drop_contexts(contexts: &mut DirCache, command: &Command)
+    ensures { DropsContexts command.now (cached_contexts contexts.old) (cached_contexts contexts.new) }
+{
+    match *command {
+        Command::IodirInvalDdt { device: None } => contexts.drop_all(),
+        Command::IodirInvalDdt {
+            device: Some(device),
+        } => contexts.drop_one(device.number()),
+        Command::IotinvalVma { .. } | Command::IotinvalGvma { .. } => {}
+        Command::IofenceC { .. } | Command::AtsInval { .. } => {}
+    }
+}
+
 impl Iommu {
-    /// Takes the command at the head from memory and does it. `any_in_flight` says whether an access of a
-    /// device is accepted and not made yet.
+    /// Takes the command at the head from memory and does it.
     ///
     /// The head stays, and memory with it, unless the answer is `Did`. A fetch that finds an illegal
     /// command sets `cmd_ill`. One that can't load the command, or not store a fence's word, sets `cqmf`.
     /// These two answer `Stopped`, and so does each fetch until software clears the bit.
-    pub fn fetch(&mut self, memory: &mut Memory, any_in_flight: bool) -> Fetched
-        ensures { FetchesCommand memory.old self.old any_in_flight result memory.new self.new }
+    pub fn fetch(&mut self, memory: &mut Memory) -> Fetched
+        requires { length memory.old ≡ frames_of self.old }
+        ensures { FetchesCommand memory.old self.old result memory.new self.new }
     {
         if !self.registers.is_processing_commands() {
             return Fetched::Stopped;
@@ -78,17 +94,17 @@ impl Iommu {
                 self.registers.set_cmd_ill();
                 Fetched::Stopped
             }
-            Some(QueueEntry::Command(command)) => self.take(memory, command, any_in_flight),
+            Some(QueueEntry::Command(command)) => self.take(memory, command),
         }
     }
 
     /// Does the command that stands at the head, unless it has to wait.
-    fn take(&mut self, memory: &mut Memory, command: Command, any_in_flight: bool) -> Fetched
+    fn take(&mut self, memory: &mut Memory, command: Command) -> Fetched
         requires on { is_processing_commands (registers_of self.old) ≡ true }
         requires stands { head_entry memory.old (registers_of self.old) ≡ Some (QueueEntry.Command command) }
-        ensures { FetchesCommand memory.old self.old any_in_flight result memory.new self.new }
+        ensures { FetchesCommand memory.old self.old result memory.new self.new }
     {
-        if must_wait(&command, any_in_flight) {
+        if must_wait(&command, self.in_flight.is_any()) {
             return Fetched::Waiting;
         }
         let word = store_of(&command);
@@ -100,6 +116,7 @@ impl Iommu {
         if asks_for_interrupt(&command) {
             self.registers.set_fence_w_ip();
         }
+        drop_contexts(&mut self.contexts, &command);
         Fetched::Did(command)
     }
 }

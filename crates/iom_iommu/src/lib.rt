@@ -1,20 +1,28 @@
-//! The IOMMU: its register file, and the commands that it takes from the queue in memory.
+//! The IOMMU: its register file, the commands that it takes from the queue in memory, its device contexts,
+//! and the requests of devices.
 //!
-//! RISC-V IOMMU Architecture Specification 1.0, section 3.1, "Command-Queue (CQ)", and chapter 5. The
-//! IOMMU knows memory, its registers and the bytes of commands, and nothing of who writes them: no
-//! driver, no owner of a frame. The layers above may rely on one relation, `FetchesCommand` in
-//! `specs/Fetches.antt`: what a fetch answers, and all that it leaves. [`laws`] says the same of the list
-//! of the commands that wait. Software reaches the registers by [`Mmio`](iom_registers::Mmio), which
-//! [`Iommu`] meets.
+//! RISC-V IOMMU Architecture Specification 1.0: section 2.3, "Process to translate an IOVA", section 3.1,
+//! "Command-Queue (CQ)", and chapter 5. The IOMMU knows memory, its registers, the bytes of commands,
+//! contexts and tables, and which devices were added; nothing of who writes memory: no driver, no owner of
+//! a frame. The layers above may rely on one relation for each call: `AnswersRequest` and `CommitsOldest`
+//! in `specs/Requests.antt`, `FetchesCommand` in `specs/Fetches.antt`. [`laws`] says more of fetches: what
+//! they do to the list of the commands that wait. Software reaches the registers by
+//! [`Mmio`](iom_registers::Mmio), which [`Iommu`] meets.
 //!
-//! Commands other than fences are taken and done, and change nothing yet: what they invalidate isn't
-//! kept.
+//! A request is translated by the device's context, which is cached when it was found in memory, and goes
+//! when IODIR.INVAL_DDT names it. There are no caches of translations and no second stage yet, and a fault
+//! writes no record.
 #![tactic(auto)]
 
+mod building;
 mod fetch;
 mod fetched;
 mod iommu;
 pub mod laws;
+mod reply;
+mod requests;
+mod service;
 
 pub use fetched::Fetched;
 pub use iommu::Iommu;
+pub use reply::Reply;

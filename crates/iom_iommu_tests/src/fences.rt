@@ -1,4 +1,6 @@
-use crate::setup::{BASE_VALUE, CQCSR, CQH, CQT, IPSR, put, read, turned_on, write};
+use crate::setup::{
+    BASE_VALUE, CQCSR, CQH, CQT, IPSR, commit, fetch, put, put_in_flight, read, turned_on, write,
+};
 use iom_command_queue::{Command, FenceAddress, FenceStore};
 use iom_iommu::Fetched;
 use iom_phys_mem::{Bytes, Memory};
@@ -9,7 +11,8 @@ use std::test::Fail;
 #[test]
 fn a_fence_raises_an_interrupt(rt: HostRuntime) -> Result<(), Fail> {
     let mut memory = Memory::new(rt.alloc(), 64)?;
-    let mut iommu = turned_on(&rt, BASE_VALUE);
+    let mut iommu = turned_on(&rt, rt.alloc(), BASE_VALUE)?;
+    put_in_flight(&rt, &mut iommu, &memory);
     put(&rt, &mut memory, 0, 0x802, 0);
     put(&rt, &mut memory, 1, 2, 0);
     write(&rt, &mut iommu, CQT, 2);
@@ -19,7 +22,7 @@ fn a_fence_raises_an_interrupt(rt: HostRuntime) -> Result<(), Fail> {
         pr: false,
         pw: false,
     };
-    assert_eq!(rt; iommu.fetch(&mut memory, true), Fetched::Did(with_wsi));
+    assert_eq!(rt; fetch(&rt, &mut iommu, &mut memory), Fetched::Did(with_wsi));
     assert_eq!(rt; read(&rt, &iommu, CQCSR), 0x0001_0803);
     assert_eq!(rt; read(&rt, &iommu, IPSR), 1);
     let plain = Command::IofenceC {
@@ -28,7 +31,7 @@ fn a_fence_raises_an_interrupt(rt: HostRuntime) -> Result<(), Fail> {
         pr: false,
         pw: false,
     };
-    assert_eq!(rt; iommu.fetch(&mut memory, true), Fetched::Did(plain));
+    assert_eq!(rt; fetch(&rt, &mut iommu, &mut memory), Fetched::Did(plain));
     assert_eq!(rt; read(&rt, &iommu, CQH), 2);
     write(&rt, &mut iommu, CQCSR, 0x803);
     assert_eq!(rt; read(&rt, &iommu, CQCSR), 0x0001_0003);
@@ -42,11 +45,11 @@ fn a_fence_raises_an_interrupt(rt: HostRuntime) -> Result<(), Fail> {
 #[test]
 fn an_interrupt_is_enabled_first(rt: HostRuntime) -> Result<(), Fail> {
     let mut memory = Memory::new(rt.alloc(), 64)?;
-    let mut iommu = turned_on(&rt, BASE_VALUE);
+    let mut iommu = turned_on(&rt, rt.alloc(), BASE_VALUE)?;
     write(&rt, &mut iommu, CQCSR, 1);
     put(&rt, &mut memory, 0, 0x802, 0);
     write(&rt, &mut iommu, CQT, 1);
-    iommu.fetch(&mut memory, false);
+    fetch(&rt, &mut iommu, &mut memory);
     assert_eq!(rt; read(&rt, &iommu, CQCSR), 0x0001_0801);
     assert_eq!(rt; read(&rt, &iommu, IPSR), 0);
     Ok(())
@@ -71,7 +74,7 @@ fn fence(bits: u64) -> Option<Command> {
 fn a_fence_waits_for_accesses(rt: HostRuntime) -> Result<(), Fail> {
     for bits in 0..4u64 {
         let mut memory = Memory::new(rt.alloc(), 64)?;
-        let mut iommu = turned_on(&rt, BASE_VALUE);
+        let mut iommu = turned_on(&rt, rt.alloc(), BASE_VALUE)?;
         put(
             &rt,
             &mut memory,
@@ -79,22 +82,24 @@ fn a_fence_waits_for_accesses(rt: HostRuntime) -> Result<(), Fail> {
             0x0000_0007_0000_0402 + (bits << 12),
             0x1400,
         );
+        put_in_flight(&rt, &mut iommu, &memory);
         write(&rt, &mut iommu, CQT, 1);
         let did = Fetched::Did(fence(bits).ok_or("a multiple of 4")?);
         if bits > 0 {
             for _ in 0..2 {
-                let before = iommu;
-                assert_eq!(rt; iommu.fetch(&mut memory, true), Fetched::Waiting);
-                assert_eq!(rt; iommu, before);
+                let before = *iommu.registers();
+                assert_eq!(rt; fetch(&rt, &mut iommu, &mut memory), Fetched::Waiting);
+                assert_eq!(rt; *iommu.registers(), before);
                 assert_eq!(rt; memory.load_u64(0x5000), Some(0));
             }
-            assert_eq!(rt; iommu.fetch(&mut memory, false), did);
+            commit(&rt, &mut iommu, &mut memory);
+            assert_eq!(rt; fetch(&rt, &mut iommu, &mut memory), did);
         } else {
-            assert_eq!(rt; iommu.fetch(&mut memory, true), did);
+            assert_eq!(rt; fetch(&rt, &mut iommu, &mut memory), did);
         }
         assert_eq!(rt; memory.load_u64(0x5000), Some(7));
         assert_eq!(rt; read(&rt, &iommu, CQH), 1);
-        assert_eq!(rt; iommu.fetch(&mut memory, true), Fetched::Empty);
+        assert_eq!(rt; fetch(&rt, &mut iommu, &mut memory), Fetched::Empty);
     }
     Ok(())
 }
@@ -103,12 +108,14 @@ fn a_fence_waits_for_accesses(rt: HostRuntime) -> Result<(), Fail> {
 #[test]
 fn waiting_comes_before_storing(rt: HostRuntime) -> Result<(), Fail> {
     let mut memory = Memory::new(rt.alloc(), 64)?;
-    let mut iommu = turned_on(&rt, BASE_VALUE);
+    let mut iommu = turned_on(&rt, rt.alloc(), BASE_VALUE)?;
     put(&rt, &mut memory, 0, 0x0000_0001_0000_1402, 0x1_0000);
+    put_in_flight(&rt, &mut iommu, &memory);
     write(&rt, &mut iommu, CQT, 1);
-    assert_eq!(rt; iommu.fetch(&mut memory, true), Fetched::Waiting);
+    assert_eq!(rt; fetch(&rt, &mut iommu, &mut memory), Fetched::Waiting);
     assert_eq!(rt; read(&rt, &iommu, CQCSR), 0x0001_0003);
-    assert_eq!(rt; iommu.fetch(&mut memory, false), Fetched::Stopped);
+    commit(&rt, &mut iommu, &mut memory);
+    assert_eq!(rt; fetch(&rt, &mut iommu, &mut memory), Fetched::Stopped);
     assert_eq!(rt; read(&rt, &iommu, CQCSR), 0x0001_0103);
     Ok(())
 }

@@ -1,5 +1,6 @@
-//! Calls of the IOMMU without a driver: registers are written, and the bytes of commands stored, by hand.
-//! The expected values were worked out from section 3.1 and chapter 5 of the IOMMU specification.
+//! Calls of the IOMMU without a driver: registers are written, and the bytes of commands, directories and page
+//! tables stored, by hand. The expected values were worked out from chapters 2, 3 and 5 of the IOMMU
+//! specification.
 //!
 //! The crate has tests alone, and nothing stands on it. It stands apart from `iom_iommu` because a crate
 //! with tests of its own is proved twice, without them and with them.
@@ -7,6 +8,8 @@
 
 #[cfg(test)]
 mod fences;
+#[cfg(test)]
+mod requests;
 #[cfg(test)]
 mod rings;
 #[cfg(test)]

@@ -1,4 +1,4 @@
-use crate::setup::{CQCSR, CQH, CQT, IPSR, RING, put, read, turned_on, write};
+use crate::setup::{CQCSR, CQH, CQT, IPSR, RING, fetch, put, read, turned_on, write};
 use iom_command_queue::Command;
 use iom_iommu::Fetched;
 use iom_phys_mem::{Bytes, Memory};
@@ -13,16 +13,16 @@ const DID: Fetched = Fetched::Did(Command::IodirInvalDdt { device: None });
 #[test]
 fn the_ring_goes_round(rt: HostRuntime) -> Result<(), Fail> {
     let mut memory = Memory::new(rt.alloc(), 64)?;
-    let mut iommu = turned_on(&rt, 0xfc01);
+    let mut iommu = turned_on(&rt, rt.alloc(), 0xfc01)?;
     for index in 0..4 {
         put(&rt, &mut memory, index, INVALIDATE, 0);
     }
     for tail in [3, 2, 1, 0, 3] {
         write(&rt, &mut iommu, CQT, tail);
         for _ in 0..3 {
-            assert_eq!(rt; iommu.fetch(&mut memory, false), DID);
+            assert_eq!(rt; fetch(&rt, &mut iommu, &mut memory), DID);
         }
-        assert_eq!(rt; iommu.fetch(&mut memory, false), Fetched::Empty);
+        assert_eq!(rt; fetch(&rt, &mut iommu, &mut memory), Fetched::Empty);
         assert_eq!(rt; read(&rt, &iommu, CQH), tail);
     }
     Ok(())
@@ -32,16 +32,16 @@ fn the_ring_goes_round(rt: HostRuntime) -> Result<(), Fail> {
 #[test]
 fn the_ring_leaves_memory(rt: HostRuntime) -> Result<(), Fail> {
     let mut memory = Memory::new(rt.alloc(), 64)?;
-    let mut iommu = turned_on(&rt, 0xfc08);
+    let mut iommu = turned_on(&rt, rt.alloc(), 0xfc08)?;
     for index in 0..256 {
         put(&rt, &mut memory, index, INVALIDATE, 0);
     }
     assert_eq!(rt; memory.store_u64(RING + 0x1000, INVALIDATE), None);
     write(&rt, &mut iommu, CQT, 300);
     for _ in 0..256 {
-        assert_eq!(rt; iommu.fetch(&mut memory, false), DID);
+        assert_eq!(rt; fetch(&rt, &mut iommu, &mut memory), DID);
     }
-    assert_eq!(rt; iommu.fetch(&mut memory, false), Fetched::Stopped);
+    assert_eq!(rt; fetch(&rt, &mut iommu, &mut memory), Fetched::Stopped);
     assert_eq!(rt; read(&rt, &iommu, CQH), 256);
     assert_eq!(rt; read(&rt, &iommu, CQCSR), 0x0001_0103);
     assert_eq!(rt; read(&rt, &iommu, IPSR), 1);
@@ -52,10 +52,10 @@ fn the_ring_leaves_memory(rt: HostRuntime) -> Result<(), Fail> {
 #[test]
 fn the_ring_lies_outside(rt: HostRuntime) -> Result<(), Fail> {
     let mut memory = Memory::new(rt.alloc(), 64)?;
-    let mut iommu = turned_on(&rt, 0x1_0007);
-    assert_eq!(rt; iommu.fetch(&mut memory, false), Fetched::Empty);
+    let mut iommu = turned_on(&rt, rt.alloc(), 0x1_0007)?;
+    assert_eq!(rt; fetch(&rt, &mut iommu, &mut memory), Fetched::Empty);
     write(&rt, &mut iommu, CQT, 1);
-    assert_eq!(rt; iommu.fetch(&mut memory, true), Fetched::Stopped);
+    assert_eq!(rt; fetch(&rt, &mut iommu, &mut memory), Fetched::Stopped);
     assert_eq!(rt; read(&rt, &iommu, CQH), 0);
     assert_eq!(rt; read(&rt, &iommu, CQCSR), 0x0001_0103);
     Ok(())

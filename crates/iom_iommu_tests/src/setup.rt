@@ -1,8 +1,13 @@
+use iom_base::AccessKind;
 use iom_command_queue::{Command, FenceAddress, FenceStore};
-use iom_iommu::{Fetched, Iommu};
+use iom_inflight::MadeAt;
+use iom_iommu::{Fetched, Iommu, Reply};
 use iom_phys_mem::{Bytes, Memory};
 use iom_registers::Mmio;
+use std::alloc::{AllocError, Global};
 use std::process::Abort;
+
+pub(crate) const DDTP: u64 = 16;
 
 pub(crate) const CQB: u64 = 24;
 
@@ -20,9 +25,19 @@ pub(crate) const BASE_VALUE: u64 = 0xfc07;
 /// The address of that queue.
 pub(crate) const RING: u64 = 0x3f000;
 
+/// How many frames the memory of a test has.
+pub(crate) const FRAMES: u32 = 64;
+
+/// The device that makes requests.
+pub(crate) const DEVICE: u32 = 5;
+
 /// The width of the register at an offset.
 fn width_at(offset: u64) -> u32 {
-    if offset == CQB { 8 } else { 4 }
+    if offset == CQB || offset == DDTP {
+        8
+    } else {
+        4
+    }
 }
 
 /// Software reads a register of the command queue.
@@ -37,12 +52,60 @@ pub(crate) fn write(rt: &impl Abort, iommu: &mut Iommu, offset: u64, value: u64)
     assert_eq!(rt; iommu.write(offset, width_at(offset), value), Ok(()));
 }
 
-/// An IOMMU whose command queue is where `cqb` says, and on, with its interrupts enabled.
-pub(crate) fn turned_on(rt: &impl Abort, cqb: u64) -> Iommu {
-    let mut iommu = Iommu::new();
+/// An IOMMU whose command queue is where `cqb` says, and on, with its interrupts enabled, and to which the
+/// device was added.
+pub(crate) fn turned_on(rt: &impl Abort, alloc: Global, cqb: u64) -> Result<Iommu, AllocError> {
+    let mut iommu = Iommu::new(alloc, FRAMES)?;
+    iommu.add(DEVICE);
     write(rt, &mut iommu, CQB, cqb);
     write(rt, &mut iommu, CQCSR, 3);
-    iommu
+    Ok(iommu)
+}
+
+/// The IOMMU takes its next command.
+pub(crate) fn fetch(rt: &impl Abort, iommu: &mut Iommu, memory: &mut Memory) -> Fetched {
+    let is_its = memory.frames() == iommu.frames();
+    assert!(rt; is_its);
+    iommu.fetch(memory)
+}
+
+/// The device asks for a read of one byte, or for a write of these.
+pub(crate) fn ask(
+    rt: &impl Abort,
+    iommu: &mut Iommu,
+    memory: &Memory,
+    device: u32,
+    address: u64,
+    bytes: &[u8],
+) -> Reply {
+    let is_its = memory.frames() == iommu.frames();
+    assert!(rt; is_its);
+    let is_added = iommu.is_added(device);
+    assert!(rt; is_added);
+    let has_room = iommu.so_far() < u64::MAX;
+    assert!(rt; has_room);
+    if bytes.is_empty() {
+        iommu.request(memory, device, address, 1, AccessKind::Read, &[])
+    } else {
+        let len = bytes.len() as u64;
+        iommu.request(memory, device, address, len, AccessKind::Write, bytes)
+    }
+}
+
+/// The oldest access of the device is made.
+pub(crate) fn commit(rt: &impl Abort, iommu: &mut Iommu, memory: &mut Memory) -> Option<MadeAt> {
+    let is_its = memory.frames() == iommu.frames();
+    assert!(rt; is_its);
+    let is_added = iommu.is_added(DEVICE);
+    assert!(rt; is_added);
+    iommu.commit(memory, DEVICE)
+}
+
+/// A read of the device is in flight, without translation.
+pub(crate) fn put_in_flight(rt: &impl Abort, iommu: &mut Iommu, memory: &Memory) {
+    write(rt, iommu, DDTP, 1);
+    let reply = ask(rt, iommu, memory, DEVICE, 0x3000, &[]);
+    assert_eq!(rt; reply, Reply::Accepted(1));
 }
 
 /// Software stores the two words of a command in an entry of the queue at `RING`.

@@ -1,8 +1,10 @@
-use crate::setup::{BASE_VALUE, CQCSR, CQH, CQT, IPSR, did_fence_to, put, read, turned_on, write};
+use crate::setup::{
+    BASE_VALUE, CQCSR, CQH, CQT, FRAMES, IPSR, did_fence_to, fetch, put, read, turned_on, write,
+};
 use iom_command_queue::{AtsRange, Command, DeviceNumber, PageNumber, Pscid};
 use iom_iommu::{Fetched, Iommu};
 use iom_phys_mem::{Bytes, Memory};
-use iom_registers::{Mmio, RegFault};
+use iom_registers::{Mmio, RegFault, Registers};
 use std::test::Fail;
 
 /// One command at the head, and what a fetch of it leaves.
@@ -74,7 +76,7 @@ const ROWS: [Row; 6] = [
 fn a_command_is_done_or_stops_the_queue(rt: HostRuntime) -> Result<(), Fail> {
     for row in &ROWS {
         let mut memory = Memory::new(rt.alloc(), 64)?;
-        let mut iommu = turned_on(&rt, BASE_VALUE);
+        let mut iommu = turned_on(&rt, rt.alloc(), BASE_VALUE)?;
         memory.store_u64(0x10000, u64::MAX).ok_or("in memory")?;
         put(&rt, &mut memory, 0, row.first, row.second);
         write(&rt, &mut iommu, CQT, 1);
@@ -83,7 +85,7 @@ fn a_command_is_done_or_stops_the_queue(rt: HostRuntime) -> Result<(), Fail> {
         } else {
             Some(Fetched::Stopped)
         };
-        let answer = iommu.fetch(&mut memory, false);
+        let answer = fetch(&rt, &mut iommu, &mut memory);
         assert_eq!(rt; Some(answer), wanted, "{row:?}");
         assert_eq!(rt; read(&rt, &iommu, CQH), row.cqh, "{row:?}");
         assert_eq!(rt; read(&rt, &iommu, CQCSR), row.cqcsr, "{row:?}");
@@ -137,7 +139,7 @@ fn others() -> Option<[(u64, u64, Command); 4]> {
 #[test]
 fn other_commands_are_done_in_order(rt: HostRuntime) -> Result<(), Fail> {
     let mut memory = Memory::new(rt.alloc(), 64)?;
-    let mut iommu = turned_on(&rt, BASE_VALUE);
+    let mut iommu = turned_on(&rt, rt.alloc(), BASE_VALUE)?;
     let others = others().ok_or("fields that fit")?;
     for (index, (first, second, _)) in others.iter().enumerate() {
         put(&rt, &mut memory, index as u32, *first, *second);
@@ -145,9 +147,9 @@ fn other_commands_are_done_in_order(rt: HostRuntime) -> Result<(), Fail> {
     write(&rt, &mut iommu, CQT, 4);
     for (index, (_, _, command)) in others.iter().enumerate() {
         assert_eq!(rt; read(&rt, &iommu, CQH), index as u64);
-        assert_eq!(rt; iommu.fetch(&mut memory, true), Fetched::Did(*command));
+        assert_eq!(rt; fetch(&rt, &mut iommu, &mut memory), Fetched::Did(*command));
     }
-    assert_eq!(rt; iommu.fetch(&mut memory, true), Fetched::Empty);
+    assert_eq!(rt; fetch(&rt, &mut iommu, &mut memory), Fetched::Empty);
     assert_eq!(rt; read(&rt, &iommu, CQH), 4);
     assert_eq!(rt; read(&rt, &iommu, CQCSR), 0x0001_0003);
     Ok(())
@@ -155,13 +157,14 @@ fn other_commands_are_done_in_order(rt: HostRuntime) -> Result<(), Fail> {
 
 // A refused access changes nothing, and the registers are those of the table.
 #[test]
-fn registers_are_reached(rt: HostRuntime) {
-    let mut iommu = Iommu::new();
+fn registers_are_reached(rt: HostRuntime) -> Result<(), Fail> {
+    let mut iommu = Iommu::new(rt.alloc(), FRAMES)?;
     assert_eq!(rt; iommu.read(0, 8), Ok(0x0000_0020_1202_0210));
     assert_eq!(rt; iommu.write(24, 4, BASE_VALUE), Err(RegFault::BadWidth));
     assert_eq!(rt; iommu.write(28, 4, BASE_VALUE), Err(RegFault::BadOffset));
-    assert_eq!(rt; iommu, Iommu::new());
+    assert_eq!(rt; *iommu.registers(), Registers::new());
     assert_eq!(rt; iommu.write(24, 8, BASE_VALUE), Ok(()));
     assert_eq!(rt; iommu.read(24, 8), Ok(BASE_VALUE));
     assert_eq!(rt; iommu.registers().command_base(), 0x3f000);
+    Ok(())
 }

@@ -1,5 +1,5 @@
--- Which frames the driver takes for tables: the highest free ones.
-use Rattle.std.specs.Prelude.{◌≡◌, ◌≢◌, ℕ, zero, suc, ◌<◌, ◌≤◌, ◌==◌, Bool, false, List, [], ◌∷◌, length, Option, None, Some}
+-- Which frames the driver takes for pages of the device directory and for tables: the highest free ones.
+use Rattle.std.specs.Prelude.{◌≡◌, ◌≢◌, ℕ, zero, suc, ◌+◌, ◌-◌, ◌<◌, ◌≤◌, take, drop, ◌==◌, Bool, false, List, [], ◌∷◌, length, Option, None, Some}
 use Rattle.std.specs.List.{list_any}
 use Rattle.iom_machine.specs.declared.event.Event.{Event}
 use Rattle.iom_machine.specs.declared.event.Event.TheVariants as events
@@ -40,8 +40,20 @@ abbrev pub named_by : Event → Outcome → Option ℕ
 named_by (events.Grant id page frame rights) Done = Some frame
 named_by event outcome = None
 
--- how many tables it may take that this comes of the event: an attach a root, a grant what its page lacks below the root, at most two
-abbrev pub WantsTables : Event → Outcome → ℕ → Type 0
-WantsTables (events.Attach id mode ats) Done count = count ≡ 1
-WantsTables (events.Grant id page frame rights) Done count = count ≤ 2
-WantsTables event outcome count = count ≡ 0
+-- How many pages of a device directory of so many levels, and how many tables, it may take that this comes of the event: an attach the pages that the
+-- directory lacks below its root, and a root of tables; a grant what its page lacks below the root, at most two.
+abbrev pub WantsFrames : ℕ → Event → Outcome → (pages tables : ℕ) → Type 0
+WantsFrames levels (events.Attach id mode ats) Done pages tables = (pages ≤ levels - 1) × (tables ≡ 1)
+WantsFrames levels (events.Grant id page frame rights) Done pages tables = (pages ≡ 0) × (tables ≤ 2)
+WantsFrames levels event outcome pages tables = (pages ≡ 0) × (tables ≡ 0)
+
+-- The frames that become pages of the directory, and then those that become tables, are the highest free ones, as many as it wants that this comes of
+-- the event, or as many as there are.
+pub record TakesHighest (state : State) (reaches : List Reach) (event : Event) (outcome : Outcome) (directory taken : List ℕ) : Type 0 where
+  pub pages : ℕ
+  pub tables : ℕ
+  pub all : List ℕ
+  pub wanted : WantsFrames state.levels event outcome pages tables
+  pub highest : AreHighestForTables state reaches (named_by event outcome) (length state.frames) (pages + tables) all
+  pub first : directory ≡ take pages all
+  pub later : taken ≡ drop pages all

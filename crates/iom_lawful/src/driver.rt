@@ -1,8 +1,8 @@
-// What the lines don't show, by the rule of the driver: a table takes the highest free frame.
+// What the lines don't show, by the rule of the driver: what an attach or a grant takes are the highest free frames.
 
-ghost use Rattle.std.specs.Prelude.{◌≡◌, ◌↔◌, ◌^◌, ◌<◌, ◌≤◌, ℕ, List, length, IsTrue, IfOk, MatchOption};
+ghost use Rattle.std.specs.Prelude.{◌≡◌, ◌↔◌, ◌^◌, ◌-◌, ◌<◌, ◌≤◌, List, length, take, drop, IsTrue, IfOk, MatchOption};
 ghost use Rattle.iom_lawful.specs.declared.reaches.Reach.{Reach};
-ghost use Rattle.iom_lawful.specs.Tables.{is_reached_by, MayBecomeTable, NoneMayBecomeTable, IsHighestForTable, AreHighestForTables, named_by, WantsTables};
+ghost use Rattle.iom_lawful.specs.Tables.{is_reached_by, MayBecomeTable, NoneMayBecomeTable, IsHighestForTable, AreHighestForTables, named_by, WantsFrames, TakesHighest};
 
 use crate::reaches::{Reach, frame_at, reaches_of};
 use iom_base::{DeviceId, Sequence};
@@ -90,16 +90,58 @@ fn highest_frees(
     Ok(taken)
 }
 
-/// The driver, as far as a run shows it: which tables each device has.
+/// The first so many of the numbers, or all, and those behind them.
+fn split(
+    alloc: Global,
+    numbers: &[u32],
+    count: usize,
+) -> Result<(Sequence<u32>, Sequence<u32>), AllocError>
+    ensures { IfOk result (λ parts. (parts.0 ≡ take count numbers.now) × (parts.1 ≡ drop count numbers.now)) }
+{
+    let (first, later) = numbers.split_at(count.min(numbers.len()));
+    let first = Sequence::from_vec(Vec::from_slice(alloc, first)?);
+    let later = Sequence::from_vec(Vec::from_slice(alloc, later)?);
+    Ok((first, later))
+}
+
+/// A page of the device directory below its root (IOMMU specification, "Device-Directory-Table"): that of the ids with
+/// the same number but for their low bits, 16 or 7 of them.
+#[derive(Clone, Copy, PartialEq, Eq, Debug)]
+struct DirectoryPage {
+    low_bits: u32,
+    prefix: u32,
+}
+
+/// A device that was detached under the ticket, which isn't confirmed.
+#[derive(Clone, Copy, PartialEq, Eq, Debug)]
+struct Leaving {
+    device: DeviceId,
+    ticket: u32,
+}
+
+/// What an event takes: so many pages of the device directory, and so many tables. The named frame is passed over.
+#[derive(Clone, Copy, PartialEq, Eq, Debug)]
+struct Needs {
+    pages: usize,
+    tables: usize,
+    named: Option<u64>,
+}
+
+/// The driver, as far as a run shows it: which tables each device has, which pages the device directory has, and which
+/// devices are leaving.
 #[derive(Drop)]
 pub(crate) struct Driver {
     tables: Vec<Table>,
+    pages: Vec<DirectoryPage>,
+    leaving: Vec<Leaving>,
 }
 
 impl Driver {
     pub(crate) fn new(alloc: Global) -> Driver {
         Driver {
             tables: Vec::new(alloc),
+            pages: Vec::new(alloc),
+            leaving: Vec::new(alloc),
         }
     }
 
@@ -121,17 +163,45 @@ impl Driver {
         Ok(usize::from(upper) + usize::from(lower))
     }
 
-    /// How many tables it takes that this comes of the event, and which frame is passed over.
-    fn tables_wanted(
-        &mut self,
-        event: &Event,
-        outcome: &Outcome,
-    ) -> Result<(usize, Option<u64>), AllocError>
-        ensures count { IfOk result (λ wanted. WantsTables event.now outcome.now wanted.0) }
-        ensures named { IfOk result (λ wanted. wanted.1 ≡ named_by event.now outcome.now) }
+    /// Whether the page of the device directory was missing; it is there now.
+    fn adds_page(&mut self, device: DeviceId, low_bits: u32) -> Result<bool, AllocError>
+        requires { low_bits < 32 }
     {
+        let page = DirectoryPage {
+            low_bits,
+            prefix: device >> low_bits,
+        };
+        if self.pages.as_slice().contains(&page) {
+            return Ok(false);
+        }
+        self.pages.push(page)?;
+        Ok(true)
+    }
+
+    /// How many pages the device directory lacked for the device; it lacks none now. Its root is always there.
+    fn add_pages(&mut self, device: DeviceId, levels: u8) -> Result<usize, AllocError>
+        ensures { IfOk result (λ count. count ≤ levels - 1) }
+    {
+        let upper = levels >= 3 && self.adds_page(device, 16)?;
+        let lower = levels >= 2 && self.adds_page(device, 7)?;
+        Ok(usize::from(upper) + usize::from(lower))
+    }
+
+    /// What it takes that this comes of the event.
+    fn needs(&mut self, levels: u8, event: &Event, outcome: &Outcome) -> Result<Needs, AllocError>
+        ensures count { IfOk result (λ needs. WantsFrames levels event.now outcome.now needs.pages needs.tables) }
+        ensures named { IfOk result (λ needs. needs.named ≡ named_by event.now outcome.now) }
+    {
+        let mut needs = Needs {
+            pages: 0,
+            tables: 0,
+            named: None,
+        };
         match (event, outcome) {
-            (Event::Attach { .. }, Outcome::Done) => Ok((1, None)),
+            (Event::Attach { device, .. }, Outcome::Done) => {
+                needs.pages = self.add_pages(*device, levels)?;
+                needs.tables = 1;
+            }
             (
                 Event::Grant {
                     device,
@@ -140,12 +210,43 @@ impl Driver {
                     ..
                 },
                 Outcome::Done,
-            ) => Ok((self.add_tables(*device, *page)?, Some(*frame))),
-            _ => Ok((0, None)),
+            ) => {
+                needs.tables = self.add_tables(*device, *page)?;
+                needs.named = Some(*frame);
+            }
+            _ => {}
         }
+        Ok(needs)
     }
 
-    /// What the driver and the IOMMU choose where this comes of the event.
+    /// Forgets the tables of the devices that left under these tickets.
+    fn forget(&mut self, first: u32, last: u32) {
+        for leaving in self.leaving.iter() {
+            if first <= leaving.ticket && leaving.ticket <= last {
+                self.tables.retain(|table| table.device != leaving.device);
+            }
+        }
+        self.leaving
+            .retain(|leaving| leaving.ticket < first || last < leaving.ticket);
+    }
+
+    /// Notes which devices are leaving, and which have left.
+    fn note(&mut self, event: &Event, outcome: &Outcome) -> Result<(), AllocError> {
+        match (event, outcome) {
+            (Event::Detach { device }, Outcome::Ticket(ticket)) => {
+                self.leaving.push(Leaving {
+                    device: *device,
+                    ticket: *ticket,
+                })?;
+            }
+            (Event::Poll, Outcome::Confirmed { first, last }) => self.forget(*first, *last),
+            _ => {}
+        }
+        Ok(())
+    }
+
+    /// What the driver and the IOMMU choose where this comes of the event. The pages of the device directory come
+    /// before the tables.
     pub(crate) fn choose(
         &mut self,
         alloc: Global,
@@ -154,12 +255,19 @@ impl Driver {
         outcome: &Outcome,
     ) -> Result<Choice, AllocError>
         requires { length state.now.frames ≤ 2 ^ 32 }
-        ensures taken { IfOk result (λ choice. (reaches : List Reach) × (count : ℕ) × WantsTables event.now outcome.now count
-            × AreHighestForTables state.now reaches (named_by event.now outcome.now) (length state.now.frames) count choice.taken) }
+        ensures taken { IfOk result (λ choice. (reaches : List Reach) × TakesHighest state.now reaches event.now outcome.now choice.directory choice.taken) }
     {
         let reaches = reaches_of(alloc, state.history.as_slice())?;
-        let (count, named) = self.tables_wanted(event, outcome)?;
-        let taken = highest_frees(alloc, state, &reaches, named, count)?;
+        let needs = self.needs(state.levels, event, outcome)?;
+        let frames = highest_frees(
+            alloc,
+            state,
+            &reaches,
+            needs.named,
+            needs.pages + needs.tables,
+        )?;
+        let (directory, taken) = split(alloc, frames.as_slice(), needs.pages)?;
+        self.note(event, outcome)?;
         let frame = match event {
             Event::Read {
                 device,
@@ -174,6 +282,7 @@ impl Driver {
             _ => None,
         };
         Ok(Choice {
+            directory,
             taken,
             frame: frame.unwrap_or(0),
         })

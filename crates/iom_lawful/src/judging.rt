@@ -73,6 +73,21 @@ fn judge_lines(
     Ok(Found::Lawful)
 }
 
+/// What the judge finds where these outcomes come of the events from power-on. The first is that of line 2.
+fn judge_outcomes(
+    alloc: Global,
+    size: WorldSize,
+    events: &[Event],
+    outcomes: &[Outcome],
+) -> Result<Found, AllocError>
+    requires { IsWorldSize size }
+    ensures { IfOk result (λ found. found ≡ Found.Lawful → IsRunFrom (opening size.frames size.levels) events.now outcomes.now) }
+{
+    let opening = opening_of(alloc, size)?;
+    let mut driver = Driver::new(alloc);
+    judge_lines(alloc, &mut driver, opening, events, outcomes, 2)
+}
+
 /// What the judge finds of an output of the script.
 pub(crate) fn judge_output(
     alloc: Global,
@@ -91,10 +106,8 @@ pub(crate) fn judge_output(
         return Ok(Found::Unlawful { line: 1 });
     };
     let (outcomes, rest) = read_outcomes(alloc, printed, output, text)?;
-    let opening = opening_of(alloc, size)?;
-    let mut driver = Driver::new(alloc);
     let events = script.events.as_slice();
-    match judge_lines(alloc, &mut driver, opening, events, &outcomes, 2)? {
+    match judge_outcomes(alloc, size, events, &outcomes)? {
         Found::Lawful if !rest.is_empty() => Ok(Found::Unread {
             line: events.len() as u64 + 2,
         }),

@@ -121,6 +121,43 @@ const OUTPUTS: [(&str, Found); 7] = [
     ),
 ];
 
+/// The directory takes frames 59 and 58 for its pages, and the device 57 for its root, before and after its detach.
+const DETACHING: &[u8] =
+    b"world 64 3\ndevice 000001 raw\nattach 000001 first\nfree 58\nfree 57\nfree 56\n\
+    detach 000001\npoll\nfree 57\nfree 58\nattach 000001 first\nfree 57\nfree 56\n";
+
+/// Outputs of that script, each with what is found of it.
+const DETACHES: [(&str, Found); 3] = [
+    (
+        "ok\nok\nok\nfree no\nfree no\nfree yes\nticket 1\nconfirmed 1-1\nfree yes\nfree no\nok\nfree no\nfree yes\n",
+        Found::Lawful,
+    ),
+    // the pages of the directory are given back too
+    (
+        "ok\nok\nok\nfree no\nfree no\nfree yes\nticket 1\nconfirmed 1-1\nfree yes\nfree yes\nok\nfree no\nfree yes\n",
+        Found::Unlawful { line: 10 },
+    ),
+    // the pages of the directory are taken once more
+    (
+        "ok\nok\nok\nfree no\nfree no\nfree yes\nticket 1\nconfirmed 1-1\nfree yes\nfree no\nok\nfree no\nfree no\n",
+        Found::Unlawful { line: 13 },
+    ),
+];
+
+#[test]
+fn outputs_of_a_detach_are_judged(rt: HostRuntime) -> Result<(), Fail> {
+    let script = iom_script::parse(rt.alloc(), DETACHING)?;
+    let mut printed = LineBuffer::new(rt.alloc())?;
+    for (output, found) in DETACHES {
+        assert_eq!(rt;
+            judge_output(rt.alloc(), &mut printed, &script, output)?,
+            found,
+            "at {output}"
+        );
+    }
+    Ok(())
+}
+
 #[test]
 fn outputs_are_judged(rt: HostRuntime) -> Result<(), Fail> {
     let script = iom_script::parse(rt.alloc(), SCRIPT)?;

@@ -1,25 +1,28 @@
 -- Calls of the driver that are lawful.
-use Rattle.std.proofs.Common.{◌≡◌, ◌↔◌, ℕ, suc, ◌-◌, Bool, false, List, ◌∷◌, All, Option, None, Some, is_some, slice_get, slice_set, refl, sym, ◌∙◌, subst}
+use Rattle.std.proofs.Common.{◌≡◌, ◌↔◌, ℕ, suc, ◌+◌, ◌-◌, ◌++◌, ap, Bool, false, List, ◌∷◌, All, Option, None, Some, is_some, slice_get, slice_set, refl, sym, ◌∙◌, subst}
+use Rattle.std.proofs.lemmas.List.Elements.{All-append}
 use Rattle.iom_base.specs.declared.grant_rights.GrantRights.{GrantRights}
 use Rattle.iom_ledger.specs.declared.entry.HistoryEntry.TheVariants as entries
 use Rattle.iom_ledger.specs.declared.refusal.Refusal.{Refusal}
 use Rattle.iom_ledger.specs.History.{History}
 use Rattle.iom_base.specs.GrantRights.{rights_of}
-use Rattle.iom_machine.specs.declared.outcome.Outcome.TheVariants.{Done, Confirmed}
+use Rattle.iom_machine.specs.declared.outcome.Outcome.TheVariants.{Done, Ticket, Confirmed}
 use Rattle.iom_machine.specs.declared.state.Attachment.TheVariants.{Attached}
 use Rattle.iom_machine.specs.declared.state.Device.{Device}
 use Rattle.iom_machine.specs.declared.state.Frame.{Frame}
 use Rattle.iom_machine.specs.declared.state.Mode.{Mode}
-use Rattle.iom_base.specs.declared.owner.Owner.TheVariants.{OneDevice}
+use Rattle.iom_base.specs.declared.owner.Owner.TheVariants.{System, OneDevice}
 use Rattle.iom_machine.specs.declared.state.State.{State}
-use Rattle.iom_machine.specs.Frames.{IsFreeBesides, reserved_for}
+use Rattle.iom_machine.specs.Frames.{IsFree, IsFreeBesides, reserved_for}
 use Rattle.iom_machine.specs.Devices.{device_of, with_device, DeviceMay, EachInFlightMay}
 use Rattle.iom_ledger.specs.Confirmations.{confirmed_from}
 use Rattle.iom_machine.specs.Tickets.{AreNextTickets, with_confirmed}
 use Rattle.iom_ledger.specs.Refusals.{NoneApplies}
-use Rattle.iom_machine.specs.Refusals.{attach_reasons, grant_reasons}
+use Rattle.iom_machine.specs.Refusals.{attach_reasons, detach_reasons, grant_reasons}
 use Rattle.iom_machine.specs.Judging.{StandsAt}
-use Rattle.iom_machine.specs.Machine.{Attaches, Grants, Polls}
+use Rattle.iom_machine.specs.Machine.{Attaches, Detaches, Grants, Polls}
+use Rattle.iom_machine.specs.Leaving.{leaving_under, with_left}
+use Rattle.iom_machine.proofs.LeavingLemmas.{devices_may, All-parts}
 use Rattle.iom_machine.proofs.FrameLemmas.{free_besides_none}
 use Rattle.iom_machine.proofs.StepLemmas.{only_state, some_state, no_state, own_place}
 
@@ -39,37 +42,66 @@ granted_as taken old id page frame rights history frames none free h f new =
     )
 
 -- the state after an attach
-abbrev pub attached_state : List ℕ → State → ℕ → Mode → Bool → Device → State
-attached_state taken old id mode ats device =
-    record (with_device old (record device { attachment = Attached mode ats })) { frames = reserved_for (OneDevice id) taken old.frames }
+abbrev pub attached_state : (pages taken : List ℕ) → State → ℕ → Mode → Bool → Device → State
+attached_state pages taken old id mode ats device =
+    record (with_device old (record device { attachment = Attached mode ats })) { frames = reserved_for (OneDevice id) taken (reserved_for System pages old.frames) }
 
-pub attached_as : (taken : List ℕ) (old : State) (id : ℕ) (mode : Mode) (ats : Bool) (place : ℕ) (device : Device) (devices : List Device) (frames : List Frame)
-    → NoneApplies (attach_reasons old id ats) → All (IsFreeBesides old None) taken → StandsAt old.devices id place → slice_get old.devices place ≡ Some device
-    → devices ≡ slice_set old.devices place (record device { attachment = Attached mode ats }) → frames ≡ reserved_for (OneDevice id) taken old.frames
-    → (new : State) → (◌≡◌ {A = Option State} (Some (record { levels = old.levels; frames = frames; history = old.history; last_ticket = old.last_ticket; devices = devices })) (Some new)) ↔ Attaches taken old id mode ats Done new
-attached_as taken old id mode ats place device devices frames none free is_place at d f new =
+pub attached_as : (pages taken : List ℕ) (old : State) (id : ℕ) (mode : Mode) (ats : Bool) (place : ℕ) (device : Device) (devices : List Device) (frames : List Frame)
+    → NoneApplies (attach_reasons old id ats) → All (IsFree old) (pages ++ taken) → StandsAt old.devices id place → slice_get old.devices place ≡ Some device
+    → devices ≡ slice_set old.devices place (record device { attachment = Attached mode ats }) → frames ≡ reserved_for (OneDevice id) taken (reserved_for System pages old.frames)
+    → (new : State) → (◌≡◌ {A = Option State} (Some (record { levels = old.levels; frames = frames; history = old.history; last_ticket = old.last_ticket; devices = devices })) (Some new)) ↔ Attaches pages taken old id mode ats Done new
+attached_as pages taken old id mode ats place device devices frames none free is_place at d f new =
     let next : State = record { levels = old.levels; frames = frames; history = old.history; last_ticket = old.last_ticket; devices = devices } in
     let own = own_place old.devices id place device is_place at in
     let now : Device = record device { attachment = Attached mode ats } in
-    let is : next ≡ attached_state taken old id mode ats device = rw (d, f, own.2 now) refl in
+    let is : next ≡ attached_state pages taken old id mode ats device = rw (d, f, own.2 now) refl in
     let there : device_of old id ≡ Some device = is_place.1 ∙ at in (
-      (λ same. (none, (free_besides_none old taken).0 free, rw there (sym (only_state next new same) ∙ is))),
+      (λ same. (none, free, rw there (sym (only_state next new same) ∙ is))),
       (λ step. let left = rw there at step.2 in some_state next new (is ∙ sym left)),
     )
 
-pub not_attached_as : (taken : List ℕ) (old : State) (id : ℕ) (mode : Mode) (ats : Bool) → ¬ All (IsFreeBesides old None) taken
-    → (new : State) → (◌≡◌ {A = Option State} None (Some new)) ↔ Attaches taken old id mode ats Done new
-not_attached_as taken old id mode ats never new =
-    ((λ same. absurd (no_state new same)), (λ step. absurd (never ((free_besides_none old taken).1 step.1))))
+pub not_attached_as : (pages taken : List ℕ) (old : State) (id : ℕ) (mode : Mode) (ats : Bool) → ¬ All (IsFree old) (pages ++ taken)
+    → (new : State) → (◌≡◌ {A = Option State} None (Some new)) ↔ Attaches pages taken old id mode ats Done new
+not_attached_as pages taken old id mode ats never new = ((λ same. absurd (no_state new same)), (λ step. absurd (never step.1)))
+
+-- both lists are of free frames
+pub both_free : (state : State) (pages taken : List ℕ) → All (IsFreeBesides state None) pages → All (IsFreeBesides state None) taken → All (IsFree state) (pages ++ taken)
+both_free state pages taken these those =
+    All-append (IsFree state) pages taken ((free_besides_none state pages).0 these) ((free_besides_none state taken).0 those)
+
+pub each_free : (state : State) (pages taken : List ℕ) → All (IsFree state) (pages ++ taken) → All (IsFreeBesides state None) pages × All (IsFreeBesides state None) taken
+each_free state pages taken all =
+    let parts = All-parts (IsFree state) pages taken all in ((free_besides_none state pages).1 parts.0, (free_besides_none state taken).1 parts.1)
+
+-- the state after a detach
+abbrev pub detached_state : ℕ → State → Device → State
+detached_state ticket old device = record (with_device old (record device { attachment = leaving_under ticket device.attachment })) { last_ticket = ticket }
+
+pub detached_as : (ticket : ℕ) (old : State) (id place : ℕ) (device : Device) (devices : List Device)
+    → NoneApplies (detach_reasons old id) → ticket ≡ old.last_ticket + 1 → StandsAt old.devices id place → slice_get old.devices place ≡ Some device
+    → devices ≡ slice_set old.devices place (record device { attachment = leaving_under ticket device.attachment })
+    → (new : State) → (◌≡◌ {A = Option State} (Some (record { levels = old.levels; frames = old.frames; history = old.history; last_ticket = ticket; devices = devices })) (Some new)) ↔ Detaches old id (Ticket ticket) new
+detached_as ticket old id place device devices none next_one is_place at d new =
+    let next : State = record { levels = old.levels; frames = old.frames; history = old.history; last_ticket = ticket; devices = devices } in
+    let own = own_place old.devices id place device is_place at in
+    let now : Device = record device { attachment = leaving_under ticket device.attachment } in
+    let is : next ≡ detached_state ticket old device = rw (d, own.2 now) refl in
+    let there : device_of old id ≡ Some device = is_place.1 ∙ at in (
+      (λ same. (none, next_one, rw there (sym (only_state next new same) ∙ is))),
+      (λ step. let left = rw there at step.2 in some_state next new (is ∙ sym left)),
+    )
 
 -- the state after a poll
 pub confirmed_as : (old : State) (first last : ℕ) (history : History) → AreNextTickets old first last → history ≡ confirmed_from first (suc (last - first)) old.history
     → All (DeviceMay history) old.devices
-    → (new : State) → (◌≡◌ {A = Option State} (Some (record { levels = old.levels; frames = old.frames; history = history; last_ticket = old.last_ticket; devices = old.devices })) (Some new)) ↔ Polls old (Confirmed first last) new
-confirmed_as old first last history tickets extended may new =
-    let next : State = record { levels = old.levels; frames = old.frames; history = history; last_ticket = old.last_ticket; devices = old.devices } in
-    let is : next ≡ with_confirmed old first last = rw extended refl in (
-      (λ same. (tickets, sym (only_state next new same) ∙ is, subst EachInFlightMay (only_state next new same) may)),
+    → (next : State) → next ≡ with_left (record { levels = old.levels; frames = old.frames; history = history; last_ticket = old.last_ticket; devices = old.devices })
+    → (new : State) → (◌≡◌ {A = Option State} (Some next) (Some new)) ↔ Polls old (Confirmed first last) new
+confirmed_as old first last history tickets extended may next left new =
+    let confirmed : State = record { levels = old.levels; frames = old.frames; history = history; last_ticket = old.last_ticket; devices = old.devices } in
+    let was : confirmed ≡ with_confirmed old first last = rw extended refl in
+    let is : next ≡ with_left (with_confirmed old first last) = left ∙ ap with_left was in
+    let may_next : EachInFlightMay next = subst EachInFlightMay (sym left) ((devices_may history old.devices).0 may) in (
+      (λ same. (tickets, sym (only_state next new same) ∙ is, subst EachInFlightMay (only_state next new same) may_next)),
       (λ step. some_state next new (is ∙ sym step.1)),
     )
 
@@ -77,5 +109,6 @@ pub not_confirmed_as : (old : State) (first last : ℕ) (history : History) → 
     → (new : State) → (◌≡◌ {A = Option State} None (Some new)) ↔ Polls old (Confirmed first last) new
 not_confirmed_as old first last history extended never new = (
   (λ same. absurd (no_state new same)),
-  (λ step. absurd (never (subst (λ h. All (DeviceMay h) old.devices) (sym extended) (subst EachInFlightMay step.1 step.2)))),
+  (λ step. absurd (never (subst (λ h. All (DeviceMay h) old.devices) (sym extended)
+      ((devices_may (with_confirmed old first last).history old.devices).1 (subst EachInFlightMay step.1 step.2))))),
 )

@@ -1,6 +1,6 @@
 -- How a step changes the devices: which accesses enter, in order, and which are made.
 use Rattle.std.proofs.Common.{◌≡◌, ℕ, zero, suc, ◌+◌, ◌==◌, inl, inr, Bool, true, false, cond, List, [], ◌∷◌, ◌++◌, length, length-append, append_assoc, map, drop, find, Option, None, Some, if◌then◌else◌, get_or, slice_get, refl, sym, ap, ◌∙◌, subst, arith}
-use Rattle.std.specs.Option.{option_map_or, option_or}
+use Rattle.std.specs.Option.{option_map, option_map_or, option_or}
 use Rattle.std.proofs.lemmas.Bool.{eq-eqb, eqb-true, eqb-false}
 use Rattle.std.proofs.lemmas.List.{append-nil, map-append}
 use Rattle.std.proofs.lemmas.List.Folds.{find-append}
@@ -22,7 +22,11 @@ use Rattle.iom_ledger.specs.Refusals.{first_that_applies}
 use Rattle.iom_machine.specs.Refusals.{plug_reasons}
 use Rattle.iom_machine.specs.Headline.{asked_by, accepted_by, accepted_in, made_by, made_in, AccessesInFlightWereAccepted}
 use Rattle.iom_machine.specs.PowerOn.{opening}
+use Rattle.iom_ledger.specs.History.{History}
+use Rattle.iom_machine.specs.Leaving.{device_once_confirmed}
+use Rattle.iom_machine.specs.Tickets.{with_confirmed}
 use Rattle.iom_machine.proofs.InFlightLemmas.{match_cases, some_case, found_device}
+use Rattle.iom_machine.proofs.LeavingLemmas.{found_once_confirmed}
 
 -- the accesses of a device in flight; none where there is no device
 abbrev pub asked_in_flight : Device → List Access
@@ -49,6 +53,8 @@ NothingFlows event outcome id = (accepted_by event outcome id ≡ []) × (made_b
 -- How a step changes the devices.
 pub data DevicesChange (event : Event) (outcome : Outcome) (old new : State) : Type 0 where
   stay : ((id : ℕ) → NothingFlows event outcome id) → new.devices ≡ old.devices → DevicesChange event outcome old new
+  leave : ((id : ℕ) → NothingFlows event outcome id) → (history : History) → new.devices ≡ map (device_once_confirmed history) old.devices
+      → DevicesChange event outcome old new
   enters : (id : ℕ) (kind : DeviceKind) → device_of old id ≡ None → ((other : ℕ) → NothingFlows event outcome other)
       → new.devices ≡ old.devices ++ plugged_device id kind ∷ [] → DevicesChange event outcome old new
   changes : (id : ℕ) (device now : Device) → device_of old id ≡ Some device → now.id ≡ device.id
@@ -122,11 +128,22 @@ flows-changes event outcome devices id device now at own flows quiet_others othe
     by false e = quiet event outcome other (find (λ d. d.id == other) devices) (find (λ d. d.id == other) (replaced_device devices device.id now)) (quiet_others other e)
         (subst (λ found. Flows [] 0 (find (λ d. d.id == other) devices) found) (sym (there e)) (nothing (find (λ d. d.id == other) devices)))
 
+flows-leave : (history : History) (devices : List Device) (id : ℕ) → Flows [] 0 (find (λ d. d.id == id) devices) (find (λ d. d.id == id) (map (device_once_confirmed history) devices))
+flows-leave history devices id =
+    subst (λ found. Flows [] 0 (find (λ d. d.id == id) devices) found) (sym (found_once_confirmed history devices id)) (by (find (λ d. d.id == id) devices))
+  where
+    by : (found : Option Device) → Flows [] 0 found (option_map (device_once_confirmed history) found)
+    by (Some device) = record { made = []; as_many = refl; in_order = append-nil (asked_in_flight device); counted = omega arith }
+    by None = nothing None
+
 flows-change : (event : Event) (outcome : Outcome) (old new : State) → DevicesChange event outcome old new
     → (id : ℕ) → Flows (accepted_by event outcome id) (made_by event outcome id) (device_of old id) (device_of new id)
 flows-change event outcome old new (DevicesChange.stay none same) id =
     subst (λ devices. Flows (accepted_by event outcome id) (made_by event outcome id) (device_of old id) (find (λ d. d.id == id) devices)) (sym same)
     (quiet event outcome id _ _ (none id) (nothing (device_of old id)))
+flows-change event outcome old new (DevicesChange.leave none history same) id =
+    subst (λ devices. Flows (accepted_by event outcome id) (made_by event outcome id) (device_of old id) (find (λ d. d.id == id) devices)) (sym same)
+    (quiet event outcome id _ _ (none id) (flows-leave history old.devices id))
 flows-change event outcome old new (DevicesChange.enters entered kind absent none same) id =
     subst (λ devices. Flows (accepted_by event outcome id) (made_by event outcome id) (device_of old id) (find (λ d. d.id == id) devices)) (sym same)
     (quiet event outcome id _ _ (none id) (flows-enters old.devices entered kind id))
@@ -177,8 +194,14 @@ own_ids-replaced (d ∷ devices) id now is own = by (d.id == id) refl (own_ids-r
     by true e rest = (subst (λ n. find (λ x. x.id == n) devices ≡ None) (eqb-true d.id id e ∙ sym is) own.0, own.1)
     by false e rest = (found_besides devices id now d.id is (turned e) ∙ own.0, rest)
 
+own_ids-leave : (history : History) (devices : List Device) → HaveOwnIds devices → HaveOwnIds (map (device_once_confirmed history) devices)
+own_ids-leave history [] own = tt
+own_ids-leave history (device ∷ devices) own =
+    (found_once_confirmed history devices device.id ∙ ap (λ found. option_map (device_once_confirmed history) found) own.0, own_ids-leave history devices own.1)
+
 own_ids-change : (event : Event) (outcome : Outcome) (old new : State) → DevicesChange event outcome old new → HaveOwnIds old.devices → HaveOwnIds new.devices
 own_ids-change event outcome old new (DevicesChange.stay none same) own = subst HaveOwnIds (sym same) own
+own_ids-change event outcome old new (DevicesChange.leave none history same) own = subst HaveOwnIds (sym same) (own_ids-leave history old.devices own)
 own_ids-change event outcome old new (DevicesChange.enters id kind absent none same) own =
     subst HaveOwnIds (sym same) (own_ids-enters old.devices (plugged_device id kind) own absent)
 own_ids-change event outcome old new (DevicesChange.changes id device now at is flows others same) own =
@@ -297,6 +320,13 @@ devices-step old new (events.Attach id mode ats) Done (choice, step) =
     (λ other differ. (refl, refl)) (ap (λ (s : State). s.devices) found.2)
 devices-step old new (events.Attach id mode ats) (Refused why) (choice, step) = stays_asking _ _ old new refl (λ other. refl) (ap (λ (s : State). s.devices) step.1)
 devices-step old new (events.Attach id mode ats) _ (choice, step) = absurd step
+devices-step old new (events.Detach id) (Ticket ticket) (choice, step) =
+    let found = some_case (device_of old id) _ step.2 in
+    DevicesChange.changes id found.0 (record found.0 { attachment = _ }) found.1 refl
+    (record { made = []; as_many = refl; in_order = append-nil (asked_in_flight found.0); counted = omega arith })
+    (λ other differ. (refl, refl)) (ap (λ (s : State). s.devices) found.2)
+devices-step old new (events.Detach id) (Refused why) (choice, step) = stays_asking _ _ old new refl (λ other. refl) (ap (λ (s : State). s.devices) step.1)
+devices-step old new (events.Detach id) _ (choice, step) = absurd step
 devices-step old new (events.Grant id page frame rights) Done (choice, step) = stays_asking _ _ old new refl (λ other. refl) (ap (λ (s : State). s.devices) step.2)
 devices-step old new (events.Grant id page frame rights) (Refused why) (choice, step) = stays_asking _ _ old new refl (λ other. refl) (ap (λ (s : State). s.devices) step.1)
 devices-step old new (events.Grant id page frame rights) _ (choice, step) = absurd step
@@ -305,7 +335,8 @@ devices-step old new (events.Release id page) (Refused why) (choice, step) = sta
 devices-step old new (events.Release id page) _ (choice, step) = absurd step
 devices-step old new events.Fetch (Fetched result) (choice, step) = stays_asking _ _ old new refl (λ other. refl) (ap (λ (s : State). s.devices) step)
 devices-step old new events.Fetch _ (choice, step) = absurd step
-devices-step old new events.Poll (Confirmed first last) (choice, step) = stays_asking _ _ old new refl (λ other. refl) (ap (λ (s : State). s.devices) step.1)
+devices-step old new events.Poll (Confirmed first last) (choice, step) =
+    DevicesChange.leave (λ other. (refl, refl)) (with_confirmed old first last).history (ap (λ (s : State). s.devices) step.1)
 devices-step old new events.Poll NoneConfirmed (choice, step) = stays_asking _ _ old new refl (λ other. refl) (ap (λ (s : State). s.devices) step)
 devices-step old new events.Poll _ (choice, step) = absurd step
 devices-step old new (events.Read id address len) outcome (choice, step) = change-requests choice.frame old new _ outcome id (read_of address len) step refl (λ told other. refl)

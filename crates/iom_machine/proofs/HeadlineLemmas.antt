@@ -239,6 +239,7 @@ free_confirmed first (suc n) h frame free = free_after (entries.Confirmed (first
 pub free-change : (event : Event) (outcome : Outcome) (old new : State) (frame : ℕ) → Change event outcome old new → ¬ GrantsFrame event outcome frame
     → ledger.NoneMayReach old.history frame → ledger.NoneMayReach new.history frame
 free-change event outcome old new frame (Change.ledger_stays stays) other free = subst (λ h. ledger.NoneMayReach h frame) (sym stays.0) free
+free-change event outcome old new frame (Change.detaches stays next) other free = subst (λ h. ledger.NoneMayReach h frame) (sym stays) free
 free-change event outcome old new frame (Change.grants id page named rights granted low empty extended tickets) other free =
     subst (λ h. ledger.NoneMayReach h frame) (sym extended)
     (free_after (entries.Granted id page named rights) old.history frame (λ same. other (subst (GrantsFrame event outcome) same granted)) free)
@@ -293,7 +294,7 @@ pub commits_are_answered : (state : State) (id : ℕ) → IsReached state → (o
 commits_are_answered state id reached = by (device_of state id) refl
   where
     none_chosen : Choice
-    none_chosen = record { taken = []; frame = 0 }
+    none_chosen = record { directory = []; taken = []; frame = 0 }
 
     by : (found : Option Device) → device_of state id ≡ found → (outcome : Outcome) × (new : State) × Step state (events.Commit id) outcome new
     by None absent = (Refused NoSuchDevice, state, (none_chosen, rw absent (refl, refl)))

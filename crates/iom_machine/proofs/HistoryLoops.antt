@@ -1,12 +1,12 @@
 -- Loops over a history: a search from the newest entry on, and a fold from the oldest on.
-use Rattle.std.proofs.Common.{◌≡◌, ◌+◌, ◌-◌, ◌<◌, ◌≤◌, ◌∙◌, ◌==◌, ◌||◌, ℕ, zero, suc, Bool, true, false, List, [], ◌∷◌, ◌++◌, length, drop, Option, slice_index_or, if◌then◌else◌, refl, sym, ap, subst, arith}
+use Rattle.std.proofs.Common.{◌≡◌, ◌+◌, ◌-◌, ◌<◌, ◌≤◌, ◌∙◌, ◌==◌, ◌&&◌, ◌||◌, not, is_some, ℕ, zero, suc, Bool, true, false, List, [], ◌∷◌, ◌++◌, length, drop, Option, slice_index_or, if◌then◌else◌, refl, sym, ap, subst, arith}
 use Rattle.std.specs.List.{list_any}
 use Rattle.iom_base.specs.declared.access.AccessKind.{AccessKind}
 use Rattle.iom_base.specs.declared.access.AccessKind.TheVariants.{Read}
 use Rattle.iom_ledger.specs.declared.entry.HistoryEntry.{HistoryEntry}
 use Rattle.iom_ledger.specs.declared.entry.HistoryEntry.TheVariants.{Granted, Released, AllReleased, Confirmed}
 use Rattle.iom_ledger.specs.History.{History, Pair, is_about, granted_by, held_at, released_by, released_at, confirms}
-use Rattle.iom_machine.specs.Judging.{holds_for, lingers_for, lingers_among, reaches_in, anyone_reaches_in}
+use Rattle.iom_machine.specs.Judging.{holds_for, lingers_for, lingers_among, reaches_in, anyone_reaches_in, grants_left_in}
 use Rattle.iom_machine.specs.Tickets.{last_confirmed}
 
 or_false : (a : Bool) → (a || false) ≡ a
@@ -68,6 +68,20 @@ anyone_any all history frame = one_by_one (λ h. anyone_reaches_in all h frame) 
     step : (entry : HistoryEntry) (before : History)
         → anyone_reaches_in all (entry ∷ before) frame ≡ (anyone_reaches_in all (entry ∷ []) frame || anyone_reaches_in all before frame)
     step (Granted d page f rights) before = ap (λ b. b || anyone_reaches_in all before frame) (sym (or_false (reaches_in all all d frame Read)))
+    step (Released d page t) before = refl
+    step (AllReleased d t) before = refl
+    step (Confirmed t) before = refl
+
+-- whether a device has grants
+pub grants_left_by_one : (all history : History) (device : ℕ)
+    → list_any (λ entry. grants_left_in all (entry ∷ []) device) history ≡ grants_left_in all history device
+grants_left_by_one all history device = one_by_one (λ h. grants_left_in all h device) refl step history
+  where
+    step : (entry : HistoryEntry) (before : History)
+        → grants_left_in all (entry ∷ before) device ≡ (grants_left_in all (entry ∷ []) device || grants_left_in all before device)
+    step (Granted d page f rights) before =
+        let here = (d == device) && (is_some (held_at all device page) || list_any (λ r. not (confirms all r.0)) (released_at all device page)) in
+        ap (λ b. b || grants_left_in all before device) (sym (or_false here))
     step (Released d page t) before = refl
     step (AllReleased d t) before = refl
     step (Confirmed t) before = refl

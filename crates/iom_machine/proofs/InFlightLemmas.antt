@@ -1,9 +1,9 @@
 -- What a step keeps of each access in flight.
-use Rattle.std.proofs.Common.{◌≡◌, ℕ, ◌==◌, ◌⊎◌, inl, inr, Bool, true, false, cond, List, [], ◌∷◌, ◌-◌, length, take, drop, find, All, Contains, Option, None, Some, MatchOption, IsSomeAnd, if◌then◌else◌, slice_get, refl, sym, ap, subst, arith}
+use Rattle.std.proofs.Common.{◌≡◌, ℕ, ◌==◌, ◌⊎◌, inl, inr, Bool, true, false, cond, List, [], ◌∷◌, ◌-◌, length, take, drop, find, map, All, Contains, Option, None, Some, MatchOption, IsSomeAnd, if◌then◌else◌, slice_get, refl, sym, ap, subst, arith}
 use Rattle.std.specs.Prelude.{⊤}
 use Rattle.std.proofs.lemmas.Bool.{eqb-true}
 use Rattle.std.proofs.lemmas.Grind.{common_steps}
-use Rattle.std.proofs.lemmas.List.Elements.{All-push, All-nil, All-weaker, All-contains, All-cons, All-tail, All-head}
+use Rattle.std.proofs.lemmas.List.Elements.{All-map, All-push, All-nil, All-weaker, All-contains, All-cons, All-tail, All-head}
 use Rattle.std.proofs.lemmas.Option.{get_or_from_slice_get, slice_get_within}
 use Rattle.iom_ledger.specs.History.{History, May}
 use Rattle.iom_machine.specs.declared.event.Event.{Event}
@@ -22,6 +22,8 @@ use Rattle.iom_machine.specs.Devices.{device_of, replaced_device}
 use Rattle.iom_base.specs.Accesses.{read_of, write_of, page_of, IsWithinPage}
 use Rattle.iom_machine.specs.Requests.{MayAcceptFormerly, MayAccept, MayAnswer, state_after}
 use Rattle.iom_machine.specs.Machine.{Requests, Makes, Commits, Step}
+use Rattle.iom_machine.specs.Leaving.{device_once_confirmed}
+use Rattle.iom_machine.specs.Tickets.{with_confirmed}
 use Rattle.iom_machine.specs.Headline.{AsksFor}
 use Rattle.iom_machine.proofs.ReachLemmas.{contains_head, contains_tail}
 
@@ -169,6 +171,12 @@ in_flight-commits P old new id outcome step all = elim (match_cases (device_of o
 devices_stay : (P : ℕ → AcceptedAccess → Type 0) (old new : State) → new.devices ≡ old.devices → AllInFlight P old.devices → AllInFlight P new.devices
 devices_stay P old new same all = subst (AllInFlight P) (sym same) all
 
+-- the devices that have left are detached, and keep their accesses in flight
+devices_leave : (P : ℕ → AcceptedAccess → Type 0) (old new : State) (history : History) → new.devices ≡ map (device_once_confirmed history) old.devices
+    → AllInFlight P old.devices → AllInFlight P new.devices
+devices_leave P old new history same all =
+    subst (AllInFlight P) (sym same) (All-map (λ (device : Device). All (P device.id) device.in_flight) (device_once_confirmed history) old.devices all)
+
 -- A step keeps each fact of each access in flight, where it is true of those that enter.
 pub in_flight-step : (P : ℕ → AcceptedAccess → Type 0) (old new : State) (event : Event) (outcome : Outcome) → Step old event outcome new
     → ((id : ℕ) (flight : AcceptedAccess) → IsAccepted event outcome id flight.access → IsWithinPage flight.access → StillMay old.history id flight → P id flight)
@@ -182,6 +190,11 @@ in_flight-step P old new (events.Attach id mode ats) Done (choice, step) enters 
     subst (λ (s : State). AllInFlight P s.devices) (sym found.2) (AllInFlight-with P old.devices found.0.id _ all (AllInFlight-of P old.devices id found.0 found.1 all))
 in_flight-step P old new (events.Attach id mode ats) (Refused why) (choice, step) enters all = devices_stay P old new (ap (λ (s : State). s.devices) step.1) all
 in_flight-step P old new (events.Attach id mode ats) _ (choice, step) enters all = absurd step
+in_flight-step P old new (events.Detach id) (Ticket ticket) (choice, step) enters all =
+    let found = some_case (device_of old id) _ step.2 in
+    subst (λ (s : State). AllInFlight P s.devices) (sym found.2) (AllInFlight-with P old.devices found.0.id _ all (AllInFlight-of P old.devices id found.0 found.1 all))
+in_flight-step P old new (events.Detach id) (Refused why) (choice, step) enters all = devices_stay P old new (ap (λ (s : State). s.devices) step.1) all
+in_flight-step P old new (events.Detach id) _ (choice, step) enters all = absurd step
 in_flight-step P old new (events.Grant id page frame rights) Done (choice, step) enters all = devices_stay P old new (ap (λ (s : State). s.devices) step.2) all
 in_flight-step P old new (events.Grant id page frame rights) (Refused why) (choice, step) enters all = devices_stay P old new (ap (λ (s : State). s.devices) step.1) all
 in_flight-step P old new (events.Grant id page frame rights) _ (choice, step) enters all = absurd step
@@ -190,7 +203,8 @@ in_flight-step P old new (events.Release id page) (Refused why) (choice, step) e
 in_flight-step P old new (events.Release id page) _ (choice, step) enters all = absurd step
 in_flight-step P old new events.Fetch (Fetched result) (choice, step) enters all = devices_stay P old new (ap (λ (s : State). s.devices) step) all
 in_flight-step P old new events.Fetch _ (choice, step) enters all = absurd step
-in_flight-step P old new events.Poll (Confirmed first last) (choice, step) enters all = devices_stay P old new (ap (λ (s : State). s.devices) step.1) all
+in_flight-step P old new events.Poll (Confirmed first last) (choice, step) enters all =
+    devices_leave P old new (with_confirmed old first last).history (ap (λ (s : State). s.devices) step.1) all
 in_flight-step P old new events.Poll NoneConfirmed (choice, step) enters all = devices_stay P old new (ap (λ (s : State). s.devices) step) all
 in_flight-step P old new events.Poll _ (choice, step) enters all = absurd step
 in_flight-step P old new (events.Read id address len) outcome (choice, step) enters all =

@@ -94,7 +94,7 @@ LingersFor-test h id page kind frame (rights, (ticket, c), allowed) =
     (and_from (not (confirms h ticket)) (serves frame kind (frame, rights)) kept.1 (serving frame kind rights allowed))
 
 -- whether some entry grants the device something at the page
-abbrev grants_at : History → ℕ → ℕ → Bool
+abbrev pub grants_at : History → ℕ → ℕ → Bool
 grants_at [] device page = false
 grants_at (Granted d p frame rights ∷ before) device page = ((d == device) && (p == page)) || grants_at before device page
 grants_at (Released d p ticket ∷ before) device page = grants_at before device page
@@ -108,7 +108,7 @@ granted_before (AllReleased d ticket) h device page e = e
 granted_before (Confirmed ticket) h device page e = e
 
 -- what is held was granted
-held_was_granted : (h : History) (d page : ℕ) (pair : Pair) → held_at h d page ≡ Some pair → grants_at h d page ≡ true
+pub held_was_granted : (h : History) (d page : ℕ) (pair : Pair) → held_at h d page ≡ Some pair → grants_at h d page ≡ true
 held_was_granted [] d page pair e = cc
 held_was_granted (entry ∷ h) d page pair e = by (is_about entry (held_at h d page) d page) refl e (held_was_granted h d page pair)
   where
@@ -124,7 +124,7 @@ held_was_granted (entry ∷ h) d page pair e = by (is_about entry (held_at h d p
     by false about x rest = granted_before entry h d page (rest x)
 
 -- what was released was granted
-released_was_granted : (h : History) (d page : ℕ) (released : ℕ × Pair) → Contains (released_at h d page) released → grants_at h d page ≡ true
+pub released_was_granted : (h : History) (d page : ℕ) (released : ℕ × Pair) → Contains (released_at h d page) released → grants_at h d page ≡ true
 released_was_granted [] d page released (k, below, at) = absurd (omega arith)
 released_was_granted (entry ∷ h) d page released c =
     by (is_about entry (held_at h d page) d page)

@@ -1,6 +1,8 @@
 pub mod ReachLemmas
 pub mod ByteLemmas
 pub mod InFlightLemmas
+pub mod LeavingLemmas
+pub mod GrantLemmas
 pub mod DeviceLemmas
 pub mod SoundLemmas
 pub mod HeadlineLemmas

@@ -1,10 +1,10 @@
 -- What is true of every state that is reached.
-use Rattle.std.proofs.Common.{◌≡◌, ℕ, suc, zero, ◌+◌, ◌-◌, ◌/◌, ◌%◌, ◌<◌, ◌≤◌, ◌==◌, ◌⊎◌, inl, inr, Bool, true, false, ◌||◌, List, [], ◌∷◌, length, All, Option, None, Some, is_some, if◌then◌else◌, slice_get, slice_set, nat_le, replicate, refl, sym, ap, ◌∙◌, subst, arith}
+use Rattle.std.proofs.Common.{◌≡◌, ℕ, suc, zero, ◌+◌, ◌-◌, ◌/◌, ◌%◌, ◌<◌, ◌≤◌, ◌==◌, ◌⊎◌, inl, inr, Bool, true, false, ◌||◌, List, [], ◌∷◌, length, map, All, Option, None, Some, is_some, if◌then◌else◌, slice_get, slice_set, nat_le, replicate, refl, sym, ap, ◌∙◌, subst, arith}
 use Rattle.std.proofs.lemmas.Bool.{eqb-true, or_parts}
 use Rattle.std.proofs.lemmas.Bool.Decides.{nat_tests}
 use Rattle.std.proofs.lemmas.Grind.{common_steps}
-use Rattle.std.proofs.lemmas.List.{length-replicate}
-use Rattle.std.proofs.lemmas.List.Elements.{All-nil, All-set, All-replicate}
+use Rattle.std.proofs.lemmas.List.{length-map, length-replicate}
+use Rattle.std.proofs.lemmas.List.Elements.{All-map, All-nil, All-set, All-replicate, All-weaker}
 use Rattle.std.specs.Option.{option_map_or}
 use Rattle.iom_base.specs.Bytes.{with_bytes}
 use Rattle.iom_base.specs.declared.access.AccessKind.{AccessKind}
@@ -35,6 +35,8 @@ use Rattle.iom_base.specs.Accesses.{read_of, write_of, offset_of, IsWithinPage}
 use Rattle.iom_machine.specs.Requests.{state_after}
 use Rattle.iom_machine.specs.Machine.{Requests, Makes, Commits, Step, Run}
 use Rattle.iom_machine.specs.PowerOn.{opening, empty_frame}
+use Rattle.iom_machine.specs.Leaving.{is_of_left, given_back}
+use Rattle.iom_machine.specs.Tickets.{with_confirmed}
 use Rattle.iom_machine.specs.Headline.{GrantsFrame, AsksFor, IsReached}
 use Rattle.iom_machine.proofs.ReachLemmas.{NamesFrame, reach_before, reach_after_grant, reach_after_release}
 use Rattle.iom_machine.proofs.ByteLemmas.{length-with_bytes}
@@ -165,6 +167,7 @@ same_ledger-commits old new id outcome step = elim (match_cases (device_of old i
 pub data Change (event : Event) (outcome : Outcome) (old new : State) : Type 0 where
   ledger_stays : SameLedger old new → Change event outcome old new
   grants : (id page frame : ℕ) (rights : Rights) → GrantsFrame event outcome frame → frame < length old.frames → held_at old.history id page ≡ None → new.history ≡ entries.Granted id page frame rights ∷ old.history → new.last_ticket ≡ old.last_ticket → Change event outcome old new
+  detaches : new.history ≡ old.history → new.last_ticket ≡ old.last_ticket + 1 → Change event outcome old new
   releases : (id page : ℕ) → new.history ≡ entries.Released id page new.last_ticket ∷ old.history → new.last_ticket ≡ old.last_ticket + 1 → Change event outcome old new
   confirms_some : (first n : ℕ) → first + n ≤ old.last_ticket + 1 → new.history ≡ confirmed_from first n old.history → new.last_ticket ≡ old.last_ticket → EachInFlightMay new → Change event outcome old new
 
@@ -179,6 +182,10 @@ change-step old new (events.Attach id mode ats) Done (choice, step) =
     let found = some_case (device_of old id) _ step.2 in Change.ledger_stays (ap (λ (s : State). s.history) found.2, ap (λ (s : State). s.last_ticket) found.2)
 change-step old new (events.Attach id mode ats) (Refused why) (choice, step) = unchanged _ _ old new step.1
 change-step old new (events.Attach id mode ats) _ (choice, step) = absurd step
+change-step old new (events.Detach id) (Ticket ticket) (choice, step) =
+    let found = some_case (device_of old id) _ step.2 in Change.detaches (ap (λ (s : State). s.history) found.2) (ap (λ (s : State). s.last_ticket) found.2 ∙ step.1)
+change-step old new (events.Detach id) (Refused why) (choice, step) = unchanged _ _ old new step.1
+change-step old new (events.Detach id) _ (choice, step) = absurd step
 change-step old new (events.Grant id page frame rights) Done (choice, step) =
     Change.grants id page frame (rights_of rights) refl (grant_in_memory old id page frame step.0) (grant_finds_nothing old id page frame step.0) (ap (λ (s : State). s.history) step.2) (ap (λ (s : State). s.last_ticket) step.2)
 change-step old new (events.Grant id page frame rights) (Refused why) (choice, step) = unchanged _ _ old new step.1
@@ -213,6 +220,7 @@ change-step old new (events.Free frame) _ (choice, step) = absurd step
 -- a step takes no device's reach from an access in flight
 reaches-change : (event : Event) (outcome : Outcome) (old new : State) → Change event outcome old new → WereGiven old.history old.last_ticket → AllInFlight (StillMay old.history) new.devices → AllInFlight (StillMay new.history) new.devices
 reaches-change event outcome old new (Change.ledger_stays stays) given all = subst (λ h. AllInFlight (StillMay h) new.devices) (sym stays.0) all
+reaches-change event outcome old new (Change.detaches stays next) given all = subst (λ h. AllInFlight (StillMay h) new.devices) (sym stays) all
 reaches-change event outcome old new (Change.grants id page frame rights granted low empty extended tickets) given all =
     subst (λ h. AllInFlight (StillMay h) new.devices) (sym extended)
     (AllInFlight-weaker (StillMay old.history) _ (λ d flight may. reach_after_grant old.history id page frame rights empty d flight.frame flight.access.kind may) new.devices all)
@@ -225,6 +233,8 @@ reaches-change event outcome old new (Change.confirms_some first n most extended
 -- confirmed tickets were given
 tickets-change : (event : Event) (outcome : Outcome) (old new : State) → Change event outcome old new → WereGiven old.history old.last_ticket → WereGiven new.history new.last_ticket
 tickets-change event outcome old new (Change.ledger_stays stays) given = rw (stays.0, stays.1) given
+tickets-change event outcome old new (Change.detaches stays next) given =
+    λ t c. let below : t ≤ old.last_ticket = given t (subst (λ h. confirms h t ≡ true) stays c) in omega (arith, next)
 tickets-change event outcome old new (Change.grants id page frame rights granted low empty extended tickets) given = rw (extended, tickets) given
 tickets-change event outcome old new (Change.releases id page extended next) given =
     λ t c. let before : confirms old.history t ≡ true = subst (λ h. confirms h t ≡ true) extended c in
@@ -254,6 +264,7 @@ in_memory-change event outcome old new change size low = subst (λ n. AreInMemor
 
     by : Change event outcome old new → AreInMemory new.history (length old.frames)
     by (Change.ledger_stays stays) = subst (λ h. AreInMemory h (length old.frames)) (sym stays.0) low
+    by (Change.detaches stays next) = subst (λ h. AreInMemory h (length old.frames)) (sym stays) low
     by (Change.grants id page frame rights granted below empty extended tickets) = subst (λ h. AreInMemory h (length old.frames)) (sym extended)
         (entered (entries.Granted id page frame rights) (λ named same. subst (λ n. n < length old.frames) same below) old.history low)
     by (Change.releases id page extended next) = subst (λ h. AreInMemory h (length old.frames)) (sym extended)
@@ -283,6 +294,10 @@ KeptByWrites W P = (frames : List Frame) (made : AcceptedAccess) → W made → 
 abbrev pub KeptByPokes : (List Frame → Type 0) → Type 0
 KeptByPokes P = (frames : List Frame) (number offset : ℕ) (bytes : List ℕ) → offset + length bytes ≤ 4096 → P frames → P (stored frames number offset bytes)
 
+-- what is kept where frames are given back
+abbrev pub KeptByReturns : (List Frame → Type 0) → Type 0
+KeptByReturns P = (frames : List Frame) (has_left : Option Owner → Bool) → P frames → P (map (λ frame. given_back (has_left frame.owner) frame) frames)
+
 kept-reserved : (P : List Frame → Type 0) → KeptByOwners P → (owner : Owner) (numbers : List ℕ) (frames : List Frame) → P frames → P (reserved_for owner numbers frames)
 kept-reserved P owned owner [] frames its = its
 kept-reserved P owned owner (number ∷ numbers) frames its = kept-reserved P owned owner numbers _ (owned frames number owner its)
@@ -306,50 +321,66 @@ frames-commits W P written old new id outcome all step its = elim (match_cases (
     by device at NothingInFlight makes = stay makes.1
     by device at _ makes = absurd makes
 
--- A step keeps what reserving frames keeps, and making the writes in flight, and the processor's own.
-pub frames-step : (W : AcceptedAccess → Type 0) (P : List Frame → Type 0) → KeptByOwners P → KeptByWrites W P → KeptByPokes P
+-- A step keeps what reserving frames keeps, and giving them back, and making the writes in flight, and the processor's own.
+pub frames-step : (W : AcceptedAccess → Type 0) (P : List Frame → Type 0) → KeptByOwners P → KeptByReturns P → KeptByWrites W P → KeptByPokes P
     → (old new : State) (event : Event) (outcome : Outcome) → AllInFlight (λ id flight. W flight) old.devices → Step old event outcome new → P old.frames → P new.frames
-frames-step W P owned written poked old new (events.Plug id kind) Done all (choice, step) its = subst P (sym (ap (λ (s : State). s.frames) step.1)) its
-frames-step W P owned written poked old new (events.Plug id kind) (Refused why) all (choice, step) its = subst P (sym (ap (λ (s : State). s.frames) step.1)) its
-frames-step W P owned written poked old new (events.Plug id kind) _ all (choice, step) its = absurd step
-frames-step W P owned written poked old new (events.Attach id mode ats) Done all (choice, step) its =
+frames-step W P owned returned written poked old new (events.Plug id kind) Done all (choice, step) its = subst P (sym (ap (λ (s : State). s.frames) step.1)) its
+frames-step W P owned returned written poked old new (events.Plug id kind) (Refused why) all (choice, step) its = subst P (sym (ap (λ (s : State). s.frames) step.1)) its
+frames-step W P owned returned written poked old new (events.Plug id kind) _ all (choice, step) its = absurd step
+frames-step W P owned returned written poked old new (events.Attach id mode ats) Done all (choice, step) its =
     let found = some_case (device_of old id) _ step.2 in
-    subst P (sym (ap (λ (s : State). s.frames) found.2)) (kept-reserved P owned (OneDevice id) choice.taken old.frames its)
-frames-step W P owned written poked old new (events.Attach id mode ats) (Refused why) all (choice, step) its = subst P (sym (ap (λ (s : State). s.frames) step.1)) its
-frames-step W P owned written poked old new (events.Attach id mode ats) _ all (choice, step) its = absurd step
-frames-step W P owned written poked old new (events.Grant id page frame rights) Done all (choice, step) its =
+    subst P (sym (ap (λ (s : State). s.frames) found.2))
+    (kept-reserved P owned (OneDevice id) choice.taken _ (kept-reserved P owned System choice.directory old.frames its))
+frames-step W P owned returned written poked old new (events.Attach id mode ats) (Refused why) all (choice, step) its = subst P (sym (ap (λ (s : State). s.frames) step.1)) its
+frames-step W P owned returned written poked old new (events.Attach id mode ats) _ all (choice, step) its = absurd step
+frames-step W P owned returned written poked old new (events.Detach id) (Ticket ticket) all (choice, step) its =
+    let found = some_case (device_of old id) _ step.2 in subst P (sym (ap (λ (s : State). s.frames) found.2)) its
+frames-step W P owned returned written poked old new (events.Detach id) (Refused why) all (choice, step) its = subst P (sym (ap (λ (s : State). s.frames) step.1)) its
+frames-step W P owned returned written poked old new (events.Detach id) _ all (choice, step) its = absurd step
+frames-step W P owned returned written poked old new (events.Grant id page frame rights) Done all (choice, step) its =
     subst P (sym (ap (λ (s : State). s.frames) step.2)) (kept-reserved P owned (OneDevice id) choice.taken old.frames its)
-frames-step W P owned written poked old new (events.Grant id page frame rights) (Refused why) all (choice, step) its = subst P (sym (ap (λ (s : State). s.frames) step.1)) its
-frames-step W P owned written poked old new (events.Grant id page frame rights) _ all (choice, step) its = absurd step
-frames-step W P owned written poked old new (events.Release id page) (Ticket ticket) all (choice, step) its = subst P (sym (ap (λ (s : State). s.frames) step.2)) its
-frames-step W P owned written poked old new (events.Release id page) (Refused why) all (choice, step) its = subst P (sym (ap (λ (s : State). s.frames) step.1)) its
-frames-step W P owned written poked old new (events.Release id page) _ all (choice, step) its = absurd step
-frames-step W P owned written poked old new events.Fetch (Fetched result) all (choice, step) its = subst P (sym (ap (λ (s : State). s.frames) step)) its
-frames-step W P owned written poked old new events.Fetch _ all (choice, step) its = absurd step
-frames-step W P owned written poked old new events.Poll (Confirmed first last) all (choice, step) its = subst P (sym (ap (λ (s : State). s.frames) step.1)) its
-frames-step W P owned written poked old new events.Poll NoneConfirmed all (choice, step) its = subst P (sym (ap (λ (s : State). s.frames) step)) its
-frames-step W P owned written poked old new events.Poll _ all (choice, step) its = absurd step
-frames-step W P owned written poked old new (events.Read id address len) outcome all (choice, step) its = subst P (sym (same_frames-requests choice.frame old new id (read_of address len) outcome step)) its
-frames-step W P owned written poked old new (events.Write id address bytes) outcome all (choice, step) its = subst P (sym (same_frames-requests choice.frame old new id (write_of address bytes) outcome step)) its
-frames-step W P owned written poked old new (events.Commit id) outcome all (choice, step) its = frames-commits W P written old new id outcome all step its
-frames-step W P owned written poked old new (events.Poke address bytes) Done all (choice, step) its =
+frames-step W P owned returned written poked old new (events.Grant id page frame rights) (Refused why) all (choice, step) its = subst P (sym (ap (λ (s : State). s.frames) step.1)) its
+frames-step W P owned returned written poked old new (events.Grant id page frame rights) _ all (choice, step) its = absurd step
+frames-step W P owned returned written poked old new (events.Release id page) (Ticket ticket) all (choice, step) its = subst P (sym (ap (λ (s : State). s.frames) step.2)) its
+frames-step W P owned returned written poked old new (events.Release id page) (Refused why) all (choice, step) its = subst P (sym (ap (λ (s : State). s.frames) step.1)) its
+frames-step W P owned returned written poked old new (events.Release id page) _ all (choice, step) its = absurd step
+frames-step W P owned returned written poked old new events.Fetch (Fetched result) all (choice, step) its = subst P (sym (ap (λ (s : State). s.frames) step)) its
+frames-step W P owned returned written poked old new events.Fetch _ all (choice, step) its = absurd step
+frames-step W P owned returned written poked old new events.Poll (Confirmed first last) all (choice, step) its =
+    subst P (sym (ap (λ (s : State). s.frames) step.1)) (returned old.frames (is_of_left (with_confirmed old first last)) its)
+frames-step W P owned returned written poked old new events.Poll NoneConfirmed all (choice, step) its = subst P (sym (ap (λ (s : State). s.frames) step)) its
+frames-step W P owned returned written poked old new events.Poll _ all (choice, step) its = absurd step
+frames-step W P owned returned written poked old new (events.Read id address len) outcome all (choice, step) its = subst P (sym (same_frames-requests choice.frame old new id (read_of address len) outcome step)) its
+frames-step W P owned returned written poked old new (events.Write id address bytes) outcome all (choice, step) its = subst P (sym (same_frames-requests choice.frame old new id (write_of address bytes) outcome step)) its
+frames-step W P owned returned written poked old new (events.Commit id) outcome all (choice, step) its = frames-commits W P written old new id outcome all step its
+frames-step W P owned returned written poked old new (events.Poke address bytes) Done all (choice, step) its =
     subst P (sym (ap (λ (s : State). s.frames) step.2)) (poked old.frames (address / 4096) (address % 4096) bytes step.0.1 its)
-frames-step W P owned written poked old new (events.Poke address bytes) (Refused why) all (choice, step) its = subst P (sym (ap (λ (s : State). s.frames) step.2)) its
-frames-step W P owned written poked old new (events.Poke address bytes) BadSpan all (choice, step) its = subst P (sym (ap (λ (s : State). s.frames) step.1)) its
-frames-step W P owned written poked old new (events.Poke address bytes) _ all (choice, step) its = absurd step
-frames-step W P owned written poked old new (events.Peek address len) (Bytes bytes) all (choice, step) its = subst P (sym (ap (λ (s : State). s.frames) step.3)) its
-frames-step W P owned written poked old new (events.Peek address len) (Refused why) all (choice, step) its = subst P (sym (ap (λ (s : State). s.frames) step.2)) its
-frames-step W P owned written poked old new (events.Peek address len) BadSpan all (choice, step) its = subst P (sym (ap (λ (s : State). s.frames) step.1)) its
-frames-step W P owned written poked old new (events.Peek address len) _ all (choice, step) its = absurd step
-frames-step W P owned written poked old new (events.Free frame) (Free is_free) all (choice, step) its = subst P (sym (ap (λ (s : State). s.frames) step.2)) its
-frames-step W P owned written poked old new (events.Free frame) (Refused why) all (choice, step) its = subst P (sym (ap (λ (s : State). s.frames) step.1)) its
-frames-step W P owned written poked old new (events.Free frame) _ all (choice, step) its = absurd step
+frames-step W P owned returned written poked old new (events.Poke address bytes) (Refused why) all (choice, step) its = subst P (sym (ap (λ (s : State). s.frames) step.2)) its
+frames-step W P owned returned written poked old new (events.Poke address bytes) BadSpan all (choice, step) its = subst P (sym (ap (λ (s : State). s.frames) step.1)) its
+frames-step W P owned returned written poked old new (events.Poke address bytes) _ all (choice, step) its = absurd step
+frames-step W P owned returned written poked old new (events.Peek address len) (Bytes bytes) all (choice, step) its = subst P (sym (ap (λ (s : State). s.frames) step.3)) its
+frames-step W P owned returned written poked old new (events.Peek address len) (Refused why) all (choice, step) its = subst P (sym (ap (λ (s : State). s.frames) step.2)) its
+frames-step W P owned returned written poked old new (events.Peek address len) BadSpan all (choice, step) its = subst P (sym (ap (λ (s : State). s.frames) step.1)) its
+frames-step W P owned returned written poked old new (events.Peek address len) _ all (choice, step) its = absurd step
+frames-step W P owned returned written poked old new (events.Free frame) (Free is_free) all (choice, step) its = subst P (sym (ap (λ (s : State). s.frames) step.2)) its
+frames-step W P owned returned written poked old new (events.Free frame) (Refused why) all (choice, step) its = subst P (sym (ap (λ (s : State). s.frames) step.1)) its
+frames-step W P owned returned written poked old new (events.Free frame) _ all (choice, step) its = absurd step
 
 -- bytes that are written within a frame keep its length
 whole-poked : KeptByPokes AreWholeFrames
 whole-poked frames number offset bytes fits all = All-with_frame (λ (f : Frame). length f.bytes ≡ 4096) frames number
     (λ frame. record frame { bytes = with_bytes frame.bytes offset bytes })
     (λ frame long. length-with_bytes frame.bytes offset bytes (subst (λ n. offset + length bytes ≤ n) (sym long) fits) ∙ long) all
+
+-- frames that are given back have a page of zeros
+whole-returned : KeptByReturns AreWholeFrames
+whole-returned frames has_left all =
+    All-map (λ (f : Frame). length f.bytes ≡ 4096) (λ frame. given_back (has_left frame.owner) frame) frames
+    (All-weaker (λ (f : Frame). length f.bytes ≡ 4096) (λ (f : Frame). length (given_back (has_left f.owner) f).bytes ≡ 4096) (λ frame long. by frame (has_left frame.owner) long) frames all)
+  where
+    by : (frame : Frame) (b : Bool) → length frame.bytes ≡ 4096 → length (given_back b frame).bytes ≡ 4096
+    by frame true long = length-replicate {A = ℕ} 4096 0
+    by frame false long = long
 
 -- and so does a write of a device
 whole-stored : KeptByWrites (IsWhole 0) AreWholeFrames
@@ -377,6 +408,7 @@ pub same_size-step : (old new : State) (event : Event) (outcome : Outcome) → S
 same_size-step old new event outcome step =
     frames-step (λ flight. Unit {0}) (λ frames. length frames ≡ length old.frames)
     (λ frames number owner same. length-with_frame frames number (λ frame. record frame { owner = Some owner }) ∙ same)
+    (λ frames has_left same. length-map frames (λ frame. given_back (has_left frame.owner) frame) ∙ same)
     (λ frames made fact write same. length-with_frame frames made.frame (λ frame. record frame { bytes = with_bytes frame.bytes (offset_of made.access) made.access.bytes }) ∙ same)
     (λ frames number offset bytes fits same. length-with_frame frames number (λ frame. record frame { bytes = with_bytes frame.bytes offset bytes }) ∙ same)
     old new event outcome (λ k d below. all_so _) step refl
@@ -402,7 +434,7 @@ sound-step old new event outcome sound step =
       tickets = tickets-change event outcome old new change sound.tickets;
       frames = frames-step (IsWhole 0) AreWholeFrames
           (λ frames number owner all. All-with_frame (λ (f : Frame). length f.bytes ≡ 4096) frames number (λ frame. record frame { owner = Some owner }) (λ frame its. its) all)
-          whole-stored whole-poked old new event outcome sound.whole step sound.frames;
+          whole-returned whole-stored whole-poked old new event outcome sound.whole step sound.frames;
       in_memory = in_memory-change event outcome old new change (same_size-step old new event outcome step) sound.in_memory;
     }
 

@@ -1,14 +1,19 @@
 -- What the judge looks for in a history, in the devices and in the frames.
 -- For the judge's own functions alone; no public contract cites these.
-use Rattle.std.specs.Prelude.{nat_eq, All, Contains, ◌≡◌, ◌<◌, length, find, slice_get, slice_set, ℕ, Bool, false, not, ◌==◌, ◌&&◌, ◌||◌, List, [], ◌∷◌}
+use Rattle.std.specs.Prelude.{nat_eq, All, Contains, ◌≡◌, ◌<◌, length, find, slice_get, slice_set, ℕ, Bool, false, not, ◌==◌, ◌&&◌, ◌||◌, List, [], ◌∷◌, Option, None, Some, is_some}
 use Rattle.std.specs.List.{list_any, IsDistinct}
 use Rattle.std.specs.Option.{option_map_or}
+use Rattle.iom_base.specs.declared.owner.Owner.{Owner}
+use Rattle.iom_base.specs.declared.owner.Owner.TheVariants.{System, OneDevice}
 use Rattle.iom_base.specs.declared.access.AccessKind.{AccessKind}
 use Rattle.iom_base.specs.declared.access.AccessKind.TheVariants.{Read}
 use Rattle.iom_ledger.specs.declared.entry.HistoryEntry.TheVariants.{Granted, Released, AllReleased, Confirmed}
 use Rattle.iom_ledger.specs.History.{History, Pair, serves, held_at, released_at, confirms}
+use Rattle.iom_machine.specs.declared.state.Attachment.{Attachment}
+use Rattle.iom_machine.specs.declared.state.Attachment.TheVariants.{Detached}
 use Rattle.iom_machine.specs.declared.state.Device.{Device}
 use Rattle.iom_machine.specs.Devices.{replaced_device}
+use Rattle.iom_machine.specs.Leaving.{has_left}
 
 -- whether the device holds the frame at the page, with such a right
 abbrev pub holds_for : History → ℕ → ℕ → AccessKind → ℕ → Bool
@@ -47,6 +52,26 @@ anyone_reaches_in all (Granted d page f rights ∷ before) frame = reaches_in al
 anyone_reaches_in all (Released d page ticket ∷ before) frame = anyone_reaches_in all before frame
 anyone_reaches_in all (AllReleased d ticket ∷ before) frame = anyone_reaches_in all before frame
 anyone_reaches_in all (Confirmed ticket ∷ before) frame = anyone_reaches_in all before frame
+
+-- whether at one of the pages that these entries grant the device something is held by it, or lingers
+abbrev pub grants_left_in : History → History → ℕ → Bool
+grants_left_in all [] device = false
+grants_left_in all (Granted d page f rights ∷ before) device =
+    ((d == device) && (is_some (held_at all device page) || list_any (λ r. not (confirms all r.0)) (released_at all device page)))
+    || grants_left_in all before device
+grants_left_in all (Released d page ticket ∷ before) device = grants_left_in all before device
+grants_left_in all (AllReleased d ticket ∷ before) device = grants_left_in all before device
+grants_left_in all (Confirmed ticket ∷ before) device = grants_left_in all before device
+
+-- how the device with this id is attached, of these
+abbrev pub attachment_in : List Device → ℕ → Attachment
+attachment_in devices id = option_map_or (λ device. device.attachment) (find (λ device. device.id == id) devices) Detached
+
+-- whether the owner is one of these devices, and has left
+abbrev pub is_of_left_in : History → List Device → Option Owner → Bool
+is_of_left_in history devices None = false
+is_of_left_in history devices (Some System) = false
+is_of_left_in history devices (Some (OneDevice id)) = has_left history (attachment_in devices id)
 
 -- the device with this id is the one at this place
 abbrev pub StandsAt : List Device → ℕ → ℕ → Type 0

@@ -4,6 +4,7 @@ pub mod Tickets
 pub mod Refusals
 pub mod Requests
 pub mod PowerOn
+pub mod Leaving
 pub mod Machine
 pub mod Headline
 pub mod Reclaim

@@ -21,21 +21,23 @@ use Rattle.iom_machine.specs.declared.state.DeviceKind.TheVariants.{Raw}
 use Rattle.iom_base.specs.declared.access.AcceptedAccess.{AcceptedAccess}
 use Rattle.iom_machine.specs.declared.state.Mode.{Mode}
 use Rattle.iom_machine.specs.declared.state.Mode.TheVariants.{First}
-use Rattle.iom_base.specs.declared.owner.Owner.TheVariants.{OneDevice}
+use Rattle.iom_base.specs.declared.owner.Owner.TheVariants.{System, OneDevice}
 use Rattle.iom_machine.specs.declared.state.State.{State}
 use Rattle.iom_machine.specs.Frames.{is_reserved, IsFree, IsFreeBesides, reserved_for, bytes_of, stored}
 use Rattle.iom_machine.specs.Devices.{device_of, with_device, EachInFlightMay}
 use Rattle.iom_machine.specs.Tickets.{AreNextTickets, with_confirmed}
 use Rattle.iom_ledger.specs.Refusals.{NoneApplies, IsRefusedBy}
-use Rattle.iom_machine.specs.Refusals.{MayRefusePlug, MayRefuseAttach, MayRefuseGrant, MayRefuseRelease, NeverElse, plug_reasons, attach_reasons, grant_reasons, release_reasons, frame_reasons, poke_reasons}
+use Rattle.iom_machine.specs.Refusals.{MayRefusePlug, MayRefuseAttach, MayRefuseGrant, MayFindNoPlace, NeverElse, plug_reasons, attach_reasons, detach_reasons, grant_reasons, release_reasons, frame_reasons, poke_reasons}
 use Rattle.iom_base.specs.Accesses.{read_of, write_of, offset_of}
 use Rattle.iom_machine.specs.Requests.{MayAnswer, state_after}
+use Rattle.iom_machine.specs.Leaving.{leaving_under, with_left}
 
 -- The event can come, so far: of devices raw ones alone, and of attachments those in the first stage without ATS. The steps below say what the others
 -- lead to all the same; nothing that asks for this takes them yet.
 abbrev pub IsEvent : Event → Type 0
 IsEvent (events.Plug id kind) = kind ≡ Raw
 IsEvent (events.Attach id mode ats) = (mode ≡ First) × (ats ≡ false)
+IsEvent (events.Detach id) = ⊤
 IsEvent (events.Grant id page frame rights) = ⊤
 IsEvent (events.Release id page) = ⊤
 IsEvent events.Fetch = ⊤
@@ -59,17 +61,26 @@ Plugs old id kind Done new =
 Plugs old id kind (Refused why) new = IsRefusedBy (plug_reasons old id) MayRefusePlug why × (new ≡ old)
 Plugs old id kind _ new = ⊥
 
--- A device is attached. Some free frames become its tables.
-abbrev pub Attaches : List ℕ → State → ℕ → Mode → Bool → Outcome → State → Type 0
-Attaches taken old id mode ats Done new =
-    NoneApplies (attach_reasons old id ats) × All (IsFree old) taken
+-- A device is attached. Some free frames become pages of the device directory, which are the system's, and some become the device's tables.
+abbrev pub Attaches : (pages taken : List ℕ) → State → ℕ → Mode → Bool → Outcome → State → Type 0
+Attaches pages taken old id mode ats Done new =
+    NoneApplies (attach_reasons old id ats) × All (IsFree old) (pages ++ taken)
     × IsSomeAnd (device_of old id) (λ device.
     new ≡ record (with_device old (record device { attachment = Attached mode ats })) {
-      frames = reserved_for (OneDevice id) taken old.frames;
+      frames = reserved_for (OneDevice id) taken (reserved_for System pages old.frames);
     })
-Attaches taken old id mode ats (Refused why) new =
+Attaches pages taken old id mode ats (Refused why) new =
     IsRefusedBy (attach_reasons old id ats) (MayRefuseAttach old mode) why × (new ≡ old)
-Attaches taken old id mode ats _ new = ⊥
+Attaches pages taken old id mode ats _ new = ⊥
+
+-- A device that holds nothing, and for which nothing lingers, is detached: it leaves under the next ticket, and keeps its frames until that is confirmed.
+abbrev pub Detaches : State → ℕ → Outcome → State → Type 0
+Detaches old id (Ticket ticket) new =
+    NoneApplies (detach_reasons old id) × (ticket ≡ old.last_ticket + 1)
+    × IsSomeAnd (device_of old id) (λ device.
+    new ≡ record (with_device old (record device { attachment = leaving_under ticket device.attachment })) { last_ticket = ticket })
+Detaches old id (Refused why) new = IsRefusedBy (detach_reasons old id) MayFindNoPlace why × (new ≡ old)
+Detaches old id _ new = ⊥
 
 -- A device gets a frame at a page. Some other free frames become its tables.
 abbrev pub Grants : List ℕ → State → ℕ → ℕ → ℕ → GrantRights → Outcome → State → Type 0
@@ -89,7 +100,7 @@ Releases old id page (Ticket ticket) new =
     NoneApplies (release_reasons old id page) × (ticket ≡ old.last_ticket + 1)
     × (new ≡ record old { history = entry.Released id page ticket ∷ old.history; last_ticket = ticket })
 Releases old id page (Refused why) new =
-    IsRefusedBy (release_reasons old id page) MayRefuseRelease why × (new ≡ old)
+    IsRefusedBy (release_reasons old id page) MayFindNoPlace why × (new ≡ old)
 Releases old id page _ new = ⊥
 
 -- The IOMMU takes a command, or none. Nothing changes that the machine knows.
@@ -97,10 +108,11 @@ abbrev pub Fetches : State → Outcome → State → Type 0
 Fetches old (Fetched result) new = new ≡ old
 Fetches old _ new = ⊥
 
--- Some of the oldest pending tickets are confirmed, such that each access in flight may still reach its frame; or none is.
+-- Some of the oldest pending tickets are confirmed, such that each access in flight may still reach its frame, and devices that were leaving under
+-- them are detached, with their frames given back; or none is confirmed.
 abbrev pub Polls : State → Outcome → State → Type 0
 Polls old (Confirmed first last) new =
-    AreNextTickets old first last × (new ≡ with_confirmed old first last) × EachInFlightMay new
+    AreNextTickets old first last × (new ≡ with_left (with_confirmed old first last)) × EachInFlightMay new
 Polls old NoneConfirmed new = new ≡ old
 Polls old _ new = ⊥
 
@@ -179,7 +191,8 @@ TellsFree old frame _ new = ⊥
 -- The event may have this outcome, and leave this state, where what the outcome doesn't show is chosen so.
 abbrev pub ChosenStep : Choice → State → Event → Outcome → State → Type 0
 ChosenStep choice old (events.Plug id kind) outcome new = Plugs old id kind outcome new
-ChosenStep choice old (events.Attach id mode ats) outcome new = Attaches choice.taken old id mode ats outcome new
+ChosenStep choice old (events.Attach id mode ats) outcome new = Attaches choice.directory choice.taken old id mode ats outcome new
+ChosenStep choice old (events.Detach id) outcome new = Detaches old id outcome new
 ChosenStep choice old (events.Grant id page frame rights) outcome new = Grants choice.taken old id page frame rights outcome new
 ChosenStep choice old (events.Release id page) outcome new = Releases old id page outcome new
 ChosenStep choice old events.Fetch outcome new = Fetches old outcome new

@@ -1,11 +1,13 @@
 -- Why a call of the driver is refused: the first reason that applies, in the order of its list.
-use Rattle.std.specs.Prelude.{◌≡◌, ℕ, ◌^◌, Bool, true, false, not, ◌==◌, ◌&&◌, ◌||◌, nat_le, List, [], ◌∷◌, length, Option, None, Some, is_some, MatchOption, if◌then◌else◌, ⊤}
+use Rattle.std.specs.Prelude.{◌≡◌, ℕ, ◌^◌, Bool, true, false, not, ◌==◌, ◌&&◌, ◌||◌, nat_le, List, [], ◌∷◌, length, Some, is_some, if◌then◌else◌, ⊤, ◌↔◌, ◌⊎◌}
+use Rattle.std.specs.List.{list_any}
 use Rattle.std.specs.Option.{option_map_or}
 use Rattle.iom_base.specs.Sizes.{page_limit, device_limit}
 use Rattle.iom_ledger.specs.declared.refusal.Refusal.{Refusal}
-use Rattle.iom_ledger.specs.declared.refusal.Refusal.TheVariants.{NoSuchDevice, AlreadyAttached, NotAttached, NotTrusted, FrameOutOfRange, FrameReserved, IovaOutOfRange, IovaBusy, NotGranted, NoFrames, QueueFull, TooManyPending, NumbersUsedUp, Memory, IdTooWide, TooManyDevices, AlreadyPlugged}
+use Rattle.iom_ledger.specs.declared.refusal.Refusal.TheVariants.{NoSuchDevice, AlreadyAttached, NotAttached, NotTrusted, FrameOutOfRange, FrameReserved, IovaOutOfRange, IovaBusy, NotGranted, NoFrames, StillGranted, QueueFull, TooManyPending, NumbersUsedUp, Memory, IdTooWide, TooManyDevices, AlreadyPlugged}
 use Rattle.iom_ledger.specs.declared.refusal.Refusal.TheVariants as refusal
-use Rattle.iom_ledger.specs.History.{held_at, lingering_at}
+use Rattle.iom_ledger.specs.declared.entry.HistoryEntry.TheVariants.{Granted, Released, AllReleased, Confirmed}
+use Rattle.iom_ledger.specs.History.{History, held_at, lingering_at}
 use Rattle.iom_ledger.specs.Pending.{pending_limit}
 use Rattle.iom_machine.specs.declared.state.DeviceKind.{DeviceKind}
 use Rattle.iom_machine.specs.declared.state.DeviceKind.TheVariants.{Raw, Ats, Block, CachedBlock}
@@ -68,6 +70,24 @@ is_held state id page = is_some (held_at state.history id page)
 abbrev pub is_lingering : State → ℕ → ℕ → Bool
 is_lingering state id page = not (length (lingering_at state.history id page) == 0)
 
+-- the pages that were ever granted to the device
+abbrev pub pages_granted : History → ℕ → List ℕ
+pages_granted [] id = []
+pages_granted (Granted d page frame rights ∷ before) id = if d == id then page ∷ pages_granted before id else pages_granted before id
+pages_granted (Released d page ticket ∷ before) id = pages_granted before id
+pages_granted (AllReleased d ticket ∷ before) id = pages_granted before id
+pages_granted (Confirmed ticket ∷ before) id = pages_granted before id
+
+-- whether the device holds something, or something lingers for it
+abbrev pub has_grants : State → ℕ → Bool
+has_grants state id = list_any (λ page. is_held state id page || is_lingering state id page) (pages_granted state.history id)
+
+-- This is so exactly where there is a page at which the device holds something, or something lingers.
+abbrev pub GrantsAreAtPages : Type 0
+GrantsAreAtPages =
+    (state : State) (id : ℕ)
+    → (has_grants state id ≡ true) ↔ ((page : ℕ) × ((is_held state id page ≡ true) ⊎ (is_lingering state id page ≡ true)))
+
 -- a device is plugged in
 abbrev pub plug_reasons : State → ℕ → List (Bool × Refusal)
 plug_reasons state id =
@@ -91,6 +111,13 @@ attachment_reasons state id later =
     ∷ (is_detached (attachment_of state id) || is_leaving (attachment_of state id), NotAttached)
     ∷ (is_quarantined (attachment_of state id), refusal.Quarantined)
     ∷ later
+
+-- a device is detached
+abbrev pub detach_reasons : State → ℕ → List (Bool × Refusal)
+detach_reasons state id = attachment_reasons state id (
+    (has_grants state id, StillGranted)
+    ∷ (nat_le pending_limit (pending_tickets state), TooManyPending)
+    ∷ [])
 
 -- a frame is granted at a page
 abbrev pub grant_reasons : State → ℕ → ℕ → ℕ → List (Bool × Refusal)
@@ -149,8 +176,8 @@ MayRefuseGrant state frame _ = ⊥
 abbrev pub NeverElse : Refusal → Type 0
 NeverElse why = ⊥
 
--- a release may find the command queue full, or the numbers of its fences used up
-abbrev pub MayRefuseRelease : Refusal → Type 0
-MayRefuseRelease QueueFull = ⊤
-MayRefuseRelease NumbersUsedUp = ⊤
-MayRefuseRelease _ = ⊥
+-- a release or a detach may find the command queue full, or the numbers of its fences used up
+abbrev pub MayFindNoPlace : Refusal → Type 0
+MayFindNoPlace QueueFull = ⊤
+MayFindNoPlace NumbersUsedUp = ⊤
+MayFindNoPlace _ = ⊥

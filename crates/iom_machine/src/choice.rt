@@ -3,7 +3,9 @@ use iom_base::Sequence;
 /// What a step leaves free and its outcome doesn't show.
 #[derive(Drop)]
 pub struct Choice {
-    /// The frames that an attach or a grant made reserved.
+    /// The frames that an attach made reserved for the system, as pages of the device directory.
+    pub directory: Sequence<u32>,
+    /// The frames that an attach or a grant made reserved for the device.
     pub taken: Sequence<u32>,
     /// The frame on which a request was accepted.
     pub frame: u32,

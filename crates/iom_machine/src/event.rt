@@ -15,6 +15,10 @@ pub enum Event {
         mode: Mode,
         ats: bool,
     },
+    /// The driver is asked to detach the device.
+    Detach {
+        device: DeviceId,
+    },
     /// The driver is asked to grant the device the frame at the page, with the right.
     Grant {
         device: DeviceId,

@@ -32,7 +32,8 @@ pub enum Outcome {
     Done,
     /// The call did nothing, and says why.
     Refused(Refusal),
-    /// Under this ticket the page was released: it lingers until the ticket is confirmed.
+    /// Under this ticket the page was released, and lingers until the ticket is confirmed; or the
+    /// device was detached, and is leaving until then.
     Ticket(u32),
     /// The tickets from the first to the last are confirmed now.
     Confirmed { first: u32, last: u32 },

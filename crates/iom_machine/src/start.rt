@@ -7,7 +7,7 @@ use iom_base::{FRAME_SIZE, Owner, Sequence};
 use std::alloc::{AllocError, Global};
 
 /// A frame of zeros that belongs to nobody.
-fn new_frame(alloc: Global) -> Result<Frame, AllocError>
+pub(crate) fn new_frame(alloc: Global) -> Result<Frame, AllocError>
     ensures { IfOk result (λ frame. frame ≡ empty_frame) }
 {
     let items = vec![in alloc; 0u8; FRAME_SIZE]?;

@@ -2,8 +2,8 @@ use arrayvec::ArrayVec;
 use iom_base::{Cause, DeviceId, GrantRights, Sequence};
 use iom_ledger::Refusal;
 use iom_machine::{
-    Choice, CommandName, DeviceKind, Event, Fetched, Line, Mode, Outcome, Verdict, judge,
-    judge_run, lawful_runs_have_choices, power_on, reclaim_theorem,
+    Choice, CommandName, DeviceKind, Event, Fetched, Line, Mode, Outcome, Verdict,
+    grants_are_at_pages, judge, judge_run, lawful_runs_have_choices, power_on, reclaim_theorem,
 };
 use std::alloc::Global;
 use std::test::Fail;
@@ -13,6 +13,9 @@ use std::test::Fail;
 enum Does<'a> {
     Plug(DeviceId),
     Attach(DeviceId, &'a [u32]),
+    /// The first frames become pages of the device directory.
+    AttachBelow(DeviceId, &'a [u32], &'a [u32]),
+    Detach(DeviceId),
     Grant(DeviceId, u64, u64, GrantRights, &'a [u32]),
     Release(DeviceId, u64),
     Fetch,
@@ -61,17 +64,23 @@ fn numbers_of(alloc: Global, numbers: &[u32]) -> Result<Sequence<u32>, Fail> {
     Ok(made)
 }
 
+fn attach(device: DeviceId) -> Event {
+    Event::Attach {
+        device,
+        mode: Mode::First,
+        ats: false,
+    }
+}
+
 fn event_of(alloc: Global, does: Does) -> Result<Event, Fail> {
     Ok(match does {
         Does::Plug(device) => Event::Plug {
             device,
             kind: DeviceKind::Raw,
         },
-        Does::Attach(device, _) => Event::Attach {
-            device,
-            mode: Mode::First,
-            ats: false,
-        },
+        Does::Attach(device, _) => attach(device),
+        Does::AttachBelow(device, _, _) => attach(device),
+        Does::Detach(device) => Event::Detach { device },
         Does::Grant(device, page, frame, rights, _) => Event::Grant {
             device,
             page,
@@ -133,7 +142,12 @@ fn outcome_of(comes: Comes) -> Outcome {
 fn line_of(alloc: Global, does: Does, comes: Comes) -> Result<Line, Fail> {
     let taken: &[u32] = match does {
         Does::Attach(_, taken) => taken,
+        Does::AttachBelow(_, _, taken) => taken,
         Does::Grant(_, _, _, _, taken) => taken,
+        _ => &[],
+    };
+    let directory: &[u32] = match does {
+        Does::AttachBelow(_, pages, _) => pages,
         _ => &[],
     };
     let frame = match comes {
@@ -144,6 +158,7 @@ fn line_of(alloc: Global, does: Does, comes: Comes) -> Result<Line, Fail> {
         event: event_of(alloc, does)?,
         outcome: outcome_of(comes),
         choice: Choice {
+            directory: numbers_of(alloc, directory)?,
             taken: numbers_of(alloc, taken)?,
             frame,
         },
@@ -559,15 +574,98 @@ const CHANGED_ACTS_OF_PROCESSOR: [(usize, Does, Comes); 12] = [
     (3, Does::Free(64), Comes::Free(false)),
 ];
 
+/// A device that is detached. Its frames are given back at the poll, all zero, though one of them
+/// had a byte before; the page of the device directory stays the system's.
+const DETACH: [(Does, Comes); 25] = [
+    (Does::Plug(1), Comes::Done),
+    (Does::Detach(1), Comes::Refused(Refusal::NotAttached)),
+    (Does::Poke(0x3a000, &[9]), Comes::Done),
+    (Does::AttachBelow(1, &[59], &[58]), Comes::Done),
+    (
+        Does::Grant(1, 3, 5, GrantRights::ReadWrite, &[57, 56]),
+        Comes::Done,
+    ),
+    // held
+    (Does::Detach(1), Comes::Refused(Refusal::StillGranted)),
+    (Does::Release(1, 3), Comes::Ticket(1)),
+    // lingering
+    (Does::Detach(1), Comes::Refused(Refusal::StillGranted)),
+    (Does::Poll, Comes::Confirmed(1, 1)),
+    (Does::Detach(1), Comes::Refused(Refusal::QueueFull)),
+    (Does::Detach(1), Comes::Ticket(2)),
+    // leaving
+    (
+        Does::Attach(1, &[]),
+        Comes::Refused(Refusal::AlreadyAttached),
+    ),
+    (
+        Does::Grant(1, 3, 5, GrantRights::ReadWrite, &[]),
+        Comes::Refused(Refusal::NotAttached),
+    ),
+    (Does::Detach(1), Comes::Refused(Refusal::NotAttached)),
+    (Does::Free(58), Comes::Free(false)),
+    (Does::Read(1, 0x3000, 1), Comes::Fault(Cause::ReadPageFault)),
+    (
+        Does::Read(1, 0x3000, 1),
+        Comes::Fault(Cause::DirectoryEntryNotValid),
+    ),
+    (Does::Poll, Comes::Confirmed(2, 2)),
+    // detached
+    (Does::Free(58), Comes::Free(true)),
+    (Does::Free(57), Comes::Free(true)),
+    (Does::Free(59), Comes::Free(false)),
+    (Does::Peek(0x3a000, 2), Comes::Bytes(&[0, 0])),
+    (
+        Does::Read(1, 0x3000, 1),
+        Comes::Fault(Cause::DirectoryEntryNotValid),
+    ),
+    (Does::Attach(1, &[58]), Comes::Done),
+    (Does::Detach(2), Comes::Refused(Refusal::NoSuchDevice)),
+];
+
+/// A line of that run, and what it is changed to, which may not come there.
+const CHANGED_DETACHES: [(usize, Does, Comes); 13] = [
+    // a device that isn't attached
+    (1, Does::Detach(1), Comes::Ticket(1)),
+    // a page of the directory in a reserved frame
+    (3, Does::AttachBelow(1, &[60], &[58]), Comes::Done),
+    // something is held, and then lingers
+    (5, Does::Detach(1), Comes::Ticket(1)),
+    (7, Does::Detach(1), Comes::Ticket(2)),
+    // another ticket than the next
+    (10, Does::Detach(1), Comes::Ticket(3)),
+    // nothing is held or lingers
+    (10, Does::Detach(1), Comes::Refused(Refusal::StillGranted)),
+    // few tickets wait
+    (10, Does::Detach(1), Comes::Refused(Refusal::TooManyPending)),
+    // a detach takes nothing that may be wanting
+    (10, Does::Detach(1), Comes::Refused(Refusal::NoFrames)),
+    // attached again, while it is leaving
+    (11, Does::Attach(1, &[]), Comes::Done),
+    // given back before the ticket is confirmed
+    (14, Does::Free(58), Comes::Free(true)),
+    // the page of the directory is given back
+    (20, Does::Free(59), Comes::Free(true)),
+    // the byte that stood there before
+    (21, Does::Peek(0x3a000, 2), Comes::Bytes(&[9, 0])),
+    // served by what it had, after the ticket is confirmed
+    (
+        22,
+        Does::Read(1, 0x3000, 1),
+        Comes::Fault(Cause::ReadPageFault),
+    ),
+];
+
 /// The first line that may not come where this line of the lawful run is changed.
 fn first_unlawful_of(
     alloc: Global,
+    base: &[(Does, Comes)],
     place: usize,
     does: Does,
     comes: Comes,
 ) -> Result<Option<usize>, Fail> {
     let mut made = Vec::new(alloc);
-    for (number, (base_does, base_comes)) in BASE.iter().enumerate() {
+    for (number, (base_does, base_comes)) in base.iter().enumerate() {
         if number == place {
             made.push(line_of(alloc, does, comes)?)?;
         } else {
@@ -582,25 +680,37 @@ fn changed_lines_are_refused(rt: HostRuntime) -> Result<(), Fail> {
     assert_eq!(rt; first_unlawful(rt.alloc(), &BASE)?, None);
     for (place, does, comes) in CHANGED_CALLS {
         assert_eq!(rt;
-            first_unlawful_of(rt.alloc(), place, does, comes)?,
+            first_unlawful_of(rt.alloc(), &BASE, place, does, comes)?,
             Some(place)
         );
     }
     for (place, does, comes) in CHANGED_REQUESTS {
         assert_eq!(rt;
-            first_unlawful_of(rt.alloc(), place, does, comes)?,
+            first_unlawful_of(rt.alloc(), &BASE, place, does, comes)?,
             Some(place)
         );
     }
     for (place, does, comes) in CHANGED_ACTS_OF_PROCESSOR {
         assert_eq!(rt;
-            first_unlawful_of(rt.alloc(), place, does, comes)?,
+            first_unlawful_of(rt.alloc(), &BASE, place, does, comes)?,
             Some(place)
         );
     }
     for (place, does, comes) in CHANGED_COMMITS_AND_POLLS {
         assert_eq!(rt;
-            first_unlawful_of(rt.alloc(), place, does, comes)?,
+            first_unlawful_of(rt.alloc(), &BASE, place, does, comes)?,
+            Some(place)
+        );
+    }
+    Ok(())
+}
+
+#[test]
+fn detach_is_judged(rt: HostRuntime) -> Result<(), Fail> {
+    assert_eq!(rt; first_unlawful(rt.alloc(), &DETACH)?, None);
+    for (place, does, comes) in CHANGED_DETACHES {
+        assert_eq!(rt;
+            first_unlawful_of(rt.alloc(), &DETACH, place, does, comes)?,
             Some(place)
         );
     }
@@ -622,6 +732,7 @@ fn one_step_is_judged(rt: HostRuntime) -> Result<(), Fail> {
         Some(state) => assert_eq!(rt; state.devices.as_slice().len(), 1),
         None => return Err(Fail::new("an unlawful step")),
     }
+    grants_are_at_pages();
     reclaim_theorem();
     lawful_runs_have_choices();
     Ok(())

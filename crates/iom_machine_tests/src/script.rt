@@ -2,7 +2,7 @@ use arrayvec::ArrayVec;
 use iom_base::{Cause, GrantRights};
 use iom_ledger::Refusal;
 use iom_machine::{CommandName, Event, Fetched, Outcome};
-use iom_script::{LineBuffer, ScriptFault, parse};
+use iom_script::{LineBuffer, ScriptFault, WorldSize, parse};
 use std::test::Fail;
 
 /// The line number at which the bytes are refused, or 0 where they are a script.
@@ -153,6 +153,31 @@ fn the_first_path_is_read(rt: HostRuntime) -> Result<(), Fail> {
     }
 }
 
+#[test]
+fn a_world_has_one_to_three_levels(rt: HostRuntime) -> Result<(), Fail> {
+    assert!(rt; is_world(parse(rt.alloc(), b"world 64 1\n")?.world, 64, 1));
+    assert!(rt; is_world(parse(rt.alloc(), b"world 65 2\n")?.world, 65, 2));
+    assert!(rt; is_world(parse(rt.alloc(), b"world 4096 3\n")?.world, 4096, 3));
+    Ok(())
+}
+
+/// Whether the world has this size.
+fn is_world(world: Option<WorldSize>, frames: u64, levels: u64) -> bool {
+    match world {
+        None => false,
+        Some(size) => size.frames == frames && size.levels == levels,
+    }
+}
+
+#[test]
+fn a_detach_is_read(rt: HostRuntime) -> Result<(), Fail> {
+    let script = parse(rt.alloc(), b"world 64 2\ndetach 00000a\n")?;
+    match script.events.as_slice() {
+        [Event::Detach { device: 10 }] => Ok(()),
+        _ => Err(Fail::new("another event")),
+    }
+}
+
 const BOUNDARIES: &[u8] = b"\
     world 4096 1\n\
     \n\
@@ -225,7 +250,7 @@ const BAD_FIRST: &[u8] = b"\
     fetch\n\
     |world 63 1\n\
     |world 4097 1\n\
-    |world 64 2\n\
+    |world 64 4\n\
     |world 64 0\n\
     |world 064 1\n\
     |world 64 01\n\
@@ -267,6 +292,10 @@ const BAD_SECOND: &[u8] = b"\
     |world 64 1\ndevice 00000g raw\n\
     |world 64 1\ndevice 000001 raw raw\n\
     |world 64 1\nattach 000001 second\n\
+    |world 64 1\ndetach\n\
+    |world 64 1\ndetach 1\n\
+    |world 64 1\ndetach 000001 \n\
+    |world 64 1\ndetach 000001 first\n\
     |world 64 1\ngrant 000001 03 5 rw\n\
     |world 64 1\ngrant 000001 3 5 w\n\
     |world 64 1\ngrant 000001 3 5 rwx\n\

@@ -1,38 +1,59 @@
 use iom_base::AccessKind;
-use iom_inflight::{AccessHeader, InFlight};
+use iom_inflight::InFlight;
+use std::process::Abort;
 use std::test::Fail;
 
-#[test]
-fn accesses_come_out_in_order_with_their_bytes(rt: HostRuntime) -> Result<(), Fail> {
-    let mut flights = InFlight::new(rt.alloc())?;
-    assert!(rt; flights.oldest().is_none());
-    assert!(rt; flights.accept_write(0x3010, b"\xaa\xbb", 5).is_some());
-    assert!(rt; flights.accept_read(0x4000, 7, 6).is_some());
-    assert!(rt; flights.accept_write(0x3000, b"\xcc", 5).is_some());
-    assert_eq!(rt; flights.count(), 3);
-    let first = AccessHeader {
-        address: 0x3010,
-        len: 2,
-        kind: AccessKind::Write,
-        frame: 5,
-    };
-    assert_eq!(rt; flights.oldest(), Some(first));
-    let mut two = [0; 2];
-    if flights.oldest() == Some(first) {
-        flights.take_write(&mut two);
+/// The device's access of the bytes at the address, or a read of one byte, is accepted on the frame.
+fn accept(
+    rt: &impl Abort,
+    flights: &mut InFlight,
+    device: u32,
+    address: u64,
+    bytes: &[u8],
+) -> Option<u64> {
+    let is_added = flights.is_added(device);
+    assert!(rt; is_added);
+    let has_room = flights.so_far() < u64::MAX;
+    assert!(rt; has_room);
+    let is_short = bytes.len() <= 8 && address % 4096 <= 4088;
+    assert!(rt; is_short);
+    if bytes.is_empty() {
+        flights.accept_read(device, address, 1, 5)
+    } else {
+        flights.accept_write(device, address, bytes, 5)
     }
-    assert_eq!(rt; two, [0xaa, 0xbb]);
+}
+
+// The accesses of two devices are numbered apart, and come out in their order.
+#[test]
+fn accesses_have_their_order(rt: HostRuntime) -> Result<(), Fail> {
+    let mut flights = InFlight::new(rt.alloc())?;
+    assert!(rt; flights.add(7));
+    assert!(rt; flights.add(9));
+    assert!(rt; !flights.add(7));
+    assert!(rt; flights.oldest(7).is_none());
+    assert_eq!(rt; accept(&rt, &mut flights, 7, 0x3010, b"\xaa\xbb"), Some(1));
+    assert_eq!(rt; accept(&rt, &mut flights, 9, 0x4000, b""), Some(1));
+    assert_eq!(rt; accept(&rt, &mut flights, 7, 0x3000, b"\xcc"), Some(2));
+    assert_eq!(rt; flights.count(7), 2);
+    assert_eq!(rt; flights.so_far(), 3);
+    let oldest = flights.oldest(7).ok_or("in flight")?;
+    assert_eq!(rt; (oldest.frame, oldest.offset, oldest.len), (5, 16, 2));
+    assert!(rt; flights.drained(1, AccessKind::Read));
+    assert!(rt; !flights.drained(2, AccessKind::Read));
+    assert!(rt; !flights.drained(1, AccessKind::Write));
     Ok(())
 }
 
 #[test]
 fn a_ninth_access_is_refused(rt: HostRuntime) -> Result<(), Fail> {
     let mut flights = InFlight::new(rt.alloc())?;
+    flights.add(7);
     for address in 0..8 {
-        assert!(rt; flights.accept_read(address, 1, 5).is_some());
+        assert!(rt; accept(&rt, &mut flights, 7, address, b"").is_some());
     }
-    assert!(rt; flights.accept_read(8, 1, 5).is_none());
-    assert!(rt; flights.accept_write(8, b"\xcc", 5).is_none());
-    assert_eq!(rt; flights.count(), 8);
+    assert!(rt; accept(&rt, &mut flights, 7, 8, b"").is_none());
+    assert!(rt; accept(&rt, &mut flights, 7, 8, b"\xcc").is_none());
+    assert_eq!(rt; flights.count(7), 8);
     Ok(())
 }

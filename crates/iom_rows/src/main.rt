@@ -9,7 +9,7 @@
 use std::alloc::Global;
 use std::fs;
 
-const ROWS: [&str; 10] = [
+const ROWS: [&str; 14] = [
     "empty-script",
     "first-path",
     "grant-boundaries",
@@ -20,6 +20,10 @@ const ROWS: [&str; 10] = [
     "missing-line-feed",
     "queue-bytes",
     "drain",
+    "bytes-in-memory",
+    "widest-id",
+    "id-too-wide",
+    "detach",
 ];
 
 /// The number of the first line that differs, counted from 1.

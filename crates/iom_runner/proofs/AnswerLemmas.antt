@@ -26,11 +26,12 @@ use Rattle.iom_machine.specs.declared.state.State.{State}
 use Rattle.iom_machine.specs.Devices.{device_of, with_device}
 use Rattle.iom_machine.specs.Frames.{IsFree}
 use Rattle.iom_machine.specs.Headline.{IsReached}
+use Rattle.iom_machine.specs.Leaving.{leaving_under}
 use Rattle.iom_machine.specs.Machine.{Step, Requests, Run, plugged_device}
 use Rattle.iom_machine.specs.PowerOn.{opening}
 use Rattle.iom_machine.specs.declared.state.DeviceKind.{DeviceKind}
 use Rattle.iom_ledger.specs.Refusals.{first_that_applies, IsRefusedBy}
-use Rattle.iom_machine.specs.Refusals.{MayRefusePlug, MayRefuseAttach, MayRefuseGrant, MayRefuseRelease, plug_reasons, attach_reasons, grant_reasons, release_reasons, is_too_wide}
+use Rattle.iom_machine.specs.Refusals.{MayRefusePlug, MayRefuseAttach, MayRefuseGrant, MayFindNoPlace, plug_reasons, attach_reasons, detach_reasons, grant_reasons, release_reasons, is_too_wide}
 use Rattle.iom_base.specs.Accesses.{read_of, write_of, page_of}
 use Rattle.iom_machine.specs.Requests.{cause_without_context, HoldsFor, HoldsNoneFor, MayAccept, MayFault, MayAnswer, IsForwarded, state_after}
 use Rattle.iom_machine.proofs.HeadlineLemmas.{commits_are_answered}
@@ -87,7 +88,22 @@ release_is_answered state id page = by (first_that_applies (release_reasons stat
       record state { history = entry.Released id page (state.last_ticket + 1) ∷ state.history; last_ticket = state.last_ticket + 1 },
       (no_choice, (none, refl, refl)),
     )
-    by (Some why) some = (Refused why, state, (no_choice, (refused_first (release_reasons state id page) MayRefuseRelease why some, refl)))
+    by (Some why) some = (Refused why, state, (no_choice, (refused_first (release_reasons state id page) MayFindNoPlace why some, refl)))
+
+detach_is_answered : (state : State) (id : ℕ) → IsAnswered state (events.Detach id)
+detach_is_answered state id = found (device_of state id) refl
+  where
+    by : (device : Device) → device_of state id ≡ Some device → (reason : Option Refusal) → first_that_applies (detach_reasons state id) ≡ reason → IsAnswered state (events.Detach id)
+    by device there None none = (
+      Ticket (state.last_ticket + 1),
+      record (with_device state (record device { attachment = leaving_under (state.last_ticket + 1) device.attachment })) { last_ticket = state.last_ticket + 1 },
+      (no_choice, (none, refl, rw there refl)),
+    )
+    by device there (Some why) some = (Refused why, state, (no_choice, (refused_first (detach_reasons state id) MayFindNoPlace why some, refl)))
+
+    found : (o : Option Device) → device_of state id ≡ o → IsAnswered state (events.Detach id)
+    found None absent = (Refused NoSuchDevice, state, (no_choice, (refused_first (detach_reasons state id) MayFindNoPlace NoSuchDevice (rw absent refl), refl)))
+    found (Some device) there = by device there (first_that_applies (detach_reasons state id)) refl
 
 -- the answer to a request, with the frame where it is accepted
 abbrev HasReply : State → Device → Access → Type 0
@@ -162,6 +178,7 @@ request_is_answered state id access = by (device_of state id) refl
 is_answered : (state : State) (event : Event) → IsReached state → IsAnswered state event
 is_answered state (events.Plug id kind) reached = plug_is_answered state id kind
 is_answered state (events.Attach id mode ats) reached = attach_is_answered state id mode ats
+is_answered state (events.Detach id) reached = detach_is_answered state id
 is_answered state (events.Grant id page frame rights) reached = grant_is_answered state id page frame rights
 is_answered state (events.Release id page) reached = release_is_answered state id page
 is_answered state events.Fetch reached = (Fetched Empty, state, (no_choice, refl))

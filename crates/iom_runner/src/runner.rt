@@ -109,8 +109,8 @@ fn tell<W: Write>(alloc: Global, script: &Script, writer: &mut W) -> Result<(), 
     let Some(size) = script.world else {
         return Ok(());
     };
-    let mut world = world_of(alloc, size)?;
     let buffer = LineBuffer::new(alloc).map_err(|_| RunFault::Memory)?;
+    let mut world = world_of(alloc, size)?;
     tell_run(&mut world, script.events.as_slice(), buffer, writer)
 }
 

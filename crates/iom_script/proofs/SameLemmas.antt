@@ -3,9 +3,9 @@ use Rattle.std.proofs.Common.{◌≡◌, ℕ, ◌^◌, ◌<◌, inl, inr, List, 
 use Rattle.std.specs.Str.Parse.{AllDigits, digits_value}
 use Rattle.std.proofs.lemmas.Str.Parse.{IsNumeralModel, numerals_by_value, tells_digits}
 use Rattle.std.proofs.lemmas.Fmt.{digits_value-decimal}
-use Rattle.std.proofs.lemmas.List.{append_cancel_left, append_cancel_right}
+use Rattle.std.proofs.lemmas.List.{append_cancel_left}
 use Rattle.iom_machine.specs.declared.event.Event.{Event}
-use Rattle.iom_machine.specs.declared.event.Event.TheVariants.{Plug, Attach, Grant, Release, Fetch, Poll, Read, Write, Commit, Poke, Peek, Free}
+use Rattle.iom_machine.specs.declared.event.Event.TheVariants.{Plug, Attach, Detach, Grant, Release, Fetch, Poll, Read, Write, Commit, Poke, Peek, Free}
 use Rattle.iom_script.specs.declared.script.WorldSize.{WorldSize}
 use Rattle.iom_script.specs.declared.script.Script.{Script}
 use Rattle.iom_script.specs.Digits.{hex_digits}
@@ -17,7 +17,7 @@ use Rattle.iom_script.proofs.HexBytesLemmas.{same_hex_of}
 use Rattle.iom_script.proofs.DecimalLemmas.{number_without_space}
 use Rattle.iom_script.proofs.WordLemmas.{device_without_space, address_without_space}
 use Rattle.iom_script.proofs.FieldLemmas.{HasNoSpace, Followed}
-use Rattle.iom_script.proofs.EventLemmas.{IsWord, other_line, device_event, device_from, PlugWords, attach_event, attach_from, AttachWords, grant_event, grant_from, GrantWords, release_event, release_from, ReleaseWords, read_event, read_from, ReadWords, write_event, write_from, WriteWords, commit_event, commit_from, poke_event, poke_from, PokeWords, peek_event, peek_from, PeekWords, free_event, free_from}
+use Rattle.iom_script.proofs.EventLemmas.{IsWord, other_line, device_event, device_from, PlugWords, attach_event, attach_from, AttachWords, grant_event, grant_from, GrantWords, release_event, release_from, ReleaseWords, read_event, read_from, ReadWords, write_event, write_from, WriteWords, commit_event, commit_from, detach_event, detach_from, poke_event, poke_from, PokeWords, peek_event, peek_from, PeekWords, free_event, free_from}
 
 -- the text says one value
 abbrev SaysOne : {X : Type 0} → (List ℕ → X → Type 0) → Type 0
@@ -106,6 +106,9 @@ event_same line (Write device address bytes) b p q =
 event_same line (Commit device) b p q =
     event_by_words commit_event (IsDevice p.0) (Commit device) b (device_same p.0)
     (commit_from p.0 (Commit device) (p.0, p.1, refl)) (commit_from p.0 b (subst (λ l. IsEventLine l b) p.2 q))
+event_same line (Detach device) b p q =
+    event_by_words detach_event (IsDevice p.0) (Detach device) b (device_same p.0)
+    (detach_from p.0 (Detach device) (p.0, p.1, refl)) (detach_from p.0 b (subst (λ l. IsEventLine l b) p.2 q))
 event_same line (Poke address bytes) b p q =
     let text = p.0 ␣ p.1 in
     event_by_words poke_event (PokeWords text) (Poke address bytes) b (followed_same IsAddress IsHex address_without_space address_same hex_same text)
@@ -118,13 +121,27 @@ event_same line (Free frame) b p q =
     event_by_words free_event (IsNumber p.0) (Free frame) b (number_same p.0)
     (free_from p.0 (Free frame) (p.0, p.1, refl)) (free_from p.0 b (subst (λ l. IsEventLine l b) p.2 q))
 
+-- the two numbers of a world
+abbrev pub numbers_of : WorldSize → ℕ × ℕ
+numbers_of size = (size.frames, size.levels)
+
+-- worlds with the same numbers
+pub same_size : (s t : WorldSize) → numbers_of s ≡ numbers_of t → s ≡ t
+same_size s t same =
+    ap (λ (f : ℕ). let w : WorldSize = record { frames = f; levels = s.levels } in w) (ap (λ (p : ℕ × ℕ). p.0) same)
+    ∙ ap (λ (l : ℕ). let w : WorldSize = record { frames = t.frames; levels = l } in w) (ap (λ (p : ℕ × ℕ). p.1) same)
+
+-- the words behind the first one
+pub world_words : (text : List ℕ) (size : WorldSize) → IsWorldLine (codes "world" ␣ text) size → Followed IsNumber IsNumber text (numbers_of size)
+world_words text size q = (q.1, (q.0, q.2, append_cancel_left (codes "world ") text (q.0 ␣ q.1) q.5), q.3)
+
 -- a line says one world
 world_same : (line : List ℕ) (s t : WorldSize) → IsWorldLine line s → IsWorldLine line t → s ≡ t
 world_same line s t p q =
-    let text = append_cancel_right p.0 q.0 (32 ∷ codes "1") (append_cancel_left (codes "world ") (p.0 ␣ codes "1") (q.0 ␣ codes "1") (sym p.3 ∙ q.3)) in
-    let frames = number_same q.0 s.frames t.frames (subst (λ f. IsNumber f s.frames) text p.1) q.1 in
-    ap (λ (f : ℕ). let w : WorldSize = record { frames = f; levels = s.levels } in w) frames
-    ∙ ap (λ (l : ℕ). let w : WorldSize = record { frames = t.frames; levels = l } in w) (p.2.2 ∙ sym q.2.2)
+    let text = p.0 ␣ p.1 in
+    same_size s t
+    (followed_same IsNumber IsNumber number_without_space number_same number_same text (numbers_of s) (numbers_of t)
+    (world_words text s (p.0, p.1, p.2, p.3, p.4, refl)) (world_words text t (subst (λ l. IsWorldLine l t) p.5 q)))
 
 -- lines say one list of events
 events_same : (lines : List (List ℕ)) (xs ys : List Event) → SayEvents lines xs → SayEvents lines ys → xs ≡ ys

@@ -4,7 +4,7 @@ use Rattle.std.specs.Borrow.{Bor}
 use Rattle.std.specs.Int.{IsInRange}
 use Rattle.std.specs.Str.Parse.{AllDigits, digits_value}
 use Rattle.iom_machine.specs.declared.event.Event.{Event}
-use Rattle.iom_machine.specs.declared.event.Event.TheVariants.{Plug, Attach, Grant, Release, Fetch, Poll, Read, Write, Commit, Poke, Peek, Free}
+use Rattle.iom_machine.specs.declared.event.Event.TheVariants.{Plug, Attach, Detach, Grant, Release, Fetch, Poll, Read, Write, Commit, Poke, Peek, Free}
 use Rattle.iom_script.specs.Words.{◌␣◌, IsWithout, IsNumber}
 use Rattle.iom_script.specs.Digits.{hex_digit, hex_digits}
 use Rattle.iom_script.specs.Grammar.{IsEventLine}
@@ -55,6 +55,7 @@ pub record LeadsWithNumber (text : List ℕ) (number count : ℕ) : Type 0 where
 abbrev pub start_of : Event → List ℕ
 start_of (Plug device kind) = codes "device "
 start_of (Attach device mode ats) = codes "attach "
+start_of (Detach device) = codes "detach "
 start_of (Grant device page frame rights) = codes "grant "
 start_of (Release device page) = codes "release "
 start_of Fetch = codes "fetch"
@@ -84,7 +85,7 @@ processor_starts = codes "peek " ∷ codes "poke " ∷ []
 
 -- how the lines begin that say what the driver is asked
 abbrev pub driver_starts : List (List ℕ)
-driver_starts = codes "grant " ∷ codes "release " ∷ codes "device " ∷ codes "attach " ∷ codes "free " ∷ []
+driver_starts = codes "grant " ∷ codes "release " ∷ codes "device " ∷ codes "attach " ∷ codes "detach " ∷ codes "free " ∷ []
 
 -- the lines of one word
 abbrev pub single_starts : List (List ℕ)

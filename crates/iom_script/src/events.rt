@@ -139,6 +139,15 @@ fn attach(line: &[u8]) -> Option<Event>
     })
 }
 
+/// `detach ID`
+fn detach(line: &[u8]) -> Option<Event>
+    ensures { Reads result (IsLineWith (codes "detach ") line.now) }
+{
+    let arguments = after(line, b"detach ")?;
+    let device = device_of(arguments)?;
+    Some(Event::Detach { device })
+}
+
 /// `free FRAME`
 fn free(line: &[u8]) -> Option<Event>
     ensures { Reads result (IsLineWith (codes "free ") line.now) }
@@ -157,6 +166,7 @@ fn call_of_driver(line: &[u8]) -> Option<Event>
         release(line),
         plug(line),
         attach(line),
+        detach(line),
         free(line)
     )
 }
@@ -235,14 +245,25 @@ fn is_frame_count(frames: u64) -> bool
     (FEWEST_FRAMES..=MOST_FRAMES).contains(&frames)
 }
 
+/// The levels of the largest device directory.
+const MOST_LEVELS: u64 = 3;
+
+/// Whether a device directory can have so many levels.
+fn is_level_count(levels: u64) -> bool
+    ensures { IsTrue result ↔ ((1 ≤ levels) × (levels ≤ 3)) }
+{
+    (1..=MOST_LEVELS).contains(&levels)
+}
+
 /// The size of the world that a line says.
 pub(crate) fn world_of(line: &[u8]) -> Option<WorldSize>
     ensures { Reads result (IsWorldLine line.now) }
 {
     let arguments = after(line, b"world ")?;
-    let (frames, levels) = number_and(arguments)?;
-    if levels != b"1".as_slice() || !is_frame_count(frames) {
+    let (frames, rest) = number_and(arguments)?;
+    let levels = number_of(rest)?;
+    if !is_frame_count(frames) || !is_level_count(levels) {
         return None;
     }
-    Some(WorldSize { frames, levels: 1 })
+    Some(WorldSize { frames, levels })
 }

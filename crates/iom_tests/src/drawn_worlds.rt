@@ -188,7 +188,13 @@ impl Known {
             ) => { frame = self.frame(*device, *address / 4096) }
             _ => {}
         }
-        Ok(Choice { taken, frame })
+        // The directory of one level is the page that stands from the start.
+        let directory = Sequence::new(alloc);
+        Ok(Choice {
+            directory,
+            taken,
+            frame,
+        })
     }
 }
 

@@ -1,7 +1,7 @@
 //! Runs translations that independent implementations confirmed, an emulated processor's page walk and an
 //! emulated RISC-V IOMMU, and prints how many agree with [`iom_device_dir::locate`] and
-//! [`iom_stage_walk::walk_first`]: the one finds the device's context, and the other walks the tables that it
-//! names.
+//! [`iom_stage_walk::walk_first`], of which the one finds the device's context and the other walks the tables that
+//! it names; and how many with [`iom_iommu::Iommu::request`], where the device asks for one byte.
 //!
 //! `data/first.tsv` is about first-stage tables, `data/directory.tsv` about directories and contexts. They have a
 //! case a line: group, name, ddtp, device id, address, `r` or `w`, the words of memory (`address=value`,
@@ -14,10 +14,15 @@ ghost use Rattle.iom_registers.specs.declared.directory.DirectoryMode.TheVariant
 
 use iom_base::{AccessKind, DeviceId, PAGE_SIZE};
 use iom_device_dir::{Context, FirstStage, locate};
+use iom_iommu::{Iommu, Reply};
 use iom_phys_mem::{Bytes, Memory};
-use iom_registers::{DirectoryMode, DirectoryPointer, Register, Registers};
+use iom_registers::{DirectoryMode, DirectoryPointer, Mmio, Register, Registers};
 use iom_stage_walk::{WalkFault, walk_first};
+use std::alloc::Global;
 use std::fs;
+
+/// The offset of `ddtp`.
+const DDTP: u64 = 16;
 
 /// A translation, and the answer that is wanted.
 #[derive(Clone, Copy)]
@@ -30,10 +35,11 @@ struct Case<'a> {
     want: &'a str,
 }
 
-/// How the cases went.
+/// How the cases went: how many agreed by a walk, and how many by a request.
 #[derive(Clone, Copy)]
 struct Tally {
     agreed: u32,
+    requested: u32,
     differed: u32,
     unread: u32,
 }
@@ -122,6 +128,33 @@ fn answer(memory: &Memory, ddtp: DirectoryPointer, case: Case<'_>) -> Result<u64
     }
 }
 
+/// What a request of one byte at the address is answered by an IOMMU whose `ddtp` was written; None where the
+/// request is answered otherwise, or there is no memory for the IOMMU.
+fn requested(alloc: Global, memory: &Memory, case: Case<'_>) -> Option<Result<u64, WalkFault>> {
+    let mut iommu = Iommu::new(alloc, memory.frames()).ok()?;
+    iommu.write(DDTP, 8, case.ddtp).ok()?;
+    iommu.add(case.device);
+    if !iommu.is_added(case.device) || iommu.frames() != memory.frames() || iommu.so_far() > 0 {
+        return None;
+    }
+    let reply = match case.kind {
+        AccessKind::Read => iommu.request(memory, case.device, case.address, 1, case.kind, &[]),
+        AccessKind::Write => iommu.request(memory, case.device, case.address, 1, case.kind, &[0]),
+    };
+    match reply {
+        Reply::Accepted(_) => {
+            let made = iommu.oldest(case.device)?;
+            Some(Ok(PAGE_SIZE * u64::from(made.frame) + u64::from(made.offset)))
+        }
+        Reply::Fault(cause) => Some(Err(WalkFault {
+            cause,
+            gpa: 0,
+            implicit: false,
+        })),
+        Reply::Busy | Reply::BadSpan => None,
+    }
+}
+
 /// Whether this is what is wanted: `at X`, or `cause C iotval2 0`.
 fn is_wanted(answer: Result<u64, WalkFault>, want: &str) -> bool {
     match answer {
@@ -143,8 +176,9 @@ fn is_wanted(answer: Result<u64, WalkFault>, want: &str) -> bool {
     }
 }
 
-/// Whether the case of the line agrees; None where the program can't read it. Leaves the memory zero.
-fn run(memory: &mut Memory, line: &str) -> Option<bool> {
+/// Whether the case of the line agrees, by a walk and by a request; None where the program can't read it. Leaves
+/// the memory zero.
+fn run(alloc: Global, memory: &mut Memory, line: &str) -> Option<(bool, bool)> {
     let case = parse(line)?;
     let ddtp = pointer_of(case.ddtp);
     if ddtp.mode == DirectoryMode::Bare {
@@ -152,21 +186,31 @@ fn run(memory: &mut Memory, line: &str) -> Option<bool> {
     }
     store_words(memory, case.words, false)?;
     let answer = answer(memory, ddtp, case);
+    let requested = requested(alloc, memory, case);
     store_words(memory, case.words, true)?;
-    Some(is_wanted(answer, case.want))
+    Some((
+        is_wanted(answer, case.want),
+        is_wanted(requested?, case.want),
+    ))
 }
 
 /// How the cases of the lines go, but for the first line.
-fn tally_of(memory: &mut Memory, text: &str) -> Tally {
+fn tally_of(alloc: Global, memory: &mut Memory, text: &str) -> Tally {
     let mut tally = Tally {
         agreed: 0,
+        requested: 0,
         differed: 0,
         unread: 0,
     };
     for line in text.lines().skip(1) {
-        match run(memory, line) {
-            Some(true) => tally.agreed = tally.agreed.saturating_add(1),
-            Some(false) => tally.differed = tally.differed.saturating_add(1),
+        match run(alloc, memory, line) {
+            Some((walked, requested)) => {
+                tally.agreed = tally.agreed.saturating_add(u32::from(walked));
+                tally.requested = tally.requested.saturating_add(u32::from(requested));
+                tally.differed = tally
+                    .differed
+                    .saturating_add(u32::from(!walked || !requested));
+            }
             None => tally.unread = tally.unread.saturating_add(1),
         }
     }
@@ -177,10 +221,10 @@ fn main(rt: HostRuntime) -> anyhow::Result<()> {
     let mut memory = Memory::new(rt.alloc(), 2048)?;
     for (name, file) in [("first stage", "first.tsv"), ("directory", "directory.tsv")] {
         let text = fs::read_to_string(&rt, file)?;
-        let tally = tally_of(&mut memory, text.as_str());
+        let tally = tally_of(rt.alloc(), &mut memory, text.as_str());
         println!(rt;
-            "{name}: {} agree, {} differ, {} not read",
-            tally.agreed, tally.differed, tally.unread
+            "{name}: {} agree, {} as requests, {} differ, {} not read",
+            tally.agreed, tally.requested, tally.differed, tally.unread
         )?;
     }
     Ok(())

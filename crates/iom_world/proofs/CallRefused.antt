@@ -3,7 +3,10 @@ use Rattle.std.proofs.Common.{◌≡◌, ◌+◌, ◌-◌, ◌==◌, ◌∙◌, 
 use Rattle.iom_base.specs.declared.grant_rights.GrantRights.{GrantRights}
 use Rattle.iom_driver.specs.declared.answers.Polled.{Polled}
 use Rattle.iom_driver.specs.declared.answers.Ticket as answers
-use Rattle.iom_driver.specs.Calls.{AnswersPlug, AnswersAttach, AnswersGrant, AnswersRelease, AnswersPoll}
+use Rattle.iom_driver.specs.Attaching.{AnswersAttach}
+use Rattle.iom_driver.specs.Calls.{AnswersPlug, AnswersGrant, AnswersRelease}
+use Rattle.iom_driver.specs.Leaving.{DoesDetach}
+use Rattle.iom_driver.specs.Polling.{AnswersPoll}
 use Rattle.iom_driver.specs.State.{DriverState}
 use Rattle.iom_iommu.specs.Parts.{registers_of, mmio}
 use Rattle.iom_ledger.specs.Changes.{IsUnchanged}
@@ -12,12 +15,12 @@ use Rattle.iom_machine.specs.declared.outcome.Fetched.{Fetched}
 use Rattle.iom_machine.specs.declared.outcome.Outcome.{Outcome}
 use Rattle.iom_machine.specs.declared.outcome.Outcome.TheVariants as outcome
 use Rattle.iom_machine.specs.declared.state.DeviceKind.{DeviceKind}
-use Rattle.iom_world.specs.Does.{PlugsDevice, AttachesDevice, GrantsPage, ReleasesPage, FetchesNext, PollsTickets, told_of, ticket_told_of, polled_told_of, devices_after}
+use Rattle.iom_world.specs.Does.{PlugsDevice, AttachesDevice, GrantsPage, ReleasesPage, DetachesDevice, FetchesNext, PollsTickets, told_of, ticket_told_of, polled_told_of, devices_after, AddsRow}
 use Rattle.iom_world.specs.Happens.{AreSame, SameIfRefused}
 use Rattle.iom_world.specs.Parts.{Parts}
 
 -- parts of which each is the same
-same_of : (old new : Parts) → new.memory ≡ old.memory → new.iommu ≡ old.iommu → new.devices ≡ old.devices → new.driver ≡ old.driver → AreSame old new
+pub same_of : (old new : Parts) → new.memory ≡ old.memory → new.iommu ≡ old.iommu → new.devices ≡ old.devices → new.driver ≡ old.driver → AreSame old new
 same_of old new memory iommu devices driver = record {
   memory = memory;
   iommu = iommu;
@@ -31,11 +34,11 @@ done_refused : (why : Refusal) → outcome.Done ≡ outcome.Refused why → ⊥
 done_refused why same = cc
 
 pub plug_refused : (old new : Parts) (id : ℕ) (kind : DeviceKind) (told : Outcome) → PlugsDevice old id kind told new → SameIfRefused told old new
-plug_refused old new id kind told does why is = by does.answer (sym does.told_so ∙ is) does.call does.devices
+plug_refused old new id kind told does why is = by does.answer (sym does.told_so ∙ is) does.call does.row does.devices
   where
-    by : (answer : Result (Unit {0}) Refusal) → told_of answer ≡ outcome.Refused why → AnswersPlug old.driver id answer new.driver → new.devices ≡ devices_after answer old.devices id kind → AreSame old new
-    by (Ok done) refused call devices = absurd (done_refused why refused)
-    by (Err reason) refused call devices = same_of old new does.memory does.iommu devices call.1
+    by : (answer : Result (Unit {0}) Refusal) → told_of answer ≡ outcome.Refused why → AnswersPlug old.driver id answer new.driver → AddsRow answer old.iommu id new.iommu → new.devices ≡ devices_after answer old.devices id kind → AreSame old new
+    by (Ok done) refused call row devices = absurd (done_refused why refused)
+    by (Err reason) refused call row devices = same_of old new does.memory row devices call.1
 
 pub attach_refused : (old new : Parts) (id : ℕ) (told : Outcome) → AttachesDevice old id told new → SameIfRefused told old new
 attach_refused old new id told does why is = by does.answer (sym does.told_so ∙ is) does.call
@@ -58,6 +61,13 @@ release_refused old new id page told does why is = by does.answer (sym does.told
     by (Ok ticket) refused call = cc
     by (Err reason) refused call = same_of old new call.2 call.3 does.devices call.1
 
+pub detach_refused : (old new : Parts) (id : ℕ) (told : Outcome) → DetachesDevice old id told new → SameIfRefused told old new
+detach_refused old new id told does why is = by does.answer (sym does.told_so ∙ is) does.call.effect
+  where
+    by : (answer : Result answers.Ticket Refusal) → ticket_told_of answer ≡ outcome.Refused why → DoesDetach mmio old.driver old.memory old.iommu id answer new.driver new.memory new.iommu → AreSame old new
+    by (Ok ticket) refused call = cc
+    by (Err reason) refused call = same_of old new call.1 call.2 does.devices call.0
+
 pub fetch_refused : (old new : Parts) (told : Outcome) → FetchesNext old told new → SameIfRefused told old new
 fetch_refused old new told does why is = absurd (never (sym does.told_so ∙ is))
   where
@@ -71,6 +81,6 @@ poll_refused old new told does why is = by does.answer (sym does.told_so ∙ is)
     never true first last same = cc
     never false first last same = cc
 
-    by : (answer : Result Polled Refusal) → polled_told_of answer ≡ outcome.Refused why → AnswersPoll (registers_of old.iommu) old.driver old.memory answer new.driver → AreSame old new
+    by : (answer : Result Polled Refusal) → polled_told_of answer ≡ outcome.Refused why → AnswersPoll (registers_of old.iommu) old.driver old.memory answer new.driver new.memory → AreSame old new
     by (Ok polled) refused call = absurd (never (polled.count == 0) polled.first (polled.first + polled.count - 1) refused)
-    by (Err reason) refused call = same_of old new does.memory does.iommu does.devices call.1
+    by (Err reason) refused call = same_of old new call.2 does.iommu does.devices call.1

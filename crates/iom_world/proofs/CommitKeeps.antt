@@ -1,116 +1,98 @@
--- What stays true of a world when an access in flight is made: it is covered, so its frame is nobody's.
-use Rattle.std.proofs.Common.{is_some, suc, ◌≡◌, ◌+◌, ◌/◌, ◌%◌, ◌≤◌, ◌==◌, inl, inr, nat_lt, ℕ, true, false, List, [], ◌∷◌, drop, Option, Some, None, option_map, slice_get, slice_set, refl, sym, ap, subst}
-use Rattle.std.specs.Option.{option_map_or}
-use Rattle.std.proofs.lemmas.Bool.{or_cases, and_parts, eqb-true, false≢true}
+-- What stays true of a world when an access in flight is made: its frame isn't reserved.
+use Rattle.std.proofs.Common.{◌≡◌, ◌<◌, ◌≤◌, ◌∙◌, IfSome, inl, inr, ℕ, false, is_some, List, length, Option, Some, None, slice_get, sym, ap, subst}
+use Rattle.std.proofs.lemmas.List.{length-set}
 use Rattle.iom_base.specs.declared.access.AcceptedAccess.{AcceptedAccess}
 use Rattle.iom_base.specs.declared.access.AccessKind.{AccessKind}
-use Rattle.iom_base.specs.declared.owner.Owner.{Owner}
-use Rattle.iom_base.specs.declared.rights.Rights.{Rights}
+use Rattle.iom_base.specs.declared.access.AccessKind.TheVariants.{Read, Write}
 use Rattle.iom_base.specs.Accesses.{offset_of}
 use Rattle.iom_base.specs.Bytes.{with_bytes}
-use Rattle.iom_base.specs.Rights.{allows}
-use Rattle.iom_driver.specs.Sound.{IsGrant, AreGrants}
-use Rattle.iom_ledger.specs.declared.ledger.Ledger.{Ledger}
-use Rattle.iom_ledger.specs.History.{Pair, serves}
-use Rattle.iom_ledger.specs.Shown.{held_in, released_in}
+use Rattle.iom_copies.specs.Among.{AreAmong}
+use Rattle.iom_device_dir.specs.Cached.{cached_contexts}
+use Rattle.iom_driver.proofs.Lists.{get_set_other}
+use Rattle.iom_inflight.specs.declared.made.MadeAt.{MadeAt}
+use Rattle.iom_inflight.specs.Calls.{IsMade, Performs}
+use Rattle.iom_inflight.specs.Flights.{Flights}
+use Rattle.iom_iommu.specs.Parts.{contexts_of, flights_of}
+use Rattle.iom_iommu.specs.Requests.{CommitsOldest}
 use Rattle.iom_machine.specs.declared.outcome.Outcome.{Outcome}
-use Rattle.iom_world.specs.declared.device.Device.{Device}
-use Rattle.iom_world.specs.Commands.{completed_in}
 use Rattle.iom_table_frames.specs.Marks.{is_marked}
-use Rattle.iom_world.specs.Commits.{CommitsOldest, MakesAt, without_oldest}
-use Rattle.iom_world.specs.Facts.{IsCovered, AllCovered, IsSoundDevice, serves_still}
+use Rattle.iom_world.specs.Commits.{CommitsAccess, MakesOldest}
 use Rattle.iom_world.specs.Parts.{Parts}
-use Rattle.iom_world.specs.Sound.{AreSound}
+use Rattle.iom_world.specs.Read.{values_of, accesses_of}
+use Rattle.iom_world.specs.Sound.{AreSound, ContextsAreTrue, row_ids}
 use Rattle.iom_world.proofs.DriverLemmas.{IsSoundDriver}
-use Rattle.iom_driver.proofs.Lists.{get_within, get_there}
-use Rattle.iom_world.proofs.MemoryKeeps.{keeps_stored}
-use Rattle.iom_world.proofs.ReplaceLemmas.{keeps_device, parts_are}
+use Rattle.iom_world.proofs.PartsLemmas.{StaysReady}
+use Rattle.iom_world.proofs.RowLemmas.{made_among, row_ids_kept}
+use Rattle.iom_world.proofs.SceneSteps.{make_scene}
+use Rattle.iom_world.proofs.SoundFrom.{Leaves, sound_from, same_waiting, same_done, grants_kept, unmarked, owned_differs}
 
--- the frame of an access that is covered isn't reserved
-unreserved_by_held : (held : Option Pair) (marks : List (Option Owner)) (page frame : ℕ) (kind : AccessKind)
-    → ((f : ℕ) (rights : Rights) → held ≡ Some (f, rights) → IsGrant marks page f)
-    → option_map_or (serves frame kind) held false ≡ true → slice_get marks frame ≡ Some None
-unreserved_by_held None marks page frame kind granted serving = absurd (false≢true serving)
-unreserved_by_held (Some pair) marks page frame kind granted serving =
-    subst (λ f. slice_get marks f ≡ Some None) (eqb-true pair.0 frame (and_parts (pair.0 == frame) (allows pair.1 kind) serving).0) (granted pair.0 pair.1 refl).unreserved
+-- what is true of the contexts stays, where they do and the driver's devices
+pub contexts_stay : (old new : Parts) → ContextsAreTrue old → contexts_of new.iommu ≡ contexts_of old.iommu → new.driver ≡ old.driver → ContextsAreTrue new
+contexts_stay old new are contexts driver = λ id context at. rw driver (are id context (ap (λ c. c id) (sym contexts) ∙ at))
 
-unreserved_by_released : (released : Option (ℕ × Pair)) (marks : List (Option Owner)) (completed page frame : ℕ) (kind : AccessKind)
-    → ((f : ℕ) (rights : Rights) → option_map (λ (r : ℕ × Pair). r.1) released ≡ Some (f, rights) → IsGrant marks page f)
-    → option_map_or (serves_still completed frame kind) released false ≡ true → slice_get marks frame ≡ Some None
-unreserved_by_released None marks completed page frame kind granted serving = absurd (false≢true serving)
-unreserved_by_released (Some released) marks completed page frame kind granted serving =
-    unreserved_by_held (Some released.1) marks page frame kind granted (and_parts (nat_lt completed released.0) (serves frame kind released.1) serving).1
+-- what an access does to memory: no frame changes but its own
+pub performed_size : (kind : AccessKind) (memory new : List (List ℕ)) (made : AcceptedAccess) → Performs kind memory made new → length new ≡ length memory
+performed_size Read memory new made is = ap (λ m. length m) is
+performed_size Write memory new made (bytes, there, is) = ap (λ m. length m) is ∙ length-set memory made.frame (with_bytes bytes (offset_of made.access) made.access.bytes)
 
-unreserved : (marks : List (Option Owner)) (ledger : Ledger) (completed id : ℕ) (flight : AcceptedAccess) → AreGrants marks ledger → IsCovered ledger completed id flight
-    → slice_get marks flight.frame ≡ Some None
-unreserved marks ledger completed id flight grants covered =
-    let page = flight.access.address / 4096 in
-    elim (or_cases _ _ covered.covered) [
-      | inl held ↦ unreserved_by_held (held_in ledger id page) marks page flight.frame flight.access.kind (λ f rights is. grants.held id page f rights is) held
-      | inr released ↦ unreserved_by_released (released_in ledger id page) marks completed page flight.frame flight.access.kind (λ f rights is. grants.lingering id page f rights is) released
-    ]
+pub performed_elsewhere : (kind : AccessKind) (memory new : List (List ℕ)) (made : AcceptedAccess) (n : ℕ) → Performs kind memory made new → (n ≡ made.frame → ⊥) → slice_get new n ≡ slice_get memory n
+performed_elsewhere Read memory new made n is apart = ap (λ m. slice_get m n) is
+performed_elsewhere Write memory new made n (bytes, there, is) apart =
+    ap (λ m. slice_get m n) is ∙ get_set_other memory made.frame n (with_bytes bytes (offset_of made.access) made.access.bytes) apart
 
--- what is known of an access that is to be made: its frame is one of memory, that is nobody's, and it leaves neither that nor its page
-pub record IsMakeable (old : Parts) (flight : AcceptedAccess) : Type 0 where
-  pub free : slice_get old.driver.marks flight.frame ≡ Some None
-  pub bytes : List ℕ
-  pub there : slice_get old.memory flight.frame ≡ Some bytes
-  pub within : flight.access.address % 4096 + flight.access.len ≤ 4096
+-- the frame of the access that is made is nobody's
+pub made_free : (old : Parts) (events id : ℕ) (made : MadeAt) (memory : List (List ℕ)) (flights : Flights) → AreSound old events
+    → (is : IsMade old.memory (flights_of old.iommu) id made memory flights) → is_marked old.driver.marks made.frame ≡ false → slice_get old.driver.marks is.oldest.accepted.frame ≡ Some None
+made_free old events id made memory flights sound is unreserved =
+    unmarked old.driver.marks is.oldest.accepted.frame (subst (λ n. is.oldest.accepted.frame < n) sound.ready.stand.size is.inside)
+    (subst (λ (m : MadeAt). is_marked old.driver.marks m.frame ≡ false) is.told unreserved)
 
-pub makeable : (old : Parts) (events place : ℕ) (device : Device) (flight : AcceptedAccess) → AreSound old events → AreGrants old.driver.marks old.driver.ledger
-    → slice_get old.devices place ≡ Some device → slice_get device.in_flight 0 ≡ Some flight → IsMakeable old flight
-makeable old events place device flight sound grants at oldest =
-    let covered = (sound.each place device at).covered 0 flight oldest in
-    let free = unreserved old.driver.marks old.driver.ledger (completed_in old.memory) device.id flight grants covered in
-    let below = get_within old.driver.marks flight.frame None free in
-    let there = get_there old.memory flight.frame (rw (sound.ready.stand.size) below) in
-    record { free = free; bytes = there.0; there = there.1; within = covered.within.1 }
+leaves_made : (old new : Parts) (events id : ℕ) (made : MadeAt) → AreSound old events → IsMade old.memory (flights_of old.iommu) id made new.memory (flights_of new.iommu)
+    → CommitsOldest old.memory old.iommu id (Some made) new.memory new.iommu → is_marked old.driver.marks made.frame ≡ false → new.driver ≡ old.driver → new.devices ≡ old.devices → Leaves old new
+leaves_made old new events id made sound is call unreserved driver devices =
+    let free = made_free old events id made new.memory (flights_of new.iommu) sound is unreserved in
+    record {
+      size = performed_size is.oldest.accepted.access.kind old.memory new.memory is.oldest.accepted is.performed;
+      reserved = λ frame owner mark. performed_elsewhere is.oldest.accepted.access.kind old.memory new.memory is.oldest.accepted frame is.performed
+          (owned_differs old.driver.marks frame is.oldest.accepted.frame owner mark free);
+      registers = call.registers;
+      frames = call.frames;
+      rows = ap (λ (f : Flights). row_ids f.rows) is.after ∙ row_ids_kept (flights_of old.iommu).rows (record is.row { waiting = is.later });
+      driver = driver;
+      devices = devices;
+    }
 
--- a frame that is nobody's isn't reserved
-pub not_marked : (marks : List (Option Owner)) (frame : ℕ) → slice_get marks frame ≡ Some None → is_marked marks frame ≡ false
-not_marked marks frame free = ap (λ (o : Option (Option Owner)). option_map_or (λ mark. is_some mark) o false) free
-
-rest_covered : (ledger : Ledger) (completed id : ℕ) (flights : List AcceptedAccess) → AllCovered ledger completed id flights → AllCovered ledger completed id (drop 1 flights)
-rest_covered ledger completed id [] covered k flight at = cc
-rest_covered ledger completed id (first ∷ later) covered k flight at = covered (suc k) flight at
-
-device_made : (ledger : Ledger) (completed events : ℕ) (device : Device) → IsSoundDevice ledger completed events device → IsSoundDevice ledger completed events (without_oldest device)
-device_made ledger completed events device is = record {
-  covered = rest_covered ledger completed device.id device.in_flight is.covered;
-  counted = is.counted;
+leaves_none : (old new : Parts) (id : ℕ) → CommitsOldest old.memory old.iommu id None new.memory new.iommu → new.driver ≡ old.driver → new.devices ≡ old.devices → Leaves old new
+leaves_none old new id call driver devices = record {
+  size = ap (λ m. length m) call.makes.1;
+  reserved = λ frame owner mark. ap (λ m. slice_get m frame) call.makes.1;
+  registers = call.registers;
+  frames = call.frames;
+  rows = ap (λ (f : Flights). row_ids f.rows) call.makes.2;
+  driver = driver;
+  devices = devices;
 }
 
--- the device that made its oldest access, among the others
-pub keeps_made : (old : Parts) (place : ℕ) (device now : Device) (events : ℕ) → AreSound old events → slice_get old.devices place ≡ Some device → now ≡ without_oldest device
-    → AreSound (record old { devices = slice_set old.devices place now }) events
-keeps_made old place device now events sound at is =
-    keeps_device old place device now events sound at (ap (λ (d : Device). d.id) is)
-    (subst (λ d. IsSoundDevice old.driver.ledger (completed_in old.memory) events d) (sym is)
-    (device_made old.driver.ledger (completed_in old.memory) events device (sound.each place device at)))
+keeps_made : (old new : Parts) (events id : ℕ) (made : Option MadeAt) → AreSound old events → IsSoundDriver old.driver → StaysReady old.driver → Leaves old new
+    → CommitsOldest old.memory old.iommu id made new.memory new.iommu
+    → (flights_of new.iommu).so_far ≡ (flights_of old.iommu).so_far → AreAmong (accesses_of (flights_of new.iommu).rows) (accesses_of (flights_of old.iommu).rows) → AreSound new events
+keeps_made old new events id made sound own stays leaves call so_far among =
+    let contexts : contexts_of new.iommu ≡ contexts_of old.iommu = ap cached_contexts call.contexts in
+    sound_from old new events sound own leaves events stays (subst (λ n. n ≤ events) (sym so_far) sound.counted)
+    (contexts_stay old new sound.contexts contexts leaves.driver)
+    (λ has. make_scene (values_of old) (values_of new) (grants_kept old new events sound own leaves) (same_waiting old new events sound own leaves) (same_done old new events sound own leaves)
+    so_far among (λ d there. ap (λ c. is_some (c d)) (sym contexts) ∙ there) has)
 
-keeps_made_at : (old new : Parts) (events place : ℕ) (told : Outcome) → AreSound old events → IsSoundDriver old.driver → MakesAt old place told new → AreSound new events
-keeps_made_at old new events place told sound own makes = elim makes.effect [
-  | inl gives ↦ subst (λ parts. AreSound parts events) (sym (parts_are new old.memory old.iommu old.driver after gives.memory_stays makes.iommu makes.driver makes.devices))
-      (keeps_made old place makes.device (without_oldest makes.device) events sound makes.stands refl)
-  | inr stores ↦
-      let bytes = with_bytes stores.bytes (offset_of made.access) made.access.bytes in
-      let free = (makeable old events place makes.device made sound own.grants makes.stands makes.oldest).free in
-      let changed : Parts = record old { memory = slice_set old.memory made.frame bytes } in
-      subst (λ parts. AreSound parts events) (sym (parts_are new changed.memory old.iommu old.driver after stores.stored makes.iommu makes.driver makes.devices))
-      (keeps_made changed place makes.device (without_oldest makes.device) events (keeps_stored old made.frame bytes events sound own free) makes.stands refl)
-]
-  where
-    made : AcceptedAccess
-    made = makes.made
-
-    after : List Device
-    after = slice_set old.devices place (without_oldest makes.device)
-
-pub keeps_committed : (old new : Parts) (events id : ℕ) (told : Outcome) → AreSound old events → IsSoundDriver old.driver → CommitsOldest old id told new → AreSound new events
-keeps_committed old new events id told sound own commits = elim commits [
-  | inl unknown ↦ subst (λ parts. AreSound parts events) (sym unknown.same) sound
-  | inr there ↦ elim there [
-    | inl none ↦ subst (λ parts. AreSound parts events) (sym none.same) sound
-    | inr makes ↦ keeps_made_at old new events makes.place told sound own makes.makes
-  ]
-]
+-- a commit keeps the facts, whatever is told of it
+pub keeps_oldest : (old new : Parts) (events id : ℕ) (made : Option MadeAt) → AreSound old events → IsSoundDriver old.driver → StaysReady old.driver
+    → CommitsOldest old.memory old.iommu id made new.memory new.iommu → IfSome made (λ it. is_marked old.driver.marks it.frame ≡ false) → new.driver ≡ old.driver → new.devices ≡ old.devices → AreSound new events
+keeps_oldest old new events id None sound own stays call unreserved driver devices =
+    keeps_made old new events id None sound own stays (leaves_none old new id call driver devices) call
+    (ap (λ (f : Flights). f.so_far) call.makes.2)
+    (subst (λ (f : Flights). AreAmong (accesses_of f.rows) (accesses_of (flights_of old.iommu).rows)) (sym call.makes.2) (λ x there. there))
+keeps_oldest old new events id (Some made) sound own stays call unreserved driver devices =
+    let is : IsMade old.memory (flights_of old.iommu) id made new.memory (flights_of new.iommu) = call.makes in
+    keeps_made old new events id (Some made) sound own stays (leaves_made old new events id made sound is call unreserved driver devices) call
+    (ap (λ (f : Flights). f.so_far) is.after)
+    (subst (λ (f : Flights). AreAmong (accesses_of f.rows) (accesses_of (flights_of old.iommu).rows)) (sym is.after)
+    (made_among (flights_of old.iommu).rows id is.row is.oldest is.later is.stands is.waiting))

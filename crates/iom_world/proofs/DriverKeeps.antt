@@ -1,143 +1,232 @@
 -- What stays true of a world when its driver is asked to attach a device, to grant a frame, and to poll.
-use Rattle.std.proofs.Common.{zero, suc, ◌≡◌, ◌≢◌, ◌+◌, ◌-◌, ◌^◌, ◌<◌, ◌≤◌, ◌==◌, ◌||◌, ◌∙◌, min, is_some, ℕ, Bool, true, false, List, [], ◌∷◌, length, map, Option, Some, None, Result, Ok, Err, slice_get, refl, sym, ap, subst, arith, if◌then◌else◌}
-use Rattle.std.specs.Option.{option_map_or}
-use Rattle.std.proofs.Math.Nat.{min-eq_left, min-le_right}
-use Rattle.std.proofs.lemmas.Bool.{false≢true, eqb-true}
+use Rattle.std.proofs.Common.{zero, suc, ◌≡◌, ◌≢◌, ◌^◌, ◌<◌, ◌≤◌, ◌||◌, ◌++◌, ◌∙◌, not, is_some, ℕ, Bool, true, false, List, [], ◌∷◌, length, Option, Some, None, Result, Ok, Err, slice_get, inl, inr, refl, sym, ap, subst, arith}
+use Rattle.std.specs.Option.{option_map}
+use Rattle.std.proofs.Math.Logic.{∥∥₁_map}
+use Rattle.std.proofs.lemmas.Bool.{false≢true, leb-false}
+use Rattle.std.proofs.lemmas.Bool.Decides.{eqb_tells}
 use Rattle.std.proofs.lemmas.List.{length-set}
 use Rattle.iom_base.specs.declared.grant_rights.GrantRights.{GrantRights}
 use Rattle.iom_base.specs.declared.owner.Owner.{Owner}
 use Rattle.iom_base.specs.declared.owner.Owner.TheVariants.{System, OneDevice}
 use Rattle.iom_base.specs.GrantRights.{rights_of}
-use Rattle.iom_command_queue.specs.Waiting.{commands_in}
-use Rattle.iom_driver.specs.declared.answers.Polled.{Polled}
-use Rattle.iom_driver.specs.declared.device.Device as driver
+use Rattle.iom_device_dir.specs.declared.context.Context.{Context}
+use Rattle.iom_device_dir.specs.Paths.{ids_below}
+use Rattle.iom_directory.specs.Pages.{HasPage, root_level}
+use Rattle.iom_driver.specs.declared.device.Attachment.{Attachment}
+use Rattle.iom_driver.specs.declared.device.Attachment.TheVariants.{Detached, Attached, Leaving}
 use Rattle.iom_driver.specs.declared.device.FirstStage.{FirstStage}
-use Rattle.iom_driver.specs.Calls.{AnswersAttach, TakesRoot, AnswersGrant, TakesTables, AnswersPoll}
-use Rattle.iom_driver.specs.Choices.{AreHighestFree, marked_for}
-use Rattle.iom_driver.specs.Devices.{with_stage}
-use Rattle.iom_driver.specs.Layout.{command_frame, completion_frame, completion_address}
+use Rattle.iom_driver.specs.Attaching.{AnswersAttach, TakesRoot}
+use Rattle.iom_driver.specs.Calls.{AnswersGrant, TakesTables, IsSame}
+use Rattle.iom_driver.specs.Choices.{AreHighestFree, marked_for, cleared}
+use Rattle.iom_driver.specs.Devices.{attachment_of, is_plugged, attached_stage, owned_stage, owned_stage_of}
+use Rattle.iom_driver.specs.Directory.{context_for, DirectoryStands}
+use Rattle.iom_driver.specs.Layout.{IsLevels, id_limit, command_frame, completion_frame, directory_frame, completion_address}
 use Rattle.iom_driver.specs.Ready.{IsReady}
-use Rattle.iom_driver.specs.Reasons.{grant_reasons}
+use Rattle.iom_driver.specs.Reasons.{why_not_attach, why_not_grant}
 use Rattle.iom_driver.specs.State.{DriverState}
-use Rattle.iom_driver.proofs.Choosing.{are_chosen}
-use Rattle.iom_driver.proofs.Keeps.{unmarked, owned_differs}
-use Rattle.iom_driver.proofs.Lists.{get_set_other}
-use Rattle.iom_driver.proofs.Marks.{not_among, mark_stays, length-marked_for}
-use Rattle.iom_iommu.specs.Parts.{registers_of}
+use Rattle.iom_driver.proofs.Chosen.{are_chosen}
+use Rattle.iom_driver.proofs.Lists.{get_there}
+use Rattle.iom_driver.proofs.Marks.{NotAmong, Among, not_among, mark_stays, length-marked_for, bytes_stay, zero_among}
+use Rattle.iom_iommu.specs.Parts.{registers_of, contexts_of, flights_of}
 use Rattle.iom_ledger.specs.declared.ledger.Ledger.{Ledger}
 use Rattle.iom_ledger.specs.declared.refusal.Refusal.{Refusal}
-use Rattle.iom_ledger.specs.declared.refusal.Refusal.TheVariants.{IovaBusy}
+use Rattle.iom_ledger.specs.declared.refusal.Refusal.TheVariants.{NoSuchDevice, AlreadyAttached, IdTooWide, IovaBusy}
 use Rattle.iom_ledger.specs.Refusals.{NoneApplies}
-use Rattle.iom_ledger.specs.Shown.{held_in, lingering_in}
+use Rattle.iom_ledger.specs.Shown.{Agrees, held_in, lingering_in}
 use Rattle.iom_machine.specs.declared.outcome.Outcome.{Outcome}
-use Rattle.iom_table_frames.specs.Marks.{IsFreeForTable}
-use Rattle.iom_registers.specs.Queues.{is_processing_commands}
-use Rattle.iom_world.specs.declared.device.Device.{Device}
-use Rattle.iom_world.specs.Commands.{completed_in}
+use Rattle.iom_phys_mem.specs.Words.{zeroed}
+use Rattle.iom_table_frames.specs.Marks.{IsFreeForTable, is_marked}
+use Rattle.iom_world.specs.Devices.{shown_attachment}
 use Rattle.iom_world.specs.Does.{AttachesDevice, GrantsPage, PollsTickets}
-use Rattle.iom_world.specs.Facts.{AreSoundDevices, HaveOwnIds, AreKnown}
 use Rattle.iom_world.specs.Parts.{Parts}
-use Rattle.iom_world.specs.Sound.{AreSound}
-use Rattle.iom_world.proofs.CoverLemmas.{devices_unchanged, devices_granted, devices_polled}
+use Rattle.iom_world.specs.Queued.{completed_in}
+use Rattle.iom_world.specs.Read.{values_of, accesses_of}
+use Rattle.iom_world.specs.Sound.{AreSound, ContextsAreTrue, known_ids, row_ids}
+use Rattle.iom_world.proofs.DeviceLemmas.{shown_set, plugged_set, ids_set, attachment_other, owns_nothing}
 use Rattle.iom_world.proofs.DriverLemmas.{IsSoundDriver}
-use Rattle.iom_world.proofs.RingLemmas.{same_completed, follow_as, follow_le}
-use Rattle.iom_driver.proofs.Ring.{same_commands}
+use Rattle.iom_world.proofs.HungKeeps.{AreZeros, AreOnce, hung_keeps}
+use Rattle.iom_world.proofs.PollKeeps as polling
+use Rattle.iom_world.proofs.PollKeeps.{same_known}
+use Rattle.iom_world.proofs.SceneCalls.{AreSameValues, same_scene, AttachesDetached, attach_scene, GrantsOne, grant_scene}
+use Rattle.iom_world.proofs.SoundLemmas.{same_completed, LeavesWord, same_iommu, sound_from, same_waiting, fixed_frames, none_at}
 
--- what such a call leaves: the IOMMU and the devices, the ring and the completion word, and the last ticket
-pub record LeavesQueue (old new : Parts) : Type 0 where
-  pub size : length new.memory ≡ length old.memory
-  pub ring : slice_get new.memory (command_frame (length old.memory)) ≡ slice_get old.memory (command_frame (length old.memory))
-  pub word : slice_get new.memory (completion_frame (length old.memory)) ≡ slice_get old.memory (completion_frame (length old.memory))
-  pub iommu : new.iommu ≡ old.iommu
-  pub given : new.driver.given ≡ old.driver.given
-  pub started : new.driver.started ≡ old.driver.started
+-- small facts of tests
+pub none_of : {A : Type 0} (o : Option A) → is_some o ≡ false → o ≡ None
+none_of None nothing = refl
+none_of (Some x) nothing = absurd (false≢true (sym nothing))
 
--- so the facts stay, where they do of the devices and of the tickets that are confirmed
-pub sound_from : (old new : Parts) (events : ℕ) → AreSound old events → LeavesQueue old new → IsReady new.driver new.memory (registers_of new.iommu)
-    → AreKnown new.driver.devices new.devices → HaveOwnIds new.devices → new.driver.confirmed ≤ completed_in old.memory
-    → AreSoundDevices new.driver.ledger (completed_in old.memory) events new.devices → AreSound new events
-sound_from old new events sound leaves ready known own confirmed each =
-    let done : completed_in new.memory ≡ completed_in old.memory = same_completed old.memory new.memory leaves.size leaves.word in
-    let commands : commands_in new.memory (registers_of new.iommu) ≡ commands_in old.memory (registers_of old.iommu) =
-    ap (λ i. commands_in new.memory (registers_of i)) leaves.iommu
-    ∙ same_commands old.memory new.memory (registers_of old.iommu) (sound.ready.ring sound.started) leaves.ring in
-    record {
-      ready = ready;
-      started = leaves.started ∙ sound.started;
-      processing = ap (λ i. is_processing_commands (registers_of i)) leaves.iommu ∙ sound.processing;
-      known = known;
-      own_ids = own;
-      commands = follow_as _ _ _ _ _ _ _ _ (ap completion_address leaves.size) done commands leaves.given sound.commands;
-      confirmed = rw done confirmed;
-      small = rw leaves.given sound.small;
-      each = rw done each;
-    }
+pub not_false : (b : Bool) → not b ≡ false → b ≡ true
+not_false true it = refl
+not_false false it = absurd (false≢true (sym it))
 
--- the driver knows the device under the same id when it is attached
-ids_attached : (known : List driver.Device) (id : ℕ) (stage : FirstStage)
-    → map (λ (device : driver.Device). device.id) (with_stage known id stage) ≡ map (λ (device : driver.Device). device.id) known
-ids_attached [] id stage = refl
-ids_attached (device ∷ others) id stage = by (device.id == id) (ids_attached others id stage)
+pub attached_is : (a : Attachment) (stage : FirstStage) → attached_stage a ≡ Some stage → a ≡ Attached stage
+attached_is Detached stage at = cc
+attached_is (Attached own) stage at = let same : own ≡ stage = cc in ap Attached same
+attached_is (Leaving ticket own) stage at = cc
+
+-- a frame that isn't marked is nobody's
+pub unmarked : (marks : List (Option Owner)) (n : ℕ) → n < length marks → is_marked marks n ≡ false → slice_get marks n ≡ Some None
+unmarked marks n lt free = by (get_there marks n lt) free
   where
-    by : (b : Bool) → map (λ (d : driver.Device). d.id) (with_stage others id stage) ≡ map (λ (d : driver.Device). d.id) others
-        → map (λ (d : driver.Device). d.id) (if b then (record device { stage = Some stage }) ∷ others else device ∷ with_stage others id stage)
-        ≡ device.id ∷ map (λ (d : driver.Device). d.id) others
-    by true rest = refl
-    by false rest = ap (λ ids. device.id ∷ ids) rest
+    by : (m : Option Owner) × (slice_get marks n ≡ Some m) → is_marked marks n ≡ false → slice_get marks n ≡ Some None
+    by (None, at) free = at
+    by (Some owner, at) free = absurd (contra (rw at at free))
+      where
+        contra : true ≡ false → ⊥
+        contra e = cc
 
--- ATTACH: the system's frames keep their bytes
-pub root_keeps_system : (d : DriverState) (memory : List (List ℕ)) (id : ℕ) (d' : DriverState) (memory' : List (List ℕ)) → length memory ≡ length d.marks → TakesRoot d memory id d' memory'
-    → (n : ℕ) → slice_get d.marks n ≡ Some (Some System) → slice_get memory' n ≡ slice_get memory n
-root_keeps_system d memory id d' memory' size takes n system =
-    let root = takes.stage.root in
-    let inside : root < length d.marks = rw (sym size) takes.highest.below in
-    let free : slice_get d.marks root ≡ Some None = unmarked d.marks root inside takes.highest.free.unmarked in
-    ap (λ m. slice_get m n) takes.bytes ∙ get_set_other memory root n _ (owned_differs d.marks n root System system free)
+-- and none that has an owner
+pub owned_differs : (marks : List (Option Owner)) (n free : ℕ) (owner : Owner) → slice_get marks n ≡ Some (Some owner) → slice_get marks free ≡ Some None → n ≢ free
+owned_differs marks n free owner own none e =
+    let both : ◌≡◌ {A = Option (Option Owner)} (Some (Some owner)) (Some None) = sym own ∙ ap (λ j. slice_get marks j) e ∙ none in cc
+
+-- a frame that is somebody's isn't chosen
+pub owned_not_chosen : (marks : List (Option Owner)) (ledger : Ledger) (named : Option ℕ) (limit count n : ℕ) (chosen : List ℕ) (owner : Owner) → limit ≡ length marks
+    → AreHighestFree marks ledger named limit count chosen → slice_get marks n ≡ Some (Some owner) → NotAmong n chosen
+owned_not_chosen marks ledger named limit count n chosen owner long highest mark =
+    let chose = are_chosen marks ledger named limit count chosen highest in
+    not_among (λ t. (t < limit) × IsFreeForTable marks ledger named t) n chosen (λ k d lt. (chose.inside k d lt, chose.free k d lt))
+    (λ is_free. owned_differs marks n n owner mark (unmarked marks n (subst (λ m. n < m) long is_free.0) is_free.1.unmarked) refl)
+
+-- frames that are chosen are chosen once
+chosen_once : (marks : List (Option Owner)) (ledger : Ledger) (named : Option ℕ) (limit count : ℕ) (chosen : List ℕ) → AreHighestFree marks ledger named limit count chosen → AreOnce chosen
+chosen_once marks ledger named limit zero [] chose = tt
+chosen_once marks ledger named limit zero (frame ∷ frames) chose = absurd chose
+chosen_once marks ledger named limit (suc count) [] chose = absurd chose
+chosen_once marks ledger named limit (suc count) (frame ∷ frames) chose =
+    (not_among (λ t. t < frame) frame frames (are_chosen marks ledger named frame count frames chose.1).inside (λ lt. absurd (omega (arith, lt))), chosen_once marks ledger named frame count frames chose.1)
+
+once_before : (fs gs : List ℕ) → AreOnce (fs ++ gs) → AreOnce fs
+once_before [] gs once = tt
+once_before (f ∷ fs) gs once = (apart_before f fs gs once.0, once_before fs gs once.1)
+  where
+    apart_before : (n : ℕ) (fs gs : List ℕ) → NotAmong n (fs ++ gs) → NotAmong n fs
+    apart_before n [] gs apart = tt
+    apart_before n (f ∷ fs) gs apart = (apart.0, apart_before n fs gs apart.1)
+
+among_before : (n : ℕ) (fs gs : List ℕ) → NotAmong n (fs ++ gs) → NotAmong n fs
+among_before n [] gs apart = tt
+among_before n (f ∷ fs) gs apart = (apart.0, among_before n fs gs apart.1)
+
+zeros_where : (m : List (List ℕ)) (fs : List ℕ) → ((n : ℕ) → Among n fs → slice_get m n ≡ Some zeroed) → AreZeros m fs
+zeros_where m [] all = tt
+zeros_where m (f ∷ fs) all = (all f (inl refl), zeros_where m fs (λ n here. all n (inr here)))
+
+among_more : (n : ℕ) (fs gs : List ℕ) → Among n fs → Among n (fs ++ gs)
+among_more n [] gs here = absurd here
+among_more n (f ∷ fs) gs (inl same) = inl same
+among_more n (f ∷ fs) gs (inr later) = inr (among_more n fs gs later)
+
+-- the directory has room for the ids below the limit
+room_for_ids : (levels : ℕ) → IsLevels levels → id_limit levels ≡ ids_below (root_level levels)
+room_for_ids levels range = by levels range.0 range.1
+  where
+    by : (n : ℕ) → 1 ≤ n → n ≤ 3 → id_limit n ≡ ids_below (root_level n)
+    by zero one three = absurd (omega arith)
+    by (suc zero) one three = refl
+    by (suc (suc zero)) one three = refl
+    by (suc (suc (suc zero))) one three = refl
+    by (suc (suc (suc (suc n)))) one three = absurd (omega arith)
+
+-- ATTACH: a frame of the system's that is no page of the directory keeps its bytes
+pub root_keeps : (d : DriverState) (memory : List (List ℕ)) (id : ℕ) (d' : DriverState) (memory' : List (List ℕ)) → length memory ≡ length d.marks → IsLevels d.levels
+    → NoneApplies (why_not_attach d id) → DirectoryStands memory d.marks d.devices d.levels → TakesRoot d memory id d' memory'
+    → (f : ℕ) → slice_get d.marks f ≡ Some (Some System) → ((g : ℕ) → HasPage memory (root_level d.levels) (directory_frame (length memory)) g → f ≢ g)
+    → slice_get memory' f ≡ slice_get memory f
+root_keeps d memory id d' memory' size range admitted stands takes f system apart =
+    let top = root_level d.levels in
+    let taken = takes.pages ++ takes.stage.root ∷ [] in
+    let low : id < id_limit d.levels = leb-false (id_limit d.levels) id (none_at (why_not_attach d id) 3 _ IdTooWide refl admitted) in
+    let below : id < ids_below top = subst (λ n. id < n) (room_for_ids d.levels range) low in
+    let chose = are_chosen d.marks d.ledger None (length memory) _ taken takes.chosen in
+    let not_taken = λ (g : ℕ) (of : slice_get d.marks g ≡ Some (Some System)). owned_not_chosen d.marks d.ledger None (length memory) _ g taken System size takes.chosen of in
+    let zeros : AreZeros (cleared taken memory) takes.pages =
+    zeros_where (cleared taken memory) takes.pages (λ n here. zero_among taken memory chose.inside n (among_more n takes.pages (takes.stage.root ∷ []) here)) in
+    ap (λ m. slice_get m f) takes.bytes
+    ∙ hung_keeps memory (cleared taken memory) top (directory_frame (length memory)) id takes.pages (context_for takes.stage) f
+    (λ lower g le at.
+      let page : HasPage memory top (directory_frame (length memory)) g = (lower, id, le, below, at) in
+      let mine = not_taken g (stands.own g page).system in
+      (bytes_stay g taken memory mine, apart g page, among_before g takes.pages (takes.stage.root ∷ []) mine))
+    zeros (once_before takes.pages (takes.stage.root ∷ []) (chosen_once d.marks d.ledger None (length memory) _ taken takes.chosen))
+    (among_before f takes.pages (takes.stage.root ∷ []) (not_taken f system))
+    ∙ bytes_stay f taken memory (not_taken f system)
+
+module _ (old new : Parts) (events id : ℕ) (sound : AreSound old events) (own : IsSoundDriver old.driver) (admitted : NoneApplies (why_not_attach old.driver id))
+    (takes : TakesRoot old.driver old.memory id new.driver new.memory) where
+  pub attach_keeps_ring : slice_get new.memory (command_frame (length old.memory)) ≡ slice_get old.memory (command_frame (length old.memory))
+  attach_keeps_ring =
+      let stands = sound.ready.stand.directory sound.started in
+      root_keeps old.driver old.memory id new.driver new.memory sound.ready.stand.size own.sizes.in_range admitted stands takes
+      (command_frame (length old.memory)) (fixed_frames old events sound own).command (λ g page same. (stands.own g page).no_command (sym same))
+
+  pub attach_keeps_word : slice_get new.memory (completion_frame (length old.memory)) ≡ slice_get old.memory (completion_frame (length old.memory))
+  attach_keeps_word =
+      let stands = sound.ready.stand.directory sound.started in
+      root_keeps old.driver old.memory id new.driver new.memory sound.ready.stand.size own.sizes.in_range admitted stands takes
+      (completion_frame (length old.memory)) (fixed_frames old events sound own).completion (λ g page same. (stands.own g page).no_completion (sym same))
+
+module _ (old new : Parts) (events id : ℕ) (sound : AreSound old events) (own : IsSoundDriver old.driver) (ready : IsReady new.driver new.memory (registers_of new.iommu))
+    (admitted : NoneApplies (why_not_attach old.driver id)) (takes : TakesRoot old.driver old.memory id new.driver new.memory)
+    (iommu : new.iommu ≡ old.iommu) (devices : new.devices ≡ old.devices) where
+  leaves_attached : LeavesWord old new
+  leaves_attached = record {
+    size = ready.stand.size ∙ ap (λ (d : DriverState). length d.marks) takes.driver ∙ length-set (marked_for System takes.pages old.driver.marks) takes.stage.root (Some (OneDevice id))
+        ∙ length-marked_for System takes.pages old.driver.marks ∙ sym sound.ready.stand.size;
+    word = attach_keeps_word old new events id sound own admitted takes;
+  }
+
+  plugged : is_plugged old.driver.devices id ≡ true
+  plugged = not_false (is_plugged old.driver.devices id) (none_at (why_not_attach old.driver id) 1 _ NoSuchDevice refl admitted)
+
+  owns_none : owned_stage_of old.driver.devices id ≡ None
+  owns_none = none_of (owned_stage_of old.driver.devices id) (none_at (why_not_attach old.driver id) 2 _ AlreadyAttached refl admitted)
+
+  attaches_detached : AttachesDetached (values_of old) (values_of new) id
+  attaches_detached = record {
+    detached = ap shown_attachment (owns_nothing (attachment_of old.driver.devices id) owns_none);
+    attached = λ d. ap (λ (s : DriverState). shown_attachment (attachment_of s.devices d)) takes.driver ∙ shown_set old.driver.devices id (Attached takes.stage) plugged d;
+    agrees = λ h agrees. subst (λ (s : DriverState). Agrees s.ledger h) (sym takes.driver) agrees;
+    address = ap completion_address leaves_attached.size;
+    waiting = same_waiting old new events sound (ap registers_of iommu) (attach_keeps_ring old new events id sound own admitted takes);
+    completed = same_completed old.memory new.memory leaves_attached.size leaves_attached.word;
+    given = ap (λ (d : DriverState). d.given) takes.driver;
+    confirmed = ap (λ (d : DriverState). d.confirmed) takes.driver;
+    so_far = ap (λ i. (flights_of i).so_far) iommu;
+    in_flight = ap (λ i. accesses_of (flights_of i).rows) iommu;
+    unplugged = λ d none. sym (ap (λ (s : DriverState). is_plugged s.devices d) takes.driver ∙ plugged_set old.driver.devices id (Attached takes.stage) d) ∙ none;
+    contexts = λ d is. ap (λ i. is_some (contexts_of i d)) (sym iommu) ∙ is;
+  }
+
+  -- nothing was cached for a device that had no stage
+  contexts_attached : ContextsAreTrue new
+  contexts_attached other context cached =
+      let was : option_map context_for (owned_stage_of old.driver.devices other) ≡ Some context = sound.contexts other context (ap (λ i. contexts_of i other) (sym iommu) ∙ cached) in
+      elim (eqb_tells other id) [
+        | inl e ↦ absurd (none_some (ap (option_map context_for) (sym owns_none) ∙ ap (λ k. option_map context_for (owned_stage_of old.driver.devices k)) (sym e.1) ∙ was))
+        | inr ne ↦ ap (λ (s : DriverState). option_map context_for (owned_stage_of s.devices other)) takes.driver
+            ∙ ap (λ a. option_map context_for (owned_stage a)) (attachment_other old.driver.devices id other (Attached takes.stage) ne.1) ∙ was
+      ]
+    where
+      none_some : ◌≡◌ {A = Option Context} None (Some context) → ⊥
+      none_some same = cc
+
+  pub attached_sound : AreSound new events
+  attached_sound =
+      sound_from old new events sound leaves_attached (same_iommu old new iommu) (ap (λ (d : DriverState). d.started) takes.driver) ready
+      (same_known old new devices (ap (λ (d : DriverState). known_ids d.devices) takes.driver ∙ ids_set old.driver.devices id (Attached takes.stage)) (ap (λ i. row_ids (flights_of i).rows) iommu) sound.known)
+      (subst (λ (d : DriverState). d.confirmed ≤ completed_in old.memory) (sym takes.driver) sound.confirmed)
+      (subst (λ (d : DriverState). d.given < 2 ^ 32) (sym takes.driver) sound.small)
+      contexts_attached
+      (∥∥₁_map sound.copies (attach_scene (values_of old) (values_of new) id attaches_detached))
 
 pub keeps_attached : (old new : Parts) (events id : ℕ) (told : Outcome) → AreSound old events → IsSoundDriver old.driver → IsReady new.driver new.memory (registers_of new.iommu)
     → AttachesDevice old id told new → AreSound new events
 keeps_attached old new events id told sound own ready attaches = by attaches.answer attaches.call
   where
-    size : length old.memory ≡ length old.driver.marks
-    size = sound.ready.stand.size
-
     by : (answer : Result (Unit {0}) Refusal) → AnswersAttach old.driver old.memory id answer new.driver new.memory → AreSound new events
-    by (Ok done) (admitted, takes) =
-        let root = takes.stage.root in
-        let kept = root_keeps_system old.driver old.memory id new.driver new.memory size takes in
-        sound_from old new events sound
-        (record {
-          size = ap (λ m. length m) takes.bytes ∙ length-set old.memory root _;
-          ring = kept (command_frame (length old.memory)) (rw size own.fixed.command);
-          word = kept (completion_frame (length old.memory)) (rw size own.fixed.completion);
-          iommu = attaches.iommu;
-          given = ap (λ d. d.given) takes.driver;
-          started = ap (λ d. d.started) takes.driver;
-        })
-        ready
-        (ap (λ d. map (λ (device : driver.Device). device.id) d.devices) takes.driver ∙ ids_attached old.driver.devices id takes.stage ∙ sound.known
-        ∙ ap (λ ds. map (λ (device : Device). device.id) ds) (sym attaches.devices))
-        (rw attaches.devices sound.own_ids)
-        (rw takes.driver sound.confirmed)
-        (rw (takes.driver, attaches.devices) sound.each)
-    by (Err why) (refused, driver_stays, memory_stays) =
-        sound_from old new events sound
-        (record {
-          size = ap (λ m. length m) memory_stays;
-          ring = ap (λ m. slice_get m (command_frame (length old.memory))) memory_stays;
-          word = ap (λ m. slice_get m (completion_frame (length old.memory))) memory_stays;
-          iommu = attaches.iommu;
-          given = ap (λ d. d.given) driver_stays;
-          started = ap (λ d. d.started) driver_stays;
-        })
-        ready (rw (driver_stays, attaches.devices) sound.known) (rw attaches.devices sound.own_ids) (rw driver_stays sound.confirmed) (rw (driver_stays, attaches.devices) sound.each)
-
--- where no reason applies, none of them does
-pub none_at : (reasons : List (Bool × Refusal)) (k : ℕ) (test : Bool) (why : Refusal) → slice_get reasons k ≡ Some (test, why) → NoneApplies reasons → test ≡ false
-none_at [] k test why at none = cc
-none_at ((true, first) ∷ later) k test why at none = cc
-none_at ((false, first) ∷ later) zero test why at none = let same : ◌≡◌ {A = Bool × Refusal} (false, first) (test, why) = cc in ap (λ (r : Bool × Refusal). r.0) (sym same)
-none_at ((false, first) ∷ later) (suc k) test why at none = none_at later k test why at none
+    by (Ok done) (admitted, takes) = attached_sound old new events id sound own ready admitted takes attaches.iommu attaches.devices
+    by (Err why) (refused, driver_stays, memory_stays) = rw (memory_stays, attaches.iommu, driver_stays, attaches.devices) sound
 
 -- a page that isn't busy
 nothing_there : {A : Type 0} (held lingering : Option A) → (is_some held || is_some lingering) ≡ false → (held ≡ None) × (lingering ≡ None)
@@ -146,111 +235,95 @@ nothing_there None (Some x) vacant = absurd (false≢true (sym vacant))
 nothing_there (Some x) lingering vacant = absurd (false≢true (sym vacant))
 
 -- a page that may be granted is vacant
-vacant_where : (d : DriverState) (id page frame : ℕ) → NoneApplies (grant_reasons d id page frame) → (held_in d.ledger id page ≡ None) × (lingering_in d.ledger id page ≡ None)
-vacant_where d id page frame none = nothing_there _ _ (none_at (grant_reasons d id page frame) 6 _ IovaBusy refl none)
+pub vacant_where : (d : DriverState) (id page frame : ℕ) → NoneApplies (why_not_grant d id page frame) → (held_in d.ledger id page ≡ None) × (lingering_in d.ledger id page ≡ None)
+vacant_where d id page frame none = nothing_there _ _ (none_at (why_not_grant d id page frame) 6 _ IovaBusy refl none)
 
--- GRANT: a frame of the system's isn't among those that are taken
-system_stays : (marks : List (Option Owner)) (ledger : Ledger) (named limit count id : ℕ) (tables : List ℕ) → limit ≡ length marks → AreHighestFree marks ledger (Some named) limit count tables
-    → (n : ℕ) → slice_get marks n ≡ Some (Some System) → slice_get (marked_for id tables marks) n ≢ Some (Some (OneDevice id))
-system_stays marks ledger named limit count id tables long highest n system now =
-    let chose = are_chosen marks ledger (Some named) limit count tables highest in
-    let apart = not_among (λ t. (t < limit) × IsFreeForTable marks ledger (Some named) t) n tables (λ k d lt. (chose.inside k d lt, chose.free k d lt))
-    (λ free. owned_differs marks n n System system (unmarked marks n (subst (λ m. n < m) long free.0) free.1.unmarked) refl) in
-    let both : ◌≡◌ {A = Option (Option Owner)} (Some (Some System)) (Some (Some (OneDevice id))) = sym system ∙ sym (mark_stays id n tables marks apart) ∙ now in cc
-
--- so the system's frames keep their bytes
+-- GRANT: the system's frames keep their bytes
 pub tables_keep_system : (d : DriverState) (memory : List (List ℕ)) (id page frame : ℕ) (rights : GrantRights) (d' : DriverState) (memory' : List (List ℕ)) → length memory ≡ length d.marks
     → TakesTables d memory id page frame rights d' memory' → (n : ℕ) → slice_get d.marks n ≡ Some (Some System) → slice_get memory' n ≡ slice_get memory n
 tables_keep_system d memory id page frame rights d' memory' size takes n system =
-    takes.others n (λ now. system_stays d.marks d.ledger frame (length memory) _ id takes.tables size takes.chosen n system
-    (sym (ap (λ (e : DriverState). slice_get e.marks n) takes.driver) ∙ now))
+    let apart = owned_not_chosen d.marks d.ledger (Some frame) (length memory) _ n takes.tables System size takes.chosen system in
+    takes.others n (λ now.
+      let both : ◌≡◌ {A = Option (Option Owner)} (Some (Some System)) (Some (Some (OneDevice id))) =
+      sym system ∙ sym (mark_stays (OneDevice id) n takes.tables d.marks apart) ∙ sym (ap (λ (e : DriverState). slice_get e.marks n) takes.driver) ∙ now in cc)
+
+module _ (old new : Parts) (events id page frame : ℕ) (rights : GrantRights) (sound : AreSound old events) (own : IsSoundDriver old.driver)
+    (ready : IsReady new.driver new.memory (registers_of new.iommu)) (admitted : NoneApplies (why_not_grant old.driver id page frame))
+    (takes : TakesTables old.driver old.memory id page frame rights new.driver new.memory) (iommu : new.iommu ≡ old.iommu) (devices : new.devices ≡ old.devices) where
+  grant_keeps_system : (n : ℕ) → slice_get old.driver.marks n ≡ Some (Some System) → slice_get new.memory n ≡ slice_get old.memory n
+  grant_keeps_system = tables_keep_system old.driver old.memory id page frame rights new.driver new.memory sound.ready.stand.size takes
+
+  leaves_granted : LeavesWord old new
+  leaves_granted = record {
+    size = ready.stand.size ∙ ap (λ (d : DriverState). length d.marks) takes.driver ∙ length-marked_for (OneDevice id) takes.tables old.driver.marks ∙ sym sound.ready.stand.size;
+    word = grant_keeps_system (completion_frame (length old.memory)) (fixed_frames old events sound own).completion;
+  }
+
+  grants_one : GrantsOne (values_of old) (values_of new) id page frame (rights_of rights)
+  grants_one =
+      let vacant = vacant_where old.driver id page frame admitted in
+      record {
+        attached = ap shown_attachment (attached_is (attachment_of old.driver.devices id) takes.stage takes.attached);
+        not_held = vacant.0;
+        not_lingering = vacant.1;
+        agrees = takes.agrees;
+        address = ap completion_address leaves_granted.size;
+        waiting = same_waiting old new events sound (ap registers_of iommu) (grant_keeps_system (command_frame (length old.memory)) (fixed_frames old events sound own).command);
+        completed = same_completed old.memory new.memory leaves_granted.size leaves_granted.word;
+        given = ap (λ (d : DriverState). d.given) takes.driver;
+        confirmed = ap (λ (d : DriverState). d.confirmed) takes.driver;
+        so_far = ap (λ i. (flights_of i).so_far) iommu;
+        in_flight = ap (λ i. accesses_of (flights_of i).rows) iommu;
+        unplugged = λ d none. sym (ap (λ (s : DriverState). is_plugged s.devices d) takes.driver) ∙ none;
+        attachments = λ d. ap (λ (s : DriverState). shown_attachment (attachment_of s.devices d)) takes.driver;
+        contexts = λ d is. ap (λ i. is_some (contexts_of i d)) (sym iommu) ∙ is;
+      }
+
+  pub granted_sound : AreSound new events
+  granted_sound =
+      sound_from old new events sound leaves_granted (same_iommu old new iommu) (ap (λ (d : DriverState). d.started) takes.driver) ready
+      (same_known old new devices (ap (λ (d : DriverState). known_ids d.devices) takes.driver) (ap (λ i. row_ids (flights_of i).rows) iommu) sound.known)
+      (subst (λ n. n ≤ completed_in old.memory) (sym (ap (λ (d : DriverState). d.confirmed) takes.driver)) sound.confirmed)
+      (subst (λ n. n < 2 ^ 32) (sym (ap (λ (d : DriverState). d.given) takes.driver)) sound.small)
+      (λ other context cached.
+        ap (λ (s : DriverState). option_map context_for (owned_stage_of s.devices other)) takes.driver ∙ sound.contexts other context (ap (λ i. contexts_of i other) (sym iommu) ∙ cached))
+      (∥∥₁_map sound.copies (grant_scene (values_of old) (values_of new) id page frame (rights_of rights) grants_one))
+
+-- nothing changes but what room the driver's ledger has
+pub roomy_sound : (old new : Parts) (events : ℕ) → AreSound old events → IsReady new.driver new.memory (registers_of new.iommu) → IsSame old.driver new.driver
+    → new.memory ≡ old.memory → new.iommu ≡ old.iommu → new.devices ≡ old.devices → AreSound new events
+roomy_sound old new events sound ready same memory iommu devices =
+    let size : length new.memory ≡ length old.memory = ap (λ m. length m) memory in
+    let word : slice_get new.memory (completion_frame (length old.memory)) ≡ slice_get old.memory (completion_frame (length old.memory)) = ap (λ m. slice_get m (completion_frame (length old.memory))) memory in
+    let alike : AreSameValues (values_of old) (values_of new) = record {
+      agrees = same.agrees;
+      address = ap completion_address size;
+      waiting = same_waiting old new events sound (ap registers_of iommu) (ap (λ m. slice_get m (command_frame (length old.memory))) memory);
+      completed = same_completed old.memory new.memory size word;
+      given = ap (λ (d : DriverState). d.given) same.rest;
+      confirmed = ap (λ (d : DriverState). d.confirmed) same.rest;
+      so_far = ap (λ i. (flights_of i).so_far) iommu;
+      in_flight = ap (λ i. accesses_of (flights_of i).rows) iommu;
+      unplugged = λ d none. sym (ap (λ (s : DriverState). is_plugged s.devices d) same.rest) ∙ none;
+      attachments = λ d. ap (λ (s : DriverState). shown_attachment (attachment_of s.devices d)) same.rest;
+      contexts = λ d is. ap (λ i. is_some (contexts_of i d)) (sym iommu) ∙ is;
+    } in
+    sound_from old new events sound (record { size = size; word = word }) (same_iommu old new iommu) (ap (λ (d : DriverState). d.started) same.rest) ready
+    (same_known old new devices (ap (λ (d : DriverState). known_ids d.devices) same.rest) (ap (λ i. row_ids (flights_of i).rows) iommu) sound.known)
+    (subst (λ n. n ≤ completed_in old.memory) (sym (ap (λ (d : DriverState). d.confirmed) same.rest)) sound.confirmed)
+    (subst (λ n. n < 2 ^ 32) (sym (ap (λ (d : DriverState). d.given) same.rest)) sound.small)
+    (λ other context cached.
+      ap (λ (s : DriverState). option_map context_for (owned_stage_of s.devices other)) same.rest ∙ sound.contexts other context (ap (λ i. contexts_of i other) (sym iommu) ∙ cached))
+    (∥∥₁_map sound.copies (same_scene (values_of old) (values_of new) alike))
 
 pub keeps_granted : (old new : Parts) (events id page frame : ℕ) (rights : GrantRights) (told : Outcome) → AreSound old events → IsSoundDriver old.driver
     → IsReady new.driver new.memory (registers_of new.iommu) → GrantsPage old id page frame rights told new → AreSound new events
 keeps_granted old new events id page frame rights told sound own ready grants = by grants.answer grants.call
   where
-    size : length old.memory ≡ length old.driver.marks
-    size = sound.ready.stand.size
-
     by : (answer : Result (Unit {0}) Refusal) → AnswersGrant old.driver old.memory id page frame rights answer new.driver new.memory → AreSound new events
-    by (Ok done) (admitted, takes) =
-        let vacant = vacant_where old.driver id page frame admitted in
-        let marks : new.driver.marks ≡ marked_for id takes.tables old.driver.marks = ap (λ d. d.marks) takes.driver in
-        let stays = tables_keep_system old.driver old.memory id page frame rights new.driver new.memory size takes in
-        sound_from old new events sound
-        (record {
-          size = ready.stand.size ∙ ap (λ ms. length ms) marks ∙ length-marked_for id takes.tables old.driver.marks ∙ sym size;
-          ring = stays (command_frame (length old.memory)) (rw size own.fixed.command);
-          word = stays (completion_frame (length old.memory)) (rw size own.fixed.completion);
-          iommu = grants.iommu;
-          given = ap (λ d. d.given) takes.driver;
-          started = ap (λ d. d.started) takes.driver;
-        })
-        ready
-        (rw grants.devices (ap (λ d. map (λ (device : driver.Device). device.id) d.devices) takes.driver ∙ sound.known))
-        (rw grants.devices sound.own_ids)
-        (rw (ap (λ d. d.confirmed) takes.driver) sound.confirmed)
-        (rw grants.devices (devices_granted old.driver.ledger new.driver.ledger (completed_in old.memory) events id page (frame, rights_of rights) old.devices takes.shown vacant.0 vacant.1 sound.each))
-    by (Err why) (refused, same, memory_stays) =
-        sound_from old new events sound
-        (record {
-          size = ap (λ m. length m) memory_stays;
-          ring = ap (λ m. slice_get m (command_frame (length old.memory))) memory_stays;
-          word = ap (λ m. slice_get m (completion_frame (length old.memory))) memory_stays;
-          iommu = grants.iommu;
-          given = ap (λ d. d.given) same.rest;
-          started = ap (λ d. d.started) same.rest;
-        })
-        ready
-        (rw grants.devices (ap (λ d. map (λ (device : driver.Device). device.id) d.devices) same.rest ∙ sound.known))
-        (rw grants.devices sound.own_ids)
-        (rw (ap (λ d. d.confirmed) same.rest) sound.confirmed)
-        (rw grants.devices (devices_unchanged old.driver.ledger new.driver.ledger (completed_in old.memory) events old.devices same.ledger sound.each))
+    by (Ok done) (admitted, takes) = granted_sound old new events id page frame rights sound own ready admitted takes grants.iommu grants.devices
+    by (Err why) (refused, same, memory_stays) = roomy_sound old new events sound ready same memory_stays grants.iommu grants.devices
 
--- POLL: all tickets that wait and whose fences are done are confirmed, since the completion word is that of a fence that was given
-pub keeps_polled : (old new : Parts) (events : ℕ) (told : Outcome) → AreSound old events → IsReady new.driver new.memory (registers_of new.iommu) → PollsTickets old told new → AreSound new events
-keeps_polled old new events told sound ready polls = by polls.answer polls.call
-  where
-    leaves : new.driver.given ≡ old.driver.given → new.driver.started ≡ old.driver.started → LeavesQueue old new
-    leaves given started = record {
-      size = ap (λ m. length m) polls.memory;
-      ring = ap (λ m. slice_get m (command_frame (length old.memory))) polls.memory;
-      word = ap (λ m. slice_get m (completion_frame (length old.memory))) polls.memory;
-      iommu = polls.iommu;
-      given = given;
-      started = started;
-    }
-
-    by : (answer : Result Polled Refusal) → AnswersPoll (registers_of old.iommu) old.driver old.memory answer new.driver → AreSound new events
-    by (Ok polled) (admitted, confirms) =
-        let completed : completed_in old.memory ≡ confirms.word = ap (λ o. option_map_or (λ word. word) o 0) confirms.read in
-        let given : completed_in old.memory ≤ old.driver.given = follow_le (completion_address (length old.memory)) (completed_in old.memory) (commands_in old.memory (registers_of old.iommu)) old.driver.given sound.commands in
-        let count : polled.count ≡ completed_in old.memory - old.driver.confirmed =
-        confirms.count ∙ ap (λ w. min w old.driver.given - old.driver.confirmed) (sym completed) ∙ ap (λ m. m - old.driver.confirmed) (min-eq_left given) in
-        let confirmed = sound.confirmed in
-        let last : new.driver.confirmed ≡ completed_in old.memory = ap (λ d. d.confirmed) confirms.driver ∙ omega (arith, count, confirmed) in
-        sound_from old new events sound (leaves (ap (λ d. d.given) confirms.driver) (ap (λ d. d.started) confirms.driver)) ready
-        (rw polls.devices (ap (λ d. map (λ (device : driver.Device). device.id) d.devices) confirms.driver ∙ sound.known))
-        (rw polls.devices sound.own_ids)
-        (omega (arith, last))
-        (rw polls.devices (devices_polled old.driver.ledger new.driver.ledger (old.driver.confirmed + 1) polled.count (completed_in old.memory) events old.devices confirms.shown (omega (arith, count, confirmed)) sound.each))
-    by (Err why) (refused, same) =
-        sound_from old new events sound (leaves (ap (λ d. d.given) same) (ap (λ d. d.started) same)) ready
-        (rw polls.devices (ap (λ d. map (λ (device : driver.Device). device.id) d.devices) same ∙ sound.known))
-        (rw polls.devices sound.own_ids) (rw same sound.confirmed) (rw polls.devices (rw same sound.each))
-
--- the tickets that a poll tells are 32 bits wide
-pub polled_low : (old : Parts) (events : ℕ) (polled : Polled) (next : DriverState) → AreSound old events → AnswersPoll (registers_of old.iommu) old.driver old.memory (Ok polled) next
-    → polled.first + polled.count ≤ 2 ^ 32
-polled_low old events polled next sound (admitted, confirms) =
-    let small = sound.small in
-    let confirmed = sound.confirmed in
-    let given : completed_in old.memory ≤ old.driver.given = follow_le (completion_address (length old.memory)) (completed_in old.memory) (commands_in old.memory (registers_of old.iommu)) old.driver.given sound.commands in
-    let ordered : old.driver.confirmed ≤ old.driver.given = omega (arith, confirmed, given) in
-    let most : min confirms.word old.driver.given ≤ old.driver.given = min-le_right confirms.word old.driver.given in
-    by (polled.count == 0) refl confirms.first confirms.count most ordered small
-  where
-    by : (none : Bool) → (polled.count == 0) ≡ none → polled.first ≡ (if none then 0 else old.driver.confirmed + 1) → polled.count ≡ min confirms.word old.driver.given - old.driver.confirmed
-        → min confirms.word old.driver.given ≤ old.driver.given → old.driver.confirmed ≤ old.driver.given → old.driver.given < 2 ^ 32 → polled.first + polled.count ≤ 2 ^ 32
-    by true test first count most ordered small = omega (arith, eqb-true polled.count 0 test, first)
-    by false test first count most ordered small = omega (arith, first, count, most, ordered, small)
+pub keeps_polled : (old new : Parts) (events : ℕ) (told : Outcome) → AreSound old events → IsSoundDriver old.driver → IsReady new.driver new.memory (registers_of new.iommu)
+    → PollsTickets old told new → AreSound new events
+keeps_polled = polling.keeps_polled

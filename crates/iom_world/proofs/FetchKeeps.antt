@@ -1,95 +1,182 @@
--- What stays true of a world when the IOMMU takes a command: a fence is done only while nothing is in flight, and stores the next number.
-use Rattle.std.proofs.Common.{◌≡◌, ◌↔◌, ◌+◌, ◌/◌, ◌^◌, ◌<◌, ◌≤◌, ◌⊎◌, inl, inr, ◌∙◌, ℕ, Bool, false, IsTrue, List, [], ◌∷◌, length, Option, Some, None, slice_get, refl, sym, ap, subst, arith}
+-- What stays true of a world when the IOMMU takes a command: a fence is done only while nothing is in flight, and stores its number.
+use Rattle.std.proofs.Common.{inl, inr, ◌≡◌, ◌==◌, ◌/◌, ◌^◌, ◌<◌, ◌≤◌, ◌&&◌, ◌∙◌, ℕ, Bool, true, false, not, nat_lt, nat_le, is_some, List, [], ◌∷◌, length, Option, Some, None, slice_get, suc, refl, sym, ap, subst, arith, if◌then◌else◌}
 use Rattle.std.specs.Option.{option_map_or}
-use Rattle.std.proofs.lemmas.Bool.{false≢true}
+use Rattle.std.proofs.Math.Logic.{∥∥₁_map}
+use Rattle.std.proofs.lemmas.Bool.{false≢true, and_parts, eqb-true, eq-eqb, leb-true, le-leb}
+use Rattle.std.proofs.lemmas.Bool.Decides.{eqb_tells}
+use Rattle.std.proofs.lemmas.Grind.{not_there}
 use Rattle.iom_command_queue.specs.declared.command.Command.{Command as Commanded}
 use Rattle.iom_command_queue.specs.declared.command.Command.TheVariants.{IotinvalVma, IotinvalGvma, IofenceC, IodirInvalDdt, AtsInval}
+use Rattle.iom_command_queue.specs.declared.command.FenceStore.{FenceStore}
 use Rattle.iom_command_queue.specs.declared.entry.QueueEntry.{QueueEntry}
 use Rattle.iom_command_queue.specs.declared.entry.QueueEntry.TheVariants.{Command, Illegal, Outside}
 use Rattle.iom_command_queue.specs.Waiting.{commands_in}
+use Rattle.iom_copies.specs.Queue.{QueuedCommand, DropTranslations, DropContext, Invalidate, Fence}
+use Rattle.iom_copies.specs.ToCome.{FencesRise}
+use Rattle.iom_device_dir.specs.declared.context.Context.{Context}
+use Rattle.iom_device_dir.specs.Contents.{Content}
 use Rattle.iom_driver.specs.Appends.{fence}
+use Rattle.iom_driver.specs.Devices.{attachment_of, is_plugged}
 use Rattle.iom_driver.specs.Laws.{KeepsReserved, KeepsRing}
 use Rattle.iom_driver.specs.Layout.{completion_frame, completion_address}
 use Rattle.iom_driver.specs.Ready.{IsRing}
+use Rattle.iom_driver.specs.State.{DriverState}
+use Rattle.iom_driver.proofs.Lists.{get_there}
 use Rattle.iom_driver.proofs.Ring.{in_ring}
-use Rattle.iom_driver.proofs.Stays.{ready_stays}
+use Rattle.iom_inflight.specs.Flights.{Flights, some_in_flight}
 use Rattle.iom_iommu.specs.declared.fetched.Fetched.{Fetched}
 use Rattle.iom_iommu.specs.declared.fetched.Fetched.TheVariants.{Did, Waiting, Empty, Stopped}
 use Rattle.iom_iommu.specs.declared.iommu.Iommu.{Iommu}
-use Rattle.iom_iommu.specs.Fetches.{FetchesCommand, must_wait, store_of, with_store, with_done, IsStorable, IsStoredIn, IsOffRing, StopsAtEntry, StopsFetching, head_entry}
-use Rattle.iom_iommu.specs.Parts.{registers_of}
+use Rattle.iom_iommu.specs.Fetches.{FetchesCommand, DropsContexts, must_wait, store_of, with_store, with_done, IsStorable, IsStoredIn, IsOffRing, StopsAtEntry, StopsFetching, head_entry}
+use Rattle.iom_iommu.specs.Parts.{registers_of, contexts_of, flights_of}
 use Rattle.iom_iommu.proofs.FetchLemmas.{takes_first, leaves_frames}
-use Rattle.iom_ledger.specs.declared.ledger.Ledger.{Ledger}
 use Rattle.iom_machine.specs.declared.outcome.Outcome.{Outcome}
 use Rattle.iom_phys_mem.specs.Words.{word_at, with_word}
 use Rattle.iom_phys_mem.proofs.Stores.{word_back, put_word}
 use Rattle.iom_registers.specs.declared.registers.Registers.{Registers}
 use Rattle.iom_registers.specs.Queues.{is_processing_commands}
-use Rattle.iom_world.specs.declared.device.Device.{Device}
-use Rattle.iom_world.specs.Commands.{completed_in, FencesFollow}
+use Rattle.iom_world.specs.Devices.{shown_attachment}
 use Rattle.iom_world.specs.Does.{FetchesNext}
-use Rattle.iom_world.specs.Facts.{AreSoundDevices, IsSoundDevice}
 use Rattle.iom_world.specs.Parts.{Parts}
-use Rattle.iom_world.specs.Places.{SomeInFlight}
-use Rattle.iom_world.specs.Sound.{AreSound}
+use Rattle.iom_world.specs.Queued.{IsQueuedAs, AreQueuedAs, completed_in}
+use Rattle.iom_world.specs.Read.{values_of, accesses_of}
+use Rattle.iom_world.specs.Scenes.{HasFaithfulScene}
+use Rattle.iom_world.specs.Sound.{AreSound, row_ids}
 use Rattle.iom_world.proofs.DriverLemmas.{IsSoundDriver}
-use Rattle.iom_driver.proofs.Lists.{get_there}
-use Rattle.iom_world.proofs.RingLemmas.{follow_as, follow_le}
+use Rattle.iom_world.proofs.PartsLemmas.{parts_are, StaysReady}
+use Rattle.iom_world.proofs.QueuedLemmas.{queued_first}
+use Rattle.iom_world.proofs.RowLemmas.{none_in_flight}
+use Rattle.iom_world.proofs.SceneSteps.{KeepsGrants, DoesFirst, done_after, CachedAfter, NothingIfFence, fetch_scene}
 
--- what a command is that stands first among those that follow: an invalidation, or the next fence
-abbrev pub IsNext : ℕ → ℕ → Commanded → Type 0
-IsNext address done (IotinvalVma gscid pscid page) = Unit {0}
-IsNext address done (IofenceC store wsi pr pw) = IofenceC store wsi pr pw ≡ fence address (done + 1)
-IsNext address done (IotinvalGvma gscid page) = ⊥
-IsNext address done (IodirInvalDdt device) = ⊥
-IsNext address done (AtsInval device range) = ⊥
+-- whether what waits is a command of the driver's, a fence with a number from above the one to the other
+abbrev is_ours : ℕ → ℕ → ℕ → QueueEntry → Bool
+is_ours address low given (Command (IotinvalVma gscid pscid page)) = true
+is_ours address low given (Command (IofenceC (Some store) wsi pr pw)) =
+    (store.address == address) && (nat_lt low store.data && (nat_le store.data given && (not wsi && (pr && pw))))
+is_ours address low given (Command (IodirInvalDdt (Some id))) = true
+is_ours address low given _ = false
 
--- the number that is stored once it is done
-abbrev pub done_after : ℕ → Commanded → ℕ
-done_after done (IotinvalVma gscid pscid page) = done
-done_after done (IofenceC store wsi pr pw) = done + 1
-done_after done (IotinvalGvma gscid page) = done
-done_after done (IodirInvalDdt device) = done
-done_after done (AtsInval device range) = done
+rise_le : (low : ℕ) (queued : List QueuedCommand) (high : ℕ) → FencesRise low queued high → low ≤ high
+rise_le low [] high rise = rise
+rise_le low (DropTranslations d extent ∷ later) high rise = rise_le low later high rise
+rise_le low (DropContext d ∷ later) high rise = rise_le low later high rise
+rise_le low (Invalidate d extent ∷ later) high rise = rise_le low later high rise
+rise_le low (Fence number ∷ later) high rise =
+    let above = rise.0 in let rest = rise_le number later high rise.1 in omega (arith, above, rest)
 
-pub first_follows : (address done : ℕ) (command : Commanded) (later : List QueueEntry) (given : ℕ) → FencesFollow address done (Command command ∷ later) given
-    → IsNext address done command × FencesFollow address (done_after done command) later given
-first_follows address done (IotinvalVma gscid pscid page) later given follow = (tt, follow)
-first_follows address done (IofenceC store wsi pr pw) later given follow = (follow.0, follow.1)
-first_follows address done (IotinvalGvma gscid page) later given follow = absurd follow
-first_follows address done (IodirInvalDdt device) later given follow = absurd follow
-first_follows address done (AtsInval device range) later given follow = absurd follow
+ours_queued : (address low given : ℕ) (entry : QueueEntry) (queued : QueuedCommand) (later : List QueuedCommand) → IsQueuedAs address entry queued
+    → FencesRise low (queued ∷ later) given → is_ours address low given entry ≡ true
+ours_queued address low given (Command (IotinvalVma gscid pscid page)) (DropTranslations device extent) later is rise = refl
+ours_queued address low given (Command (IofenceC store wsi pr pw)) (Fence number) later is rise =
+    let above : low < number = rise.0 in
+    subst (λ c. is_ours address low given (Command c) ≡ true) (sym is)
+    (rw (eq-eqb address address refl, le-leb (suc low) number above, le-leb number given (rise_le number later given rise.1)) refl)
+ours_queued address low given (Command (IodirInvalDdt (Some id))) (DropContext device) later is rise = refl
+ours_queued address low given entry queued later is rise = absurd is
 
--- what stands first is a command of the driver's
-pub head_follows : (address done : ℕ) (waiting : List QueueEntry) (given : ℕ) (entry : QueueEntry) → FencesFollow address done waiting given → slice_get waiting 0 ≡ Some entry
-    → (command : Commanded) × (entry ≡ Command command) × IsNext address done command
-head_follows address done [] given entry follow at = cc
-head_follows address done (Command command ∷ later) given entry follow at =
-    let same : entry ≡ Command command = cc in (command, same, (first_follows address done command later given follow).0)
-head_follows address done (Illegal reason ∷ later) given entry follow at = absurd follow
-head_follows address done (Outside ∷ later) given entry follow at = absurd follow
+-- what a command of the driver's is
+abbrev pub IsNext : ℕ → ℕ → ℕ → Commanded → Type 0
+IsNext address low given (IotinvalVma gscid pscid page) = Unit {0}
+IsNext address low given (IofenceC store wsi pr pw) = (number : ℕ) × (IofenceC store wsi pr pw ≡ fence address number) × (low < number) × (number ≤ given)
+IsNext address low given (IodirInvalDdt None) = ⊥
+IsNext address low given (IodirInvalDdt (Some id)) = Unit {0}
+IsNext address low given (IotinvalGvma gscid page) = ⊥
+IsNext address low given (AtsInval device range) = ⊥
+
+not_true : (b : Bool) → not b ≡ true → b ≡ false
+not_true true it = absurd (false≢true it)
+not_true false it = refl
+
+next_of : (address low given : ℕ) (command : Commanded) → is_ours address low given (Command command) ≡ true → IsNext address low given command
+next_of address low given (IotinvalVma gscid pscid page) ours = tt
+next_of address low given (IofenceC None wsi pr pw) ours = absurd (false≢true ours)
+next_of address low given (IofenceC (Some store) wsi pr pw) ours =
+    let one = and_parts (store.address == address) (nat_lt low store.data && (nat_le store.data given && (not wsi && (pr && pw)))) ours in
+    let two = and_parts (nat_lt low store.data) (nat_le store.data given && (not wsi && (pr && pw))) one.1 in
+    let three = and_parts (nat_le store.data given) (not wsi && (pr && pw)) two.1 in
+    let four = and_parts (not wsi) (pr && pw) three.1 in
+    let five = and_parts pr pw four.1 in
+    (
+      store.data,
+      ap (λ (a : ℕ). IofenceC (Some (record { address = a; «data» = store.data })) wsi pr pw) (eqb-true store.address address one.0)
+      ∙ ap (λ (b : Bool). IofenceC (Some (record { address = address; «data» = store.data })) b pr pw) (not_true wsi four.0)
+      ∙ ap (λ (b : Bool). IofenceC (Some (record { address = address; «data» = store.data })) false b pw) five.0
+      ∙ ap (λ (b : Bool). IofenceC (Some (record { address = address; «data» = store.data })) false true b) five.1,
+      leb-true (suc low) store.data two.0,
+      leb-true store.data given three.0,
+    )
+next_of address low given (IodirInvalDdt None) ours = absurd (false≢true ours)
+next_of address low given (IodirInvalDdt (Some id)) ours = tt
+next_of address low given (IotinvalGvma gscid page) ours = absurd (false≢true ours)
+next_of address low given (AtsInval device range) ours = absurd (false≢true ours)
+
+-- what stands first in a list
+first_there : {X : Type 0} (xs : List X) (x : X) → slice_get xs 0 ≡ Some x → (rest : List X) × (xs ≡ x ∷ rest)
+first_there [] x at = cc
+first_there (y ∷ ys) x at = let same : y ≡ x = cc in (ys, ap (λ z. z ∷ ys) same)
+
+-- what waits in a sound world is the driver's
+module _ (old : Parts) (events : ℕ) (sound : AreSound old events) where
+  abbrev place : ℕ
+  place = completion_address (length old.memory)
+
+  abbrev done : ℕ
+  done = completed_in old.memory
+
+  in_scene : (entry : QueueEntry) (rest : List QueueEntry) → commands_in old.memory (registers_of old.iommu) ≡ entry ∷ rest → HasFaithfulScene (values_of old)
+      → is_ours (completion_address (length old.memory)) (completed_in old.memory) old.driver.given entry ≡ true
+  in_scene entry rest at (scene, shows, facts) =
+      let first = queued_first place entry rest scene.waiting (subst (λ l. AreQueuedAs place l scene.waiting) at shows.waiting) in
+      ours_queued place done old.driver.given entry first.0 first.1 first.3
+      (subst (λ n. FencesRise n (first.0 ∷ first.1) old.driver.given) shows.completed
+      (subst (λ n. FencesRise scene.completed (first.0 ∷ first.1) n) shows.last_fence
+      (subst (λ l. FencesRise scene.completed l scene.last_fence) first.2 facts.order.fences)))
+
+  head_ours : (entry : QueueEntry) → head_entry old.memory (registers_of old.iommu) ≡ Some entry
+      → is_ours (completion_address (length old.memory)) (completed_in old.memory) old.driver.given entry ≡ true
+  head_ours entry at = by (is_ours place done old.driver.given entry) refl
+    where
+      list : (rest : List QueueEntry) × (commands_in old.memory (registers_of old.iommu) ≡ entry ∷ rest)
+      list = first_there (commands_in old.memory (registers_of old.iommu)) entry at
+
+      by : (b : Bool) → is_ours place done old.driver.given entry ≡ b → is_ours place done old.driver.given entry ≡ true
+      by true is = is
+      by false none = absurd (not_there sound.copies (λ has. false≢true (sym none ∙ in_scene entry list.0 list.1 has)))
+
+  pub head_next : (command : Commanded) → head_entry old.memory (registers_of old.iommu) ≡ Some (Command command)
+      → IsNext (completion_address (length old.memory)) (completed_in old.memory) old.driver.given command
+  head_next command at = next_of place done old.driver.given command (head_ours (Command command) at)
 
 -- the word of such a command has a place: that of the driver
-pub is_storable : (memory : List (List ℕ)) (done : ℕ) (command : Commanded) → 64 ≤ length memory → IsNext (completion_address (length memory)) done command → IsStorable memory (store_of command)
-is_storable memory done (IotinvalVma gscid pscid page) many next = tt
-is_storable memory done (IofenceC store wsi pr pw) many next =
-    let same : store ≡ store_of (fence (completion_address (length memory)) (done + 1)) = ap store_of next in
+pub is_storable : (memory : List (List ℕ)) (low given : ℕ) (command : Commanded) → 64 ≤ length memory → IsNext (completion_address (length memory)) low given command → IsStorable memory (store_of command)
+is_storable memory low given (IotinvalVma gscid pscid page) many next = tt
+is_storable memory low given (IofenceC store wsi pr pw) many next =
+    let same : store ≡ store_of (fence (completion_address (length memory)) next.0) = ap store_of next.1 in
     subst (λ s. IsStorable memory s) (sym same) (omega arith, omega (arith, many))
-is_storable memory done (IotinvalGvma gscid page) many next = absurd next
-is_storable memory done (IodirInvalDdt device) many next = absurd next
-is_storable memory done (AtsInval device range) many next = absurd next
+is_storable memory low given (IodirInvalDdt None) many next = absurd next
+is_storable memory low given (IodirInvalDdt (Some id)) many next = tt
+is_storable memory low given (IotinvalGvma gscid page) many next = absurd next
+is_storable memory low given (AtsInval device range) many next = absurd next
 
 -- it lies in the frame of the completion word alone
-pub stored_there : (frames done : ℕ) (command : Commanded) (n : ℕ) → IsNext (completion_address frames) done command → IsStoredIn (store_of command) n → n ≡ completion_frame frames
-stored_there frames done (IotinvalVma gscid pscid page) n next at = absurd at
-stored_there frames done (IofenceC store wsi pr pw) n next at =
-    let there = subst (λ s. IsStoredIn s n) (ap store_of next) at in omega (arith, there)
-stored_there frames done (IotinvalGvma gscid page) n next at = absurd at
-stored_there frames done (IodirInvalDdt device) n next at = absurd at
-stored_there frames done (AtsInval device range) n next at = absurd at
+pub stored_there : (frames low given : ℕ) (command : Commanded) (n : ℕ) → IsNext (completion_address frames) low given command → IsStoredIn (store_of command) n → n ≡ completion_frame frames
+stored_there frames low given (IotinvalVma gscid pscid page) n next at = absurd at
+stored_there frames low given (IofenceC store wsi pr pw) n next at =
+    let there = subst (λ s. IsStoredIn s n) (ap store_of next.1) at in omega (arith, there)
+stored_there frames low given (IodirInvalDdt device) n next at = absurd at
+stored_there frames low given (IotinvalGvma gscid page) n next at = absurd at
+stored_there frames low given (AtsInval device range) n next at = absurd at
+
+-- the number that is stored once it is done
+abbrev number_after : ℕ → Commanded → ℕ
+number_after before (IotinvalVma gscid pscid page) = before
+number_after before (IofenceC store wsi pr pw) = option_map_or (λ (s : FenceStore). s.data) store before
+number_after before (IodirInvalDdt device) = before
+number_after before (IotinvalGvma gscid page) = before
+number_after before (AtsInval device range) = before
 
 -- the completion word after it
-pub word_after : (memory : List (List ℕ)) (value : ℕ) → 64 ≤ length memory → value < 2 ^ 32
+word_after : (memory : List (List ℕ)) (value : ℕ) → 64 ≤ length memory → value < 2 ^ 32
     → word_at 4 (with_word 4 memory (completion_address (length memory)) value) (completion_address (length memory)) ≡ Some value
 word_after memory value many small =
     let address = completion_address (length memory) in
@@ -98,50 +185,81 @@ word_after memory value many small =
     ap (λ m. word_at 4 m address) (sym (put_word 4 value address memory there.0 there.1))
     ∙ word_back 4 value address memory there.0 (omega arith) inside (omega arith) (omega (arith, small))
 
-pub completed_after : (memory : List (List ℕ)) (command : Commanded) → 64 ≤ length memory → IsNext (completion_address (length memory)) (completed_in memory) command
-    → done_after (completed_in memory) command < 2 ^ 32 → length (with_store memory (store_of command)) ≡ length memory
-    → completed_in (with_store memory (store_of command)) ≡ done_after (completed_in memory) command
-completed_after memory (IotinvalVma gscid pscid page) many next small size = refl
-completed_after memory (IofenceC store wsi pr pw) many next small size =
-    let same : store ≡ store_of (fence (completion_address (length memory)) (completed_in memory + 1)) = ap store_of next in
+completed_after : (memory : List (List ℕ)) (low given : ℕ) (command : Commanded) → 64 ≤ length memory → given < 2 ^ 32 → IsNext (completion_address (length memory)) low given command
+    → length (with_store memory (store_of command)) ≡ length memory → completed_in (with_store memory (store_of command)) ≡ number_after (completed_in memory) command
+completed_after memory low given (IotinvalVma gscid pscid page) many small next size = refl
+completed_after memory low given (IofenceC store wsi pr pw) many small next size =
+    let number = next.0 in
+    let few : number ≤ given = next.3 in
+    let same : store ≡ store_of (fence (completion_address (length memory)) number) = ap store_of next.1 in
     ap (λ k. option_map_or (λ word. word) (word_at 4 (with_store memory store) (completion_address k)) 0) size
     ∙ ap (λ s. option_map_or (λ word. word) (word_at 4 (with_store memory s) (completion_address (length memory))) 0) same
-    ∙ ap (λ o. option_map_or (λ word. word) o 0) (word_after memory (completed_in memory + 1) many small)
-completed_after memory (IotinvalGvma gscid page) many next small size = absurd next
-completed_after memory (IodirInvalDdt device) many next small size = absurd next
-completed_after memory (AtsInval device range) many next small size = absurd next
+    ∙ ap (λ o. option_map_or (λ word. word) o 0) (word_after memory number many (omega (arith, few, small)))
+    ∙ ap (λ c. number_after (completed_in memory) c) (sym next.1)
+completed_after memory low given (IodirInvalDdt None) many small next size = absurd next
+completed_after memory low given (IodirInvalDdt (Some id)) many small next size = refl
+completed_after memory low given (IotinvalGvma gscid page) many small next size = absurd next
+completed_after memory low given (AtsInval device range) many small next size = absurd next
 
--- the registers once it is done: the ring is where it was, and processing goes on
-ring_kept : (r : Registers) (command : Commanded) (address done : ℕ) → IsNext address done command → KeepsRing r (with_done r command) × (is_processing_commands (with_done r command) ≡ is_processing_commands r)
-ring_kept r (IotinvalVma gscid pscid page) address done next = (record { on = refl; base = refl; entries = refl }, refl)
-ring_kept r (IofenceC store wsi pr pw) address done next =
-    subst (λ c. KeepsRing r (with_done r c) × (is_processing_commands (with_done r c) ≡ is_processing_commands r)) (sym next) (record { on = refl; base = refl; entries = refl }, refl)
-ring_kept r (IotinvalGvma gscid page) address done next = absurd next
-ring_kept r (IodirInvalDdt device) address done next = absurd next
-ring_kept r (AtsInval device range) address done next = absurd next
+-- the registers once it is done: ring and directory are where they were, and processing goes on
+ring_kept : (r : Registers) (command : Commanded) (address low given : ℕ) → IsNext address low given command → KeepsRing r (with_done r command) × (is_processing_commands (with_done r command) ≡ is_processing_commands r)
+ring_kept r (IotinvalVma gscid pscid page) address low given next = (record { on = refl; base = refl; entries = refl; mode = refl; root = refl }, refl)
+ring_kept r (IofenceC store wsi pr pw) address low given next =
+    subst (λ c. KeepsRing r (with_done r c) × (is_processing_commands (with_done r c) ≡ is_processing_commands r)) (sym next.1) (record { on = refl; base = refl; entries = refl; mode = refl; root = refl }, refl)
+ring_kept r (IodirInvalDdt device) address low given next = (record { on = refl; base = refl; entries = refl; mode = refl; root = refl }, refl)
+ring_kept r (IotinvalGvma gscid page) address low given next = absurd next
+ring_kept r (AtsInval device range) address low given next = absurd next
+
+-- the number doesn't fall
+more_done : (address low given before : ℕ) (command : Commanded) → low ≡ before → IsNext address low given command → before ≤ number_after before command
+more_done address low given before (IotinvalVma gscid pscid page) same next = omega arith
+more_done address low given before (IofenceC store wsi pr pw) same next =
+    let above : low < next.0 = next.2 in
+    subst (λ c. before ≤ number_after before c) (sym next.1) (omega (arith, same, above))
+more_done address low given before (IodirInvalDdt device) same next = omega arith
+more_done address low given before (IotinvalGvma gscid page) same next = absurd next
+more_done address low given before (AtsInval device range) same next = absurd next
+
+-- what it does to the completion word, as scenes say it
+done_as : (address low given before after : ℕ) (command : Commanded) → IsNext address low given command → after ≡ number_after before command → done_after before command after
+done_as address low given before after (IotinvalVma gscid pscid page) next is = is
+done_as address low given before after (IofenceC store wsi pr pw) next is = λ place number same. is ∙ ap (λ c. number_after before c) same
+done_as address low given before after (IodirInvalDdt device) next is = is
+done_as address low given before after (IotinvalGvma gscid page) next is = absurd next
+done_as address low given before after (AtsInval device range) next is = absurd next
+
+-- contexts that are cached after it were cached before
+still_cached : (o : Option Context) (covered : Bool) (context : Context) → (if covered then None else o) ≡ Some context → o ≡ Some context
+still_cached o true context at = cc
+still_cached o false context at = at
+
+pub cached_before : (command : Commanded) (old new : Content ℕ Context) → DropsContexts command old new → (id : ℕ) (context : Context) → new id ≡ Some context → old id ≡ Some context
+cached_before (IotinvalVma gscid pscid page) old new drops id context at = sym (drops id) ∙ at
+cached_before (IofenceC store wsi pr pw) old new drops id context at = sym (drops id) ∙ at
+cached_before (IodirInvalDdt device) old new drops id context at = still_cached (old id) _ context (sym (drops id) ∙ at)
+cached_before (IotinvalGvma gscid page) old new drops id context at = sym (drops id) ∙ at
+cached_before (AtsInval device range) old new drops id context at = sym (drops id) ∙ at
+
+cached_as : (command : Commanded) (old new : Content ℕ Context) → DropsContexts command old new → CachedAfter (λ id. is_some (old id)) command (λ id. is_some (new id))
+cached_as (IotinvalVma gscid pscid page) old new drops = λ d there. ap is_some (sym (drops d)) ∙ there
+cached_as (IofenceC store wsi pr pw) old new drops = λ d there. ap is_some (sym (drops d)) ∙ there
+cached_as (IodirInvalDdt None) old new drops = tt
+cached_as (IodirInvalDdt (Some id)) old new drops = λ d there. elim (eqb_tells d id) [
+  | inl e ↦ let gone : new d ≡ None = drops d ∙ ap (λ (b : Bool). if b then None else old d) e.0 in absurd (false≢true (sym (ap is_some gone) ∙ there))
+  | inr ne ↦
+      let kept : new d ≡ old d = drops d ∙ ap (λ (b : Bool). if b then None else old d) ne.0 in
+      (ap is_some (sym kept) ∙ there, ne.1)
+]
+cached_as (IotinvalGvma gscid page) old new drops = λ d there. ap is_some (sym (drops d)) ∙ there
+cached_as (AtsInval device range) old new drops = λ d there. ap is_some (sym (drops d)) ∙ there
 
 -- a fence is done only where nothing is in flight
-waits_for : (address done : ℕ) (command : Commanded) (any : Bool) → IsNext address done command → must_wait command any ≡ false → (done_after done command ≡ done) ⊎ (any ≡ false)
-waits_for address done (IotinvalVma gscid pscid page) any next free = inl refl
-waits_for address done (IofenceC store wsi pr pw) any next free = inr (subst (λ c. must_wait c any ≡ false) next free)
-waits_for address done (IotinvalGvma gscid page) any next free = absurd next
-waits_for address done (IodirInvalDdt device) any next free = absurd next
-waits_for address done (AtsInval device range) any next free = absurd next
-
--- a list with an item isn't empty
-has_items : {X : Type 0} (xs : List X) (k : ℕ) (x : X) → slice_get xs k ≡ Some x → 0 < length xs
-has_items [] k x at = cc
-has_items (first ∷ xs) k x at = omega arith
-
--- each access in flight stays covered
-devices_fetched : (ledger : Ledger) (events done after : ℕ) (devices : List Device) (any : Bool)
-    → (IsTrue any ↔ SomeInFlight devices) → (after ≡ done) ⊎ (any ≡ false)
-    → AreSoundDevices ledger done events devices → AreSoundDevices ledger after events devices
-devices_fetched ledger events done after devices any some (inl same) each k device at = subst (λ d. IsSoundDevice ledger d events device) (sym same) (each k device at)
-devices_fetched ledger events done after devices any some (inr none) each k device at = record {
-  covered = λ j flight flies. absurd (false≢true (sym none ∙ some.1 (k, device, at, has_items device.in_flight j flight flies)));
-  counted = (each k device at).counted;
-}
+idle_as : (command : Commanded) (flights : Flights) → must_wait command (some_in_flight flights) ≡ false → NothingIfFence command (accesses_of flights.rows)
+idle_as (IotinvalVma gscid pscid page) flights free = tt
+idle_as (IofenceC store wsi pr pw) flights free = λ address number same. none_in_flight flights (subst (λ c. must_wait c (some_in_flight flights) ≡ false) same free)
+idle_as (IodirInvalDdt device) flights free = tt
+idle_as (IotinvalGvma gscid page) flights free = tt
+idle_as (AtsInval device range) flights free = tt
 
 -- processing doesn't stop
 pub never_stops : (old : Parts) (events : ℕ) (any : Bool) (next : Iommu) → AreSound old events → 64 ≤ length old.memory → StopsFetching (is_processing_commands (registers_of old.iommu)) old.memory any old.iommu next → ⊥
@@ -151,74 +269,83 @@ never_stops old events any next sound many stops =
     by : (entry : Option QueueEntry) → head_entry old.memory (registers_of old.iommu) ≡ entry → StopsAtEntry old.memory entry any old.iommu next → ⊥
     by None at stopped = stopped
     by (Some (Command command)) at stopped =
-        let head = head_follows (completion_address (length old.memory)) (completed_in old.memory) (commands_in old.memory (registers_of old.iommu)) old.driver.given (Command command) sound.commands at in
-        let same : command ≡ head.0 = let e = head.1 in cc in
-        stopped.1 (rw same (is_storable old.memory (completed_in old.memory) head.0 many head.2))
-    by (Some (Illegal reason)) at stopped =
-        let head = head_follows (completion_address (length old.memory)) (completed_in old.memory) (commands_in old.memory (registers_of old.iommu)) old.driver.given (Illegal reason) sound.commands at in let e = head.1 in cc
-    by (Some Outside) at stopped =
-        let head = head_follows (completion_address (length old.memory)) (completed_in old.memory) (commands_in old.memory (registers_of old.iommu)) old.driver.given Outside sound.commands at in let e = head.1 in cc
+        stopped.1 (is_storable old.memory (completed_in old.memory) old.driver.given command many (head_next old events sound command at))
+    by (Some (Illegal reason)) at stopped = false≢true (head_ours old events sound (Illegal reason) at)
+    by (Some Outside) at stopped = false≢true (head_ours old events sound Outside at)
 
 -- a command is done
-keeps_done : (old new : Parts) (events : ℕ) (any : Bool) (command : Commanded) → AreSound old events → IsSoundDriver old.driver → (IsTrue any ↔ SomeInFlight old.devices)
-    → FetchesCommand old.memory old.iommu any (Did command) new.memory new.iommu → new.driver ≡ old.driver → new.devices ≡ old.devices → AreSound new events
-keeps_done old new events any command sound own some fetches driver devices =
+keeps_done : (old new : Parts) (events : ℕ) (command : Commanded) → AreSound old events → IsSoundDriver old.driver → StaysReady old.driver
+    → FetchesCommand old.memory old.iommu (Did command) new.memory new.iommu → new.driver ≡ old.driver → new.devices ≡ old.devices → AreSound new events
+keeps_done old new events command sound own stays fetches driver devices =
     let r = registers_of old.iommu in
     let size : length old.memory ≡ length old.driver.marks = sound.ready.stand.size in
     let many : 64 ≤ length old.memory = let m = own.sizes.size.0 in omega (arith, size, m) in
     let address = completion_address (length old.memory) in
     let done = completed_in old.memory in
-    let head = head_follows address done (commands_in old.memory r) old.driver.given (Command command) sound.commands fetches.1 in
-    let next : IsNext address done command = let e : command ≡ head.0 = let f = head.1 in cc in rw e head.2 in
+    let given = old.driver.given in
+    let next : IsNext address done given command = head_next old events sound command fetches.1 in
     let ring : IsRing (length old.memory) r = sound.ready.ring sound.started in
     let off : IsOffRing r (store_of command) = λ j lt at.
-    let same = stored_there (length old.memory) done command _ next at in
+    let same = stored_there (length old.memory) done given command _ next at in
     let place = in_ring r (length old.memory) j ring lt in absurd (omega (arith, same, place, many)) in
-    let list = takes_first old.memory new.memory old.iommu new.iommu any command fetches off in
-    let rest = first_follows address done command (commands_in new.memory (registers_of new.iommu)) old.driver.given (subst (λ w. FencesFollow address done w old.driver.given) list sound.commands) in
-    let low : done_after done command ≤ old.driver.given = follow_le address (done_after done command) (commands_in new.memory (registers_of new.iommu)) old.driver.given rest.1 in
-    let small = sound.small in
-    let frames = leaves_frames old.memory new.memory old.iommu new.iommu any command fetches in
-    let after : completed_in new.memory ≡ done_after done command =
-    ap completed_in fetches.4 ∙ completed_after old.memory command many next (omega (arith, low, small)) (ap (λ m. length m) (sym fetches.4) ∙ frames.1) in
-    let registers : registers_of new.iommu ≡ with_done r command = ap registers_of fetches.5 in
-    let kept = ring_kept r command address done next in
+    let list = takes_first old.memory new.memory old.iommu new.iommu command fetches off in
+    let frames = leaves_frames old.memory new.memory old.iommu new.iommu command fetches in
+    let left = fetches.5 in
+    let after : completed_in new.memory ≡ number_after done command =
+    ap completed_in fetches.4 ∙ completed_after old.memory done given command many sound.small next (ap (λ m. length m) (sym fetches.4) ∙ frames.1) in
+    let kept = ring_kept r command address done given next in
     let keeps : KeepsReserved old.driver old.memory new.memory = record {
       size = frames.1;
-      bytes = λ frame owner mark other. frames.0 frame (λ at. other (stored_there (length old.memory) done command frame next at));
+      bytes = λ frame owner mark other. frames.0 frame (λ at. other (stored_there (length old.memory) done given command frame next at));
     } in
-    let more : done ≤ done_after done command = more_done done command in
-    let confirmed = sound.confirmed in
+    let more : done ≤ number_after done command = more_done address done given done command refl next in
+    let confirmed : old.driver.confirmed ≤ done = sound.confirmed in
+    let grants : KeepsGrants (values_of old) (values_of new) = record {
+      ledger = ap (λ (d : DriverState). d.ledger) driver;
+      address = ap completion_address frames.1;
+      given = ap (λ (d : DriverState). d.given) driver;
+      confirmed = ap (λ (d : DriverState). d.confirmed) driver;
+      plugged = λ id. ap (λ (d : DriverState). is_plugged d.devices id) driver;
+      attachments = λ id. ap (λ (d : DriverState). shown_attachment (attachment_of d.devices id)) driver;
+    } in
+    let does : DoesFirst (values_of old) (values_of new) command = record {
+      keeps = grants;
+      first = list;
+      so_far = ap (λ (f : Flights). f.so_far) left.flights;
+      in_flight = ap (λ (f : Flights). accesses_of f.rows) left.flights;
+      completed = done_as address done given done (completed_in new.memory) command next after;
+      contexts = cached_as command (contexts_of old.iommu) (contexts_of new.iommu) left.contexts;
+      idle = idle_as command (flights_of old.iommu) fetches.2;
+    } in
     record {
-      ready = rw driver (ready_stays old.driver old.memory new.memory r (registers_of new.iommu) (rw size own.fixed) sound.ready keeps (rw registers kept.0));
+      ready = rw driver (stays old.memory new.memory r (registers_of new.iommu) sound.ready keeps (subst (λ s. KeepsRing r s) (sym left.registers) kept.0));
       started = rw driver sound.started;
-      processing = ap is_processing_commands registers ∙ kept.1 ∙ sound.processing;
-      known = rw (driver, devices) sound.known;
-      own_ids = rw devices sound.own_ids;
-      commands = follow_as _ _ _ _ (commands_in new.memory (registers_of new.iommu)) (commands_in new.memory (registers_of new.iommu)) _ _ (ap completion_address frames.1) after refl (ap (λ d. d.given) driver) rest.1;
+      processing = ap is_processing_commands left.registers ∙ kept.1 ∙ sound.processing;
+      size = left.frames ∙ sound.size ∙ sym frames.1;
+      known = record {
+        own_ids = rw devices sound.known.own_ids;
+        driver = rw (driver, devices) sound.known.driver;
+        iommu = ap (λ (f : Flights). row_ids f.rows) left.flights ∙ rw devices sound.known.iommu;
+      };
       confirmed = rw (after, driver) (omega (arith, confirmed, more));
-      small = rw driver small;
-      each = rw (after, driver, devices) (devices_fetched old.driver.ledger events done (done_after done command) old.devices any some (waits_for address done command any next fetches.2) sound.each);
+      small = rw driver sound.small;
+      counted = subst (λ (f : Flights). f.so_far ≤ events) (sym left.flights) sound.counted;
+      contexts = λ id context at. rw driver (sound.contexts id context (cached_before command (contexts_of old.iommu) (contexts_of new.iommu) left.contexts id context at));
+      copies = ∥∥₁_map sound.copies (λ has. fetch_scene (values_of old) (values_of new) command does has);
     }
-  where
-    more_done : (done : ℕ) (c : Commanded) → done ≤ done_after done c
-    more_done done (IotinvalVma gscid pscid page) = omega arith
-    more_done done (IofenceC store wsi pr pw) = omega arith
-    more_done done (IotinvalGvma gscid page) = omega arith
-    more_done done (IodirInvalDdt device) = omega arith
-    more_done done (AtsInval device range) = omega arith
 
-pub keeps_fetched : (old new : Parts) (events : ℕ) (told : Outcome) → AreSound old events → IsSoundDriver old.driver → FetchesNext old told new → AreSound new events
-keeps_fetched old new events told sound own fetches = by fetches.answer fetches.call
+pub keeps_fetched : (old new : Parts) (events : ℕ) (told : Outcome) → AreSound old events → IsSoundDriver old.driver → StaysReady old.driver → FetchesNext old told new → AreSound new events
+keeps_fetched old new events told sound own stays fetches = by fetches.answer fetches.call
   where
     many : 64 ≤ length old.memory
     many = let m = own.sizes.size.0 in let size = sound.ready.stand.size in omega (arith, size, m)
 
     same : new.memory ≡ old.memory → new.iommu ≡ old.iommu → AreSound new events
-    same memory iommu = rw (memory, iommu, fetches.driver, fetches.devices) sound
+    same memory iommu =
+        subst (λ parts. AreSound parts events) (sym (parts_are new old.memory old.iommu old.driver old.devices memory iommu fetches.driver fetches.devices)) sound
 
-    by : (answer : Fetched) → FetchesCommand old.memory old.iommu fetches.any_in_flight answer new.memory new.iommu → AreSound new events
-    by (Did command) call = keeps_done old new events fetches.any_in_flight command sound own fetches.counted call fetches.driver fetches.devices
+    by : (answer : Fetched) → FetchesCommand old.memory old.iommu answer new.memory new.iommu → AreSound new events
+    by (Did command) call = keeps_done old new events command sound own stays call fetches.driver fetches.devices
     by Waiting call = same call.2 call.3
     by Empty call = same call.2 call.3
-    by Stopped call = absurd (never_stops old events fetches.any_in_flight new.iommu sound many call.0)
+    by Stopped call = absurd (never_stops old events (some_in_flight (flights_of old.iommu)) new.iommu sound many call.0)

@@ -1,14 +1,16 @@
 -- The frames of the ledger machine after a frame is reserved, and after bytes of reserved frames change.
-use Rattle.std.proofs.Common.{◌≡◌, ◌≢◌, ◌<◌, ◌∙◌, inl, inr, ℕ, false, List, length, Option, Some, None, option_map, is_some, slice_get, slice_set, refl, sym, ap, subst}
+use Rattle.std.proofs.Common.{◌≡◌, ◌≢◌, ◌<◌, ◌∙◌, inl, inr, ℕ, false, List, [], ◌∷◌, length, All, Option, Some, None, option_map, is_some, slice_get, slice_set, refl, sym, ap, subst}
 use Rattle.std.proofs.lemmas.List.{length-set}
 use Rattle.std.proofs.lemmas.Bool.Decides.{eqb_tells}
 use Rattle.std.specs.Option.{option_map_or}
 use Rattle.iom_machine.specs.declared.state.Frame.{Frame}
-use Rattle.iom_machine.specs.Frames.{is_reserved, with_frame}
+use Rattle.iom_machine.specs.Frames.{is_reserved, with_frame, reserved_for}
 use Rattle.iom_base.specs.declared.owner.Owner.{Owner}
 use Rattle.iom_table_frames.specs.Marks as marks
 use Rattle.iom_world.specs.Frames.{ShowsFrames}
+use Rattle.iom_driver.specs.Choices.{marked_for}
 use Rattle.iom_driver.proofs.Lists.{get_set_same, get_set_other, get_within, get_there}
+use Rattle.iom_driver.proofs.Marks.{all_head, all_tail}
 
 -- a frame of the machine where an owner takes it
 abbrev pub owned : Owner → Frame → Frame
@@ -61,6 +63,15 @@ shows_reserved memory memory' marked frames n owner shows lt long same size =
   where
     not_free : ◌≡◌ {A = Option (Option Owner)} (Some (Some owner)) (Some None) → ⊥
     not_free same = cc
+
+-- frames become an owner's, before their bytes change
+pub shows_marked : (owner : Owner) (fs : List ℕ) (memory : List (List ℕ)) (marked : List (Option Owner)) (frames : List Frame) → ShowsFrames memory marked frames → length marked ≡ length memory
+    → All (λ f. f < length memory) fs → ShowsFrames memory (marked_for owner fs marked) (reserved_for owner fs frames)
+shows_marked owner [] memory marked frames shows long inside = shows
+shows_marked owner (f ∷ fs) memory marked frames shows long inside =
+    shows_marked owner fs memory (slice_set marked f (Some owner)) _
+    (shows_reserved memory memory marked frames f owner shows (all_head (λ g. g < length memory) f fs inside) long (λ k other. refl) refl)
+    (length-set marked f (Some owner) ∙ long) (all_tail (λ g. g < length memory) f fs inside)
 
 -- bytes of reserved frames alone change
 pub shows_kept : (memory memory' : List (List ℕ)) (marked : List (Option Owner)) (frames : List Frame)

@@ -1,83 +1,65 @@
--- What stays true of a world when a device is plugged in, and why one is or isn't.
-use Rattle.std.proofs.Common.{suc, zero, ◌≡◌, ◌≢◌, ◌<◌, ◌≤◌, ◌==◌, ◌⊎◌, inl, inr, ◌++◌, ◌∙◌, nat_le, ℕ, Bool, true, false, List, [], ◌∷◌, length, map, Some, is_some, Result, Ok, Err, slice_get, refl, sym, ap, subst, arith, if◌then◌else◌}
-use Rattle.std.proofs.lemmas.Bool.{false≢true, le-leb, lt-leb, eq-eqb}
-use Rattle.iom_base.specs.declared.access.AcceptedAccess.{AcceptedAccess}
+-- What stays true of a world when a device is plugged in: it is one more in all three lists.
+use Rattle.std.proofs.Common.{suc, zero, ◌≡◌, ◌≢◌, ◌^◌, ◌<◌, ◌≤◌, ◌==◌, ◌⊎◌, inl, inr, ◌++◌, ◌∙◌, ℕ, Bool, true, false, List, [], ◌∷◌, length, map, Some, None, is_some, Result, Ok, Err, slice_get, refl, sym, ap, subst, if◌then◌else◌}
+use Rattle.std.specs.Option.{option_map}
+use Rattle.std.proofs.Math.Logic.{∥∥₁_map}
+use Rattle.std.proofs.lemmas.Bool.{false≢true, eq-eqb}
 use Rattle.iom_driver.specs.declared.device.Device as driver
 use Rattle.iom_driver.specs.Calls.{AnswersPlug}
-use Rattle.iom_driver.specs.Devices.{device_of, is_plugged, detached}
+use Rattle.iom_driver.specs.Devices.{device_of, is_plugged, attachment_of, owned_stage, detached}
+use Rattle.iom_driver.specs.Directory.{context_for}
+use Rattle.iom_driver.specs.Layout.{command_frame, completion_frame, completion_address}
 use Rattle.iom_driver.specs.Ready.{IsReady}
-use Rattle.iom_driver.specs.Reasons.{plug_reasons}
+use Rattle.iom_driver.specs.Reasons.{why_not_plug}
 use Rattle.iom_driver.specs.State.{DriverState}
-use Rattle.iom_driver.proofs.Lists.{differs}
-use Rattle.iom_iommu.specs.Parts.{registers_of}
-use Rattle.iom_ledger.specs.declared.ledger.Ledger.{Ledger}
+use Rattle.iom_driver.proofs.Places.{attachment_plugged}
+use Rattle.iom_inflight.specs.Flights.{FlightRow, Flights, new_row}
+use Rattle.iom_iommu.specs.Parts.{registers_of, contexts_of, flights_of, AddsDevice}
+use Rattle.iom_device_dir.specs.Cached.{cached_contexts}
 use Rattle.iom_ledger.specs.declared.refusal.Refusal.{Refusal}
-use Rattle.iom_ledger.specs.declared.refusal.Refusal.TheVariants.{AlreadyPlugged, TooManyDevices, Memory}
+use Rattle.iom_ledger.specs.declared.refusal.Refusal.TheVariants.{AlreadyPlugged}
+use Rattle.iom_ledger.specs.Refusals.{NoneApplies}
+use Rattle.iom_ledger.specs.Shown.{Agrees}
 use Rattle.iom_machine.specs.declared.outcome.Outcome.{Outcome}
 use Rattle.iom_machine.specs.declared.state.DeviceKind.{DeviceKind}
+use Rattle.iom_registers.specs.Queues.{is_processing_commands}
 use Rattle.iom_world.specs.declared.device.Device.{Device}
-use Rattle.iom_driver.specs.Layout.{command_frame, completion_frame}
-use Rattle.iom_world.specs.Commands.{completed_in}
-use Rattle.iom_world.specs.Does.{PlugsDevice, new_device, devices_after}
-use Rattle.iom_world.specs.Facts.{IsSoundDevice, HaveOwnIds, AreKnown}
+use Rattle.iom_world.specs.Devices.{shown_attachment}
+use Rattle.iom_world.specs.Does.{PlugsDevice, AddsRow, new_device, devices_after}
 use Rattle.iom_world.specs.Parts.{Parts}
-use Rattle.iom_world.specs.Places.{IsAbsent, HasPlace}
-use Rattle.iom_world.specs.Sound.{AreSound}
-use Rattle.iom_world.proofs.ReasonLemmas.{length-known}
-use Rattle.iom_world.proofs.ReplaceLemmas.{get_pushed}
-use Rattle.iom_world.proofs.DriverKeeps.{none_at, sound_from}
+use Rattle.iom_world.specs.Queued.{completed_in}
+use Rattle.iom_world.specs.Read.{values_of, access_of, accesses_of}
+use Rattle.iom_world.specs.Sound.{AreSound, AreKnown, HaveOwnIds, known_ids, ids_of, row_ids}
+use Rattle.iom_world.proofs.SceneCalls.{PlugsOne, plug_scene}
+use Rattle.iom_world.proofs.SoundLemmas.{same_completed, LeavesWord, sound_from, same_waiting, none_at}
 
 -- the ids of two lists agree at their first, and behind it
 first_ids : (a b : ℕ) (xs ys : List ℕ) → a ∷ xs ≡ b ∷ ys → (a ≡ b) × (xs ≡ ys)
 first_ids a b xs ys same = (cc, cc)
 
--- the driver knows a device that is there, and none that isn't
-pub known_place : (known : List driver.Device) (devices : List Device) (id place : ℕ) → AreKnown known devices → HasPlace devices id place → is_plugged known id ≡ true
-known_place [] [] id place same p = cc
-known_place [] (device ∷ others) id place same p = cc
-known_place (own ∷ rest) [] id place same p = cc
-known_place (own ∷ rest) (device ∷ others) id zero p_same p =
-    let own_id : own.id ≡ id = (first_ids _ _ _ _ p_same).0 ∙ ap (λ (d : Device). d.id) (let e : device ≡ p.0 = cc in e) ∙ p.2 in
-    rw (eq-eqb own.id id own_id) refl
-known_place (own ∷ rest) (device ∷ others) id (suc place) p_same p =
-    let other : own.id ≢ id = λ e. p.3 0 device (omega arith) refl (sym (first_ids _ _ _ _ p_same).0 ∙ e) in
-    rw (differs own.id id other) (known_place rest others id place (first_ids _ _ _ _ p_same).1 (p.0, p.1, p.2, (λ k d lt at. p.3 (suc k) d (omega arith) at)))
+-- an item of a list with one more is one of the list, or that one
+get_pushed : {X : Type 0} (xs : List X) (x y : X) (k : ℕ) → slice_get (xs ++ x ∷ []) k ≡ Some y → (slice_get xs k ≡ Some y) ⊎ ((k ≡ length xs) × (y ≡ x))
+get_pushed [] x y zero at = inr (refl, cc)
+get_pushed [] x y (suc k) at = cc
+get_pushed (first ∷ xs) x y zero at = inl at
+get_pushed (first ∷ xs) x y (suc k) at = elim (get_pushed xs x y k at) [ inl e ↦ inl e | inr e ↦ inr (ap suc e.0, e.1) ]
 
-pub known_absent : (known : List driver.Device) (devices : List Device) (id : ℕ) → AreKnown known devices → IsAbsent devices id → is_plugged known id ≡ false
-known_absent [] devices id same absent = refl
-known_absent (own ∷ rest) [] id same absent = cc
-known_absent (own ∷ rest) (device ∷ others) id same absent =
-    let other : own.id ≢ id = λ e. absent 0 device refl (sym (first_ids _ _ _ _ same).0 ∙ e) in
-    rw (differs own.id id other) (known_absent rest others id (first_ids _ _ _ _ same).1 (λ k d at. absent (suc k) d at))
-
-pub absent_known : (known : List driver.Device) (devices : List Device) (id : ℕ) → AreKnown known devices → is_plugged known id ≡ false → IsAbsent devices id
+-- where the driver knows none with the id, none of the world's has it
+pub absent_known : (known : List driver.Device) (devices : List Device) (id : ℕ) → known_ids known ≡ ids_of devices → is_plugged known id ≡ false
+    → (k : ℕ) (device : Device) → slice_get devices k ≡ Some device → device.id ≢ id
 absent_known known [] id same none k device at = cc
 absent_known [] (first ∷ others) id same none k device at = cc
 absent_known (own ∷ rest) (first ∷ others) id same none k device at = by (own.id == id) refl none k at (absent_known rest others id (first_ids _ _ _ _ same).1)
   where
     by : (b : Bool) → (own.id == id) ≡ b → is_some (if b then Some own else device_of rest id) ≡ false → (k : ℕ) → slice_get (first ∷ others) k ≡ Some device
-        → (is_plugged rest id ≡ false → IsAbsent others id) → device.id ≢ id
+        → (is_plugged rest id ≡ false → (j : ℕ) (other : Device) → slice_get others j ≡ Some other → other.id ≢ id) → device.id ≢ id
     by true test none k at later = absurd (false≢true (sym none))
     by false test none zero at later = λ e.
         let here : first ≡ device = cc in
         false≢true (sym test ∙ eq-eqb own.id id ((first_ids _ _ _ _ same).0 ∙ ap (λ (d : Device). d.id) here ∙ e))
     by false test none (suc k) at later = later none k device at
 
--- why a device isn't plugged in, before the driver is asked
-pub already_plugged : (d : DriverState) (devices : List Device) (id place : ℕ) → AreKnown d.devices devices → HasPlace devices id place → AnswersPlug d id (Err AlreadyPlugged) d
-already_plugged d devices id place known p = (rw (known_place d.devices devices id place known p) refl, refl)
-
-pub too_many : (d : DriverState) (devices : List Device) (id : ℕ) → AreKnown d.devices devices → IsAbsent devices id → 16 ≤ length devices → AnswersPlug d id (Err TooManyDevices) d
-too_many d devices id known absent many =
-    let full : nat_le 16 (length d.devices) ≡ true = le-leb 16 (length d.devices) (rw (length-known d.devices devices known) many) in
-    (rw (known_absent d.devices devices id known absent, full) refl, refl)
-
-pub no_memory : (d : DriverState) (devices : List Device) (id : ℕ) → AreKnown d.devices devices → IsAbsent devices id → length devices < 16 → AnswersPlug d id (Err Memory) d
-no_memory d devices id known absent few =
-    let room : nat_le 16 (length d.devices) ≡ false = lt-leb 16 (length d.devices) (rw (length-known d.devices devices known) few) in
-    (rw (known_absent d.devices devices id known absent, room) refl, refl)
-
-own_ids_new : (devices : List Device) (device : Device) (id : ℕ) → HaveOwnIds devices → IsAbsent devices id → device.id ≡ id → HaveOwnIds (devices ++ device ∷ [])
+own_ids_new : (devices : List Device) (device : Device) (id : ℕ) → HaveOwnIds devices → ((k : ℕ) (other : Device) → slice_get devices k ≡ Some other → other.id ≢ id) → device.id ≡ id
+    → HaveOwnIds (devices ++ device ∷ [])
 own_ids_new devices device id own absent new j k one other at at' same =
     by (get_pushed devices device one j at) (get_pushed devices device other k at')
   where
@@ -87,44 +69,90 @@ own_ids_new devices device id own absent new j k one other at at' same =
     by (inr a) (inl b) = absurd (absent k other b (sym same ∙ ap (λ (d : Device). d.id) a.1 ∙ new))
     by (inr a) (inr b) = a.0 ∙ sym b.0
 
--- a new device has nothing in flight, and none of its accesses was accepted
-sound_new : (ledger : Ledger) (completed events id : ℕ) (kind : DeviceKind) → IsSoundDevice ledger completed events (new_device id kind)
-sound_new ledger completed events id kind = record { covered = λ k flight at. absurd (none_there k flight at); counted = omega arith }
-  where
-    none_there : (k : ℕ) (flight : AcceptedAccess) → slice_get [] k ≡ Some flight → ⊥
-    none_there k flight at = cc
+map_pushed : {X Y : Type 0} (f : X → Y) (xs : List X) (x : X) → map f (xs ++ x ∷ []) ≡ map f xs ++ f x ∷ []
+map_pushed f [] x = refl
+map_pushed f (y ∷ ys) x = ap (λ zs. f y ∷ zs) (map_pushed f ys x)
 
-ids_plugged : (known : List driver.Device) (devices : List Device) (id : ℕ) (kind : DeviceKind) → AreKnown known devices → AreKnown (known ++ detached id ∷ []) (devices ++ new_device id kind ∷ [])
-ids_plugged [] [] id kind same = refl
-ids_plugged [] (device ∷ others) id kind same = cc
-ids_plugged (own ∷ rest) [] id kind same = cc
-ids_plugged (own ∷ rest) (device ∷ others) id kind same =
-    let behind = ids_plugged rest others id kind (first_ids _ _ _ _ same).1 in
-    ap (λ i. i ∷ map (λ (d : driver.Device). d.id) (rest ++ detached id ∷ [])) (first_ids _ _ _ _ same).0 ∙ ap (λ is. device.id ∷ is) behind
+-- a new row has nothing in flight
+accesses_pushed : (rows : List FlightRow) (id : ℕ) → accesses_of (rows ++ new_row id ∷ []) ≡ accesses_of rows
+accesses_pushed [] id = refl
+accesses_pushed (row ∷ rows) id = ap (λ l. map (access_of row.device) row.waiting ++ l) (accesses_pushed rows id)
+
+-- where a device isn't there with one more, it wasn't, and isn't that one
+plugged_one : (devices : List driver.Device) (id other : ℕ) → is_plugged (devices ++ detached id ∷ []) other ≡ false → (is_plugged devices other ≡ false) × ((id == other) ≡ false)
+plugged_one [] id other none = (refl, by (id == other) none)
+  where
+    by : (b : Bool) → is_some (if b then Some (detached id) else None) ≡ false → b ≡ false
+    by true none = absurd (false≢true (sym none))
+    by false none = refl
+plugged_one (device ∷ others) id other none = by (device.id == other) none (plugged_one others id other)
+  where
+    by : (b : Bool) → is_some (if b then Some device else device_of (others ++ detached id ∷ []) other) ≡ false
+        → (is_plugged (others ++ detached id ∷ []) other ≡ false → (is_plugged others other ≡ false) × ((id == other) ≡ false))
+        → (is_some (if b then Some device else device_of others other) ≡ false) × ((id == other) ≡ false)
+    by true none later = absurd (false≢true (sym none))
+    by false none later = later none
+
+module _ (old new : Parts) (events id : ℕ) (kind : DeviceKind) (sound : AreSound old events) (ready : IsReady new.driver new.memory (registers_of new.iommu))
+    (admitted : NoneApplies (why_not_plug old.driver id)) (driver_now : new.driver ≡ record old.driver { devices = old.driver.devices ++ detached id ∷ [] })
+    (row : AddsDevice old.iommu id true new.iommu) (devices : new.devices ≡ old.devices ++ new_device id kind ∷ []) (memory : new.memory ≡ old.memory) where
+  leaves : LeavesWord old new
+  leaves = record { size = ap (λ m. length m) memory; word = ap (λ m. slice_get m (completion_frame (length old.memory))) memory }
+
+  rows_now : (flights_of new.iommu).rows ≡ (flights_of old.iommu).rows ++ new_row id ∷ []
+  rows_now = ap (λ (f : Flights). f.rows) row.flights.2
+
+  counted_now : (flights_of new.iommu).so_far ≡ (flights_of old.iommu).so_far
+  counted_now = ap (λ (f : Flights). f.so_far) row.flights.2
+
+  contexts_now : (other : ℕ) → contexts_of new.iommu other ≡ contexts_of old.iommu other
+  contexts_now other = ap (λ c. cached_contexts c other) row.contexts
+
+  free : is_plugged old.driver.devices id ≡ false
+  free = none_at (why_not_plug old.driver id) 0 (is_plugged old.driver.devices id) AlreadyPlugged refl admitted
+
+  known_now : AreKnown new
+  known_now = record {
+    own_ids = rw devices (own_ids_new old.devices (new_device id kind) id sound.known.own_ids (absent_known old.driver.devices old.devices id sound.known.driver free) refl);
+    driver = ap (λ (d : DriverState). known_ids d.devices) driver_now ∙ map_pushed (λ (d : driver.Device). d.id) old.driver.devices (detached id)
+        ∙ ap (λ ids. ids ++ id ∷ []) sound.known.driver ∙ sym (ap ids_of devices ∙ map_pushed (λ (d : Device). d.id) old.devices (new_device id kind));
+    iommu = ap row_ids rows_now ∙ map_pushed (λ (r : FlightRow). r.device) (flights_of old.iommu).rows (new_row id)
+        ∙ ap (λ ids. ids ++ id ∷ []) sound.known.iommu ∙ sym (ap ids_of devices ∙ map_pushed (λ (d : Device). d.id) old.devices (new_device id kind));
+  }
+
+  attachments_now : (other : ℕ) → attachment_of new.driver.devices other ≡ attachment_of old.driver.devices other
+  attachments_now other = ap (λ (d : DriverState). attachment_of d.devices other) driver_now ∙ attachment_plugged old.driver.devices id other
+
+  plugs_one : PlugsOne (values_of old) (values_of new) id
+  plugs_one = record {
+    free = free;
+    unplugged = λ d none. plugged_one old.driver.devices id d (sym (ap (λ (s : DriverState). is_plugged s.devices d) driver_now) ∙ none);
+    agrees = λ h agrees. subst (λ (s : DriverState). Agrees s.ledger h) (sym driver_now) agrees;
+    address = ap completion_address leaves.size;
+    waiting = same_waiting old new events sound row.registers (ap (λ m. slice_get m (command_frame (length old.memory))) memory);
+    completed = same_completed old.memory new.memory leaves.size leaves.word;
+    given = ap (λ (d : DriverState). d.given) driver_now;
+    confirmed = ap (λ (d : DriverState). d.confirmed) driver_now;
+    so_far = counted_now;
+    in_flight = ap accesses_of rows_now ∙ accesses_pushed (flights_of old.iommu).rows id;
+    attachments = λ d. ap shown_attachment (attachments_now d);
+    contexts = λ d is. sym (ap is_some (contexts_now d)) ∙ is;
+  }
+
+  pub plugged_sound : AreSound new events
+  plugged_sound =
+      sound_from old new events sound leaves
+      (record { processing = ap is_processing_commands row.registers; frames = row.frames; so_far = counted_now })
+      (ap (λ (d : DriverState). d.started) driver_now) ready known_now
+      (subst (λ (d : DriverState). d.confirmed ≤ completed_in old.memory) (sym driver_now) sound.confirmed)
+      (subst (λ (d : DriverState). d.given < 2 ^ 32) (sym driver_now) sound.small)
+      (λ other context cached. ap (λ a. option_map context_for (owned_stage a)) (attachments_now other) ∙ sound.contexts other context (sym (contexts_now other) ∙ cached))
+      (∥∥₁_map sound.copies (plug_scene (values_of old) (values_of new) id kind plugs_one))
 
 pub keeps_plugged : (old new : Parts) (events id : ℕ) (kind : DeviceKind) (told : Outcome) → AreSound old events → IsReady new.driver new.memory (registers_of new.iommu)
     → PlugsDevice old id kind told new → AreSound new events
-keeps_plugged old new events id kind told sound ready plugs = by plugs.answer plugs.call plugs.devices
+keeps_plugged old new events id kind told sound ready plugs = by plugs.answer plugs.call plugs.row plugs.devices
   where
-    by : (answer : Result (Unit {0}) Refusal) → AnswersPlug old.driver id answer new.driver → new.devices ≡ devices_after answer old.devices id kind → AreSound new events
-    by (Ok done) (admitted, driver) devices =
-        let absent = absent_known old.driver.devices old.devices id sound.known (none_at (plug_reasons old.driver id) 0 (is_plugged old.driver.devices id) AlreadyPlugged refl admitted) in
-        sound_from old new events sound
-        (record {
-          size = ap (λ m. length m) plugs.memory;
-          ring = ap (λ m. slice_get m (command_frame (length old.memory))) plugs.memory;
-          word = ap (λ m. slice_get m (completion_frame (length old.memory))) plugs.memory;
-          iommu = plugs.iommu;
-          given = ap (λ d. d.given) driver;
-          started = ap (λ d. d.started) driver;
-        })
-        ready
-        (rw (devices, driver) (ids_plugged old.driver.devices old.devices id kind sound.known))
-        (rw devices (own_ids_new old.devices (new_device id kind) id sound.own_ids absent refl))
-        (rw driver sound.confirmed)
-        (rw (devices, driver) (λ k d at. elim (get_pushed old.devices (new_device id kind) d k at) [
-          | inl e ↦ sound.each k d e
-          | inr e ↦ subst (λ x. IsSoundDevice old.driver.ledger (completed_in old.memory) events x) (sym e.1) (sound_new old.driver.ledger (completed_in old.memory) events id kind)
-        ]))
-    by (Err why) (refused, driver) devices =
-        rw (plugs.memory, plugs.iommu, driver, devices) sound
+    by : (answer : Result (Unit {0}) Refusal) → AnswersPlug old.driver id answer new.driver → AddsRow answer old.iommu id new.iommu → new.devices ≡ devices_after answer old.devices id kind → AreSound new events
+    by (Ok done) (admitted, driver_now) row devices = plugged_sound old new events id kind sound ready admitted driver_now row devices plugs.memory
+    by (Err why) (refused, driver_stays) row devices = rw (plugs.memory, row, driver_stays, devices) sound

@@ -1,15 +1,23 @@
 -- A plug of the driver is one of the ledger machine.
-use Rattle.std.proofs.Common.{◌≡◌, ◌++◌, ◌∙◌, ℕ, Bool, true, false, List, [], ◌∷◌, length, nat_le, None, Result, Ok, Err, refl, sym, ap, subst}
+use Rattle.std.proofs.Common.{◌≡◌, ◌==◌, ◌++◌, ◌∙◌, ℕ, Bool, true, false, List, [], ◌∷◌, length, map, nat_le, Option, Some, None, Result, Ok, Err, refl, sym, ap, subst, if◌then◌else◌}
+use Rattle.std.specs.Option.{option_map_or}
+use Rattle.iom_base.specs.declared.access.AcceptedAccess.{AcceptedAccess}
+use Rattle.iom_driver.specs.declared.device.Attachment.TheVariants as attached
 use Rattle.iom_driver.specs.declared.device.Device as driver
 use Rattle.iom_driver.specs.Calls.{AnswersPlug}
-use Rattle.iom_driver.specs.Devices.{is_plugged, stage_of, detached}
-use Rattle.iom_driver.specs.Reasons.{plug_reasons}
+use Rattle.iom_driver.specs.Devices.{is_plugged, attachment_of, detached}
+use Rattle.iom_driver.specs.Reasons.{why_not_plug}
 use Rattle.iom_driver.specs.State.{DriverState}
-use Rattle.iom_driver.proofs.Places.{stage_plugged}
+use Rattle.iom_driver.proofs.Places.{attachment_plugged}
+use Rattle.iom_inflight.specs.Flights.{NumberedAccess, FlightRow, Flights, new_row, row_of}
+use Rattle.iom_iommu.specs.declared.iommu.Iommu.{Iommu}
+use Rattle.iom_iommu.specs.Parts.{flights_of}
 use Rattle.iom_ledger.specs.declared.refusal.Refusal.{Refusal}
 use Rattle.iom_ledger.specs.declared.refusal.Refusal.TheVariants.{Memory, AlreadyPlugged, TooManyDevices}
 use Rattle.iom_ledger.specs.Refusals.{first_that_applies, NoneApplies}
 use Rattle.iom_machine.specs.declared.outcome.Outcome.{Outcome}
+use Rattle.iom_machine.specs.declared.state.Attachment.{Attachment}
+use Rattle.iom_machine.specs.declared.state.Device as declared
 use Rattle.iom_machine.specs.declared.state.DeviceKind.{DeviceKind}
 use Rattle.iom_machine.specs.declared.state.State.{State}
 use Rattle.iom_machine.specs.Machine as machine
@@ -17,22 +25,90 @@ use Rattle.iom_machine.specs.Machine.{plugged_device}
 use Rattle.iom_machine.specs.Refusals as refusals
 use Rattle.iom_machine.specs.Refusals.{MayRefusePlug}
 use Rattle.iom_world.specs.declared.device.Device.{Device}
-use Rattle.iom_world.specs.Devices.{shown_attachment, shown_device, shown_devices}
-use Rattle.iom_world.specs.Does.{PlugsDevice, told_of, new_device, devices_after}
+use Rattle.iom_world.specs.Devices.{shown_attachment, shown_device, shown_devices, accepted_of, in_flight_of}
+use Rattle.iom_world.specs.Does.{PlugsDevice, AddsRow, told_of, new_device, devices_after}
 use Rattle.iom_world.specs.Parts.{Parts}
 use Rattle.iom_world.specs.Shows.{PartsShow}
 use Rattle.iom_world.specs.Sound.{AreSound}
-use Rattle.iom_world.proofs.PlaceLemmas.{attached_so}
-use Rattle.iom_world.proofs.ReasonLemmas.{plug_first, none_stage, refused_as}
+use Rattle.iom_world.proofs.ReasonLemmas.{plug_first, none_known, refused_as}
 use Rattle.iom_world.proofs.StayLemmas.{shows_same}
 
--- the machine's devices have the new one at their end, where the driver knows the same first stages, and none of the new one's
-shown_plugged : (known known' : List driver.Device) (devices : List Device) (id : ℕ) (kind : DeviceKind) → ((other : ℕ) → stage_of known' other ≡ stage_of known other) → stage_of known id ≡ None
-    → shown_devices known devices ++ plugged_device id kind ∷ [] ≡ shown_devices known' (devices ++ new_device id kind ∷ [])
-shown_plugged known known' [] id kind same none = ap (λ stage. attached_so (new_device id kind) (shown_attachment stage) ∷ []) (sym none ∙ sym (same id))
-shown_plugged known known' (device ∷ others) id kind same none =
-    ap (λ stage. attached_so device (shown_attachment stage) ∷ (shown_devices known others ++ plugged_device id kind ∷ [])) (sym (same device.id))
-    ∙ ap (λ ds. shown_device known' device ∷ ds) (shown_plugged known known' others id kind same none)
+-- THE ROWS
+
+-- what is accepted and in flight of a row, if there is one
+abbrev accepted_in : Option FlightRow → ℕ
+accepted_in found = option_map_or (λ (row : FlightRow). row.accepted) found 0
+
+abbrev waiting_in : Option FlightRow → List AcceptedAccess
+waiting_in found = option_map_or (λ (row : FlightRow). map (λ (flight : NumberedAccess). flight.accepted) row.waiting) found []
+
+-- a new row at the end changes nothing of what any device has
+accepted_plugged : (rows : List FlightRow) (id other : ℕ) → accepted_of (rows ++ new_row id ∷ []) other ≡ accepted_of rows other
+accepted_plugged [] id other = by (id == other)
+  where
+    by : (b : Bool) → accepted_in (if b then Some (new_row id) else None) ≡ 0
+    by true = refl
+    by false = refl
+accepted_plugged (row ∷ rows) id other = by (row.device == other) (accepted_plugged rows id other)
+  where
+    by : (b : Bool) → accepted_of (rows ++ new_row id ∷ []) other ≡ accepted_of rows other
+        → accepted_in (if b then Some row else row_of (rows ++ new_row id ∷ []) other) ≡ accepted_in (if b then Some row else row_of rows other)
+    by true rest = refl
+    by false rest = rest
+
+in_flight_plugged : (rows : List FlightRow) (id other : ℕ) → in_flight_of (rows ++ new_row id ∷ []) other ≡ in_flight_of rows other
+in_flight_plugged [] id other = by (id == other)
+  where
+    by : (b : Bool) → waiting_in (if b then Some (new_row id) else None) ≡ []
+    by true = refl
+    by false = refl
+in_flight_plugged (row ∷ rows) id other = by (row.device == other) (in_flight_plugged rows id other)
+  where
+    by : (b : Bool) → in_flight_of (rows ++ new_row id ∷ []) other ≡ in_flight_of rows other
+        → waiting_in (if b then Some row else row_of (rows ++ new_row id ∷ []) other) ≡ waiting_in (if b then Some row else row_of rows other)
+    by true rest = refl
+    by false rest = rest
+
+-- THE DEVICES
+
+-- a device as the machine has it
+abbrev machine_as : Device → Attachment → ℕ → List AcceptedAccess → declared.Device
+machine_as device attachment accepted in_flight = record {
+  id = device.id;
+  kind = device.kind;
+  attachment = attachment;
+  accepted = accepted;
+  in_flight = in_flight;
+}
+
+-- driver and IOMMU know the same of each device
+record AreAlike (known known' : List driver.Device) (rows rows' : List FlightRow) : Type 0 where
+  attachment : (id : ℕ) → attachment_of known' id ≡ attachment_of known id
+  accepted : (id : ℕ) → accepted_of rows' id ≡ accepted_of rows id
+  in_flight : (id : ℕ) → in_flight_of rows' id ≡ in_flight_of rows id
+
+device_alike : (known known' : List driver.Device) (rows rows' : List FlightRow) (device : Device) → AreAlike known known' rows rows' → shown_device known rows device ≡ shown_device known' rows' device
+device_alike known known' rows rows' device same =
+    ap (λ how. machine_as device (shown_attachment how) (accepted_of rows device.id) (in_flight_of rows device.id)) (sym (same.attachment device.id))
+    ∙ ap (λ n. machine_as device (shown_attachment (attachment_of known' device.id)) n (in_flight_of rows device.id)) (sym (same.accepted device.id))
+    ∙ ap (λ fs. machine_as device (shown_attachment (attachment_of known' device.id)) (accepted_of rows' device.id) fs) (sym (same.in_flight device.id))
+
+-- a device of which driver and IOMMU know nothing is shown as it is plugged in
+device_plugged : (known : List driver.Device) (rows : List FlightRow) (id : ℕ) (kind : DeviceKind) → attachment_of known id ≡ attached.Detached → row_of rows id ≡ None
+    → plugged_device id kind ≡ shown_device known rows (new_device id kind)
+device_plugged known rows id kind none no_row =
+    ap (λ how. machine_as (new_device id kind) (shown_attachment how) 0 []) (sym none)
+    ∙ ap (λ found. machine_as (new_device id kind) (shown_attachment (attachment_of known id)) (accepted_in found) (waiting_in found)) (sym no_row)
+
+-- the machine's devices have the new one at their end
+shown_plugged : (known known' : List driver.Device) (rows rows' : List FlightRow) (devices : List Device) (id : ℕ) (kind : DeviceKind) → AreAlike known known' rows rows'
+    → attachment_of known id ≡ attached.Detached → row_of rows id ≡ None
+    → shown_devices known rows devices ++ plugged_device id kind ∷ [] ≡ shown_devices known' rows' (devices ++ new_device id kind ∷ [])
+shown_plugged known known' rows rows' [] id kind same none no_row =
+    ap (λ (d : declared.Device). d ∷ []) (device_plugged known rows id kind none no_row ∙ device_alike known known' rows rows' (new_device id kind) same)
+shown_plugged known known' rows rows' (device ∷ others) id kind same none no_row =
+    ap (λ (d : declared.Device). d ∷ (shown_devices known rows others ++ plugged_device id kind ∷ [])) (device_alike known known' rows rows' device same)
+    ∙ ap (λ ds. shown_device known' rows' device ∷ ds) (shown_plugged known known' rows rows' others id kind same none no_row)
 
 -- where no reason applies the driver knows no such device
 unplugged_then : (there many : Bool) → first_that_applies ((there, AlreadyPlugged) ∷ (many, TooManyDevices) ∷ []) ≡ None → there ≡ false
@@ -43,16 +119,20 @@ unplugged_then true many none = cc
 abbrev plugged_state : State → ℕ → DeviceKind → State
 plugged_state state id kind = record state { devices = state.devices ++ plugged_device id kind ∷ [] }
 
-shows_plugged : (old new : Parts) (id : ℕ) (kind : DeviceKind) → NoneApplies (plug_reasons old.driver id) → new.driver ≡ record old.driver { devices = old.driver.devices ++ detached id ∷ [] }
+shows_plugged : (old new : Parts) (id : ℕ) (kind : DeviceKind) → NoneApplies (why_not_plug old.driver id) → new.driver ≡ record old.driver { devices = old.driver.devices ++ detached id ∷ [] }
+    → row_of (flights_of old.iommu).rows id ≡ None → (flights_of new.iommu).rows ≡ (flights_of old.iommu).rows ++ new_row id ∷ []
     → new.memory ≡ old.memory → new.devices ≡ old.devices ++ new_device id kind ∷ [] → (state : State) → PartsShow old state → PartsShow new (plugged_state state id kind)
-shows_plugged old new id kind none driver memory devices state shows =
+shows_plugged old new id kind none driver no_row row memory devices state shows =
     let d = old.driver in
+    let rows = (flights_of old.iommu).rows in
     let unplugged = unplugged_then (is_plugged d.devices id) (nat_le 16 (length d.devices)) none in
-    let plugged = shown_plugged d.devices (d.devices ++ detached id ∷ []) old.devices id kind (stage_plugged d.devices id) (none_stage d.devices id unplugged) in
+    let plugged = shown_plugged d.devices (d.devices ++ detached id ∷ []) rows (rows ++ new_row id ∷ []) old.devices id kind
+    (record { attachment = λ other. attachment_plugged d.devices id other; accepted = λ other. accepted_plugged rows id other; in_flight = λ other. in_flight_plugged rows id other })
+    (none_known d.devices id unplugged) no_row in
     record {
       ledger = rw (ap (λ (x : DriverState). x.ledger) driver) shows.ledger;
       frames = rw (memory, ap (λ (x : DriverState). x.marks) driver) shows.frames;
-      devices = rw (devices, ap (λ (x : DriverState). x.devices) driver) (ap (λ ds. ds ++ plugged_device id kind ∷ []) shows.devices ∙ plugged);
+      devices = rw (devices, row, ap (λ (x : DriverState). x.devices) driver) (ap (λ ds. ds ++ plugged_device id kind ∷ []) shows.devices ∙ plugged);
       given = shows.given ∙ sym (ap (λ (x : DriverState). x.given) driver);
       confirmed = shows.confirmed ∙ sym (ap (λ (x : DriverState). x.confirmed) driver);
       none_later = rw (ap (λ (x : DriverState). x.confirmed) driver) shows.none_later;
@@ -61,21 +141,21 @@ shows_plugged old new id kind none driver memory devices state shows =
 
 pub plug_step : (old new : Parts) (events id : ℕ) (kind : DeviceKind) (told : Outcome) → AreSound old events → PlugsDevice old id kind told new
     → (state : State) → PartsShow old state → (next : State) × machine.Plugs state id kind told next × PartsShow new next
-plug_step old new events id kind told sound does state shows = by does.answer does.told_so does.call does.devices
+plug_step old new events id kind told sound does state shows = by does.answer does.told_so does.call does.row does.devices
   where
-    by : (answer : Result (Unit {0}) Refusal) → told ≡ told_of answer → AnswersPlug old.driver id answer new.driver → new.devices ≡ devices_after answer old.devices id kind
-        → (next : State) × machine.Plugs state id kind told next × PartsShow new next
-    by (Ok done) is call devices = (
+    by : (answer : Result (Unit {0}) Refusal) → told ≡ told_of answer → AnswersPlug old.driver id answer new.driver → AddsRow answer old.iommu id new.iommu
+        → new.devices ≡ devices_after answer old.devices id kind → (next : State) × machine.Plugs state id kind told next × PartsShow new next
+    by (Ok done) is call row devices = (
       plugged_state state id kind,
       subst (λ t. machine.Plugs state id kind t (plugged_state state id kind)) (sym is) (plug_first old events state id sound shows ∙ call.0, refl),
-      shows_plugged old new id kind call.0 call.1 does.memory devices state shows,
+      shows_plugged old new id kind call.0 call.1 row.flights.0 (ap (λ (f : Flights). f.rows) row.flights.2) does.memory devices state shows,
     )
-    by (Err why) is call devices = (
+    by (Err why) is call row devices = (
       state,
       subst (λ t. machine.Plugs state id kind t state) (sym is) (
-        refused_as (plug_reasons old.driver id) (refusals.plug_reasons state id) (λ may. may ≡ Memory) MayRefusePlug why (plug_first old events state id sound shows)
+        refused_as (why_not_plug old.driver id) (refusals.plug_reasons state id) (λ may. may ≡ Memory) MayRefusePlug why (plug_first old events state id sound shows)
             (λ none memory. subst MayRefusePlug (sym memory) tt) call.0,
         refl,
       ),
-      shows_same old new state does.memory devices call.1 shows,
+      shows_same old new state does.memory (ap (λ (i : Iommu). flights_of i) row) devices call.1 shows,
     )

@@ -1,7 +1,7 @@
 -- What the processor writes and reads, and what it is told of a frame: lawful steps of the ledger machine.
 use Rattle.std.proofs.Common.{◌≡◌, ◌/◌, ◌%◌, ◌+◌, ◌<◌, ◌≤◌, ◌∙◌, ℕ, true, false, List, length, nat_le, Option, Some, None, slice_range, refl, sym, ap, subst}
 use Rattle.std.proofs.lemmas.Bool.{le-leb, lt-leb}
-use Rattle.iom_driver.proofs.Keeps.{unmarked}
+use Rattle.iom_world.proofs.SoundFrom.{unmarked}
 use Rattle.iom_ledger.specs.declared.refusal.Refusal.{Refusal}
 use Rattle.iom_ledger.specs.declared.refusal.Refusal.TheVariants.{FrameOutOfRange, FrameReserved}
 use Rattle.iom_machine.specs.declared.outcome.Outcome.{Outcome}
@@ -19,7 +19,7 @@ use Rattle.iom_world.proofs.FrameLemmas.{reserved_shown}
 use Rattle.iom_world.proofs.FreeLemmas.{free_in_machine, free_in_world}
 use Rattle.iom_driver.proofs.Lists.{get_within}
 use Rattle.iom_world.proofs.ProcessorKeeps.{stored_free}
-use Rattle.iom_world.proofs.ReplaceLemmas.{parts_are}
+use Rattle.iom_world.proofs.PartsLemmas.{parts_are}
 use Rattle.iom_world.proofs.RequestStep.{shows_same}
 use Rattle.iom_world.proofs.StoreLemmas.{bytes_shown, frames_stored}
 

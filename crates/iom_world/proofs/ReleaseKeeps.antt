@@ -1,74 +1,136 @@
 -- What stays true of a world when what a device holds at a page is released: two more commands wait, an invalidation and the ticket's fence.
-use Rattle.std.proofs.Common.{◌≡◌, ◌≢◌, ◌+◌, ◌<◌, ◌≤◌, ◌++◌, ◌∙◌, nat_le, ℕ, false, List, [], ◌∷◌, length, map, Option, Some, Result, Ok, Err, slice_get, refl, sym, ap, arith}
+use Rattle.std.proofs.Common.{◌≡◌, ◌≢◌, ◌+◌, ◌^◌, ◌<◌, ◌≤◌, ◌++◌, ◌∙◌, nat_le, is_some, ℕ, false, List, [], ◌∷◌, length, Option, Some, Result, Ok, Err, slice_get, refl, sym, ap, subst, arith}
+use Rattle.std.specs.Option.{option_map}
+use Rattle.std.proofs.Math.Logic.{∥∥₁_map}
 use Rattle.std.proofs.lemmas.Bool.{leb-false}
 use Rattle.iom_base.specs.declared.owner.Owner.{Owner}
 use Rattle.iom_base.specs.declared.owner.Owner.TheVariants.{System, OneDevice}
 use Rattle.iom_command_queue.specs.declared.command.Command.{Command}
 use Rattle.iom_command_queue.specs.declared.entry.QueueEntry.TheVariants as stands
 use Rattle.iom_command_queue.specs.Waiting.{commands_in}
+use Rattle.iom_copies.specs.Queue.{OnePage, DropTranslations}
 use Rattle.iom_driver.specs.declared.answers.Ticket as answers
-use Rattle.iom_driver.specs.declared.device.Device as driver
-use Rattle.iom_driver.specs.Appends.{invalidation, fence, AppendsTwo}
+use Rattle.iom_driver.specs.Appends.{invalidation, fence, Appends, AppendsTwo}
 use Rattle.iom_driver.specs.Calls.{AnswersRelease, QueuesRelease}
+use Rattle.iom_driver.specs.Devices.{attachment_of, is_plugged, owned_stage_of}
+use Rattle.iom_driver.specs.Directory.{context_for}
 use Rattle.iom_driver.specs.Layout.{completion_frame, completion_address}
 use Rattle.iom_driver.specs.Ready.{IsReady}
-use Rattle.iom_driver.specs.Reasons.{release_reasons}
+use Rattle.iom_driver.specs.Reasons.{why_not_release}
+use Rattle.iom_driver.specs.State.{DriverState}
 use Rattle.iom_iommu.specs.declared.iommu.Iommu.{Iommu}
-use Rattle.iom_iommu.specs.Parts.{registers_of, mmio}
+use Rattle.iom_iommu.specs.Parts.{registers_of, contexts_of, flights_of, frames_of, mmio}
 use Rattle.iom_ledger.specs.declared.refusal.Refusal.{Refusal}
 use Rattle.iom_ledger.specs.declared.refusal.Refusal.TheVariants.{NumbersUsedUp}
+use Rattle.iom_ledger.specs.declared.entry.HistoryEntry.TheVariants.{Released}
+use Rattle.iom_ledger.specs.History.{History, confirms}
+use Rattle.iom_ledger.specs.Shown.{Agrees}
 use Rattle.iom_machine.specs.declared.outcome.Outcome.{Outcome}
 use Rattle.iom_page_table.specs.Sv39.{unmapped}
 use Rattle.iom_registers.specs.Queues.{is_processing_commands}
-use Rattle.iom_world.specs.Commands.{completed_in}
+use Rattle.iom_world.specs.Devices.{shown_attachment}
 use Rattle.iom_world.specs.Does.{ReleasesPage}
 use Rattle.iom_world.specs.Parts.{Parts}
-use Rattle.iom_world.specs.Sound.{AreSound}
-use Rattle.iom_world.proofs.CoverLemmas.{devices_released}
-use Rattle.iom_world.proofs.DriverKeeps.{none_at}
+use Rattle.iom_world.specs.Queued.{completed_in}
+use Rattle.iom_world.specs.Read.{values_of, accesses_of}
+use Rattle.iom_world.specs.Sound.{AreSound, known_ids, row_ids}
+use Rattle.iom_world.proofs.DriverKeeps.{attached_is}
 use Rattle.iom_world.proofs.DriverLemmas.{IsSoundDriver}
-use Rattle.iom_world.proofs.RingLemmas.{follow_as, same_completed, follow_le, follow-release}
+use Rattle.iom_world.proofs.PollKeeps.{same_known}
+use Rattle.iom_world.proofs.SceneCalls.{QueuesTicket, release_scene}
+use Rattle.iom_world.proofs.SoundLemmas.{completed_given, same_completed, LeavesWord, LeavesIommu, sound_from, fixed_frames, none_at}
 
 -- a frame of the system's isn't a device's
-not_of_device : (marks : List (Option Owner)) (n id : ℕ) → slice_get marks n ≡ Some (Some System) → slice_get marks n ≢ Some (Some (OneDevice id))
+pub not_of_device : (marks : List (Option Owner)) (n id : ℕ) → slice_get marks n ≡ Some (Some System) → slice_get marks n ≢ Some (Some (OneDevice id))
 not_of_device marks n id system own = let both : ◌≡◌ {A = Option (Option Owner)} (Some (Some System)) (Some (Some (OneDevice id))) = sym system ∙ own in cc
 
--- processing goes on
-still_processing : (mid memory : List (List ℕ)) (old new : Iommu) (one other : Command) → (two : AppendsTwo mmio mid old one other memory new)
-    → is_processing_commands (registers_of new) ≡ is_processing_commands (registers_of old)
-still_processing mid memory old new one other two =
-    ap (λ i. is_processing_commands (registers_of i)) two.second.rung ∙ ap (λ i. is_processing_commands (registers_of i)) two.first.rung
+-- of the IOMMU nothing changes but the index that software writes
+pub record IsRung (old new : Iommu) : Type 0 where
+  pub processing : is_processing_commands (registers_of new) ≡ is_processing_commands (registers_of old)
+  pub contexts : (id : ℕ) → contexts_of new id ≡ contexts_of old id
+  pub flights : flights_of new ≡ flights_of old
+  pub frames : frames_of new ≡ frames_of old
 
-released : (old new : Parts) (events id page ticket : ℕ) → AreSound old events → IsSoundDriver old.driver → IsReady new.driver new.memory (registers_of new.iommu)
-    → nat_le 4294967295 old.driver.given ≡ false → (queues : QueuesRelease mmio old.driver old.memory old.iommu id page ticket new.driver new.memory new.iommu) → new.devices ≡ old.devices → AreSound new events
-released old new events id page ticket sound own ready numbers queues devices =
-    let size : length old.memory ≡ length old.driver.marks = sound.ready.stand.size in
-    let marks : new.driver.marks ≡ old.driver.marks = ap (λ d. d.marks) queues.driver in
-    let long : length new.memory ≡ length old.memory = ready.stand.size ∙ ap (λ ms. length ms) marks ∙ sym size in
-    let word : slice_get new.memory (completion_frame (length old.memory)) ≡ slice_get old.memory (completion_frame (length old.memory)) =
-    queues.others (completion_frame (length old.memory)) (not_of_device old.driver.marks (completion_frame (length old.memory)) id (rw size own.fixed.completion))
-    (let many = own.sizes.size.0 in omega (arith, size, many)) in
-    let done : completed_in new.memory ≡ completed_in old.memory = same_completed old.memory new.memory long word in
-    let low : completed_in old.memory ≤ old.driver.given =
-    follow_le (completion_address (length old.memory)) (completed_in old.memory) (commands_in old.memory (registers_of old.iommu)) old.driver.given sound.commands in
-    let below : old.driver.given < 4294967295 = leb-false 4294967295 old.driver.given numbers in
-    let later : completed_in old.memory < ticket = let next = queues.next in omega (arith, low, next) in
-    let commands : commands_in new.memory (registers_of new.iommu)
-    ≡ commands_in old.memory (registers_of old.iommu) ++ stands.Command (invalidation queues.stage.number page) ∷ stands.Command (fence (completion_address (length old.memory)) (old.driver.given + 1)) ∷ [] =
-    queues.list ∙ ap (λ t. commands_in old.memory (registers_of old.iommu) ++ stands.Command (invalidation queues.stage.number page) ∷ stands.Command (fence (completion_address (length old.memory)) t) ∷ []) queues.next in
-    let given : new.driver.given ≡ old.driver.given + 1 = ap (λ d. d.given) queues.driver ∙ queues.next in
-    record {
-      ready = ready;
-      started = ap (λ d. d.started) queues.driver ∙ sound.started;
-      processing = still_processing (unmapped old.memory queues.stage.root page) new.memory old.iommu new.iommu (invalidation queues.stage.number page) (fence (completion_address (length old.memory)) ticket) queues.queued ∙ sound.processing;
-      known = rw devices (ap (λ d. map (λ (device : driver.Device). device.id) d.devices) queues.driver ∙ sound.known);
-      own_ids = rw devices sound.own_ids;
-      commands = follow_as _ _ _ _ _ _ _ _ (ap completion_address long) done commands given
-          (follow-release (completion_address (length old.memory)) (completed_in old.memory) (commands_in old.memory (registers_of old.iommu)) old.driver.given queues.stage.number page sound.commands);
-      confirmed = rw (done, ap (λ d. d.confirmed) queues.driver) sound.confirmed;
-      small = omega (arith, given, below);
-      each = rw (devices, done) (devices_released old.driver.ledger new.driver.ledger (completed_in old.memory) events id page ticket old.devices queues.shown later sound.each);
-    }
+rung_once : (memory memory' : List (List ℕ)) (old new : Iommu) (command : Command) → Appends mmio memory old command memory' new → IsRung old new
+rung_once memory memory' old new command appends = record {
+  processing = ap (λ i. is_processing_commands (registers_of i)) appends.rung;
+  contexts = λ id. ap (λ i. contexts_of i id) appends.rung;
+  flights = ap flights_of appends.rung;
+  frames = ap frames_of appends.rung;
+}
+
+rung_both : (old mid new : Iommu) → IsRung old mid → IsRung mid new → IsRung old new
+rung_both old mid new one other = record {
+  processing = other.processing ∙ one.processing;
+  contexts = λ id. other.contexts id ∙ one.contexts id;
+  flights = other.flights ∙ one.flights;
+  frames = other.frames ∙ one.frames;
+}
+
+pub rung_twice : (memory memory' : List (List ℕ)) (old new : Iommu) (one other : Command) → AppendsTwo mmio memory old one other memory' new → IsRung old new
+rung_twice memory memory' old new one other two =
+    rung_both old two.between_io new (rung_once memory two.between_memory old two.between_io one two.first) (rung_once two.between_memory memory' two.between_io new other two.second)
+
+pub rung_again : (memory mid memory' : List (List ℕ)) (old between new : Iommu) (one two three : Command) → Appends mmio memory old one mid between → AppendsTwo mmio mid between two three memory' new → IsRung old new
+rung_again memory mid memory' old between new one two three first rest = rung_both old between new (rung_once memory mid old between one first) (rung_twice mid memory' between new two three rest)
+
+pub rung_leaves : (old new : Parts) → IsRung old.iommu new.iommu → LeavesIommu old new
+rung_leaves old new rung = record { processing = rung.processing; frames = rung.frames; so_far = ap (λ f. f.so_far) rung.flights }
+
+-- a ticket that is given is one of 32 bits
+pub next_small : (given : ℕ) → nat_le 4294967295 given ≡ false → given + 1 < 2 ^ 32
+next_small given numbers = let below : given < 4294967295 = leb-false 4294967295 given numbers in omega (arith, below)
+
+module _ (old new : Parts) (events id page ticket : ℕ) (sound : AreSound old events) (own : IsSoundDriver old.driver) (ready : IsReady new.driver new.memory (registers_of new.iommu))
+    (numbers : nat_le 4294967295 old.driver.given ≡ false) (queues : QueuesRelease mmio old.driver old.memory old.iommu id page ticket new.driver new.memory new.iommu)
+    (devices : new.devices ≡ old.devices) where
+  rung : IsRung old.iommu new.iommu
+  rung = rung_twice (unmapped old.memory queues.stage.root page) new.memory old.iommu new.iommu (invalidation queues.stage.number page) (fence (completion_address (length old.memory)) ticket) queues.queued
+
+  leaves : LeavesWord old new
+  leaves = record {
+    size = ready.stand.size ∙ ap (λ (d : DriverState). length d.marks) queues.driver ∙ sym sound.ready.stand.size;
+    word =
+        let fixed = fixed_frames old events sound own in
+        queues.others (completion_frame (length old.memory)) (not_of_device old.driver.marks (completion_frame (length old.memory)) id fixed.completion)
+        (let many = own.sizes.size.0 in let size = sound.ready.stand.size in omega (arith, size, many));
+  }
+
+  given_now : new.driver.given ≡ old.driver.given + 1
+  given_now = ap (λ (d : DriverState). d.given) queues.driver ∙ queues.next
+
+  queues_ticket : QueuesTicket (values_of old) (values_of new) (stands.Command (invalidation queues.stage.number page) ∷ []) (DropTranslations id (OnePage page) ∷ [])
+  queues_ticket =
+      let low = completed_given old events sound in
+      let before = sound.confirmed in
+      record {
+        ordered = omega (arith, low, before);
+        appended = (tt, tt);
+        waiting = queues.list
+            ∙ ap (λ t. commands_in old.memory (registers_of old.iommu) ++ stands.Command (invalidation queues.stage.number page) ∷ stands.Command (fence (completion_address (length old.memory)) t) ∷ []) queues.next;
+        address = ap completion_address leaves.size;
+        completed = same_completed old.memory new.memory leaves.size leaves.word;
+        given = given_now;
+        confirmed = ap (λ (d : DriverState). d.confirmed) queues.driver;
+        so_far = ap (λ f. f.so_far) rung.flights;
+        in_flight = ap (λ f. accesses_of f.rows) rung.flights;
+        unplugged = λ d none. sym (ap (λ (s : DriverState). is_plugged s.devices d) queues.driver) ∙ none;
+        contexts = λ d is. sym (ap is_some (rung.contexts d)) ∙ is;
+      }
+
+  pub released_sound : AreSound new events
+  released_sound =
+      sound_from old new events sound leaves (rung_leaves old new rung) (ap (λ (d : DriverState). d.started) queues.driver) ready
+      (same_known old new devices (ap (λ (d : DriverState). known_ids d.devices) queues.driver) (ap (λ f. row_ids f.rows) rung.flights) sound.known)
+      (subst (λ n. n ≤ completed_in old.memory) (sym (ap (λ (d : DriverState). d.confirmed) queues.driver)) sound.confirmed)
+      (subst (λ n. n < 2 ^ 32) (sym given_now) (next_small old.driver.given numbers))
+      (λ other context cached.
+        ap (λ (s : DriverState). option_map context_for (owned_stage_of s.devices other)) queues.driver ∙ sound.contexts other context (sym (rung.contexts other) ∙ cached))
+      (∥∥₁_map sound.copies
+      (release_scene (values_of old) (values_of new) id page (stands.Command (invalidation queues.stage.number page) ∷ []) queues_ticket
+      (ap shown_attachment (attached_is (attachment_of old.driver.devices id) queues.stage queues.attached))
+      (λ d. ap (λ (s : DriverState). shown_attachment (attachment_of s.devices d)) queues.driver)
+      (subst (λ t. (h : History) → Agrees old.driver.ledger h → confirms h t ≡ false → Agrees new.driver.ledger (Released id page t ∷ h)) queues.next queues.agrees)))
 
 pub keeps_released : (old new : Parts) (events id page : ℕ) (told : Outcome) → AreSound old events → IsSoundDriver old.driver → IsReady new.driver new.memory (registers_of new.iommu)
     → ReleasesPage old id page told new → AreSound new events
@@ -76,6 +138,6 @@ keeps_released old new events id page told sound own ready releases = by release
   where
     by : (answer : Result answers.Ticket Refusal) → AnswersRelease mmio old.driver old.memory old.iommu id page answer new.driver new.memory new.iommu → AreSound new events
     by (Ok ticket) (admitted, queues) =
-        released old new events id page ticket.0 sound own ready
-        (none_at (release_reasons old.driver (registers_of old.iommu) id page) 6 (nat_le 4294967295 old.driver.given) NumbersUsedUp refl admitted) queues releases.devices
+        released_sound old new events id page ticket.0 sound own ready
+        (none_at (why_not_release old.driver (registers_of old.iommu) id page) 6 (nat_le 4294967295 old.driver.given) NumbersUsedUp refl admitted) queues releases.devices
     by (Err why) (refused, driver_stays, memory_stays, iommu_stays) = rw (driver_stays, memory_stays, iommu_stays, releases.devices) sound

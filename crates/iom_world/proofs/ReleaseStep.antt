@@ -7,7 +7,11 @@ use Rattle.iom_driver.specs.Calls.{AnswersRelease, QueuesRelease}
 use Rattle.iom_driver.specs.Layout.{command_frame}
 use Rattle.iom_driver.specs.State.{DriverState}
 use Rattle.iom_iommu.specs.declared.iommu.Iommu.{Iommu}
-use Rattle.iom_iommu.specs.Parts.{mmio}
+use Rattle.iom_iommu.specs.Parts.{mmio, flights_of}
+use Rattle.iom_inflight.specs.Flights.{Flights}
+use Rattle.iom_command_queue.specs.declared.command.Command.{Command}
+use Rattle.iom_driver.specs.Appends.{Appends, AppendsTwo, AppendsThree}
+use Rattle.iom_page_table.specs.Sv39.{unmapped}
 use Rattle.iom_ledger.specs.declared.entry.HistoryEntry.TheVariants as entry
 use Rattle.iom_ledger.specs.declared.refusal.Refusal.{Refusal}
 use Rattle.iom_machine.specs.declared.outcome.Outcome.{Outcome}
@@ -28,8 +32,20 @@ size_released : (d d' : DriverState) (memory memory' : List (List ℕ)) (io io' 
 size_released d d' memory memory' io io' id page ticket queues =
     queues.queued.second.written.frames ∙ queues.queued.first.written.frames ∙ length-unmapped memory queues.stage.root page
 
+-- the accesses in flight stay, through writes of registers
+flights_rung : (memory memory' : List (List ℕ)) (io io' : Iommu) (command : Command) → Appends mmio memory io command memory' io' → flights_of io' ≡ flights_of io
+flights_rung memory memory' io io' command appends = ap (λ (i : Iommu). flights_of i) appends.rung
+
+pub flights_two : (memory memory' : List (List ℕ)) (io io' : Iommu) (one other : Command) → AppendsTwo mmio memory io one other memory' io' → flights_of io' ≡ flights_of io
+flights_two memory memory' io io' one other two =
+    flights_rung two.between_memory memory' two.between_io io' other two.second ∙ flights_rung memory two.between_memory io two.between_io one two.first
+
+pub flights_three : (memory memory' : List (List ℕ)) (io io' : Iommu) (one two three : Command) → AppendsThree mmio memory io one two three memory' io' → flights_of io' ≡ flights_of io
+flights_three memory memory' io io' one two three all =
+    flights_two all.between_memory memory' all.between_io io' two three all.rest ∙ flights_rung memory all.between_memory io all.between_io one all.first
+
 -- a frame that is nobody's isn't the ring's
-not_ring : (marks : List (Option Owner)) (frame frames : ℕ) → slice_get marks (command_frame frames) ≡ Some (Some System) → slice_get marks frame ≡ Some None → frame ≢ command_frame frames
+pub not_ring : (marks : List (Option Owner)) (frame frames : ℕ) → slice_get marks (command_frame frames) ≡ Some (Some System) → slice_get marks frame ≡ Some None → frame ≢ command_frame frames
 not_ring marks frame frames ring free same = not_owned marks (command_frame frames) System (subst (λ f. slice_get marks f ≡ Some None) same free) ring
 
 -- the machine's state after it
@@ -41,6 +57,7 @@ shows_released : (old new : Parts) (id page ticket : ℕ) → length old.memory 
     → (state : State) → PartsShow old state → PartsShow new (released state id page ticket)
 shows_released old new id page ticket many sound queues devices state shows =
     let d = old.driver in
+    let flights = flights_two (unmapped old.memory queues.stage.root page) new.memory old.iommu new.iommu _ _ queues.queued in
     let next : ticket ≡ d.given + 1 = queues.next in
     let ordered = sound.tickets.ordered in
     let ring = subst (λ n. slice_get d.marks (command_frame n) ≡ Some (Some System)) (sym many) sound.fixed.command in
@@ -50,7 +67,7 @@ shows_released old new id page ticket many sound queues devices state shows =
     record {
       ledger = queues.agrees state.history shows.ledger (shows.none_later ticket (omega (arith, next, ordered)));
       frames = subst (λ ms. ShowsFrames new.memory ms state.frames) (sym (ap (λ (x : DriverState). x.marks) queues.driver)) frames;
-      devices = rw (devices, ap (λ (x : DriverState). x.devices) queues.driver) shows.devices;
+      devices = rw (devices, ap (λ (f : Flights). f.rows) flights, ap (λ (x : DriverState). x.devices) queues.driver) shows.devices;
       given = sym (ap (λ (x : DriverState). x.given) queues.driver);
       confirmed = shows.confirmed ∙ sym (ap (λ (x : DriverState). x.confirmed) queues.driver);
       none_later = rw (ap (λ (x : DriverState). x.confirmed) queues.driver) shows.none_later;
@@ -72,5 +89,5 @@ release_step old new events id page told sound sound_driver does state shows = b
     by (Err why) is call = (
       state,
       subst (λ t. machine.Releases state id page t state) (sym is) (release_refused_by old events state id page why sound shows call.0, refl),
-      shows_same old new state call.2 does.devices call.1 shows,
+      shows_same old new state call.2 (ap (λ (i : Iommu). flights_of i) call.3) does.devices call.1 shows,
     )

@@ -1,11 +1,20 @@
 -- A request is a lawful step of the ledger machine.
-use Rattle.std.proofs.Common.{◌≡◌, ◌+◌, ◌/◌, ◌∙◌, inl, inr, ℕ, List, Option, Some, None, slice_set, refl, sym, ap, subst}
+use Rattle.std.proofs.Common.{◌≡◌, ◌+◌, ◌/◌, ◌^◌, ◌<◌, ◌∙◌, ◌∷◌, ◌++◌, inl, inr, ℕ, List, [], length, map, Some, Ok, Err, refl, sym, ap, subst, arith}
+use Rattle.std.proofs.lemmas.List.{length-map}
+use Rattle.iom_base.specs.declared.access.AcceptedAccess.{AcceptedAccess}
 use Rattle.iom_base.specs.declared.access.Access.{Access}
 use Rattle.iom_base.specs.declared.cause.Cause.{Cause}
-use Rattle.iom_driver.specs.declared.device.Device as driver
-use Rattle.iom_driver.specs.declared.device.FirstStage.{FirstStage}
-use Rattle.iom_driver.specs.Devices.{stage_of}
+use Rattle.iom_driver.specs.declared.device.Attachment.{Attachment}
+use Rattle.iom_driver.specs.declared.device.Attachment.TheVariants as driver
+use Rattle.iom_driver.specs.Devices.{attachment_of}
 use Rattle.iom_driver.specs.State.{DriverState}
+use Rattle.iom_inflight.specs.Calls.{with_access}
+use Rattle.iom_inflight.specs.Flights.{NumberedAccess, FlightRow, row_of, with_row}
+use Rattle.iom_inflight.proofs.Rows.{row_is_own}
+use Rattle.iom_iommu.specs.declared.reply.Reply.{Reply}
+use Rattle.iom_iommu.specs.declared.reply.Reply.TheVariants.{Accepted, Busy, BadSpan, Fault}
+use Rattle.iom_iommu.specs.Parts.{flights_of}
+use Rattle.iom_iommu.specs.Requests.{AnswersRequest, AcceptsRequest, RefusesRequest}
 use Rattle.iom_ledger.specs.declared.ledger.Ledger.{Ledger}
 use Rattle.iom_ledger.specs.declared.refusal.Refusal.TheVariants.{NoSuchDevice}
 use Rattle.iom_ledger.specs.Shown.{Agrees}
@@ -13,30 +22,34 @@ use Rattle.iom_machine.specs.declared.outcome.Outcome.{Outcome}
 use Rattle.iom_machine.specs.declared.outcome.Outcome.TheVariants as outcome
 use Rattle.iom_machine.specs.declared.state.Device as machine
 use Rattle.iom_machine.specs.declared.state.State.{State}
+use Rattle.iom_machine.specs.Devices.{replaced_device}
 use Rattle.iom_machine.specs.Machine.{Acts, Requests}
 use Rattle.iom_machine.specs.Requests as requests
-use Rattle.iom_machine.specs.Requests.{MayAccept, MayFault, MayAnswer, state_after, with_accepted}
-use Rattle.iom_world.specs.declared.device.Device.{Device}
-use Rattle.iom_world.specs.declared.requests.Reply.{Reply}
-use Rattle.iom_world.specs.declared.requests.Reply.TheVariants.{Accepted, Busy, BadSpan, Fault}
-use Rattle.iom_world.specs.Devices.{shown_device, shown_devices, shown_attachment}
-use Rattle.iom_world.specs.Held.{IsHeldFor, NoneIsHeldFor}
+use Rattle.iom_machine.specs.Requests.{MayAccept, MayFault, MayAnswer, IsBusy, state_after, with_accepted}
+use Rattle.iom_world.specs.Devices.{accepted_of, in_flight_of, shown_device, shown_devices, shown_attachment}
 use Rattle.iom_world.specs.Parts.{Parts}
-use Rattle.iom_world.specs.Places.{IsAbsent, HasPlace}
-use Rattle.iom_world.specs.Requests.{IsTranslated, IsFaulty, IsReply, IsTold, AsksAccess, detached_cause, with_flight}
+use Rattle.iom_world.specs.Places.{IsAbsent}
+use Rattle.iom_world.specs.Requests.{AsksAccess, reply_told_of}
 use Rattle.iom_world.specs.Shows.{PartsShow}
 use Rattle.iom_world.specs.Sound.{AreSound}
-use Rattle.iom_world.proofs.PlaceLemmas.{absent_shown, place_shown}
-use Rattle.iom_world.proofs.ReplaceLemmas.{parts_are, shown_changed}
+use Rattle.iom_world.proofs.DriverLemmas.{IsSoundDriver}
+use Rattle.iom_world.proofs.RowPlaces.{IsFound, absent_shown, present_found, row_shown, accepted_at, in_flight_at, with_own}
+use Rattle.iom_world.proofs.RowLemmas.{map_push}
+use Rattle.iom_world.proofs.ServedLemmas.{ServiceLaws, IsHeldFor, NoneIsHeldFor, Reaches, FaultsAs, cause_at, served}
 
--- a device acts where it stands; one that isn't there is refused
-pub acts_at : (IfPlugged : machine.Device → Type 0) (state : State) (known : List driver.Device) (devices : List Device) (id place : ℕ) (told : Outcome) (next : State)
-    → state.devices ≡ shown_devices known devices → (is : HasPlace devices id place) → IfPlugged (shown_device known is.0) → Acts IfPlugged state id told next
-acts_at IfPlugged state known devices id place told next shown is acts = rw (shown, place_shown known devices id place is) acts
+-- a device acts where it is found; one that isn't there is refused
+pub acts_at : (IfPlugged : machine.Device → Type 0) (old : Parts) (state : State) (id : ℕ) (told : Outcome) (next : State)
+    → state.devices ≡ shown_devices old.driver.devices (flights_of old.iommu).rows old.devices → (is : IsFound old.driver.devices (flights_of old.iommu).rows old.devices id)
+    → IfPlugged (shown_device old.driver.devices (flights_of old.iommu).rows is.device) → Acts IfPlugged state id told next
+acts_at IfPlugged old state id told next shows is acts = rw (shows, is.shown) acts
 
-pub acts_absent : (IfPlugged : machine.Device → Type 0) (state : State) (known : List driver.Device) (devices : List Device) (id : ℕ) (told : Outcome)
-    → state.devices ≡ shown_devices known devices → IsAbsent devices id → told ≡ outcome.Refused NoSuchDevice → Acts IfPlugged state id told state
-acts_absent IfPlugged state known devices id told shown absent is = rw (shown, absent_shown known devices id absent) (is, refl)
+pub acts_absent : (IfPlugged : machine.Device → Type 0) (old : Parts) (state : State) (id : ℕ) (told : Outcome)
+    → state.devices ≡ shown_devices old.driver.devices (flights_of old.iommu).rows old.devices → IsAbsent old.devices id → told ≡ outcome.Refused NoSuchDevice → Acts IfPlugged state id told state
+acts_absent IfPlugged old state id told shows absent is = rw (shows, absent_shown old.driver.devices (flights_of old.iommu).rows old.devices id absent) (is, refl)
+
+-- the state stays, and the parts
+pub shows_same : (old new : Parts) (state : State) → new ≡ old → PartsShow old state → PartsShow new state
+shows_same old new state same shows = subst (λ parts. PartsShow parts state) (sym same) shows
 
 -- what the ledger shows as held is held by the history
 held_shown : (state : State) (ledger : Ledger) (id frame : ℕ) (access : Access) → Agrees ledger state.history
@@ -48,82 +61,146 @@ none_held_shown : (state : State) (ledger : Ledger) (id : ℕ) (access : Access)
 none_held_shown state ledger id access agrees none frame held =
     none frame (held.0, sym (agrees.pages id (access.address / 4096)).holds ∙ held.1, held.2)
 
--- an access that is translated may be accepted, and one that isn't may fault so
-may_accept : (stage : Option FirstStage) (state : State) (d : DriverState) (id frame : ℕ) (access : Access) → Agrees d.ledger state.history
-    → IsTranslated stage d id (access.address / 4096) access.kind frame → MayAccept (shown_attachment stage) state id access frame
-may_accept None state d id frame access agrees translated = absurd translated
-may_accept (Some stage) state d id frame access agrees translated = inl (held_shown state d.ledger id frame access agrees translated)
+-- what the machine lets an attached device be accepted, and each fault
+may_accept : (a : Attachment) (state : State) (d : DriverState) (id frame : ℕ) (access : Access) → Agrees d.ledger state.history → (reaches : Reaches d id access.address access.kind frame)
+    → a ≡ driver.Attached reaches.stage → MayAccept (shown_attachment a) state id access frame
+may_accept a state d id frame access agrees reaches is =
+    subst (λ b. MayAccept (shown_attachment b) state id access frame) (sym is) (inl (held_shown state d.ledger id frame access agrees reaches.held))
 
-may_fault : (stage : Option FirstStage) (state : State) (d : DriverState) (id : ℕ) (access : Access) (cause : Cause) → Agrees d.ledger state.history → state.levels ≡ d.levels
-    → IsFaulty stage d id (access.address / 4096) access.kind cause → MayFault (shown_attachment stage) state id access cause
-may_fault None state d id access cause agrees same faulty = faulty ∙ ap (λ l. detached_cause l id) (sym same)
-may_fault (Some stage) state d id access cause agrees same faulty = (none_held_shown state d.ledger id access agrees faulty.1, faulty.0)
+may_fault : (a : Attachment) (parts : Parts) (state : State) (id : ℕ) (access : Access) (cause : Cause) → IsSoundDriver parts.driver → PartsShow parts state
+    → attachment_of parts.driver.devices id ≡ a → FaultsAs a parts.driver id access.address access.kind cause → MayFault (shown_attachment a) state id access cause
+may_fault driver.Detached parts state id access cause own shows is faults = faults ∙ ap (λ l. cause_at l id) (sym shows.levels)
+may_fault (driver.Attached stage) parts state id access cause own shows is faults = (none_held_shown state parts.driver.ledger id access shows.ledger faults.1, faults.0)
+may_fault (driver.Leaving ticket stage) parts state id access cause own shows is (inl page) = inr (shows.none_later ticket (own.leaving id ticket stage is).0, page)
+may_fault (driver.Leaving ticket stage) parts state id access cause own shows is (inr none) = inl (none ∙ ap (λ l. cause_at l id) (sym shows.levels))
 
 -- what a request leads to: the machine may answer so, and shows the parts then
 abbrev Steps : State → ℕ → Access → Outcome → Parts → Type 0
 Steps state id access told new = (frame : ℕ) × (next : State) × Requests frame state id access told next × PartsShow new next
 
--- the state stays, and the parts
-pub shows_same : (old new : Parts) (state : State) → new ≡ old → PartsShow old state → PartsShow new state
-shows_same old new state same shows = subst (λ parts. PartsShow parts state) (sym same) shows
+-- nothing changes that the machine shows, though other contexts are cached
+pub shows_flights : (old new : Parts) (state : State) → new.memory ≡ old.memory → new.driver ≡ old.driver → new.devices ≡ old.devices → flights_of new.iommu ≡ flights_of old.iommu
+    → PartsShow old state → PartsShow new state
+shows_flights old new state memory driver devices flights shows = record {
+  ledger = rw driver shows.ledger;
+  frames = rw (memory, driver) shows.frames;
+  devices = rw (driver, devices, flights) shows.devices;
+  given = rw driver shows.given;
+  confirmed = rw driver shows.confirmed;
+  none_later = rw driver shows.none_later;
+  levels = rw driver shows.levels;
+}
 
-module _ (old : Parts) (id place : ℕ) (access : Access) (state : State) (shows : PartsShow old state) (is : HasPlace old.devices id place) where
+module _ (laws : ServiceLaws) (old new : Parts) (events id : ℕ) (access : Access) (sound : AreSound old events) (own : IsSoundDriver old.driver) (fits : access.address < 2 ^ 64)
+    (memory : new.memory ≡ old.memory) (driver : new.driver ≡ old.driver) (devices : new.devices ≡ old.devices) (state : State) (shows : PartsShow old state)
+    (is : IsFound old.driver.devices (flights_of old.iommu).rows old.devices id) where
+  abbrev rows : List FlightRow
+  rows = (flights_of old.iommu).rows
+
+  abbrev device : machine.Device
+  device = shown_device old.driver.devices (flights_of old.iommu).rows is.device
+
   abbrev MayTell : ℕ → State → Outcome → machine.Device → Type 0
   MayTell frame next told device = MayAnswer state device access frame told × (next ≡ state_after state device access frame told)
 
-  step_replied : (reply : Reply) (told : Outcome) (new : Parts) → IsReply old.driver is.0 access.address access.len access.kind reply
-      → IsTold old.devices place is.0 access reply told new.devices → new.memory ≡ old.memory → new.iommu ≡ old.iommu → new.driver ≡ old.driver → Steps state id access told new
-  step_replied (Accepted frame) told new right tells memory iommu driver =
-      let stage = stage_of old.driver.devices is.0.id in
-      let next = with_accepted state (shown_device old.driver.devices is.0) access frame in
-      let changed : Parts = record old { devices = slice_set old.devices place (with_flight is.0 access frame) } in (
-        frame,
-        next,
-        subst (λ t. Requests frame state id access t next) (sym tells.0)
-            (acts_at (MayTell frame next (outcome.Accepted (is.0.accepted + 1))) state old.driver.devices old.devices id place (outcome.Accepted (is.0.accepted + 1)) next shows.devices is
-            ((right.0, may_accept stage state old.driver is.0.id frame access shows.ledger right.1, refl), refl)),
-        shows_same changed new next (parts_are new old.memory old.iommu old.driver (slice_set old.devices place (with_flight is.0 access frame)) memory iommu driver tells.1)
-            (record {
-              ledger = shows.ledger;
-              frames = shows.frames;
-              devices = shown_changed old.driver.devices state old.devices id place (with_flight is.0 access frame) shows.devices is is.2;
-              given = shows.given;
-              confirmed = shows.confirmed;
-              none_later = shows.none_later;
-              levels = shows.levels;
-            }),
+  -- how many of the device are in flight
+  row_at : (row : FlightRow) → row_of (flights_of old.iommu).rows id ≡ Some row → row_of (flights_of old.iommu).rows is.device.id ≡ Some row
+  row_at row at = ap (row_of rows) is.own ∙ at
+
+  long : (row : FlightRow) → row_of (flights_of old.iommu).rows id ≡ Some row → length (in_flight_of (flights_of old.iommu).rows is.device.id) ≡ length row.waiting
+  long row at = ap (λ (l : List AcceptedAccess). length l) (in_flight_at rows is.device.id row (row_at row at)) ∙ length-map row.waiting (λ (flight : NumberedAccess). flight.accepted)
+
+  step_same : (told : Outcome) → MayAnswer state (shown_device old.driver.devices (flights_of old.iommu).rows is.device) access 0 told
+      → state ≡ state_after state (shown_device old.driver.devices (flights_of old.iommu).rows is.device) access 0 told
+      → flights_of new.iommu ≡ flights_of old.iommu → Steps state id access told new
+  step_same told may stays flights = (
+    0,
+    state,
+    acts_at (MayTell 0 state told) old state id told state shows.devices is (may, stays),
+    shows_flights old new state memory driver devices flights shows,
+  )
+
+  step_fault : (cause : Cause) → RefusesRequest old.memory old.iommu id access cause new.iommu → Steps state id access (outcome.Fault cause) new
+  step_fault cause call =
+      let room = call.room in
+      let faults = served laws old events sound own id access.address access.kind (Err cause) fits call.served in
+      let count = room.room in
+      let many = long room.row room.stands in
+      step_same (outcome.Fault cause)
+      (
+        (call.within, (λ busy. absurd (omega (arith, count, many, busy)))),
+        subst (λ n. MayFault (shown_attachment (attachment_of old.driver.devices n)) state n access cause) (sym is.own)
+        (may_fault (attachment_of old.driver.devices id) old state id access cause own shows refl faults),
       )
-  step_replied Busy told new right tells memory iommu driver = (
-    0,
-    state,
-    subst (λ t. Requests 0 state id access t state) (sym tells.0) (acts_at (MayTell 0 state outcome.Busy) state old.driver.devices old.devices id place outcome.Busy state shows.devices is (right, refl)),
-    shows_same old new state (parts_are new old.memory old.iommu old.driver old.devices memory iommu driver tells.1) shows,
-  )
-  step_replied BadSpan told new right tells memory iommu driver = (
-    0,
-    state,
-    subst (λ t. Requests 0 state id access t state) (sym tells.0) (acts_at (MayTell 0 state outcome.BadSpan) state old.driver.devices old.devices id place outcome.BadSpan state shows.devices is (right, refl)),
-    shows_same old new state (parts_are new old.memory old.iommu old.driver old.devices memory iommu driver tells.1) shows,
-  )
-  step_replied (Fault cause) told new right tells memory iommu driver =
-      let stage = stage_of old.driver.devices is.0.id in (
-        0,
-        state,
-        subst (λ t. Requests 0 state id access t state) (sym tells.0)
-            (acts_at (MayTell 0 state (outcome.Fault cause)) state old.driver.devices old.devices id place (outcome.Fault cause) state shows.devices is
-            ((right.0, may_fault stage state old.driver is.0.id access cause shows.ledger shows.levels right.1), refl)),
-        shows_same old new state (parts_are new old.memory old.iommu old.driver old.devices memory iommu driver tells.1) shows,
+      refl call.flights
+
+  step_accept : (number : ℕ) → AcceptsRequest old.memory old.iommu id access number new.iommu → Steps state id access (outcome.Accepted number) new
+  step_accept number call =
+      let it = call.accepted in
+      let flight : AcceptedAccess = record { access = access; frame = call.frame } in
+      let so_far = (flights_of old.iommu).so_far in
+      let after = with_access it.row flight (so_far + 1) in
+      let reaches : Reaches old.driver id access.address access.kind call.frame = served laws old events sound own id access.address access.kind (Ok call.frame) fits call.served in
+      let accepted : accepted_of rows is.device.id ≡ it.row.accepted = accepted_at rows is.device.id it.row (row_at it.row it.stands) in
+      let waiting : in_flight_of rows is.device.id ≡ map (λ (f : NumberedAccess). f.accepted) it.row.waiting = in_flight_at rows is.device.id it.row (row_at it.row it.stands) in
+      let next = with_accepted state device access call.frame in
+      let counted : number ≡ accepted_of rows is.device.id + 1 = it.counted ∙ ap (λ n. n + 1) (sym accepted) in
+      let count = it.room in
+      let many = long it.row it.stands in
+      let now : with_own device after ≡ record device { accepted = device.accepted + 1; in_flight = device.in_flight ++ flight ∷ [] } =
+      ap (λ (n : ℕ). record device { accepted = n + 1; in_flight = map (λ (f : NumberedAccess). f.accepted) after.waiting }) (sym accepted)
+      ∙ ap (λ (l : List AcceptedAccess). record device { accepted = device.accepted + 1; in_flight = l })
+      (map_push (λ (f : NumberedAccess). f.accepted) it.row.waiting (record { accepted = flight; number = so_far + 1 }) ∙ ap (λ (l : List AcceptedAccess). l ++ flight ∷ []) (sym waiting)) in
+      let mine : it.row.device ≡ id = row_is_own rows id it.row it.stands in
+      let changed : next.devices ≡ shown_devices old.driver.devices (with_row rows after) old.devices =
+      ap (λ (ds : List machine.Device). replaced_device ds is.device.id (record device { accepted = device.accepted + 1; in_flight = device.in_flight ++ flight ∷ [] })) shows.devices
+      ∙ ap (λ (n : ℕ). replaced_device (shown_devices old.driver.devices rows old.devices) n (record device { accepted = device.accepted + 1; in_flight = device.in_flight ++ flight ∷ [] })) is.own
+      ∙ ap (λ (d : machine.Device). replaced_device (shown_devices old.driver.devices rows old.devices) id d) (sym now)
+      ∙ row_shown old.driver.devices rows old.devices id is.device it.row after sound.known.own_ids is.found is.own it.stands mine in
+      (
+        call.frame,
+        next,
+        acts_at (MayTell call.frame next (outcome.Accepted number)) old state id (outcome.Accepted number) next shows.devices is
+        (
+          (
+            (call.within, (λ busy. absurd (omega (arith, count, many, busy)))),
+            subst (λ n. MayAccept (shown_attachment (attachment_of old.driver.devices n)) state n access call.frame) (sym is.own)
+            (may_accept (attachment_of old.driver.devices id) state old.driver id call.frame access shows.ledger reaches reaches.attached),
+            counted,
+          ),
+          refl,
+        ),
+        record {
+          ledger = rw driver shows.ledger;
+          frames = rw (memory, driver) shows.frames;
+          devices = rw (driver, devices, it.after) changed;
+          given = rw driver shows.given;
+          confirmed = rw driver shows.confirmed;
+          none_later = rw driver shows.none_later;
+          levels = rw driver shows.levels;
+        },
       )
 
-pub asked_step : (old new : Parts) (events id : ℕ) (access : Access) (told : Outcome) → AreSound old events → AsksAccess old id access told new
+  step_replied : (reply : Reply) → AnswersRequest old.memory old.iommu id access reply new.iommu → Steps state id access (reply_told_of reply) new
+  step_replied (Accepted number) call = step_accept number call
+  step_replied Busy call =
+      let full = call.1.full in
+      let many = long call.1.row call.1.stands in
+      step_same outcome.Busy (call.0, omega (arith, full, many)) refl (ap flights_of call.2)
+  step_replied BadSpan call = step_same outcome.BadSpan call.0 refl (ap flights_of call.1)
+  step_replied (Fault cause) call = step_fault cause call
+
+pub request_step : ServiceLaws → (old new : Parts) (events id : ℕ) (access : Access) (told : Outcome) → AreSound old events → IsSoundDriver old.driver → access.address < 2 ^ 64 → AsksAccess old id access told new
     → (state : State) → PartsShow old state → (frame : ℕ) × (next : State) × Requests frame state id access told next × PartsShow new next
-asked_step old new events id access told sound asks state shows = elim asks [
+request_step laws old new events id access told sound own fits asks state shows = elim asks [
   | inl unknown ↦ (
     0,
     state,
-    acts_absent (λ device. MayAnswer state device access 0 told × (state ≡ state_after state device access 0 told)) state old.driver.devices old.devices id told shows.devices unknown.absent unknown.told_so,
+    acts_absent (λ device. MayAnswer state device access 0 told × (state ≡ state_after state device access 0 told)) old state id told shows.devices unknown.absent unknown.told_so,
     shows_same old new state unknown.same shows,
   )
-  | inr answered ↦ step_replied old id answered.place access state shows answered.stands answered.reply told new answered.right answered.told_so
-      answered.memory answered.iommu answered.driver
+  | inr answered ↦
+      let step = step_replied laws old new events id access sound own fits answered.memory answered.driver answered.devices state shows
+      (present_found old.driver.devices (flights_of old.iommu).rows old.devices id answered.present) answered.reply answered.call in
+      (step.0, step.1, subst (λ t. Requests step.0 state id access t step.1) (sym answered.told_so) step.2, step.3)
 ]

@@ -10,22 +10,26 @@ use Rattle.iom_machine.proofs.ReclaimLemmas.{reclaims}
 use Rattle.iom_world.specs.declared.world.World.{World}
 use Rattle.iom_world.specs.Happens.{Happens}
 use Rattle.iom_world.specs.Parts.{Parts}
-use Rattle.iom_world.specs.Places.{CountsBelow}
+use Rattle.iom_iommu.specs.Parts.{flights_of}
 use Rattle.iom_world.specs.Runs.{TakesAll, GoesThrough, AreOutcomes, RunsTo, FailsAfter}
 use Rattle.iom_world.specs.Shows.{Shows}
 use Rattle.iom_world.specs.Sound.{AreSound}
 
 -- nothing is left free
 abbrev pub no_choice : Choice
-no_choice = record { taken = []; frame = 0 }
+no_choice = record { directory = []; taken = []; frame = 0 }
 
 -- a frame is chosen
 abbrev pub frame_chosen : ℕ → Choice
-frame_chosen frame = record { taken = []; frame = frame }
+frame_chosen frame = record { directory = []; taken = []; frame = frame }
 
 -- frames are taken
 abbrev pub frames_taken : List ℕ → Choice
-frames_taken taken = record { taken = taken; frame = 0 }
+frames_taken taken = record { directory = []; taken = taken; frame = 0 }
+
+-- pages of the directory and frames are taken
+abbrev pub pages_taken : List ℕ → List ℕ → Choice
+pages_taken pages taken = record { directory = pages; taken = taken; frame = 0 }
 
 -- what is sound stays so where one more event is counted
 pub sound_counted : (parts : Parts) (events : ℕ) → AreSound parts events → AreSound parts (events + 1)
@@ -33,21 +37,18 @@ sound_counted parts events sound = record {
   ready = sound.ready;
   started = sound.started;
   processing = sound.processing;
+  size = sound.size;
   known = sound.known;
-  own_ids = sound.own_ids;
-  commands = sound.commands;
   confirmed = sound.confirmed;
   small = sound.small;
-  each = λ k device at. let old = sound.each k device at in record {
-    covered = old.covered;
-    counted = (let count : device.accepted ≤ events = old.counted in omega arith);
-  };
+  counted = (let count = sound.counted in omega (arith, count));
+  contexts = sound.contexts;
+  copies = sound.copies;
 }
 
--- no device has had more accesses accepted than events before the one that is counted
-pub below_counted : (parts : Parts) (events : ℕ) → AreSound parts events → CountsBelow parts.devices (events + 1)
-below_counted parts events sound k device at =
-    let count : device.accepted ≤ events = (sound.each k device at).counted in omega arith
+-- no more accesses were accepted than events came before the one that is counted
+pub below_counted : (parts : Parts) (events : ℕ) → AreSound parts events → (flights_of parts.iommu).so_far < events + 1
+below_counted parts events sound = let count = sound.counted in omega (arith, count)
 
 -- a run has an outcome for each event
 pub run_length : (old new : State) (events : List Event) (outcomes : List Outcome) → Run old events outcomes new → length outcomes ≡ length events

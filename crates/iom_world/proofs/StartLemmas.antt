@@ -1,34 +1,43 @@
 -- A world at power-on.
-use Rattle.std.proofs.Common.{suc, zero, ◌≡◌, ◌+◌, ◌-◌, ◌/◌, ◌%◌, ◌<◌, ◌≤◌, ◌++◌, ◌∙◌, ℕ, true, List, [], ◌∷◌, length, replicate, Option, Some, None, option_map, slice_get, slice_set, set, refl, sym, ap, subst, arith}
+use Rattle.std.proofs.Common.{suc, zero, ◌≡◌, ◌+◌, ◌-◌, ◌/◌, ◌%◌, ◌<◌, ◌≤◌, ◌^◌, ◌++◌, ◌∙◌, is_some, ℕ, true, List, [], ◌∷◌, length, replicate, Option, Some, None, option_map, slice_get, slice_set, set, refl, sym, ap, subst, arith}
 use Rattle.std.specs.Option.{option_map_or}
+use Rattle.std.proofs.lemmas.Bool.{false≢true}
 use Rattle.std.proofs.lemmas.List.{length-set, length-replicate, set-append_right, replicate-append-replicate}
 use Rattle.byteorder.specs.Endian.{little_bytes}
 use Rattle.iom_base.specs.Bytes.{with_bytes}
 use Rattle.iom_base.specs.declared.owner.Owner.{Owner}
 use Rattle.iom_base.specs.declared.owner.Owner.TheVariants.{System}
-use Rattle.iom_command_queue.specs.Waiting.{commands_in}
+use Rattle.iom_device_dir.specs.declared.context.Context.{Context}
+use Rattle.iom_copies.specs.Laws.{scene_at_power_on}
+use Rattle.iom_copies.proofs.OccurrenceLemmas.{faithful_at_power_on}
 use Rattle.iom_driver.specs.Calls.{IsOpening, Starts}
-use Rattle.iom_driver.specs.Layout.{completion_address, directory_frame}
+use Rattle.iom_driver.specs.Devices.{attachment_of}
+use Rattle.iom_driver.specs.Layout.{completion_address, directory_frame, ddtp_of, cqb_of}
 use Rattle.iom_driver.specs.Ready.{IsReady}
 use Rattle.iom_driver.specs.State.{DriverState}
-use Rattle.iom_driver.proofs.Lists.{get_replicate}
+use Rattle.iom_driver.proofs.Lists.{get_replicate, get_there}
 use Rattle.iom_iommu.specs.declared.iommu.Iommu.{Iommu}
-use Rattle.iom_iommu.specs.Parts.{iommu_at_power_on, mmio, registers_of}
+use Rattle.iom_iommu.specs.Parts.{IsAtPowerOn, mmio, registers_of, contexts_of, flights_of, frames_of}
 use Rattle.iom_ledger.specs.Shown.{Agrees}
 use Rattle.iom_machine.specs.declared.state.Frame.{Frame}
 use Rattle.iom_machine.specs.PowerOn.{opening, empty_frame}
 use Rattle.iom_phys_mem.specs.Sizes.{IsMemorySize}
 use Rattle.iom_phys_mem.specs.Words.{zeroed, with_word, word_at}
-use Rattle.iom_phys_mem.proofs.Stores.{put_word}
+use Rattle.iom_phys_mem.proofs.Stores.{put_word, word_back}
+use Rattle.iom_registers.specs.declared.register.Register.TheVariants.{Ddtp, Cqb, Cqcsr}
+use Rattle.iom_registers.specs.declared.registers.Registers.{Registers}
+use Rattle.iom_registers.specs.Table.{written}
 use Rattle.iom_registers.specs.Queues.{is_processing_commands}
 use Rattle.iom_table_frames.specs.Marks.{opening_marks}
 use Rattle.iom_world.specs.declared.device.Device.{Device}
-use Rattle.iom_world.specs.Commands.{completed_in}
+use Rattle.iom_world.specs.Queued.{completed_in, AreQueuedAs, pending_after}
+use Rattle.iom_world.specs.Devices.{shown_attachment}
+use Rattle.iom_world.specs.Parts.{Parts}
+use Rattle.iom_world.specs.Read.{values_of, accesses_of}
+use Rattle.iom_world.specs.Scenes.{IsSceneOf}
 use Rattle.iom_world.specs.Frames.{ShowsFrames}
 use Rattle.iom_world.specs.Shows.{PartsShow}
-use Rattle.iom_world.specs.Sound.{AreSound}
-use Rattle.iom_world.proofs.FetchKeeps.{word_after}
-use Rattle.iom_world.proofs.RingLemmas.{follow_as}
+use Rattle.iom_world.specs.Sound.{AreSound, known_ids, ids_of, row_ids}
 use Rattle.iom_world.proofs.FrameLemmas.{shows_reserved}
 
 -- there is nothing in an empty list
@@ -128,6 +137,16 @@ zeros_started : (n : ℕ) → 64 ≤ n → slice_set (with_word 4 (replicate n z
 zeros_started n many =
     ap (λ m. slice_set m (directory_frame n) zeroed) (zeros_word n (completion_address n) (omega (arith, many)) (omega arith)) ∙ set_replicate n (directory_frame n) zeroed
 
+-- the completion word after one is stored
+word_after : (memory : List (List ℕ)) (value : ℕ) → 64 ≤ length memory → value < 2 ^ 32
+    → word_at 4 (with_word 4 memory (completion_address (length memory)) value) (completion_address (length memory)) ≡ Some value
+word_after memory value many small =
+    let address = completion_address (length memory) in
+    let inside : address / 4096 < length memory = omega (arith, many) in
+    let there = get_there memory (address / 4096) inside in
+    ap (λ m. word_at 4 m address) (sym (put_word 4 value address memory there.0 there.1))
+    ∙ word_back 4 value address memory there.0 (omega arith) inside (omega arith) (omega (arith, small))
+
 -- the completion word of a memory of zeros
 completed_zero : (n : ℕ) → 64 ≤ n → completed_in (replicate n zeroed) ≡ 0
 completed_zero n many =
@@ -139,15 +158,19 @@ completed_zero n many =
     ∙ ap (λ o. option_map_or (λ word. word) o 0) (word_after memory 0 enough (omega arith))
 
 -- the parts of a world whose driver has just been started
-pub record IsStarted (n levels : ℕ) (first next : DriverState) (before memory : List (List ℕ)) (iommu : Iommu) (devices : List Device) : Type 0 where
+pub record IsStarted (n levels : ℕ) (first next : DriverState) (before memory : List (List ℕ)) (power iommu : Iommu) (devices : List Device) : Type 0 where
   pub size : IsMemorySize n
   pub opening_driver : IsOpening n levels first
   pub zeros : before ≡ replicate n zeroed
-  pub starts : Starts mmio first before iommu_at_power_on next memory iommu
+  pub power_on : IsAtPowerOn n power
+  pub starts : Starts mmio first before power next memory iommu
   pub ready : IsReady next memory (registers_of iommu)
   pub unplugged : devices ≡ []
 
-module _ (n levels : ℕ) (first next : DriverState) (before memory : List (List ℕ)) (iommu : Iommu) (devices : List Device) (started : IsStarted n levels first next before memory iommu devices) where
+module _ (n levels : ℕ) (first next : DriverState) (before memory : List (List ℕ)) (power iommu : Iommu) (devices : List Device) (started : IsStarted n levels first next before memory power iommu devices) where
+  abbrev parts : Parts
+  parts = record { memory = memory; iommu = iommu; driver = next; devices = devices }
+
   long : length before ≡ n
   long = ap (λ m. length m) started.zeros ∙ length-replicate n zeroed
 
@@ -162,26 +185,75 @@ module _ (n levels : ℕ) (first next : DriverState) (before memory : List (List
   driver_is : next ≡ record first { marks = opening_marks n; devices = []; levels = levels; started = true; given = 0; confirmed = 0 }
   driver_is = started.starts.driver ∙ ap (λ (d : DriverState). record d { started = true }) started.opening_driver.rest
 
-  pub sound_started : AreSound (record { memory = memory; iommu = iommu; driver = next; devices = devices }) 0
+  agrees : Agrees next.ledger []
+  agrees = subst (λ d. Agrees d.ledger []) (sym started.starts.driver) started.opening_driver.ledger
+
+  -- the registers after they were written
+  processes : is_processing_commands (registers_of iommu) ≡ true
+  processes =
+      ap (λ i. is_processing_commands (registers_of i)) started.starts.registers
+      ∙ ap (λ (r : Registers). is_processing_commands (written (written (written r Ddtp (ddtp_of (length before) first.levels)) Cqb (cqb_of (length before))) Cqcsr 1)) started.power_on.registers
+
+  rows_none : (flights_of iommu).rows ≡ []
+  rows_none = ap (λ i. (flights_of i).rows) started.starts.registers ∙ ap (λ f. f.rows) started.power_on.flights
+
+  none_accepted : (flights_of iommu).so_far ≡ 0
+  none_accepted = ap (λ i. (flights_of i).so_far) started.starts.registers ∙ ap (λ f. f.so_far) started.power_on.flights
+
+  none_cached : (id : ℕ) → contexts_of iommu id ≡ None
+  none_cached id = ap (λ i. contexts_of i id) started.starts.registers ∙ started.power_on.contexts id
+
+  given_none : next.given ≡ 0
+  given_none = ap (λ (d : DriverState). d.given) driver_is
+
+  confirmed_none : next.confirmed ≡ 0
+  confirmed_none = ap (λ (d : DriverState). d.confirmed) driver_is
+
+  scene_shows : IsSceneOf (values_of parts) scene_at_power_on
+  scene_shows = record {
+    ledger = agrees;
+    waiting = subst (λ l. AreQueuedAs (completion_address (length memory)) l []) (sym started.starts.empty) tt;
+    completed = sym completed;
+    last_fence = sym given_none;
+    pending = sym (ap (pending_after next.confirmed) {x = next.given - next.confirmed} {y = 0} (omega (arith, given_none)));
+    given = sym given_none;
+    confirmed = sym confirmed_none;
+    accepted = sym none_accepted;
+    in_flight = sym (ap accesses_of rows_none);
+    unplugged = λ id none. refl;
+    attachments = λ id. sym (ap (λ (d : DriverState). shown_attachment (attachment_of d.devices id)) driver_is);
+    contexts = λ id is. absurd (false≢true (sym (ap is_some (none_cached id)) ∙ is));
+    alone = record { stock = refl; goes_on = refl; translations = refl; entries = refl; messages = refl; slots = refl };
+  }
+
+  no_context : (id : ℕ) (context : Context) → contexts_of iommu id ≡ Some context → ⊥
+  no_context id context cached = let both : ◌≡◌ {A = Option Context} None (Some context) = sym (none_cached id) ∙ cached in cc
+
+  pub sound_started : AreSound parts 0
   sound_started = record {
     ready = started.ready;
     started = ap (λ (d : DriverState). d.started) started.starts.driver;
-    processing = ap (λ i. is_processing_commands (registers_of i)) started.starts.registers;
-    known = rw (ap (λ (d : DriverState). d.devices) driver_is, started.unplugged) refl;
-    own_ids = λ j k one other at at' same. absurd (none_there j one (subst (λ ds. slice_get ds j ≡ Some one) started.unplugged at));
-    commands = follow_as _ _ _ _ [] (commands_in memory (registers_of iommu)) _ _ refl completed started.starts.empty (ap (λ (d : DriverState). d.given) driver_is) refl;
-    confirmed = rw (ap (λ (d : DriverState). d.confirmed) driver_is) (omega arith);
-    small = rw (ap (λ (d : DriverState). d.given) driver_is) (omega arith);
-    each = λ k device at. absurd (none_there k device (subst (λ ds. slice_get ds k ≡ Some device) started.unplugged at));
+    processing = processes;
+    size = ap frames_of started.starts.registers ∙ started.power_on.frames ∙ sym (ap (λ m. length m) memory_is ∙ length-replicate n zeroed);
+    known = record {
+      own_ids = λ j k one other at at' same. absurd (none_there j one (subst (λ ds. slice_get ds j ≡ Some one) started.unplugged at));
+      driver = ap (λ (d : DriverState). known_ids d.devices) driver_is ∙ sym (ap ids_of started.unplugged);
+      iommu = ap row_ids rows_none ∙ sym (ap ids_of started.unplugged);
+    };
+    confirmed = rw confirmed_none (omega arith);
+    small = rw given_none (omega arith);
+    counted = rw none_accepted (omega arith);
+    contexts = λ id context cached. absurd (no_context id context cached);
+    copies = ∣ (scene_at_power_on, scene_shows, faithful_at_power_on) ∣₁;
   }
 
-  pub shows_started : PartsShow (record { memory = memory; iommu = iommu; driver = next; devices = devices }) (opening n levels)
+  pub shows_started : PartsShow parts (opening n levels)
   shows_started = record {
-    ledger = subst (λ d. Agrees d.ledger []) (sym started.starts.driver) started.opening_driver.ledger;
+    ledger = agrees;
     frames = rw (memory_is, ap (λ (d : DriverState). d.marks) driver_is) (shows_frames n levels started.size);
     devices = rw started.unplugged refl;
-    given = rw (ap (λ (d : DriverState). d.given) driver_is) refl;
-    confirmed = rw (ap (λ (d : DriverState). d.confirmed) driver_is) refl;
+    given = rw given_none refl;
+    confirmed = rw confirmed_none refl;
     none_later = λ ticket later. refl;
     levels = rw (ap (λ (d : DriverState). d.levels) driver_is) refl;
   }

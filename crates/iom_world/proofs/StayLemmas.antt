@@ -3,6 +3,7 @@ use Rattle.std.proofs.Common.{◌≡◌, ◌≢◌, ◌/◌, ◌*◌, ◌∙◌,
 use Rattle.std.proofs.lemmas.List.{length-set}
 use Rattle.iom_base.specs.declared.owner.Owner.{Owner}
 use Rattle.iom_driver.specs.State.{DriverState}
+use Rattle.iom_iommu.specs.Parts.{flights_of}
 use Rattle.iom_ledger.specs.Shown.{Agrees}
 use Rattle.iom_machine.specs.declared.state.State.{State}
 use Rattle.iom_page_table.specs.declared.leaf.PageLeaf.{PageLeaf}
@@ -16,12 +17,12 @@ use Rattle.iom_world.specs.Parts.{Parts}
 use Rattle.iom_world.specs.Shows.{PartsShow}
 
 -- nothing changes that the machine sees, and the ledger still agrees
-pub shows_still : (old new : Parts) (state : State) → new.memory ≡ old.memory → new.devices ≡ old.devices → new.driver ≡ record old.driver { ledger = new.driver.ledger }
+pub shows_still : (old new : Parts) (state : State) → new.memory ≡ old.memory → flights_of new.iommu ≡ flights_of old.iommu → new.devices ≡ old.devices → new.driver ≡ record old.driver { ledger = new.driver.ledger }
     → Agrees new.driver.ledger state.history → PartsShow old state → PartsShow new state
-shows_still old new state memory devices driver agrees shows = record {
+shows_still old new state memory flights devices driver agrees shows = record {
   ledger = agrees;
   frames = rw (memory, ap (λ (d : DriverState). d.marks) driver) shows.frames;
-  devices = rw (devices, ap (λ (d : DriverState). d.devices) driver) shows.devices;
+  devices = rw (devices, flights, ap (λ (d : DriverState). d.devices) driver) shows.devices;
   given = shows.given ∙ sym (ap (λ (d : DriverState). d.given) driver);
   confirmed = shows.confirmed ∙ sym (ap (λ (d : DriverState). d.confirmed) driver);
   none_later = rw (ap (λ (d : DriverState). d.confirmed) driver) shows.none_later;
@@ -29,10 +30,10 @@ shows_still old new state memory devices driver agrees shows = record {
 }
 
 -- a call that leaves the driver as it was
-pub shows_same : (old new : Parts) (state : State) → new.memory ≡ old.memory → new.devices ≡ old.devices → new.driver ≡ old.driver → PartsShow old state → PartsShow new state
-shows_same old new state memory devices driver shows =
+pub shows_same : (old new : Parts) (state : State) → new.memory ≡ old.memory → flights_of new.iommu ≡ flights_of old.iommu → new.devices ≡ old.devices → new.driver ≡ old.driver → PartsShow old state → PartsShow new state
+shows_same old new state memory flights devices driver shows =
     let ledger = ap (λ (d : DriverState). d.ledger) driver in
-    shows_still old new state memory devices (driver ∙ ap (λ l. record old.driver { ledger = l }) (sym ledger))
+    shows_still old new state memory flights devices (driver ∙ ap (λ l. record old.driver { ledger = l }) (sym ledger))
     (subst (λ l. Agrees l state.history) (sym ledger) shows.ledger) shows
 
 -- a frame that is nobody's has no owner
@@ -40,7 +41,7 @@ pub not_owned : (marks : List (Option Owner)) (frame : ℕ) (owner : Owner) → 
 not_owned marks frame owner free own = let both : ◌≡◌ {A = Option (Option Owner)} (Some None) (Some (Some owner)) = sym free ∙ own in cc
 
 -- memory has as many frames after a word is stored, and after several
-length-with_word : (n : ℕ) (memory : List (List ℕ)) (address value : ℕ) → length (with_word n memory address value) ≡ length memory
+pub length-with_word : (n : ℕ) (memory : List (List ℕ)) (address value : ℕ) → length (with_word n memory address value) ≡ length memory
 unfolding with_word
 length-with_word n memory address value = by (slice_get memory (address / 4096)) refl
   where

@@ -1,29 +1,42 @@
--- What the ledger machine sees of the devices: some of it the driver knows, and some each device itself.
-use Rattle.std.specs.Prelude.{false, List, map, Option, None, Some}
-use Rattle.iom_driver.specs.declared.device.Device as driver
-use Rattle.iom_driver.specs.declared.device.FirstStage.{FirstStage}
-use Rattle.iom_driver.specs.Devices.{stage_of}
+-- What the ledger machine sees of the devices: their kinds are the world's, how they are attached the driver knows, and what is in flight the IOMMU.
+use Rattle.std.specs.Prelude.{ℕ, false, List, [], map}
+use Rattle.std.specs.Option.{option_map_or}
+use Rattle.iom_base.specs.declared.access.AcceptedAccess.{AcceptedAccess}
+use Rattle.iom_driver.specs.declared.device.Attachment as driver
+use Rattle.iom_driver.specs.declared.device.Attachment.TheVariants as attached
+use Rattle.iom_driver.specs.declared.device.Device as known
+use Rattle.iom_driver.specs.Devices.{attachment_of}
+use Rattle.iom_inflight.specs.Flights.{NumberedAccess, FlightRow, row_of}
 use Rattle.iom_machine.specs.declared.state.Attachment.{Attachment}
-use Rattle.iom_machine.specs.declared.state.Attachment.TheVariants.{Detached, Attached}
+use Rattle.iom_machine.specs.declared.state.Attachment.TheVariants.{Detached, Attached, Leaving}
 use Rattle.iom_machine.specs.declared.state.Mode.TheVariants.{First}
 use Rattle.iom_machine.specs.declared.state.Device as machine
 use Rattle.iom_world.specs.declared.device.Device.{Device}
 
--- a device with a first stage is attached in it, without ATS
-abbrev pub shown_attachment : Option FirstStage → Attachment
-shown_attachment None = Detached
-shown_attachment (Some stage) = Attached First false
+-- a device is attached in its first stage, without ATS
+abbrev pub shown_attachment : driver.Attachment → Attachment
+shown_attachment attached.Detached = Detached
+shown_attachment (attached.Attached stage) = Attached First false
+shown_attachment (attached.Leaving ticket stage) = Leaving ticket First false
 
--- a device, where the driver has these
-abbrev pub shown_device : List driver.Device → Device → machine.Device
-shown_device known device = record {
+-- what the device has in flight, the oldest first
+abbrev pub in_flight_of : List FlightRow → ℕ → List AcceptedAccess
+in_flight_of rows id = option_map_or (λ (row : FlightRow). map (λ (flight : NumberedAccess). flight.accepted) row.waiting) (row_of rows id) []
+
+-- how many of its accesses were ever accepted
+abbrev pub accepted_of : List FlightRow → ℕ → ℕ
+accepted_of rows id = option_map_or (λ (row : FlightRow). row.accepted) (row_of rows id) 0
+
+-- a device, where the driver knows these, and the IOMMU has these rows
+abbrev pub shown_device : List known.Device → List FlightRow → Device → machine.Device
+shown_device known rows device = record {
   id = device.id;
   kind = device.kind;
-  attachment = shown_attachment (stage_of known device.id);
-  accepted = device.accepted;
-  in_flight = device.in_flight;
+  attachment = shown_attachment (attachment_of known device.id);
+  accepted = accepted_of rows device.id;
+  in_flight = in_flight_of rows device.id;
 }
 
 -- the devices, in the order of plugging
-abbrev pub shown_devices : List driver.Device → List Device → List machine.Device
-shown_devices known devices = map (shown_device known) devices
+abbrev pub shown_devices : List known.Device → List FlightRow → List Device → List machine.Device
+shown_devices known rows devices = map (shown_device known rows) devices

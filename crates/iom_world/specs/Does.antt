@@ -1,16 +1,20 @@
 -- What each event does to the parts of a world: the relation of the call behind it, and what stays.
-use Rattle.std.specs.Prelude.{◌≡◌, ◌↔◌, ℕ, ◌+◌, ◌-◌, ◌==◌, Bool, IsTrue, List, [], ◌∷◌, ◌++◌, Result, Ok, Err, if◌then◌else◌}
+use Rattle.std.specs.Prelude.{◌≡◌, ℕ, ◌+◌, ◌-◌, ◌==◌, Bool, true, List, [], ◌∷◌, ◌++◌, Result, Ok, Err, if◌then◌else◌}
 use Rattle.iom_base.specs.declared.grant_rights.GrantRights.{GrantRights}
 use Rattle.iom_base.specs.Accesses.{read_of, write_of}
 use Rattle.iom_command_queue.specs.declared.command.Command.{Command}
 use Rattle.iom_command_queue.specs.declared.command.Command.TheVariants.{IotinvalVma, IotinvalGvma, IofenceC, IodirInvalDdt, AtsInval}
 use Rattle.iom_driver.specs.declared.answers.Polled.{Polled}
 use Rattle.iom_driver.specs.declared.answers.Ticket as driver
-use Rattle.iom_driver.specs.Calls.{AnswersPlug, AnswersAttach, AnswersGrant, AnswersRelease, AnswersPoll}
+use Rattle.iom_driver.specs.Attaching.{AnswersAttach}
+use Rattle.iom_driver.specs.Calls.{AnswersPlug, AnswersGrant, AnswersRelease}
+use Rattle.iom_driver.specs.Leaving.{AnswersDetach}
+use Rattle.iom_driver.specs.Polling.{AnswersPoll}
 use Rattle.iom_iommu.specs.declared.fetched.Fetched.{Fetched}
 use Rattle.iom_iommu.specs.declared.fetched.Fetched.TheVariants.{Did, Waiting, Empty, Stopped}
+use Rattle.iom_iommu.specs.declared.iommu.Iommu.{Iommu}
 use Rattle.iom_iommu.specs.Fetches.{FetchesCommand}
-use Rattle.iom_iommu.specs.Parts.{mmio, registers_of}
+use Rattle.iom_iommu.specs.Parts.{mmio, registers_of, AddsDevice}
 use Rattle.iom_ledger.specs.declared.refusal.Refusal.{Refusal}
 use Rattle.iom_machine.specs.declared.event.Event.{Event}
 use Rattle.iom_machine.specs.declared.event.Event.TheVariants as events
@@ -22,9 +26,8 @@ use Rattle.iom_machine.specs.declared.outcome.Outcome.{Outcome}
 use Rattle.iom_machine.specs.declared.outcome.Outcome.TheVariants as outcome
 use Rattle.iom_machine.specs.declared.state.DeviceKind.{DeviceKind}
 use Rattle.iom_world.specs.declared.device.Device.{Device}
-use Rattle.iom_world.specs.Commits.{CommitsOldest}
+use Rattle.iom_world.specs.Commits.{CommitsAccess}
 use Rattle.iom_world.specs.Parts.{Parts}
-use Rattle.iom_world.specs.Places.{SomeInFlight}
 use Rattle.iom_world.specs.Processor.{PokesBytes, PeeksBytes, AsksFree}
 use Rattle.iom_world.specs.Requests.{AsksAccess}
 
@@ -56,23 +59,28 @@ fetch_named Waiting = tells.Waiting
 fetch_named Empty = tells.Empty
 fetch_named Stopped = tells.Stopped
 
--- a device as it is plugged in: with nothing in flight
+-- a device as the world keeps it
 abbrev pub new_device : ℕ → DeviceKind → Device
-new_device id kind = record { id = id; kind = kind; accepted = 0; in_flight = [] }
+new_device id kind = record { id = id; kind = kind }
 
 -- it stands behind the others, unless it was refused
 abbrev pub devices_after : Result (Unit {0}) Refusal → List Device → ℕ → DeviceKind → List Device
 devices_after (Ok done) devices id kind = devices ++ new_device id kind ∷ []
 devices_after (Err why) devices id kind = devices
 
+-- the IOMMU makes a row for its accesses, unless it was refused
+abbrev pub AddsRow : Result (Unit {0}) Refusal → Iommu → ℕ → Iommu → Type 0
+AddsRow (Ok done) old id new = AddsDevice old id true new
+AddsRow (Err why) old id new = new ≡ old
+
 -- a device is plugged in
 pub record PlugsDevice (old : Parts) (id : ℕ) (kind : DeviceKind) (told : Outcome) (new : Parts) : Type 0 where
   pub answer : Result (Unit {0}) Refusal
   pub told_so : told ≡ told_of answer
   pub call : AnswersPlug old.driver id answer new.driver
+  pub row : AddsRow answer old.iommu id new.iommu
   pub devices : new.devices ≡ devices_after answer old.devices id kind
   pub memory : new.memory ≡ old.memory
-  pub iommu : new.iommu ≡ old.iommu
 
 -- a device is attached
 pub record AttachesDevice (old : Parts) (id : ℕ) (told : Outcome) (new : Parts) : Type 0 where
@@ -97,13 +105,18 @@ pub record ReleasesPage (old : Parts) (id page : ℕ) (told : Outcome) (new : Pa
   pub call : AnswersRelease mmio old.driver old.memory old.iommu id page answer new.driver new.memory new.iommu
   pub devices : new.devices ≡ old.devices
 
+-- a device is detached, once a ticket is confirmed
+pub record DetachesDevice (old : Parts) (id : ℕ) (told : Outcome) (new : Parts) : Type 0 where
+  pub answer : Result driver.Ticket Refusal
+  pub told_so : told ≡ ticket_told_of answer
+  pub call : AnswersDetach mmio old.driver old.memory old.iommu id answer new.driver new.memory new.iommu
+  pub devices : new.devices ≡ old.devices
+
 -- the IOMMU takes a command
 pub record FetchesNext (old : Parts) (told : Outcome) (new : Parts) : Type 0 where
-  pub any_in_flight : Bool
-  pub counted : IsTrue any_in_flight ↔ SomeInFlight old.devices
   pub answer : Fetched
   pub told_so : told ≡ outcome.Fetched (fetch_named answer)
-  pub call : FetchesCommand old.memory old.iommu any_in_flight answer new.memory new.iommu
+  pub call : FetchesCommand old.memory old.iommu answer new.memory new.iommu
   pub driver : new.driver ≡ old.driver
   pub devices : new.devices ≡ old.devices
 
@@ -111,8 +124,7 @@ pub record FetchesNext (old : Parts) (told : Outcome) (new : Parts) : Type 0 whe
 pub record PollsTickets (old : Parts) (told : Outcome) (new : Parts) : Type 0 where
   pub answer : Result Polled Refusal
   pub told_so : told ≡ polled_told_of answer
-  pub call : AnswersPoll (registers_of old.iommu) old.driver old.memory answer new.driver
-  pub memory : new.memory ≡ old.memory
+  pub call : AnswersPoll (registers_of old.iommu) old.driver old.memory answer new.driver new.memory
   pub iommu : new.iommu ≡ old.iommu
   pub devices : new.devices ≡ old.devices
 
@@ -122,11 +134,12 @@ Does old (events.Plug id kind) told new = PlugsDevice old id kind told new
 Does old (events.Attach id mode ats) told new = AttachesDevice old id told new
 Does old (events.Grant id page frame rights) told new = GrantsPage old id page frame rights told new
 Does old (events.Release id page) told new = ReleasesPage old id page told new
+Does old (events.Detach id) told new = DetachesDevice old id told new
 Does old events.Fetch told new = FetchesNext old told new
 Does old events.Poll told new = PollsTickets old told new
 Does old (events.Read id address len) told new = AsksAccess old id (read_of address len) told new
 Does old (events.Write id address bytes) told new = AsksAccess old id (write_of address bytes) told new
-Does old (events.Commit id) told new = CommitsOldest old id told new
+Does old (events.Commit id) told new = CommitsAccess old id told new
 Does old (events.Poke address bytes) told new = PokesBytes old address bytes told new
 Does old (events.Peek address len) told new = PeeksBytes old address len told × (new ≡ old)
 Does old (events.Free frame) told new = AsksFree old frame told × (new ≡ old)

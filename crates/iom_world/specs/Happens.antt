@@ -33,9 +33,10 @@ SameIfRefused told old new = (why : Refusal) → told ≡ Refused why → AreSam
 abbrev pub waiting_in : Parts → List QueueEntry
 waiting_in parts = commands_in parts.memory (registers_of parts.iommu)
 
--- a release and a fetch say what they do to the commands that wait, and nothing else changes them
+-- a release, a detach and a fetch say what they do to the commands that wait, and nothing else changes them
 abbrev pub KeepsCommands : Event → Parts → Parts → Type 0
 KeepsCommands (events.Release device page) old new = ⊤
+KeepsCommands (events.Detach device) old new = ⊤
 KeepsCommands events.Fetch old new = ⊤
 KeepsCommands (events.Plug device kind) old new = waiting_in new ≡ waiting_in old
 KeepsCommands (events.Attach device mode ats) old new = waiting_in new ≡ waiting_in old
@@ -49,7 +50,7 @@ KeepsCommands (events.Peek address len) old new = waiting_in new ≡ waiting_in 
 KeepsCommands (events.Free frame) old new = waiting_in new ≡ waiting_in old
 
 -- An event that is answered so. It is a lawful step of the ledger machine, from every state that the world shows, to one that it shows then. It does to
--- memory, IOMMU, driver and devices what the call behind it says; commands that wait change by a release and a fetch alone. A refusal changes nothing. And
+-- memory, IOMMU, driver and devices what the call behind it says; commands that wait change by a release, a detach and a fetch alone. A refusal changes nothing. And
 -- the event is counted.
 pub record Happens (old : World) (event : Event) (told : Outcome) (new : World) : Type 0 where
   pub step : (state : State) → Shows old state → (next : State) × Step state event told next × Shows new next

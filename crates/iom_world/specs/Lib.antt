@@ -5,10 +5,9 @@ pub mod Parts
 pub mod Seen
 pub mod Shows
 pub mod Places
-pub mod Held
-pub mod Oldest
-pub mod Commands
-pub mod Facts
+pub mod Queued
+pub mod Scenes
+pub mod Read
 pub mod Sound
 pub mod SoundIsFact
 pub mod Requests
@@ -17,3 +16,4 @@ pub mod Processor
 pub mod Does
 pub mod Happens
 pub mod Runs
+pub mod Below

@@ -7,6 +7,7 @@ use Rattle.iom_machine.specs.Tickets.{last_confirmed}
 use Rattle.iom_world.specs.declared.world.World.{World}
 use Rattle.iom_world.specs.Devices.{shown_devices}
 use Rattle.iom_world.specs.Frames.{ShowsFrames}
+use Rattle.iom_iommu.specs.Parts.{flights_of}
 use Rattle.iom_world.specs.Parts.{Parts}
 use Rattle.iom_world.specs.Seen.{parts_of}
 
@@ -16,7 +17,7 @@ use Rattle.iom_world.specs.Seen.{parts_of}
 pub record PartsShow (parts : Parts) (state : State) : Type 0 where
   pub ledger : Agrees parts.driver.ledger state.history
   pub frames : ShowsFrames parts.memory parts.driver.marks state.frames
-  pub devices : state.devices ≡ shown_devices parts.driver.devices parts.devices
+  pub devices : state.devices ≡ shown_devices parts.driver.devices (flights_of parts.iommu).rows parts.devices
   pub given : state.last_ticket ≡ parts.driver.given
   pub confirmed : last_confirmed state.history ≡ parts.driver.confirmed
   pub none_later : (ticket : ℕ) → parts.driver.confirmed < ticket → confirms state.history ticket ≡ false

@@ -1,31 +1,63 @@
 -- What stays true between the parts of a world, whatever happens.
 -- For the facts that a world carries alone; no public contract cites these.
-use Rattle.std.specs.Prelude.{◌≡◌, ℕ, ◌^◌, ◌<◌, ◌≤◌, true, List, length}
-use Rattle.iom_command_queue.specs.Waiting.{commands_in}
+use Rattle.std.specs.Prelude.{◌≡◌, ℕ, ◌^◌, ◌≤◌, ◌<◌, true, List, length, map, Some, slice_get}
+use Rattle.std.specs.Option.{option_map}
+use Rattle.iom_device_dir.specs.declared.context.Context.{Context}
+use Rattle.iom_driver.specs.declared.device.Device as driver
 use Rattle.iom_driver.specs.declared.driver.Driver.{Driver}
-use Rattle.iom_driver.specs.Layout.{completion_address}
+use Rattle.iom_driver.specs.Devices.{owned_stage_of}
+use Rattle.iom_driver.specs.Directory.{context_for}
 use Rattle.iom_driver.specs.Ready.{IsReady}
 use Rattle.iom_driver.specs.Seen.{state_of}
+use Rattle.iom_inflight.specs.Flights.{FlightRow}
 use Rattle.iom_iommu.specs.declared.iommu.Iommu.{Iommu}
-use Rattle.iom_iommu.specs.Parts.{registers_of}
+use Rattle.iom_iommu.specs.Parts.{registers_of, contexts_of, flights_of, frames_of}
 use Rattle.iom_registers.specs.Queues.{is_processing_commands}
 use Rattle.iom_world.specs.declared.device.Device.{Device}
-use Rattle.iom_world.specs.Commands.{completed_in, FencesFollow}
-use Rattle.iom_world.specs.Facts.{AreSoundDevices, HaveOwnIds, AreKnown}
 use Rattle.iom_world.specs.Parts.{Parts}
+use Rattle.iom_world.specs.Queued.{completed_in}
+use Rattle.iom_world.specs.Read.{values_of}
+use Rattle.iom_world.specs.Scenes.{HasFaithfulScene}
 
--- the driver is started and ready; the IOMMU takes commands; the driver knows the devices, which have ids of their own; fences wait in order, and only
--- tickets whose fences are done are confirmed; and each access in flight is one of what is held, or was released under a ticket whose fence isn't done
+-- the ids of the plugged devices, in the order of plugging: of the world's, of the driver's, and of the IOMMU's rows
+abbrev pub ids_of : List Device → List ℕ
+ids_of devices = map (λ (device : Device). device.id) devices
+
+abbrev pub known_ids : List driver.Device → List ℕ
+known_ids devices = map (λ (device : driver.Device). device.id) devices
+
+abbrev pub row_ids : List FlightRow → List ℕ
+row_ids rows = map (λ (row : FlightRow). row.device) rows
+
+-- no two devices have the same id
+abbrev pub HaveOwnIds : List Device → Type 0
+HaveOwnIds devices =
+    (j k : ℕ) (one other : Device) → slice_get devices j ≡ Some one → slice_get devices k ≡ Some other → one.id ≡ other.id → j ≡ k
+
+-- driver and IOMMU have exactly the devices that are there, in their order
+pub record AreKnown (parts : Parts) : Type 0 where
+  pub own_ids : HaveOwnIds parts.devices
+  pub driver : known_ids parts.driver.devices ≡ ids_of parts.devices
+  pub iommu : row_ids (flights_of parts.iommu).rows ≡ ids_of parts.devices
+
+-- a context that is cached is that of an attached device, or of one that is leaving, with its root and its number
+abbrev pub ContextsAreTrue : Parts → Type 0
+ContextsAreTrue parts = (id : ℕ) (context : Context) → contexts_of parts.iommu id ≡ Some context
+    → option_map context_for (owned_stage_of parts.driver.devices id) ≡ Some context
+
+-- The driver is started and ready; the IOMMU takes commands, and was built for this memory; they know the devices; no ticket is confirmed whose fence isn't
+-- done; no more accesses were accepted than events came; cached contexts are true; and no copy outlives what it copies.
 pub record AreSound (parts : Parts) (events : ℕ) : Type 0 where
   pub ready : IsReady parts.driver parts.memory (registers_of parts.iommu)
   pub started : parts.driver.started ≡ true
   pub processing : is_processing_commands (registers_of parts.iommu) ≡ true
-  pub known : AreKnown parts.driver.devices parts.devices
-  pub own_ids : HaveOwnIds parts.devices
-  pub commands : FencesFollow (completion_address (length parts.memory)) (completed_in parts.memory) (commands_in parts.memory (registers_of parts.iommu)) parts.driver.given
+  pub size : frames_of parts.iommu ≡ length parts.memory
+  pub known : AreKnown parts
   pub confirmed : parts.driver.confirmed ≤ completed_in parts.memory
   pub small : parts.driver.given < 2 ^ 32
-  pub each : AreSoundDevices parts.driver.ledger (completed_in parts.memory) events parts.devices
+  pub counted : (flights_of parts.iommu).so_far ≤ events
+  pub contexts : ContextsAreTrue parts
+  pub copies : ∥ HasFaithfulScene (values_of parts) ∥₁
 
 -- a world of these parts is so
 abbrev pub IsSoundWorld : List (List ℕ) → Iommu → Driver → List Device → ℕ → Type 0

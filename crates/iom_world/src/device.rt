@@ -1,14 +1,10 @@
 //! A plugged device, as the world keeps it.
 use iom_base::DeviceId;
-use iom_inflight::InFlight;
 use iom_machine::DeviceKind;
 
-/// A plugged device, with its accesses in flight. How it is attached the driver knows.
-#[derive(Drop)]
+/// A plugged device. How it is attached the driver knows, and what it has in flight the IOMMU.
+#[derive(Clone, Copy, PartialEq, Eq, Debug)]
 pub struct Device {
     pub(crate) id: DeviceId,
     pub(crate) kind: DeviceKind,
-    /// How many of its accesses were ever accepted.
-    pub(crate) accepted: u64,
-    pub(crate) in_flight: InFlight,
 }

@@ -1,13 +1,13 @@
 // What the driver is asked to do.
 ghost use Rattle.std.specs.Prelude.{◌≡◌, ◌+◌, ◌≤◌, ◌^◌};
-ghost use Rattle.iom_world.specs.Does.{told_of, polled_told_of, AttachesDevice, GrantsPage, ReleasesPage, PollsTickets};
+ghost use Rattle.iom_world.specs.Does.{told_of, polled_told_of, ticket_told_of, AttachesDevice, GrantsPage, ReleasesPage, DetachesDevice, PollsTickets};
 ghost use Rattle.iom_world.specs.Seen.{parts_of};
 ghost use Rattle.iom_world.specs.Told.{outcome_of};
 
 use crate::told::Told;
 use crate::world::World;
 use iom_base::{DeviceId, GrantRights};
-use iom_driver::Polled;
+use iom_driver::{Polled, Ticket};
 use iom_ledger::Refusal;
 
 impl Told {
@@ -17,6 +17,16 @@ impl Told {
     {
         match answer {
             Ok(()) => Told::Done,
+            Err(why) => Told::Refused(why),
+        }
+    }
+
+    /// What an answer of the driver that gives a ticket is told as.
+    fn of_ticket(answer: Result<Ticket, Refusal>) -> Told
+        ensures { outcome_of result ≡ ticket_told_of answer }
+    {
+        match answer {
+            Ok(ticket) => Told::Ticket(ticket.0),
             Err(why) => Told::Refused(why),
         }
     }
@@ -58,21 +68,27 @@ impl World {
         ensures does { ReleasesPage (parts_of self.old) id page (outcome_of result) (parts_of self.new) }
         ensures events { self.new.events ≡ self.old.events }
     {
-        match self
+        let answer = self
             .driver
-            .release(&mut self.memory, &mut self.iommu, id, page)
-        {
-            Ok(ticket) => Told::Ticket(ticket.0),
-            Err(why) => Told::Refused(why),
-        }
+            .release(&mut self.memory, &mut self.iommu, id, page);
+        Told::of_ticket(answer)
     }
 
-    /// The driver learns which tickets' fences are done, and forgets what waited for them.
+    /// A device is detached: it leaves until the ticket is confirmed.
+    pub(crate) fn detach(&mut self, id: DeviceId) -> Told
+        ensures does { DetachesDevice (parts_of self.old) id (outcome_of result) (parts_of self.new) }
+        ensures events { self.new.events ≡ self.old.events }
+    {
+        let answer = self.driver.detach(&mut self.memory, &mut self.iommu, id);
+        Told::of_ticket(answer)
+    }
+
+    /// The driver learns which tickets' fences are done, and forgets what waited for them: what a device that is leaving had is given back.
     pub(crate) fn poll(&mut self) -> Told
         ensures does { PollsTickets (parts_of self.old) (outcome_of result) (parts_of self.new) }
         ensures events { self.new.events ≡ self.old.events }
     {
-        match self.driver.poll(&self.memory, &self.iommu) {
+        match self.driver.poll(&mut self.memory, &self.iommu) {
             Ok(polled) => Told::of_poll(polled),
             Err(why) => Told::Refused(why),
         }

@@ -1,10 +1,10 @@
 // What the IOMMU does with the driver's commands.
-ghost use Rattle.std.specs.Prelude.{◌≡◌, ◌↔◌, IsTrue};
+ghost use Rattle.std.specs.Prelude.{◌≡◌};
 ghost use Rattle.iom_world.specs.Does.{name_of_command, fetch_named, FetchesNext};
 ghost use Rattle.iom_world.specs.Seen.{parts_of};
-ghost use Rattle.iom_world.specs.Places.{SomeInFlight};
 ghost use Rattle.iom_world.specs.Told.{outcome_of};
 
+use crate::below::laws_below;
 use crate::told::Told;
 use crate::world::World;
 use iom_command_queue::Command;
@@ -36,21 +36,12 @@ fn named(answer: iom_iommu::Fetched) -> Fetched
 }
 
 impl World {
-    /// Whether an access of some device is in flight.
-    fn is_any_in_flight(&self) -> bool
-        ensures { IsTrue result ↔ SomeInFlight self.now.devices.items }
-    {
-        self.devices
-            .iter()
-            .any(|device| device.in_flight.count() > 0)
-    }
-
     /// The IOMMU takes its next command.
     pub(crate) fn fetch(&mut self) -> Told
         ensures does { FetchesNext (parts_of self.old) (outcome_of result) (parts_of self.new) }
         ensures events { self.new.events ≡ self.old.events }
     {
-        let any_in_flight = self.is_any_in_flight();
-        Told::Fetched(named(self.iommu.fetch(&mut self.memory, any_in_flight)))
+        laws_below();
+        Told::Fetched(named(self.iommu.fetch(&mut self.memory)))
     }
 }

@@ -34,7 +34,7 @@ impl KeptOutcomes {
         match event {
             Event::Plug { .. } | Event::Attach { .. } | Event::Grant { .. } => &mut self.driver,
             Event::Poke { .. } => &mut self.driver,
-            Event::Release { .. } => &mut self.released,
+            Event::Release { .. } | Event::Detach { .. } => &mut self.released,
             Event::Fetch => &mut self.fetched,
             Event::Poll => &mut self.polled,
             Event::Read { .. } | Event::Write { .. } => &mut self.requested,

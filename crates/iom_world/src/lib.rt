@@ -9,6 +9,7 @@
 //! and devices: the relation that the driver or the IOMMU states of its own call.
 #![tactic(auto)]
 
+mod below;
 mod commits;
 mod device;
 mod driving;
@@ -20,7 +21,6 @@ mod requests;
 mod run;
 mod start;
 mod told;
-mod translating;
 mod world;
 
 pub use world::World;

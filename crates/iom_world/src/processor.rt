@@ -5,6 +5,7 @@ ghost use Rattle.iom_world.specs.Seen.{parts_of};
 ghost use Rattle.iom_world.specs.Processor.{PokesBytes, PeeksBytes, AsksFree};
 ghost use Rattle.iom_world.specs.Told.{outcome_of};
 
+use crate::below::laws_below;
 use crate::told::{Told, tell_shown};
 use crate::world::World;
 use iom_base::{PAGE_SIZE, Span};
@@ -28,6 +29,7 @@ impl World {
         ensures does { PokesBytes (parts_of self.old) address bytes.now (outcome_of result) (parts_of self.new) }
         ensures events { self.new.events ≡ self.old.events }
     {
+        laws_below();
         if Span::new(address, bytes.len() as u64).is_none() {
             return Told::BadSpan;
         }

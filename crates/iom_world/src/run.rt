@@ -2,12 +2,14 @@
 ghost use Rattle.std.specs.Prelude.{◌≡◌, ◌+◌, ◌<◌, ◌≤◌, ◌^◌, length, All, OnOk, OnErr};
 ghost use Rattle.iom_machine.specs.declared.state.State.{State};
 ghost use Rattle.iom_machine.specs.Machine.{IsEvent};
+ghost use Rattle.iom_world.specs.Below.{AddressFits};
 ghost use Rattle.iom_world.specs.Does.{Does};
 ghost use Rattle.iom_world.specs.Happens.{Happens};
 ghost use Rattle.iom_world.specs.Runs.{RunsTo, FailsAfter};
 ghost use Rattle.iom_world.specs.Seen.{parts_of};
 ghost use Rattle.iom_world.specs.Shows.{Shows};
 
+use crate::below::laws_below;
 use crate::kept_outcomes::KeptOutcomes;
 use crate::world::World;
 use iom_machine::{Event, Outcome, Sink};
@@ -18,6 +20,7 @@ impl World {
         requires event { IsEvent event.now }
         requires count { self.old.events + 1 < 2 ^ 64 }
         ensures does { Does (parts_of self.old) event.now told.new (parts_of self.new) }
+        ensures fits { AddressFits event.now }
         ensures counted { self.new.events ≡ self.old.events + 1 }
     {
         self.events += 1;
@@ -32,6 +35,7 @@ impl World {
                 rights,
             } => self.grant(*device, *page, *frame, *rights),
             Event::Release { device, page } => self.release(*device, *page),
+            Event::Detach { device } => self.detach(*device),
             Event::Fetch => self.fetch(),
             Event::Poll => self.poll(),
             Event::Read {
@@ -58,6 +62,7 @@ impl World {
         requires count { self.old.events + 1 < 2 ^ 64 }
         ensures { Happens self.old event.now told.new self.new }
     {
+        laws_below();
         self.dispatch(event, told);
     }
 

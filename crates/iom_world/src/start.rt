@@ -34,7 +34,9 @@ impl World {
         let Ok(devices) = Vec::with_capacity(alloc, MAX_DEVICES) else {
             return Err(MemError::OutOfMemory);
         };
-        let mut iommu = Iommu::new();
+        let Ok(mut iommu) = Iommu::new(alloc, frames) else {
+            return Err(MemError::OutOfMemory);
+        };
         driver.start(&mut memory, &mut iommu);
         Ok(World {
             memory,

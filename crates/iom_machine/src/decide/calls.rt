@@ -1,13 +1,14 @@
 // The driver's calls.
-ghost use Rattle.std.specs.Prelude.{◌≡◌, ◌↔◌, ◌^◌, ◌≤◌, IfOk, IsTrue, Some, length};
+ghost use Rattle.std.specs.Prelude.{◌≡◌, ◌↔◌, ◌^◌, ◌≤◌, ◌++◌, All, IfOk, IsTrue, Some, length};
 ghost use Rattle.iom_machine.specs.declared.state.State.{State};
-ghost use Rattle.iom_machine.specs.Refusals.{MayRefusePlug, MayRefuseAttach, MayRefuseGrant, MayRefuseRelease};
-ghost use Rattle.iom_machine.specs.Machine.{Plugs, Attaches, Grants, Releases, Fetches};
+ghost use Rattle.iom_machine.specs.Frames.{IsFree};
+ghost use Rattle.iom_machine.specs.Refusals.{MayRefusePlug, MayRefuseAttach, MayRefuseGrant, MayFindNoPlace};
+ghost use Rattle.iom_machine.specs.Machine.{Plugs, Attaches, Detaches, Grants, Releases, Fetches};
 
-use crate::decide::devices::{place_of, set_attachment};
+use crate::decide::devices::{place_of, set_attachment, start_leaving};
 use crate::decide::frames::{are_fewer_free, are_fewer_runs_free, are_free_besides, reserve};
 use crate::decide::reasons::{
-    attach_refusal, grant_refusal, plug_refusal, refuses, release_refusal,
+    attach_refusal, detach_refusal, grant_refusal, plug_refusal, refuses, release_refusal,
 };
 use crate::outcome::Outcome;
 use crate::state::{Attachment, Device, DeviceKind, Mode, State};
@@ -45,8 +46,8 @@ fn may_refuse_grant(state: &State, frame: u64, why: Refusal) -> bool
     }
 }
 
-fn may_refuse_release(why: Refusal) -> bool
-    ensures { IsTrue result ↔ MayRefuseRelease why }
+fn may_find_no_place(why: Refusal) -> bool
+    ensures { IsTrue result ↔ MayFindNoPlace why }
 {
     matches!(why, Refusal::QueueFull | Refusal::NumbersUsedUp)
 }
@@ -88,16 +89,28 @@ pub(crate) fn judge_plug(
     }
 }
 
-/// The state after an attach, where it may come so, and these frames become tables.
+/// Whether each of these frames and of those is free.
+fn are_both_free(state: &State, pages: &[u32], taken: &[u32]) -> bool
+    ensures { IsTrue result ↔ All (IsFree state.now) (pages.now ++ taken.now) }
+{
+    if !are_free_besides(state, None, pages) {
+        return false;
+    }
+    are_free_besides(state, None, taken)
+}
+
+/// The state after an attach, where it may come so, and these frames become pages of the device
+/// directory and tables.
 pub(crate) fn judge_attach(
     state: State,
     id: DeviceId,
     mode: Mode,
     ats: bool,
     outcome: &Outcome,
+    pages: &[u32],
     taken: &[u32],
 ) -> Option<State>
-    ensures { (new : State) → (result ≡ Some new) ↔ Attaches taken.now state id mode ats outcome.now new }
+    ensures { (new : State) → (result ≡ Some new) ↔ Attaches pages.now taken.now state id mode ats outcome.now new }
 {
     let first = attach_refusal(&state, id, ats);
     match outcome {
@@ -105,7 +118,7 @@ pub(crate) fn judge_attach(
             if first.is_some() {
                 return None;
             }
-            if !are_free_besides(&state, None, taken) {
+            if !are_both_free(&state, pages, taken) {
                 return None;
             }
             match place_of(state.devices.as_slice(), id) {
@@ -113,6 +126,7 @@ pub(crate) fn judge_attach(
                 Some(place) => {
                     let mut next = state;
                     set_attachment(&mut next.devices, place, Attachment::Attached { mode, ats });
+                    reserve(&mut next.frames, pages, Owner::System);
                     reserve(&mut next.frames, taken, Owner::OneDevice(id));
                     Some(next)
                 }
@@ -121,6 +135,37 @@ pub(crate) fn judge_attach(
         Outcome::Refused(why) => {
             let may_come = may_refuse_attach(&state, mode, *why);
             if refuses(first, may_come, *why) {
+                Some(state)
+            } else {
+                None
+            }
+        }
+        _ => None,
+    }
+}
+
+/// The state after a detach, where it may come so.
+pub(crate) fn judge_detach(state: State, id: DeviceId, outcome: &Outcome) -> Option<State>
+    ensures { (new : State) → (result ≡ Some new) ↔ Detaches state id outcome.now new }
+{
+    let first = detach_refusal(&state, id);
+    match outcome {
+        Outcome::Ticket(ticket) => {
+            if first.is_some() || u64::from(*ticket) != u64::from(state.last_ticket) + 1 {
+                return None;
+            }
+            match place_of(state.devices.as_slice(), id) {
+                None => None,
+                Some(place) => {
+                    let mut next = state;
+                    start_leaving(&mut next.devices, place, *ticket);
+                    next.last_ticket = *ticket;
+                    Some(next)
+                }
+            }
+        }
+        Outcome::Refused(why) => {
+            if refuses(first, may_find_no_place(*why), *why) {
                 Some(state)
             } else {
                 None
@@ -200,7 +245,7 @@ pub(crate) fn judge_release(
             Ok(Some(next))
         }
         Outcome::Refused(why) => {
-            if refuses(first, may_refuse_release(*why), *why) {
+            if refuses(first, may_find_no_place(*why), *why) {
                 Ok(Some(state))
             } else {
                 Ok(None)

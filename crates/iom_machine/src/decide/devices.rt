@@ -2,6 +2,7 @@
 ghost use Rattle.std.specs.Prelude.{◌≡◌, ◌<◌, ◌==◌, [], ◌∷◌, ◌++◌, length, find, slice_get, slice_set, MatchOption, OnOk, Some, None, drop};
 ghost use Rattle.std.specs.Option.{option_copied};
 ghost use Rattle.iom_machine.specs.Judging.{StandsAt};
+ghost use Rattle.iom_machine.specs.Leaving.{leaving_under};
 ghost use Rattle.iom_machine.specs.declared.state.Device.{Device};
 
 use crate::state::{Attachment, Device};
@@ -63,6 +64,26 @@ pub(crate) fn set_attachment(devices: &mut Sequence<Device>, place: usize, attac
 {
     let device = devices.item_mut(place);
     device.attachment = attachment;
+}
+
+/// What is attached leaves under the ticket.
+fn leaving_under(ticket: u32, attachment: Attachment) -> Attachment
+    ensures { result ≡ leaving_under ticket attachment }
+{
+    match attachment {
+        Attachment::Attached { mode, ats } => Attachment::Leaving { ticket, mode, ats },
+        _ => attachment,
+    }
+}
+
+/// The device leaves under the ticket, where it is attached.
+pub(crate) fn start_leaving(devices: &mut Sequence<Device>, place: usize, ticket: u32)
+    requires { place < length devices.old }
+    ensures { (device : Device) → slice_get devices.old place ≡ Some device
+        → devices.new ≡ slice_set devices.old place (record device { attachment = leaving_under ticket device.attachment }) }
+{
+    let device = devices.item_mut(place);
+    device.attachment = leaving_under(ticket, device.attachment);
 }
 
 /// Takes the oldest access of the device, which is in flight no more.

@@ -3,7 +3,7 @@ ghost use Rattle.std.specs.Prelude.{◌≡◌, ◌↔◌, IsTrue, ◌==◌, not,
 ghost use Rattle.std.specs.List.{list_any};
 ghost use Rattle.iom_ledger.specs.History.{is_about, granted_by, held_at, released_by, released_at, confirms, lingering_at, May, NoneMayReach, serves};
 ghost use Rattle.iom_machine.specs.Tickets.{last_confirmed};
-ghost use Rattle.iom_machine.specs.Judging.{holds_for, still_serves, lingers_for, lingers_among, reaches_in, anyone_reaches_in};
+ghost use Rattle.iom_machine.specs.Judging.{holds_for, still_serves, lingers_for, lingers_among, reaches_in, anyone_reaches_in, grants_left_in};
 ghost use Rattle.iom_machine.specs.Requests.{LingersSomewhere};
 
 use iom_base::{AccessKind, DeviceId, Rights};
@@ -341,4 +341,30 @@ pub(crate) fn lingers_at(history: &[HistoryEntry], device: DeviceId, page: u64) 
     ensures { result ≡ not (length (lingering_at history.now device page) == 0) }
 {
     lingering_in(history, history, device, page)
+}
+
+/// Whether the entry grants the device a page at which something is held by it, or lingers.
+fn grant_left(all: &[HistoryEntry], entry: &HistoryEntry, device: DeviceId) -> bool
+    ensures { result ≡ grants_left_in all.now (entry.now ∷ []) device }
+{
+    match *entry {
+        HistoryEntry::Granted {
+            device: d,
+            page,
+            ..
+        } => {
+            d == device
+                && (pair_held(all, device, page).is_some() || lingering_in(all, all, device, page))
+        }
+        _ => false,
+    }
+}
+
+/// Whether the device holds something, or something lingers for it.
+pub(crate) fn grants_left(history: &[HistoryEntry], device: DeviceId) -> bool
+    ensures { result ≡ grants_left_in history.now history.now device }
+{
+    history
+        .iter()
+        .any(|entry| grant_left(history, entry, device))
 }

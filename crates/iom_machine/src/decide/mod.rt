@@ -11,13 +11,16 @@ pub(crate) mod cut_off;
 pub(crate) mod devices;
 pub(crate) mod frames;
 pub(crate) mod history;
+mod leaving;
 mod polls;
 mod processor;
 pub(crate) mod reasons;
 pub(crate) mod requests;
 
 use crate::choice::Choice;
-use crate::decide::calls::{judge_attach, judge_fetch, judge_grant, judge_plug, judge_release};
+use crate::decide::calls::{
+    judge_attach, judge_detach, judge_fetch, judge_grant, judge_plug, judge_release,
+};
 use crate::decide::commits::judge_commit;
 use crate::decide::polls::judge_poll;
 use crate::decide::processor::{judge_free, judge_peek, judge_poke};
@@ -70,8 +73,10 @@ fn decide(
     match event {
         Event::Plug { device, kind } => judge_plug(alloc, state, *device, *kind, outcome),
         Event::Attach { device, mode, ats } => {
-            Ok(judge_attach(state, *device, *mode, *ats, outcome, taken))
+            let pages = choice.directory.as_slice();
+            Ok(judge_attach(state, *device, *mode, *ats, outcome, pages, taken))
         }
+        Event::Detach { device } => Ok(judge_detach(state, *device, outcome)),
         Event::Grant {
             device,
             page,
@@ -80,7 +85,7 @@ fn decide(
         } => judge_grant(state, *device, *page, *frame, *rights, outcome, taken),
         Event::Release { device, page } => judge_release(state, *device, *page, outcome),
         Event::Fetch => Ok(judge_fetch(state, outcome)),
-        Event::Poll => judge_poll(state, outcome),
+        Event::Poll => judge_poll(alloc, state, outcome),
         Event::Read {
             device,
             address,

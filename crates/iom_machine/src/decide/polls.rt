@@ -7,11 +7,12 @@ ghost use Rattle.iom_machine.specs.Tickets.{AreNextTickets};
 ghost use Rattle.iom_machine.specs.Machine.{Polls};
 
 use crate::decide::history::{last_ticket_confirmed, may};
+use crate::decide::leaving::take_leave;
 use crate::outcome::Outcome;
 use crate::state::{Device, State};
 use iom_base::{AcceptedAccess, DeviceId, Sequence};
 use iom_ledger::HistoryEntry;
-use std::alloc::AllocError;
+use std::alloc::{AllocError, Global};
 
 /// Whether each of the accesses of the device may reach its frame.
 fn each_may(history: &[HistoryEntry], id: DeviceId, in_flight: &[AcceptedAccess]) -> bool
@@ -70,7 +71,11 @@ fn are_next_tickets(state: &State, first: u32, last: u32) -> bool
 }
 
 /// The state after a poll, where it may come so.
-pub(crate) fn judge_poll(state: State, outcome: &Outcome) -> Result<Option<State>, AllocError>
+pub(crate) fn judge_poll(
+    alloc: Global,
+    state: State,
+    outcome: &Outcome,
+) -> Result<Option<State>, AllocError>
     ensures { IfOk result (λ next. (new : State) → (next ≡ Some new) ↔ Polls state outcome.now new) }
 {
     match outcome {
@@ -80,11 +85,11 @@ pub(crate) fn judge_poll(state: State, outcome: &Outcome) -> Result<Option<State
             }
             let mut next = state;
             confirm(&mut next.history, *first, *last)?;
-            if all_may(next.history.as_slice(), next.devices.as_slice()) {
-                Ok(Some(next))
-            } else {
-                Ok(None)
+            if !all_may(next.history.as_slice(), next.devices.as_slice()) {
+                return Ok(None);
             }
+            take_leave(alloc, &mut next)?;
+            Ok(Some(next))
         }
         Outcome::NoneConfirmed => Ok(Some(state)),
         _ => Ok(None),

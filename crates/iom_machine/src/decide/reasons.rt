@@ -4,14 +4,15 @@ ghost use Rattle.std.specs.Option.{option_map_or};
 ghost use Rattle.iom_machine.specs.declared.state.Attachment.TheVariants.{Detached};
 ghost use Rattle.iom_machine.specs.Tickets.{pending_tickets};
 ghost use Rattle.iom_ledger.specs.Refusals.{first_that_applies};
-ghost use Rattle.iom_machine.specs.Refusals.{plug_reasons, attach_reasons, grant_reasons, release_reasons, frame_reasons, poke_reasons};
+ghost use Rattle.iom_machine.specs.Refusals.{plug_reasons, attach_reasons, detach_reasons, grant_reasons, release_reasons, frame_reasons, poke_reasons};
 ghost use Rattle.iom_machine.specs.Refusals.{is_plugged, attachment_of, is_detached, is_leaving, is_quarantined, has_cache};
-ghost use Rattle.iom_machine.specs.Refusals.{is_trusted, id_limit, is_too_wide, is_held, is_lingering};
+ghost use Rattle.iom_machine.specs.Refusals.{is_trusted, id_limit, is_too_wide, is_held, is_lingering, has_grants};
+ghost use Rattle.iom_machine.specs.Judging.{attachment_in};
 
 use crate::decide::devices::device_with;
 use crate::decide::frames::has_owner;
-use crate::decide::history::{last_ticket_confirmed, lingers_at, pair_held};
-use crate::state::{Attachment, DeviceKind, State};
+use crate::decide::history::{grants_left, last_ticket_confirmed, lingers_at, pair_held};
+use crate::state::{Attachment, Device, DeviceKind, State};
 use iom_base::{DeviceId, MAX_DEVICES, PAGE_LIMIT};
 use iom_ledger::{MAX_PENDING, Refusal};
 
@@ -21,14 +22,21 @@ fn plugged(state: &State, id: DeviceId) -> bool
     device_with(state.devices.as_slice(), id).is_some()
 }
 
+/// How the device is attached, of these; detached, where it is none of them.
+pub(crate) fn attachment_in(devices: &[Device], id: DeviceId) -> Attachment
+    ensures { result ≡ attachment_in devices.now id }
+{
+    match device_with(devices, id) {
+        None => Attachment::Detached,
+        Some(device) => device.attachment,
+    }
+}
+
 /// How the device is attached; detached, where there is none.
 fn attachment(state: &State, id: DeviceId) -> Attachment
     ensures { result ≡ attachment_of state.now id }
 {
-    match device_with(state.devices.as_slice(), id) {
-        None => Attachment::Detached,
-        Some(device) => device.attachment,
-    }
+    attachment_in(state.devices.as_slice(), id)
 }
 
 fn detached(attachment: Attachment) -> bool
@@ -110,6 +118,13 @@ fn lingering(state: &State, id: DeviceId, page: u64) -> bool
     lingers_at(state.history.as_slice(), id, page)
 }
 
+/// Whether the device holds something, or something lingers for it.
+fn still_granted(state: &State, id: DeviceId) -> bool
+    ensures { result ≡ has_grants state.now id }
+{
+    grants_left(state.history.as_slice(), id)
+}
+
 pub(crate) fn plug_refusal(state: &State, id: DeviceId) -> Option<Refusal>
     ensures { result ≡ first_that_applies (plug_reasons state.now id) }
 {
@@ -133,6 +148,25 @@ pub(crate) fn attach_refusal(state: &State, id: DeviceId, ats: bool) -> Option<R
         Some(Refusal::IdTooWide)
     } else if ats && !trusted(state, id) {
         Some(Refusal::NotTrusted)
+    } else {
+        None
+    }
+}
+
+pub(crate) fn detach_refusal(state: &State, id: DeviceId) -> Option<Refusal>
+    ensures { result ≡ first_that_applies (detach_reasons state.now id) }
+{
+    let attachment = attachment(state, id);
+    if !plugged(state, id) {
+        Some(Refusal::NoSuchDevice)
+    } else if detached(attachment) || leaving(attachment) {
+        Some(Refusal::NotAttached)
+    } else if quarantined(attachment) {
+        Some(Refusal::Quarantined)
+    } else if still_granted(state, id) {
+        Some(Refusal::StillGranted)
+    } else if pending(state) >= MAX_PENDING as u32 {
+        Some(Refusal::TooManyPending)
     } else {
         None
     }

@@ -7,4 +7,4 @@ use Rattle.iom_driver.proofs.laws.stays_ready.Goals as goal
 pub returns : goal.returns
 returns c = λ driver old new r s ready keeps ring.
     let many : length old ≡ driver.frames = ready.stand.size ∙ driver.sound.sizes.marked in
-    ready_stays (state_of driver) old new r s (subst (λ n. AreFixed driver.marks n) (sym many) driver.sound.fixed) ready keeps ring
+    ready_stays (state_of driver) old new r s (subst (λ n. AreFixed driver.marks n) (sym many) driver.sound.fixed) driver.sound.sizes.in_range ready keeps ring

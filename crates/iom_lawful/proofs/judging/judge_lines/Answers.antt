@@ -1,5 +1,5 @@
 -- The loop of `judge_lines`: each lawful line leads on.
-use Rattle.std.proofs.Common.{◌≡◌, Some, slice_get, length, refl, arith}
+use Rattle.std.proofs.Common.{◌≡◌, Some, slice_get, refl, arith}
 use Rattle.std.proofs.lemmas.Option.{slice_get_read}
 use Rattle.iom_lawful.proofs.RunLemmas.{run_of_more}
 use Rattle.iom_lawful.proofs.judging.judge_lines.Goals as goal

@@ -15,10 +15,14 @@ returns-in-Some-plug c = found_line driver_starts (codes "device ") c.args.line.
 pub returns-in-Some-attach : goal.returns-in-Some-attach
 returns-in-Some-attach c = found_line driver_starts (codes "attach ") c.args.line.now c.in-Some-attach.event (3, omega arith, refl) c.in-Some-attach.ensures
 
-pub returns-in-None-attach : goal.returns-in-None-attach
-returns-in-None-attach c =
+pub returns-in-Some-detach : goal.returns-in-Some-detach
+returns-in-Some-detach c = found_line driver_starts (codes "detach ") c.args.line.now c.in-Some-detach.event (4, omega arith, refl) c.in-Some-detach.ensures
+
+pub returns-in-None-detach : goal.returns-in-None-detach
+returns-in-None-detach c =
     let line = c.args.line.now in
-    let one = either_line line (codes "attach " ∷ []) (codes "free " ∷ []) None c.free.result c.in-None-attach.ensures c.free.ensures in
-    let two = either_line line (codes "device " ∷ []) (codes "attach " ∷ codes "free " ∷ []) None c.free.result c.in-None-plug.ensures one in
-    let three = either_line line (codes "release " ∷ []) (codes "device " ∷ codes "attach " ∷ codes "free " ∷ []) None c.free.result c.in-None-release.ensures two in
-    either_line line (codes "grant " ∷ []) (codes "release " ∷ codes "device " ∷ codes "attach " ∷ codes "free " ∷ []) None c.free.result c.in-None.ensures three
+    let one = either_line line (codes "detach " ∷ []) (codes "free " ∷ []) None c.free.result c.in-None-detach.ensures c.free.ensures in
+    let two = either_line line (codes "attach " ∷ []) (codes "detach " ∷ codes "free " ∷ []) None c.free.result c.in-None-attach.ensures one in
+    let three = either_line line (codes "device " ∷ []) (codes "attach " ∷ codes "detach " ∷ codes "free " ∷ []) None c.free.result c.in-None-plug.ensures two in
+    let four = either_line line (codes "release " ∷ []) (codes "device " ∷ codes "attach " ∷ codes "detach " ∷ codes "free " ∷ []) None c.free.result c.in-None-release.ensures three in
+    either_line line (codes "grant " ∷ []) (codes "release " ∷ codes "device " ∷ codes "attach " ∷ codes "detach " ∷ codes "free " ∷ []) None c.free.result c.in-None.ensures four

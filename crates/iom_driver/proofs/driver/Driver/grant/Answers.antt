@@ -1,7 +1,8 @@
-use Rattle.std.proofs.Common.{◌≡◌, ◌∙◌, ℕ, List, ◌∷◌, true, false, Option, Some, Result, Ok, Err, OnOk, OnErr, length, refl, sym, ap, subst}
+use Rattle.std.proofs.Common.{◌≡◌, ◌∙◌, ℕ, List, ◌∷◌, true, false, Option, Some, Result, Ok, Err, OnOk, OnErr, length, slice_get, refl, sym, ap, subst}
 use Rattle.std.specs.Result.{is_err}
 use Rattle.std.proofs.lemmas.Bool.{false≢true}
 use Rattle.iom_base.specs.declared.owner.Owner.{Owner}
+use Rattle.iom_base.specs.declared.owner.Owner.TheVariants.{OneDevice, System}
 use Rattle.iom_base.specs.declared.rights.Rights.{Rights}
 use Rattle.iom_ledger.specs.Changes.{IsUnchanged, ShowsGrant}
 use Rattle.iom_ledger.specs.declared.entry.HistoryEntry.TheVariants as entry
@@ -12,14 +13,18 @@ use Rattle.iom_page_table.specs.declared.leaf.PageLeaf.{PageLeaf}
 use Rattle.iom_page_table.specs.Sv39.{missing_for, mapped}
 use Rattle.iom_driver.specs.Calls.{granted_leaf, KeepsOthers}
 use Rattle.iom_driver.specs.Choices.{AreHighestFree, marked_for, cleared}
+use Rattle.iom_driver.specs.Devices.{attachment_of}
 use Rattle.iom_driver.specs.Seen.{state_of}
 use Rattle.iom_driver.specs.Sound.{IsSound}
 use Rattle.iom_driver.specs.Tables.{HaveTables}
-use Rattle.iom_driver.proofs.Choosing.{AreChosen, are_chosen}
-use Rattle.iom_driver.proofs.GrantTables.{may_be_mapped, IsMapped, mapped_is, others_kept, tables_granted}
-use Rattle.iom_driver.proofs.Keeps.{unmarked, sound_granted}
-use Rattle.iom_driver.proofs.Marks.{length-cleared, length-marked_for}
+use Rattle.iom_driver.proofs.Chosen.{AreChosen, are_chosen, enough}
+use Rattle.iom_driver.proofs.Directories.{directory_stay, in_stands, stands_in}
+use Rattle.iom_driver.proofs.GrantTables.{may_be_mapped, IsMapped, mapped_is, others_kept, kept_others, tables_granted}
+use Rattle.iom_driver.proofs.Keeps.{sound_granted}
+use Rattle.iom_driver.proofs.Marks.{length-cleared, length-marked_for, mark_stays}
+use Rattle.iom_driver.proofs.Places.{attached_owns}
 use Rattle.iom_driver.proofs.Stays.{all_stay, ready_from}
+use Rattle.iom_driver.proofs.Taken.{unmarked, owned_not_chosen}
 use Rattle.iom_driver.proofs.driver.Driver.grant.Goals as goal
 
 -- what is promised where there is no error, and where there is one
@@ -50,7 +55,27 @@ returns-then-is_err-clause-stand c =
     record {
       size = c.requires.stand.size;
       tables = all_stay c.args.memory.now c.args.memory.now driver.marks driver.ledger c.grant.new.self driver.devices.items c.requires.stand.tables (λ n id own. refl) same.held;
+      directory = c.requires.stand.directory;
     }
+
+pub returns-then-is_err-clause-effect : goal.returns-then-is_err-clause-effect
+returns-then-is_err-clause-effect c =
+    let driver = c.args.self.now in
+    let memory = c.args.memory.now in
+    let failed = sym c.is_err.ensures.value ∙ c.if-is_err.true in
+    let unchanged : IsUnchanged driver.ledger c.grant.new.self = err_then c.grant.result failed c.grant.ensures.refused in
+    let many = sym (c.requires.stand.size ∙ driver.sound.sizes.marked) in
+    let chosen : AreHighestFree driver.marks driver.ledger (Some c.args.frame) (length memory) (missing_for memory c.in-Ok.stage.root c.args.page) c.in-Some.tables.items =
+    subst (λ n. AreHighestFree driver.marks driver.ledger (Some c.args.frame) (length memory) n c.in-Some.tables.items) c.missing-lacking.ensures
+    (subst (λ n. AreHighestFree driver.marks driver.ledger (Some c.args.frame) n c.missing-lacking.result c.in-Some.tables.items) many c.in-Some.ensures.chosen) in (
+      rw c.in-Ok.ensures.admitted record {
+        stage = c.in-Ok.stage;
+        attached = c.in-Ok.ensures.may.attached;
+        enough = enough driver.marks driver.ledger (Some c.args.frame) (length memory) (missing_for memory c.in-Ok.stage.root c.args.page) c.in-Some.tables.items chosen;
+      },
+      record { ledger = unchanged; agrees = err_then c.grant.result failed c.grant.ensures.refused_agrees; rest = refl },
+      refl,
+    )
 
 pub invariant_of-self-2 : goal.invariant_of-self-2
 invariant_of-self-2 c =
@@ -63,7 +88,7 @@ invariant_of-self-2 c =
     record {
       sound =
           subst (λ (ms : List (Option Owner)). IsSound c.grant.new.self ms driver.devices.items driver.frames driver.levels driver.started driver.given driver.confirmed)
-          (sym (c.reserve_all.ensures.marks ∙ ap (λ fs. marked_for c.args.id fs driver.marks) c.as_slice.ensures.value))
+          (sym (c.reserve_all.ensures.marks ∙ ap (λ fs. marked_for (OneDevice c.args.id) fs driver.marks) c.as_slice.ensures.value))
           (sound_granted driver.ledger c.grant.new.self driver.marks driver.devices.items driver.frames driver.levels driver.started driver.given driver.confirmed c.args.id c.args.page c.args.frame c.rights-rights.result c.in-Ok.stage tables
           driver.sound granted may.attached may.page_low (unmarked driver.marks c.args.frame may.inside may.unreserved) chose.inside chose.free);
     }
@@ -73,7 +98,7 @@ map-requires-clause-tree c =
     let driver = c.args.self.now in
     let many = sym (c.requires.stand.size ∙ driver.sound.sizes.marked) in
     let may = may_be_mapped c.args.memory.now driver.marks driver.ledger c.args.id c.in-Ok.stage.root c.args.page c.args.frame c.missing-lacking.result c.in-Some.tables.items
-    (c.requires.stand.tables c.args.id c.in-Ok.stage c.in-Ok.ensures.may.attached) c.in-Ok.ensures.may.page_low c.in-Ok.ensures.may.not_held c.missing-lacking.ensures
+    (c.requires.stand.tables c.args.id c.in-Ok.stage (attached_owns (attachment_of driver.devices.items c.args.id) c.in-Ok.stage c.in-Ok.ensures.may.attached)) c.in-Ok.ensures.may.page_low c.in-Ok.ensures.may.not_held c.missing-lacking.ensures
     (chosen_below driver.marks driver.ledger c.args.frame driver.frames c.missing-lacking.result c.in-Some.tables.items c.args.memory.now many c.in-Some.ensures.chosen) in
     rw (c.reserve_all.ensures.memory, c.as_slice.ensures.value) may.tree
 
@@ -82,7 +107,7 @@ map-requires-clause-free c =
     let driver = c.args.self.now in
     let many = sym (c.requires.stand.size ∙ driver.sound.sizes.marked) in
     let may = may_be_mapped c.args.memory.now driver.marks driver.ledger c.args.id c.in-Ok.stage.root c.args.page c.args.frame c.missing-lacking.result c.in-Some.tables.items
-    (c.requires.stand.tables c.args.id c.in-Ok.stage c.in-Ok.ensures.may.attached) c.in-Ok.ensures.may.page_low c.in-Ok.ensures.may.not_held c.missing-lacking.ensures
+    (c.requires.stand.tables c.args.id c.in-Ok.stage (attached_owns (attachment_of driver.devices.items c.args.id) c.in-Ok.stage c.in-Ok.ensures.may.attached)) c.in-Ok.ensures.may.page_low c.in-Ok.ensures.may.not_held c.missing-lacking.ensures
     (chosen_below driver.marks driver.ledger c.args.frame driver.frames c.missing-lacking.result c.in-Some.tables.items c.args.memory.now many c.in-Some.ensures.chosen) in
     rw (c.reserve_all.ensures.memory, c.as_slice.ensures.value) may.free
 
@@ -91,7 +116,7 @@ map-requires-clause-count c =
     let driver = c.args.self.now in
     let many = sym (c.requires.stand.size ∙ driver.sound.sizes.marked) in
     let may = may_be_mapped c.args.memory.now driver.marks driver.ledger c.args.id c.in-Ok.stage.root c.args.page c.args.frame c.missing-lacking.result c.in-Some.tables.items
-    (c.requires.stand.tables c.args.id c.in-Ok.stage c.in-Ok.ensures.may.attached) c.in-Ok.ensures.may.page_low c.in-Ok.ensures.may.not_held c.missing-lacking.ensures
+    (c.requires.stand.tables c.args.id c.in-Ok.stage (attached_owns (attachment_of driver.devices.items c.args.id) c.in-Ok.stage c.in-Ok.ensures.may.attached)) c.in-Ok.ensures.may.page_low c.in-Ok.ensures.may.not_held c.missing-lacking.ensures
     (chosen_below driver.marks driver.ledger c.args.frame driver.frames c.missing-lacking.result c.in-Some.tables.items c.args.memory.now many c.in-Some.ensures.chosen) in
     rw (c.as_slice-2.ensures.value, c.reserve_all.ensures.memory, c.as_slice.ensures.value) may.count
 
@@ -100,7 +125,7 @@ map-requires-clause-fresh c =
     let driver = c.args.self.now in
     let many = sym (c.requires.stand.size ∙ driver.sound.sizes.marked) in
     let may = may_be_mapped c.args.memory.now driver.marks driver.ledger c.args.id c.in-Ok.stage.root c.args.page c.args.frame c.missing-lacking.result c.in-Some.tables.items
-    (c.requires.stand.tables c.args.id c.in-Ok.stage c.in-Ok.ensures.may.attached) c.in-Ok.ensures.may.page_low c.in-Ok.ensures.may.not_held c.missing-lacking.ensures
+    (c.requires.stand.tables c.args.id c.in-Ok.stage (attached_owns (attachment_of driver.devices.items c.args.id) c.in-Ok.stage c.in-Ok.ensures.may.attached)) c.in-Ok.ensures.may.page_low c.in-Ok.ensures.may.not_held c.missing-lacking.ensures
     (chosen_below driver.marks driver.ledger c.args.frame driver.frames c.missing-lacking.result c.in-Some.tables.items c.args.memory.now many c.in-Some.ensures.chosen) in
     rw (c.as_slice-2.ensures.value, c.reserve_all.ensures.memory, c.as_slice.ensures.value) may.fresh
 
@@ -138,9 +163,9 @@ returns-clause-effect c =
               size = c.map.ensures.size;
             } in
             subst (λ (ms : List (Option Owner)). KeepsOthers ms c.args.id memory c.map.new.memory)
-            (sym (c.reserve_all.ensures.marks ∙ ap (λ fs. marked_for c.args.id fs driver.marks) c.as_slice.ensures.value))
+            (sym (c.reserve_all.ensures.marks ∙ ap (λ fs. marked_for (OneDevice c.args.id) fs driver.marks) c.as_slice.ensures.value))
             (others_kept memory c.map.new.memory driver.marks driver.ledger c.args.id root c.args.page c.args.frame c.missing-lacking.result leaf tables (sym c.requires.stand.size)
-            (c.requires.stand.tables c.args.id c.in-Ok.stage c.in-Ok.ensures.may.attached)
+            (c.requires.stand.tables c.args.id c.in-Ok.stage (attached_owns (attachment_of driver.devices.items c.args.id) c.in-Ok.stage c.in-Ok.ensures.may.attached))
             (chosen_below driver.marks driver.ledger c.args.frame driver.frames c.missing-lacking.result tables memory many c.in-Some.ensures.chosen) mapped);
       },
     )
@@ -166,20 +191,35 @@ returns-clause-stand c =
     let granted = ok_then c.grant.result (sym c.is_err.ensures.value ∙ c.if-is_err.false) c.grant.ensures.granted in
     let many = sym (c.requires.stand.size ∙ driver.sound.sizes.marked) in
     let chose = chosen_below driver.marks driver.ledger c.args.frame driver.frames c.missing-lacking.result tables memory many c.in-Some.ensures.chosen in
-    let marks = c.reserve_all.ensures.marks ∙ ap (λ fs. marked_for c.args.id fs driver.marks) c.as_slice.ensures.value in
+    let marks = c.reserve_all.ensures.marks ∙ ap (λ fs. marked_for (OneDevice c.args.id) fs driver.marks) c.as_slice.ensures.value in
     record {
-      size = mapped.size ∙ length-cleared tables memory ∙ c.requires.stand.size ∙ sym (length-marked_for c.args.id tables driver.marks) ∙ sym (ap (λ (ms : List (Option Owner)). length ms) marks);
+      size = mapped.size ∙ length-cleared tables memory ∙ c.requires.stand.size ∙ sym (length-marked_for (OneDevice c.args.id) tables driver.marks) ∙ sym (ap (λ (ms : List (Option Owner)). length ms) marks);
       tables =
           subst (λ (ms : List (Option Owner)). HaveTables c.map.new.memory ms c.grant.new.self driver.devices.items) (sym marks)
           (tables_granted memory c.map.new.memory driver.marks driver.ledger c.grant.new.self driver.devices.items c.args.id c.args.page c.args.frame c.missing-lacking.result c.rights-rights.result c.in-Ok.stage tables
-          (sym c.requires.stand.size) c.requires.stand.tables may.attached may.page_low granted chose mapped);
+          (sym c.requires.stand.size) c.requires.stand.tables (attached_owns (attachment_of driver.devices.items c.args.id) c.in-Ok.stage c.in-Ok.ensures.may.attached) may.page_low granted chose mapped);
+      directory = λ started.
+          let long = sym c.requires.stand.size in
+          let before = c.requires.stand.tables c.args.id c.in-Ok.stage (attached_owns (attachment_of driver.devices.items c.args.id) c.in-Ok.stage c.in-Ok.ensures.may.attached) in
+          let size : length c.map.new.memory ≡ length memory = mapped.size ∙ length-cleared tables memory in
+          stands_in driver.frames c.map.new.memory _ driver.devices.items driver.levels (size ∙ sym many)
+          (directory_stay driver.frames memory c.map.new.memory driver.marks _ driver.devices.items driver.devices.items driver.levels driver.sound.sizes.in_range size
+          (λ n own. (
+            kept_others memory c.map.new.memory driver.marks driver.ledger c.args.id c.in-Ok.stage.root c.args.page c.args.frame c.missing-lacking.result n leaf tables System long before chose mapped own.system
+                (λ same. not_system c.args.id same),
+            ap (λ (ms : List (Option Owner)). slice_get ms n) marks ∙ mark_stays (OneDevice c.args.id) n tables driver.marks
+                (owned_not_chosen driver.marks driver.ledger (Some c.args.frame) (length memory) c.missing-lacking.result n tables System long chose own.system),
+          )) (λ id. refl) (in_stands driver.frames memory driver.marks driver.devices.items driver.levels (sym many) (c.requires.stand.directory started)));
     }
+  where
+    not_system : (id : ℕ) → ◌≡◌ {A = Owner} System (OneDevice id) → ⊥
+    not_system id same = cc
 
 pub returns-then-is_err-clause-ready : goal.returns-then-is_err-clause-ready
 returns-then-is_err-clause-ready c = λ r ready.
-    ready_from (state_of c.args.self.now) _ c.args.memory.now c.args.memory.now r (returns-then-is_err-clause-stand c) refl refl ready
+    ready_from (state_of c.args.self.now) _ c.args.memory.now c.args.memory.now r (returns-then-is_err-clause-stand c) refl refl refl ready
 
 pub returns-clause-ready : goal.returns-clause-ready
 returns-clause-ready c = λ r ready.
     let size = c.map.ensures.size ∙ ap (λ (m : List (List ℕ)). length m) c.reserve_all.ensures.memory ∙ length-cleared c.as_slice.result.now c.args.memory.now in
-    ready_from (state_of c.args.self.now) _ c.args.memory.now c.map.new.memory r (returns-clause-stand c) size refl ready
+    ready_from (state_of c.args.self.now) _ c.args.memory.now c.map.new.memory r (returns-clause-stand c) size refl refl ready

@@ -1,4 +1,5 @@
-use Rattle.std.proofs.Common.{◌≡◌, Bool, true, false, List, if◌then◌else◌, sym, subst, arith}
+use Rattle.std.proofs.Common.{◌≡◌, ◌∙◌, Bool, true, false, List, Option, Some, None, is_some, if◌then◌else◌, refl, sym, subst, arith}
+use Rattle.std.proofs.lemmas.Bool.{false≢true}
 use Rattle.iom_driver.specs.declared.device.Device.{Device}
 use Rattle.iom_driver.specs.Ready.{IsReady}
 use Rattle.iom_driver.specs.Seen.{state_of}
@@ -12,12 +13,16 @@ by_test : {A : Type 0} (P : A → Type 0) (b : Bool) (x y z : A) → x ≡ (if b
 by_test P true x y z is chosen other = subst P (sym is) chosen
 by_test P false x y z is chosen other = subst P (sym is) other
 
+absent_device : {A : Type 0} (o : Option A) → is_some o ≡ false → o ≡ None
+absent_device None none = refl
+absent_device (Some x) none = absurd (false≢true (sym none))
+
 pub invariant_of-self : goal.invariant_of-self
 invariant_of-self c =
     let driver = c.args.self.now in
     record {
       sound = by_test (λ (devices : List Device). IsSound driver.ledger driver.marks devices driver.frames driver.levels driver.started driver.given driver.confirmed) _ _ _ _ c.push.ensures.items
-          (sound_plugged driver.ledger driver.marks driver.devices.items driver.frames driver.levels driver.started driver.given driver.confirmed c.args.id driver.sound (omega arith))
+          (sound_plugged driver.ledger driver.marks driver.devices.items driver.frames driver.levels driver.started driver.given driver.confirmed c.args.id driver.sound (sym c.device_of.ensures ∙ absent_device c.device_of.result (sym c.is_some.ensures ∙ c.if-is_some.false)) (omega arith))
           driver.sound;
     }
 

@@ -1,7 +1,65 @@
-use Rattle.std.proofs.Common.{◌≤◌, arith, refl}
+use Rattle.std.proofs.Common.{◌≡◌, ◌≤◌, ◌+◌, ◌*◌, ◌∙◌, ℕ, List, length, false, map, Option, Some, slice_get, refl, sym, ap, subst, arith}
+use Rattle.std.proofs.lemmas.Bool.{false≢true}
+use Rattle.std.proofs.lemmas.List.{length-map}
+use Rattle.iom_base.specs.declared.owner.Owner.{Owner}
+use Rattle.iom_phys_mem.specs.Words.{word_at}
+use Rattle.iom_driver.specs.declared.device.Device.{Device}
+use Rattle.iom_driver.specs.Confirmed.{once_confirmed, given_back, is_gone, has_left, ClearsGone}
+use Rattle.iom_driver.specs.Directory.{NamesDirectory}
+use Rattle.iom_driver.specs.Layout.{completion_address}
+use Rattle.iom_driver.specs.Ready.{IsRing}
+use Rattle.iom_driver.specs.Seen.{state_of}
+use Rattle.iom_driver.specs.State.{DriverState}
+use Rattle.iom_driver.proofs.Confirms.{confirms_none}
+use Rattle.iom_driver.proofs.Directories.{in_stands, stands_in}
+use Rattle.iom_driver.proofs.Gone.{none_left, nobody_gone, marks_same, devices_same}
+use Rattle.iom_driver.proofs.Ids.{device_at}
 use Rattle.iom_driver.proofs.Keeps.{sound_polled}
-use Rattle.iom_driver.proofs.Stays.{all_stay}
+use Rattle.iom_driver.proofs.Places.{attachment_is}
+use Rattle.iom_driver.proofs.PollTables.{tables_polled, directory_polled}
 use Rattle.iom_driver.proofs.driver.Driver.poll.Goals as goal
+
+-- a driver of which no device has left
+unchanged_so : (d : DriverState) (n : ℕ) → n ≡ d.confirmed → map (given_back d.confirmed d.devices) d.marks ≡ d.marks → map (once_confirmed d.confirmed) d.devices ≡ d.devices
+    → d ≡ record d { ledger = d.ledger; marks = map (given_back n d.devices) d.marks; devices = map (once_confirmed n) d.devices; confirmed = n }
+unchanged_so d n same marks devices =
+    sym (ap (λ m. record d { marks = map (given_back m d.devices) d.marks; devices = map (once_confirmed m) d.devices; confirmed = m }) same
+    ∙ ap (λ (ms : List (Option Owner)). record d { marks = ms; devices = map (once_confirmed d.confirmed) d.devices }) marks
+    ∙ ap (λ (ds : List Device). record d { devices = ds }) devices)
+
+none_cleared : (done : ℕ) (devices : List Device) (marks : List (Option Owner)) (memory : List (List ℕ)) → ((owner : Owner) → is_gone done devices owner ≡ false) → ClearsGone done devices marks memory memory
+none_cleared done devices marks memory nobody = record {
+  size = refl;
+  own = λ f owner at gone. absurd (false≢true (sym (nobody owner) ∙ gone));
+  others = λ f stay. refl;
+}
+
+pub returns-then-done-self-clause-effect : goal.returns-then-done-self-clause-effect
+returns-then-done-self-clause-effect g c =
+    let driver = c.args.self.now in
+    let devices = driver.devices.items in
+    let memory = c.args.memory.now in
+    let many : length memory ≡ driver.frames = c.requires.ready.stand.size ∙ driver.sound.sizes.marked in
+    let stay = none_left devices driver.given driver.confirmed driver.sound.leaving in
+    let nobody = nobody_gone devices driver.confirmed stay in
+    let at_place : (k : ℕ) (device : Device) → slice_get devices k ≡ Some device → has_left driver.confirmed device.attachment ≡ false =
+    λ k device at. ap (has_left driver.confirmed) (sym (attachment_is devices device.id device (device_at devices k device driver.sound.ids at))) ∙ stay device.id in
+    let none : driver.confirmed + 0 ≡ driver.confirmed = omega arith in
+    let word = c.first_word-word.result in
+    let read : word_at 4 memory (completion_address driver.frames) ≡ Some word = ap (λ f. word_at 4 memory (4096 * f)) (sym c.completion_frame.ensures) ∙ c.first_word-word.ensures in (
+      rw c.if-not-self.false refl,
+      record {
+        word = word;
+        read = ap (λ n. word_at 4 memory (completion_address n)) many ∙ read;
+        count = omega (arith, c.last_done-done.ensures, c.if-done-self.true);
+        first = refl;
+        timed_out = c.has_timed_out-timed_out.ensures;
+        shown = confirms_none driver.ledger (driver.confirmed + 1) 0 refl;
+        agrees = λ h agrees. agrees;
+        driver = unchanged_so (state_of driver) (driver.confirmed + 0) none (marks_same driver.confirmed devices driver.marks nobody) (devices_same driver.confirmed devices at_place);
+        cleared = subst (λ n. ClearsGone n devices driver.marks memory memory) (sym none) (none_cleared driver.confirmed devices driver.marks memory nobody);
+      },
+    )
 
 pub invariant_of-self : goal.invariant_of-self
 invariant_of-self g c =
@@ -11,18 +69,29 @@ invariant_of-self g c =
     let low : driver.confirmed ≤ done = omega arith in
     let high : done ≤ driver.given = omega arith in
     record {
-      sound = sound_polled driver.ledger c.confirm_after.new.ledger driver.marks driver.devices.items driver.frames driver.levels driver.started driver.given driver.confirmed done
-          driver.sound c.confirm_after.ensures.shown low high;
+      sound =
+          rw (c.let_go.ensures.marks, c.let_go.ensures.devices)
+          (sound_polled driver.ledger c.confirm_after.new.ledger driver.marks driver.devices.items driver.frames driver.levels driver.started driver.given driver.confirmed done
+          driver.sound c.confirm_after.ensures.shown low high);
     }
 
 pub returns-clause-ready : goal.returns-clause-ready
 returns-clause-ready g c =
     let driver = c.args.self.now in
+    let memory = c.args.memory.now in
+    let done = c.last_done-done.result in
     let ready = c.requires.ready in
-    record {
+    let many : length memory ≡ driver.frames = ready.stand.size ∙ driver.sound.sizes.marked in
+    let size : length c.let_go.new.memory ≡ length memory = c.let_go.ensures.memory.size in
+    rw (c.let_go.ensures.marks, c.let_go.ensures.devices) record {
       stand = record {
-        size = ready.stand.size;
-        tables = all_stay c.args.memory.now c.args.memory.now driver.marks driver.ledger c.confirm_after.new.ledger driver.devices.items ready.stand.tables (λ n id own. refl) c.confirm_after.ensures.shown.held;
+        size = size ∙ ready.stand.size ∙ sym (length-map driver.marks (given_back done driver.devices.items));
+        tables = tables_polled done memory c.let_go.new.memory driver.marks driver.ledger c.confirm_after.new.ledger driver.devices.items ready.stand.tables c.let_go.ensures.memory c.confirm_after.ensures.shown.held;
+        directory = λ started.
+            stands_in driver.frames c.let_go.new.memory (map (given_back done driver.devices.items) driver.marks) (map (once_confirmed done) driver.devices.items) driver.levels (size ∙ many)
+            (directory_polled driver.frames done memory c.let_go.new.memory driver.marks driver.devices.items driver.levels driver.sound.sizes.in_range c.let_go.ensures.memory
+            (in_stands driver.frames memory driver.marks driver.devices.items driver.levels many (ready.stand.directory started)));
       };
-      ring = ready.ring;
+      ring = λ started. subst (λ n. IsRing n (g.M.Mmio.registers c.args.io.now)) (sym size) (ready.ring started);
+      directory = λ started. subst (λ n. NamesDirectory n driver.levels (g.M.Mmio.registers c.args.io.now)) (sym size) (ready.directory started);
     }

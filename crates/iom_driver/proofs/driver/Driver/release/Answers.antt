@@ -8,12 +8,17 @@ use Rattle.iom_command_queue.specs.declared.command.Command.{Command}
 use Rattle.iom_command_queue.specs.declared.entry.QueueEntry.{QueueEntry}
 use Rattle.iom_command_queue.specs.declared.entry.QueueEntry.TheVariants as stands
 use Rattle.iom_driver.specs.Appends.{fence}
+use Rattle.iom_driver.specs.Devices.{attachment_of}
+use Rattle.iom_driver.specs.Directory.{NamesDirectory}
 use Rattle.iom_driver.specs.Layout.{command_frame, completion_address}
 use Rattle.iom_driver.specs.Ready.{IsRing}
-use Rattle.iom_driver.proofs.Keeps.{length-tickets_after, sound_released}
+use Rattle.iom_driver.proofs.Directories.{directory_stay, in_stands, stands_in}
+use Rattle.iom_driver.proofs.Keeps.{sound_released}
+use Rattle.iom_driver.proofs.Places.{attached_owns}
 use Rattle.iom_driver.proofs.ReleaseTables.{IsUnmapped, other_frame, tables_released}
-use Rattle.iom_driver.proofs.Ring.{same_commands, two_last}
+use Rattle.iom_driver.proofs.Ring.{same_commands, two_last, stays_named}
 use Rattle.iom_driver.proofs.Stays.{all_stay, of_one}
+use Rattle.iom_driver.proofs.Tickets.{few_rise}
 use Rattle.iom_driver.proofs.driver.Driver.release.Goals as goal
 
 -- a value that is there
@@ -29,9 +34,8 @@ pub release-requires-clause-room : goal.release-requires-clause-room
 release-requires-clause-room g c =
     let driver = c.args.self.now in
     let few : driver.given - driver.confirmed < pending_limit = c.in-Ok.ensures.may.few in
-    let size : length (pending_in driver.ledger) ≡ driver.given - driver.confirmed =
-    ap (λ (ts : List ℕ). length ts) driver.sound.tickets.pending ∙ length-tickets_after driver.confirmed (driver.given - driver.confirmed) in
-    omega (arith, size, few)
+    let many = few_rise driver.confirmed driver.given (pending_in driver.ledger) driver.sound.tickets.pending driver.sound.tickets.ordered in
+    omega (arith, many, few)
 
 pub invariant_of-self : goal.invariant_of-self
 invariant_of-self g c =
@@ -41,6 +45,10 @@ invariant_of-self g c =
           driver.sound c.release.ensures.released;
     }
 
+pub unmap-requires-clause-tree : goal.unmap-requires-clause-tree
+unmap-requires-clause-tree g c =
+    (c.requires.ready.stand.tables c.args.id c.in-Ok.stage (attached_owns (attachment_of c.args.self.now.devices.items c.args.id) c.in-Ok.stage c.in-Ok.ensures.may.attached)).tree
+
 pub unmap-requires-clause-page : goal.unmap-requires-clause-page
 unmap-requires-clause-page g c =
     let held = there _ c.in-Ok.ensures.may.held in
@@ -48,7 +56,7 @@ unmap-requires-clause-page g c =
 
 pub invalidation-requires-clause-number : goal.invalidation-requires-clause-number
 invalidation-requires-clause-number g c =
-    let small = c.args.self.now.sound.numbers.small c.args.id c.in-Ok.stage c.in-Ok.ensures.may.attached in
+    let small = c.args.self.now.sound.numbers.small c.args.id c.in-Ok.stage (attached_owns (attachment_of c.args.self.now.devices.items c.args.id) c.in-Ok.stage c.in-Ok.ensures.may.attached) in
     let le : c.in-Ok.stage.number ≤ 17 = small.1 in
     omega arith
 
@@ -71,7 +79,7 @@ returns-clause-effect g c =
       size = c.unmap.ensures.size;
     } in
     let many : length memory ≡ driver.frames = stand.size ∙ driver.sound.sizes.marked in
-    let tables = stand.tables c.args.id c.in-Ok.stage c.in-Ok.ensures.may.attached in (
+    let tables = stand.tables c.args.id c.in-Ok.stage (attached_owns (attachment_of driver.devices.items c.args.id) c.in-Ok.stage c.in-Ok.ensures.may.attached) in (
       c.in-Ok.ensures.admitted,
       record {
         stage = c.in-Ok.stage;
@@ -108,13 +116,25 @@ returns-clause-ready g c =
       size = c.unmap.ensures.size;
     } in
     let tables = tables_released c.args.memory.now c.unmap.new.memory driver.marks driver.ledger c.release.new.self driver.devices.items c.args.id c.args.page (driver.given + 1) c.in-Ok.stage
-    stand.tables c.in-Ok.ensures.may.attached unmapped c.release.ensures.released in
+    stand.tables (attached_owns (attachment_of driver.devices.items c.args.id) c.in-Ok.stage c.in-Ok.ensures.may.attached) unmapped c.release.ensures.released in
+    let before = stand.tables c.args.id c.in-Ok.stage (attached_owns (attachment_of driver.devices.items c.args.id) c.in-Ok.stage c.in-Ok.ensures.may.attached) in
+    let many : length c.args.memory.now ≡ driver.frames = stand.size ∙ driver.sound.sizes.marked in
     let size : length c.append_release.new.memory ≡ length c.args.memory.now = c.append_release.ensures.size ∙ c.unmap.ensures.size in
     record {
       stand = record {
         size = size ∙ stand.size;
         tables = all_stay c.unmap.new.memory c.append_release.new.memory driver.marks c.release.new.self c.release.new.self driver.devices.items tables
             (λ n id own. c.append_release.ensures.other_frames n (of_one driver.marks (driver.frames - 1) n id driver.sound.fixed.command own)) (λ id page. refl);
+        directory = λ started.
+            stands_in driver.frames c.append_release.new.memory driver.marks driver.devices.items driver.levels (size ∙ many)
+            (directory_stay driver.frames c.args.memory.now c.append_release.new.memory driver.marks driver.marks driver.devices.items driver.devices.items driver.levels driver.sound.sizes.in_range size
+            (λ n own. (
+              c.append_release.ensures.other_frames n own.no_command
+                  ∙ other_frame c.args.memory.now c.unmap.new.memory c.in-Ok.stage.root c.args.page n unmapped (λ at. not_of_device driver.marks n c.args.id own.system (before.own n at)),
+              refl,
+            )) (λ id. refl) (in_stands driver.frames c.args.memory.now driver.marks driver.devices.items driver.levels many (stand.directory started)));
       };
+      directory = λ started. subst (λ n. NamesDirectory n driver.levels (g.M.Mmio.registers c.append_release.new.io)) (sym size)
+          (stays_named (length c.args.memory.now) driver.levels (g.M.Mmio.registers c.args.io.now) (g.M.Mmio.registers c.append_release.new.io) c.append_release.ensures.named (c.requires.ready.directory started));
       ring = λ started. subst (λ n. IsRing n (g.M.Mmio.registers c.append_release.new.io)) (sym (size ∙ stand.size ∙ driver.sound.sizes.marked)) c.append_release.ensures.ring;
     }

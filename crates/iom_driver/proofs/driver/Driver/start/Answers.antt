@@ -1,4 +1,4 @@
-use Rattle.std.proofs.Common.{◌≡◌, ◌/◌, ◌%◌, ◌<◌, ◌≤◌, ◌∙◌, ℕ, List, Option, Some, None, IsSome, OnSome, length, slice_set, refl, sym, ap, subst, arith}
+use Rattle.std.proofs.Common.{◌≡◌, ◌/◌, ◌%◌, ◌<◌, ◌≤◌, ◌∙◌, ℕ, List, Option, Some, None, IsSome, OnSome, length, slice_get, slice_set, refl, sym, ap, subst, arith}
 use Rattle.std.proofs.lemmas.List.{length-set}
 use Rattle.iom_phys_mem.specs.Words.{zeroed, with_word}
 use Rattle.iom_registers.specs.declared.registers.Registers.{Registers}
@@ -7,10 +7,13 @@ use Rattle.iom_registers.specs.Table.{written}
 use Rattle.iom_command_queue.specs.Waiting.{commands_in}
 use Rattle.iom_driver.specs.declared.device.Device.{Device}
 use Rattle.iom_driver.specs.declared.device.FirstStage.{FirstStage}
-use Rattle.iom_driver.specs.Devices.{stage_of}
+use Rattle.iom_driver.specs.Devices.{owned_stage_of, owned_stage, attached_stage}
+use Rattle.iom_driver.specs.Directory.{NamesDirectory}
 use Rattle.iom_driver.specs.Layout.{completion_address, directory_frame, ddtp_of, cqb_of}
 use Rattle.iom_driver.specs.Ready.{IsRing}
-use Rattle.iom_driver.proofs.Ring.{started, started_ring, started_empty}
+use Rattle.iom_driver.proofs.Ring.{started, started_ring, started_empty, started_names}
+use Rattle.iom_driver.proofs.Directories.{directory_starts, stands_in}
+use Rattle.iom_driver.proofs.Lists.{get_set_same}
 use Rattle.iom_driver.proofs.driver.Driver.start.Goals as goal
 
 -- what holds where a value is there holds where it is
@@ -22,7 +25,10 @@ on_some (Some x) present holds = holds
 place : (frames : ℕ) (memory : List (List ℕ)) (address : ℕ) → length memory ≡ frames → 64 ≤ frames → address ≡ completion_address frames → (address % 4 ≡ 0) × (address / 4096 < length memory)
 place frames memory address many le at = (omega (arith, at), omega (arith, at, many, le))
 
-none_some : (devices : List Device) (id : ℕ) (stage : FirstStage) → stage_of devices id ≡ None → stage_of devices id ≡ Some stage → ⊥
+inside : (frames size : ℕ) → size ≡ frames → 64 ≤ frames → directory_frame frames < size
+inside frames size same many = omega (arith, same, many)
+
+none_some : (devices : List Device) (id : ℕ) (stage : FirstStage) → owned_stage_of devices id ≡ None → owned_stage_of devices id ≡ Some stage → ⊥
 none_some devices id stage none some = let both : ◌≡◌ {A = Option FirstStage} None (Some stage) = sym none ∙ some in cc
 
 pub returns-clause-effect : goal.returns-clause-effect
@@ -69,9 +75,19 @@ returns-clause-ready g c =
     record {
       stand = record {
         size = size ∙ c.requires.size;
-        tables = λ id stage at. absurd (none_some driver.devices.items id stage (driver.sound.idle c.requires.idle id) at);
+        tables = λ id stage at. absurd (none_some driver.devices.items id stage (ap owned_stage (driver.sound.idle c.requires.idle id)) at);
+        directory = λ running.
+            let zero = ap (λ (m : List (List ℕ)). slice_get m (directory_frame driver.frames)) (c.clear.ensures ∙ ap (λ n. slice_set c.store_u32.new.self n zeroed) c.directory_frame.ensures)
+            ∙ get_set_same c.store_u32.new.self (directory_frame driver.frames) zeroed (inside driver.frames (length c.store_u32.new.self) (c.store_u32.ensures.frames ∙ many) driver.sound.sizes.size.0) in
+            stands_in driver.frames c.clear.new.memory driver.marks driver.devices.items driver.levels (size ∙ many)
+            (directory_starts driver.frames c.clear.new.memory driver.marks driver.devices.items driver.levels driver.sound.sizes.in_range driver.sound.sizes.size.0 driver.sound.fixed zero
+            (λ id. ap attached_stage (driver.sound.idle c.requires.idle id)));
       };
       ring = λ running.
           subst (λ n. IsRing n (r c.write-3.new.io)) (sym (size ∙ many))
           (subst (λ (x : Registers). IsRing driver.frames x) (sym ran) (started_ring (r c.args.io.now) c.ddtp_of.result driver.frames c.requires.off driver.sound.sizes.size.1));
+      directory = λ running.
+          subst (λ n. NamesDirectory n driver.levels (r c.write-3.new.io)) (sym (size ∙ many))
+          (subst (λ (x : Registers). NamesDirectory driver.frames driver.levels x) (sym (ran ∙ ap (λ v. started (r c.args.io.now) v (cqb_of driver.frames)) c.ddtp_of.ensures))
+          (started_names (r c.args.io.now) driver.frames driver.levels c.requires.off driver.sound.sizes.size.1 driver.sound.sizes.in_range));
     }

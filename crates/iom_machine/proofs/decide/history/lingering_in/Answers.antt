@@ -1,5 +1,5 @@
 -- From the oldest entry on.
-use Rattle.std.proofs.Common.{◌+◌, ◌-◌, ◌∙◌, not, length, drop, sym, ap, subst, arith}
+use Rattle.std.proofs.Common.{◌+◌, ◌-◌, ◌∙◌, not, length, drop, sym, ap, arith}
 use Rattle.std.specs.List.{list_any}
 use Rattle.iom_ledger.specs.History.{History, confirms, held_at, released_at}
 use Rattle.iom_machine.proofs.HistoryLoops.{one_older, none_older, none_newer, held_by_one_more, found_by_one_more}

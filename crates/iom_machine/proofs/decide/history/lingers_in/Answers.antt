@@ -1,5 +1,5 @@
 -- From the oldest entry on.
-use Rattle.std.proofs.Common.{◌+◌, ◌-◌, ◌∙◌, not, length, drop, sym, ap, subst, arith}
+use Rattle.std.proofs.Common.{◌+◌, ◌-◌, ◌∙◌, length, drop, sym, ap, arith}
 use Rattle.std.specs.List.{list_any}
 use Rattle.iom_ledger.specs.History.{History, held_at, released_at}
 use Rattle.iom_machine.specs.Judging.{still_serves}

@@ -1,5 +1,5 @@
 -- What the older entries leave held, and whether any of what they release is found.
-use Rattle.std.proofs.Common.{◌≡◌, ◌-◌, not, length, drop}
+use Rattle.std.proofs.Common.{◌≡◌, ◌-◌, length, drop}
 use Rattle.std.specs.List.{list_any}
 use Rattle.iom_ledger.specs.History.{held_at, released_at}
 use Rattle.iom_machine.specs.Judging.{still_serves}

@@ -1,5 +1,5 @@
 -- From the oldest entry on.
-use Rattle.std.proofs.Common.{◌+◌, ◌-◌, ◌∙◌, length, drop, sym, ap, subst, arith}
+use Rattle.std.proofs.Common.{◌+◌, ◌-◌, ◌∙◌, length, drop, sym, ap, arith}
 use Rattle.iom_ledger.specs.History.{History, held_at}
 use Rattle.iom_machine.proofs.HistoryLoops.{one_older, none_older, none_newer, held_by_one_more}
 use Rattle.iom_machine.proofs.decide.history.pair_held.Goals as goal

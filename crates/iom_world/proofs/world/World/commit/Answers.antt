@@ -1,33 +1,69 @@
-use Rattle.std.proofs.Common.{◌∙◌, inl, inr, slice_get, option_map, refl, ap}
+use Rattle.std.proofs.Common.{◌∙◌, inr, refl, sym, Some, None, ap, subst}
 use Rattle.iom_base.specs.declared.access.AccessKind.TheVariants.{Read, Write}
-use Rattle.iom_inflight.specs.Oldest.{header_of}
-use Rattle.iom_world.specs.declared.device.Device.{Device}
-use Rattle.iom_world.proofs.AskLemmas.{none_there, oldest_at}
-use Rattle.iom_world.proofs.ReplaceLemmas.{same_item}
+use Rattle.iom_driver.specs.Seen.{state_of}
+use Rattle.iom_inflight.specs.declared.made.MadeAt.{MadeAt}
+use Rattle.iom_iommu.specs.Parts.{flights_of}
+use Rattle.iom_machine.specs.declared.outcome.Outcome.TheVariants as outcome
+use Rattle.iom_world.specs.Commits.{TellsMade, TellsKind}
+use Rattle.iom_world.specs.Parts.{Parts}
+use Rattle.iom_world.specs.Seen.{parts_of}
+use Rattle.iom_world.proofs.CommitKeeps.{keeps_oldest}
+use Rattle.iom_world.proofs.DriverLemmas.{sound_driver}
+use Rattle.iom_world.proofs.PartsLemmas.{stays_of}
+use Rattle.iom_world.proofs.MadeFrames.{made_unreserved, read_told}
+use Rattle.iom_world.proofs.PresentLemmas.{row_present}
 use Rattle.iom_world.proofs.world.World.commit.Goals as goal
 
-pub returns-in_default-oldest-clause-does : goal.returns-in_default-oldest-clause-does
-returns-in_default-oldest-clause-does c =
-    let place = c.in-Some.ensures in
-    let here = same_item c.args.self.now.devices.items c.in-Some.place c.index.result.now place.0 c.index.ensures place.1 in
-    inr (inl (record {
-      place = c.in-Some.place;
-      stands = place;
-      idle = none_there place.0.in_flight (c.in_default-oldest.ensures ∙ ap (λ (d : Device). option_map header_of (slice_get d.in_flight 0)) here);
-      told_so = c.tell-in_default-oldest.ensures;
-      same = refl;
-    }))
+pub commit-requires-clause-added : goal.commit-requires-clause-added
+commit-requires-clause-added c =
+    let world = c.args.self.now in
+    row_present (flights_of world.iommu).rows world.devices.items c.args.id world.sound.known.iommu (c.is_plugged.ensures.0 c.if-not-is_plugged.false)
 
-pub commit_read-requires : goal.commit_read-requires
-commit_read-requires c =
-    let place = c.in-Some.ensures in
-    let here = same_item c.args.self.now.devices.items c.in-Some.place c.index.result.now place.0 c.index.ensures place.1 in
-    oldest_at c.args.self.now.devices.items c.in-Some.place place.0 c.in-Some-oldest.access Read place.1
-    (c.in-Some-oldest.ensures ∙ ap (λ (d : Device). option_map header_of (slice_get d.in_flight 0)) here) c.in-Read.is
+pub returns-in_default-clause-does : goal.returns-in_default-clause-does
+returns-in_default-clause-does c =
+    let world = c.args.self.now in
+    inr (record {
+      present = c.is_plugged.ensures.0 c.if-not-is_plugged.false;
+      made = c.commit.result;
+      told_so = subst (λ made. TellsMade world.memory made c.tell-in_default.new.place) (sym c.in_default.is) c.tell-in_default.ensures;
+      call = c.commit.ensures.effect;
+      unreserved = made_unreserved (parts_of world) world.events c.args.id c.commit.result c.commit.new.memory (flights_of c.commit.new.self) world.sound (sound_driver world.driver) c.commit.ensures.effect.makes;
+      driver = refl;
+      devices = refl;
+    })
 
-pub commit_write-requires : goal.commit_write-requires
-commit_write-requires c =
-    let place = c.in-Some.ensures in
-    let here = same_item c.args.self.now.devices.items c.in-Some.place c.index.result.now place.0 c.index.ensures place.1 in
-    oldest_at c.args.self.now.devices.items c.in-Some.place place.0 c.in-Some-oldest.access Write place.1
-    (c.in-Some-oldest.ensures ∙ ap (λ (d : Device). option_map header_of (slice_get d.in_flight 0)) here) c.in-Write.is
+pub returns-in-Read-clause-does : goal.returns-in-Read-clause-does
+returns-in-Read-clause-does c =
+    let world = c.args.self.now in
+    inr (record {
+      present = c.is_plugged.ensures.0 c.if-not-is_plugged.false;
+      made = Some c.in-Some.made;
+      told_so = read_told world.memory c.commit.new.memory (flights_of world.iommu) c.args.id c.in-Some.made (flights_of c.commit.new.self) c.tell_made.new.told c.in-Some.ensures.effect.makes c.in-Read.is c.tell_made.ensures;
+      call = c.in-Some.ensures.effect;
+      unreserved = made_unreserved (parts_of world) world.events c.args.id (Some c.in-Some.made) c.commit.new.memory (flights_of c.commit.new.self) world.sound (sound_driver world.driver) c.in-Some.ensures.effect.makes;
+      driver = refl;
+      devices = refl;
+    })
+
+pub returns-in-Write-clause-does : goal.returns-in-Write-clause-does
+returns-in-Write-clause-does c =
+    let world = c.args.self.now in
+    inr (record {
+      present = c.is_plugged.ensures.0 c.if-not-is_plugged.false;
+      made = Some c.in-Some.made;
+      told_so = subst (λ kind. TellsKind world.memory c.in-Some.made kind c.tell-in-Write.new.place) (sym c.in-Write.is) (c.tell-in-Write.ensures ∙ ap (λ n. outcome.Wrote n) c.from.ensures);
+      call = c.in-Some.ensures.effect;
+      unreserved = made_unreserved (parts_of world) world.events c.args.id (Some c.in-Some.made) c.commit.new.memory (flights_of c.commit.new.self) world.sound (sound_driver world.driver) c.in-Some.ensures.effect.makes;
+      driver = refl;
+      devices = refl;
+    })
+
+pub invariant_of-self : goal.invariant_of-self
+invariant_of-self c =
+    let world = c.args.self.now in
+    let new : Parts = record { memory = c.commit.new.memory; iommu = c.commit.new.self; driver = state_of world.driver; devices = world.devices.items } in
+    record {
+      sound = keeps_oldest (parts_of world) new world.events c.args.id c.commit.result world.sound (sound_driver world.driver) (stays_of c.laws_below.ensures.stays world.driver) c.commit.ensures.effect
+          (made_unreserved (parts_of world) world.events c.args.id c.commit.result c.commit.new.memory (flights_of c.commit.new.self) world.sound (sound_driver world.driver) c.commit.ensures.effect.makes)
+          refl refl;
+    }

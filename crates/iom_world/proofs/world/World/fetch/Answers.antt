@@ -1,18 +1,22 @@
-use Rattle.std.proofs.Common.{refl}
+use Rattle.std.proofs.Common.{refl, sym}
 use Rattle.iom_driver.specs.Seen.{state_of}
 use Rattle.iom_machine.specs.declared.outcome.Outcome.TheVariants as outcome
 use Rattle.iom_world.specs.Does.{fetch_named}
 use Rattle.iom_world.specs.Parts.{Parts}
 use Rattle.iom_world.specs.Seen.{parts_of}
 use Rattle.iom_world.proofs.DriverLemmas.{sound_driver}
+use Rattle.iom_world.proofs.PartsLemmas.{stays_of}
 use Rattle.iom_world.proofs.FetchKeeps.{keeps_fetched}
 use Rattle.iom_world.proofs.world.World.fetch.Goals as goal
+
+pub fetch-requires : goal.fetch-requires
+fetch-requires c = sym c.args.self.now.sound.size
 
 pub invariant_of-self : goal.invariant_of-self
 invariant_of-self c =
     let world = c.args.self.now in
     let new : Parts = record { memory = c.fetch.new.memory; iommu = c.fetch.new.self; driver = state_of world.driver; devices = world.devices.items } in
     record {
-      sound = keeps_fetched (parts_of world) new world.events (outcome.Fetched (fetch_named c.fetch.result)) world.sound (sound_driver world.driver)
-          record { any_in_flight = c.is_any_in_flight-any_in_flight.result; counted = c.is_any_in_flight-any_in_flight.ensures; answer = c.fetch.result; told_so = refl; call = c.fetch.ensures; driver = refl; devices = refl };
+      sound = keeps_fetched (parts_of world) new world.events (outcome.Fetched (fetch_named c.fetch.result)) world.sound (sound_driver world.driver) (stays_of c.laws_below.ensures.stays world.driver)
+          record { answer = c.fetch.result; told_so = refl; call = c.fetch.ensures; driver = refl; devices = refl };
     }

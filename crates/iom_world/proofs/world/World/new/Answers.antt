@@ -1,42 +1,42 @@
-use Rattle.std.proofs.Common.{subst}
-use Rattle.iom_driver.specs.Calls.{Starts}
-use Rattle.iom_iommu.specs.Parts.{mmio}
 use Rattle.iom_driver.specs.Seen.{state_of}
 use Rattle.iom_world.proofs.StartLemmas.{IsStarted, sound_started, shows_started, memory_is}
 use Rattle.iom_world.proofs.world.World.new.Goals as goal
 
 pub invariant_of-result : goal.invariant_of-result
 invariant_of-result c =
-    let started : IsStarted c.args.frames c.args.levels (state_of c.in_ok-driver.driver) (state_of c.start.new.self) c.in_ok-memory.memory c.start.new.memory c.start.new.io c.in-Ok.devices.items = record {
+    let started : IsStarted c.args.frames c.args.levels (state_of c.in_ok-driver.driver) (state_of c.start.new.self) c.in_ok-memory.memory c.start.new.memory c.in-Ok-new.iommu c.start.new.io c.in-Ok.devices.items = record {
       size = c.in_ok-memory.ensures.size;
       opening_driver = c.in_ok-driver.ensures.opening;
       zeros = c.in_ok-memory.ensures.zero;
-      starts = subst (λ i. Starts mmio (state_of c.in_ok-driver.driver) c.in_ok-memory.memory i (state_of c.start.new.self) c.start.new.memory c.start.new.io) c.new-iommu.ensures c.start.ensures.effect;
+      power_on = c.in-Ok-new.ensures;
+      starts = c.start.ensures.effect;
       ready = c.start.ensures.ready;
       unplugged = c.in-Ok.ensures.items;
     } in
-    record { sound = sound_started _ _ _ _ _ _ _ _ started }
+    record { sound = sound_started _ _ _ _ _ _ _ _ _ started }
 
 pub returns-clause-opening : goal.returns-clause-opening
 returns-clause-opening c =
-    let started : IsStarted c.args.frames c.args.levels (state_of c.in_ok-driver.driver) (state_of c.start.new.self) c.in_ok-memory.memory c.start.new.memory c.start.new.io c.in-Ok.devices.items = record {
+    let started : IsStarted c.args.frames c.args.levels (state_of c.in_ok-driver.driver) (state_of c.start.new.self) c.in_ok-memory.memory c.start.new.memory c.in-Ok-new.iommu c.start.new.io c.in-Ok.devices.items = record {
       size = c.in_ok-memory.ensures.size;
       opening_driver = c.in_ok-driver.ensures.opening;
       zeros = c.in_ok-memory.ensures.zero;
-      starts = subst (λ i. Starts mmio (state_of c.in_ok-driver.driver) c.in_ok-memory.memory i (state_of c.start.new.self) c.start.new.memory c.start.new.io) c.new-iommu.ensures c.start.ensures.effect;
+      power_on = c.in-Ok-new.ensures;
+      starts = c.start.ensures.effect;
       ready = c.start.ensures.ready;
       unplugged = c.in-Ok.ensures.items;
     } in
-    shows_started _ _ _ _ _ _ _ _ started
+    shows_started _ _ _ _ _ _ _ _ _ started
 
 pub returns-clause-memory : goal.returns-clause-memory
 returns-clause-memory c =
-    let started : IsStarted c.args.frames c.args.levels (state_of c.in_ok-driver.driver) (state_of c.start.new.self) c.in_ok-memory.memory c.start.new.memory c.start.new.io c.in-Ok.devices.items = record {
+    let started : IsStarted c.args.frames c.args.levels (state_of c.in_ok-driver.driver) (state_of c.start.new.self) c.in_ok-memory.memory c.start.new.memory c.in-Ok-new.iommu c.start.new.io c.in-Ok.devices.items = record {
       size = c.in_ok-memory.ensures.size;
       opening_driver = c.in_ok-driver.ensures.opening;
       zeros = c.in_ok-memory.ensures.zero;
-      starts = subst (λ i. Starts mmio (state_of c.in_ok-driver.driver) c.in_ok-memory.memory i (state_of c.start.new.self) c.start.new.memory c.start.new.io) c.new-iommu.ensures c.start.ensures.effect;
+      power_on = c.in-Ok-new.ensures;
+      starts = c.start.ensures.effect;
       ready = c.start.ensures.ready;
       unplugged = c.in-Ok.ensures.items;
     } in
-    memory_is _ _ _ _ _ _ _ _ started
+    memory_is _ _ _ _ _ _ _ _ _ started

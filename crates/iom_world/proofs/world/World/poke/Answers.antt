@@ -1,8 +1,9 @@
 use Rattle.std.proofs.Common.{◌∙◌, ◌/◌, sym, arith}
-use Rattle.iom_driver.proofs.Keeps.{unmarked}
 use Rattle.iom_world.specs.Seen.{parts_of}
 use Rattle.iom_world.proofs.DriverLemmas.{sound_driver}
-use Rattle.iom_world.proofs.MemoryKeeps.{keeps_stored}
+use Rattle.iom_world.proofs.PartsLemmas.{stays_of}
+use Rattle.iom_world.proofs.ProcessorKeeps.{keeps_stored}
+use Rattle.iom_world.proofs.SoundFrom.{unmarked}
 use Rattle.iom_world.proofs.world.World.poke.Goals as goal
 
 pub invariant_of-self : goal.invariant_of-self
@@ -10,4 +11,4 @@ invariant_of-self c =
     let world = c.args.self.now in
     let n = c.args.address / 4096 in
     let free = unmarked world.driver.marks n (rw (sym world.sound.ready.stand.size) (omega arith)) (sym c.is_reserved.ensures ∙ c.if-is_reserved.false) in
-    record { sound = keeps_stored (parts_of world) n c.store.new.frame world.events world.sound (sound_driver world.driver) free }
+    record { sound = keeps_stored (parts_of world) n c.store.new.frame world.events world.sound (sound_driver world.driver) (stays_of c.laws_below.ensures.stays world.driver) free }

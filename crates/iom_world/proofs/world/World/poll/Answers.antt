@@ -3,17 +3,18 @@ use Rattle.iom_driver.specs.Seen.{state_of}
 use Rattle.iom_world.specs.Does.{polled_told_of}
 use Rattle.iom_world.specs.Parts.{Parts}
 use Rattle.iom_world.specs.Seen.{parts_of}
-use Rattle.iom_world.proofs.DriverKeeps.{keeps_polled, polled_low}
+use Rattle.iom_world.proofs.PollKeeps.{keeps_polled, polled_low}
+use Rattle.iom_world.proofs.DriverLemmas.{sound_driver}
 use Rattle.iom_world.proofs.world.World.poll.Goals as goal
 
 pub invariant_of-self : goal.invariant_of-self
 invariant_of-self c =
     let world = c.args.self.now in
-    let new : Parts = record { memory = world.memory; iommu = world.iommu; driver = state_of c.poll.new.self; devices = world.devices.items } in
+    let new : Parts = record { memory = c.poll.new.memory; iommu = world.iommu; driver = state_of c.poll.new.self; devices = world.devices.items } in
     record {
-      sound = keeps_polled (parts_of world) new world.events (polled_told_of c.poll.result) world.sound c.poll.ensures.ready
-          record { answer = c.poll.result; told_so = refl; call = c.poll.ensures.effect; memory = refl; iommu = refl; devices = refl };
+      sound = keeps_polled (parts_of world) new world.events (polled_told_of c.poll.result) world.sound (sound_driver world.driver) c.poll.ensures.ready
+          record { answer = c.poll.result; told_so = refl; call = c.poll.ensures.effect; iommu = refl; devices = refl };
     }
 
 pub of_poll-requires : goal.of_poll-requires
-of_poll-requires c = polled_low (parts_of c.args.self.now) c.args.self.now.events c.in-Ok.polled (state_of c.poll.new.self) c.args.self.now.sound c.in-Ok.ensures.effect
+of_poll-requires c = polled_low (parts_of c.args.self.now) c.args.self.now.events c.in-Ok.polled (state_of c.poll.new.self) c.poll.new.memory c.args.self.now.sound c.in-Ok.ensures.effect

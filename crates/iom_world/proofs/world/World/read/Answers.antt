@@ -1,41 +1,29 @@
-use Rattle.std.proofs.Common.{◌+◌, ◌∙◌, ap}
+use Rattle.std.proofs.Common.{◌+◌, ◌<◌, inr, refl, arith}
 use Rattle.iom_base.specs.Accesses.{read_of}
-use Rattle.iom_world.specs.declared.device.Device.{Device}
-use Rattle.iom_world.specs.Requests.{with_flight}
+use Rattle.iom_driver.specs.Seen.{state_of}
+use Rattle.iom_iommu.specs.Parts.{flights_of}
+use Rattle.iom_world.specs.Parts.{Parts}
+use Rattle.iom_world.specs.Requests.{reply_told_of}
 use Rattle.iom_world.specs.Seen.{parts_of}
-use Rattle.iom_world.proofs.AskLemmas.{asks_accepted, asks_busy, asks_fault}
-use Rattle.iom_world.proofs.ReplaceLemmas.{same_item}
-use Rattle.iom_world.proofs.RequestKeeps.{keeps_accepted}
+use Rattle.iom_world.proofs.DriverLemmas.{sound_driver}
+use Rattle.iom_world.proofs.AskedLemmas.{keeps_asked_counted}
+use Rattle.iom_world.proofs.PresentLemmas.{row_present}
 use Rattle.iom_world.proofs.world.World.read.Goals as goal
+
+pub request-requires-clause-added : goal.request-requires-clause-added
+request-requires-clause-added c =
+    let world = c.args.self.now in
+    row_present (flights_of world.iommu).rows world.devices.items c.args.id world.sound.known.iommu (c.is_plugged.ensures.0 c.if-not-is_plugged.false)
 
 pub invariant_of-self : goal.invariant_of-self
 invariant_of-self c =
     let world = c.args.self.now in
-    let access = read_of c.args.address c.args.len in
-    let device = c.in-Some.ensures.0 in
-    let at = c.in-Some.ensures.1 in
-    let same = same_item world.devices.items c.in-Some.place c.index_mut.result.now device c.index_mut.ensures.value at in
+    let new : Parts = record { memory = world.memory; iommu = c.request.new.self; driver = state_of world.driver; devices = world.devices.items } in
     record {
-      sound = keeps_accepted (parts_of world) world.events c.in-Some.place device c.accept_read-number.new.self access c.in-Accepted.frame world.sound c.requires at
-          (c.in-Accepted.ensures device at) (c.accept_read-number.ensures.after ∙ ap (λ (d : Device). with_flight d access c.in-Accepted.frame) same);
+      sound = keeps_asked_counted c.laws_below.ensures world.driver (parts_of world) new world.events c.args.id (read_of c.args.address c.args.len) (reply_told_of c.request.result) world.sound (sound_driver world.driver) refl c.requires.below c.ranges.address.fits
+          (inr record { present = c.is_plugged.ensures.0 c.if-not-is_plugged.false; reply = c.request.result; told_so = refl; call = c.request.ensures; memory = refl; driver = refl; devices = refl });
     }
 
-pub returns-in-Accepted-clause-does : goal.returns-in-Accepted-clause-does
-returns-in-Accepted-clause-does c =
-    let world = c.args.self.now in
-    let access = read_of c.args.address c.args.len in
-    let place = c.in-Some.ensures in
-    let same = same_item world.devices.items c.in-Some.place c.index_mut.result.now place.0 c.index_mut.ensures.value place.1 in
-    asks_accepted (parts_of world) c.args.id c.in-Some.place access place c.accept_read-number.result c.in-Accepted.frame c.accept_read-number.new.self
-    (c.in-Accepted.ensures place.0 place.1) (c.accept_read-number.ensures.number ∙ ap (λ (d : Device). d.accepted + 1) same)
-    (c.accept_read-number.ensures.after ∙ ap (λ (d : Device). with_flight d access c.in-Accepted.frame) same)
-
-pub returns-in-Busy-clause-does : goal.returns-in-Busy-clause-does
-returns-in-Busy-clause-does c =
-    let place = c.in-Some.ensures in
-    asks_busy (parts_of c.args.self.now) c.args.id c.in-Some.place (read_of c.args.address c.args.len) place (c.in-Busy.ensures place.0 place.1)
-
-pub returns-in-Fault-clause-does : goal.returns-in-Fault-clause-does
-returns-in-Fault-clause-does c =
-    let place = c.in-Some.ensures in
-    asks_fault (parts_of c.args.self.now) c.args.id c.in-Some.place (read_of c.args.address c.args.len) place c.in-Fault.cause (c.in-Fault.ensures place.0 place.1)
+pub returns-clause-does : goal.returns-clause-does
+returns-clause-does c =
+    inr record { present = c.is_plugged.ensures.0 c.if-not-is_plugged.false; reply = c.request.result; told_so = c.of_reply.ensures; call = c.request.ensures; memory = refl; driver = refl; devices = refl }

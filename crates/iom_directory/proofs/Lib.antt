@@ -1,0 +1,9 @@
+pub mod Prefixes
+pub mod Paths
+pub mod Words
+pub mod Same
+pub mod Places
+pub mod Hangs
+pub mod Hanging
+pub mod Stays
+pub mod Zeroed

@@ -1,0 +1,4 @@
+pub mod Pages
+pub mod Written
+pub mod Changes
+pub mod Laws

@@ -1,0 +1,112 @@
+-- The device directory of a driver: at its start, while other frames change, and when a context is written or cleared.
+use Rattle.std.proofs.Common.{zero, suc, ◌≡◌, ◌≢◌, ◌<◌, ◌≤◌, ◌∙◌, ◌⊎◌, inl, inr, ℕ, List, length, Contains, Option, Some, None, Ok, Err, slice_get, refl, sym, ap, subst, arith}
+use Rattle.std.proofs.lemmas.Bool.Decides.{eqb_tells}
+use Rattle.iom_base.specs.declared.cause.Cause.TheVariants.{DirectoryEntryNotValid}
+use Rattle.iom_base.specs.declared.owner.Owner.{Owner}
+use Rattle.iom_device_dir.specs.Located.{path_end_from}
+use Rattle.iom_device_dir.specs.Paths.{ids_below}
+use Rattle.iom_directory.specs.Changes.{KeepsOthers}
+use Rattle.iom_directory.specs.Laws.{SameDirectory}
+use Rattle.iom_directory.specs.Pages.{IsDirectory, HasPage, root_level}
+use Rattle.iom_directory.proofs.Stays.{stays}
+use Rattle.iom_directory.proofs.Zeroed.{zeroed_root}
+use Rattle.iom_phys_mem.specs.Words.{zeroed}
+use Rattle.iom_driver.specs.declared.device.Device.{Device}
+use Rattle.iom_driver.specs.declared.device.FirstStage.{FirstStage}
+use Rattle.iom_driver.specs.Devices.{stage_of}
+use Rattle.iom_driver.specs.Directory.{context_for, located_for, IsDirectoryFrame, DirectoryStands}
+use Rattle.iom_driver.specs.Layout.{IsLevels, AreFixed, directory_frame, id_limit}
+
+-- the directory stands, in a memory of so many frames
+pub record DirectoryIn (frames : ℕ) (memory : List (List ℕ)) (marks : List (Option Owner)) (devices : List Device) (levels : ℕ) : Type 0 where
+  pub tree : IsDirectory memory (root_level levels) (directory_frame frames)
+  pub own : (page : ℕ) → HasPage memory (root_level levels) (directory_frame frames) page → IsDirectoryFrame marks frames page
+  pub contexts : (id : ℕ) → id < ids_below (root_level levels) → path_end_from memory (root_level levels) (directory_frame frames) id ≡ located_for (stage_of devices id)
+
+pub stands_in : (frames : ℕ) (memory : List (List ℕ)) (marks : List (Option Owner)) (devices : List Device) (levels : ℕ) → length memory ≡ frames → DirectoryIn frames memory marks devices levels
+    → DirectoryStands memory marks devices levels
+stands_in frames memory marks devices levels size stands =
+    let here = subst (λ n. DirectoryIn n memory marks devices levels) (sym size) stands in record { tree = here.tree; own = here.own; contexts = here.contexts }
+
+pub in_stands : (frames : ℕ) (memory : List (List ℕ)) (marks : List (Option Owner)) (devices : List Device) (levels : ℕ) → length memory ≡ frames → DirectoryStands memory marks devices levels
+    → DirectoryIn frames memory marks devices levels
+in_stands frames memory marks devices levels size stands =
+    subst (λ n. DirectoryIn n memory marks devices levels) size record { tree = stands.tree; own = stands.own; contexts = stands.contexts }
+
+pub low_levels : (levels : ℕ) → IsLevels levels → root_level levels ≤ 2
+low_levels levels range = let high : levels ≤ 3 = range.1 in omega (arith, high)
+
+-- the ids that the directory has room for
+pub room_for_ids : (levels : ℕ) → IsLevels levels → id_limit levels ≡ ids_below (root_level levels)
+room_for_ids levels range = by levels range.0 range.1
+  where
+    by : (n : ℕ) → 1 ≤ n → n ≤ 3 → id_limit n ≡ ids_below (root_level n)
+    by zero low high = absurd (omega arith)
+    by (suc zero) low high = refl
+    by (suc (suc zero)) low high = refl
+    by (suc (suc (suc zero))) low high = refl
+    by (suc (suc (suc (suc n)))) low high = absurd (omega arith)
+
+-- a directory frame stays one while its mark does
+frame_stays : (marks marks' : List (Option Owner)) (frames page : ℕ) → slice_get marks' page ≡ slice_get marks page → IsDirectoryFrame marks frames page → IsDirectoryFrame marks' frames page
+frame_stays marks marks' frames page same own = record { system = same ∙ own.system; no_command = own.no_command; no_fault = own.no_fault; no_completion = own.no_completion }
+
+-- while its own frames stay as they are, bytes and marks, and the same devices are attached
+pub directory_stay : (frames : ℕ) (memory memory' : List (List ℕ)) (marks marks' : List (Option Owner)) (devices devices' : List Device) (levels : ℕ) → IsLevels levels → length memory' ≡ length memory
+    → ((n : ℕ) → IsDirectoryFrame marks frames n → (slice_get memory' n ≡ slice_get memory n) × (slice_get marks' n ≡ slice_get marks n))
+    → ((id : ℕ) → stage_of devices' id ≡ stage_of devices id) → DirectoryIn frames memory marks devices levels → DirectoryIn frames memory' marks' devices' levels
+directory_stay frames memory memory' marks marks' devices devices' levels range size kept attached stands =
+    let same : SameDirectory memory memory' (root_level levels) (directory_frame frames) =
+    stays memory memory' (root_level levels) (directory_frame frames) (low_levels levels range) stands.tree size (λ f at. (kept f (stands.own f at)).0) in
+    record {
+      tree = same.directory;
+      own = λ page at. let was = stands.own page ((same.pages page).0 at) in frame_stays marks marks' frames page (kept page was).1 was;
+      contexts = λ id low. same.ends id low ∙ stands.contexts id low ∙ ap located_for (sym (attached id));
+    }
+
+-- an empty one, of a zeroed root
+pub directory_starts : (frames : ℕ) (memory : List (List ℕ)) (marks : List (Option Owner)) (devices : List Device) (levels : ℕ) → IsLevels levels → 64 ≤ frames → AreFixed marks frames
+    → slice_get memory (directory_frame frames) ≡ Some zeroed → ((id : ℕ) → stage_of devices id ≡ None) → DirectoryIn frames memory marks devices levels
+directory_starts frames memory marks devices levels range many fixed cleared none =
+    let new = zeroed_root memory (root_level levels) (directory_frame frames) (low_levels levels range) cleared in
+    record {
+      tree = new.0;
+      own = λ page at. let same = (new.1 page).0 at in subst (λ p. IsDirectoryFrame marks frames p) (sym same) record {
+        system = fixed.directory;
+        no_command = λ e. absurd (omega (arith, many, e));
+        no_fault = λ e. absurd (omega (arith, many, e));
+        no_completion = λ e. absurd (omega (arith, many, e));
+      };
+      contexts = λ id low. new.2 id low ∙ ap located_for (sym (none id));
+    }
+
+-- a device's context is cleared, and the device attached no more; no frame but the directory's changes
+pub directory_cleared : (frames : ℕ) (memory memory' : List (List ℕ)) (marks : List (Option Owner)) (devices devices' : List Device) (levels id : ℕ)
+    → DirectoryIn frames memory marks devices levels → IsDirectory memory' (root_level levels) (directory_frame frames)
+    → ((f : ℕ) → HasPage memory' (root_level levels) (directory_frame frames) f → HasPage memory (root_level levels) (directory_frame frames) f)
+    → path_end_from memory' (root_level levels) (directory_frame frames) id ≡ Err DirectoryEntryNotValid → KeepsOthers memory memory' (root_level levels) (directory_frame frames) id
+    → stage_of devices' id ≡ None → ((other : ℕ) → other ≢ id → stage_of devices' other ≡ stage_of devices other) → DirectoryIn frames memory' marks devices' levels
+directory_cleared frames memory memory' marks devices devices' levels id stands tree pages here others none same = record {
+  tree = tree;
+  own = λ page at. stands.own page (pages page at);
+  contexts = λ other low. elim (eqb_tells other id) [
+    | inl e ↦ ap (λ i. path_end_from memory' (root_level levels) (directory_frame frames) i) e.1 ∙ here ∙ ap located_for (sym (ap (λ i. stage_of devices' i) e.1 ∙ none))
+    | inr ne ↦ others other low ne.1 ∙ stands.contexts other low ∙ ap located_for (sym (same other ne.1))
+  ];
+}
+
+-- a device's context is written, in the directory's pages and some more, and the device attached
+pub directory_put : (frames : ℕ) (memory memory' : List (List ℕ)) (marks : List (Option Owner)) (devices devices' : List Device) (levels id : ℕ) (stage : FirstStage) (pages : List ℕ)
+    → DirectoryIn frames memory marks devices levels → IsDirectory memory' (root_level levels) (directory_frame frames)
+    → ((f : ℕ) → HasPage memory' (root_level levels) (directory_frame frames) f → HasPage memory (root_level levels) (directory_frame frames) f ⊎ Contains pages f)
+    → ((f : ℕ) → Contains pages f → IsDirectoryFrame marks frames f)
+    → path_end_from memory' (root_level levels) (directory_frame frames) id ≡ Ok (context_for stage) → KeepsOthers memory memory' (root_level levels) (directory_frame frames) id
+    → stage_of devices' id ≡ Some stage → ((other : ℕ) → other ≢ id → stage_of devices' other ≡ stage_of devices other) → DirectoryIn frames memory' marks devices' levels
+directory_put frames memory memory' marks devices devices' levels id stage pages stands tree has fresh here others now same = record {
+  tree = tree;
+  own = λ page at. elim (has page at) [ inl was ↦ stands.own page was | inr new ↦ fresh page new ];
+  contexts = λ other low. elim (eqb_tells other id) [
+    | inl e ↦ ap (λ i. path_end_from memory' (root_level levels) (directory_frame frames) i) e.1 ∙ here ∙ ap located_for (sym (ap (λ i. stage_of devices' i) e.1 ∙ now))
+    | inr ne ↦ others other low ne.1 ∙ stands.contexts other low ∙ ap located_for (sym (same other ne.1))
+  ];
+}

@@ -1,0 +1,11 @@
+use Rattle.std.proofs.Common.{◌≡◌, length, drop}
+use Rattle.iom_driver.specs.Choices.{marked_for, cleared}
+use Rattle.iom_driver.proofs.choosing.reserve_all.Given as goal
+
+abbrev pub invariant-loop-frame : goal.invariant-loop-frame
+invariant-loop-frame l = record {
+  marks : marked_for l.owner (drop l.frame-index l.frames) l.marks ≡ marked_for l.owner l.frames l.initial.marks;
+  memory : cleared (drop l.frame-index l.frames) l.memory ≡ cleared l.frames l.initial.memory;
+  marked : length l.marks ≡ length l.initial.marks;
+  inside : length l.memory ≡ length l.initial.memory;
+}

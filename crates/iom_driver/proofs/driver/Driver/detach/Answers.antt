@@ -1,0 +1,164 @@
+use Rattle.std.proofs.Common.{◌≡◌, ◌≢◌, ◌<◌, ◌≤◌, ◌+◌, ◌-◌, ◌++◌, ◌∙◌, ◌^◌, ◌==◌, if◌then◌else◌, ℕ, Bool, true, false, List, [], ◌∷◌, Option, None, Some, Err, length, slice_get, refl, sym, ap, subst, arith}
+use Rattle.iom_command_queue.specs.declared.command.Command.{Command}
+use Rattle.iom_command_queue.specs.declared.entry.QueueEntry.{QueueEntry}
+use Rattle.iom_command_queue.specs.declared.entry.QueueEntry.TheVariants as stands
+use Rattle.iom_base.specs.declared.cause.Cause.TheVariants.{DirectoryEntryNotValid}
+use Rattle.iom_base.specs.declared.owner.Owner.{Owner}
+use Rattle.iom_device_dir.specs.Located.{path_end_from}
+use Rattle.iom_directory.specs.Changes.{KeepsOthers, KeepsOutside}
+use Rattle.iom_ledger.specs.declared.ledger.Ledger.{Ledger}
+use Rattle.iom_directory.specs.Pages.{IsDirectory, HasPage, root_level}
+use Rattle.iom_base.specs.declared.owner.Owner.TheVariants.{System, OneDevice}
+use Rattle.iom_driver.specs.declared.device.Attachment.TheVariants.{Leaving}
+use Rattle.iom_driver.specs.declared.device.Device.{Device}
+use Rattle.iom_driver.specs.Appends.{fence}
+use Rattle.iom_driver.specs.Devices.{attachment_of, attached_stage, stage_of, owned_stage_of, with_attachment}
+use Rattle.iom_driver.specs.Directory.{NamesDirectory}
+use Rattle.iom_driver.specs.Layout.{id_limit, command_frame, completion_address, directory_frame}
+use Rattle.iom_driver.specs.Ready.{IsRing}
+use Rattle.iom_driver.specs.Sound.{IsSound}
+use Rattle.iom_driver.specs.Tables.{HaveTables}
+use Rattle.iom_driver.proofs.Directories.{DirectoryIn, room_for_ids, in_stands, stands_in, directory_cleared, directory_stay}
+use Rattle.iom_driver.proofs.Keeps.{sound_detached, owned_leaving}
+use Rattle.iom_driver.proofs.Places.{attached_owns, attached_there, attachment_set, attachment_other}
+use Rattle.iom_driver.proofs.Ring.{same_commands, three_last, stays_named}
+use Rattle.iom_driver.proofs.Stays.{all_stay, of_one}
+use Rattle.iom_driver.proofs.driver.Driver.detach.Goals as goal
+
+-- what clearing a context leaves, by the directory's root
+record Cleared (memory memory' : List (List ℕ)) (levels root id : ℕ) : Type 0 where
+  tree : IsDirectory memory' (root_level levels) root
+  pages : (f : ℕ) → HasPage memory' (root_level levels) root f → HasPage memory (root_level levels) root f
+  here : path_end_from memory' (root_level levels) root id ≡ Err DirectoryEntryNotValid
+  others : KeepsOthers memory memory' (root_level levels) root id
+  outside : KeepsOutside memory memory' (root_level levels) root
+
+system_device : (marks : List (Option Owner)) (n id : ℕ) → slice_get marks n ≡ Some (Some System) → slice_get marks n ≡ Some (Some (OneDevice id)) → ⊥
+system_device marks n id system own = let both : ◌≡◌ {A = Option (Option Owner)} (Some (Some System)) (Some (Some (OneDevice id))) = sym system ∙ own in cc
+
+-- the tables of devices that own the same stages
+owned_tables : (memory : List (List ℕ)) (marks : List (Option Owner)) (ledger : Ledger) (devices devices' : List Device) → ((id : ℕ) → owned_stage_of devices' id ≡ owned_stage_of devices id)
+    → HaveTables memory marks ledger devices → HaveTables memory marks ledger devices'
+owned_tables memory marks ledger devices devices' same tables id stage at = tables id stage (sym (same id) ∙ at)
+
+pub returns-in-Err-clause-effect : goal.returns-in-Err-clause-effect
+returns-in-Err-clause-effect g c = record { told = c.in-Err.ensures.refused; effect = (refl, refl, refl) }
+
+pub invariant_of-self : goal.invariant_of-self
+invariant_of-self g c =
+    let driver = c.args.self.now in
+    let may = c.in-Ok.ensures.may in
+    record {
+      sound =
+          subst (λ (ds : List Device). IsSound driver.ledger driver.marks ds driver.frames driver.levels driver.started (driver.given + 1) driver.confirmed) (sym c.set_attachment.ensures)
+          (sound_detached driver.ledger driver.marks driver.devices.items driver.frames driver.levels driver.started driver.given driver.confirmed c.args.id c.in-Ok.stage
+          driver.sound may.started may.attached may.none_held);
+    }
+
+pub clear_context-requires-clause-id : goal.clear_context-requires-clause-id
+clear_context-requires-clause-id g c =
+    let driver = c.args.self.now in
+    subst (λ n. c.args.id < n) (room_for_ids driver.levels driver.sound.sizes.in_range)
+    (driver.sound.named c.args.id c.in-Ok.stage (attached_owns (attachment_of driver.devices.items c.args.id) c.in-Ok.stage c.in-Ok.ensures.may.attached))
+
+pub clear_context-requires-clause-directory : goal.clear_context-requires-clause-directory
+clear_context-requires-clause-directory g c =
+    let driver = c.args.self.now in
+    let stand = c.requires.ready.stand in
+    rw c.directory_frame-directory.ensures
+    (in_stands driver.frames c.args.memory.now driver.marks driver.devices.items driver.levels (stand.size ∙ driver.sound.sizes.marked) (stand.directory c.in-Ok.ensures.may.started)).tree
+
+low_id : (levels id : ℕ) → id < id_limit levels → id < 16777216
+low_id levels id = by (levels == 1) (levels == 2)
+  where
+    by : (one two : Bool) → id < (if one then 2 ^ 7 else if two then 2 ^ 16 else 2 ^ 24) → id < 16777216
+    by true two lt = omega (arith, lt)
+    by false true lt = omega (arith, lt)
+    by false false lt = omega (arith, lt)
+
+pub context_invalidation-requires : goal.context_invalidation-requires
+context_invalidation-requires g c =
+    let driver = c.args.self.now in
+    low_id driver.levels c.args.id (driver.sound.named c.args.id c.in-Ok.stage (attached_owns (attachment_of driver.devices.items c.args.id) c.in-Ok.stage c.in-Ok.ensures.may.attached))
+
+pub space_invalidation-requires : goal.space_invalidation-requires
+space_invalidation-requires g c =
+    let driver = c.args.self.now in
+    let small = driver.sound.numbers.small c.args.id c.in-Ok.stage (attached_owns (attachment_of driver.devices.items c.args.id) c.in-Ok.stage c.in-Ok.ensures.may.attached) in
+    let le : c.in-Ok.stage.number ≤ 17 = small.1 in
+    omega (arith, le)
+
+pub returns-clause-effect : goal.returns-clause-effect
+returns-clause-effect g c =
+    let driver = c.args.self.now in
+    let memory = c.args.memory.now in
+    let stand = c.requires.ready.stand in
+    let may = c.in-Ok.ensures.may in
+    let io = c.args.io.now in
+    let many : length memory ≡ driver.frames = stand.size ∙ driver.sound.sizes.marked in
+    let here : DirectoryIn driver.frames memory driver.marks driver.devices.items driver.levels = in_stands driver.frames memory driver.marks driver.devices.items driver.levels many (stand.directory may.started) in
+    let at_root : (f : ℕ) → HasPage c.clear_context.new.memory (root_level driver.levels) (directory_frame driver.frames) f → HasPage memory (root_level driver.levels) (directory_frame driver.frames) f =
+    λ f. subst (λ r. HasPage c.clear_context.new.memory (root_level driver.levels) r f → HasPage memory (root_level driver.levels) r f) c.directory_frame-directory.ensures (c.clear_context.ensures.pages f).0 in
+    let outside : (f : ℕ) → (HasPage memory (root_level driver.levels) (directory_frame driver.frames) f → ⊥) → slice_get c.clear_context.new.memory f ≡ slice_get memory f =
+    λ f apart. c.clear_context.ensures.outside f
+    (λ at. apart (at_root f (subst (λ r. HasPage c.clear_context.new.memory (root_level driver.levels) r f) c.directory_frame-directory.ensures at))) in
+    let last : Command = fence (completion_address driver.frames) (driver.given + 1) in
+    record {
+      told = c.in-Ok.ensures.admitted;
+      effect = record {
+        stage = c.in-Ok.stage;
+        attached = may.attached;
+        next = refl;
+        driver = rw c.set_attachment.ensures refl;
+        queued = rw (many, sym c.directory_frame-directory.ensures, sym c.clear_context.ensures.whole, sym c.context_invalidation.ensures, sym c.space_invalidation.ensures) c.append_detach.ensures.appended;
+        list =
+            let r = g.M.Mmio.registers io in
+            let kept = outside (command_frame (length memory)) (λ at. (here.own (command_frame (length memory)) at).no_command (ap command_frame many)) in
+            rw (many, sym c.context_invalidation.ensures, sym c.space_invalidation.ensures)
+            (three_last g.M.Mmio c.clear_context.new.memory c.append_detach.new.memory io c.append_detach.new.io c.context_invalidation.result c.space_invalidation.result last c.append_detach.ensures.appended
+            ∙ ap (λ (xs : List QueueEntry). xs ++ stands.Command c.context_invalidation.result ∷ stands.Command c.space_invalidation.result ∷ stands.Command last ∷ [])
+            (same_commands memory c.clear_context.new.memory r (c.requires.ready.ring may.started) kept));
+        others = λ f apart differs.
+            c.append_detach.ensures.other_frames f (λ same. differs (same ∙ ap command_frame (sym many)))
+            ∙ outside f (λ at. apart (subst (λ n. HasPage memory (root_level driver.levels) (directory_frame n) f) (sym many) at));
+      };
+    }
+
+pub returns-clause-ready : goal.returns-clause-ready
+returns-clause-ready g c =
+    let driver = c.args.self.now in
+    let memory = c.args.memory.now in
+    let stand = c.requires.ready.stand in
+    let may = c.in-Ok.ensures.may in
+    let devices = with_attachment driver.devices.items c.args.id (Leaving (driver.given + 1) c.in-Ok.stage) in
+    let many : length memory ≡ driver.frames = stand.size ∙ driver.sound.sizes.marked in
+    let size : length c.append_detach.new.memory ≡ length memory = c.append_detach.ensures.size ∙ c.clear_context.ensures.size in
+    let here : DirectoryIn driver.frames memory driver.marks driver.devices.items driver.levels = in_stands driver.frames memory driver.marks driver.devices.items driver.levels many (stand.directory may.started) in
+    let cleared = subst (λ r. Cleared memory c.clear_context.new.memory driver.levels r c.args.id) c.directory_frame-directory.ensures record {
+      tree = c.clear_context.ensures.directory;
+      pages = λ f. (c.clear_context.ensures.pages f).0;
+      here = c.clear_context.ensures.here;
+      others = c.clear_context.ensures.others;
+      outside = c.clear_context.ensures.outside;
+    } in
+    let none : stage_of devices c.args.id ≡ None = ap attached_stage (attachment_set driver.devices.items c.args.id (Leaving (driver.given + 1) c.in-Ok.stage) (attached_there driver.devices.items c.args.id c.in-Ok.stage may.attached)) in
+    let same : (other : ℕ) → other ≢ c.args.id → stage_of devices other ≡ stage_of driver.devices.items other =
+    λ other apart. ap attached_stage (attachment_other driver.devices.items c.args.id other (Leaving (driver.given + 1) c.in-Ok.stage) apart) in
+    let between = directory_cleared driver.frames memory c.clear_context.new.memory driver.marks driver.devices.items devices driver.levels c.args.id here cleared.tree cleared.pages cleared.here cleared.others none same in
+    let kept : (n id : ℕ) → slice_get driver.marks n ≡ Some (Some (OneDevice id)) → slice_get c.append_detach.new.memory n ≡ slice_get memory n =
+    λ n id own. c.append_detach.ensures.other_frames n (of_one driver.marks (driver.frames - 1) n id driver.sound.fixed.command own)
+    ∙ cleared.outside n (λ at. system_device driver.marks n id (here.own n (cleared.pages n at)).system own) in
+    rw c.set_attachment.ensures record {
+      stand = record {
+        size = size ∙ stand.size;
+        tables = owned_tables c.append_detach.new.memory driver.marks driver.ledger driver.devices.items devices (owned_leaving driver.devices.items c.args.id (driver.given + 1) c.in-Ok.stage may.attached)
+            (all_stay memory c.append_detach.new.memory driver.marks driver.ledger driver.ledger driver.devices.items stand.tables kept (λ id page. refl));
+        directory = λ started.
+            stands_in driver.frames c.append_detach.new.memory driver.marks devices driver.levels (size ∙ many)
+            (directory_stay driver.frames c.clear_context.new.memory c.append_detach.new.memory driver.marks driver.marks devices devices driver.levels driver.sound.sizes.in_range c.append_detach.ensures.size
+            (λ n own. (c.append_detach.ensures.other_frames n own.no_command, refl)) (λ id. refl) between);
+      };
+      ring = λ started. subst (λ n. IsRing n (g.M.Mmio.registers c.append_detach.new.io)) (sym (size ∙ many)) c.append_detach.ensures.ring;
+      directory = λ started. subst (λ n. NamesDirectory n driver.levels (g.M.Mmio.registers c.append_detach.new.io)) (sym size)
+          (stays_named (length memory) driver.levels (g.M.Mmio.registers c.args.io.now) (g.M.Mmio.registers c.append_detach.new.io) c.append_detach.ensures.named (c.requires.ready.directory started));
+    }

@@ -1,0 +1,35 @@
+-- What becomes of leaving devices, and of their frames, once their tickets are confirmed.
+use Rattle.std.specs.Prelude.{◌≡◌, ℕ, nat_le, Bool, true, false, List, length, Option, None, Some, slice_get, if◌then◌else◌}
+use Rattle.iom_base.specs.declared.owner.Owner.{Owner}
+use Rattle.iom_base.specs.declared.owner.Owner.TheVariants.{System, OneDevice}
+use Rattle.iom_phys_mem.specs.Words.{zeroed}
+use Rattle.iom_driver.specs.declared.device.Attachment.{Attachment}
+use Rattle.iom_driver.specs.declared.device.Attachment.TheVariants.{Detached, Attached, Leaving}
+use Rattle.iom_driver.specs.declared.device.Device.{Device}
+use Rattle.iom_driver.specs.Devices.{attachment_of}
+
+-- whether it leaves under a ticket up to the last that was confirmed
+abbrev pub has_left : ℕ → Attachment → Bool
+has_left done Detached = false
+has_left done (Attached stage) = false
+has_left done (Leaving ticket stage) = nat_le ticket done
+
+-- a device that leaves so is attached to nothing from then on; each other one stays
+abbrev pub once_confirmed : ℕ → Device → Device
+once_confirmed done device = record device { attachment = if has_left done device.attachment then Detached else device.attachment }
+
+-- whether the owner is a device that leaves so
+abbrev pub is_gone : ℕ → List Device → Owner → Bool
+is_gone done devices System = false
+is_gone done devices (OneDevice id) = has_left done (attachment_of devices id)
+
+-- the mark of a frame then: what such a device owned has no owner any more
+abbrev pub given_back : ℕ → List Device → Option Owner → Option Owner
+given_back done devices None = None
+given_back done devices (Some owner) = if is_gone done devices owner then None else Some owner
+
+-- and memory: each frame of such a device is zero, and no other changes
+pub record ClearsGone (done : ℕ) (devices : List Device) (marks : List (Option Owner)) (old new : List (List ℕ)) : Type 0 where
+  pub size : length new ≡ length old
+  pub own : (frame : ℕ) (owner : Owner) → slice_get marks frame ≡ Some (Some owner) → is_gone done devices owner ≡ true → slice_get new frame ≡ Some zeroed
+  pub others : (frame : ℕ) → ((owner : Owner) → slice_get marks frame ≡ Some (Some owner) → is_gone done devices owner ≡ false) → slice_get new frame ≡ slice_get old frame

@@ -1,0 +1,63 @@
+-- The device directory: a context for each attached device, and for no other id.
+use Rattle.std.specs.Prelude.{◌≡◌, ◌≢◌, ℕ, ◌<◌, ◌==◌, false, List, length, Option, None, Some, Result, Ok, Err, slice_get, if◌then◌else◌}
+use Rattle.iom_base.specs.declared.cause.Cause.{Cause}
+use Rattle.iom_base.specs.declared.cause.Cause.TheVariants.{DirectoryEntryNotValid}
+use Rattle.iom_base.specs.declared.owner.Owner.{Owner}
+use Rattle.iom_base.specs.declared.owner.Owner.TheVariants.{System}
+use Rattle.iom_device_dir.specs.declared.context.Context.{Context}
+use Rattle.iom_device_dir.specs.declared.stages.FirstStage.TheVariants.{Sv39}
+use Rattle.iom_device_dir.specs.declared.stages.SecondStage.TheVariants.{Bare}
+use Rattle.iom_device_dir.specs.Located.{path_end_from}
+use Rattle.iom_device_dir.specs.Paths.{ids_below}
+use Rattle.iom_device_dir.specs.Values.{page_from, address_space_from}
+use Rattle.iom_directory.specs.Pages.{IsDirectory, HasPage, root_level}
+use Rattle.iom_registers.specs.declared.directory.DirectoryMode.{DirectoryMode}
+use Rattle.iom_registers.specs.declared.directory.DirectoryMode.TheVariants.{OneLevel, TwoLevels, ThreeLevels}
+use Rattle.iom_registers.specs.declared.registers.Registers.{Registers}
+use Rattle.iom_registers.specs.Queues.{directory_mode, directory_root}
+use Rattle.iom_driver.specs.declared.device.Device.{Device}
+use Rattle.iom_driver.specs.declared.device.FirstStage.{FirstStage}
+use Rattle.iom_driver.specs.Devices.{stage_of}
+use Rattle.iom_driver.specs.Layout.{command_frame, fault_frame, completion_frame, directory_frame}
+
+-- the context of a device that is attached in this first stage: no ATS, and no second stage
+abbrev pub context_for : FirstStage → Context
+context_for stage = record {
+  en_ats = false;
+  first_stage = Sv39 (page_from 0 stage.root);
+  second_stage = Bare;
+  pscid = address_space_from 0 stage.number;
+  gscid = 0;
+}
+
+-- where the path of an id ends, by the first stage that it is attached in
+abbrev pub located_for : Option FirstStage → Result Context Cause
+located_for None = Err DirectoryEntryNotValid
+located_for (Some stage) = Ok (context_for stage)
+
+-- a page of the directory lies in a frame of the system's that is none of the queues' and not the completion word's
+pub record IsDirectoryFrame (marks : List (Option Owner)) (frames page : ℕ) : Type 0 where
+  pub system : slice_get marks page ≡ Some (Some System)
+  pub no_command : page ≢ command_frame frames
+  pub no_fault : page ≢ fault_frame frames
+  pub no_completion : page ≢ completion_frame frames
+
+-- the directory is a tree from its root down, in frames of its own, and has a context exactly for each attached device
+pub record DirectoryStands (memory : List (List ℕ)) (marks : List (Option Owner)) (devices : List Device) (levels : ℕ) : Type 0 where
+  pub tree : IsDirectory memory (root_level levels) (directory_frame (length memory))
+  pub own : (page : ℕ) → HasPage memory (root_level levels) (directory_frame (length memory)) page → IsDirectoryFrame marks (length memory) page
+  pub contexts : (id : ℕ) → id < ids_below (root_level levels)
+      → path_end_from memory (root_level levels) (directory_frame (length memory)) id ≡ located_for (stage_of devices id)
+
+-- the mode of a directory of so many levels
+abbrev pub mode_of : ℕ → DirectoryMode
+mode_of levels = if levels == 1 then OneLevel else if levels == 2 then TwoLevels else ThreeLevels
+
+-- ddtp names the directory
+pub record NamesDirectory (frames levels : ℕ) (r : Registers) : Type 0 where
+  pub mode : directory_mode r ≡ mode_of levels
+  pub root : directory_root r ≡ directory_frame frames
+
+-- ddtp names what it named
+abbrev pub KeepsDirectory : Registers → Registers → Type 0
+KeepsDirectory old new = (directory_mode new ≡ directory_mode old) × (directory_root new ≡ directory_root old)

@@ -1,0 +1,49 @@
+// The frames that become tables, or pages of the directory.
+ghost use Rattle.std.specs.Prelude.{◌≡◌, ◌<◌, ◌≤◌, Some, None, All, length, IfSome, IfNone};
+ghost use Rattle.iom_driver.specs.Choices.{AreHighestFree, marked_for, cleared};
+ghost use Rattle.iom_table_frames.specs.Marks.{HasFree};
+
+use crate::driver::Driver;
+use arrayvec::ArrayVec;
+use iom_base::Owner;
+use iom_phys_mem::Memory;
+use iom_table_frames::TableFrames;
+
+/// Reserves the frames for the owner, and makes them zero.
+pub(crate) fn reserve_all(
+    marks: &mut TableFrames,
+    memory: &mut Memory,
+    frames: &[u32],
+    owner: Owner,
+)
+    requires marked { All (λ frame. frame < length marks.old) frames.now }
+    requires inside { All (λ frame. frame < length memory.old) frames.now }
+    ensures marks { marks.new ≡ marked_for owner frames.now marks.old }
+    ensures memory { memory.new ≡ cleared frames.now memory.old }
+{
+    for frame in frames {
+        marks.reserve(memory, *frame, owner);
+    }
+}
+
+impl Driver {
+    /// So many of the highest free frames, the named one passed over.
+    pub(crate) fn choose(&self, count: usize, named: Option<u32>) -> Option<ArrayVec<u32, 2>>
+        requires { count ≤ 2 }
+        ensures chosen { IfSome result (λ chosen.
+            AreHighestFree self.now.marks self.now.ledger named self.now.frames count chosen.items) }
+        ensures none { IfNone result (¬ HasFree self.now.marks self.now.ledger named count self.now.frames) }
+    {
+        let mut chosen = ArrayVec::new();
+        if count == 0 {
+            return Some(chosen);
+        }
+        let first = self.marks.highest_free(&self.ledger, self.frames, named)?;
+        chosen.push(first);
+        if count == 2 {
+            let second = self.marks.highest_free(&self.ledger, first, named)?;
+            chosen.push(second);
+        }
+        Some(chosen)
+    }
+}

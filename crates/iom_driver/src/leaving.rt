@@ -1,0 +1,54 @@
+// A device is detached: it leaves under a ticket.
+ghost use Rattle.iom_driver.specs.Leaving.{AnswersDetach};
+ghost use Rattle.iom_driver.specs.Ready.{IsReady};
+ghost use Rattle.iom_driver.specs.Seen.{state_of};
+
+use crate::answers::Ticket;
+use crate::appending::{append_detach, context_invalidation, space_invalidation};
+use crate::device::Attachment;
+use crate::driver::Driver;
+use crate::layout::directory_frame;
+use crate::lookups::set_attachment;
+use iom_base::DeviceId;
+use iom_directory::clear_context;
+use iom_ledger::Refusal;
+use iom_phys_mem::Memory;
+use iom_registers::Mmio;
+
+impl Driver {
+    /// The device leaves under the next ticket: its context is cleared, and three commands are queued, an
+    /// invalidation of its context, one of its address space, and the ticket's fence. Its frames and its
+    /// number are its own until a poll confirms the ticket. `NotStarted`, `NoSuchDevice`, `NotAttached` (a
+    /// leaving device too), `StillGranted` where it holds or lingers on something, `TooManyPending` where 256
+    /// tickets wait, `QueueFull` where the ring has fewer than three free places, `NumbersUsedUp` after the
+    /// last ticket: the first that applies, and then nothing changes. Takes no memory.
+    pub fn detach<M: Mmio>(
+        &mut self,
+        memory: &mut Memory,
+        io: &mut M,
+        id: DeviceId,
+    ) -> Result<Ticket, Refusal>
+        requires ready { IsReady (state_of self.old) memory.old (M.registers io.old) }
+        ensures effect { AnswersDetach M.Mmio (state_of self.old) memory.old io.old id result (state_of self.new) memory.new io.new }
+        ensures ready { IsReady (state_of self.new) memory.new (M.registers io.new) }
+    {
+        let stage = match self.admit_detach(io, id) {
+            Ok(stage) => stage,
+            Err(why) => return Err(why),
+        };
+        self.given += 1;
+        let ticket = self.given;
+        set_attachment(&mut self.devices, id, Attachment::Leaving { ticket, stage });
+        let directory = directory_frame(self.frames);
+        clear_context(memory, self.levels, directory, id);
+        append_detach(
+            memory,
+            io,
+            self.frames,
+            context_invalidation(id),
+            space_invalidation(stage.number),
+            ticket,
+        );
+        Ok(Ticket(ticket))
+    }
+}

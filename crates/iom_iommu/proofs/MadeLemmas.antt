@@ -1,0 +1,33 @@
+-- The access that is made lies within one frame.
+use Rattle.std.proofs.Common.{◌≡◌, ◌<◌, ◌≤◌, ◌+◌, ◌%◌, ◌==◌, ◌∙◌, ℕ, Bool, true, false, List, [], ◌∷◌, Option, None, Some, IfSome, refl, sym, ap, subst, if◌then◌else◌}
+use Rattle.iom_inflight.specs.declared.made.MadeAt.{MadeAt}
+use Rattle.iom_inflight.specs.Calls.{Makes}
+use Rattle.iom_inflight.specs.Flights.{NumberedAccess, FlightRow, Flights, row_of, made_at}
+use Rattle.iom_inflight.specs.Sound.{AreFlights, AreSoundRows, AreSoundAccesses, IsSoundRow, AreRowsIn, AreAccessesIn}
+use Rattle.iom_iommu.specs.Requests.{IsWithinFrame}
+
+-- the row of a device is as all rows are
+row_sound : (so_far : ℕ) (rows : List FlightRow) (device : ℕ) (row : FlightRow) → AreSoundRows so_far rows → row_of rows device ≡ Some row → IsSoundRow so_far row
+row_sound so_far [] device row sound stands = cc
+row_sound so_far (first ∷ rows) device row sound stands = by (first.device == device) stands (λ is. row_sound so_far rows device row sound.1 is)
+  where
+    by : (b : Bool) → (if b then Some first else row_of rows device) ≡ Some row → (row_of rows device ≡ Some row → IsSoundRow so_far row) → IsSoundRow so_far row
+    by true is later = (let same : first ≡ row = cc in subst (IsSoundRow so_far) same sound.0)
+    by false is later = later is
+
+row_in : (frames : ℕ) (rows : List FlightRow) (device : ℕ) (row : FlightRow) → AreRowsIn frames rows → row_of rows device ≡ Some row → AreAccessesIn frames row.waiting
+row_in frames [] device row inside stands = cc
+row_in frames (first ∷ rows) device row inside stands = by (first.device == device) stands (λ is. row_in frames rows device row inside.1 is)
+  where
+    by : (b : Bool) → (if b then Some first else row_of rows device) ≡ Some row → (row_of rows device ≡ Some row → AreAccessesIn frames row.waiting) → AreAccessesIn frames row.waiting
+    by true is later = (let same : first ≡ row = cc in subst (λ (r : FlightRow). AreAccessesIn frames r.waiting) same inside.0)
+    by false is later = later is
+
+pub made_within : (frames : ℕ) (memory : List (List ℕ)) (old : Flights) (device : ℕ) (result : Option MadeAt) (new_memory : List (List ℕ)) (new : Flights) → AreFlights old → AreRowsIn frames old.rows
+    → Makes memory old device result new_memory new → IfSome result (IsWithinFrame frames)
+made_within frames memory old device None new_memory new flights inside makes = tt
+made_within frames memory old device (Some made) new_memory new flights inside makes =
+    let sound = row_sound old.so_far old.rows device makes.row flights.rows makes.stands in
+    let accesses = subst (AreSoundAccesses old.so_far) makes.waiting sound.accesses in
+    let frames_in = subst (AreAccessesIn frames) makes.waiting (row_in frames old.rows device makes.row inside makes.stands) in
+    subst (IsWithinFrame frames) (sym makes.told) (record { inside = frames_in.0; within = accesses.0.within.1 })

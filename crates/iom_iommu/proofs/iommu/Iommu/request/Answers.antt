@@ -1,0 +1,10 @@
+-- The frame of the access that was accepted is one of memory.
+use Rattle.std.proofs.Common.{◌<◌, subst}
+use Rattle.iom_inflight.proofs.InMemory.{accepted_in_memory}
+use Rattle.iom_iommu.proofs.iommu.Iommu.request.Goals as goal
+
+pub invariant_of-self : goal.invariant_of-self
+invariant_of-self c = record {
+  inside = accepted_in_memory c.args.self.now.frames c.args.self.now.in_flight c.args.device _ c.accept.result c.accept.new.in_flight c.accept.ensures
+      (subst (λ n. c.in-Ok.frame < n) c.requires.memory c.in-Ok.ensures.inside) c.args.self.now.inside;
+}

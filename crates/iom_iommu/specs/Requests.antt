@@ -1,0 +1,58 @@
+-- What a request of a device is answered and leaves, and what becomes of an access in flight.
+use Rattle.std.specs.Prelude.{◌≡◌, ℕ, ◌+◌, ◌<◌, ◌≤◌, List, Option, Ok, Err}
+use Rattle.iom_base.specs.Sizes.{page_size}
+use Rattle.iom_base.specs.Accesses.{IsWithinPage}
+use Rattle.iom_base.specs.declared.access.Access.{Access}
+use Rattle.iom_base.specs.declared.access.AccessKind.{AccessKind}
+use Rattle.iom_base.specs.declared.cause.Cause.{Cause}
+use Rattle.iom_inflight.specs.declared.made.MadeAt.{MadeAt}
+use Rattle.iom_inflight.specs.Calls.{IsAccepted, IsFull, HasRoom, Makes}
+use Rattle.iom_iommu.specs.declared.iommu.Iommu.{Iommu}
+use Rattle.iom_iommu.specs.declared.reply.Reply.{Reply}
+use Rattle.iom_iommu.specs.declared.reply.Reply.TheVariants.{Accepted, Busy, Fault, BadSpan}
+use Rattle.iom_iommu.specs.Parts.{registers_of, contexts_of, flights_of, frames_of}
+use Rattle.iom_iommu.specs.Service.{IsServed, KeepsContext}
+
+-- the access of so many bytes from an address on, with the bytes of a write
+abbrev pub access_of : ℕ → ℕ → AccessKind → List ℕ → Access
+access_of address len kind bytes = record { address = address; len = len; kind = kind; bytes = bytes }
+
+-- the access is translated to a frame, and goes last in the device's row with this number
+pub record AcceptsRequest (memory : List (List ℕ)) (old : Iommu) (id : ℕ) (access : Access) (number : ℕ) (new : Iommu) : Type 0 where
+  pub within : IsWithinPage access
+  pub frame : ℕ
+  pub served : IsServed memory (registers_of old) (contexts_of old) id access.address access.kind (Ok frame)
+  pub inside : frame < frames_of old
+  pub accepted : IsAccepted (flights_of old) id (record { access = access; frame = frame }) number (flights_of new)
+  pub contexts : KeepsContext memory (registers_of old) (contexts_of old) id (contexts_of new)
+  pub registers : registers_of new ≡ registers_of old
+  pub frames : frames_of new ≡ frames_of old
+
+-- the access isn't translated, for this cause. No fault record is written yet
+pub record RefusesRequest (memory : List (List ℕ)) (old : Iommu) (id : ℕ) (access : Access) (cause : Cause) (new : Iommu) : Type 0 where
+  pub within : IsWithinPage access
+  pub room : HasRoom (flights_of old) id
+  pub served : IsServed memory (registers_of old) (contexts_of old) id access.address access.kind (Err cause)
+  pub contexts : KeepsContext memory (registers_of old) (contexts_of old) id (contexts_of new)
+  pub flights : flights_of new ≡ flights_of old
+  pub registers : registers_of new ≡ registers_of old
+  pub frames : frames_of new ≡ frames_of old
+
+-- A DEVICE ASKS for an access: the first that applies is its answer
+abbrev pub AnswersRequest : List (List ℕ) → Iommu → ℕ → Access → Reply → Iommu → Type 0
+AnswersRequest memory old id access BadSpan new = (¬ IsWithinPage access) × (new ≡ old)
+AnswersRequest memory old id access Busy new = IsWithinPage access × IsFull (flights_of old) id × (new ≡ old)
+AnswersRequest memory old id access (Accepted number) new = AcceptsRequest memory old id access number new
+AnswersRequest memory old id access (Fault cause) new = RefusesRequest memory old id access cause new
+
+-- the bytes of an access that is made lie in one of so many frames
+pub record IsWithinFrame (frames : ℕ) (made : MadeAt) : Type 0 where
+  pub inside : made.frame < frames
+  pub within : made.offset + made.len ≤ page_size
+
+-- THE OLDEST ACCESS of a device is made, if there is one
+pub record CommitsOldest (memory : List (List ℕ)) (old : Iommu) (id : ℕ) (made : Option MadeAt) (new_memory : List (List ℕ)) (new : Iommu) : Type 0 where
+  pub makes : Makes memory (flights_of old) id made new_memory (flights_of new)
+  pub contexts : new.contexts ≡ old.contexts
+  pub registers : registers_of new ≡ registers_of old
+  pub frames : frames_of new ≡ frames_of old

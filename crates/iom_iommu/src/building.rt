@@ -1,0 +1,83 @@
+// The IOMMU at power-on, its devices, and what software sees of its registers.
+ghost use Rattle.std.specs.Prelude.{◌≡◌, refl, IfOk, is_some};
+ghost use Rattle.iom_inflight.specs.Flights.{row_of};
+ghost use Rattle.iom_inflight.specs.Sound.{AreFlights, AreRowsIn};
+ghost use Rattle.iom_iommu.specs.Parts.{IsAtPowerOn, AddsDevice, registers_of, flights_of, frames_of, after_write};
+
+use crate::iommu::Iommu;
+use iom_base::DeviceId;
+use iom_device_dir::DirCache;
+use iom_inflight::InFlight;
+use iom_registers::{Mmio, RegFault, Register, Registers};
+use std::alloc::{AllocError, Global};
+
+impl Iommu {
+    /// The IOMMU at power-on, beside a memory of so many frames. Takes its memory here, but for the contexts
+    /// that it caches.
+    pub fn new(alloc: Global, frames: u32) -> Result<Iommu, AllocError>
+        ensures { IfOk result (IsAtPowerOn frames) }
+    {
+        Ok(Iommu {
+            registers: Registers::new(),
+            contexts: DirCache::new(alloc)?,
+            in_flight: InFlight::new(alloc)?,
+            frames,
+        })
+    }
+
+    /// A device that may make requests. False exactly where it was added or 16 were, and then nothing
+    /// changes.
+    pub fn add(&mut self, device: DeviceId) -> bool
+        ensures { AddsDevice self.old device result self.new }
+    {
+        self.in_flight.add(device)
+    }
+
+    /// Whether the device was added.
+    pub fn is_added(&self, device: DeviceId) -> bool
+        ensures { result ≡ is_some (row_of (flights_of self.now).rows device) }
+    {
+        self.in_flight.is_added(device)
+    }
+
+    /// How many frames the memory has that its calls are lent.
+    pub fn frames(&self) -> u32
+        ensures { result ≡ frames_of self.now }
+    {
+        self.frames
+    }
+
+    /// What holds of the accesses in flight, whatever calls were made. It does nothing.
+    pub fn facts(&self)
+        ensures sound { AreFlights (flights_of self.now) }
+        ensures inside { AreRowsIn (frames_of self.now) (flights_of self.now).rows }
+    {
+        self.in_flight.facts();
+    }
+
+    /// Its registers.
+    pub fn registers(&self) -> &Registers
+        ensures { result.now ≡ registers_of self.now }
+    {
+        &self.registers
+    }
+}
+
+/// Nothing follows a write but what the table of the registers says.
+impl Mmio for Iommu {
+    ghost registers = { registers_of };
+
+    ghost after = { after_write };
+
+    ghost writes_registers = { λ x r value. refl };
+
+    fn read(&self, offset: u64, width: u32) -> Result<u64, RegFault> {
+        self.registers.read(offset, width)
+    }
+
+    fn write(&mut self, offset: u64, width: u32, value: u64) -> Result<(), RegFault> {
+        let register = Register::at(offset, width)?;
+        self.registers.set(register, value);
+        Ok(())
+    }
+}

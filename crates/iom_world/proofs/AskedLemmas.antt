@@ -1,0 +1,34 @@
+-- A request keeps the facts, where fewer accesses were accepted than events are counted.
+use Rattle.std.proofs.Common.{◌≡◌, ◌+◌, ◌-◌, ◌^◌, ◌<◌, ◌≤◌, ℕ, sym, subst, arith}
+use Rattle.iom_base.specs.declared.access.Access.{Access}
+use Rattle.iom_driver.specs.declared.driver.Driver.{Driver}
+use Rattle.iom_driver.specs.Seen.{state_of}
+use Rattle.iom_iommu.specs.Parts.{flights_of}
+use Rattle.iom_machine.specs.declared.outcome.Outcome.{Outcome}
+use Rattle.iom_world.specs.Below.{LawsBelow}
+use Rattle.iom_world.specs.Parts.{Parts}
+use Rattle.iom_world.specs.Requests.{AsksAccess}
+use Rattle.iom_world.specs.Sound.{AreSound}
+use Rattle.iom_world.proofs.DriverLemmas.{IsSoundDriver}
+use Rattle.iom_world.proofs.PartsLemmas.{StaysReady, stays_of}
+use Rattle.iom_world.proofs.RequestKeeps.{keeps_asked}
+
+pub keeps_asked_counted : LawsBelow → (driver : Driver) (old new : Parts) (events id : ℕ) (access : Access) (told : Outcome) → AreSound old events → IsSoundDriver old.driver → old.driver ≡ state_of driver
+    → (flights_of old.iommu).so_far < events → access.address < 2 ^ 64 → AsksAccess old id access told new → AreSound new events
+keeps_asked_counted laws driver old new events id access told sound own is below fits asks =
+    let before : AreSound old (events - 1) = record {
+      ready = sound.ready;
+      started = sound.started;
+      processing = sound.processing;
+      size = sound.size;
+      known = sound.known;
+      confirmed = sound.confirmed;
+      small = sound.small;
+      counted = omega (arith, below);
+      contexts = sound.contexts;
+      copies = sound.copies;
+    } in
+    let again : events - 1 + 1 ≡ events = omega (arith, below) in
+    subst (AreSound new) again
+    (keeps_asked (record { ends = laws.ends; reaches = laws.reaches; faults = laws.faults; one_end = laws.one_end }) old new (events - 1) id access told before own
+    (subst StaysReady (sym is) (stays_of laws.stays driver)) fits asks)

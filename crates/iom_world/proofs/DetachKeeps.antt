@@ -1,0 +1,156 @@
+-- What stays true of a world when a device is detached: three more commands wait, and it leaves until the ticket of their fence is confirmed.
+use Rattle.std.proofs.Common.{◌≡◌, ◌+◌, ◌^◌, ◌<◌, ◌≤◌, ◌==◌, ◌++◌, ◌∙◌, inl, inr, nat_le, is_some, ℕ, Bool, true, false, List, [], ◌∷◌, length, Option, Some, None, Result, Ok, Err, refl, sym, ap, subst, arith, if◌then◌else◌}
+use Rattle.std.specs.Bool.{IsTrue}
+use Rattle.std.specs.Option.{option_map}
+use Rattle.std.proofs.Math.Logic.{∥∥₁_map}
+use Rattle.std.proofs.lemmas.Bool.{false≢true}
+use Rattle.std.proofs.lemmas.Bool.Decides.{eqb_tells}
+use Rattle.iom_command_queue.specs.declared.entry.QueueEntry.{QueueEntry}
+use Rattle.iom_command_queue.specs.declared.entry.QueueEntry.TheVariants as stands
+use Rattle.iom_command_queue.specs.Waiting.{commands_in}
+use Rattle.iom_copies.specs.DriverCalls.{leave_commands}
+use Rattle.iom_directory.specs.Pages.{root_level}
+use Rattle.iom_directory.specs.Written.{without_context}
+use Rattle.iom_driver.specs.declared.answers.Ticket as answers
+use Rattle.iom_driver.specs.declared.device.Attachment.TheVariants.{Attached, Leaving}
+use Rattle.iom_driver.specs.Appends.{context_invalidation, space_invalidation, fence}
+use Rattle.iom_driver.specs.Devices.{attachment_of, is_plugged, owned_stage, owned_stage_of, with_attachment}
+use Rattle.iom_driver.specs.Directory.{context_for}
+use Rattle.iom_driver.specs.Layout.{completion_frame, completion_address, directory_frame}
+use Rattle.iom_driver.specs.Leaving.{QueuesDetach, IsToldOfDetach, DoesDetach}
+use Rattle.iom_driver.specs.Ready.{IsReady}
+use Rattle.iom_driver.specs.Reasons.{why_not_detach, HasGrants}
+use Rattle.iom_driver.specs.State.{DriverState}
+use Rattle.iom_driver.proofs.Places.{attached_there}
+use Rattle.iom_iommu.specs.Parts.{registers_of, mmio}
+use Rattle.iom_ledger.specs.declared.refusal.Refusal.{Refusal}
+use Rattle.iom_ledger.specs.declared.refusal.Refusal.TheVariants.{StillGranted, NumbersUsedUp}
+use Rattle.iom_ledger.specs.History.{Pair}
+use Rattle.iom_ledger.specs.Refusals.{NoneApplies}
+use Rattle.iom_ledger.specs.Shown.{Agrees, held_in, lingering_in}
+use Rattle.iom_machine.specs.declared.outcome.Outcome.{Outcome}
+use Rattle.iom_machine.specs.declared.state.Attachment.TheVariants as shown
+use Rattle.iom_machine.specs.declared.state.Mode.TheVariants.{First}
+use Rattle.iom_registers.specs.declared.registers.Registers.{Registers}
+use Rattle.iom_world.specs.Devices.{shown_attachment}
+use Rattle.iom_world.specs.Does.{DetachesDevice}
+use Rattle.iom_world.specs.Parts.{Parts}
+use Rattle.iom_world.specs.Queued.{completed_in}
+use Rattle.iom_world.specs.Read.{values_of, accesses_of}
+use Rattle.iom_world.specs.Sound.{AreSound, known_ids, row_ids}
+use Rattle.iom_world.proofs.DeviceLemmas.{shown_set, plugged_set, ids_set, attachment_set, attachment_other}
+use Rattle.iom_world.proofs.DriverKeeps.{attached_is}
+use Rattle.iom_world.proofs.DriverLemmas.{IsSoundDriver}
+use Rattle.iom_world.proofs.PollKeeps.{same_known}
+use Rattle.iom_world.proofs.ReleaseKeeps.{IsRung, rung_again, rung_leaves, next_small}
+use Rattle.iom_world.proofs.SceneCalls.{QueuesTicket, detach_scene}
+use Rattle.iom_world.proofs.SoundLemmas.{completed_given, same_completed, LeavesWord, sound_from, none_at}
+
+-- the reasons of a detach that is answered, whatever tells that something is granted
+abbrev pub IsAdmitted : DriverState → Registers → ℕ → Type 0
+IsAdmitted d r id = (granted : Bool) → (IsTrue granted → HasGrants d.ledger id) × (HasGrants d.ledger id → IsTrue granted) → NoneApplies (why_not_detach d r granted id)
+
+-- it has no grants
+pub has_none : (d : DriverState) (r : Registers) (id : ℕ) → IsAdmitted d r id → ¬ HasGrants d.ledger id
+has_none d r id admitted has =
+    false≢true (sym (none_at (why_not_detach d r true id) 3 true StillGranted refl (admitted true ((λ is. has), (λ it. refl)))))
+
+pub ungranted : (d : DriverState) (r : Registers) (id : ℕ) → IsAdmitted d r id → (page : ℕ) → (held_in d.ledger id page ≡ None) × (lingering_in d.ledger id page ≡ None)
+ungranted d r id admitted page = (held (held_in d.ledger id page) refl, lingers (lingering_in d.ledger id page) refl)
+  where
+    held : (o : Option Pair) → held_in d.ledger id page ≡ o → held_in d.ledger id page ≡ None
+    held None at = at
+    held (Some pair) at = absurd (has_none d r id admitted (page, inl (ap is_some at)))
+
+    lingers : (o : Option Pair) → lingering_in d.ledger id page ≡ o → lingering_in d.ledger id page ≡ None
+    lingers None at = at
+    lingers (Some pair) at = absurd (has_none d r id admitted (page, inr (ap is_some at)))
+
+pub numbers_left : (d : DriverState) (r : Registers) (id : ℕ) → IsAdmitted d r id → nat_le 4294967295 d.given ≡ false
+numbers_left d r id admitted =
+    none_at (why_not_detach d r false id) 6 (nat_le 4294967295 d.given) NumbersUsedUp refl
+    (admitted false ((λ is. absurd (false≢true is)), (λ has. absurd (has_none d r id admitted has))))
+
+module _ (old new : Parts) (events id ticket : ℕ) (sound : AreSound old events) (own : IsSoundDriver old.driver) (ready : IsReady new.driver new.memory (registers_of new.iommu))
+    (admitted : IsAdmitted old.driver (registers_of old.iommu) id) (queues : QueuesDetach mmio old.driver old.memory old.iommu id ticket new.driver new.memory new.iommu)
+    (devices : new.devices ≡ old.devices) where
+  rung : IsRung old.iommu new.iommu
+  rung =
+      rung_again (without_context old.memory (root_level old.driver.levels) (directory_frame (length old.memory)) id) queues.queued.between_memory new.memory
+      old.iommu queues.queued.between_io new.iommu (context_invalidation id) (space_invalidation queues.stage.number) (fence (completion_address (length old.memory)) ticket)
+      queues.queued.first queues.queued.rest
+
+  leaves : LeavesWord old new
+  leaves = record {
+    size = ready.stand.size ∙ ap (λ (d : DriverState). length d.marks) queues.driver ∙ sym sound.ready.stand.size;
+    word =
+        let stands_so = sound.ready.stand.directory sound.started in
+        queues.others (completion_frame (length old.memory)) (λ page. (stands_so.own (completion_frame (length old.memory)) page).no_completion refl)
+        (let many = own.sizes.size.0 in let size = sound.ready.stand.size in omega (arith, size, many));
+  }
+
+  given_now : new.driver.given ≡ old.driver.given + 1
+  given_now = ap (λ (d : DriverState). d.given) queues.driver ∙ queues.next
+
+  was_attached : attachment_of old.driver.devices id ≡ Attached queues.stage
+  was_attached = attached_is (attachment_of old.driver.devices id) queues.stage queues.attached
+
+  plugged : is_plugged old.driver.devices id ≡ true
+  plugged = attached_there old.driver.devices id queues.stage queues.attached
+
+  abbrev commands : List QueueEntry
+  commands = stands.Command (context_invalidation id) ∷ stands.Command (space_invalidation queues.stage.number) ∷ []
+
+  queues_ticket : QueuesTicket (values_of old) (values_of new) commands (leave_commands id)
+  queues_ticket =
+      let low = completed_given old events sound in
+      let before = sound.confirmed in
+      record {
+        ordered = omega (arith, low, before);
+        appended = (refl, (tt, tt));
+        waiting = queues.list ∙ ap (λ t. commands_in old.memory (registers_of old.iommu)
+            ++ stands.Command (context_invalidation id) ∷ stands.Command (space_invalidation queues.stage.number) ∷ stands.Command (fence (completion_address (length old.memory)) t) ∷ []) queues.next;
+        address = ap completion_address leaves.size;
+        completed = same_completed old.memory new.memory leaves.size leaves.word;
+        given = given_now;
+        confirmed = ap (λ (d : DriverState). d.confirmed) queues.driver;
+        so_far = ap (λ f. f.so_far) rung.flights;
+        in_flight = ap (λ f. accesses_of f.rows) rung.flights;
+        unplugged = λ d none. sym (ap (λ (s : DriverState). is_plugged s.devices d) queues.driver ∙ plugged_set old.driver.devices id (Leaving ticket queues.stage) d) ∙ none;
+        contexts = λ d is. sym (ap is_some (rung.contexts d)) ∙ is;
+      }
+
+  -- a leaving device has its stage still
+  owned_still : (other : ℕ) → owned_stage_of new.driver.devices other ≡ owned_stage_of old.driver.devices other
+  owned_still other =
+      ap (λ (s : DriverState). owned_stage_of s.devices other) queues.driver
+      ∙ elim (eqb_tells other id) [
+        | inl e ↦ ap (owned_stage_of (with_attachment old.driver.devices id (Leaving ticket queues.stage))) e.1
+            ∙ ap owned_stage (attachment_set old.driver.devices id (Leaving ticket queues.stage) plugged) ∙ sym (ap owned_stage was_attached) ∙ sym (ap (owned_stage_of old.driver.devices) e.1)
+        | inr ne ↦ ap owned_stage (attachment_other old.driver.devices id other (Leaving ticket queues.stage) ne.1)
+      ]
+
+  pub detached_sound : AreSound new events
+  detached_sound =
+      sound_from old new events sound leaves (rung_leaves old new rung) (ap (λ (d : DriverState). d.started) queues.driver) ready
+      (same_known old new devices (ap (λ (d : DriverState). known_ids d.devices) queues.driver ∙ ids_set old.driver.devices id (Leaving ticket queues.stage)) (ap (λ f. row_ids f.rows) rung.flights) sound.known)
+      (subst (λ n. n ≤ completed_in old.memory) (sym (ap (λ (d : DriverState). d.confirmed) queues.driver)) sound.confirmed)
+      (subst (λ n. n < 2 ^ 32) (sym given_now) (next_small old.driver.given (numbers_left old.driver (registers_of old.iommu) id admitted)))
+      (λ other context cached. ap (option_map context_for) (owned_still other) ∙ sound.contexts other context (sym (rung.contexts other) ∙ cached))
+      (∥∥₁_map sound.copies
+      (detach_scene (values_of old) (values_of new) id commands queues_ticket
+      (ap shown_attachment was_attached)
+      (λ d. ap (λ (s : DriverState). shown_attachment (attachment_of s.devices d)) queues.driver ∙ shown_set old.driver.devices id (Leaving ticket queues.stage) plugged d
+        ∙ ap (λ t. if id == d then shown.Leaving t First false else shown_attachment (attachment_of old.driver.devices d)) queues.next)
+      (ungranted old.driver (registers_of old.iommu) id admitted)
+      (λ h agrees. subst (λ (s : DriverState). Agrees s.ledger h) (sym queues.driver) agrees)))
+
+pub keeps_detached : (old new : Parts) (events id : ℕ) (told : Outcome) → AreSound old events → IsSoundDriver old.driver → IsReady new.driver new.memory (registers_of new.iommu)
+    → DetachesDevice old id told new → AreSound new events
+keeps_detached old new events id told sound own ready detaches = by detaches.answer detaches.call.told detaches.call.effect
+  where
+    by : (answer : Result answers.Ticket Refusal)
+        → ((granted : Bool) → (IsTrue granted → HasGrants old.driver.ledger id) × (HasGrants old.driver.ledger id → IsTrue granted) → IsToldOfDetach old.driver (registers_of old.iommu) granted id answer)
+        → DoesDetach mmio old.driver old.memory old.iommu id answer new.driver new.memory new.iommu → AreSound new events
+    by (Ok ticket) admitted queues = detached_sound old new events id ticket.0 sound own ready admitted queues detaches.devices
+    by (Err why) refused (driver_stays, memory_stays, iommu_stays) = rw (driver_stays, memory_stays, iommu_stays, detaches.devices) sound

@@ -1,0 +1,30 @@
+-- The parts of a world by what each of them is, and the driver's law for a state.
+use Rattle.std.proofs.Common.{◌≡◌, ◌∙◌, ℕ, List, ap}
+use Rattle.iom_driver.specs.declared.driver.Driver.{Driver}
+use Rattle.iom_driver.specs.Laws.{KeepsReserved, KeepsRing, ReadyStays}
+use Rattle.iom_driver.specs.Ready.{IsReady}
+use Rattle.iom_driver.specs.Seen.{state_of}
+use Rattle.iom_driver.specs.State.{DriverState}
+use Rattle.iom_iommu.specs.declared.iommu.Iommu.{Iommu}
+use Rattle.iom_registers.specs.declared.registers.Registers.{Registers}
+use Rattle.iom_world.specs.declared.device.Device.{Device}
+use Rattle.iom_world.specs.Parts.{Parts}
+
+-- the parts that are these
+abbrev pub of_parts : List (List ℕ) → Iommu → DriverState → List Device → Parts
+of_parts memory iommu driver devices = record { memory = memory; iommu = iommu; driver = driver; devices = devices }
+
+pub parts_are : (new : Parts) (memory : List (List ℕ)) (iommu : Iommu) (driver : DriverState) (devices : List Device)
+    → new.memory ≡ memory → new.iommu ≡ iommu → new.driver ≡ driver → new.devices ≡ devices → new ≡ of_parts memory iommu driver devices
+parts_are new memory iommu driver devices same_memory same_iommu same_driver same_devices =
+    ap (λ m. of_parts m new.iommu new.driver new.devices) same_memory
+    ∙ ap (λ i. of_parts memory i new.driver new.devices) same_iommu
+    ∙ ap (λ d. of_parts memory iommu d new.devices) same_driver
+    ∙ ap (λ ds. of_parts memory iommu driver ds) same_devices
+
+-- the driver's law, of one state
+abbrev pub StaysReady : DriverState → Type 0
+StaysReady d = (old new : List (List ℕ)) (r s : Registers) → IsReady d old r → KeepsReserved d old new → KeepsRing r s → IsReady d new s
+
+pub stays_of : ReadyStays → (driver : Driver) → StaysReady (state_of driver)
+stays_of law driver old new r s ready reserved ring = law driver old new r s ready reserved ring

@@ -1,0 +1,140 @@
+-- What stays true of a world at a poll: a device that left has no context cached any more, since its ticket's fence came after the command that drops it.
+use Rattle.std.proofs.Common.{◌≡◌, ◌+◌, ◌-◌, ◌^◌, ◌<◌, ◌≤◌, ◌==◌, ◌∙◌, min, is_some, ℕ, Bool, true, false, List, length, Option, Some, Result, Ok, Err, slice_get, refl, sym, ap, subst, arith, if◌then◌else◌}
+use Rattle.std.specs.Option.{option_map, option_map_or}
+use Rattle.std.proofs.Math.Logic.{∥∥₁_map}
+use Rattle.std.proofs.Math.Nat.{min-eq_left}
+use Rattle.std.proofs.lemmas.Bool.{eqb-true}
+use Rattle.iom_base.specs.declared.owner.Owner.{Owner}
+use Rattle.iom_base.specs.declared.owner.Owner.TheVariants.{System}
+use Rattle.iom_driver.specs.declared.answers.Polled.{Polled}
+use Rattle.iom_driver.specs.declared.device.Attachment.TheVariants.{Detached}
+use Rattle.iom_driver.specs.Confirmed.{has_left, is_gone}
+use Rattle.iom_driver.specs.Devices.{attachment_of, is_plugged, owned_stage, owned_stage_of}
+use Rattle.iom_driver.specs.Directory.{context_for}
+use Rattle.iom_driver.specs.Layout.{command_frame, completion_frame, completion_address}
+use Rattle.iom_driver.specs.Polling.{AnswersPoll, ConfirmsDone, done_after}
+use Rattle.iom_driver.specs.Ready.{IsReady}
+use Rattle.iom_driver.specs.State.{DriverState}
+use Rattle.iom_iommu.specs.Parts.{registers_of, contexts_of, flights_of}
+use Rattle.iom_ledger.specs.declared.refusal.Refusal.{Refusal}
+use Rattle.iom_machine.specs.declared.outcome.Outcome.{Outcome}
+use Rattle.iom_world.specs.Devices.{shown_attachment}
+use Rattle.iom_world.specs.Does.{PollsTickets}
+use Rattle.iom_world.specs.Parts.{Parts}
+use Rattle.iom_world.specs.Queued.{completed_in}
+use Rattle.iom_world.specs.Read.{values_of, accesses_of}
+use Rattle.iom_world.specs.Scenes.{HasFaithfulScene}
+use Rattle.iom_world.specs.Sound.{AreSound, AreKnown, ContextsAreTrue, known_ids, ids_of, row_ids}
+use Rattle.iom_world.proofs.DeviceLemmas.{after, attachment_confirmed, plugged_confirmed, ids_confirmed, left_is}
+use Rattle.iom_world.proofs.DriverLemmas.{IsSoundDriver}
+use Rattle.iom_world.proofs.SceneCalls.{ConfirmsSome, poll_scene}
+use Rattle.iom_world.proofs.SoundLemmas.{completed_given, detached_uncached, same_completed, LeavesWord, same_iommu, sound_from, same_waiting, fixed_frames}
+
+-- driver and world and IOMMU have the same ids as before
+pub same_known : (old new : Parts) → new.devices ≡ old.devices → known_ids new.driver.devices ≡ known_ids old.driver.devices → row_ids (flights_of new.iommu).rows ≡ row_ids (flights_of old.iommu).rows
+    → AreKnown old → AreKnown new
+same_known old new devices driver rows known = record {
+  own_ids = rw devices known.own_ids;
+  driver = driver ∙ known.driver ∙ ap ids_of (sym devices);
+  iommu = rows ∙ known.iommu ∙ ap ids_of (sym devices);
+}
+
+-- how many tickets a poll confirms: all that wait and whose fences are done
+pub polled_count : (old : Parts) (events : ℕ) (polled : Polled) (new : DriverState) (memory : List (List ℕ)) → AreSound old events
+    → ConfirmsDone (registers_of old.iommu) old.driver old.memory polled new memory → polled.count ≡ completed_in old.memory - old.driver.confirmed
+polled_count old events polled new memory sound confirms =
+    let completed : completed_in old.memory ≡ confirms.word = ap (λ o. option_map_or (λ word. word) o 0) confirms.read in
+    let given : completed_in old.memory ≤ old.driver.given = completed_given old events sound in
+    confirms.count ∙ ap (λ w. min w old.driver.given - old.driver.confirmed) (sym completed) ∙ ap (λ m. m - old.driver.confirmed) (min-eq_left given)
+
+module _ (old new : Parts) (events : ℕ) (polled : Polled) (sound : AreSound old events) (own : IsSoundDriver old.driver) (ready : IsReady new.driver new.memory (registers_of new.iommu))
+    (confirms : ConfirmsDone (registers_of old.iommu) old.driver old.memory polled new.driver new.memory) (iommu : new.iommu ≡ old.iommu) (devices : new.devices ≡ old.devices) where
+  done : ℕ
+  done = done_after old.driver polled
+
+  -- the system's frames stay
+  system_kept : (n : ℕ) → slice_get old.driver.marks n ≡ Some (Some System) → slice_get new.memory n ≡ slice_get old.memory n
+  system_kept n system = confirms.cleared.others n (λ owner at.
+      let both : ◌≡◌ {A = Option (Option Owner)} (Some (Some owner)) (Some (Some System)) = sym at ∙ system in
+      let same : owner ≡ System = cc in
+      subst (λ o. is_gone (done_after old.driver polled) old.driver.devices o ≡ false) (sym same) refl)
+
+  leaves : LeavesWord old new
+  leaves = record { size = confirms.cleared.size; word = system_kept (completion_frame (length old.memory)) (fixed_frames old events sound own).completion }
+
+  attachment_now : (id : ℕ) → attachment_of new.driver.devices id ≡ after (done_after old.driver polled) (attachment_of old.driver.devices id)
+  attachment_now id = ap (λ (d : DriverState). attachment_of d.devices id) confirms.driver ∙ attachment_confirmed (done_after old.driver polled) old.driver.devices id
+
+  plugged_now : (id : ℕ) → is_plugged new.driver.devices id ≡ is_plugged old.driver.devices id
+  plugged_now id = ap (λ (d : DriverState). is_plugged d.devices id) confirms.driver ∙ plugged_confirmed (done_after old.driver polled) old.driver.devices id
+
+  confirms_some : ConfirmsSome (values_of old) (values_of new) polled.count (old.driver.given - completed_in old.memory)
+  confirms_some =
+      let count = polled_count old events polled new.driver new.memory sound confirms in
+      let given = completed_given old events sound in
+      let before = sound.confirmed in
+      record {
+        many = omega (arith, count, given, before);
+        done = omega (arith, count, before);
+        agrees = confirms.agrees;
+        attachments = λ d.
+            ap shown_attachment (attachment_now d)
+            ∙ sym (left_is old.driver.confirmed polled.count (λ e. shown_attachment (attachment_of old.driver.devices e)) d (attachment_of old.driver.devices d) refl
+            (λ ticket stage is. (own.leaving d ticket stage is).0));
+        address = ap completion_address leaves.size;
+        waiting = same_waiting old new events sound (ap registers_of iommu) (system_kept (command_frame (length old.memory)) (fixed_frames old events sound own).command);
+        completed = same_completed old.memory new.memory leaves.size leaves.word;
+        given = ap (λ (d : DriverState). d.given) confirms.driver;
+        confirmed = ap (λ (d : DriverState). d.confirmed) confirms.driver;
+        so_far = ap (λ i. (flights_of i).so_far) iommu;
+        in_flight = ap (λ i. accesses_of (flights_of i).rows) iommu;
+        unplugged = λ d none. sym (plugged_now d) ∙ none;
+        contexts = λ d is. ap (λ i. is_some (contexts_of i d)) (sym iommu) ∙ is;
+      }
+
+  contexts_true : ∥ HasFaithfulScene (values_of new) ∥₁ → ContextsAreTrue new
+  contexts_true copies id context cached = by (has_left (done_after old.driver polled) (attachment_of old.driver.devices id)) refl
+    where
+      by : (b : Bool) → has_left (done_after old.driver polled) (attachment_of old.driver.devices id) ≡ b → option_map context_for (owned_stage_of new.driver.devices id) ≡ Some context
+      by true gone =
+          absurd (detached_uncached new id context copies cached
+          (ap shown_attachment (attachment_now id) ∙ ap (λ b. shown_attachment (if b then Detached else attachment_of old.driver.devices id)) gone))
+      by false stays =
+          ap (λ a. option_map context_for (owned_stage a)) (attachment_now id)
+          ∙ ap (λ b. option_map context_for (owned_stage (if b then Detached else attachment_of old.driver.devices id))) stays
+          ∙ sound.contexts id context (ap (λ i. contexts_of i id) (sym iommu) ∙ cached)
+
+  pub polled_sound : AreSound new events
+  polled_sound =
+      let count = polled_count old events polled new.driver new.memory sound confirms in
+      let before = sound.confirmed in
+      let last : new.driver.confirmed ≡ old.driver.confirmed + polled.count = ap (λ (d : DriverState). d.confirmed) confirms.driver in
+      let given : new.driver.given ≡ old.driver.given = ap (λ (d : DriverState). d.given) confirms.driver in
+      let small = sound.small in
+      let copies = ∥∥₁_map sound.copies (poll_scene (values_of old) (values_of new) polled.count (old.driver.given - completed_in old.memory) confirms_some) in
+      sound_from old new events sound leaves (same_iommu old new iommu) (ap (λ (d : DriverState). d.started) confirms.driver) ready
+      (same_known old new devices (ap (λ (d : DriverState). known_ids d.devices) confirms.driver ∙ ids_confirmed (done_after old.driver polled) old.driver.devices) (ap (λ i. row_ids (flights_of i).rows) iommu) sound.known)
+      (omega (arith, last, count, before)) (omega (arith, given, small)) (contexts_true copies) copies
+
+pub keeps_polled : (old new : Parts) (events : ℕ) (told : Outcome) → AreSound old events → IsSoundDriver old.driver → IsReady new.driver new.memory (registers_of new.iommu)
+    → PollsTickets old told new → AreSound new events
+keeps_polled old new events told sound own ready polls = by polls.answer polls.call
+  where
+    by : (answer : Result Polled Refusal) → AnswersPoll (registers_of old.iommu) old.driver old.memory answer new.driver new.memory → AreSound new events
+    by (Ok polled) (admitted, confirms) = polled_sound old new events polled sound own ready confirms polls.iommu polls.devices
+    by (Err why) (refused, driver_stays, memory_stays) = rw (memory_stays, polls.iommu, driver_stays, polls.devices) sound
+
+-- the tickets that a poll tells are 32 bits wide
+pub polled_low : (old : Parts) (events : ℕ) (polled : Polled) (next : DriverState) (memory : List (List ℕ)) → AreSound old events
+    → AnswersPoll (registers_of old.iommu) old.driver old.memory (Ok polled) next memory → polled.first + polled.count ≤ 2 ^ 32
+polled_low old events polled next memory sound (admitted, confirms) =
+    let small = sound.small in
+    let confirmed = sound.confirmed in
+    let given : completed_in old.memory ≤ old.driver.given = completed_given old events sound in
+    let count = polled_count old events polled next memory sound confirms in
+    by (polled.count == 0) refl confirms.first count given confirmed small
+  where
+    by : (none : Bool) → (polled.count == 0) ≡ none → polled.first ≡ (if none then 0 else old.driver.confirmed + 1) → polled.count ≡ completed_in old.memory - old.driver.confirmed
+        → completed_in old.memory ≤ old.driver.given → old.driver.confirmed ≤ completed_in old.memory → old.driver.given < 2 ^ 32 → polled.first + polled.count ≤ 2 ^ 32
+    by true test first count given confirmed small = omega (arith, eqb-true polled.count 0 test, first)
+    by false test first count given confirmed small = omega (arith, first, count, given, confirmed, small)

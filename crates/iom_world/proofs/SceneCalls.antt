@@ -1,0 +1,344 @@
+-- What the driver's calls do to a scene: the facts on copies stay.
+use Rattle.std.proofs.Common.{◌≡◌, ◌≢◌, ◌+◌, ◌-◌, ◌≤◌, ◌<◌, ◌==◌, ◌∙◌, ℕ, zero, suc, Bool, true, false, List, [], ◌∷◌, ◌++◌, Contains, Option, None, Some, refl, sym, ap, subst, arith, if◌then◌else◌}
+use Rattle.std.proofs.lemmas.Bool.{false≢true}
+use Rattle.std.specs.Option.{option_map, option_to_list}
+use Rattle.iom_base.specs.declared.rights.Rights.{Rights}
+use Rattle.iom_command_queue.specs.declared.command.Command.TheVariants.{IotinvalVma, IodirInvalDdt}
+use Rattle.iom_command_queue.specs.declared.entry.QueueEntry.{QueueEntry}
+use Rattle.iom_command_queue.specs.declared.entry.QueueEntry.TheVariants.{Command}
+use Rattle.iom_copies.specs.Attachments.{IsAttached}
+use Rattle.iom_copies.specs.DriverCalls.{with_attachment, with_kind, with_ticket, release_commands, leave_commands, once_confirmed}
+use Rattle.iom_copies.proofs.ListLemmas.{in_none}
+use Rattle.iom_ledger.specs.Confirmations.{confirmed_from}
+use Rattle.iom_copies.specs.Faithful.{IsFaithful}
+use Rattle.iom_copies.specs.Holdings.{HoldsNothing, LingersOnNothing}
+use Rattle.iom_copies.specs.Queue.{OnePage, WholeSpace, QueuedCommand, DropTranslations, DropContext, Fence}
+use Rattle.iom_copies.specs.Occurrences.{Plug, Attach, Grant, Release, Detach}
+use Rattle.iom_copies.specs.Scene.{Scene}
+use Rattle.iom_copies.proofs.OccurrenceLemmas.{occurrences_keep_facts}
+use Rattle.iom_driver.specs.Appends.{fence}
+use Rattle.iom_ledger.specs.declared.entry.HistoryEntry.TheVariants.{Granted, Released}
+use Rattle.iom_ledger.specs.History.{History, Pair, confirms, lingering_at}
+use Rattle.iom_ledger.specs.Shown.{Agrees, held_in, lingering_in, released_in}
+use Rattle.iom_machine.specs.declared.state.Attachment.{Attachment}
+use Rattle.iom_machine.specs.declared.state.Attachment.TheVariants.{Detached, Attached, Leaving}
+use Rattle.iom_machine.specs.declared.state.DeviceKind.{DeviceKind}
+use Rattle.iom_machine.specs.declared.state.Mode.TheVariants.{First}
+use Rattle.iom_world.specs.Queued.{AreQueuedAs, pending_after}
+use Rattle.iom_world.specs.Scenes.{Values, HasContextsAlone, IsSceneOf, HasFaithfulScene}
+use Rattle.iom_world.proofs.QueuedLemmas.{queued_append, pending_next}
+use Rattle.iom_world.proofs.ConfirmScenes.{left_after, confirmed_scene, confirm_all}
+
+-- the values are the same, but perhaps for the room of the ledger; less may be cached
+pub record AreSameValues (old new : Values) : Type 0 where
+  pub agrees : (h : History) → Agrees old.ledger h → Agrees new.ledger h
+  pub address : new.address ≡ old.address
+  pub waiting : new.waiting ≡ old.waiting
+  pub completed : new.completed ≡ old.completed
+  pub given : new.given ≡ old.given
+  pub confirmed : new.confirmed ≡ old.confirmed
+  pub so_far : new.so_far ≡ old.so_far
+  pub in_flight : new.in_flight ≡ old.in_flight
+  pub unplugged : (id : ℕ) → new.is_plugged id ≡ false → old.is_plugged id ≡ false
+  pub attachments : (id : ℕ) → new.attachment_of id ≡ old.attachment_of id
+  pub contexts : (id : ℕ) → new.is_cached id ≡ true → old.is_cached id ≡ true
+
+same_scene_of : (old new : Values) (scene : Scene) → AreSameValues old new → IsSceneOf old scene → IsSceneOf new scene
+same_scene_of old new scene same shows = record {
+  ledger = same.agrees scene.history shows.ledger;
+  waiting = rw (same.address, same.waiting) shows.waiting;
+  completed = shows.completed ∙ sym same.completed;
+  last_fence = shows.last_fence ∙ sym same.given;
+  pending = rw (same.given, same.confirmed) shows.pending;
+  given = shows.given ∙ sym same.given;
+  confirmed = shows.confirmed ∙ sym same.confirmed;
+  accepted = shows.accepted ∙ sym same.so_far;
+  in_flight = shows.in_flight ∙ sym same.in_flight;
+  unplugged = λ id none. shows.unplugged id (same.unplugged id none);
+  attachments = λ id. shows.attachments id ∙ sym (same.attachments id);
+  contexts = λ id is. shows.contexts id (same.contexts id is);
+  alone = shows.alone;
+}
+
+pub same_scene : (old new : Values) → AreSameValues old new → HasFaithfulScene old → HasFaithfulScene new
+same_scene old new same (scene, shows, facts) = (scene, same_scene_of old new scene same shows, facts)
+
+-- what the history says of a page, where the ledger has nothing there
+lingers_none : (released : Option (ℕ × Pair)) → option_map (λ (r : ℕ × Pair). r.1) released ≡ None → option_to_list released ≡ []
+lingers_none None none = refl
+lingers_none (Some r) none = cc
+
+nothing_lingers : (values : Values) (scene : Scene) (device page : ℕ) → IsSceneOf values scene → lingering_in values.ledger device page ≡ None → lingering_at scene.history device page ≡ []
+nothing_lingers values scene device page shows none = (shows.ledger.pages device page).lingers ∙ lingers_none (released_in values.ledger device page) none
+
+-- PLUG
+pub record PlugsOne (old new : Values) (id : ℕ) : Type 0 where
+  pub free : old.is_plugged id ≡ false
+  pub unplugged : (d : ℕ) → new.is_plugged d ≡ false → (old.is_plugged d ≡ false) × ((id == d) ≡ false)
+  pub agrees : (h : History) → Agrees old.ledger h → Agrees new.ledger h
+  pub address : new.address ≡ old.address
+  pub waiting : new.waiting ≡ old.waiting
+  pub completed : new.completed ≡ old.completed
+  pub given : new.given ≡ old.given
+  pub confirmed : new.confirmed ≡ old.confirmed
+  pub so_far : new.so_far ≡ old.so_far
+  pub in_flight : new.in_flight ≡ old.in_flight
+  pub attachments : (d : ℕ) → new.attachment_of d ≡ old.attachment_of d
+  pub contexts : (d : ℕ) → new.is_cached d ≡ true → old.is_cached d ≡ true
+
+pub plug_scene : (old new : Values) (id : ℕ) (kind : DeviceKind) → PlugsOne old new id → HasFaithfulScene old → HasFaithfulScene new
+plug_scene old new id kind plugs (scene, shows, facts) =
+    let next : Scene = record scene { kind_of = with_kind scene.kind_of id kind } in
+    (
+      next,
+      record {
+        ledger = plugs.agrees scene.history shows.ledger;
+        waiting = rw (plugs.address, plugs.waiting) shows.waiting;
+        completed = shows.completed ∙ sym plugs.completed;
+        last_fence = shows.last_fence ∙ sym plugs.given;
+        pending = rw (plugs.given, plugs.confirmed) shows.pending;
+        given = shows.given ∙ sym plugs.given;
+        confirmed = shows.confirmed ∙ sym plugs.confirmed;
+        accepted = shows.accepted ∙ sym plugs.so_far;
+        in_flight = shows.in_flight ∙ sym plugs.in_flight;
+        unplugged = λ d none. ap (λ b. if b then Some kind else scene.kind_of d) (plugs.unplugged d none).1 ∙ shows.unplugged d (plugs.unplugged d none).0;
+        attachments = λ d. shows.attachments d ∙ sym (plugs.attachments d);
+        contexts = λ d is. shows.contexts d (plugs.contexts d is);
+        alone = record { stock = shows.alone.stock; goes_on = shows.alone.goes_on; translations = shows.alone.translations; entries = shows.alone.entries; messages = shows.alone.messages; slots = shows.alone.slots };
+      },
+      occurrences_keep_facts (Plug id kind) scene next facts (shows.unplugged id plugs.free, refl),
+    )
+
+-- the attachments, where this device is attached so now
+abbrev pub AttachesOne : Values → Values → ℕ → Attachment → Type 0
+AttachesOne old new id now = (d : ℕ) → new.attachment_of d ≡ (if id == d then now else old.attachment_of d)
+
+attached_as : (old new : Values) (scene : Scene) (id : ℕ) (now : Attachment) → IsSceneOf old scene → AttachesOne old new id now
+    → (d : ℕ) → with_attachment scene.attachment_of id now d ≡ new.attachment_of d
+attached_as old new scene id now shows attaches d = ap (λ before. if id == d then now else before) (shows.attachments d) ∙ sym (attaches d)
+
+-- ATTACH, in the first stage and without ATS
+pub record AttachesDetached (old new : Values) (id : ℕ) : Type 0 where
+  pub detached : old.attachment_of id ≡ Detached
+  pub attached : AttachesOne old new id (Attached First false)
+  pub agrees : (h : History) → Agrees old.ledger h → Agrees new.ledger h
+  pub address : new.address ≡ old.address
+  pub waiting : new.waiting ≡ old.waiting
+  pub completed : new.completed ≡ old.completed
+  pub given : new.given ≡ old.given
+  pub confirmed : new.confirmed ≡ old.confirmed
+  pub so_far : new.so_far ≡ old.so_far
+  pub in_flight : new.in_flight ≡ old.in_flight
+  pub unplugged : (d : ℕ) → new.is_plugged d ≡ false → old.is_plugged d ≡ false
+  pub contexts : (d : ℕ) → new.is_cached d ≡ true → old.is_cached d ≡ true
+
+pub attach_scene : (old new : Values) (id : ℕ) → AttachesDetached old new id → HasFaithfulScene old → HasFaithfulScene new
+attach_scene old new id attaches (scene, shows, facts) =
+    let next : Scene = record scene { attachment_of = with_attachment scene.attachment_of id (Attached First false) } in
+    (
+      next,
+      record {
+        ledger = attaches.agrees scene.history shows.ledger;
+        waiting = rw (attaches.address, attaches.waiting) shows.waiting;
+        completed = shows.completed ∙ sym attaches.completed;
+        last_fence = shows.last_fence ∙ sym attaches.given;
+        pending = rw (attaches.given, attaches.confirmed) shows.pending;
+        given = shows.given ∙ sym attaches.given;
+        confirmed = shows.confirmed ∙ sym attaches.confirmed;
+        accepted = shows.accepted ∙ sym attaches.so_far;
+        in_flight = shows.in_flight ∙ sym attaches.in_flight;
+        unplugged = λ d none. shows.unplugged d (attaches.unplugged d none);
+        attachments = attached_as old new scene id (Attached First false) shows attaches.attached;
+        contexts = λ d is. shows.contexts d (attaches.contexts d is);
+        alone = record { stock = shows.alone.stock; goes_on = shows.alone.goes_on; translations = shows.alone.translations; entries = shows.alone.entries; messages = shows.alone.messages; slots = shows.alone.slots };
+      },
+      occurrences_keep_facts (Attach id First false) scene next facts (shows.attachments id ∙ attaches.detached, (λ ats. absurd (false≢true ats)), refl),
+    )
+
+-- GRANT
+pub record GrantsOne (old new : Values) (id page frame : ℕ) (rights : Rights) : Type 0 where
+  pub attached : old.attachment_of id ≡ Attached First false
+  pub not_held : held_in old.ledger id page ≡ None
+  pub not_lingering : lingering_in old.ledger id page ≡ None
+  pub agrees : (h : History) → Agrees old.ledger h → Agrees new.ledger (Granted id page frame rights ∷ h)
+  pub address : new.address ≡ old.address
+  pub waiting : new.waiting ≡ old.waiting
+  pub completed : new.completed ≡ old.completed
+  pub given : new.given ≡ old.given
+  pub confirmed : new.confirmed ≡ old.confirmed
+  pub so_far : new.so_far ≡ old.so_far
+  pub in_flight : new.in_flight ≡ old.in_flight
+  pub unplugged : (d : ℕ) → new.is_plugged d ≡ false → old.is_plugged d ≡ false
+  pub attachments : (d : ℕ) → new.attachment_of d ≡ old.attachment_of d
+  pub contexts : (d : ℕ) → new.is_cached d ≡ true → old.is_cached d ≡ true
+
+is_attached_so : (attachment : Attachment) → attachment ≡ Attached First false → IsAttached attachment
+is_attached_so attachment is = rw is refl
+
+none_in : {X : Type 0} (xs : List X) (x : X) → xs ≡ [] → ¬ Contains xs x
+none_in xs x none there = in_none x (subst (λ l. Contains l x) none there)
+
+pub grant_scene : (old new : Values) (id page frame : ℕ) (rights : Rights) → GrantsOne old new id page frame rights → HasFaithfulScene old → HasFaithfulScene new
+grant_scene old new id page frame rights grants (scene, shows, facts) =
+    let next : Scene = record scene { history = Granted id page frame rights ∷ scene.history } in
+    (
+      next,
+      record {
+        ledger = grants.agrees scene.history shows.ledger;
+        waiting = rw (grants.address, grants.waiting) shows.waiting;
+        completed = shows.completed ∙ sym grants.completed;
+        last_fence = shows.last_fence ∙ sym grants.given;
+        pending = rw (grants.given, grants.confirmed) shows.pending;
+        given = shows.given ∙ sym grants.given;
+        confirmed = shows.confirmed ∙ sym grants.confirmed;
+        accepted = shows.accepted ∙ sym grants.so_far;
+        in_flight = shows.in_flight ∙ sym grants.in_flight;
+        unplugged = λ d none. shows.unplugged d (grants.unplugged d none);
+        attachments = λ d. shows.attachments d ∙ sym (grants.attachments d);
+        contexts = λ d is. shows.contexts d (grants.contexts d is);
+        alone = record { stock = shows.alone.stock; goes_on = shows.alone.goes_on; translations = shows.alone.translations; entries = shows.alone.entries; messages = shows.alone.messages; slots = shows.alone.slots };
+      },
+      occurrences_keep_facts (Grant id page frame rights) scene next facts (
+        is_attached_so (scene.attachment_of id) (shows.attachments id ∙ grants.attached),
+        (shows.ledger.pages id page).holds ∙ grants.not_held,
+        (λ released. none_in (lingering_at scene.history id page) released (nothing_lingers old scene id page shows grants.not_lingering)),
+        refl,
+      ),
+    )
+
+-- what becomes of queue and tickets when these commands are appended, and behind them the fence of the next ticket
+pub record QueuesTicket (old new : Values) (commands : List QueueEntry) (queued : List QueuedCommand) : Type 0 where
+  pub ordered : old.confirmed ≤ old.given
+  pub appended : AreQueuedAs old.address commands queued
+  pub waiting : new.waiting ≡ old.waiting ++ (commands ++ Command (fence old.address (old.given + 1)) ∷ [])
+  pub address : new.address ≡ old.address
+  pub completed : new.completed ≡ old.completed
+  pub given : new.given ≡ old.given + 1
+  pub confirmed : new.confirmed ≡ old.confirmed
+  pub so_far : new.so_far ≡ old.so_far
+  pub in_flight : new.in_flight ≡ old.in_flight
+  pub unplugged : (d : ℕ) → new.is_plugged d ≡ false → old.is_plugged d ≡ false
+  pub contexts : (d : ℕ) → new.is_cached d ≡ true → old.is_cached d ≡ true
+
+module _ (old new : Values) (scene : Scene) (commands : List QueueEntry) (queued : List QueuedCommand) (shows : IsSceneOf old scene) (queues : QueuesTicket old new commands queued) where
+  fence_now : AreQueuedAs old.address (Command (fence old.address (old.given + 1)) ∷ []) (Fence (scene.last_fence + 1) ∷ [])
+  fence_now = (ap (λ n. fence old.address (n + 1)) (sym shows.last_fence), tt)
+
+  waiting_now : AreQueuedAs new.address new.waiting (scene.waiting ++ (queued ++ Fence (scene.last_fence + 1) ∷ []))
+  waiting_now =
+      rw (queues.address, queues.waiting)
+      (queued_append old.address old.waiting (commands ++ Command (fence old.address (old.given + 1)) ∷ []) scene.waiting (queued ++ Fence (scene.last_fence + 1) ∷ []) shows.waiting
+      (queued_append old.address commands (Command (fence old.address (old.given + 1)) ∷ []) queued (Fence (scene.last_fence + 1) ∷ []) queues.appended fence_now))
+
+  pending_now : (with_ticket scene queued).pending ≡ pending_after new.confirmed (new.given - new.confirmed)
+  pending_now =
+      rw (shows.pending, shows.given, shows.last_fence, queues.given, queues.confirmed) (pending_next old.confirmed old.given queues.ordered)
+
+  pub ticket_shows : (history : History) (attachment_of : ℕ → Attachment) → Agrees new.ledger history → ((d : ℕ) → attachment_of d ≡ new.attachment_of d)
+      → IsSceneOf new (record (with_ticket scene queued) { history = history; attachment_of = attachment_of })
+  ticket_shows history attachment_of agrees attachments = record {
+    ledger = agrees;
+    waiting = waiting_now;
+    completed = shows.completed ∙ sym queues.completed;
+    last_fence = ap (λ n. n + 1) shows.last_fence ∙ sym queues.given;
+    pending = pending_now;
+    given = ap (λ n. n + 1) shows.given ∙ sym queues.given;
+    confirmed = shows.confirmed ∙ sym queues.confirmed;
+    accepted = shows.accepted ∙ sym queues.so_far;
+    in_flight = shows.in_flight ∙ sym queues.in_flight;
+    unplugged = λ d none. shows.unplugged d (queues.unplugged d none);
+    attachments = attachments;
+    contexts = λ d is. shows.contexts d (queues.contexts d is);
+    alone = record { stock = shows.alone.stock; goes_on = shows.alone.goes_on; translations = shows.alone.translations; entries = shows.alone.entries; messages = shows.alone.messages; slots = shows.alone.slots };
+  }
+
+-- a ticket above the last that is confirmed isn't confirmed
+unconfirmed_next : (values : Values) (scene : Scene) (ticket : ℕ) → IsSceneOf values scene → IsFaithful scene → values.confirmed < ticket → confirms scene.history ticket ≡ false
+unconfirmed_next values scene ticket shows facts above = by (confirms scene.history ticket) refl
+  where
+    by : (b : Bool) → confirms scene.history ticket ≡ b → b ≡ false
+    by false is = refl
+    by true is = let low = facts.order.confirmed ticket is in let same = shows.confirmed in absurd (omega (arith, low, above, same))
+
+-- RELEASE
+pub release_scene : (old new : Values) (id page : ℕ) (commands : List QueueEntry) → QueuesTicket old new commands (DropTranslations id (OnePage page) ∷ [])
+    → old.attachment_of id ≡ Attached First false → ((d : ℕ) → new.attachment_of d ≡ old.attachment_of d)
+    → ((h : History) → Agrees old.ledger h → confirms h (old.given + 1) ≡ false → Agrees new.ledger (Released id page (old.given + 1) ∷ h))
+    → HasFaithfulScene old → HasFaithfulScene new
+release_scene old new id page commands queues attached same agrees (scene, shows, facts) =
+    let queued = release_commands id (OnePage page) false in
+    let ordered = queues.ordered in
+    let next : Scene = record (with_ticket scene queued) { history = Released id page (scene.given + 1) ∷ scene.history } in
+    let agreed : Agrees new.ledger (Released id page (scene.given + 1) ∷ scene.history) =
+    rw shows.given (agrees scene.history shows.ledger (unconfirmed_next old scene (old.given + 1) shows facts (omega (arith, ordered)))) in
+    (
+      next,
+      ticket_shows old new scene commands queued shows queues (Released id page (scene.given + 1) ∷ scene.history) scene.attachment_of agreed (λ d. shows.attachments d ∙ sym (same d)),
+      occurrences_keep_facts (Release id page) scene next facts (First, false, shows.attachments id ∙ attached, refl),
+    )
+
+-- DETACH
+pub detach_scene : (old new : Values) (id : ℕ) (commands : List QueueEntry) → QueuesTicket old new commands (leave_commands id)
+    → old.attachment_of id ≡ Attached First false → AttachesOne old new id (Leaving (old.given + 1) First false)
+    → ((page : ℕ) → (held_in old.ledger id page ≡ None) × (lingering_in old.ledger id page ≡ None))
+    → ((h : History) → Agrees old.ledger h → Agrees new.ledger h) → HasFaithfulScene old → HasFaithfulScene new
+detach_scene old new id commands queues attached leaves nothing agrees (scene, shows, facts) =
+    let now = with_attachment scene.attachment_of id (Leaving (scene.given + 1) First false) in
+    let next : Scene = record (with_ticket scene (leave_commands id)) { attachment_of = now } in
+    let leaves_so : AttachesOne old new id (Leaving (scene.given + 1) First false) = rw shows.given leaves in
+    (
+      next,
+      ticket_shows old new scene commands (leave_commands id) shows queues scene.history now (agrees scene.history shows.ledger) (attached_as old new scene id (Leaving (scene.given + 1) First false) shows leaves_so),
+      occurrences_keep_facts (Detach id) scene next facts (
+        First, false, shows.attachments id ∙ attached,
+        (λ page. (shows.ledger.pages id page).holds ∙ (nothing page).0),
+        (λ page ticket pair. none_in (lingering_at scene.history id page) (ticket, pair) (nothing_lingers old scene id page shows (nothing page).1)),
+        refl,
+      ),
+    )
+
+-- POLL, which confirms so many tickets
+pub record ConfirmsSome (old new : Values) (n rest : ℕ) : Type 0 where
+  pub many : old.given - old.confirmed ≡ n + rest
+  pub done : old.confirmed + n ≤ old.completed
+  pub agrees : (h : History) → Agrees old.ledger h → Agrees new.ledger (confirmed_from (old.confirmed + 1) n h)
+  pub attachments : (d : ℕ) → new.attachment_of d ≡ left_after old.confirmed n old.attachment_of d
+  pub address : new.address ≡ old.address
+  pub waiting : new.waiting ≡ old.waiting
+  pub completed : new.completed ≡ old.completed
+  pub given : new.given ≡ old.given
+  pub confirmed : new.confirmed ≡ old.confirmed + n
+  pub so_far : new.so_far ≡ old.so_far
+  pub in_flight : new.in_flight ≡ old.in_flight
+  pub unplugged : (d : ℕ) → new.is_plugged d ≡ false → old.is_plugged d ≡ false
+  pub contexts : (d : ℕ) → new.is_cached d ≡ true → old.is_cached d ≡ true
+
+left_alike : (first n : ℕ) (one other : ℕ → Attachment) (d : ℕ) → ((e : ℕ) → one e ≡ other e) → left_after first n one d ≡ left_after first n other d
+left_alike first zero one other d same = same d
+left_alike first (suc n) one other d same = ap (once_confirmed (first + n + 1)) (left_alike first n one other d same)
+
+pub poll_scene : (old new : Values) (n rest : ℕ) → ConfirmsSome old new n rest → HasFaithfulScene old → HasFaithfulScene new
+poll_scene old new n rest confirms_some (scene, shows, facts) =
+    let c = shows.confirmed in
+    let pending : scene.pending ≡ pending_after scene.confirmed (n + rest) = shows.pending ∙ ap (pending_after old.confirmed) confirms_some.many ∙ ap (λ k. pending_after k (n + rest)) (sym c) in
+    let done : scene.confirmed + n ≤ scene.completed = rw (shows.confirmed, shows.completed) confirms_some.done in
+    let left : new.given - new.confirmed ≡ rest = omega (arith, confirms_some.many, confirms_some.given, confirms_some.confirmed) in
+    (
+      confirmed_scene scene n rest,
+      record {
+        ledger = rw c (confirms_some.agrees scene.history shows.ledger);
+        waiting = rw (confirms_some.address, confirms_some.waiting) shows.waiting;
+        completed = shows.completed ∙ sym confirms_some.completed;
+        last_fence = shows.last_fence ∙ sym confirms_some.given;
+        pending = ap (λ k. pending_after k rest) (ap (λ k. k + n) c ∙ sym confirms_some.confirmed) ∙ ap (pending_after new.confirmed) (sym left);
+        given = shows.given ∙ sym confirms_some.given;
+        confirmed = ap (λ k. k + n) c ∙ sym confirms_some.confirmed;
+        accepted = shows.accepted ∙ sym confirms_some.so_far;
+        in_flight = shows.in_flight ∙ sym confirms_some.in_flight;
+        unplugged = λ d none. shows.unplugged d (confirms_some.unplugged d none);
+        attachments = λ d. ap (λ k. left_after k n scene.attachment_of d) c ∙ left_alike old.confirmed n scene.attachment_of old.attachment_of d shows.attachments ∙ sym (confirms_some.attachments d);
+        contexts = λ d is. shows.contexts d (confirms_some.contexts d is);
+        alone = record { stock = shows.alone.stock; goes_on = shows.alone.goes_on; translations = shows.alone.translations; entries = shows.alone.entries; messages = shows.alone.messages; slots = shows.alone.slots };
+      },
+      confirm_all scene n rest facts pending done,
+    )

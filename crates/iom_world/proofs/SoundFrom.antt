@@ -1,0 +1,106 @@
+-- What stays true of a world while the reserved frames and the registers do: of requests, commits and what the processor writes.
+use Rattle.std.proofs.Common.{◌≡◌, ◌≢◌, ◌*◌, ◌/◌, ◌<◌, ◌≤◌, ◌∙◌, ℕ, false, is_some, List, length, Option, Some, None, slice_get, refl, sym, ap, subst, arith}
+use Rattle.std.specs.Option.{option_map_or}
+use Rattle.std.proofs.Math.Logic.{∥∥₁_map}
+use Rattle.std.proofs.lemmas.Bool.{false≢true}
+use Rattle.iom_base.specs.declared.owner.Owner.{Owner}
+use Rattle.iom_base.specs.declared.owner.Owner.TheVariants.{System}
+use Rattle.iom_command_queue.specs.Waiting.{commands_in}
+use Rattle.iom_driver.specs.Devices.{attachment_of, is_plugged}
+use Rattle.iom_driver.specs.Laws.{KeepsReserved, KeepsRing}
+use Rattle.iom_driver.specs.Layout.{AreFixed, command_frame, completion_frame, completion_address}
+use Rattle.iom_driver.specs.State.{DriverState}
+use Rattle.iom_driver.proofs.Lists.{get_there}
+use Rattle.iom_driver.proofs.Ring.{same_commands}
+use Rattle.iom_iommu.specs.Parts.{registers_of, flights_of, frames_of}
+use Rattle.iom_phys_mem.specs.Words.{word_at}
+use Rattle.iom_registers.specs.Queues.{is_processing_commands}
+use Rattle.iom_table_frames.specs.Marks.{is_marked}
+use Rattle.iom_world.specs.Devices.{shown_attachment}
+use Rattle.iom_world.specs.Parts.{Parts}
+use Rattle.iom_world.specs.Queued.{completed_in}
+use Rattle.iom_world.specs.Read.{values_of}
+use Rattle.iom_world.specs.Scenes.{HasFaithfulScene}
+use Rattle.iom_world.specs.Sound.{AreSound, ContextsAreTrue, row_ids}
+use Rattle.iom_world.proofs.DriverLemmas.{IsSoundDriver}
+use Rattle.iom_world.proofs.PartsLemmas.{StaysReady}
+use Rattle.iom_world.proofs.SceneSteps.{KeepsGrants}
+
+-- a frame that isn't marked is nobody's, and none that is somebody's
+pub unmarked : (marks : List (Option Owner)) (frame : ℕ) → frame < length marks → is_marked marks frame ≡ false → slice_get marks frame ≡ Some None
+unmarked marks frame below none =
+    let there = get_there marks frame below in
+    there.1 ∙ ap Some (by there.0 (sym (ap (λ (o : Option (Option Owner)). option_map_or (λ mark. is_some mark) o false) there.1) ∙ none))
+  where
+    by : (mark : Option Owner) → is_some mark ≡ false → mark ≡ None
+    by None is = refl
+    by (Some owner) is = absurd (false≢true (sym is))
+
+pub owned_differs : (marks : List (Option Owner)) (n m : ℕ) (owner : Owner) → slice_get marks n ≡ Some (Some owner) → slice_get marks m ≡ Some None → n ≢ m
+owned_differs marks n m owner own free same =
+    let both : ◌≡◌ {A = Option (Option Owner)} (Some (Some owner)) (Some None) = sym own ∙ ap (λ k. slice_get marks k) same ∙ free in cc
+
+-- the word at the beginning of a frame that keeps its bytes
+word_of_frame : (m n : List (List ℕ)) (frame : ℕ) → slice_get n frame ≡ slice_get m frame → word_at 4 n (4096 * frame) ≡ word_at 4 m (4096 * frame)
+word_of_frame m n frame same = let at : 4096 * frame / 4096 ≡ frame = omega arith in rw (at, same) refl
+
+-- where its frame keeps its bytes, the completion word is the same
+pub same_completed : (m n : List (List ℕ)) → length n ≡ length m → slice_get n (completion_frame (length m)) ≡ slice_get m (completion_frame (length m)) → completed_in n ≡ completed_in m
+same_completed m n size same =
+    ap (λ k. option_map_or (λ word. word) (word_at 4 n (completion_address k)) 0) size
+    ∙ ap (λ o. option_map_or (λ word. word) o 0) (word_of_frame m n (completion_frame (length m)) same)
+
+-- reserved frames, registers, driver and devices stay, and so do the ids of the rows
+pub record Leaves (old new : Parts) : Type 0 where
+  pub size : length new.memory ≡ length old.memory
+  pub reserved : (frame : ℕ) (owner : Owner) → slice_get old.driver.marks frame ≡ Some (Some owner) → slice_get new.memory frame ≡ slice_get old.memory frame
+  pub registers : registers_of new.iommu ≡ registers_of old.iommu
+  pub frames : frames_of new.iommu ≡ frames_of old.iommu
+  pub rows : row_ids (flights_of new.iommu).rows ≡ row_ids (flights_of old.iommu).rows
+  pub driver : new.driver ≡ old.driver
+  pub devices : new.devices ≡ old.devices
+
+module _ (old new : Parts) (events : ℕ) (sound : AreSound old events) (own : IsSoundDriver old.driver) (leaves : Leaves old new) where
+  fixed : AreFixed old.driver.marks (length old.memory)
+  fixed = subst (λ m. AreFixed old.driver.marks m) (sym sound.ready.stand.size) own.fixed
+
+  pub same_waiting : commands_in new.memory (registers_of new.iommu) ≡ commands_in old.memory (registers_of old.iommu)
+  same_waiting =
+      ap (λ r. commands_in new.memory r) leaves.registers
+      ∙ same_commands old.memory new.memory (registers_of old.iommu) (sound.ready.ring sound.started) (leaves.reserved (command_frame (length old.memory)) System fixed.command)
+
+  pub same_done : completed_in new.memory ≡ completed_in old.memory
+  same_done = same_completed old.memory new.memory leaves.size (leaves.reserved (completion_frame (length old.memory)) System fixed.completion)
+
+  pub grants_kept : KeepsGrants (values_of old) (values_of new)
+  grants_kept = record {
+    ledger = ap (λ (d : DriverState). d.ledger) leaves.driver;
+    address = ap completion_address leaves.size;
+    given = ap (λ (d : DriverState). d.given) leaves.driver;
+    confirmed = ap (λ (d : DriverState). d.confirmed) leaves.driver;
+    plugged = λ id. ap (λ (d : DriverState). is_plugged d.devices id) leaves.driver;
+    attachments = λ id. ap (λ (d : DriverState). shown_attachment (attachment_of d.devices id)) leaves.driver;
+  }
+
+  pub sound_from : (count : ℕ) → StaysReady old.driver → (flights_of new.iommu).so_far ≤ count → ContextsAreTrue new
+      → (HasFaithfulScene (values_of old) → HasFaithfulScene (values_of new)) → AreSound new count
+  sound_from count stays counted contexts scene =
+      let keeps : KeepsReserved old.driver old.memory new.memory = record { size = leaves.size; bytes = λ frame owner mark other. leaves.reserved frame owner mark } in
+      let ring : KeepsRing (registers_of old.iommu) (registers_of old.iommu) = record { on = refl; base = refl; entries = refl; mode = refl; root = refl } in
+      record {
+        ready = rw leaves.driver
+            (stays old.memory new.memory (registers_of old.iommu) (registers_of new.iommu) sound.ready keeps (subst (λ s. KeepsRing (registers_of old.iommu) s) (sym leaves.registers) ring));
+        started = rw leaves.driver sound.started;
+        processing = ap is_processing_commands leaves.registers ∙ sound.processing;
+        size = leaves.frames ∙ sound.size ∙ sym leaves.size;
+        known = record {
+          own_ids = rw leaves.devices sound.known.own_ids;
+          driver = rw (leaves.driver, leaves.devices) sound.known.driver;
+          iommu = leaves.rows ∙ rw leaves.devices sound.known.iommu;
+        };
+        confirmed = rw (same_done, leaves.driver) sound.confirmed;
+        small = rw leaves.driver sound.small;
+        counted = counted;
+        contexts = contexts;
+        copies = ∥∥₁_map sound.copies scene;
+      }

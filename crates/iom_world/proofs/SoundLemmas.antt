@@ -1,0 +1,118 @@
+-- What the facts that a world carries give at once, and how they stay where little changes.
+use Rattle.std.proofs.Common.{zero, suc, ◌≡◌, ◌*◌, ◌/◌, ◌^◌, ◌≤◌, ◌<◌, ◌∙◌, is_some, ℕ, Bool, true, false, List, [], ◌∷◌, length, Some, slice_get, refl, sym, ap, subst, arith}
+use Rattle.std.specs.Option.{option_map_or}
+use Rattle.std.proofs.Math.Logic.{∥∥₁_elim}
+use Rattle.std.proofs.Props.{props}
+use Rattle.iom_command_queue.specs.Waiting.{commands_in}
+use Rattle.iom_copies.specs.Copies.{ContextFits}
+use Rattle.iom_copies.specs.Faithful.{IsFaithful}
+use Rattle.iom_copies.specs.Scene.{Scene}
+use Rattle.iom_copies.proofs.ToComeLemmas.{rise_le}
+use Rattle.iom_device_dir.specs.declared.context.Context.{Context}
+use Rattle.iom_driver.specs.Devices.{attachment_of}
+use Rattle.iom_driver.specs.Layout.{AreFixed, command_frame, completion_frame, completion_address}
+use Rattle.iom_driver.specs.Ready.{IsReady}
+use Rattle.iom_driver.proofs.Ring.{same_commands}
+use Rattle.iom_iommu.specs.Parts.{registers_of, contexts_of, flights_of, frames_of}
+use Rattle.iom_ledger.specs.Refusals.{NoneApplies}
+use Rattle.iom_ledger.specs.declared.refusal.Refusal.{Refusal}
+use Rattle.iom_machine.specs.declared.state.Attachment.TheVariants.{Detached}
+use Rattle.iom_phys_mem.specs.Words.{word_at}
+use Rattle.iom_registers.specs.Queues.{is_processing_commands}
+use Rattle.iom_world.specs.Devices.{shown_attachment}
+use Rattle.iom_world.specs.Parts.{Parts}
+use Rattle.iom_world.specs.Queued.{completed_in}
+use Rattle.iom_world.specs.Read.{values_of}
+use Rattle.iom_world.specs.Scenes.{IsSceneOf, HasFaithfulScene}
+use Rattle.iom_world.specs.Sound.{AreSound, AreKnown, ContextsAreTrue}
+use Rattle.iom_world.proofs.DriverLemmas.{IsSoundDriver}
+
+le_prop : (a b : ℕ) → IsProp (a ≤ b)
+le_prop a b = hlevel props
+
+-- the last fence that was done isn't above the last ticket that was given
+pub completed_given : (parts : Parts) (events : ℕ) → AreSound parts events → completed_in parts.memory ≤ parts.driver.given
+completed_given parts events sound =
+    ∥∥₁_elim sound.copies (le_prop (completed_in parts.memory) parts.driver.given)
+    (λ (scene, shows, facts). by scene shows facts)
+  where
+    by : (scene : Scene) → IsSceneOf (values_of parts) scene → IsFaithful scene → completed_in parts.memory ≤ parts.driver.given
+    by scene shows facts =
+        let low = rise_le scene.completed scene.waiting scene.last_fence facts.order.fences in
+        let done : scene.completed ≡ completed_in parts.memory = shows.completed in
+        let last : scene.last_fence ≡ parts.driver.given = shows.last_fence in
+        omega (arith, low, done, last)
+
+-- no context of a detached device is cached
+pub detached_uncached : (parts : Parts) (id : ℕ) (context : Context) → ∥ HasFaithfulScene (values_of parts) ∥₁ → contexts_of parts.iommu id ≡ Some context
+    → shown_attachment (attachment_of parts.driver.devices id) ≡ Detached → ⊥
+detached_uncached parts id context copies cached detached =
+    ∥∥₁_elim copies (λ x y. absurd x) (λ (scene, shows, facts). by scene shows facts)
+  where
+    by : (scene : Scene) → IsSceneOf (values_of parts) scene → IsFaithful scene → ⊥
+    by scene shows facts =
+        subst (ContextFits scene id) (shows.attachments id ∙ detached) (facts.contexts id (shows.contexts id (ap is_some cached)))
+
+-- the word at the beginning of a frame that keeps its bytes
+word_of_frame : (m n : List (List ℕ)) (frame : ℕ) → slice_get n frame ≡ slice_get m frame → word_at 4 n (4096 * frame) ≡ word_at 4 m (4096 * frame)
+word_of_frame m n frame same = let at : 4096 * frame / 4096 ≡ frame = omega arith in rw (at, same) refl
+
+-- where its frame keeps its bytes, the completion word is the same
+pub same_completed : (m n : List (List ℕ)) → length n ≡ length m → slice_get n (completion_frame (length m)) ≡ slice_get m (completion_frame (length m)) → completed_in n ≡ completed_in m
+same_completed m n size same =
+    ap (λ k. option_map_or (λ word. word) (word_at 4 n (completion_address k)) 0) size
+    ∙ ap (λ o. option_map_or (λ word. word) o 0) (word_of_frame m n (completion_frame (length m)) same)
+
+-- memory is as large as it was, and the completion word's frame has its bytes
+pub record LeavesWord (old new : Parts) : Type 0 where
+  pub size : length new.memory ≡ length old.memory
+  pub word : slice_get new.memory (completion_frame (length old.memory)) ≡ slice_get old.memory (completion_frame (length old.memory))
+
+-- and of the IOMMU all stays but its rows, and the index that software writes
+pub record LeavesIommu (old new : Parts) : Type 0 where
+  pub processing : is_processing_commands (registers_of new.iommu) ≡ is_processing_commands (registers_of old.iommu)
+  pub frames : frames_of new.iommu ≡ frames_of old.iommu
+  pub so_far : (flights_of new.iommu).so_far ≡ (flights_of old.iommu).so_far
+
+-- so the facts stay, where these do
+pub sound_from : (old new : Parts) (events : ℕ) → AreSound old events → LeavesWord old new → LeavesIommu old new → new.driver.started ≡ old.driver.started
+    → IsReady new.driver new.memory (registers_of new.iommu) → AreKnown new → new.driver.confirmed ≤ completed_in old.memory → new.driver.given < 2 ^ 32
+    → ContextsAreTrue new → ∥ HasFaithfulScene (values_of new) ∥₁ → AreSound new events
+sound_from old new events sound leaves iommu started ready known confirmed small contexts copies = record {
+  ready = ready;
+  started = started ∙ sound.started;
+  processing = iommu.processing ∙ sound.processing;
+  size = iommu.frames ∙ sound.size ∙ sym leaves.size;
+  known = known;
+  confirmed = subst (λ done. new.driver.confirmed ≤ done) (sym (same_completed old.memory new.memory leaves.size leaves.word)) confirmed;
+  small = small;
+  counted = subst (λ n. n ≤ events) (sym iommu.so_far) sound.counted;
+  contexts = contexts;
+  copies = copies;
+}
+
+-- the IOMMU is the same
+pub same_iommu : (old new : Parts) → new.iommu ≡ old.iommu → LeavesIommu old new
+same_iommu old new same = record {
+  processing = ap (λ i. is_processing_commands (registers_of i)) same;
+  frames = ap frames_of same;
+  so_far = ap (λ i. (flights_of i).so_far) same;
+}
+
+-- the ring has its bytes, and the registers are the same: the same commands wait
+pub same_waiting : (old new : Parts) (events : ℕ) → AreSound old events → registers_of new.iommu ≡ registers_of old.iommu
+    → slice_get new.memory (command_frame (length old.memory)) ≡ slice_get old.memory (command_frame (length old.memory))
+    → commands_in new.memory (registers_of new.iommu) ≡ commands_in old.memory (registers_of old.iommu)
+same_waiting old new events sound registers ring =
+    ap (commands_in new.memory) registers ∙ same_commands old.memory new.memory (registers_of old.iommu) (sound.ready.ring sound.started) ring
+
+-- the fixed frames of a world
+pub fixed_frames : (old : Parts) (events : ℕ) → AreSound old events → IsSoundDriver old.driver → AreFixed old.driver.marks (length old.memory)
+fixed_frames old events sound own = subst (AreFixed old.driver.marks) (sym sound.ready.stand.size) own.fixed
+
+-- where no reason applies, none of them does
+pub none_at : (reasons : List (Bool × Refusal)) (k : ℕ) (test : Bool) (why : Refusal) → slice_get reasons k ≡ Some (test, why) → NoneApplies reasons → test ≡ false
+none_at [] k test why at none = cc
+none_at ((true, first) ∷ later) k test why at none = cc
+none_at ((false, first) ∷ later) zero test why at none = let same : ◌≡◌ {A = Bool × Refusal} (false, first) (test, why) = cc in ap (λ (r : Bool × Refusal). r.0) (sym same)
+none_at ((false, first) ∷ later) (suc k) test why at none = none_at later k test why at none

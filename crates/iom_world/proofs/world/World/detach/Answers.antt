@@ -1,0 +1,17 @@
+use Rattle.std.proofs.Common.{refl}
+use Rattle.iom_driver.specs.Seen.{state_of}
+use Rattle.iom_world.specs.Does.{ticket_told_of}
+use Rattle.iom_world.specs.Parts.{Parts}
+use Rattle.iom_world.specs.Seen.{parts_of}
+use Rattle.iom_world.proofs.DriverLemmas.{sound_driver}
+use Rattle.iom_world.proofs.DetachKeeps.{keeps_detached}
+use Rattle.iom_world.proofs.world.World.detach.Goals as goal
+
+pub invariant_of-self : goal.invariant_of-self
+invariant_of-self c =
+    let world = c.args.self.now in
+    let new : Parts = record { memory = c.detach-answer.new.memory; iommu = c.detach-answer.new.io; driver = state_of c.detach-answer.new.self; devices = world.devices.items } in
+    record {
+      sound = keeps_detached (parts_of world) new world.events c.args.id (ticket_told_of c.detach-answer.result) world.sound (sound_driver world.driver) c.detach-answer.ensures.ready
+          record { answer = c.detach-answer.result; told_so = refl; call = c.detach-answer.ensures.effect; devices = refl };
+    }

@@ -1,0 +1,37 @@
+-- The values that lie between the grants and memory, read off the parts of a world.
+-- For the facts that a world carries alone; no public contract cites these.
+use Rattle.std.specs.Prelude.{ℕ, List, [], ◌∷◌, ◌++◌, length, map, is_some}
+use Rattle.iom_command_queue.specs.Waiting.{commands_in}
+use Rattle.iom_copies.specs.Scene.{AccessInFlight}
+use Rattle.iom_driver.specs.Devices.{attachment_of, is_plugged}
+use Rattle.iom_driver.specs.Layout.{completion_address}
+use Rattle.iom_inflight.specs.Flights.{NumberedAccess, FlightRow}
+use Rattle.iom_iommu.specs.Parts.{registers_of, contexts_of, flights_of}
+use Rattle.iom_world.specs.Devices.{shown_attachment}
+use Rattle.iom_world.specs.Parts.{Parts}
+use Rattle.iom_world.specs.Queued.{completed_in}
+use Rattle.iom_world.specs.Scenes.{Values}
+
+-- an access in flight, as far as copies go
+abbrev pub access_of : ℕ → NumberedAccess → AccessInFlight
+access_of device flight = record { device = device; frame = flight.accepted.frame; kind = flight.accepted.access.kind; number = flight.number }
+
+-- those of all devices
+abbrev pub accesses_of : List FlightRow → List AccessInFlight
+accesses_of [] = []
+accesses_of (row ∷ rows) = map (access_of row.device) row.waiting ++ accesses_of rows
+
+abbrev pub values_of : Parts → Values
+values_of parts = record {
+  ledger = parts.driver.ledger;
+  address = completion_address (length parts.memory);
+  waiting = commands_in parts.memory (registers_of parts.iommu);
+  completed = completed_in parts.memory;
+  given = parts.driver.given;
+  confirmed = parts.driver.confirmed;
+  so_far = (flights_of parts.iommu).so_far;
+  in_flight = accesses_of (flights_of parts.iommu).rows;
+  is_plugged = is_plugged parts.driver.devices;
+  attachment_of = λ id. shown_attachment (attachment_of parts.driver.devices id);
+  is_cached = λ id. is_some (contexts_of parts.iommu id);
+}
