@@ -46,23 +46,23 @@ largest_of x (y ∷ ys) distinct =
     let differ : x ≢ tail.largest = λ same. false≢true (sym (tail.one (λ r. nat_eq x r ≡ false) distinct.0) ∙ eq-eqb x tail.largest same) in
     elim (apart x tail.largest differ) [
       | inl under ↦ record {
-          largest = tail.largest;
-          rest = x ∷ tail.rest;
-          as_many = ap suc tail.as_many;
-          distinct = (tail.others (λ r. nat_eq x r ≡ false) distinct.0, tail.distinct);
-          one = λ P all. tail.one P all.1;
-          others = λ P all. (all.0, tail.others P all.1);
-          below = (under, tail.below);
-        }
+        largest = tail.largest;
+        rest = x ∷ tail.rest;
+        as_many = ap suc tail.as_many;
+        distinct = (tail.others (λ r. nat_eq x r ≡ false) distinct.0, tail.distinct);
+        one = λ P all. tail.one P all.1;
+        others = λ P all. (all.0, tail.others P all.1);
+        below = (under, tail.below);
+      }
       | inr over ↦ record {
-          largest = x;
-          rest = tail.largest ∷ tail.rest;
-          as_many = ap suc tail.as_many;
-          distinct = (below_differs tail.largest tail.rest tail.below, tail.distinct);
-          one = λ P all. all.0;
-          others = λ P all. (tail.one P all.1, tail.others P all.1);
-          below = (over, map_all (λ r. r < tail.largest) (λ r. r < x) tail.rest (λ r lt. omega (arith, lt, over)) tail.below);
-        }
+        largest = x;
+        rest = tail.largest ∷ tail.rest;
+        as_many = ap suc tail.as_many;
+        distinct = (below_differs tail.largest tail.rest tail.below, tail.distinct);
+        one = λ P all. all.0;
+        others = λ P all. (tail.one P all.1, tail.others P all.1);
+        below = (over, map_all (λ r. r < tail.largest) (λ r. r < x) tail.rest (λ r lt. omega (arith, lt, over)) tail.below);
+      }
     ]
 
 both : (P Q : ℕ → Type 0) (xs : List ℕ) → AllByRecursion P xs → AllByRecursion Q xs → AllByRecursion (λ x. P x × Q x) xs
@@ -78,12 +78,13 @@ module _ (marks : List (Option Owner)) (ledger : Ledger) (named : Option ℕ) wh
       let top = largest_of x xs distinct in
       let here = top.one (λ n. (n < limit) × IsFreeForTable marks ledger named n) free in
       let rest = top.others (λ n. (n < limit) × IsFreeForTable marks ledger named n) free in
-      let long = top.as_many in
-      (
-        top.largest, here.0, here.1,
+      let long = top.as_many in (
+        top.largest,
+        here.0,
+        here.1,
         has_free count top.largest top.rest top.distinct (omega (arith, many, long))
-        (map_all (λ n. (n < top.largest) × ((n < limit) × IsFreeForTable marks ledger named n)) (λ n. (n < top.largest) × IsFreeForTable marks ledger named n) top.rest (λ n it. (it.0, it.1.1))
-        (both (λ n. n < top.largest) (λ n. (n < limit) × IsFreeForTable marks ledger named n) top.rest top.below rest)),
+            (map_all (λ n. (n < top.largest) × ((n < limit) × IsFreeForTable marks ledger named n)) (λ n. (n < top.largest) × IsFreeForTable marks ledger named n) top.rest (λ n it. (it.0, it.1.1))
+            (both (λ n. n < top.largest) (λ n. (n < limit) × IsFreeForTable marks ledger named n) top.rest top.below rest)),
       )
 
   all_by : (P : ℕ → Type 0) (numbers : List ℕ) → All P numbers → AllByRecursion P numbers
@@ -93,7 +94,7 @@ module _ (marks : List (Option Owner)) (ledger : Ledger) (named : Option ℕ) wh
   -- where not so many are free, fewer different ones are
   pub fewer_free : (count limit : ℕ) (numbers : List ℕ) → ¬ HasFree marks ledger named count limit → IsDistinct nat_eq numbers
       → All (λ n. (n < limit) × IsFreeForTable marks ledger named n) numbers → length numbers < count
-  fewer_free count limit numbers lacks distinct free = elim (leb_tells count (length numbers)) [ | inl many ↦ by (inl many.1) | inr few ↦ by (inr few.1) ]
+  fewer_free count limit numbers lacks distinct free = elim (leb_tells count (length numbers)) [ inl many ↦ by (inl many.1) | inr few ↦ by (inr few.1) ]
     where
       by : (count ≤ length numbers) ⊎ (length numbers < count) → length numbers < count
       by (inl many) = absurd (lacks (has_free count limit numbers distinct many (all_by (λ n. (n < limit) × IsFreeForTable marks ledger named n) numbers free)))

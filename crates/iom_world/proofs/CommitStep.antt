@@ -99,31 +99,29 @@ module _ (old new : Parts) (events id : ℕ) (sound : AreSound old events) (driv
     step_kind kinds.Read reads told performed gives =
         let next = with_oldest_made state device in
         let held = gives.told_so.0 in
-        let shown = bytes_shown old.memory old.driver.marks state.frames oldest.frame gives.bytes shows.frames free gives.there in
-        (
+        let shown = bytes_shown old.memory old.driver.marks state.frames oldest.frame gives.bytes shows.frames free gives.there in (
           next,
           subst (λ t. Commits state id t next) (sym gives.told_so.1)
-          (acts_at (λ (d : machine.Device). Makes state d (Read held) next) old state id (Read held) next shows.devices found
-          (rw in_flight (
-            (
-              reads,
-              subst (λ k. May state.history found.device.id oldest.frame k) reads may_reach,
-              gives.told_so.2 ∙ ap (λ (b : List ℕ). slice_range b (offset_of oldest.access) (offset_of oldest.access + oldest.access.len)) (sym shown),
-            ),
-            refl,
-          ))),
+              (acts_at (λ (d : machine.Device). Makes state d (Read held) next) old state id (Read held) next shows.devices found
+              (rw in_flight (
+                (
+                  reads,
+                  subst (λ k. May state.history found.device.id oldest.frame k) reads may_reach,
+                  gives.told_so.2 ∙ ap (λ (b : List ℕ). slice_range b (offset_of oldest.access) (offset_of oldest.access + oldest.access.len)) (sym shown),
+                ),
+                refl,
+              ))),
           shows_made next refl (subst (λ m. ShowsFrames m old.driver.marks state.frames) (sym performed) shows.frames),
         )
     step_kind kinds.Write writes told (bytes, there, stores) told_so =
-        let next = record (with_oldest_made state device) { frames = stored state.frames oldest.frame (offset_of oldest.access) oldest.access.bytes } in
-        (
+        let next = record (with_oldest_made state device) { frames = stored state.frames oldest.frame (offset_of oldest.access) oldest.access.bytes } in (
           next,
           subst (λ t. Commits state id t next) (sym told_so)
-          (acts_at (λ (d : machine.Device). Makes state d (Wrote oldest.access.len) next) old state id (Wrote oldest.access.len) next shows.devices found
-          (rw in_flight ((writes, subst (λ k. May state.history found.device.id oldest.frame k) writes may_reach, refl), refl))),
+              (acts_at (λ (d : machine.Device). Makes state d (Wrote oldest.access.len) next) old state id (Wrote oldest.access.len) next shows.devices found
+              (rw in_flight ((writes, subst (λ k. May state.history found.device.id oldest.frame k) writes may_reach, refl), refl))),
           shows_made next refl
-          (subst (λ m. ShowsFrames m old.driver.marks (stored state.frames oldest.frame (offset_of oldest.access) oldest.access.bytes)) (sym stores)
-          (frames_stored old.memory old.driver.marks state.frames oldest.frame (offset_of oldest.access) bytes oldest.access.bytes shows.frames free there)),
+              (subst (λ m. ShowsFrames m old.driver.marks (stored state.frames oldest.frame (offset_of oldest.access) oldest.access.bytes)) (sym stores)
+              (frames_stored old.memory old.driver.marks state.frames oldest.frame (offset_of oldest.access) bytes oldest.access.bytes shows.frames free there)),
         )
 
     step_made : (told : Outcome) → TellsKind old.memory made made.kind told → Steps state id told new
@@ -135,11 +133,10 @@ module _ (old new : Parts) (events id : ℕ) (sound : AreSound old events) (driv
   step_oldest None told tells call unreserved =
       let idle = call.makes.0 in
       let empty : in_flight_of rows found.device.id ≡ [] =
-      in_flight_at rows found.device.id idle.row (ap (row_of rows) found.own ∙ idle.stands) ∙ ap (λ (l : List NumberedAccess). map (λ (f : NumberedAccess). f.accepted) l) idle.idle in
-      (
+      in_flight_at rows found.device.id idle.row (ap (row_of rows) found.own ∙ idle.stands) ∙ ap (λ (l : List NumberedAccess). map (λ (f : NumberedAccess). f.accepted) l) idle.idle in (
         state,
         subst (λ t. Commits state id t state) (sym tells)
-        (acts_at (λ (d : machine.Device). Makes state d NothingInFlight state) old state id NothingInFlight state shows.devices found (empty, refl)),
+            (acts_at (λ (d : machine.Device). Makes state d NothingInFlight state) old state id NothingInFlight state shows.devices found (empty, refl)),
         shows_flights old new state call.makes.1 driver devices call.makes.2 shows,
       )
   step_oldest (Some made) told tells call unreserved = step_made made call.makes unreserved told tells

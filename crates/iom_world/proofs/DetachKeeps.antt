@@ -141,7 +141,7 @@ module _ (old new : Parts) (events id ticket : ℕ) (sound : AreSound old events
       (detach_scene (values_of old) (values_of new) id commands queues_ticket
       (ap shown_attachment was_attached)
       (λ d. ap (λ (s : DriverState). shown_attachment (attachment_of s.devices d)) queues.driver ∙ shown_set old.driver.devices id (Leaving ticket queues.stage) plugged d
-        ∙ ap (λ t. if id == d then shown.Leaving t First false else shown_attachment (attachment_of old.driver.devices d)) queues.next)
+      ∙ ap (λ t. if id == d then shown.Leaving t First false else shown_attachment (attachment_of old.driver.devices d)) queues.next)
       (ungranted old.driver (registers_of old.iommu) id admitted)
       (λ h agrees. subst (λ (s : DriverState). Agrees s.ledger h) (sym queues.driver) agrees)))
 

@@ -84,7 +84,7 @@ left_leaving first (suc n) f d ticket stage is above =
     ]
   where
     over_next : (k t : ℕ) → k < t → k + 1 ≢ t → suc k < t
-    over_next k t lt ne = elim (leb_tells t (suc k)) [ | inl low ↦ absurd (ne (let l = low.1 in omega (arith, l, lt))) | inr high ↦ high.1 ]
+    over_next k t lt ne = elim (leb_tells t (suc k)) [ inl low ↦ absurd (ne (let l = low.1 in omega (arith, l, lt))) | inr high ↦ high.1 ]
 
 -- so many tickets after the first number are confirmed, one after another: an attachment is then as the driver has it
 pub left_is : (first n : ℕ) (f : ℕ → machine.Attachment) (d : ℕ) (a : Attachment) → f d ≡ shown_attachment a

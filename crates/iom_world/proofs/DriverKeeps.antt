@@ -145,9 +145,9 @@ root_keeps d memory id d' memory' size range admitted stands takes f system apar
     ap (λ m. slice_get m f) takes.bytes
     ∙ hung_keeps memory (cleared taken memory) top (directory_frame (length memory)) id takes.pages (context_for takes.stage) f
     (λ lower g le at.
-      let page : HasPage memory top (directory_frame (length memory)) g = (lower, id, le, below, at) in
-      let mine = not_taken g (stands.own g page).system in
-      (bytes_stay g taken memory mine, apart g page, among_before g takes.pages (takes.stage.root ∷ []) mine))
+    let page : HasPage memory top (directory_frame (length memory)) g = (lower, id, le, below, at) in
+    let mine = not_taken g (stands.own g page).system in
+    (bytes_stay g taken memory mine, apart g page, among_before g takes.pages (takes.stage.root ∷ []) mine))
     zeros (once_before takes.pages (takes.stage.root ∷ []) (chosen_once d.marks d.ledger None (length memory) _ taken takes.chosen))
     (among_before f takes.pages (takes.stage.root ∷ []) (not_taken f system))
     ∙ bytes_stay f taken memory (not_taken f system)
@@ -244,8 +244,8 @@ pub tables_keep_system : (d : DriverState) (memory : List (List ℕ)) (id page f
 tables_keep_system d memory id page frame rights d' memory' size takes n system =
     let apart = owned_not_chosen d.marks d.ledger (Some frame) (length memory) _ n takes.tables System size takes.chosen system in
     takes.others n (λ now.
-      let both : ◌≡◌ {A = Option (Option Owner)} (Some (Some System)) (Some (Some (OneDevice id))) =
-      sym system ∙ sym (mark_stays (OneDevice id) n takes.tables d.marks apart) ∙ sym (ap (λ (e : DriverState). slice_get e.marks n) takes.driver) ∙ now in cc)
+    let both : ◌≡◌ {A = Option (Option Owner)} (Some (Some System)) (Some (Some (OneDevice id))) =
+    sym system ∙ sym (mark_stays (OneDevice id) n takes.tables d.marks apart) ∙ sym (ap (λ (e : DriverState). slice_get e.marks n) takes.driver) ∙ now in cc)
 
 module _ (old new : Parts) (events id page frame : ℕ) (rights : GrantRights) (sound : AreSound old events) (own : IsSoundDriver old.driver)
     (ready : IsReady new.driver new.memory (registers_of new.iommu)) (admitted : NoneApplies (why_not_grant old.driver id page frame))
@@ -286,7 +286,7 @@ module _ (old new : Parts) (events id page frame : ℕ) (rights : GrantRights) (
       (subst (λ n. n ≤ completed_in old.memory) (sym (ap (λ (d : DriverState). d.confirmed) takes.driver)) sound.confirmed)
       (subst (λ n. n < 2 ^ 32) (sym (ap (λ (d : DriverState). d.given) takes.driver)) sound.small)
       (λ other context cached.
-        ap (λ (s : DriverState). option_map context_for (owned_stage_of s.devices other)) takes.driver ∙ sound.contexts other context (ap (λ i. contexts_of i other) (sym iommu) ∙ cached))
+      ap (λ (s : DriverState). option_map context_for (owned_stage_of s.devices other)) takes.driver ∙ sound.contexts other context (ap (λ i. contexts_of i other) (sym iommu) ∙ cached))
       (∥∥₁_map sound.copies (grant_scene (values_of old) (values_of new) id page frame (rights_of rights) grants_one))
 
 -- nothing changes but what room the driver's ledger has
@@ -313,7 +313,7 @@ roomy_sound old new events sound ready same memory iommu devices =
     (subst (λ n. n ≤ completed_in old.memory) (sym (ap (λ (d : DriverState). d.confirmed) same.rest)) sound.confirmed)
     (subst (λ n. n < 2 ^ 32) (sym (ap (λ (d : DriverState). d.given) same.rest)) sound.small)
     (λ other context cached.
-      ap (λ (s : DriverState). option_map context_for (owned_stage_of s.devices other)) same.rest ∙ sound.contexts other context (ap (λ i. contexts_of i other) (sym iommu) ∙ cached))
+    ap (λ (s : DriverState). option_map context_for (owned_stage_of s.devices other)) same.rest ∙ sound.contexts other context (ap (λ i. contexts_of i other) (sym iommu) ∙ cached))
     (∥∥₁_map sound.copies (same_scene (values_of old) (values_of new) alike))
 
 pub keeps_granted : (old new : Parts) (events id page frame : ℕ) (rights : GrantRights) (told : Outcome) → AreSound old events → IsSoundDriver old.driver

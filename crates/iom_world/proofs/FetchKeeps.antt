@@ -95,13 +95,12 @@ next_of address low given (IofenceC (Some store) wsi pr pw) ours =
     let two = and_parts (nat_lt low store.data) (nat_le store.data given && (not wsi && (pr && pw))) one.1 in
     let three = and_parts (nat_le store.data given) (not wsi && (pr && pw)) two.1 in
     let four = and_parts (not wsi) (pr && pw) three.1 in
-    let five = and_parts pr pw four.1 in
-    (
+    let five = and_parts pr pw four.1 in (
       store.data,
       ap (λ (a : ℕ). IofenceC (Some (record { address = a; «data» = store.data })) wsi pr pw) (eqb-true store.address address one.0)
-      ∙ ap (λ (b : Bool). IofenceC (Some (record { address = address; «data» = store.data })) b pr pw) (not_true wsi four.0)
-      ∙ ap (λ (b : Bool). IofenceC (Some (record { address = address; «data» = store.data })) false b pw) five.0
-      ∙ ap (λ (b : Bool). IofenceC (Some (record { address = address; «data» = store.data })) false true b) five.1,
+          ∙ ap (λ (b : Bool). IofenceC (Some (record { address = address; «data» = store.data })) b pr pw) (not_true wsi four.0)
+          ∙ ap (λ (b : Bool). IofenceC (Some (record { address = address; «data» = store.data })) false b pw) five.0
+          ∙ ap (λ (b : Bool). IofenceC (Some (record { address = address; «data» = store.data })) false true b) five.1,
       leb-true (suc low) store.data two.0,
       leb-true store.data given three.0,
     )

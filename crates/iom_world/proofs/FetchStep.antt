@@ -52,8 +52,7 @@ fetched_unseen old new events Stopped state sound own fetches shows =
 pub fetch_step : (old new : Parts) (events : ℕ) (told : Outcome) → AreSound old events → IsSoundDriver old.driver → FetchesNext old told new
     → (state : State) → PartsShow old state → (next : State) × machine.Fetches state told next × PartsShow new next
 fetch_step old new events told sound own does state shows =
-    let unseen = fetched_unseen old new events does.answer state sound own does.call shows.frames in
-    (
+    let unseen = fetched_unseen old new events does.answer state sound own does.call shows.frames in (
       state,
       rw does.told_so refl,
       record {

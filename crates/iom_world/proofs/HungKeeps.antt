@@ -92,8 +92,8 @@ hung_keeps before m (suc level) page id pages context f off zeros once among =
     let here = off (suc level) page (omega arith) (at_root before (suc level) page id) in
     by (next_page before page (suc level) id) refl (next_alike before m page (suc level) id here.0) here.1 pages here.2 zeros once among
     (λ next named. hung_keeps before m level next id pages context f
-      (λ lower g le at. off lower g (omega (arith, le)) (past_root before level page lower id le ∙ ap (option_and_then (λ n. page_at before level n lower id)) named ∙ at))
-      zeros once among)
+    (λ lower g le at. off lower g (omega (arith, le)) (past_root before level page lower id le ∙ ap (option_and_then (λ n. page_at before level n lower id)) named ∙ at))
+    zeros once among)
   where
     by : (o : Option ℕ) → next_page before page (suc level) id ≡ o → next_page m page (suc level) id ≡ next_page before page (suc level) id → f ≢ page
         → (left : List ℕ) → NotAmong page left → AreZeros m left → AreOnce left → NotAmong f left

@@ -29,8 +29,7 @@ KeepsOwned old memory =
 pub stores_keep : (old : Parts) (events address : ℕ) (bytes : List ℕ) (told : Outcome) (memory : List (List ℕ)) → AreSound old events → StoresIfAny old address bytes told memory → KeepsOwned old memory
 stores_keep old events address bytes Done memory sound stores =
     let now = with_bytes stores.before (address % 4096) bytes in
-    let free = stored_free old events address bytes memory sound stores in
-    (
+    let free = stored_free old events address bytes memory sound stores in (
       ap (λ m. length m) stores.stored ∙ length-set old.memory (address / 4096) now,
       (λ n owner at. ap (λ m. slice_get m n) stores.stored ∙ get_set_other old.memory (address / 4096) n now (owned_differs old.driver.marks n (address / 4096) owner at free)),
     )

@@ -319,10 +319,13 @@ pub grants_shown : (ledger : Ledger) (state : State) (id : ℕ) → Agrees ledge
 grants_shown ledger state id agrees = (forward, backward)
   where
     forward : IsTrue (has_grants state id) → HasGrants ledger id
-    forward any = let found = (grants_are_at_pages state id).0 any in (found.0, elim found.1 [
-      | inl held ↦ inl (sym (held_shown ledger state id found.0 agrees) ∙ held)
-      | inr lingers ↦ inr (sym (lingering_shown ledger state id found.0 agrees) ∙ lingers)
-    ])
+    forward any = let found = (grants_are_at_pages state id).0 any in (
+      found.0,
+      elim found.1 [
+        | inl held ↦ inl (sym (held_shown ledger state id found.0 agrees) ∙ held)
+        | inr lingers ↦ inr (sym (lingering_shown ledger state id found.0 agrees) ∙ lingers)
+      ],
+    )
 
     backward : HasGrants ledger id → IsTrue (has_grants state id)
     backward (page, inl held) = ((grants_are_at_pages state id).1 (page, inl (held_shown ledger state id page agrees ∙ held)))

@@ -125,7 +125,7 @@ module _ (old new : Parts) (events id page ticket : ℕ) (sound : AreSound old e
       (subst (λ n. n ≤ completed_in old.memory) (sym (ap (λ (d : DriverState). d.confirmed) queues.driver)) sound.confirmed)
       (subst (λ n. n < 2 ^ 32) (sym given_now) (next_small old.driver.given numbers))
       (λ other context cached.
-        ap (λ (s : DriverState). option_map context_for (owned_stage_of s.devices other)) queues.driver ∙ sound.contexts other context (sym (rung.contexts other) ∙ cached))
+      ap (λ (s : DriverState). option_map context_for (owned_stage_of s.devices other)) queues.driver ∙ sound.contexts other context (sym (rung.contexts other) ∙ cached))
       (∥∥₁_map sound.copies
       (release_scene (values_of old) (values_of new) id page (stands.Command (invalidation queues.stage.number page) ∷ []) queues_ticket
       (ap shown_attachment (attached_is (attachment_of old.driver.devices id) queues.stage queues.attached))

@@ -75,8 +75,10 @@ module _ (laws : ServiceLaws) (old new : Parts) (events id : ℕ) (access : Acce
           ⊎ ((shown_attachment (attachment_of old.driver.devices id) ≡ shown.Attached First false)
           × ((d : ℕ) → is_some (contexts_of new.iommu d) ≡ true → (is_some (contexts_of old.iommu d) ≡ true) ⊎ (d ≡ id)))
       by (inl same) = inl (λ d there. ap is_some (sym (same d)) ∙ there)
-      by (inr (stage, is, one)) = inr (ap shown_attachment is,
-          cached_or (attachment_of old.driver.devices id) id (contexts_of old.iommu) (contexts_of new.iommu) (inr (stage, is, one)))
+      by (inr (stage, is, one)) = inr (
+        ap shown_attachment is,
+        cached_or (attachment_of old.driver.devices id) id (contexts_of old.iommu) (contexts_of new.iommu) (inr (stage, is, one)),
+      )
 
   leaves_asked : registers_of new.iommu ≡ registers_of old.iommu → frames_of new.iommu ≡ frames_of old.iommu → row_ids (flights_of new.iommu).rows ≡ row_ids (flights_of old.iommu).rows → Leaves old new
   leaves_asked registers frames rows = record {

@@ -126,11 +126,10 @@ module _ (laws : ServiceLaws) (old new : Parts) (events id : ℕ) (access : Acce
       let faults = served laws old events sound own id access.address access.kind (Err cause) fits call.served in
       let count = room.room in
       let many = long room.row room.stands in
-      step_same (outcome.Fault cause)
-      (
+      step_same (outcome.Fault cause) (
         (call.within, (λ busy. absurd (omega (arith, count, many, busy)))),
         subst (λ n. MayFault (shown_attachment (attachment_of old.driver.devices n)) state n access cause) (sym is.own)
-        (may_fault (attachment_of old.driver.devices id) old state id access cause own shows refl faults),
+            (may_fault (attachment_of old.driver.devices id) old state id access cause own shows refl faults),
       )
       refl call.flights
 
@@ -156,16 +155,14 @@ module _ (laws : ServiceLaws) (old new : Parts) (events id : ℕ) (access : Acce
       ap (λ (ds : List machine.Device). replaced_device ds is.device.id (record device { accepted = device.accepted + 1; in_flight = device.in_flight ++ flight ∷ [] })) shows.devices
       ∙ ap (λ (n : ℕ). replaced_device (shown_devices old.driver.devices rows old.devices) n (record device { accepted = device.accepted + 1; in_flight = device.in_flight ++ flight ∷ [] })) is.own
       ∙ ap (λ (d : machine.Device). replaced_device (shown_devices old.driver.devices rows old.devices) id d) (sym now)
-      ∙ row_shown old.driver.devices rows old.devices id is.device it.row after sound.known.own_ids is.found is.own it.stands mine in
-      (
+      ∙ row_shown old.driver.devices rows old.devices id is.device it.row after sound.known.own_ids is.found is.own it.stands mine in (
         call.frame,
         next,
-        acts_at (MayTell call.frame next (outcome.Accepted number)) old state id (outcome.Accepted number) next shows.devices is
-        (
+        acts_at (MayTell call.frame next (outcome.Accepted number)) old state id (outcome.Accepted number) next shows.devices is (
           (
             (call.within, (λ busy. absurd (omega (arith, count, many, busy)))),
             subst (λ n. MayAccept (shown_attachment (attachment_of old.driver.devices n)) state n access call.frame) (sym is.own)
-            (may_accept (attachment_of old.driver.devices id) state old.driver id call.frame access shows.ledger reaches reaches.attached),
+                (may_accept (attachment_of old.driver.devices id) state old.driver id call.frame access shows.ledger reaches reaches.attached),
             counted,
           ),
           refl,

@@ -71,9 +71,9 @@ accepted_among rows id row accepted number at x there =
     elim (replaced_accesses rows (with_access row accepted number) x there) [
       | inl mine ↦ elim (Contains-push_cases (map (access_of row.device) row.waiting) last x
           (subst (λ (l : List AccessInFlight). Contains l x) (map_push (access_of row.device) row.waiting (record { accepted = accepted; number = number })) mine)) [
-        | inl before ↦ inr (row_accesses rows id row at x before)
-        | inr same ↦ inl (is_last x same ∙ ap (λ (d : ℕ). record { device = d; frame = accepted.frame; kind = accepted.access.kind; number = number }) own)
-      ]
+            | inl before ↦ inr (row_accesses rows id row at x before)
+            | inr same ↦ inl (is_last x same ∙ ap (λ (d : ℕ). record { device = d; frame = accepted.frame; kind = accepted.access.kind; number = number }) own)
+          ]
       | inr before ↦ inr before
     ]
   where

@@ -88,8 +88,7 @@ pub record PlugsOne (old new : Values) (id : ℕ) : Type 0 where
 
 pub plug_scene : (old new : Values) (id : ℕ) (kind : DeviceKind) → PlugsOne old new id → HasFaithfulScene old → HasFaithfulScene new
 plug_scene old new id kind plugs (scene, shows, facts) =
-    let next : Scene = record scene { kind_of = with_kind scene.kind_of id kind } in
-    (
+    let next : Scene = record scene { kind_of = with_kind scene.kind_of id kind } in (
       next,
       record {
         ledger = plugs.agrees scene.history shows.ledger;
@@ -134,8 +133,7 @@ pub record AttachesDetached (old new : Values) (id : ℕ) : Type 0 where
 
 pub attach_scene : (old new : Values) (id : ℕ) → AttachesDetached old new id → HasFaithfulScene old → HasFaithfulScene new
 attach_scene old new id attaches (scene, shows, facts) =
-    let next : Scene = record scene { attachment_of = with_attachment scene.attachment_of id (Attached First false) } in
-    (
+    let next : Scene = record scene { attachment_of = with_attachment scene.attachment_of id (Attached First false) } in (
       next,
       record {
         ledger = attaches.agrees scene.history shows.ledger;
@@ -180,8 +178,7 @@ none_in xs x none there = in_none x (subst (λ l. Contains l x) none there)
 
 pub grant_scene : (old new : Values) (id page frame : ℕ) (rights : Rights) → GrantsOne old new id page frame rights → HasFaithfulScene old → HasFaithfulScene new
 grant_scene old new id page frame rights grants (scene, shows, facts) =
-    let next : Scene = record scene { history = Granted id page frame rights ∷ scene.history } in
-    (
+    let next : Scene = record scene { history = Granted id page frame rights ∷ scene.history } in (
       next,
       record {
         ledger = grants.agrees scene.history shows.ledger;
@@ -270,8 +267,7 @@ release_scene old new id page commands queues attached same agrees (scene, shows
     let ordered = queues.ordered in
     let next : Scene = record (with_ticket scene queued) { history = Released id page (scene.given + 1) ∷ scene.history } in
     let agreed : Agrees new.ledger (Released id page (scene.given + 1) ∷ scene.history) =
-    rw shows.given (agrees scene.history shows.ledger (unconfirmed_next old scene (old.given + 1) shows facts (omega (arith, ordered)))) in
-    (
+    rw shows.given (agrees scene.history shows.ledger (unconfirmed_next old scene (old.given + 1) shows facts (omega (arith, ordered)))) in (
       next,
       ticket_shows old new scene commands queued shows queues (Released id page (scene.given + 1) ∷ scene.history) scene.attachment_of agreed (λ d. shows.attachments d ∙ sym (same d)),
       occurrences_keep_facts (Release id page) scene next facts (First, false, shows.attachments id ∙ attached, refl),
@@ -285,12 +281,13 @@ pub detach_scene : (old new : Values) (id : ℕ) (commands : List QueueEntry) �
 detach_scene old new id commands queues attached leaves nothing agrees (scene, shows, facts) =
     let now = with_attachment scene.attachment_of id (Leaving (scene.given + 1) First false) in
     let next : Scene = record (with_ticket scene (leave_commands id)) { attachment_of = now } in
-    let leaves_so : AttachesOne old new id (Leaving (scene.given + 1) First false) = rw shows.given leaves in
-    (
+    let leaves_so : AttachesOne old new id (Leaving (scene.given + 1) First false) = rw shows.given leaves in (
       next,
       ticket_shows old new scene commands (leave_commands id) shows queues scene.history now (agrees scene.history shows.ledger) (attached_as old new scene id (Leaving (scene.given + 1) First false) shows leaves_so),
       occurrences_keep_facts (Detach id) scene next facts (
-        First, false, shows.attachments id ∙ attached,
+        First,
+        false,
+        shows.attachments id ∙ attached,
         (λ page. (shows.ledger.pages id page).holds ∙ (nothing page).0),
         (λ page ticket pair. none_in (lingering_at scene.history id page) (ticket, pair) (nothing_lingers old scene id page shows (nothing page).1)),
         refl,
@@ -322,8 +319,7 @@ poll_scene old new n rest confirms_some (scene, shows, facts) =
     let c = shows.confirmed in
     let pending : scene.pending ≡ pending_after scene.confirmed (n + rest) = shows.pending ∙ ap (pending_after old.confirmed) confirms_some.many ∙ ap (λ k. pending_after k (n + rest)) (sym c) in
     let done : scene.confirmed + n ≤ scene.completed = rw (shows.confirmed, shows.completed) confirms_some.done in
-    let left : new.given - new.confirmed ≡ rest = omega (arith, confirms_some.many, confirms_some.given, confirms_some.confirmed) in
-    (
+    let left : new.given - new.confirmed ≡ rest = omega (arith, confirms_some.many, confirms_some.given, confirms_some.confirmed) in (
       confirmed_scene scene n rest,
       record {
         ledger = rw c (confirms_some.agrees scene.history shows.ledger);

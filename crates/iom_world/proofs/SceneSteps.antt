@@ -72,17 +72,19 @@ scene_from old new scene next keeps shows same waiting completed accepted in_fli
 pub keep_scene : (old new : Values) (id : ℕ) → KeepsGrants old new → new.waiting ≡ old.waiting → new.completed ≡ old.completed → new.so_far ≡ old.so_far → new.in_flight ≡ old.in_flight
     → old.attachment_of id ≡ Attached First false → ((d : ℕ) → new.is_cached d ≡ true → (old.is_cached d ≡ true) ⊎ (d ≡ id)) → HasFaithfulScene old → HasFaithfulScene new
 keep_scene old new id keeps waiting completed so_far in_flight attached cached (scene, shows, facts) =
-    let next : Scene = record scene { contexts = id ∷ scene.contexts } in
-    (
+    let next : Scene = record scene { contexts = id ∷ scene.contexts } in (
       next,
       scene_from old new scene next keeps shows refl (rw waiting shows.waiting) (shows.completed ∙ sym completed) (shows.accepted ∙ sym so_far) (shows.in_flight ∙ sym in_flight)
-      (λ d is. elim (cached d is) [
-        | inl before ↦ contains_tail id scene.contexts d (shows.contexts d before)
-        | inr same ↦ subst (Contains (id ∷ scene.contexts)) (sym same) (contains_head id scene.contexts)
-      ]),
-      occurrences_keep_facts (KeepContext id) scene next facts
-      (id ∷ scene.contexts, is_attached (scene.attachment_of id) (shows.attachments id ∙ attached),
-      (λ d there. elim (cons_cases id scene.contexts d there) [ inl same ↦ inl (sym same) | inr before ↦ inr before ]), refl),
+          (λ d is. elim (cached d is) [
+            | inl before ↦ contains_tail id scene.contexts d (shows.contexts d before)
+            | inr same ↦ subst (Contains (id ∷ scene.contexts)) (sym same) (contains_head id scene.contexts)
+          ]),
+      occurrences_keep_facts (KeepContext id) scene next facts (
+        id ∷ scene.contexts,
+        is_attached (scene.attachment_of id) (shows.attachments id ∙ attached),
+        (λ d there. elim (cons_cases id scene.contexts d there) [ inl same ↦ inl (sym same) | inr before ↦ inr before ]),
+        refl,
+      ),
     )
   where
     is_attached : (attachment : Attachment) → attachment ≡ Attached First false → IsAttached attachment
@@ -99,21 +101,19 @@ accept_scene old new id page frame rights kind keeps waiting completed so_far am
     let one_stage : in_both_stages (scene.attachment_of id) ≡ false = ap in_both_stages (shows.attachments id ∙ attached) in
     let from : ComesFrom (in_both_stages (scene.attachment_of id)) page rights page rights = subst (λ b. ComesFrom b page rights page rights) (sym one_stage) (refl, refl) in
     let walked : IsWalked scene copy = (page, rights, from, (shows.ledger.pages id page).holds ∙ held) in
-    let numbered : next_access scene copy kind ≡ record { device = id; frame = frame; kind = kind; number = old.so_far + 1 } = ap (λ n. record { device = id; frame = frame; kind = kind; number = n + 1 }) shows.accepted in
-    (
+    let numbered : next_access scene copy kind ≡ record { device = id; frame = frame; kind = kind; number = old.so_far + 1 } = ap (λ n. record { device = id; frame = frame; kind = kind; number = n + 1 }) shows.accepted in (
       next,
       scene_from old new scene next keeps shows refl (rw waiting shows.waiting) (shows.completed ∙ sym completed) (ap (λ n. n + 1) shows.accepted ∙ sym so_far) refl
-      (λ d is. shows.contexts d (cached d is)),
+          (λ d is. shows.contexts d (cached d is)),
       occurrences_keep_facts (Accept copy kind) scene next facts
-      (new.in_flight, inl walked, allowed, subst (λ a. AreAmongWith new.in_flight a scene.in_flight) (sym numbered) (subst (AreAmongWith new.in_flight _) (sym shows.in_flight) among), refl),
+          (new.in_flight, inl walked, allowed, subst (λ a. AreAmongWith new.in_flight a scene.in_flight) (sym numbered) (subst (AreAmongWith new.in_flight _) (sym shows.in_flight) among), refl),
     )
 
 -- AN ACCESS IS MADE, or none is
 pub make_scene : (old new : Values) → KeepsGrants old new → new.waiting ≡ old.waiting → new.completed ≡ old.completed → new.so_far ≡ old.so_far
     → AreAmong new.in_flight old.in_flight → ((d : ℕ) → new.is_cached d ≡ true → old.is_cached d ≡ true) → HasFaithfulScene old → HasFaithfulScene new
 make_scene old new keeps waiting completed so_far among cached (scene, shows, facts) =
-    let next : Scene = record scene { in_flight = new.in_flight } in
-    (
+    let next : Scene = record scene { in_flight = new.in_flight } in (
       next,
       scene_from old new scene next keeps shows refl (rw waiting shows.waiting) (shows.completed ∙ sym completed) (shows.accepted ∙ sym so_far) refl (λ d is. shows.contexts d (cached d is)),
       occurrences_keep_facts Make scene next facts (new.in_flight, subst (AreAmong new.in_flight) (sym shows.in_flight) among, refl),
@@ -163,12 +163,11 @@ module _ (old new : Values) (scene : Scene) (shows : IsSceneOf old scene) (facts
       → AreQueuedAs old.address new.waiting later → new.so_far ≡ old.so_far → new.in_flight ≡ old.in_flight → new.completed ≡ old.completed → ((d : ℕ) → new.is_cached d ≡ true → old.is_cached d ≡ true)
       → HasFaithfulScene new
   drops_translations device extent later keeps waiting queued so_far in_flight completed cached =
-      let next : Scene = record scene { waiting = later } in
-      (
+      let next : Scene = record scene { waiting = later } in (
         next,
         scene_from old new scene next keeps shows refl queued (shows.completed ∙ sym completed) (shows.accepted ∙ sym so_far) (shows.in_flight ∙ sym in_flight) (λ d is. shows.contexts d (cached d is)),
         occurrences_keep_facts (FetchIotinval device extent) scene next facts
-        (later, scene.translations, waiting, (λ copy there. absurd (none_there scene.translations copy shows.alone.translations there)), refl),
+            (later, scene.translations, waiting, (λ copy there. absurd (none_there scene.translations copy shows.alone.translations there)), refl),
       )
 
   drops_context : (device : ℕ) (later : List QueuedCommand) → KeepsGrants old new → scene.waiting ≡ DropContext device ∷ later
@@ -176,13 +175,12 @@ module _ (old new : Values) (scene : Scene) (shows : IsSceneOf old scene) (facts
       → ((d : ℕ) → new.is_cached d ≡ true → (old.is_cached d ≡ true) × (d ≢ device)) → HasFaithfulScene new
   drops_context device later keeps waiting queued so_far in_flight completed cached =
       let left = filter (λ d. not (device == d)) scene.contexts in
-      let next : Scene = record scene { waiting = later; contexts = left } in
-      (
+      let next : Scene = record scene { waiting = later; contexts = left } in (
         next,
         scene_from old new scene next keeps shows refl queued (shows.completed ∙ sym completed) (shows.accepted ∙ sym so_far) (shows.in_flight ∙ sym in_flight)
-        (λ d is. contains_filter (λ e. not (device == e)) scene.contexts d (shows.contexts d (cached d is).0) (ap not (differs device d (λ same. (cached d is).1 (sym same))))),
+            (λ d is. contains_filter (λ e. not (device == e)) scene.contexts d (shows.contexts d (cached d is).0) (ap not (differs device d (λ same. (cached d is).1 (sym same))))),
         occurrences_keep_facts (FetchIodir device) scene next facts
-        (later, left, waiting, (λ d there. let kept = contains_from_filter (λ e. not (device == e)) scene.contexts d there in (kept.0, not_true (device == d) kept.1)), refl),
+            (later, left, waiting, (λ d there. let kept = contains_from_filter (λ e. not (device == e)) scene.contexts d there in (kept.0, not_true (device == d) kept.1)), refl),
       )
     where
       not_true : (b : Bool) → not b ≡ true → b ≡ false
@@ -197,12 +195,11 @@ module _ (old new : Values) (scene : Scene) (shows : IsSceneOf old scene) (facts
       let next : Scene = record scene { waiting = later; completed = number; stock = None } in
       let stock_facts = occurrences_keep_facts (TakeStock number) scene stocked facts
       (later, waiting, (λ slot there. none_there scene.slots slot shows.alone.slots there), shows.alone.goes_on, refl) in
-      let same : next ≡ record scene { waiting = later; completed = number } = ap (λ s. record scene { waiting = later; completed = number; stock = s }) (sym shows.alone.stock) in
-      (
+      let same : next ≡ record scene { waiting = later; completed = number } = ap (λ s. record scene { waiting = later; completed = number; stock = s }) (sym shows.alone.stock) in (
         next,
         scene_from old new scene next keeps shows same queued (sym completed) (shows.accepted ∙ sym so_far) (shows.in_flight ∙ sym in_flight) (λ d is. shows.contexts d (cached d is)),
         occurrences_keep_facts (CompleteFence number) stocked next stock_facts
-        (later, scene.accepted, waiting, refl, (λ access there. absurd (none_there scene.in_flight access (shows.in_flight ∙ idle) there)), refl),
+            (later, scene.accepted, waiting, refl, (λ access there. absurd (none_there scene.in_flight access (shows.in_flight ∙ idle) there)), refl),
       )
 
   -- by what stands first in the scene's queue

@@ -93,8 +93,7 @@ module _ (laws : ServiceLaws) (memory : List (List ℕ)) (marks : List (Option O
     (tables : AreTablesOf memory marks ledger id root) (low : address / 4096 < 2 ^ 52) where
   reached : (frame : ℕ) → IsWalked memory root address kind (Ok frame) → IsHeldFor ledger id (address / 4096) kind frame
   reached frame (walked, reaches, same) =
-      let leaf = (laws.reaches memory root address kind walked).0 reaches in
-      (
+      let leaf = (laws.reaches memory root address kind walked).0 reaches in (
         walked.rights,
         pair_of_leaf (held_in ledger id (address / 4096)) frame walked.rights
             (sym (tables.leaves (address / 4096) low) ∙ leaf.0 ∙ ap (λ (n : ℕ). Some (record { frame = n; rights = walked.rights })) (sym same)),

@@ -21,7 +21,7 @@ write-answer-requires-clause-count c = let world = c.args.self.now in let below 
 
 pub returns-clause-does : goal.returns-clause-does
 returns-clause-does c = elim c.match-event.branch [
-    in-Plug w ↦ search rules
+  | in-Plug w ↦ search rules
   | in-Attach w ↦ search rules
   | in-Grant w ↦ search rules
   | in-Release w ↦ search rules
@@ -32,4 +32,4 @@ returns-clause-does c = elim c.match-event.branch [
   | in-Write w ↦ search rules
   | in-Poke w ↦ search rules
   | in-Free w ↦ search rules
-  ]
+]
