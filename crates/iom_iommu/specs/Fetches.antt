@@ -1,5 +1,7 @@
 -- What a fetch answers, and what it leaves (IOMMU specification, section 3.1, "Command-Queue (CQ)").
-use Rattle.std.specs.Prelude.{◌≡◌, ℕ, ◌/◌, ◌<◌, ◌==◌, Bool, true, false, ◌&&◌, ◌||◌, List, Option, Some, None, slice_get, if◌then◌else◌}
+use Rattle.std.specs.Prelude.{◌≡◌, ℕ, ◌/◌, ◌<◌, ◌==◌, Bool, true, false, not, ◌&&◌, ◌||◌, List, Option, Some, None, slice_get, if◌then◌else◌}
+use Rattle.iom_base.specs.declared.access.AccessKind.{AccessKind}
+use Rattle.iom_base.specs.declared.access.AccessKind.TheVariants.{Read, Write}
 use Rattle.iom_base.specs.Sizes.{page_size}
 use Rattle.iom_phys_mem.specs.Words.{IsPlace, with_word}
 use Rattle.iom_registers.specs.declared.registers.Registers.{Registers}
@@ -15,16 +17,36 @@ use Rattle.iom_iommu.specs.declared.fetched.Fetched.{Fetched}
 use Rattle.iom_iommu.specs.declared.fetched.Fetched.TheVariants.{Did, Waiting, Empty, Stopped}
 use Rattle.iom_device_dir.specs.declared.context.Context.{Context}
 use Rattle.iom_device_dir.specs.Contents.{Content, IsSameContent, DropsCovered}
-use Rattle.iom_inflight.specs.Flights.{some_in_flight}
-use Rattle.iom_iommu.specs.Parts.{registers_of, contexts_of, flights_of, frames_of, with_registers}
+use Rattle.iom_inflight.specs.Flights.{Flights, are_drained}
+use Rattle.iom_tlb.specs.declared.trans_cache.TransCache.{Ghosts as Cache}
+use Rattle.iom_tlb.specs.Content.{Content as Translations, Stays, Drops}
+use Rattle.iom_tlb.specs.Covers.{are_covering}
+use Rattle.iom_tlb.specs.Invalidations.{covers_of}
+use Rattle.iom_iommu.specs.Parts.{registers_of, contexts_of, translations_of, flights_of, stock_of, frames_of, with_registers}
 
--- section 3.1.2, "IOMMU Command-queue Fence commands": a fence with PR or PW waits for accesses in flight
-abbrev pub must_wait : Command → Bool → Bool
-must_wait (IotinvalVma gscid pscid page) any_in_flight = false
-must_wait (IotinvalGvma gscid page) any_in_flight = false
-must_wait (IofenceC store wsi pr pw) any_in_flight = (pr || pw) && any_in_flight
-must_wait (IodirInvalDdt device) any_in_flight = false
-must_wait (AtsInval device range) any_in_flight = false
+-- The fence rule (section 3.1.2, "IOMMU Command-queue Fence commands"): a fence with PR or PW waits until the accesses of that kind are made
+-- that were accepted before it was first fetched.
+
+-- how many accesses were accepted before: the fence counted them when it was first fetched, or it counts them now
+abbrev pub accepted_before : Option ℕ → ℕ → ℕ
+accepted_before None so_far = so_far
+accepted_before (Some counted) so_far = counted
+
+-- the same of the fence at the head
+abbrev pub counted_in : {C : Type 0} {c : Cache C} → Iommu C c → ℕ
+counted_in iommu = accepted_before (stock_of iommu) (flights_of iommu).so_far
+
+-- whether one of the first so many accesses, of the kind, isn't made
+abbrev pub are_waited_for : Flights → ℕ → AccessKind → Bool
+are_waited_for flights before kind = not (are_drained flights before kind)
+
+-- whether the command has to wait, where so many accesses were accepted before it
+abbrev pub must_wait : Command → Flights → ℕ → Bool
+must_wait (IotinvalVma gscid pscid page) flights before = false
+must_wait (IotinvalGvma gscid page) flights before = false
+must_wait (IofenceC store wsi pr pw) flights before = (pr && are_waited_for flights before Read) || (pw && are_waited_for flights before Write)
+must_wait (IodirInvalDdt device) flights before = false
+must_wait (AtsInval device range) flights before = false
 
 -- the word that a command stores: that of a fence with AV
 abbrev pub store_of : Command → Option FenceStore
@@ -75,20 +97,21 @@ abbrev pub head_entry : List (List ℕ) → Registers → Option QueueEntry
 head_entry memory r = slice_get (commands_in memory r) 0
 
 -- a command stands at the head that has to wait
-abbrev pub WaitsAt : Option QueueEntry → Bool → Type 0
-WaitsAt None any_in_flight = ⊥
-WaitsAt (Some stands.Outside) any_in_flight = ⊥
-WaitsAt (Some (stands.Illegal reason)) any_in_flight = ⊥
-WaitsAt (Some (stands.Command command)) any_in_flight = must_wait command any_in_flight ≡ true
+abbrev pub WaitsAt : Option QueueEntry → Flights → ℕ → Type 0
+WaitsAt None flights before = ⊥
+WaitsAt (Some stands.Outside) flights before = ⊥
+WaitsAt (Some (stands.Illegal reason)) flights before = ⊥
+WaitsAt (Some (stands.Command command)) flights before = must_wait command flights before ≡ true
 
 -- what stands at the head stops processing, and which bit says why: cqmf where it can't be loaded or its word not be stored,
--- cmd_ill where it is no command
-abbrev pub StopsAtEntry : List (List ℕ) → Option QueueEntry → Bool → Iommu → Iommu → Type 0
-StopsAtEntry memory None any_in_flight old new = ⊥
-StopsAtEntry memory (Some stands.Outside) any_in_flight old new = new ≡ with_registers old (with_cqmf (registers_of old))
-StopsAtEntry memory (Some (stands.Illegal reason)) any_in_flight old new = new ≡ with_registers old (with_cmd_ill (registers_of old))
-StopsAtEntry memory (Some (stands.Command command)) any_in_flight old new =
-    (must_wait command any_in_flight ≡ false) × (¬ IsStorable memory (store_of command)) × (new ≡ with_registers old (with_cqmf (registers_of old)))
+-- cmd_ill where it is no command. A fence whose word can't be stored has been fetched
+abbrev pub StopsAtEntry : {C : Type 0} {c : Cache C} → List (List ℕ) → Option QueueEntry → Iommu C c → Iommu C c → Type 0
+StopsAtEntry memory None old new = ⊥
+StopsAtEntry memory (Some stands.Outside) old new = new ≡ with_registers old (with_cqmf (registers_of old)) (stock_of old)
+StopsAtEntry memory (Some (stands.Illegal reason)) old new = new ≡ with_registers old (with_cmd_ill (registers_of old)) (stock_of old)
+StopsAtEntry memory (Some (stands.Command command)) old new =
+    (must_wait command (flights_of old) (counted_in old) ≡ false) × (¬ IsStorable memory (store_of command))
+    × (new ≡ with_registers old (with_cqmf (registers_of old)) (Some (counted_in old)))
 
 -- which contexts go: that of the device, or all of them (section 3.1.3, IODIR.INVAL_DDT with and without DV)
 abbrev pub covers_device : Option ℕ → ℕ → Bool
@@ -103,47 +126,51 @@ DropsContexts (IofenceC store wsi pr pw) old new = IsSameContent old new
 DropsContexts (IodirInvalDdt device) old new = DropsCovered old (covers_device device) new
 DropsContexts (AtsInval device range) old new = IsSameContent old new
 
--- what is left once the command at the head is done: registers, cached contexts, and all else as it was
-pub record IsLeft (command : Command) (old new : Iommu) : Type 0 where
+-- the cached translations once the command is done: those that IOTINVAL covers are gone, and no others
+abbrev pub DropsTranslations : Command → Translations → Translations → Type 0
+DropsTranslations command old new = Drops (are_covering (covers_of command)) old new
+
+-- what is left once the command at the head is done: registers, caches, and all else as it was. The next command counts anew
+pub record IsLeft {C : Type 0} {c : Cache C} (command : Command) (old new : Iommu C c) : Type 0 where
   pub registers : registers_of new ≡ with_done (registers_of old) command
   pub contexts : DropsContexts command (contexts_of old) (contexts_of new)
+  pub translations : DropsTranslations command (translations_of old) (translations_of new)
+  pub stock : stock_of new ≡ None
   pub flights : flights_of new ≡ flights_of old
   pub frames : frames_of new ≡ frames_of old
 
 -- processing had stopped before and nothing changes, or it stops at what stands at the head
-abbrev pub StopsFetching : Bool → List (List ℕ) → Bool → Iommu → Iommu → Type 0
-StopsFetching false memory any_in_flight old new = new ≡ old
-StopsFetching true memory any_in_flight old new = StopsAtEntry memory (head_entry memory (registers_of old)) any_in_flight old new
+abbrev pub StopsFetching : {C : Type 0} {c : Cache C} → Bool → List (List ℕ) → Iommu C c → Iommu C c → Type 0
+StopsFetching false memory old new = new ≡ old
+StopsFetching true memory old new = StopsAtEntry memory (head_entry memory (registers_of old)) old new
 
--- a fetch by its answer, where this says whether an access of any device is in flight
-abbrev pub FetchesWhere : Bool → List (List ℕ) → Iommu → Fetched → List (List ℕ) → Iommu → Type 0
-FetchesWhere any_in_flight memory iommu (Did command) new_memory new_iommu =
+-- THE RELATION of a fetch, by its answer: memory and IOMMU before, the answer, memory and IOMMU after
+abbrev pub FetchesCommand : {C : Type 0} {c : Cache C} → List (List ℕ) → Iommu C c → Fetched → List (List ℕ) → Iommu C c → Type 0
+FetchesCommand memory iommu (Did command) new_memory new_iommu =
     (is_processing_commands (registers_of iommu) ≡ true)
     × (head_entry memory (registers_of iommu) ≡ Some (stands.Command command))
-    × (must_wait command any_in_flight ≡ false)
+    × (must_wait command (flights_of iommu) (counted_in iommu) ≡ false)
     × IsStorable memory (store_of command)
     × (new_memory ≡ with_store memory (store_of command))
     × IsLeft command iommu new_iommu
-FetchesWhere any_in_flight memory iommu Waiting new_memory new_iommu =
+FetchesCommand memory iommu Waiting new_memory new_iommu =
     (is_processing_commands (registers_of iommu) ≡ true)
-    × WaitsAt (head_entry memory (registers_of iommu)) any_in_flight
-    × (new_memory ≡ memory) × (new_iommu ≡ iommu)
-FetchesWhere any_in_flight memory iommu Empty new_memory new_iommu =
+    × WaitsAt (head_entry memory (registers_of iommu)) (flights_of iommu) (counted_in iommu)
+    × (new_memory ≡ memory) × (new_iommu ≡ with_registers iommu (registers_of iommu) (Some (counted_in iommu)))
+FetchesCommand memory iommu Empty new_memory new_iommu =
     (is_processing_commands (registers_of iommu) ≡ true)
     × (head_entry memory (registers_of iommu) ≡ None)
     × (new_memory ≡ memory) × (new_iommu ≡ iommu)
-FetchesWhere any_in_flight memory iommu Stopped new_memory new_iommu =
-    StopsFetching (is_processing_commands (registers_of iommu)) memory any_in_flight iommu new_iommu
+FetchesCommand memory iommu Stopped new_memory new_iommu =
+    StopsFetching (is_processing_commands (registers_of iommu)) memory iommu new_iommu
     × (new_memory ≡ memory)
 
--- THE RELATION of a fetch, by its answer: memory and IOMMU before, the answer, memory and IOMMU after
-abbrev pub FetchesCommand : List (List ℕ) → Iommu → Fetched → List (List ℕ) → Iommu → Type 0
-FetchesCommand memory iommu answer new_memory new_iommu =
-    FetchesWhere (some_in_flight (flights_of iommu)) memory iommu answer new_memory new_iommu
-
--- two that have the same registers, the same contexts cached, the same accesses in flight and as many frames
-pub record AreAlike (one other : Iommu) : Type 0 where
+-- two that have the same registers, the same contexts and translations cached, the same accesses in flight, of which the fence at the head
+-- counted as many, and as many frames
+pub record AreAlike {C : Type 0} {c : Cache C} (one other : Iommu C c) : Type 0 where
   pub registers : registers_of one ≡ registers_of other
   pub contexts : IsSameContent (contexts_of one) (contexts_of other)
+  pub translations : Stays (translations_of one) (translations_of other)
+  pub stock : stock_of one ≡ stock_of other
   pub flights : flights_of one ≡ flights_of other
   pub frames : frames_of one ≡ frames_of other

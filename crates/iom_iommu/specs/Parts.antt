@@ -1,57 +1,77 @@
 -- The parts of the IOMMU, and what a write of software to its registers leaves of it (IOMMU specification, chapter 5).
-use Rattle.std.specs.Prelude.{◌≡◌, ℕ, Bool}
+use Rattle.std.specs.Prelude.{◌≡◌, ℕ, Bool, Option, None, if◌then◌else◌}
 use Rattle.iom_registers.specs.declared.register.Register.{Register}
 use Rattle.iom_registers.specs.declared.registers.Registers.{Registers}
 use Rattle.iom_registers.specs.declared.mmio.Mmio.{Ghosts}
 use Rattle.iom_registers.specs.Table.{written, at_power_on}
+use Rattle.iom_registers.specs.Queues.{is_command_queue_on}
 use Rattle.iom_device_dir.specs.declared.context.Context.{Context}
 use Rattle.iom_device_dir.specs.Cached.{cached_contexts}
 use Rattle.iom_device_dir.specs.Contents.{Content, IsEmptyContent}
 use Rattle.iom_inflight.specs.Flights.{Flights, no_flights, IsAdded as IsAddedTo}
 use Rattle.iom_inflight.specs.Calls.{Adds}
+use Rattle.iom_tlb.specs.declared.trans_cache.TransCache.{Ghosts as Cache}
+use Rattle.iom_tlb.specs.Content.{Content as Translations, HasNothing}
 use Rattle.iom_iommu.specs.declared.iommu.Iommu.{Iommu}
 
-abbrev pub registers_of : Iommu → Registers
+abbrev pub registers_of : {C : Type 0} {c : Cache C} → Iommu C c → Registers
 registers_of iommu = iommu.registers
 
 -- the contexts that are cached, by device id
-abbrev pub contexts_of : Iommu → Content ℕ Context
+abbrev pub contexts_of : {C : Type 0} {c : Cache C} → Iommu C c → Content ℕ Context
 contexts_of iommu = cached_contexts iommu.contexts
 
+-- the translations that are cached, by page of an address space
+abbrev pub translations_of : {C : Type 0} {c : Cache C} → Iommu C c → Translations
+translations_of {c = c} iommu = c.content iommu.translations
+
 -- the accesses in flight
-abbrev pub flights_of : Iommu → Flights
+abbrev pub flights_of : {C : Type 0} {c : Cache C} → Iommu C c → Flights
 flights_of iommu = iommu.in_flight
 
+-- how many accesses were accepted when the fence at the head was first fetched, if it was
+abbrev pub stock_of : {C : Type 0} {c : Cache C} → Iommu C c → Option ℕ
+stock_of iommu = iommu.stock
+
 -- how many frames the memory has that its calls are lent
-abbrev pub frames_of : Iommu → ℕ
+abbrev pub frames_of : {C : Type 0} {c : Cache C} → Iommu C c → ℕ
 frames_of iommu = iommu.frames
 
 -- the device was added
-abbrev pub IsAdded : Iommu → ℕ → Type 0
+abbrev pub IsAdded : {C : Type 0} {c : Cache C} → Iommu C c → ℕ → Type 0
 IsAdded iommu id = IsAddedTo (flights_of iommu) id
 
--- the IOMMU with other registers
-abbrev pub with_registers : Iommu → Registers → Iommu
-with_registers iommu registers = record iommu { registers = registers }
+-- the IOMMU with other registers, where the fence at the head counted so many accesses
+abbrev pub with_registers : {C : Type 0} {c : Cache C} → Iommu C c → Registers → Option ℕ → Iommu C c
+with_registers iommu registers stock = record iommu { registers = registers; stock = stock }
 
 -- at power-on, beside a memory of so many frames
-pub record IsAtPowerOn (count : ℕ) (iommu : Iommu) : Type 0 where
+pub record IsAtPowerOn {C : Type 0} {c : Cache C} (count : ℕ) (iommu : Iommu C c) : Type 0 where
   pub registers : registers_of iommu ≡ at_power_on
   pub contexts : IsEmptyContent (contexts_of iommu)
+  pub translations : HasNothing (translations_of iommu)
   pub flights : flights_of iommu ≡ no_flights
+  pub stock : stock_of iommu ≡ None
   pub frames : frames_of iommu ≡ count
 
 -- a device is added, unless it is there or 16 are
-pub record AddsDevice (old : Iommu) (id : ℕ) (added : Bool) (new : Iommu) : Type 0 where
+pub record AddsDevice {C : Type 0} {c : Cache C} (old : Iommu C c) (id : ℕ) (added : Bool) (new : Iommu C c) : Type 0 where
   pub flights : Adds (flights_of old) id added (flights_of new)
   pub registers : registers_of new ≡ registers_of old
   pub contexts : new.contexts ≡ old.contexts
+  pub translations : new.translations ≡ old.translations
+  pub stock : stock_of new ≡ stock_of old
   pub frames : frames_of new ≡ frames_of old
 
+-- what the fence at the head counted is given up where the command queue is off
+abbrev pub stock_after : Registers → Option ℕ → Option ℕ
+stock_after registers stock = if is_command_queue_on registers then stock else None
+
 -- the whole of it after a write of a register
-abbrev pub after_write : Iommu → Register → ℕ → Iommu
-after_write iommu register value = with_registers iommu (written iommu.registers register value)
+abbrev pub after_write : {C : Type 0} {c : Cache C} → Iommu C c → Register → ℕ → Iommu C c
+after_write iommu register value =
+    let registers = written iommu.registers register value in with_registers iommu registers (stock_after registers iommu.stock)
 
 -- the IOMMU as what has registers: what `impl Mmio for Iommu` says
-abbrev pub mmio : Ghosts Iommu
+abbrev pub mmio : {C : Type 0} {c : Cache C} → Ghosts (Iommu C c)
 mmio = record { registers = registers_of; after = after_write }

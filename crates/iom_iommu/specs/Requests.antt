@@ -10,36 +10,39 @@ use Rattle.iom_inflight.specs.Calls.{IsAccepted, IsFull, HasRoom, Makes}
 use Rattle.iom_iommu.specs.declared.iommu.Iommu.{Iommu}
 use Rattle.iom_iommu.specs.declared.reply.Reply.{Reply}
 use Rattle.iom_iommu.specs.declared.reply.Reply.TheVariants.{Accepted, Busy, Fault, BadSpan}
-use Rattle.iom_iommu.specs.Parts.{registers_of, contexts_of, flights_of, frames_of}
-use Rattle.iom_iommu.specs.Service.{IsServed, KeepsContext}
+use Rattle.iom_tlb.specs.declared.trans_cache.TransCache.{Ghosts as Cache}
+use Rattle.iom_iommu.specs.Parts.{registers_of, contexts_of, translations_of, flights_of, stock_of, frames_of}
+use Rattle.iom_iommu.specs.Service.{Serves, KeepsContext}
 
 -- the access of so many bytes from an address on, with the bytes of a write
 abbrev pub access_of : ℕ → ℕ → AccessKind → List ℕ → Access
 access_of address len kind bytes = record { address = address; len = len; kind = kind; bytes = bytes }
 
 -- the access is translated to a frame, and goes last in the device's row with this number
-pub record AcceptsRequest (memory : List (List ℕ)) (old : Iommu) (id : ℕ) (access : Access) (number : ℕ) (new : Iommu) : Type 0 where
+pub record AcceptsRequest {C : Type 0} {c : Cache C} (memory : List (List ℕ)) (old : Iommu C c) (id : ℕ) (access : Access) (number : ℕ) (new : Iommu C c) : Type 0 where
   pub within : IsWithinPage access
   pub frame : ℕ
-  pub served : IsServed memory (registers_of old) (contexts_of old) id access.address access.kind (Ok frame)
+  pub served : Serves c.SURE memory (registers_of old) (contexts_of old) id access.address access.kind (translations_of old) (Ok frame) (translations_of new)
   pub inside : frame < frames_of old
   pub accepted : IsAccepted (flights_of old) id (record { access = access; frame = frame }) number (flights_of new)
   pub contexts : KeepsContext memory (registers_of old) (contexts_of old) id (contexts_of new)
   pub registers : registers_of new ≡ registers_of old
+  pub stock : stock_of new ≡ stock_of old
   pub frames : frames_of new ≡ frames_of old
 
 -- the access isn't translated, for this cause. No fault record is written yet
-pub record RefusesRequest (memory : List (List ℕ)) (old : Iommu) (id : ℕ) (access : Access) (cause : Cause) (new : Iommu) : Type 0 where
+pub record RefusesRequest {C : Type 0} {c : Cache C} (memory : List (List ℕ)) (old : Iommu C c) (id : ℕ) (access : Access) (cause : Cause) (new : Iommu C c) : Type 0 where
   pub within : IsWithinPage access
   pub room : HasRoom (flights_of old) id
-  pub served : IsServed memory (registers_of old) (contexts_of old) id access.address access.kind (Err cause)
+  pub served : Serves c.SURE memory (registers_of old) (contexts_of old) id access.address access.kind (translations_of old) (Err cause) (translations_of new)
   pub contexts : KeepsContext memory (registers_of old) (contexts_of old) id (contexts_of new)
   pub flights : flights_of new ≡ flights_of old
   pub registers : registers_of new ≡ registers_of old
+  pub stock : stock_of new ≡ stock_of old
   pub frames : frames_of new ≡ frames_of old
 
 -- A DEVICE ASKS for an access: the first that applies is its answer
-abbrev pub AnswersRequest : List (List ℕ) → Iommu → ℕ → Access → Reply → Iommu → Type 0
+abbrev pub AnswersRequest : {C : Type 0} {c : Cache C} → List (List ℕ) → Iommu C c → ℕ → Access → Reply → Iommu C c → Type 0
 AnswersRequest memory old id access BadSpan new = (¬ IsWithinPage access) × (new ≡ old)
 AnswersRequest memory old id access Busy new = IsWithinPage access × IsFull (flights_of old) id × (new ≡ old)
 AnswersRequest memory old id access (Accepted number) new = AcceptsRequest memory old id access number new
@@ -51,8 +54,10 @@ pub record IsWithinFrame (frames : ℕ) (made : MadeAt) : Type 0 where
   pub within : made.offset + made.len ≤ page_size
 
 -- THE OLDEST ACCESS of a device is made, if there is one
-pub record CommitsOldest (memory : List (List ℕ)) (old : Iommu) (id : ℕ) (made : Option MadeAt) (new_memory : List (List ℕ)) (new : Iommu) : Type 0 where
+pub record CommitsOldest {C : Type 0} {c : Cache C} (memory : List (List ℕ)) (old : Iommu C c) (id : ℕ) (made : Option MadeAt) (new_memory : List (List ℕ)) (new : Iommu C c) : Type 0 where
   pub makes : Makes memory (flights_of old) id made new_memory (flights_of new)
   pub contexts : new.contexts ≡ old.contexts
+  pub translations : new.translations ≡ old.translations
   pub registers : registers_of new ≡ registers_of old
+  pub stock : stock_of new ≡ stock_of old
   pub frames : frames_of new ≡ frames_of old

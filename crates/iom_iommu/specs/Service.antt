@@ -1,6 +1,8 @@
--- How a transaction is translated, and which context is cached for it (IOMMU specification, section 2.3, "Process to translate an IOVA").
-use Rattle.std.specs.Prelude.{◌≡◌, ℕ, ◌/◌, nat_lt, List, length, Option, None, Some, Result, Ok, Err, if◌then◌else◌}
+-- How a transaction is translated, and what is cached for it (IOMMU specification, section 2.3, "Process to translate an IOVA", and section
+-- 2.8, "Caching in-memory data structures").
+use Rattle.std.specs.Prelude.{◌≡◌, ℕ, ◌/◌, nat_lt, Bool, List, length, Option, None, Some, Result, Ok, Err, if◌then◌else◌}
 use Rattle.iom_base.specs.Causes.{access_fault_of}
+use Rattle.iom_base.specs.Rights.{allows}
 use Rattle.iom_base.specs.Sizes.{page_size}
 use Rattle.iom_base.specs.declared.access.AccessKind.{AccessKind}
 use Rattle.iom_base.specs.declared.cause.Cause.{Cause}
@@ -16,6 +18,9 @@ use Rattle.iom_device_dir.specs.declared.stages.FirstStage.{FirstStage}
 use Rattle.iom_device_dir.specs.declared.stages.FirstStage.TheVariants.{Bare, Sv39}
 use Rattle.iom_device_dir.specs.Contents.{Content, IsSameContent, KeepsOne}
 use Rattle.iom_device_dir.specs.Located.{located_context}
+use Rattle.iom_tlb.specs.declared.space.Space.TheVariants as space
+use Rattle.iom_tlb.specs.declared.trans_cache.Translation.{Translation}
+use Rattle.iom_tlb.specs.Content.{Key, Content as Translations, Stays, Keeps}
 
 -- the cached context; where there is none, the one that the directory has
 abbrev pub found_context : Option Context → Result Context Cause → Result Context Cause
@@ -31,34 +36,56 @@ abbrev pub own_page : List (List ℕ) → ℕ → AccessKind → Result ℕ Caus
 own_page memory address kind =
     if nat_lt (address / page_size) (length memory) then Ok (address / page_size) else Err (access_fault_of kind)
 
--- the walk from the root reaches this frame, or stops with this cause
-abbrev pub IsWalked : List (List ℕ) → ℕ → ℕ → AccessKind → Result ℕ Cause → Type 0
-IsWalked memory root address kind (Ok frame) =
+-- the page of a context's address space: there is no second stage yet, and the first is named by the context's PSCID
+abbrev pub key_of : Context → ℕ → Key
+key_of context address = (space.First context.pscid.number, address / page_size)
+
+-- the frame of a cached translation, where its right allows the access: one with too small a right isn't used
+abbrev pub cached_frame : Option Translation → AccessKind → Option ℕ
+cached_frame None kind = None
+cached_frame (Some translation) kind = if allows translation.rights kind then Some translation.frame else None
+
+-- what is kept of a walk
+abbrev pub translation_of : Walked → Translation
+translation_of walked = record { frame = walked.frame; rights = walked.rights }
+
+-- the walk from the root reaches this frame, and its translation is kept; or it stops with this cause, and nothing is kept
+abbrev pub Walks : Bool → List (List ℕ) → ℕ → ℕ → AccessKind → Key → Translations → Result ℕ Cause → Translations → Type 0
+Walks sure memory root address kind key old (Ok frame) new =
     (walked : Walked) × ReachesFirst first_levels memory root address kind walked × (frame ≡ walked.frame)
-IsWalked memory root address kind (Err cause) = StopsAt first_levels memory root address kind cause
+    × Keeps sure old key (translation_of walked) new
+Walks sure memory root address kind key old (Err cause) new = StopsAt first_levels memory root address kind cause × Stays old new
 
--- to which frame a first stage leads the access, or the cause for which it leads to none
-abbrev pub IsTranslatedBy : List (List ℕ) → FirstStage → ℕ → AccessKind → Result ℕ Cause → Type 0
-IsTranslatedBy memory Bare address kind answer = answer ≡ own_page memory address kind
-IsTranslatedBy memory (Sv39 root) address kind answer = IsWalked memory root.number address kind answer
+-- by the frame of a cached translation, if there is one; else by the walk
+abbrev pub LooksOrWalks : Bool → Option ℕ → List (List ℕ) → ℕ → ℕ → AccessKind → Key → Translations → Result ℕ Cause → Translations → Type 0
+LooksOrWalks sure (Some cached) memory root address kind key old answer new = (answer ≡ Ok cached) × Stays old new
+LooksOrWalks sure None memory root address kind key old answer new = Walks sure memory root address kind key old answer new
 
--- by the context that was found. There is no second stage yet: the one mode that is offered is Bare
-abbrev pub IsServedBy : Result Context Cause → List (List ℕ) → ℕ → AccessKind → Result ℕ Cause → Type 0
-IsServedBy (Ok context) memory address kind answer = IsTranslatedBy memory context.first_stage address kind answer
-IsServedBy (Err cause) memory address kind answer = answer ≡ Err cause
+-- by a first stage: where it is Bare, the address is that of memory, and nothing is cached
+abbrev pub Translates : Bool → FirstStage → List (List ℕ) → ℕ → AccessKind → Key → Translations → Result ℕ Cause → Translations → Type 0
+Translates sure Bare memory address kind key old answer new = (answer ≡ own_page memory address kind) × Stays old new
+Translates sure (Sv39 root) memory address kind key old answer new =
+    LooksOrWalks sure (cached_frame (old key) kind) memory root.number address kind key old answer new
+
+-- by the context that was found
+abbrev pub ServesBy : Bool → Result Context Cause → List (List ℕ) → ℕ → AccessKind → Translations → Result ℕ Cause → Translations → Type 0
+ServesBy sure (Ok context) memory address kind old answer new =
+    Translates sure context.first_stage memory address kind (key_of context address) old answer new
+ServesBy sure (Err cause) memory address kind old answer new = (answer ≡ Err cause) × Stays old new
 
 -- by ddtp's mode: no transaction is allowed, or none is translated, or each by its context
-abbrev pub IsServedIn : DirectoryMode → Result Context Cause → List (List ℕ) → ℕ → AccessKind → Result ℕ Cause → Type 0
-IsServedIn mode.Off found memory address kind answer = answer ≡ Err AllInboundDisallowed
-IsServedIn mode.Bare found memory address kind answer = answer ≡ own_page memory address kind
-IsServedIn mode.OneLevel found memory address kind answer = IsServedBy found memory address kind answer
-IsServedIn mode.TwoLevels found memory address kind answer = IsServedBy found memory address kind answer
-IsServedIn mode.ThreeLevels found memory address kind answer = IsServedBy found memory address kind answer
+abbrev pub ServesIn : Bool → DirectoryMode → Result Context Cause → List (List ℕ) → ℕ → AccessKind → Translations → Result ℕ Cause → Translations → Type 0
+ServesIn sure mode.Off found memory address kind old answer new = (answer ≡ Err AllInboundDisallowed) × Stays old new
+ServesIn sure mode.Bare found memory address kind old answer new = (answer ≡ own_page memory address kind) × Stays old new
+ServesIn sure mode.OneLevel found memory address kind old answer new = ServesBy sure found memory address kind old answer new
+ServesIn sure mode.TwoLevels found memory address kind old answer new = ServesBy sure found memory address kind old answer new
+ServesIn sure mode.ThreeLevels found memory address kind old answer new = ServesBy sure found memory address kind old answer new
 
--- THE ANSWER to an access of a device: the frame to which it is translated, or the cause for which it isn't
-abbrev pub IsServed : List (List ℕ) → Registers → Content ℕ Context → ℕ → ℕ → AccessKind → Result ℕ Cause → Type 0
-IsServed memory r content id address kind answer =
-    IsServedIn (directory_mode r) (context_for memory r content id) memory address kind answer
+-- THE ANSWER to an access of a device, with the translations that are cached before and after: the frame to which it is translated, or the cause
+-- for which it isn't. Whether the cache is sure says whether a keep may be refused
+abbrev pub Serves : Bool → List (List ℕ) → Registers → Content ℕ Context → ℕ → ℕ → AccessKind → Translations → Result ℕ Cause → Translations → Type 0
+Serves sure memory r contexts id address kind old answer new =
+    ServesIn sure (directory_mode r) (context_for memory r contexts id) memory address kind old answer new
 
 -- a context that was located is kept, where none was cached
 abbrev pub KeepsLocated : Option Context → Result Context Cause → Content ℕ Context → ℕ → Content ℕ Context → Type 0

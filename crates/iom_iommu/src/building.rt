@@ -2,6 +2,7 @@
 ghost use Rattle.std.specs.Prelude.{◌≡◌, refl, IfOk, is_some};
 ghost use Rattle.iom_inflight.specs.Flights.{row_of};
 ghost use Rattle.iom_inflight.specs.Sound.{AreFlights, AreRowsIn};
+ghost use Rattle.iom_tlb.specs.Content.{HasNothing};
 ghost use Rattle.iom_iommu.specs.Parts.{IsAtPowerOn, AddsDevice, registers_of, flights_of, frames_of, after_write};
 
 use crate::iommu::Iommu;
@@ -9,22 +10,28 @@ use iom_base::DeviceId;
 use iom_device_dir::DirCache;
 use iom_inflight::InFlight;
 use iom_registers::{Mmio, RegFault, Register, Registers};
+use iom_tlb::TransCache;
 use std::alloc::{AllocError, Global};
 
-impl Iommu {
-    /// The IOMMU at power-on, beside a memory of so many frames. Takes its memory here, but for the contexts
-    /// that it caches.
-    pub fn new(alloc: Global, frames: u32) -> Result<Iommu, AllocError>
+impl<C: TransCache + Drop> Iommu<C> {
+    /// The IOMMU at power-on, beside a memory of so many frames, over a cache that has nothing. Takes its
+    /// memory here, but for the contexts and translations that it caches.
+    pub fn new(alloc: Global, frames: u32, translations: C) -> Result<Iommu<C>, AllocError>
+        requires { HasNothing (C.content translations) }
         ensures { IfOk result (IsAtPowerOn frames) }
     {
         Ok(Iommu {
             registers: Registers::new(),
             contexts: DirCache::new(alloc)?,
+            translations,
             in_flight: InFlight::new(alloc)?,
+            stock: None,
             frames,
         })
     }
+}
 
+impl<C: TransCache> Iommu<C> {
     /// A device that may make requests. False exactly where it was added or 16 were, and then nothing
     /// changes.
     pub fn add(&mut self, device: DeviceId) -> bool
@@ -63,8 +70,9 @@ impl Iommu {
     }
 }
 
-/// Nothing follows a write but what the table of the registers says.
-impl Mmio for Iommu {
+/// What follows a write is what the table of the registers says; and where the queue is off after it, what a
+/// fence at its head had counted is given up.
+impl<C: TransCache> Mmio for Iommu<C> {
     ghost registers = { registers_of };
 
     ghost after = { after_write };
@@ -78,6 +86,9 @@ impl Mmio for Iommu {
     fn write(&mut self, offset: u64, width: u32, value: u64) -> Result<(), RegFault> {
         let register = Register::at(offset, width)?;
         self.registers.set(register, value);
+        if !self.registers.is_command_queue_on() {
+            self.stock = None;
+        }
         Ok(())
     }
 }

@@ -3,20 +3,33 @@ ghost use Rattle.std.specs.Prelude.{◌≡◌, true, Some, length};
 ghost use Rattle.iom_registers.specs.Queues.{is_processing_commands};
 ghost use Rattle.iom_device_dir.specs.Cached.{cached_contexts};
 ghost use Rattle.iom_iommu.specs.Parts.{registers_of, frames_of};
-ghost use Rattle.iom_iommu.specs.Fetches.{FetchesCommand, must_wait, store_of, asks_for_interrupt, Stores, head_entry, DropsContexts};
+ghost use Rattle.iom_iommu.specs.Fetches.{FetchesCommand, must_wait, are_waited_for, counted_in, store_of, asks_for_interrupt, Stores, head_entry, DropsContexts};
 
 use crate::fetched::Fetched;
 use crate::iommu::Iommu;
+use iom_base::AccessKind;
 use iom_command_queue::{Command, CommandRing, FenceStore, QueueEntry};
 use iom_device_dir::DirCache;
+use iom_inflight::InFlight;
 use iom_phys_mem::{Bytes, Memory};
+use iom_tlb::{TransCache, invalidate};
 
-/// Whether the command has to wait, where `any_in_flight` says that an access is in flight.
-fn must_wait(command: &Command, any_in_flight: bool) -> bool
-    ensures { result ≡ must_wait command.now any_in_flight }
+/// Whether one of the first so many accesses, of the kind, isn't made.
+fn are_waited_for(in_flight: &InFlight, before: u64, kind: AccessKind) -> bool
+    ensures { result ≡ are_waited_for in_flight.now before kind }
+{
+    !in_flight.drained(before, kind)
+}
+
+/// Whether the command has to wait, where so many accesses were accepted before it.
+fn must_wait(command: &Command, in_flight: &InFlight, before: u64) -> bool
+    ensures { result ≡ must_wait command.now in_flight.now before }
 {
     match *command {
-        Command::IofenceC { pr, pw, .. } => (pr || pw) && any_in_flight,
+        Command::IofenceC { pr, pw, .. } => {
+            (pr && are_waited_for(in_flight, before, AccessKind::Read))
+                || (pw && are_waited_for(in_flight, before, AccessKind::Write))
+        }
         Command::IotinvalVma { .. } | Command::IotinvalGvma { .. } => false,
         Command::IodirInvalDdt { .. } | Command::AtsInval { .. } => false,
     }
@@ -71,10 +84,11 @@ fn drop_contexts(contexts: &mut DirCache, command: &Command)
     }
 }
 
-impl Iommu {
+impl<C: TransCache> Iommu<C> {
     /// Takes the command at the head from memory and does it.
     ///
-    /// The head stays, and memory with it, unless the answer is `Did`. A fetch that finds an illegal
+    /// The head stays, and memory with it, unless the answer is `Did`. A fence with PR or PW waits for the
+    /// accesses that were accepted before its first fetch, and for no later ones. A fetch that finds an illegal
     /// command sets `cmd_ill`. One that can't load the command, or not store a fence's word, sets `cqmf`.
     /// These two answer `Stopped`, and so does each fetch until software clears the bit.
     pub fn fetch(&mut self, memory: &mut Memory) -> Fetched
@@ -98,25 +112,37 @@ impl Iommu {
         }
     }
 
+    /// How many accesses were accepted before the command at the head was first fetched.
+    fn counted(&self) -> u64
+        ensures { result ≡ counted_in self.now }
+    {
+        self.stock.unwrap_or(self.in_flight.so_far())
+    }
+
     /// Does the command that stands at the head, unless it has to wait.
     fn take(&mut self, memory: &mut Memory, command: Command) -> Fetched
         requires on { is_processing_commands (registers_of self.old) ≡ true }
         requires stands { head_entry memory.old (registers_of self.old) ≡ Some (QueueEntry.Command command) }
         ensures { FetchesCommand memory.old self.old result memory.new self.new }
     {
-        if must_wait(&command, self.in_flight.is_any()) {
+        let before = self.counted();
+        if must_wait(&command, &self.in_flight, before) {
+            self.stock = Some(before);
             return Fetched::Waiting;
         }
         let word = store_of(&command);
         if !store(memory, word) {
+            self.stock = Some(before);
             self.registers.set_cqmf();
             return Fetched::Stopped;
         }
+        self.stock = None;
         CommandRing::advance(&mut self.registers);
         if asks_for_interrupt(&command) {
             self.registers.set_fence_w_ip();
         }
         drop_contexts(&mut self.contexts, &command);
+        invalidate(&mut self.translations, &command);
         Fetched::Did(command)
     }
 }

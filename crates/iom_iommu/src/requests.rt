@@ -15,6 +15,7 @@ use crate::service::serve;
 use iom_base::{AccessKind, DeviceId, Span};
 use iom_inflight::{InFlight, MadeAt};
 use iom_phys_mem::Memory;
+use iom_tlb::TransCache;
 
 /// The access of the device, whose row stands at this place and has room, is accepted: its number among the
 /// device's.
@@ -42,7 +43,7 @@ fn accept(
     number.unwrap()
 }
 
-impl Iommu {
+impl<C: TransCache> Iommu<C> {
     /// A device that was added asks for an access of so many bytes at the address: of a write these are the
     /// bytes. Its reply is the first that applies: `BadSpan`, `Busy`, and what becomes of it when it is
     /// translated, `Accepted` with its number among the device's or `Fault`. An access that is accepted is
@@ -73,6 +74,7 @@ impl Iommu {
             memory,
             &self.registers,
             &mut self.contexts,
+            &mut self.translations,
             device,
             address,
             kind,

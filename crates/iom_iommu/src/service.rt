@@ -1,16 +1,20 @@
 // A transaction is translated (IOMMU specification, section 2.3, "Process to translate an IOVA").
-ghost use Rattle.std.specs.Prelude.{◌≡◌, ◌≢◌, ◌<◌, length, IfOk, None};
+ghost use Rattle.std.specs.Prelude.{◌≡◌, ◌≢◌, ◌<◌, ◌/◌, length, IfOk, None};
 ghost use Rattle.iom_registers.specs.Queues.{directory_mode};
 ghost use Rattle.iom_registers.specs.declared.directory.DirectoryMode.TheVariants.{Off, Bare};
 ghost use Rattle.iom_device_dir.specs.Cached.{cached_contexts};
 ghost use Rattle.iom_device_dir.specs.Located.{located_context};
-ghost use Rattle.iom_iommu.specs.Service.{own_page, IsWalked, IsTranslatedBy, context_for, KeepsLocated, IsServed, KeepsContext};
+ghost use Rattle.iom_base.specs.Sizes.{page_size};
+ghost use Rattle.iom_tlb.specs.Content.{Stays};
+ghost use Rattle.iom_iommu.specs.Cached.{AreTranslationsIn};
+ghost use Rattle.iom_iommu.specs.Service.{own_page, key_of, cached_frame, Walks, Translates, context_for, KeepsLocated, Serves, KeepsContext};
 
 use iom_base::{AccessKind, Cause, DeviceId, PAGE_SIZE};
 use iom_device_dir::{Context, DirCache, FirstStage, locate};
 use iom_phys_mem::{Bytes, Memory};
 use iom_registers::{DirectoryMode, DirectoryPointer, Registers};
-use iom_stage_walk::walk_first;
+use iom_stage_walk::{Walked, walk_first};
+use iom_tlb::{Space, TransCache, Translation};
 
 /// The frame of the address itself.
 fn own_page(memory: &Memory, address: u64, kind: AccessKind) -> Result<u32, Cause>
@@ -24,30 +28,69 @@ fn own_page(memory: &Memory, address: u64, kind: AccessKind) -> Result<u32, Caus
     Ok(page as u32)
 }
 
-/// The frame that the walk from the root reaches.
-fn walk(memory: &Memory, root: u64, address: u64, kind: AccessKind) -> Result<u32, Cause>
-    ensures walked { IsWalked memory.now root address kind result }
+/// The frame that the walk from the root reaches. Its translation is kept for the page of the address space; where
+/// the walk stops, nothing is.
+fn walk<C: TransCache>(
+    memory: &Memory,
+    root: u64,
+    address: u64,
+    kind: AccessKind,
+    space: Space,
+    translations: &mut C,
+) -> Result<u32, Cause>
+    ensures walked { Walks C.SURE memory.now root address kind (space, address / page_size) (C.content translations.old) result (C.content translations.new) }
     ensures inside { IfOk result (λ frame. frame < length memory.now) }
 {
     match walk_first(memory, root, address, kind) {
-        Ok(walked) => Ok(walked.frame),
+        Ok(Walked { frame, rights, .. }) => {
+            translations.keep(space, address / PAGE_SIZE, Translation { frame, rights });
+            Ok(frame)
+        }
         Err(fault) => Err(fault.cause),
     }
 }
 
-/// The frame to which the first stage leads.
-fn translate(
+/// The frame that is cached for the page, where its right allows the access.
+fn find_cached<C: TransCache>(
+    translations: &mut C,
+    space: Space,
+    page: u64,
+    kind: AccessKind,
+) -> Option<u32>
+    ensures found { result ≡ cached_frame (C.content translations.old (space, page)) kind }
+    ensures stays { Stays (C.content translations.old) (C.content translations.new) }
+{
+    let cached = translations.look(space, page)?;
+    if cached.rights.allows(kind) {
+        Some(cached.frame)
+    } else {
+        None
+    }
+}
+
+/// The frame to which the first stage of the context leads.
+fn translate<C: TransCache>(
     memory: &Memory,
-    stage: FirstStage,
+    context: &Context,
     address: u64,
     kind: AccessKind,
+    translations: &mut C,
 ) -> Result<u32, Cause>
-    ensures translated { IsTranslatedBy memory.now stage address kind result }
+    requires { AreTranslationsIn (length memory.now) (C.content translations.old) }
+    ensures translated { Translates C.SURE context.now.first_stage memory.now address kind (key_of context.now address) (C.content translations.old) result (C.content translations.new) }
     ensures inside { IfOk result (λ frame. frame < length memory.now) }
 {
-    match stage {
+    let space = Space::First {
+        pscid: context.pscid.number(),
+    };
+    match context.first_stage {
         FirstStage::Bare => own_page(memory, address, kind),
-        FirstStage::Sv39(root) => walk(memory, root.number(), address, kind),
+        FirstStage::Sv39(root) => {
+            match find_cached(translations, space, address / PAGE_SIZE, kind) {
+                Some(frame) => Ok(frame),
+                None => walk(memory, root.number(), address, kind, space, translations),
+            }
+        }
     }
 }
 
@@ -89,17 +132,19 @@ fn find_context(
     }
 }
 
-/// The frame to which an access of the device is translated. The context that this finds in memory is
-/// cached, also where the translation then faults.
-pub(crate) fn serve(
+/// The frame to which an access of the device is translated. The context and the translation that this finds
+/// in memory are cached, the context also where the translation then faults.
+pub(crate) fn serve<C: TransCache>(
     memory: &Memory,
     registers: &Registers,
     contexts: &mut DirCache,
+    translations: &mut C,
     device: DeviceId,
     address: u64,
     kind: AccessKind,
 ) -> Result<u32, Cause>
-    ensures served { IsServed memory.now registers.now (cached_contexts contexts.old) device address kind result }
+    requires { AreTranslationsIn (length memory.now) (C.content translations.old) }
+    ensures served { Serves C.SURE memory.now registers.now (cached_contexts contexts.old) device address kind (C.content translations.old) result (C.content translations.new) }
     ensures kept { KeepsContext memory.now registers.now (cached_contexts contexts.old) device (cached_contexts contexts.new) }
     ensures inside { IfOk result (λ frame. frame < length memory.now) }
 {
@@ -108,7 +153,7 @@ pub(crate) fn serve(
         DirectoryMode::Bare => own_page(memory, address, kind),
         DirectoryMode::OneLevel | DirectoryMode::TwoLevels | DirectoryMode::ThreeLevels => {
             let context = find_context(memory, registers, contexts, device)?;
-            translate(memory, context.first_stage, address, kind)
+            translate(memory, &context, address, kind, translations)
         }
     }
 }

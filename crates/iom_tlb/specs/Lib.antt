@@ -3,3 +3,4 @@ pub mod Covers
 pub mod Invalidations
 pub mod Entries
 pub mod Laws
+pub mod Chosen

@@ -9,9 +9,10 @@
 //! a keep changes it at its page and takes out at most one other translation, a drop takes out exactly what a
 //! [`Cover`] covers. So a cache answers only what was kept there last and not taken out since
 //! ([`laws::answers_only_what_was_kept`]). [`invalidate`] does what a command asks. [`PlainCache`] is such a
-//! cache, of 64 translations.
+//! cache, of 64 translations, and [`Ioatc`] names the one that is in use.
 #![tactic(auto)]
 
+mod chosen;
 mod cover;
 mod entries;
 mod invalidation;
@@ -20,6 +21,7 @@ mod plain;
 mod space;
 mod trans_cache;
 
+pub use chosen::Ioatc;
 pub use cover::Cover;
 pub use invalidation::invalidate;
 pub use plain::{MAX_TRANSLATIONS, PlainCache};
