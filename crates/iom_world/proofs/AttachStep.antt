@@ -16,7 +16,7 @@ use Rattle.iom_driver.proofs.Chosen.{are_chosen}
 use Rattle.iom_driver.proofs.Lists.{get_set_same, get_set_other}
 use Rattle.iom_driver.proofs.Marks.{Among, among_contained, marked_among, marked_still, length-marked_for, length-cleared}
 use Rattle.iom_driver.proofs.Places.{attachment_set, attachment_other}
-use Rattle.iom_iommu.specs.declared.iommu.Iommu.{Iommu}
+use Rattle.iom_world.specs.OwnIommu.{Iommu}
 use Rattle.iom_iommu.specs.Parts.{flights_of}
 use Rattle.iom_ledger.specs.declared.refusal.Refusal.{Refusal}
 use Rattle.iom_ledger.specs.declared.refusal.Refusal.TheVariants.{NoFrames, NotStarted, NoSuchDevice, AlreadyAttached, IdTooWide}

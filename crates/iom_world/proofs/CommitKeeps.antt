@@ -16,6 +16,7 @@ use Rattle.iom_iommu.specs.Parts.{contexts_of, flights_of}
 use Rattle.iom_iommu.specs.Requests.{CommitsOldest}
 use Rattle.iom_machine.specs.declared.outcome.Outcome.{Outcome}
 use Rattle.iom_table_frames.specs.Marks.{is_marked}
+use Rattle.iom_tlb.specs.Chosen.{ioatc}
 use Rattle.iom_world.specs.Commits.{CommitsAccess, MakesOldest}
 use Rattle.iom_world.specs.Parts.{Parts}
 use Rattle.iom_world.specs.Read.{values_of, accesses_of}
@@ -24,7 +25,7 @@ use Rattle.iom_world.proofs.DriverLemmas.{IsSoundDriver}
 use Rattle.iom_world.proofs.PartsLemmas.{StaysReady}
 use Rattle.iom_world.proofs.RowLemmas.{made_among, row_ids_kept}
 use Rattle.iom_world.proofs.SceneSteps.{make_scene}
-use Rattle.iom_world.proofs.SoundFrom.{Leaves, sound_from, same_waiting, same_done, grants_kept, unmarked, owned_differs}
+use Rattle.iom_world.proofs.SoundFrom.{Leaves, sound_from, queue_kept, grants_kept, unmarked, owned_differs}
 
 -- what is true of the contexts stays, where they do and the driver's devices
 pub contexts_stay : (old new : Parts) → ContextsAreTrue old → contexts_of new.iommu ≡ contexts_of old.iommu → new.driver ≡ old.driver → ContextsAreTrue new
@@ -80,8 +81,8 @@ keeps_made old new events id made sound own stays leaves call so_far among =
     let contexts : contexts_of new.iommu ≡ contexts_of old.iommu = ap cached_contexts call.contexts in
     sound_from old new events sound own leaves events stays (subst (λ n. n ≤ events) (sym so_far) sound.counted)
     (contexts_stay old new sound.contexts contexts leaves.driver)
-    (λ has. make_scene (values_of old) (values_of new) (grants_kept old new events sound own leaves) (same_waiting old new events sound own leaves) (same_done old new events sound own leaves)
-    so_far among (λ d there. ap (λ c. is_some (c d)) (sym contexts) ∙ there) has)
+    (λ has. make_scene (values_of old) (values_of new) (grants_kept old new events sound own leaves) (queue_kept old new events sound own leaves call.stock)
+    so_far among (λ d there. ap (λ c. is_some (c d)) (sym contexts) ∙ there) (λ key translation at. ap (λ c. ioatc.content c key) (sym call.translations) ∙ at) has)
 
 -- a commit keeps the facts, whatever is told of it
 pub keeps_oldest : (old new : Parts) (events id : ℕ) (made : Option MadeAt) → AreSound old events → IsSoundDriver old.driver → StaysReady old.driver

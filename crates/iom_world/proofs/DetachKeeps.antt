@@ -14,6 +14,7 @@ use Rattle.iom_directory.specs.Written.{without_context}
 use Rattle.iom_driver.specs.declared.answers.Ticket as answers
 use Rattle.iom_driver.specs.declared.device.Attachment.TheVariants.{Attached, Leaving}
 use Rattle.iom_driver.specs.Appends.{context_invalidation, space_invalidation, fence}
+use Rattle.iom_driver.specs.declared.device.FirstStage.{FirstStage}
 use Rattle.iom_driver.specs.Devices.{attachment_of, is_plugged, owned_stage, owned_stage_of, with_attachment}
 use Rattle.iom_driver.specs.Directory.{context_for}
 use Rattle.iom_driver.specs.Layout.{completion_frame, completion_address, directory_frame}
@@ -39,10 +40,11 @@ use Rattle.iom_world.specs.Queued.{completed_in}
 use Rattle.iom_world.specs.Read.{values_of, accesses_of}
 use Rattle.iom_world.specs.Sound.{AreSound, known_ids, row_ids}
 use Rattle.iom_world.proofs.DeviceLemmas.{shown_set, plugged_set, ids_set, attachment_set, attachment_other}
+use Rattle.iom_world.proofs.CachedLemmas.{numbers_owned}
 use Rattle.iom_world.proofs.DriverKeeps.{attached_is}
 use Rattle.iom_world.proofs.DriverLemmas.{IsSoundDriver}
 use Rattle.iom_world.proofs.PollKeeps.{same_known}
-use Rattle.iom_world.proofs.ReleaseKeeps.{IsRung, rung_again, rung_leaves, next_small}
+use Rattle.iom_world.proofs.ReleaseKeeps.{rung_cached, IsRung, rung_again, rung_leaves, next_small}
 use Rattle.iom_world.proofs.SceneCalls.{QueuesTicket, detach_scene}
 use Rattle.iom_world.proofs.SoundLemmas.{completed_given, same_completed, LeavesWord, sound_from, none_at}
 
@@ -101,13 +103,35 @@ module _ (old new : Parts) (events id ticket : ℕ) (sound : AreSound old events
   abbrev commands : List QueueEntry
   commands = stands.Command (context_invalidation id) ∷ stands.Command (space_invalidation queues.stage.number) ∷ []
 
+  -- a leaving device has its stage still
+  owned_still : (other : ℕ) → owned_stage_of new.driver.devices other ≡ owned_stage_of old.driver.devices other
+  owned_still other =
+      ap (λ (s : DriverState). owned_stage_of s.devices other) queues.driver
+      ∙ elim (eqb_tells other id) [
+        | inl e ↦ ap (owned_stage_of (with_attachment old.driver.devices id (Leaving ticket queues.stage))) e.1
+            ∙ ap owned_stage (attachment_set old.driver.devices id (Leaving ticket queues.stage) plugged) ∙ sym (ap owned_stage was_attached) ∙ sym (ap (owned_stage_of old.driver.devices) e.1)
+        | inr ne ↦ ap owned_stage (attachment_other old.driver.devices id other (Leaving ticket queues.stage) ne.1)
+      ]
+
   queues_ticket : QueuesTicket (values_of old) (values_of new) commands (leave_commands id)
   queues_ticket =
       let low = completed_given old events sound in
       let before = sound.confirmed in
       record {
         ordered = omega (arith, low, before);
-        appended = (refl, (tt, tt));
+        appended = (
+          refl,
+          (
+            record {
+              number = queues.stage.number;
+              own = ap (λ a. option_map (λ (stage : FirstStage). stage.number) (owned_stage a)) was_attached;
+              host = refl;
+              space = refl;
+              extent_of = refl;
+            },
+            tt,
+          ),
+        );
         waiting = queues.list ∙ ap (λ t. commands_in old.memory (registers_of old.iommu)
             ++ stands.Command (context_invalidation id) ∷ stands.Command (space_invalidation queues.stage.number) ∷ stands.Command (fence (completion_address (length old.memory)) t) ∷ []) queues.next;
         address = ap completion_address leaves.size;
@@ -118,17 +142,8 @@ module _ (old new : Parts) (events id ticket : ℕ) (sound : AreSound old events
         in_flight = ap (λ f. accesses_of f.rows) rung.flights;
         unplugged = λ d none. sym (ap (λ (s : DriverState). is_plugged s.devices d) queues.driver ∙ plugged_set old.driver.devices id (Leaving ticket queues.stage) d) ∙ none;
         contexts = λ d is. sym (ap is_some (rung.contexts d)) ∙ is;
+        cached = rung_cached old new sound.processing rung (numbers_owned old.driver.devices new.driver.devices owned_still);
       }
-
-  -- a leaving device has its stage still
-  owned_still : (other : ℕ) → owned_stage_of new.driver.devices other ≡ owned_stage_of old.driver.devices other
-  owned_still other =
-      ap (λ (s : DriverState). owned_stage_of s.devices other) queues.driver
-      ∙ elim (eqb_tells other id) [
-        | inl e ↦ ap (owned_stage_of (with_attachment old.driver.devices id (Leaving ticket queues.stage))) e.1
-            ∙ ap owned_stage (attachment_set old.driver.devices id (Leaving ticket queues.stage) plugged) ∙ sym (ap owned_stage was_attached) ∙ sym (ap (owned_stage_of old.driver.devices) e.1)
-        | inr ne ↦ ap owned_stage (attachment_other old.driver.devices id other (Leaving ticket queues.stage) ne.1)
-      ]
 
   pub detached_sound : AreSound new events
   detached_sound =

@@ -11,7 +11,7 @@ use Rattle.iom_driver.specs.Layout.{command_frame, directory_frame}
 use Rattle.iom_driver.specs.Leaving.{QueuesDetach, IsToldOfDetach, DoesDetach}
 use Rattle.iom_driver.specs.State.{DriverState}
 use Rattle.iom_driver.proofs.Places.{attached_is, attached_there, attachment_set, attachment_other}
-use Rattle.iom_iommu.specs.declared.iommu.Iommu.{Iommu}
+use Rattle.iom_world.specs.OwnIommu.{Iommu}
 use Rattle.iom_iommu.specs.Parts.{mmio, registers_of, flights_of}
 use Rattle.iom_inflight.specs.Flights.{Flights}
 use Rattle.iom_ledger.specs.declared.refusal.Refusal.{Refusal}

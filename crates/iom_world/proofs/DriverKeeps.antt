@@ -40,8 +40,9 @@ use Rattle.iom_world.specs.Devices.{shown_attachment}
 use Rattle.iom_world.specs.Does.{AttachesDevice, GrantsPage, PollsTickets}
 use Rattle.iom_world.specs.Parts.{Parts}
 use Rattle.iom_world.specs.Queued.{completed_in}
-use Rattle.iom_world.specs.Read.{values_of, accesses_of}
+use Rattle.iom_world.specs.Read.{number_in, values_of, accesses_of}
 use Rattle.iom_world.specs.Sound.{AreSound, ContextsAreTrue, known_ids, row_ids}
+use Rattle.iom_world.proofs.CachedLemmas.{same_cached, numbers_same, none_numbered}
 use Rattle.iom_world.proofs.DeviceLemmas.{shown_set, plugged_set, ids_set, attachment_other, owns_nothing}
 use Rattle.iom_world.proofs.DriverLemmas.{IsSoundDriver}
 use Rattle.iom_world.proofs.HungKeeps.{AreZeros, AreOnce, hung_keeps}
@@ -182,6 +183,14 @@ module _ (old new : Parts) (events id : ℕ) (sound : AreSound old events) (own 
   owns_none : owned_stage_of old.driver.devices id ≡ None
   owns_none = none_of (owned_stage_of old.driver.devices id) (none_at (why_not_attach old.driver id) 2 _ AlreadyAttached refl admitted)
 
+  -- who has a number keeps it
+  numbers_attached : (other number : ℕ) → number_in old.driver.devices other ≡ Some number → number_in new.driver.devices other ≡ Some number
+  numbers_attached other number at = elim (eqb_tells other id) [
+    | inl e ↦ absurd (none_numbered old.driver.devices other number (ap (owned_stage_of old.driver.devices) e.1 ∙ owns_none) at)
+    | inr ne ↦ ap (λ (s : DriverState). number_in s.devices other) takes.driver
+        ∙ ap (λ a. option_map (λ (stage : FirstStage). stage.number) (owned_stage a)) (attachment_other old.driver.devices id other (Attached takes.stage) ne.1) ∙ at
+  ]
+
   attaches_detached : AttachesDetached (values_of old) (values_of new) id
   attaches_detached = record {
     detached = ap shown_attachment (owns_nothing (attachment_of old.driver.devices id) owns_none);
@@ -196,6 +205,7 @@ module _ (old new : Parts) (events id : ℕ) (sound : AreSound old events) (own 
     in_flight = ap (λ i. accesses_of (flights_of i).rows) iommu;
     unplugged = λ d none. sym (ap (λ (s : DriverState). is_plugged s.devices d) takes.driver ∙ plugged_set old.driver.devices id (Attached takes.stage) d) ∙ none;
     contexts = λ d is. ap (λ i. is_some (contexts_of i d)) (sym iommu) ∙ is;
+    cached = same_cached old new iommu numbers_attached;
   }
 
   -- nothing was cached for a device that had no stage
@@ -277,6 +287,7 @@ module _ (old new : Parts) (events id page frame : ℕ) (rights : GrantRights) (
         unplugged = λ d none. sym (ap (λ (s : DriverState). is_plugged s.devices d) takes.driver) ∙ none;
         attachments = λ d. ap (λ (s : DriverState). shown_attachment (attachment_of s.devices d)) takes.driver;
         contexts = λ d is. ap (λ i. is_some (contexts_of i d)) (sym iommu) ∙ is;
+        cached = same_cached old new iommu (numbers_same old.driver.devices new.driver.devices (ap (λ (d : DriverState). d.devices) takes.driver));
       }
 
   pub granted_sound : AreSound new events
@@ -307,6 +318,7 @@ roomy_sound old new events sound ready same memory iommu devices =
       unplugged = λ d none. sym (ap (λ (s : DriverState). is_plugged s.devices d) same.rest) ∙ none;
       attachments = λ d. ap (λ (s : DriverState). shown_attachment (attachment_of s.devices d)) same.rest;
       contexts = λ d is. ap (λ i. is_some (contexts_of i d)) (sym iommu) ∙ is;
+      cached = same_cached old new iommu (numbers_same old.driver.devices new.driver.devices (ap (λ (d : DriverState). d.devices) same.rest));
     } in
     sound_from old new events sound (record { size = size; word = word }) (same_iommu old new iommu) (ap (λ (d : DriverState). d.started) same.rest) ready
     (same_known old new devices (ap (λ (d : DriverState). known_ids d.devices) same.rest) (ap (λ i. row_ids (flights_of i).rows) iommu) sound.known)

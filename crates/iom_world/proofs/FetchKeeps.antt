@@ -1,5 +1,5 @@
 -- What stays true of a world when the IOMMU takes a command: a fence is done only while nothing is in flight, and stores its number.
-use Rattle.std.proofs.Common.{inl, inr, ◌≡◌, ◌==◌, ◌/◌, ◌^◌, ◌<◌, ◌≤◌, ◌&&◌, ◌∙◌, ℕ, Bool, true, false, not, nat_lt, nat_le, is_some, List, [], ◌∷◌, length, Option, Some, None, slice_get, suc, refl, sym, ap, subst, arith, if◌then◌else◌}
+use Rattle.std.proofs.Common.{inl, inr, ◌≡◌, ◌==◌, ◌/◌, ◌^◌, ◌<◌, ◌≤◌, ◌&&◌, ◌||◌, ◌∙◌, ℕ, Bool, true, false, not, nat_lt, nat_le, is_some, List, [], ◌∷◌, length, Option, Some, None, slice_get, suc, refl, sym, ap, subst, arith, if◌then◌else◌}
 use Rattle.std.specs.Option.{option_map_or}
 use Rattle.std.proofs.Math.Logic.{∥∥₁_map}
 use Rattle.std.proofs.lemmas.Bool.{false≢true, and_parts, eqb-true, eq-eqb, leb-true, le-leb}
@@ -23,12 +23,13 @@ use Rattle.iom_driver.specs.Ready.{IsRing}
 use Rattle.iom_driver.specs.State.{DriverState}
 use Rattle.iom_driver.proofs.Lists.{get_there}
 use Rattle.iom_driver.proofs.Ring.{in_ring}
-use Rattle.iom_inflight.specs.Flights.{Flights, some_in_flight}
+use Rattle.iom_base.specs.declared.access.AccessKind.TheVariants.{Read, Write}
+use Rattle.iom_inflight.specs.Flights.{Flights, are_drained}
 use Rattle.iom_iommu.specs.declared.fetched.Fetched.{Fetched}
 use Rattle.iom_iommu.specs.declared.fetched.Fetched.TheVariants.{Did, Waiting, Empty, Stopped}
-use Rattle.iom_iommu.specs.declared.iommu.Iommu.{Iommu}
-use Rattle.iom_iommu.specs.Fetches.{FetchesCommand, DropsContexts, must_wait, store_of, with_store, with_done, IsStorable, IsStoredIn, IsOffRing, StopsAtEntry, StopsFetching, head_entry}
-use Rattle.iom_iommu.specs.Parts.{registers_of, contexts_of, flights_of}
+use Rattle.iom_world.specs.OwnIommu.{Iommu}
+use Rattle.iom_iommu.specs.Fetches.{FetchesCommand, DropsContexts, DropsTranslations, counted_in, must_wait, WaitsAt, store_of, with_store, with_done, IsStorable, IsStoredIn, IsOffRing, StopsAtEntry, StopsFetching, head_entry}
+use Rattle.iom_iommu.specs.Parts.{registers_of, contexts_of, translations_of, flights_of, with_registers}
 use Rattle.iom_iommu.proofs.FetchLemmas.{takes_first, leaves_frames}
 use Rattle.iom_machine.specs.declared.outcome.Outcome.{Outcome}
 use Rattle.iom_phys_mem.specs.Words.{word_at, with_word}
@@ -39,14 +40,18 @@ use Rattle.iom_world.specs.Devices.{shown_attachment}
 use Rattle.iom_world.specs.Does.{FetchesNext}
 use Rattle.iom_world.specs.Parts.{Parts}
 use Rattle.iom_world.specs.Queued.{IsQueuedAs, AreQueuedAs, completed_in}
-use Rattle.iom_world.specs.Read.{values_of, accesses_of}
+use Rattle.iom_tlb.specs.declared.trans_cache.Translation.{Translation}
+use Rattle.iom_tlb.specs.Content.{Content as Translations}
+use Rattle.iom_tlb.specs.Covers.{are_covering}
+use Rattle.iom_tlb.specs.Invalidations.{covers_of}
+use Rattle.iom_world.specs.Read.{number_in, values_of, accesses_of}
 use Rattle.iom_world.specs.Scenes.{HasFaithfulScene}
 use Rattle.iom_world.specs.Sound.{AreSound, row_ids}
 use Rattle.iom_world.proofs.DriverLemmas.{IsSoundDriver}
 use Rattle.iom_world.proofs.PartsLemmas.{parts_are, StaysReady}
 use Rattle.iom_world.proofs.QueuedLemmas.{queued_first}
-use Rattle.iom_world.proofs.RowLemmas.{none_in_flight}
-use Rattle.iom_world.proofs.SceneSteps.{KeepsGrants, DoesFirst, done_after, CachedAfter, NothingIfFence, fetch_scene}
+use Rattle.iom_world.proofs.RowLemmas.{drained_after}
+use Rattle.iom_world.proofs.SceneSteps.{KeepsGrants, DoesFirst, CountsAtHead, done_after, CachedAfter, TranslationsAfter, DoneIfFence, fetch_scene, count_scene}
 
 -- whether what waits is a command of the driver's, a fence with a number from above the one to the other
 abbrev is_ours : ℕ → ℕ → ℕ → QueueEntry → Bool
@@ -64,15 +69,15 @@ rise_le low (Invalidate d extent ∷ later) high rise = rise_le low later high r
 rise_le low (Fence number ∷ later) high rise =
     let above = rise.0 in let rest = rise_le number later high rise.1 in omega (arith, above, rest)
 
-ours_queued : (address low given : ℕ) (entry : QueueEntry) (queued : QueuedCommand) (later : List QueuedCommand) → IsQueuedAs address entry queued
+ours_queued : (address low given : ℕ) (numbers : ℕ → Option ℕ) (entry : QueueEntry) (queued : QueuedCommand) (later : List QueuedCommand) → IsQueuedAs address numbers entry queued
     → FencesRise low (queued ∷ later) given → is_ours address low given entry ≡ true
-ours_queued address low given (Command (IotinvalVma gscid pscid page)) (DropTranslations device extent) later is rise = refl
-ours_queued address low given (Command (IofenceC store wsi pr pw)) (Fence number) later is rise =
+ours_queued address low given numbers (Command (IotinvalVma gscid pscid page)) (DropTranslations device extent) later is rise = refl
+ours_queued address low given numbers (Command (IofenceC store wsi pr pw)) (Fence number) later is rise =
     let above : low < number = rise.0 in
     subst (λ c. is_ours address low given (Command c) ≡ true) (sym is)
     (rw (eq-eqb address address refl, le-leb (suc low) number above, le-leb number given (rise_le number later given rise.1)) refl)
-ours_queued address low given (Command (IodirInvalDdt (Some id))) (DropContext device) later is rise = refl
-ours_queued address low given entry queued later is rise = absurd is
+ours_queued address low given numbers (Command (IodirInvalDdt (Some id))) (DropContext device) later is rise = refl
+ours_queued address low given numbers entry queued later is rise = absurd is
 
 -- what a command of the driver's is
 abbrev pub IsNext : ℕ → ℕ → ℕ → Commanded → Type 0
@@ -125,8 +130,8 @@ module _ (old : Parts) (events : ℕ) (sound : AreSound old events) where
   in_scene : (entry : QueueEntry) (rest : List QueueEntry) → commands_in old.memory (registers_of old.iommu) ≡ entry ∷ rest → HasFaithfulScene (values_of old)
       → is_ours (completion_address (length old.memory)) (completed_in old.memory) old.driver.given entry ≡ true
   in_scene entry rest at (scene, shows, facts) =
-      let first = queued_first place entry rest scene.waiting (subst (λ l. AreQueuedAs place l scene.waiting) at shows.waiting) in
-      ours_queued place done old.driver.given entry first.0 first.1 first.3
+      let first = queued_first place (number_in old.driver.devices) entry rest scene.waiting (subst (λ l. AreQueuedAs place (number_in old.driver.devices) l scene.waiting) at shows.waiting) in
+      ours_queued place done old.driver.given (number_in old.driver.devices) entry first.0 first.1 first.3
       (subst (λ n. FencesRise n (first.0 ∷ first.1) old.driver.given) shows.completed
       (subst (λ n. FencesRise scene.completed (first.0 ∷ first.1) n) shows.last_fence
       (subst (λ l. FencesRise scene.completed l scene.last_fence) first.2 facts.order.fences)))
@@ -252,20 +257,35 @@ cached_as (IodirInvalDdt (Some id)) old new drops = λ d there. elim (eqb_tells 
 cached_as (IotinvalGvma gscid page) old new drops = λ d there. ap is_some (sym (drops d)) ∙ there
 cached_as (AtsInval device range) old new drops = λ d there. ap is_some (sym (drops d)) ∙ there
 
--- a fence is done only where nothing is in flight
-idle_as : (command : Commanded) (flights : Flights) → must_wait command (some_in_flight flights) ≡ false → NothingIfFence command (accesses_of flights.rows)
-idle_as (IotinvalVma gscid pscid page) flights free = tt
-idle_as (IofenceC store wsi pr pw) flights free = λ address number same. none_in_flight flights (subst (λ c. must_wait c (some_in_flight flights) ≡ false) same free)
-idle_as (IodirInvalDdt device) flights free = tt
-idle_as (IotinvalGvma gscid page) flights free = tt
-idle_as (AtsInval device range) flights free = tt
+-- translations that are cached after it were cached before, and it doesn't cover them
+left_in : (o : Option Translation) (covered : Bool) (translation : Translation) → (if covered then None else o) ≡ Some translation → (o ≡ Some translation) × (covered ≡ false)
+left_in o true translation at = cc
+left_in o false translation at = (at, refl)
+
+translations_as : (command : Commanded) (old new : Translations) → DropsTranslations command old new → TranslationsAfter command old new
+translations_as command old new drops key translation at = left_in (old key) (are_covering (covers_of command) key) translation (sym (drops key) ∙ at)
+
+-- a fence is done only where the accesses that were accepted before it are made
+not_waited : (a b : Bool) → (not a || not b) ≡ false → (a ≡ true) × (b ≡ true)
+not_waited true true it = (refl, refl)
+not_waited true false it = absurd (false≢true (sym it))
+not_waited false b it = absurd (false≢true (sym it))
+
+done_if : (command : Commanded) (flights : Flights) (before : ℕ) → must_wait command flights before ≡ false → DoneIfFence command before (accesses_of flights.rows)
+done_if (IotinvalVma gscid pscid page) flights before free = tt
+done_if (IofenceC store wsi pr pw) flights before free = λ address number same.
+    let both = not_waited (are_drained flights before Read) (are_drained flights before Write) (subst (λ c. must_wait c flights before ≡ false) same free) in
+    drained_after flights before both.0 both.1
+done_if (IodirInvalDdt device) flights before free = tt
+done_if (IotinvalGvma gscid page) flights before free = tt
+done_if (AtsInval device range) flights before free = tt
 
 -- processing doesn't stop
-pub never_stops : (old : Parts) (events : ℕ) (any : Bool) (next : Iommu) → AreSound old events → 64 ≤ length old.memory → StopsFetching (is_processing_commands (registers_of old.iommu)) old.memory any old.iommu next → ⊥
-never_stops old events any next sound many stops =
-    by (head_entry old.memory (registers_of old.iommu)) refl (subst (λ on. StopsFetching on old.memory any old.iommu next) sound.processing stops)
+pub never_stops : (old : Parts) (events : ℕ) (next : Iommu) → AreSound old events → 64 ≤ length old.memory → StopsFetching (is_processing_commands (registers_of old.iommu)) old.memory old.iommu next → ⊥
+never_stops old events next sound many stops =
+    by (head_entry old.memory (registers_of old.iommu)) refl (subst (λ on. StopsFetching on old.memory old.iommu next) sound.processing stops)
   where
-    by : (entry : Option QueueEntry) → head_entry old.memory (registers_of old.iommu) ≡ entry → StopsAtEntry old.memory entry any old.iommu next → ⊥
+    by : (entry : Option QueueEntry) → head_entry old.memory (registers_of old.iommu) ≡ entry → StopsAtEntry old.memory entry old.iommu next → ⊥
     by None at stopped = stopped
     by (Some (Command command)) at stopped =
         stopped.1 (is_storable old.memory (completed_in old.memory) old.driver.given command many (head_next old events sound command at))
@@ -306,6 +326,7 @@ keeps_done old new events command sound own stays fetches driver devices =
       confirmed = ap (λ (d : DriverState). d.confirmed) driver;
       plugged = λ id. ap (λ (d : DriverState). is_plugged d.devices id) driver;
       attachments = λ id. ap (λ (d : DriverState). shown_attachment (attachment_of d.devices id)) driver;
+      numbers = λ id. ap (λ (d : DriverState). number_in d.devices id) driver;
     } in
     let does : DoesFirst (values_of old) (values_of new) command = record {
       keeps = grants;
@@ -314,7 +335,9 @@ keeps_done old new events command sound own stays fetches driver devices =
       in_flight = ap (λ (f : Flights). accesses_of f.rows) left.flights;
       completed = done_as address done given done (completed_in new.memory) command next after;
       contexts = cached_as command (contexts_of old.iommu) (contexts_of new.iommu) left.contexts;
-      idle = idle_as command (flights_of old.iommu) fetches.2;
+      translations = translations_as command (translations_of old.iommu) (translations_of new.iommu) left.translations;
+      stock = left.stock;
+      done = done_if command (flights_of old.iommu) (counted_in old.iommu) fetches.2;
     } in
     record {
       ready = rw driver (stays old.memory new.memory r (registers_of new.iommu) sound.ready keeps (subst (λ s. KeepsRing r s) (sym left.registers) kept.0));
@@ -333,6 +356,58 @@ keeps_done old new events command sound own stays fetches driver devices =
       copies = ∥∥₁_map sound.copies (λ has. fetch_scene (values_of old) (values_of new) command does has);
     }
 
+-- what waits at the head is a fence of the driver's
+waits_fence : (old : Parts) (events : ℕ) → AreSound old events → (command : Commanded) → head_entry old.memory (registers_of old.iommu) ≡ Some (Command command)
+    → must_wait command (flights_of old.iommu) (counted_in old.iommu) ≡ true
+    → (number : ℕ) × (later : List QueueEntry) × (commands_in old.memory (registers_of old.iommu) ≡ Command (fence (completion_address (length old.memory)) number) ∷ later)
+waits_fence old events sound (IotinvalVma gscid pscid page) at waits = absurd (false≢true waits)
+waits_fence old events sound (IofenceC store wsi pr pw) at waits =
+    let next = head_next old events sound (IofenceC store wsi pr pw) at in
+    let list = first_there (commands_in old.memory (registers_of old.iommu)) (Command (IofenceC store wsi pr pw)) at in
+    (next.0, list.0, list.1 ∙ ap (λ c. Command c ∷ list.0) next.1)
+waits_fence old events sound (IodirInvalDdt device) at waits = absurd (false≢true waits)
+waits_fence old events sound (IotinvalGvma gscid page) at waits = absurd (false≢true waits)
+waits_fence old events sound (AtsInval device range) at waits = absurd (false≢true waits)
+
+-- a fence that waits has counted
+keeps_counted : (old : Parts) (events : ℕ) → AreSound old events → WaitsAt (head_entry old.memory (registers_of old.iommu)) (flights_of old.iommu) (counted_in old.iommu)
+    → AreSound (record old { iommu = with_registers old.iommu (registers_of old.iommu) (Some (counted_in old.iommu)) }) events
+keeps_counted old events sound waits = record {
+  ready = sound.ready;
+  started = sound.started;
+  processing = sound.processing;
+  size = sound.size;
+  known = record { own_ids = sound.known.own_ids; driver = sound.known.driver; iommu = sound.known.iommu };
+  confirmed = sound.confirmed;
+  small = sound.small;
+  counted = sound.counted;
+  contexts = sound.contexts;
+  copies = ∥∥₁_map sound.copies (count_scene (values_of old) (values_of (record old { iommu = with_registers old.iommu (registers_of old.iommu) (Some (counted_in old.iommu)) })) counts);
+}
+  where
+    head : (number : ℕ) × (later : List QueueEntry) × (commands_in old.memory (registers_of old.iommu) ≡ Command (fence (completion_address (length old.memory)) number) ∷ later)
+    head = by (head_entry old.memory (registers_of old.iommu)) refl waits
+      where
+        by : (entry : Option QueueEntry) → head_entry old.memory (registers_of old.iommu) ≡ entry → WaitsAt entry (flights_of old.iommu) (counted_in old.iommu)
+            → (number : ℕ) × (later : List QueueEntry) × (commands_in old.memory (registers_of old.iommu) ≡ Command (fence (completion_address (length old.memory)) number) ∷ later)
+        by None at it = absurd it
+        by (Some (Command command)) at it = waits_fence old events sound command at it
+        by (Some (Illegal reason)) at it = absurd it
+        by (Some Outside) at it = absurd it
+
+    counts : CountsAtHead (values_of old) (values_of (record old { iommu = with_registers old.iommu (registers_of old.iommu) (Some (counted_in old.iommu)) }))
+    counts = record {
+      keeps = record { ledger = refl; address = refl; given = refl; confirmed = refl; plugged = λ d. refl; attachments = λ d. refl; numbers = λ d. refl };
+      waiting = refl;
+      head = head;
+      completed = refl;
+      so_far = refl;
+      in_flight = refl;
+      contexts = λ d is. is;
+      translations = λ key translation at. at;
+      stock = refl;
+    }
+
 pub keeps_fetched : (old new : Parts) (events : ℕ) (told : Outcome) → AreSound old events → IsSoundDriver old.driver → StaysReady old.driver → FetchesNext old told new → AreSound new events
 keeps_fetched old new events told sound own stays fetches = by fetches.answer fetches.call
   where
@@ -345,6 +420,9 @@ keeps_fetched old new events told sound own stays fetches = by fetches.answer fe
 
     by : (answer : Fetched) → FetchesCommand old.memory old.iommu answer new.memory new.iommu → AreSound new events
     by (Did command) call = keeps_done old new events command sound own stays call fetches.driver fetches.devices
-    by Waiting call = same call.2 call.3
+    by Waiting call =
+        subst (λ parts. AreSound parts events)
+        (sym (parts_are new old.memory (with_registers old.iommu (registers_of old.iommu) (Some (counted_in old.iommu))) old.driver old.devices call.2 call.3 fetches.driver fetches.devices))
+        (keeps_counted old events sound call.1)
     by Empty call = same call.2 call.3
-    by Stopped call = absurd (never_stops old events (some_in_flight (flights_of old.iommu)) new.iommu sound many call.0)
+    by Stopped call = absurd (never_stops old events new.iommu sound many call.0)

@@ -2,7 +2,6 @@
 use Rattle.std.proofs.Common.{◌≡◌, ◌∙◌, ℕ, List, length, Option, Some, None, slice_get, refl, sym, ap, subst, arith}
 use Rattle.iom_base.specs.declared.owner.Owner.{Owner}
 use Rattle.iom_base.specs.declared.owner.Owner.TheVariants.{System}
-use Rattle.iom_inflight.specs.Flights.{some_in_flight}
 use Rattle.iom_iommu.specs.declared.fetched.Fetched.{Fetched}
 use Rattle.iom_iommu.specs.declared.fetched.Fetched.TheVariants.{Did, Waiting, Empty, Stopped}
 use Rattle.iom_iommu.specs.Fetches.{FetchesCommand}
@@ -47,7 +46,7 @@ fetched_unseen old new events (Did command) state sound own fetches shows =
 fetched_unseen old new events Waiting state sound own fetches shows = record { shown = rw fetches.2 shows; flights = ap flights_of fetches.3 }
 fetched_unseen old new events Empty state sound own fetches shows = record { shown = rw fetches.2 shows; flights = ap flights_of fetches.3 }
 fetched_unseen old new events Stopped state sound own fetches shows =
-    absurd (never_stops old events (some_in_flight (flights_of old.iommu)) new.iommu sound (let m = own.sizes.size.0 in let size = sound.ready.stand.size in omega (arith, size, m)) fetches.0)
+    absurd (never_stops old events new.iommu sound (let m = own.sizes.size.0 in let size = sound.ready.stand.size in omega (arith, size, m)) fetches.0)
 
 pub fetch_step : (old new : Parts) (events : ℕ) (told : Outcome) → AreSound old events → IsSoundDriver old.driver → FetchesNext old told new
     → (state : State) → PartsShow old state → (next : State) × machine.Fetches state told next × PartsShow new next

@@ -6,6 +6,8 @@ pub mod ChoiceLemmas
 pub mod CommandsStay
 pub mod CommitKeeps
 pub mod CommitStep
+pub mod CachedLemmas
+pub mod CachedMay
 pub mod ConfirmScenes
 pub mod ContextKeeps
 pub mod DetachKeeps

@@ -5,7 +5,7 @@ use Rattle.iom_driver.specs.Laws.{KeepsReserved, KeepsRing, ReadyStays}
 use Rattle.iom_driver.specs.Ready.{IsReady}
 use Rattle.iom_driver.specs.Seen.{state_of}
 use Rattle.iom_driver.specs.State.{DriverState}
-use Rattle.iom_iommu.specs.declared.iommu.Iommu.{Iommu}
+use Rattle.iom_world.specs.OwnIommu.{Iommu}
 use Rattle.iom_registers.specs.declared.registers.Registers.{Registers}
 use Rattle.iom_world.specs.declared.device.Device.{Device}
 use Rattle.iom_world.specs.Parts.{Parts}

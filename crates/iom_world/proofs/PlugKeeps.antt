@@ -5,6 +5,7 @@ use Rattle.std.proofs.Math.Logic.{∥∥₁_map}
 use Rattle.std.proofs.lemmas.Bool.{false≢true, eq-eqb}
 use Rattle.iom_driver.specs.declared.device.Device as driver
 use Rattle.iom_driver.specs.Calls.{AnswersPlug}
+use Rattle.iom_driver.specs.declared.device.FirstStage.{FirstStage}
 use Rattle.iom_driver.specs.Devices.{device_of, is_plugged, attachment_of, owned_stage, detached}
 use Rattle.iom_driver.specs.Directory.{context_for}
 use Rattle.iom_driver.specs.Layout.{command_frame, completion_frame, completion_address}
@@ -25,6 +26,7 @@ use Rattle.iom_registers.specs.Queues.{is_processing_commands}
 use Rattle.iom_world.specs.declared.device.Device.{Device}
 use Rattle.iom_world.specs.Devices.{shown_attachment}
 use Rattle.iom_world.specs.Does.{PlugsDevice, AddsRow, new_device, devices_after}
+use Rattle.iom_tlb.specs.Chosen.{ioatc}
 use Rattle.iom_world.specs.Parts.{Parts}
 use Rattle.iom_world.specs.Queued.{completed_in}
 use Rattle.iom_world.specs.Read.{values_of, access_of, accesses_of}
@@ -137,6 +139,11 @@ module _ (old new : Parts) (events id : ℕ) (kind : DeviceKind) (sound : AreSou
     in_flight = ap accesses_of rows_now ∙ accesses_pushed (flights_of old.iommu).rows id;
     attachments = λ d. ap shown_attachment (attachments_now d);
     contexts = λ d is. sym (ap is_some (contexts_now d)) ∙ is;
+    cached = record {
+      numbers = λ other number at. ap (λ a. option_map (λ (stage : FirstStage). stage.number) (owned_stage a)) (attachments_now other) ∙ at;
+      translations = λ key translation at. sym (ap (λ c. ioatc.content c key) row.translations) ∙ at;
+      stock = row.stock;
+    };
   }
 
   pub plugged_sound : AreSound new events

@@ -5,7 +5,7 @@ use Rattle.iom_driver.specs.declared.device.Device as driver
 use Rattle.iom_driver.specs.Calls.{AnswersPlug}
 use Rattle.iom_driver.specs.State.{DriverState}
 use Rattle.iom_inflight.specs.Flights.{FlightRow, row_of}
-use Rattle.iom_iommu.specs.declared.iommu.Iommu.{Iommu}
+use Rattle.iom_world.specs.OwnIommu.{Iommu}
 use Rattle.iom_driver.specs.Ready.{IsReady}
 use Rattle.iom_iommu.specs.Parts.{flights_of, registers_of, AddsDevice}
 use Rattle.iom_ledger.specs.declared.refusal.Refusal.TheVariants.{AlreadyPlugged, TooManyDevices, Memory}

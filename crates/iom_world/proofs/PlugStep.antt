@@ -10,7 +10,7 @@ use Rattle.iom_driver.specs.Reasons.{why_not_plug}
 use Rattle.iom_driver.specs.State.{DriverState}
 use Rattle.iom_driver.proofs.Places.{attachment_plugged}
 use Rattle.iom_inflight.specs.Flights.{NumberedAccess, FlightRow, Flights, new_row, row_of}
-use Rattle.iom_iommu.specs.declared.iommu.Iommu.{Iommu}
+use Rattle.iom_world.specs.OwnIommu.{Iommu}
 use Rattle.iom_iommu.specs.Parts.{flights_of}
 use Rattle.iom_ledger.specs.declared.refusal.Refusal.{Refusal}
 use Rattle.iom_ledger.specs.declared.refusal.Refusal.TheVariants.{Memory, AlreadyPlugged, TooManyDevices}

@@ -1,13 +1,15 @@
 -- What stays true of a world at a poll: a device that left has no context cached any more, since its ticket's fence came after the command that drops it.
-use Rattle.std.proofs.Common.{◌≡◌, ◌+◌, ◌-◌, ◌^◌, ◌<◌, ◌≤◌, ◌==◌, ◌∙◌, min, is_some, ℕ, Bool, true, false, List, length, Option, Some, Result, Ok, Err, slice_get, refl, sym, ap, subst, arith, if◌then◌else◌}
+use Rattle.std.proofs.Common.{◌≡◌, ◌+◌, ◌-◌, ◌^◌, ◌<◌, ◌≤◌, ◌==◌, ◌⊎◌, inl, inr, ◌∙◌, min, nat_le, is_some, ℕ, Bool, true, false, List, length, Option, Some, Result, Ok, Err, slice_get, refl, sym, ap, subst, arith, if◌then◌else◌}
 use Rattle.std.specs.Option.{option_map, option_map_or}
 use Rattle.std.proofs.Math.Logic.{∥∥₁_map}
 use Rattle.std.proofs.Math.Nat.{min-eq_left}
-use Rattle.std.proofs.lemmas.Bool.{eqb-true}
+use Rattle.std.proofs.lemmas.Bool.{eqb-true, leb-true}
 use Rattle.iom_base.specs.declared.owner.Owner.{Owner}
 use Rattle.iom_base.specs.declared.owner.Owner.TheVariants.{System}
 use Rattle.iom_driver.specs.declared.answers.Polled.{Polled}
-use Rattle.iom_driver.specs.declared.device.Attachment.TheVariants.{Detached}
+use Rattle.iom_driver.specs.declared.device.Attachment.{Attachment}
+use Rattle.iom_driver.specs.declared.device.Attachment.TheVariants.{Detached, Attached, Leaving}
+use Rattle.iom_driver.specs.declared.device.FirstStage.{FirstStage}
 use Rattle.iom_driver.specs.Confirmed.{has_left, is_gone}
 use Rattle.iom_driver.specs.Devices.{attachment_of, is_plugged, owned_stage, owned_stage_of}
 use Rattle.iom_driver.specs.Directory.{context_for}
@@ -15,19 +17,20 @@ use Rattle.iom_driver.specs.Layout.{command_frame, completion_frame, completion_
 use Rattle.iom_driver.specs.Polling.{AnswersPoll, ConfirmsDone, done_after}
 use Rattle.iom_driver.specs.Ready.{IsReady}
 use Rattle.iom_driver.specs.State.{DriverState}
-use Rattle.iom_iommu.specs.Parts.{registers_of, contexts_of, flights_of}
+use Rattle.iom_iommu.specs.Parts.{registers_of, contexts_of, translations_of, flights_of, stock_of}
 use Rattle.iom_ledger.specs.declared.refusal.Refusal.{Refusal}
 use Rattle.iom_machine.specs.declared.outcome.Outcome.{Outcome}
 use Rattle.iom_world.specs.Devices.{shown_attachment}
 use Rattle.iom_world.specs.Does.{PollsTickets}
 use Rattle.iom_world.specs.Parts.{Parts}
 use Rattle.iom_world.specs.Queued.{completed_in}
-use Rattle.iom_world.specs.Read.{values_of, accesses_of}
+use Rattle.iom_world.specs.Read.{number_in, values_of, accesses_of}
 use Rattle.iom_world.specs.Scenes.{HasFaithfulScene}
 use Rattle.iom_world.specs.Sound.{AreSound, AreKnown, ContextsAreTrue, known_ids, ids_of, row_ids}
 use Rattle.iom_world.proofs.DeviceLemmas.{after, attachment_confirmed, plugged_confirmed, ids_confirmed, left_is}
 use Rattle.iom_world.proofs.DriverLemmas.{IsSoundDriver}
-use Rattle.iom_world.proofs.SceneCalls.{ConfirmsSome, poll_scene}
+use Rattle.iom_world.proofs.CachedLemmas.{none_numbered}
+use Rattle.iom_world.proofs.SceneCalls.{HasLeft, ConfirmsSome, poll_scene}
 use Rattle.iom_world.proofs.SoundLemmas.{completed_given, detached_uncached, same_completed, LeavesWord, same_iommu, sound_from, same_waiting, fixed_frames}
 
 -- driver and world and IOMMU have the same ids as before
@@ -68,6 +71,25 @@ module _ (old new : Parts) (events : ℕ) (polled : Polled) (sound : AreSound ol
   plugged_now : (id : ℕ) → is_plugged new.driver.devices id ≡ is_plugged old.driver.devices id
   plugged_now id = ap (λ (d : DriverState). is_plugged d.devices id) confirms.driver ∙ plugged_confirmed (done_after old.driver polled) old.driver.devices id
 
+  -- who has a number keeps it, or has left
+  numbers_polled : (id number : ℕ) (a : Attachment) → attachment_of old.driver.devices id ≡ a → number_in old.driver.devices id ≡ Some number
+      → (number_in new.driver.devices id ≡ Some number) ⊎ HasLeft (shown_attachment (attachment_of old.driver.devices id)) (old.driver.confirmed + polled.count)
+  numbers_polled id number Detached is at = absurd (none_numbered old.driver.devices id number (ap owned_stage is) at)
+  numbers_polled id number (Attached stage) is at = inl (
+      ap (λ a. option_map (λ (s : FirstStage). s.number) (owned_stage a)) (attachment_now id ∙ ap (after (done_after old.driver polled)) is)
+      ∙ sym (ap (λ a. option_map (λ (s : FirstStage). s.number) (owned_stage a)) is) ∙ at)
+  numbers_polled id number (Leaving ticket stage) is at = by (nat_le ticket (done_after old.driver polled)) refl
+    where
+      by : (b : Bool) → nat_le ticket (done_after old.driver polled) ≡ b
+          → (number_in new.driver.devices id ≡ Some number) ⊎ HasLeft (shown_attachment (attachment_of old.driver.devices id)) (old.driver.confirmed + polled.count)
+      by true gone =
+          let low : ticket ≤ old.driver.confirmed + polled.count = leb-true ticket (old.driver.confirmed + polled.count) gone in
+          inr (subst (λ a. HasLeft (shown_attachment a) (old.driver.confirmed + polled.count)) (sym is) low)
+      by false stays = inl (
+          ap (λ a. option_map (λ (s : FirstStage). s.number) (owned_stage a))
+              (attachment_now id ∙ ap (after (done_after old.driver polled)) is ∙ ap (λ b. if b then Detached else Leaving ticket stage) stays)
+          ∙ sym (ap (λ a. option_map (λ (s : FirstStage). s.number) (owned_stage a)) is) ∙ at)
+
   confirms_some : ConfirmsSome (values_of old) (values_of new) polled.count (old.driver.given - completed_in old.memory)
   confirms_some =
       let count = polled_count old events polled new.driver new.memory sound confirms in
@@ -90,6 +112,9 @@ module _ (old new : Parts) (events : ℕ) (polled : Polled) (sound : AreSound ol
         in_flight = ap (λ i. accesses_of (flights_of i).rows) iommu;
         unplugged = λ d none. sym (plugged_now d) ∙ none;
         contexts = λ d is. ap (λ i. is_some (contexts_of i d)) (sym iommu) ∙ is;
+        numbers = λ d number at. numbers_polled d number (attachment_of old.driver.devices d) refl at;
+        translations = ap translations_of iommu;
+        stock = ap stock_of iommu;
       }
 
   contexts_true : ∥ HasFaithfulScene (values_of new) ∥₁ → ContextsAreTrue new

@@ -13,7 +13,7 @@ use Rattle.iom_world.specs.Sound.{AreSound}
 use Rattle.iom_world.proofs.DriverLemmas.{IsSoundDriver}
 use Rattle.iom_world.proofs.PartsLemmas.{StaysReady, parts_are}
 use Rattle.iom_world.proofs.SceneSteps.{make_scene}
-use Rattle.iom_world.proofs.SoundFrom.{Leaves, sound_from, same_waiting, same_done, grants_kept, unmarked, owned_differs}
+use Rattle.iom_world.proofs.SoundFrom.{Leaves, sound_from, queue_kept, grants_kept, unmarked, owned_differs}
 
 -- the frame that is written to is nobody's
 pub stored_free : (old : Parts) (events address : ℕ) (bytes : List ℕ) (new : List (List ℕ)) → AreSound old events → StoresAt old address bytes new
@@ -52,8 +52,8 @@ keeps_stored old frame bytes events sound own stays free =
       devices = refl;
     } in
     sound_from old new events sound own leaves events stays sound.counted sound.contexts
-    (λ has. make_scene (values_of old) (values_of new) (grants_kept old new events sound own leaves) (same_waiting old new events sound own leaves) (same_done old new events sound own leaves)
-    refl (λ x there. there) (λ d there. there) has)
+    (λ has. make_scene (values_of old) (values_of new) (grants_kept old new events sound own leaves) (queue_kept old new events sound own leaves refl)
+    refl (λ x there. there) (λ d there. there) (λ key translation at. at) has)
 
 keeps_if_any : (old : Parts) (events address : ℕ) (bytes : List ℕ) (told : Outcome) (memory : List (List ℕ)) → AreSound old events → IsSoundDriver old.driver → StaysReady old.driver
     → StoresIfAny old address bytes told memory → AreSound (record old { memory = memory }) events

@@ -1,22 +1,125 @@
 -- What waits: queues one after the other, their first command, and the tickets up to a number.
-use Rattle.std.proofs.Common.{◌≡◌, ◌+◌, ◌-◌, ◌≤◌, ◌∙◌, ℕ, zero, suc, List, [], ◌∷◌, ◌++◌, Option, None, Some, refl, sym, ap, subst, arith, slice_get}
+use Rattle.std.proofs.Common.{◌≡◌, ◌+◌, ◌-◌, ◌≤◌, ◌<◌, ◌∙◌, ℕ, zero, suc, List, [], ◌∷◌, ◌++◌, inl, inr, Contains, Option, None, Some, refl, sym, ap, subst, arith, slice_get}
+use Rattle.std.proofs.lemmas.List.Elements.{Contains-append_left, Contains-append_right}
+use Rattle.iom_command_queue.specs.declared.command.Command.TheVariants.{IotinvalVma, IotinvalGvma, IofenceC, IodirInvalDdt, AtsInval}
 use Rattle.iom_command_queue.specs.declared.entry.QueueEntry.{QueueEntry}
-use Rattle.iom_copies.specs.Queue.{QueuedCommand}
+use Rattle.iom_command_queue.specs.declared.entry.QueueEntry.TheVariants.{Command, Illegal, Outside}
+use Rattle.iom_copies.specs.Queue.{Extent, QueuedCommand, DropTranslations, DropContext, Invalidate, Fence}
 use Rattle.iom_copies.specs.Scene.{PendingTicket}
-use Rattle.iom_world.specs.Queued.{IsQueuedAs, AreQueuedAs, pending_after}
+use Rattle.iom_copies.specs.ToCome.{FencesRise}
+use Rattle.iom_copies.proofs.ListLemmas.{in_none, cons_cases, contains_head, contains_tail}
+use Rattle.iom_world.specs.Queued.{IsInvalidation, IsQueuedAs, AreQueuedAs, ComeBefore, pending_after}
 
-pub queued_append : (address : ℕ) (entries more : List QueueEntry) (queued added : List QueuedCommand) → AreQueuedAs address entries queued → AreQueuedAs address more added
-    → AreQueuedAs address (entries ++ more) (queued ++ added)
-queued_append address [] more [] added these those = those
-queued_append address (entry ∷ entries) more (command ∷ later) added these those = (these.0, queued_append address entries more later added these.1 those)
-queued_append address [] more (command ∷ later) added these those = absurd these
-queued_append address (entry ∷ entries) more [] added these those = absurd these
+pub queued_append : (address : ℕ) (numbers : ℕ → Option ℕ) (entries more : List QueueEntry) (queued added : List QueuedCommand) → AreQueuedAs address numbers entries queued
+    → AreQueuedAs address numbers more added → AreQueuedAs address numbers (entries ++ more) (queued ++ added)
+queued_append address numbers [] more [] added these those = those
+queued_append address numbers (entry ∷ entries) more (command ∷ later) added these those = (these.0, queued_append address numbers entries more later added these.1 those)
+queued_append address numbers [] more (command ∷ later) added these those = absurd these
+queued_append address numbers (entry ∷ entries) more [] added these those = absurd these
 
 -- what is queued first, and the rest
-pub queued_first : (address : ℕ) (entry : QueueEntry) (entries : List QueueEntry) (queued : List QueuedCommand) → AreQueuedAs address (entry ∷ entries) queued
-    → (command : QueuedCommand) × (later : List QueuedCommand) × (queued ≡ command ∷ later) × IsQueuedAs address entry command × AreQueuedAs address entries later
-queued_first address entry entries [] these = absurd these
-queued_first address entry entries (command ∷ later) these = (command, later, refl, these.0, these.1)
+pub queued_first : (address : ℕ) (numbers : ℕ → Option ℕ) (entry : QueueEntry) (entries : List QueueEntry) (queued : List QueuedCommand)
+    → AreQueuedAs address numbers (entry ∷ entries) queued
+    → (command : QueuedCommand) × (later : List QueuedCommand) × (queued ≡ command ∷ later) × IsQueuedAs address numbers entry command × AreQueuedAs address numbers entries later
+queued_first address numbers entry entries [] these = absurd these
+queued_first address numbers entry entries (command ∷ later) these = (command, later, refl, these.0, these.1)
+
+-- the numbers that the invalidations of a queue name are still those of their devices
+abbrev pub NumbersStay : (ℕ → Option ℕ) → (ℕ → Option ℕ) → List QueuedCommand → Type 0
+NumbersStay before after queued = (device number : ℕ) (extent : Extent) → Contains queued (DropTranslations device extent) → before device ≡ Some number → after device ≡ Some number
+
+one_still : (address : ℕ) (before after : ℕ → Option ℕ) (entry : QueueEntry) (command : QueuedCommand) (later : List QueuedCommand) → NumbersStay before after (command ∷ later)
+    → IsQueuedAs address before entry command → IsQueuedAs address after entry command
+one_still address before after (Command (IotinvalVma gscid pscid page)) (DropTranslations device extent) later stay is = record {
+  number = is.number;
+  own = stay device is.number extent (contains_head (DropTranslations device extent) later) is.own;
+  host = is.host;
+  space = is.space;
+  extent_of = is.extent_of;
+}
+one_still address before after (Command (IofenceC store wsi pr pw)) (Fence number) later stay is = is
+one_still address before after (Command (IodirInvalDdt (Some id))) (DropContext device) later stay is = is
+one_still address before after entry command later stay is = absurd is
+
+pub queued_still : (address : ℕ) (before after : ℕ → Option ℕ) (entries : List QueueEntry) (queued : List QueuedCommand) → NumbersStay before after queued
+    → AreQueuedAs address before entries queued → AreQueuedAs address after entries queued
+queued_still address before after [] [] stay these = tt
+queued_still address before after (entry ∷ entries) (command ∷ later) stay these = (
+  one_still address before after entry command later stay these.0,
+  queued_still address before after entries later (λ device number extent there. stay device number extent (contains_tail command later (DropTranslations device extent) there)) these.1,
+)
+queued_still address before after [] (command ∷ later) stay these = absurd these
+queued_still address before after (entry ∷ entries) [] stay these = absurd these
+
+-- what comes in front of a fence still does, where more is queued: with none of the device's, or up to the fence itself
+pub come_on : (device fence : ℕ) (queued more : List QueuedCommand) → ComeBefore device fence queued → ComeBefore device fence more → ComeBefore device fence (queued ++ more)
+come_on device fence [] more these those = those
+come_on device fence (DropTranslations d extent ∷ later) more these those =
+    ((λ same. Contains-append_left later more (Fence fence) (these.0 same)), come_on device fence later more these.1 those)
+come_on device fence (DropContext d ∷ later) more these those = come_on device fence later more these those
+come_on device fence (Invalidate d extent ∷ later) more these those = come_on device fence later more these those
+come_on device fence (Fence number ∷ later) more these those = come_on device fence later more these those
+
+pub come_up_to : (device fence : ℕ) (queued more : List QueuedCommand) → Contains more (Fence fence) → ComeBefore device fence more → ComeBefore device fence (queued ++ more)
+come_up_to device fence [] more there those = those
+come_up_to device fence (DropTranslations d extent ∷ later) more there those =
+    ((λ same. Contains-append_right later more (Fence fence) there), come_up_to device fence later more there those)
+come_up_to device fence (DropContext d ∷ later) more there those = come_up_to device fence later more there those
+come_up_to device fence (Invalidate d extent ∷ later) more there those = come_up_to device fence later more there those
+come_up_to device fence (Fence number ∷ later) more there those = come_up_to device fence later more there those
+
+-- and where the first is done
+pub come_after : (device fence : ℕ) (command : QueuedCommand) (later : List QueuedCommand) → ComeBefore device fence (command ∷ later) → ComeBefore device fence later
+come_after device fence (DropTranslations d extent) later these = these.1
+come_after device fence (DropContext d) later these = these
+come_after device fence (Invalidate d extent) later these = these
+come_after device fence (Fence number) later these = these
+
+-- a fence that waits is above those that are done
+above_done : (fence low high : ℕ) (queued : List QueuedCommand) → FencesRise low queued high → Contains queued (Fence fence) → low < fence
+above_done fence low high [] rise there = absurd (in_none (Fence fence) there)
+above_done fence low high (DropTranslations d extent ∷ later) rise there = elim (cons_cases (DropTranslations d extent) later (Fence fence) there) [
+  | inl same ↦ cc
+  | inr rest ↦ above_done fence low high later rise rest
+]
+above_done fence low high (DropContext d ∷ later) rise there = elim (cons_cases (DropContext d) later (Fence fence) there) [
+  | inl same ↦ cc
+  | inr rest ↦ above_done fence low high later rise rest
+]
+above_done fence low high (Invalidate d extent ∷ later) rise there = elim (cons_cases (Invalidate d extent) later (Fence fence) there) [
+  | inl same ↦ cc
+  | inr rest ↦ above_done fence low high later rise rest
+]
+above_done fence low high (Fence number ∷ later) rise there = elim (cons_cases (Fence number) later (Fence fence) there) [
+  | inl same ↦ let it : number ≡ fence = cc in subst (λ n. low < n) it rise.0
+  | inr rest ↦
+      let above = rise.0 in
+      let more = above_done fence number high later rise.1 rest in omega (arith, above, more)
+]
+
+-- once the fence is done none of the device's is queued
+pub none_left : (device fence low high : ℕ) (extent : Extent) (queued : List QueuedCommand) → ComeBefore device fence queued → FencesRise low queued high → fence ≤ low
+    → ¬ Contains queued (DropTranslations device extent)
+none_left device fence low high extent [] come rise done there = in_none (DropTranslations device extent) there
+none_left device fence low high extent (DropTranslations d other ∷ later) come rise done there = elim (cons_cases (DropTranslations d other) later (DropTranslations device extent) there) [
+  | inl same ↦
+      let own : d ≡ device = cc in
+      let above = above_done fence low high later rise (come.0 own) in omega (arith, done, above)
+  | inr rest ↦ none_left device fence low high extent later come.1 rise done rest
+]
+none_left device fence low high extent (DropContext d ∷ later) come rise done there = elim (cons_cases (DropContext d) later (DropTranslations device extent) there) [
+  | inl same ↦ cc
+  | inr rest ↦ none_left device fence low high extent later come rise done rest
+]
+none_left device fence low high extent (Invalidate d other ∷ later) come rise done there = elim (cons_cases (Invalidate d other) later (DropTranslations device extent) there) [
+  | inl same ↦ cc
+  | inr rest ↦ none_left device fence low high extent later come rise done rest
+]
+none_left device fence low high extent (Fence number ∷ later) come rise done there = elim (cons_cases (Fence number) later (DropTranslations device extent) there) [
+  | inl same ↦ cc
+  | inr rest ↦
+      let above = rise.0 in none_left device fence number high extent later come rise.1 (omega (arith, done, above)) rest
+]
 
 -- one more ticket
 pub pending_push : (first n : ℕ) → pending_after first n ++ record { ticket = first + n + 1; fence = first + n + 1 } ∷ [] ≡ pending_after first (suc n)

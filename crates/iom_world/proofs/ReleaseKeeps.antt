@@ -1,8 +1,8 @@
 -- What stays true of a world when what a device holds at a page is released: two more commands wait, an invalidation and the ticket's fence.
-use Rattle.std.proofs.Common.{◌≡◌, ◌≢◌, ◌+◌, ◌^◌, ◌<◌, ◌≤◌, ◌++◌, ◌∙◌, nat_le, is_some, ℕ, false, List, [], ◌∷◌, length, Option, Some, Result, Ok, Err, slice_get, refl, sym, ap, subst, arith}
+use Rattle.std.proofs.Common.{◌≡◌, ◌≢◌, ◌+◌, ◌^◌, ◌<◌, ◌≤◌, ◌++◌, ◌∙◌, nat_le, is_some, ℕ, Bool, true, false, not, List, [], ◌∷◌, length, Option, None, Some, Result, Ok, Err, slice_get, refl, sym, ap, subst, arith, if◌then◌else◌}
 use Rattle.std.specs.Option.{option_map}
 use Rattle.std.proofs.Math.Logic.{∥∥₁_map}
-use Rattle.std.proofs.lemmas.Bool.{leb-false}
+use Rattle.std.proofs.lemmas.Bool.{leb-false, and_parts}
 use Rattle.iom_base.specs.declared.owner.Owner.{Owner}
 use Rattle.iom_base.specs.declared.owner.Owner.TheVariants.{System, OneDevice}
 use Rattle.iom_command_queue.specs.declared.command.Command.{Command}
@@ -12,14 +12,15 @@ use Rattle.iom_copies.specs.Queue.{OnePage, DropTranslations}
 use Rattle.iom_driver.specs.declared.answers.Ticket as answers
 use Rattle.iom_driver.specs.Appends.{invalidation, fence, Appends, AppendsTwo}
 use Rattle.iom_driver.specs.Calls.{AnswersRelease, QueuesRelease}
-use Rattle.iom_driver.specs.Devices.{attachment_of, is_plugged, owned_stage_of}
+use Rattle.iom_driver.specs.declared.device.FirstStage.{FirstStage}
+use Rattle.iom_driver.specs.Devices.{attachment_of, is_plugged, owned_stage, owned_stage_of}
 use Rattle.iom_driver.specs.Directory.{context_for}
 use Rattle.iom_driver.specs.Layout.{completion_frame, completion_address}
 use Rattle.iom_driver.specs.Ready.{IsReady}
 use Rattle.iom_driver.specs.Reasons.{why_not_release}
 use Rattle.iom_driver.specs.State.{DriverState}
-use Rattle.iom_iommu.specs.declared.iommu.Iommu.{Iommu}
-use Rattle.iom_iommu.specs.Parts.{registers_of, contexts_of, flights_of, frames_of, mmio}
+use Rattle.iom_world.specs.OwnIommu.{Iommu}
+use Rattle.iom_iommu.specs.Parts.{registers_of, contexts_of, translations_of, flights_of, stock_of, frames_of, mmio}
 use Rattle.iom_ledger.specs.declared.refusal.Refusal.{Refusal}
 use Rattle.iom_ledger.specs.declared.refusal.Refusal.TheVariants.{NumbersUsedUp}
 use Rattle.iom_ledger.specs.declared.entry.HistoryEntry.TheVariants.{Released}
@@ -27,17 +28,20 @@ use Rattle.iom_ledger.specs.History.{History, confirms}
 use Rattle.iom_ledger.specs.Shown.{Agrees}
 use Rattle.iom_machine.specs.declared.outcome.Outcome.{Outcome}
 use Rattle.iom_page_table.specs.Sv39.{unmapped}
-use Rattle.iom_registers.specs.Queues.{is_processing_commands}
+use Rattle.iom_registers.specs.declared.registers.Registers.{Registers}
+use Rattle.iom_registers.specs.Queues.{is_command_queue_on, is_command_queue_stopped, is_processing_commands}
+use Rattle.iom_tlb.specs.Content.{Content}
 use Rattle.iom_world.specs.Devices.{shown_attachment}
 use Rattle.iom_world.specs.Does.{ReleasesPage}
 use Rattle.iom_world.specs.Parts.{Parts}
 use Rattle.iom_world.specs.Queued.{completed_in}
-use Rattle.iom_world.specs.Read.{values_of, accesses_of}
+use Rattle.iom_world.specs.Read.{number_in, values_of, accesses_of}
 use Rattle.iom_world.specs.Sound.{AreSound, known_ids, row_ids}
 use Rattle.iom_world.proofs.DriverKeeps.{attached_is}
 use Rattle.iom_world.proofs.DriverLemmas.{IsSoundDriver}
 use Rattle.iom_world.proofs.PollKeeps.{same_known}
-use Rattle.iom_world.proofs.SceneCalls.{QueuesTicket, release_scene}
+use Rattle.iom_world.proofs.CachedLemmas.{numbers_same}
+use Rattle.iom_world.proofs.SceneCalls.{KeepsCached, QueuesTicket, release_scene}
 use Rattle.iom_world.proofs.SoundLemmas.{completed_given, same_completed, LeavesWord, LeavesIommu, sound_from, fixed_frames, none_at}
 
 -- a frame of the system's isn't a device's
@@ -47,14 +51,20 @@ not_of_device marks n id system own = let both : ◌≡◌ {A = Option (Option O
 -- of the IOMMU nothing changes but the index that software writes
 pub record IsRung (old new : Iommu) : Type 0 where
   pub processing : is_processing_commands (registers_of new) ≡ is_processing_commands (registers_of old)
+  pub on : is_command_queue_on (registers_of new) ≡ is_command_queue_on (registers_of old)
   pub contexts : (id : ℕ) → contexts_of new id ≡ contexts_of old id
+  pub translations : translations_of new ≡ translations_of old
+  pub stock : is_command_queue_on (registers_of old) ≡ true → stock_of new ≡ stock_of old
   pub flights : flights_of new ≡ flights_of old
   pub frames : frames_of new ≡ frames_of old
 
 rung_once : (memory memory' : List (List ℕ)) (old new : Iommu) (command : Command) → Appends mmio memory old command memory' new → IsRung old new
 rung_once memory memory' old new command appends = record {
   processing = ap (λ i. is_processing_commands (registers_of i)) appends.rung;
+  on = ap (λ i. is_command_queue_on (registers_of i)) appends.rung;
   contexts = λ id. ap (λ i. contexts_of i id) appends.rung;
+  translations = ap translations_of appends.rung;
+  stock = λ is_on. ap stock_of appends.rung ∙ ap (λ (b : Bool). if b then stock_of old else None) is_on;
   flights = ap flights_of appends.rung;
   frames = ap frames_of appends.rung;
 }
@@ -62,7 +72,10 @@ rung_once memory memory' old new command appends = record {
 rung_both : (old mid new : Iommu) → IsRung old mid → IsRung mid new → IsRung old new
 rung_both old mid new one other = record {
   processing = other.processing ∙ one.processing;
+  on = other.on ∙ one.on;
   contexts = λ id. other.contexts id ∙ one.contexts id;
+  translations = other.translations ∙ one.translations;
+  stock = λ is_on. other.stock (one.on ∙ is_on) ∙ one.stock is_on;
   flights = other.flights ∙ one.flights;
   frames = other.frames ∙ one.frames;
 }
@@ -76,6 +89,18 @@ rung_again memory mid memory' old between new one two three first rest = rung_bo
 
 pub rung_leaves : (old new : Parts) → IsRung old.iommu new.iommu → LeavesIommu old new
 rung_leaves old new rung = record { processing = rung.processing; frames = rung.frames; so_far = ap (λ f. f.so_far) rung.flights }
+
+-- a queue from which commands are taken is on
+processing_on : (r : Registers) → is_processing_commands r ≡ true → is_command_queue_on r ≡ true
+processing_on r is = (and_parts (is_command_queue_on r) (not (is_command_queue_stopped r)) is).0
+
+pub rung_cached : (old new : Parts) → is_processing_commands (registers_of old.iommu) ≡ true → IsRung old.iommu new.iommu
+    → ((id number : ℕ) → number_in old.driver.devices id ≡ Some number → number_in new.driver.devices id ≡ Some number) → KeepsCached (values_of old) (values_of new)
+rung_cached old new processing rung numbers = record {
+  numbers = numbers;
+  translations = λ key translation at. sym (ap (λ (c : Content). c key) rung.translations) ∙ at;
+  stock = rung.stock (processing_on (registers_of old.iommu) processing);
+}
 
 -- a ticket that is given is one of 32 bits
 pub next_small : (given : ℕ) → nat_le 4294967295 given ≡ false → given + 1 < 2 ^ 32
@@ -105,7 +130,16 @@ module _ (old new : Parts) (events id page ticket : ℕ) (sound : AreSound old e
       let before = sound.confirmed in
       record {
         ordered = omega (arith, low, before);
-        appended = (tt, tt);
+        appended = (
+          record {
+            number = queues.stage.number;
+            own = ap (option_map (λ (stage : FirstStage). stage.number)) (ap owned_stage (attached_is (attachment_of old.driver.devices id) queues.stage queues.attached));
+            host = refl;
+            space = refl;
+            extent_of = refl;
+          },
+          tt,
+        );
         waiting = queues.list
             ∙ ap (λ t. commands_in old.memory (registers_of old.iommu) ++ stands.Command (invalidation queues.stage.number page) ∷ stands.Command (fence (completion_address (length old.memory)) t) ∷ []) queues.next;
         address = ap completion_address leaves.size;
@@ -116,6 +150,7 @@ module _ (old new : Parts) (events id page ticket : ℕ) (sound : AreSound old e
         in_flight = ap (λ f. accesses_of f.rows) rung.flights;
         unplugged = λ d none. sym (ap (λ (s : DriverState). is_plugged s.devices d) queues.driver) ∙ none;
         contexts = λ d is. sym (ap is_some (rung.contexts d)) ∙ is;
+        cached = rung_cached old new sound.processing rung (numbers_same old.driver.devices new.driver.devices (ap (λ (d : DriverState). d.devices) queues.driver));
       }
 
   pub released_sound : AreSound new events

@@ -6,7 +6,7 @@ use Rattle.iom_driver.specs.declared.answers.Ticket.{Ticket}
 use Rattle.iom_driver.specs.Calls.{AnswersRelease, QueuesRelease}
 use Rattle.iom_driver.specs.Layout.{command_frame}
 use Rattle.iom_driver.specs.State.{DriverState}
-use Rattle.iom_iommu.specs.declared.iommu.Iommu.{Iommu}
+use Rattle.iom_world.specs.OwnIommu.{Iommu}
 use Rattle.iom_iommu.specs.Parts.{mmio, flights_of}
 use Rattle.iom_inflight.specs.Flights.{Flights}
 use Rattle.iom_command_queue.specs.declared.command.Command.{Command}

@@ -1,21 +1,28 @@
 -- What stays true of a world when a device asks for an access: what is translated is held, and so no copy outlives it.
-use Rattle.std.proofs.Common.{◌≡◌, ◌+◌, ◌/◌, ◌^◌, ◌<◌, ◌≤◌, ◌⊎◌, ◌∙◌, inl, inr, ℕ, Bool, true, false, is_some, length, Ok, slice_get, refl, sym, ap, subst, arith}
+use Rattle.std.proofs.Common.{◌≡◌, ◌+◌, ◌/◌, ◌^◌, ◌<◌, ◌≤◌, ◌⊎◌, ◌∙◌, inl, inr, ℕ, Bool, true, false, is_some, length, Option, Some, None, option_map, Result, Ok, Err, slice_get, refl, sym, ap, subst, arith}
 use Rattle.iom_base.specs.declared.access.Access.{Access}
 use Rattle.iom_base.specs.declared.cause.Cause.{Cause}
+use Rattle.iom_base.specs.Rights.{allows}
 use Rattle.iom_copies.specs.Among.{AreAmong, AreAmongWith}
-use Rattle.iom_driver.specs.Devices.{attachment_of}
+use Rattle.iom_driver.specs.declared.device.FirstStage.{FirstStage}
+use Rattle.iom_driver.specs.Devices.{attachment_of, owned_stage, owned_stage_of}
 use Rattle.iom_inflight.specs.Calls.{with_access}
 use Rattle.iom_inflight.specs.Flights.{Flights}
 use Rattle.iom_iommu.specs.declared.reply.Reply.{Reply}
 use Rattle.iom_iommu.specs.declared.reply.Reply.TheVariants.{Accepted, Busy, BadSpan, Fault}
-use Rattle.iom_iommu.specs.Parts.{registers_of, contexts_of, flights_of, frames_of}
+use Rattle.iom_iommu.specs.Parts.{registers_of, contexts_of, translations_of, flights_of, stock_of, frames_of}
 use Rattle.iom_iommu.specs.Requests.{AnswersRequest, AcceptsRequest, RefusesRequest}
 use Rattle.iom_machine.specs.declared.outcome.Outcome.{Outcome}
 use Rattle.iom_machine.specs.declared.state.Attachment.TheVariants as shown
 use Rattle.iom_machine.specs.declared.state.Mode.TheVariants.{First}
+use Rattle.iom_tlb.specs.declared.space.Space.TheVariants as space
+use Rattle.iom_tlb.specs.declared.trans_cache.Translation.{Translation}
+use Rattle.iom_tlb.specs.Chosen.{ioatc}
+use Rattle.iom_tlb.specs.Content.{Key, Content as Translations, Keeps}
+use Rattle.iom_tlb.proofs.KeyLemmas.{one_or_other}
 use Rattle.iom_world.specs.Devices.{shown_attachment}
 use Rattle.iom_world.specs.Parts.{Parts}
-use Rattle.iom_world.specs.Read.{values_of, accesses_of}
+use Rattle.iom_world.specs.Read.{number_in, values_of, accesses_of}
 use Rattle.iom_world.specs.Requests.{AsksAccess}
 use Rattle.iom_world.specs.Scenes.{Values, HasFaithfulScene}
 use Rattle.iom_world.specs.Sound.{AreSound, row_ids}
@@ -23,9 +30,9 @@ use Rattle.iom_world.proofs.ContextKeeps.{KeepsAttached, keeps_attached, cached_
 use Rattle.iom_world.proofs.DriverLemmas.{IsSoundDriver}
 use Rattle.iom_world.proofs.PartsLemmas.{StaysReady, parts_are}
 use Rattle.iom_world.proofs.RowLemmas.{accepted_among, row_ids_kept}
-use Rattle.iom_world.proofs.SceneSteps.{KeepsGrants, keep_scene, accept_scene, make_scene}
-use Rattle.iom_world.proofs.ServedLemmas.{ServiceLaws, Reaches, served}
-use Rattle.iom_world.proofs.SoundFrom.{Leaves, sound_from, same_waiting, same_done, grants_kept}
+use Rattle.iom_world.proofs.SceneSteps.{KeepsGrants, KeepsQueue, KeepsWalked, IsServedFrom, keep_scene, walk_scene, accept_scene, make_scene}
+use Rattle.iom_world.proofs.ServedLemmas.{ServiceLaws, IsAnswered, served}
+use Rattle.iom_world.proofs.SoundFrom.{Leaves, sound_from, queue_kept, grants_kept}
 
 -- what is sound stays so where one more event is counted
 pub sound_counted : (parts : Parts) (events : ℕ) → AreSound parts events → AreSound parts (events + 1)
@@ -42,33 +49,74 @@ sound_counted parts events sound = record {
   copies = sound.copies;
 }
 
--- the values of a world where these contexts are cached, and else nothing changed
-abbrev cached_so : Values → (ℕ → Bool) → Values
-cached_so values cached = record values { is_cached = cached }
+-- the values of a world where these contexts and translations are cached, and else nothing changed
+abbrev cached_so : Values → (ℕ → Bool) → Translations → Values
+cached_so values cached translations = record values { is_cached = cached; translations = translations }
 
-grants_same : (values : Values) (cached : ℕ → Bool) → KeepsGrants values (cached_so values cached)
-grants_same values cached = record { ledger = refl; address = refl; given = refl; confirmed = refl; plugged = λ d. refl; attachments = λ d. refl }
+grants_same : (values : Values) (cached : ℕ → Bool) (translations : Translations) → KeepsGrants values (cached_so values cached translations)
+grants_same values cached translations = record { ledger = refl; address = refl; given = refl; confirmed = refl; plugged = λ d. refl; attachments = λ d. refl; numbers = λ d. refl }
+
+queue_same : (values : Values) (cached : ℕ → Bool) (translations : Translations) → KeepsQueue values (cached_so values cached translations)
+queue_same values cached translations = record { waiting = refl; completed = refl; stock = refl }
 
 -- a scene of a world stays one where a request kept a context
 kept_scene : (values : Values) (cached : ℕ → Bool) (id : ℕ) → (((d : ℕ) → cached d ≡ true → values.is_cached d ≡ true)
     ⊎ ((values.attachment_of id ≡ shown.Attached First false) × ((d : ℕ) → cached d ≡ true → (values.is_cached d ≡ true) ⊎ (d ≡ id))))
-    → HasFaithfulScene values → HasFaithfulScene (cached_so values cached)
+    → HasFaithfulScene values → HasFaithfulScene (cached_so values cached values.translations)
 kept_scene values cached id (inl before) has =
-    make_scene values (cached_so values cached) (grants_same values cached) refl refl refl (λ x there. there) before has
+    make_scene values (cached_so values cached values.translations) (grants_same values cached values.translations) (queue_same values cached values.translations)
+    refl (λ x there. there) before (λ key translation at. at) has
 kept_scene values cached id (inr (attached, either)) has =
-    keep_scene values (cached_so values cached) id (grants_same values cached) refl refl refl refl attached either has
+    keep_scene values (cached_so values cached values.translations) id (grants_same values cached values.translations) (queue_same values cached values.translations)
+    refl refl (λ key translation at. at) attached either has
 
-module _ (laws : ServiceLaws) (old new : Parts) (events id : ℕ) (access : Access) (sound : AreSound old events) (own : IsSoundDriver old.driver) (stays : StaysReady old.driver)
+-- and one where it kept a translation
+abbrev TranslationsChange : Values → ℕ → Translations → Type 0
+TranslationsChange values id translations =
+    ((key : Key) (translation : Translation) → translations key ≡ Some translation → values.translations key ≡ Some translation)
+    ⊎ ((number page : ℕ) × (translation : Translation) × KeepsWalked values (record values { translations = translations }) id number page translation)
+
+translated_scene : (values : Values) (translations : Translations) (id : ℕ) → TranslationsChange values id translations
+    → HasFaithfulScene values → HasFaithfulScene (cached_so values values.is_cached translations)
+translated_scene values translations id (inl less) has =
+    make_scene values (cached_so values values.is_cached translations) (grants_same values values.is_cached translations) (queue_same values values.is_cached translations)
+    refl (λ x there. there) (λ d is. is) less has
+translated_scene values translations id (inr (number, page, translation, walks)) has =
+    walk_scene values (cached_so values values.is_cached translations) id number page translation (grants_same values values.is_cached translations)
+    (queue_same values values.is_cached translations) refl refl (λ d is. is) walks has
+
+-- what a keep leaves: what was there, or the translation that is kept
+kept_or : (sure : Bool) (old new : Translations) (at : Key) (translation : Translation) → Keeps sure old at translation new
+    → (key : Key) (other : Translation) → new key ≡ Some other → (old key ≡ Some other) ⊎ ((key ≡ at) × (other ≡ translation))
+kept_or sure old new at translation (inr (unsure, none, stays)) key other there = inl (sym (stays key) ∙ there)
+kept_or sure old new at translation (inl sets) key other there = elim (one_or_other key at) [
+  | inl same ↦ inr (same, some_same other translation (sym there ∙ ap new same ∙ sets.kept))
+  | inr apart ↦ elim (sets.others.1 key apart) [
+    | inl stays ↦ inl (sym stays ∙ there)
+    | inr gone ↦ absurd (none_some (sym gone.1 ∙ there))
+  ]
+]
+  where
+    some_same : (x y : Translation) → Some x ≡ Some y → x ≡ y
+    some_same x y same = cc
+
+    none_some : ◌≡◌ {A = Option Translation} None (Some other) → ⊥
+    none_some same = cc
+
+module _ (laws : ServiceLaws) (old new : Parts) (events id : ℕ) (access : Access) (sound : AreSound old events) (own : IsSoundDriver old.driver) (stays_ready : StaysReady old.driver)
     (memory : new.memory ≡ old.memory) (driver : new.driver ≡ old.driver) (devices : new.devices ≡ old.devices) where
   abbrev cached : ℕ → Bool
   cached d = is_some (contexts_of new.iommu d)
 
   abbrev between : Values
-  between = cached_so (values_of old) (λ d. is_some (contexts_of new.iommu d))
+  between = cached_so (values_of old) (λ d. is_some (contexts_of new.iommu d)) (translations_of new.iommu)
 
   -- by what is kept of contexts
-  between_scene : KeepsAttached (attachment_of old.driver.devices id) id (contexts_of old.iommu) (contexts_of new.iommu) → HasFaithfulScene (values_of old) → HasFaithfulScene (cached_so (values_of old) (λ d. is_some (contexts_of new.iommu d)))
-  between_scene keeps has = kept_scene (values_of old) (λ d. is_some (contexts_of new.iommu d)) id (by keeps) has
+  between_scene : KeepsAttached (attachment_of old.driver.devices id) id (contexts_of old.iommu) (contexts_of new.iommu) → TranslationsChange (values_of old) id (translations_of new.iommu)
+      → HasFaithfulScene (values_of old) → HasFaithfulScene (cached_so (values_of old) (λ d. is_some (contexts_of new.iommu d)) (translations_of new.iommu))
+  between_scene keeps change has =
+      kept_scene (cached_so (values_of old) (values_of old).is_cached (translations_of new.iommu)) (λ d. is_some (contexts_of new.iommu d)) id (by keeps)
+      (translated_scene (values_of old) (translations_of new.iommu) id change has)
     where
       by : KeepsAttached (attachment_of old.driver.devices id) id (contexts_of old.iommu) (contexts_of new.iommu)
           → ((d : ℕ) → is_some (contexts_of new.iommu d) ≡ true → is_some (contexts_of old.iommu d) ≡ true)
@@ -95,20 +143,87 @@ module _ (laws : ServiceLaws) (old new : Parts) (events id : ℕ) (access : Acce
   grants_on : (leaves : Leaves old new) → KeepsGrants between (values_of new)
   grants_on leaves =
       let grants = grants_kept old new events sound own leaves in
-      record { ledger = grants.ledger; address = grants.address; given = grants.given; confirmed = grants.confirmed; plugged = grants.plugged; attachments = grants.attachments }
+      record {
+        ledger = grants.ledger;
+        address = grants.address;
+        given = grants.given;
+        confirmed = grants.confirmed;
+        plugged = grants.plugged;
+        attachments = grants.attachments;
+        numbers = grants.numbers;
+      }
 
-  keeps_fault : (cause : Cause) → RefusesRequest old.memory old.iommu id access cause new.iommu → AreSound new (events + 1)
-  keeps_fault cause call =
+  queue_on : (leaves : Leaves old new) → stock_of new.iommu ≡ stock_of old.iommu → KeepsQueue between (values_of new)
+  queue_on leaves stock = let queue = queue_kept old new events sound own leaves stock in record { waiting = queue.waiting; completed = queue.completed; stock = queue.stock }
+
+  -- the answer that the service gives, with the translations before and after
+  abbrev Answers : Result ℕ Cause → Type 0
+  Answers answer = IsAnswered ioatc.SURE old.driver id access.address access.kind (translations_of old.iommu) answer (translations_of new.iommu)
+
+  -- what becomes of the cached translations: they stay, or that of a held page is kept
+  change_of : (frame : ℕ) → IsAnswered ioatc.SURE old.driver id access.address access.kind (translations_of old.iommu) (Ok frame) (translations_of new.iommu)
+      → TranslationsChange (values_of old) id (translations_of new.iommu)
+  change_of frame (inl reaches) = inr (
+    reaches.stage.number,
+    access.address / 4096,
+    reaches.translation,
+    record {
+      attached = ap shown_attachment reaches.attached;
+      own = ap (λ a. option_map (λ (stage : FirstStage). stage.number) (owned_stage a)) reaches.attached;
+      held = reaches.held;
+      either = kept_or ioatc.SURE (translations_of old.iommu) (translations_of new.iommu) (space.First reaches.stage.number, access.address / 4096) reaches.translation reaches.kept;
+    },
+  )
+  change_of frame (inr finds) = inl (λ key translation at. sym (finds.stays key) ∙ at)
+
+  -- what the access is served from
+  served_from : (frame : ℕ) → IsAnswered ioatc.SURE old.driver id access.address access.kind (translations_of old.iommu) (Ok frame) (translations_of new.iommu)
+      → (number : ℕ) × (translation : Translation) × (frame ≡ translation.frame) × (allows translation.rights access.kind ≡ true)
+      × IsServedFrom between id number (access.address / 4096) translation
+  served_from frame (inl reaches) = (
+    reaches.stage.number,
+    reaches.translation,
+    reaches.frame_is,
+    reaches.allowed,
+    inl (ap shown_attachment reaches.attached, reaches.held),
+  )
+  served_from frame (inr finds) = (
+    finds.stage.number,
+    finds.translation,
+    finds.frame_is,
+    finds.allowed,
+    inr (
+      finds.stays (space.First finds.stage.number, access.address / 4096) ∙ finds.cached,
+      ap (option_map (λ (stage : FirstStage). stage.number)) finds.owned,
+      (λ d number. one_owner d finds.stage number finds.owned),
+    ),
+  )
+    where
+      owner_of : (d n : ℕ) (o : Option FirstStage) → owned_stage_of old.driver.devices d ≡ o → option_map (λ (stage : FirstStage). stage.number) o ≡ Some n
+          → (stage : FirstStage) × (owned_stage_of old.driver.devices d ≡ Some stage) × (stage.number ≡ n)
+      owner_of d n None is at = cc
+      owner_of d n (Some stage) is at = (stage, is, some_same stage.number n at)
+        where
+          some_same : (x y : ℕ) → Some x ≡ Some y → x ≡ y
+          some_same x y same = cc
+
+      one_owner : (d : ℕ) (stage : FirstStage) → number_in old.driver.devices d ≡ Some stage.number → owned_stage_of old.driver.devices id ≡ Some stage → d ≡ id
+      one_owner d stage number owned =
+          let it = owner_of d stage.number (owned_stage_of old.driver.devices d) refl number in
+          own.numbers.own d id it.0 stage it.1 owned it.2
+
+  keeps_fault : access.address < 2 ^ 64 → (cause : Cause) → RefusesRequest old.memory old.iommu id access cause new.iommu → AreSound new (events + 1)
+  keeps_fault fits cause call =
       let keeps = keeps_attached laws old events sound own id (contexts_of new.iommu) call.contexts in
       let leaves = leaves_asked call.registers call.frames (ap (λ (f : Flights). row_ids f.rows) call.flights) in
+      let stays = served laws old events sound own id access.address access.kind ioatc.SURE (translations_of old.iommu) (translations_of new.iommu) (Err cause) fits call.served in
       let count = sound.counted in
       let more : (flights_of old.iommu).so_far ≤ events + 1 = omega (arith, count) in
-      sound_from old new events sound own leaves (events + 1) stays (subst (λ (f : Flights). f.so_far ≤ events + 1) (sym call.flights) more)
+      sound_from old new events sound own leaves (events + 1) stays_ready (subst (λ (f : Flights). f.so_far ≤ events + 1) (sym call.flights) more)
       (contexts_kept old new id sound.contexts keeps driver)
-      (λ has. make_scene between (values_of new) (grants_on leaves)
-      (same_waiting old new events sound own leaves) (same_done old new events sound own leaves) (ap (λ (f : Flights). f.so_far) call.flights)
+      (λ has. make_scene between (values_of new) (grants_on leaves) (queue_on leaves call.stock) (ap (λ (f : Flights). f.so_far) call.flights)
       (subst (λ (f : Flights). AreAmong (accesses_of f.rows) (accesses_of (flights_of old.iommu).rows)) (sym call.flights) (λ x there. there))
-      (λ d there. there) (between_scene keeps has))
+      (λ d there. there) (λ key translation at. at) (between_scene keeps (inl (λ key translation at. sym (stays.1 key) ∙ at)) has))
 
   keeps_accept : access.address < 2 ^ 64 → (number : ℕ) → AcceptsRequest old.memory old.iommu id access number new.iommu → AreSound new (events + 1)
   keeps_accept fits number call =
@@ -117,16 +232,17 @@ module _ (laws : ServiceLaws) (old new : Parts) (events id : ℕ) (access : Acce
       let so_far = (flights_of old.iommu).so_far in
       let leaves = leaves_asked call.registers call.frames
       (ap (λ (f : Flights). row_ids f.rows) is.after ∙ row_ids_kept (flights_of old.iommu).rows (with_access is.row (record { access = access; frame = call.frame }) (so_far + 1))) in
-      let reaches : Reaches old.driver id access.address access.kind call.frame = served laws old events sound own id access.address access.kind (Ok call.frame) fits call.served in
+      let answers = served laws old events sound own id access.address access.kind ioatc.SURE (translations_of old.iommu) (translations_of new.iommu) (Ok call.frame) fits call.served in
+      let from = served_from call.frame answers in
       let count = sound.counted in
       let more : so_far + 1 ≤ events + 1 = omega (arith, count) in
-      sound_from old new events sound own leaves (events + 1) stays (subst (λ (f : Flights). f.so_far ≤ events + 1) (sym is.after) more)
+      sound_from old new events sound own leaves (events + 1) stays_ready (subst (λ (f : Flights). f.so_far ≤ events + 1) (sym is.after) more)
       (contexts_kept old new id sound.contexts keeps driver)
-      (λ has. accept_scene between (values_of new) id (access.address / 4096) call.frame reaches.held.0 access.kind (grants_on leaves)
-      (same_waiting old new events sound own leaves) (same_done old new events sound own leaves) (ap (λ (f : Flights). f.so_far) is.after)
+      (λ has. accept_scene between (values_of new) id from.0 (access.address / 4096) from.1 access.kind (grants_on leaves) (queue_on leaves call.stock) (ap (λ (f : Flights). f.so_far) is.after)
+      (subst (λ n. AreAmongWith (accesses_of (flights_of new.iommu).rows) (record { device = id; frame = n; kind = access.kind; number = so_far + 1 }) (accesses_of (flights_of old.iommu).rows)) from.2
       (subst (λ (f : Flights). AreAmongWith (accesses_of f.rows) (record { device = id; frame = call.frame; kind = access.kind; number = so_far + 1 }) (accesses_of (flights_of old.iommu).rows)) (sym is.after)
-      (accepted_among (flights_of old.iommu).rows id is.row (record { access = access; frame = call.frame }) (so_far + 1) is.stands))
-      (λ d there. there) (ap shown_attachment reaches.attached) reaches.held.1 reaches.held.2 (between_scene keeps has))
+      (accepted_among (flights_of old.iommu).rows id is.row (record { access = access; frame = call.frame }) (so_far + 1) is.stands)))
+      (λ d there. there) (λ key translation at. at) from.4 from.3 (between_scene keeps (change_of call.frame answers) has))
 
   keeps_same : new.iommu ≡ old.iommu → AreSound new (events + 1)
   keeps_same iommu =
@@ -136,7 +252,7 @@ module _ (laws : ServiceLaws) (old new : Parts) (events id : ℕ) (access : Acce
   keeps_replied fits (Accepted number) call = keeps_accept fits number call
   keeps_replied fits Busy call = keeps_same call.2
   keeps_replied fits BadSpan call = keeps_same call.1
-  keeps_replied fits (Fault cause) call = keeps_fault cause call
+  keeps_replied fits (Fault cause) call = keeps_fault fits cause call
 
 pub keeps_asked : ServiceLaws → (old new : Parts) (events id : ℕ) (access : Access) (told : Outcome) → AreSound old events → IsSoundDriver old.driver → StaysReady old.driver → access.address < 2 ^ 64
     → AsksAccess old id access told new → AreSound new (events + 1)

@@ -1,9 +1,10 @@
 -- A request is a lawful step of the ledger machine.
-use Rattle.std.proofs.Common.{◌≡◌, ◌+◌, ◌/◌, ◌^◌, ◌<◌, ◌∙◌, ◌∷◌, ◌++◌, inl, inr, ℕ, List, [], length, map, Some, Ok, Err, refl, sym, ap, subst, arith}
+use Rattle.std.proofs.Common.{◌≡◌, ◌+◌, ◌/◌, ◌^◌, ◌<◌, ◌∙◌, ◌∷◌, ◌++◌, inl, inr, ℕ, Bool, true, List, [], length, map, Some, Ok, Err, refl, sym, ap, subst, arith}
 use Rattle.std.proofs.lemmas.List.{length-map}
 use Rattle.iom_base.specs.declared.access.AcceptedAccess.{AcceptedAccess}
 use Rattle.iom_base.specs.declared.access.Access.{Access}
 use Rattle.iom_base.specs.declared.cause.Cause.{Cause}
+use Rattle.iom_base.specs.Rights.{allows}
 use Rattle.iom_driver.specs.declared.device.Attachment.{Attachment}
 use Rattle.iom_driver.specs.declared.device.Attachment.TheVariants as driver
 use Rattle.iom_driver.specs.Devices.{attachment_of}
@@ -13,11 +14,10 @@ use Rattle.iom_inflight.specs.Flights.{NumberedAccess, FlightRow, row_of, with_r
 use Rattle.iom_inflight.proofs.Rows.{row_is_own}
 use Rattle.iom_iommu.specs.declared.reply.Reply.{Reply}
 use Rattle.iom_iommu.specs.declared.reply.Reply.TheVariants.{Accepted, Busy, BadSpan, Fault}
-use Rattle.iom_iommu.specs.Parts.{flights_of}
+use Rattle.iom_iommu.specs.Parts.{translations_of, flights_of}
 use Rattle.iom_iommu.specs.Requests.{AnswersRequest, AcceptsRequest, RefusesRequest}
 use Rattle.iom_ledger.specs.declared.ledger.Ledger.{Ledger}
 use Rattle.iom_ledger.specs.declared.refusal.Refusal.TheVariants.{NoSuchDevice}
-use Rattle.iom_ledger.specs.Shown.{Agrees}
 use Rattle.iom_machine.specs.declared.outcome.Outcome.{Outcome}
 use Rattle.iom_machine.specs.declared.outcome.Outcome.TheVariants as outcome
 use Rattle.iom_machine.specs.declared.state.Device as machine
@@ -25,7 +25,12 @@ use Rattle.iom_machine.specs.declared.state.State.{State}
 use Rattle.iom_machine.specs.Devices.{replaced_device}
 use Rattle.iom_machine.specs.Machine.{Acts, Requests}
 use Rattle.iom_machine.specs.Requests as requests
-use Rattle.iom_machine.specs.Requests.{MayAccept, MayFault, MayAnswer, IsBusy, state_after, with_accepted}
+use Rattle.iom_machine.specs.Requests.{MayAccept, MayAcceptInOneStage, MayFault, MayAnswer, IsBusy, state_after, with_accepted}
+use Rattle.iom_ledger.specs.Shown.{Agrees, held_in}
+use Rattle.iom_tlb.specs.declared.space.Space.TheVariants as space
+use Rattle.iom_tlb.specs.declared.trans_cache.Translation.{Translation}
+use Rattle.iom_tlb.specs.Chosen.{ioatc}
+use Rattle.iom_tlb.specs.Content.{Content as Translations}
 use Rattle.iom_world.specs.Devices.{accepted_of, in_flight_of, shown_device, shown_devices, shown_attachment}
 use Rattle.iom_world.specs.Parts.{Parts}
 use Rattle.iom_world.specs.Places.{IsAbsent}
@@ -35,7 +40,8 @@ use Rattle.iom_world.specs.Sound.{AreSound}
 use Rattle.iom_world.proofs.DriverLemmas.{IsSoundDriver}
 use Rattle.iom_world.proofs.RowPlaces.{IsFound, absent_shown, present_found, row_shown, accepted_at, in_flight_at, with_own}
 use Rattle.iom_world.proofs.RowLemmas.{map_push}
-use Rattle.iom_world.proofs.ServedLemmas.{ServiceLaws, IsHeldFor, NoneIsHeldFor, Reaches, FaultsAs, cause_at, served}
+use Rattle.iom_world.proofs.ServedLemmas.{ServiceLaws, NoneIsHeldFor, FaultsAs, IsAnswered, cause_at, served}
+use Rattle.iom_world.proofs.CachedMay.{cached_accept}
 
 -- a device acts where it is found; one that isn't there is refused
 pub acts_at : (IfPlugged : machine.Device → Type 0) (old : Parts) (state : State) (id : ℕ) (told : Outcome) (next : State)
@@ -52,9 +58,10 @@ pub shows_same : (old new : Parts) (state : State) → new ≡ old → PartsShow
 shows_same old new state same shows = subst (λ parts. PartsShow parts state) (sym same) shows
 
 -- what the ledger shows as held is held by the history
-held_shown : (state : State) (ledger : Ledger) (id frame : ℕ) (access : Access) → Agrees ledger state.history
-    → IsHeldFor ledger id (access.address / 4096) access.kind frame → requests.HoldsFor state.history id access frame
-held_shown state ledger id frame access agrees held = (held.0, (agrees.pages id (access.address / 4096)).holds ∙ held.1, held.2)
+held_shown : (state : State) (ledger : Ledger) (id : ℕ) (access : Access) (translation : Translation) → Agrees ledger state.history
+    → held_in ledger id (access.address / 4096) ≡ Some (translation.frame, translation.rights) → allows translation.rights access.kind ≡ true
+    → requests.HoldsFor state.history id access translation.frame
+held_shown state ledger id access translation agrees held allowed = (translation.rights, (agrees.pages id (access.address / 4096)).holds ∙ held, allowed)
 
 none_held_shown : (state : State) (ledger : Ledger) (id : ℕ) (access : Access) → Agrees ledger state.history
     → NoneIsHeldFor ledger id (access.address / 4096) access.kind → requests.HoldsNoneFor state.history id access
@@ -62,10 +69,17 @@ none_held_shown state ledger id access agrees none frame held =
     none frame (held.0, sym (agrees.pages id (access.address / 4096)).holds ∙ held.1, held.2)
 
 -- what the machine lets an attached device be accepted, and each fault
-may_accept : (a : Attachment) (state : State) (d : DriverState) (id frame : ℕ) (access : Access) → Agrees d.ledger state.history → (reaches : Reaches d id access.address access.kind frame)
-    → a ≡ driver.Attached reaches.stage → MayAccept (shown_attachment a) state id access frame
-may_accept a state d id frame access agrees reaches is =
-    subst (λ b. MayAccept (shown_attachment b) state id access frame) (sym is) (inl (held_shown state d.ledger id frame access agrees reaches.held))
+may_accept : (parts : Parts) (events : ℕ) (state : State) (id frame : ℕ) (access : Access) (sure : Bool) (old new : Translations) → AreSound parts events → IsSoundDriver parts.driver → PartsShow parts state
+    → old ≡ translations_of parts.iommu → IsAnswered sure parts.driver id access.address access.kind old (Ok frame) new
+    → MayAccept (shown_attachment (attachment_of parts.driver.devices id)) state id access frame
+may_accept parts events state id frame access sure old new sound own shows same (inl reaches) =
+    subst (λ a. MayAccept (shown_attachment a) state id access frame) (sym reaches.attached)
+    (subst (λ n. MayAcceptInOneStage state.history id access n) (sym reaches.frame_is)
+    (inl (held_shown state parts.driver.ledger id access reaches.translation shows.ledger reaches.held reaches.allowed)))
+may_accept parts events state id frame access sure old new sound own shows same (inr finds) =
+    subst (λ n. MayAccept (shown_attachment (attachment_of parts.driver.devices id)) state id access n) (sym finds.frame_is)
+    (cached_accept parts events state id access finds.stage finds.translation sound own shows finds.owned
+    (ap (λ (c : Translations). c (space.First finds.stage.number, access.address / 4096)) (sym same) ∙ finds.cached) finds.allowed)
 
 may_fault : (a : Attachment) (parts : Parts) (state : State) (id : ℕ) (access : Access) (cause : Cause) → IsSoundDriver parts.driver → PartsShow parts state
     → attachment_of parts.driver.devices id ≡ a → FaultsAs a parts.driver id access.address access.kind cause → MayFault (shown_attachment a) state id access cause
@@ -123,7 +137,7 @@ module _ (laws : ServiceLaws) (old new : Parts) (events id : ℕ) (access : Acce
   step_fault : (cause : Cause) → RefusesRequest old.memory old.iommu id access cause new.iommu → Steps state id access (outcome.Fault cause) new
   step_fault cause call =
       let room = call.room in
-      let faults = served laws old events sound own id access.address access.kind (Err cause) fits call.served in
+      let faults = (served laws old events sound own id access.address access.kind ioatc.SURE (translations_of old.iommu) (translations_of new.iommu) (Err cause) fits call.served).0 in
       let count = room.room in
       let many = long room.row room.stands in
       step_same (outcome.Fault cause) (
@@ -139,7 +153,7 @@ module _ (laws : ServiceLaws) (old new : Parts) (events id : ℕ) (access : Acce
       let flight : AcceptedAccess = record { access = access; frame = call.frame } in
       let so_far = (flights_of old.iommu).so_far in
       let after = with_access it.row flight (so_far + 1) in
-      let reaches : Reaches old.driver id access.address access.kind call.frame = served laws old events sound own id access.address access.kind (Ok call.frame) fits call.served in
+      let answers = served laws old events sound own id access.address access.kind ioatc.SURE (translations_of old.iommu) (translations_of new.iommu) (Ok call.frame) fits call.served in
       let accepted : accepted_of rows is.device.id ≡ it.row.accepted = accepted_at rows is.device.id it.row (row_at it.row it.stands) in
       let waiting : in_flight_of rows is.device.id ≡ map (λ (f : NumberedAccess). f.accepted) it.row.waiting = in_flight_at rows is.device.id it.row (row_at it.row it.stands) in
       let next = with_accepted state device access call.frame in
@@ -162,7 +176,7 @@ module _ (laws : ServiceLaws) (old new : Parts) (events id : ℕ) (access : Acce
           (
             (call.within, (λ busy. absurd (omega (arith, count, many, busy)))),
             subst (λ n. MayAccept (shown_attachment (attachment_of old.driver.devices n)) state n access call.frame) (sym is.own)
-                (may_accept (attachment_of old.driver.devices id) state old.driver id call.frame access shows.ledger reaches reaches.attached),
+                (may_accept old events state id call.frame access ioatc.SURE (translations_of old.iommu) (translations_of new.iommu) sound own shows refl answers),
             counted,
           ),
           refl,

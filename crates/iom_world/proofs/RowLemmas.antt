@@ -1,15 +1,17 @@
 -- The rows of accesses in flight, as the facts on copies see them: which accesses there are, and what is left of them when a row is replaced.
-use Rattle.std.proofs.Common.{◌||◌, ◌≡◌, ◌⊎◌, ◌∙◌, ◌++◌, inl, inr, ℕ, Bool, false, List, [], ◌∷◌, map, Some, Contains, refl, sym, ap, subst}
-use Rattle.std.specs.List.{list_any}
-use Rattle.std.proofs.lemmas.Bool.{false≢true}
+use Rattle.std.proofs.Common.{◌&&◌, ◌≡◌, ◌⊎◌, ◌<◌, ◌∙◌, ◌++◌, inl, inr, ℕ, Bool, true, false, not, nat_le, List, [], ◌∷◌, map, Some, Contains, refl, sym, ap, subst}
+use Rattle.std.specs.List.{list_all}
+use Rattle.std.proofs.lemmas.Bool.{false≢true, and_parts, leb-false}
 use Rattle.std.proofs.lemmas.Bool.Decides.{eqb_tells}
 use Rattle.std.proofs.lemmas.List.Elements.{Contains-push_cases, Contains-append_cases, Contains-append_left, Contains-append_right}
 use Rattle.iom_copies.specs.Among.{AreAmong, AreAmongWith}
 use Rattle.iom_copies.specs.Scene.{AccessInFlight}
-use Rattle.iom_copies.proofs.ListLemmas.{in_none, contains_tail}
+use Rattle.iom_copies.proofs.ListLemmas.{in_none, cons_cases, contains_tail}
 use Rattle.iom_base.specs.declared.access.AcceptedAccess.{AcceptedAccess}
+use Rattle.iom_base.specs.declared.access.AccessKind.{AccessKind}
+use Rattle.iom_base.specs.declared.access.AccessKind.TheVariants.{Read, Write}
 use Rattle.iom_inflight.specs.Calls.{with_access}
-use Rattle.iom_inflight.specs.Flights.{NumberedAccess, FlightRow, Flights, row_of, with_row, some_in_flight, has_access}
+use Rattle.iom_inflight.specs.Flights.{NumberedAccess, FlightRow, Flights, row_of, with_row, is_same_kind, is_awaited, is_row_drained, are_drained}
 use Rattle.iom_inflight.proofs.Rows.{row_is_own}
 use Rattle.iom_world.specs.Read.{access_of, accesses_of}
 use Rattle.iom_world.specs.Sound.{row_ids}
@@ -91,16 +93,41 @@ row_ids_kept (first ∷ others) own = elim (eqb_tells first.device own.device) [
   | inr ne ↦ rw ne.0 (ap (λ (ds : List ℕ). first.device ∷ ds) (row_ids_kept others own))
 ]
 
--- where nothing is in flight there is no access
-none_waiting : (waiting : List NumberedAccess) (rest : Bool) → (has_access waiting || rest) ≡ false → (waiting ≡ []) × (rest ≡ false)
-none_waiting [] rest none = (refl, none)
-none_waiting (oldest ∷ later) rest none = absurd (false≢true (sym none))
+later_than : (before number : ℕ) → not (nat_le number before) ≡ true → before < number
+later_than before number none = by (nat_le number before) refl none
+  where
+    by : (b : Bool) → nat_le number before ≡ b → not b ≡ true → before < number
+    by true is none = absurd (false≢true none)
+    by false is none = leb-false number before is
 
-idle_rows : (rows : List FlightRow) → list_any (λ (row : FlightRow). has_access row.waiting) rows ≡ false → accesses_of rows ≡ []
-idle_rows [] none = refl
-idle_rows (row ∷ rows) none =
-    let parts = none_waiting row.waiting (list_any (λ (row : FlightRow). has_access row.waiting) rows) none in
-    ap (λ (l : List NumberedAccess). map (access_of row.device) l ++ accesses_of rows) parts.0 ∙ idle_rows rows parts.1
+-- where no read and no write among the first so many is in flight, each access that is was accepted after them
+access_after : (device before : ℕ) (access : NumberedAccess) (kind : AccessKind) → access.accepted.access.kind ≡ kind → not (is_awaited before Read access) ≡ true
+    → not (is_awaited before Write access) ≡ true → before < access.number
+access_after device before access Read is reads writes = later_than before access.number (ap (λ k. not (is_same_kind k Read && nat_le access.number before)) (sym is) ∙ reads)
+access_after device before access Write is reads writes = later_than before access.number (ap (λ k. not (is_same_kind k Write && nat_le access.number before)) (sym is) ∙ writes)
 
-pub none_in_flight : (flights : Flights) → some_in_flight flights ≡ false → accesses_of flights.rows ≡ []
-none_in_flight flights none = idle_rows flights.rows none
+row_after : (device before : ℕ) (waiting : List NumberedAccess) → list_all (λ access. not (is_awaited before Read access)) waiting ≡ true
+    → list_all (λ access. not (is_awaited before Write access)) waiting ≡ true → (x : AccessInFlight) → Contains (map (access_of device) waiting) x → before < x.number
+row_after device before [] reads writes x there = absurd (in_none x there)
+row_after device before (access ∷ later) reads writes x there =
+    let read = and_parts (not (is_awaited before Read access)) (list_all (λ access. not (is_awaited before Read access)) later) reads in
+    let write = and_parts (not (is_awaited before Write access)) (list_all (λ access. not (is_awaited before Write access)) later) writes in
+    elim (cons_cases (access_of device access) (map (access_of device) later) x there) [
+      | inl same ↦ subst (λ (y : AccessInFlight). before < y.number) same (access_after device before access access.accepted.access.kind refl read.0 write.0)
+      | inr rest ↦ row_after device before later read.1 write.1 x rest
+    ]
+
+rows_after : (before : ℕ) (rows : List FlightRow) → list_all (is_row_drained before Read) rows ≡ true → list_all (is_row_drained before Write) rows ≡ true
+    → (x : AccessInFlight) → Contains (accesses_of rows) x → before < x.number
+rows_after before [] reads writes x there = absurd (in_none x there)
+rows_after before (row ∷ rows) reads writes x there =
+    let read = and_parts (is_row_drained before Read row) (list_all (is_row_drained before Read) rows) reads in
+    let write = and_parts (is_row_drained before Write row) (list_all (is_row_drained before Write) rows) writes in
+    elim (Contains-append_cases (map (access_of row.device) row.waiting) (accesses_of rows) x there) [
+      | inl mine ↦ row_after row.device before row.waiting read.0 write.0 x mine
+      | inr other ↦ rows_after before rows read.1 write.1 x other
+    ]
+
+pub drained_after : (flights : Flights) (before : ℕ) → are_drained flights before Read ≡ true → are_drained flights before Write ≡ true
+    → (x : AccessInFlight) → Contains (accesses_of flights.rows) x → before < x.number
+drained_after flights before reads writes = rows_after before flights.rows reads writes

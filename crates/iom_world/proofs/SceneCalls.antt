@@ -1,6 +1,6 @@
 -- What the driver's calls do to a scene: the facts on copies stay.
-use Rattle.std.proofs.Common.{◌≡◌, ◌≢◌, ◌+◌, ◌-◌, ◌≤◌, ◌<◌, ◌==◌, ◌∙◌, ℕ, zero, suc, Bool, true, false, List, [], ◌∷◌, ◌++◌, Contains, Option, None, Some, refl, sym, ap, subst, arith, if◌then◌else◌}
-use Rattle.std.proofs.lemmas.Bool.{false≢true}
+use Rattle.std.proofs.Common.{◌≡◌, ◌≢◌, ◌+◌, ◌-◌, ◌≤◌, ◌<◌, ◌==◌, ◌⊎◌, inl, inr, ◌∙◌, ℕ, zero, suc, Bool, true, false, List, [], ◌∷◌, ◌++◌, Contains, Option, None, Some, refl, sym, ap, subst, arith, if◌then◌else◌}
+use Rattle.std.proofs.lemmas.Bool.{false≢true, eqb-true}
 use Rattle.std.specs.Option.{option_map, option_to_list}
 use Rattle.iom_base.specs.declared.rights.Rights.{Rights}
 use Rattle.iom_command_queue.specs.declared.command.Command.TheVariants.{IotinvalVma, IodirInvalDdt}
@@ -8,26 +8,55 @@ use Rattle.iom_command_queue.specs.declared.entry.QueueEntry.{QueueEntry}
 use Rattle.iom_command_queue.specs.declared.entry.QueueEntry.TheVariants.{Command}
 use Rattle.iom_copies.specs.Attachments.{IsAttached}
 use Rattle.iom_copies.specs.DriverCalls.{with_attachment, with_kind, with_ticket, release_commands, leave_commands, once_confirmed}
-use Rattle.iom_copies.proofs.ListLemmas.{in_none}
+use Rattle.iom_copies.proofs.ListLemmas.{in_none, contains_head, contains_tail}
 use Rattle.iom_ledger.specs.Confirmations.{confirmed_from}
-use Rattle.iom_copies.specs.Faithful.{IsFaithful}
+use Rattle.iom_copies.specs.Faithful.{GrantsFit, IsFaithful}
 use Rattle.iom_copies.specs.Holdings.{HoldsNothing, LingersOnNothing}
-use Rattle.iom_copies.specs.Queue.{OnePage, WholeSpace, QueuedCommand, DropTranslations, DropContext, Fence}
+use Rattle.iom_copies.specs.Queue.{Extent, OnePage, WholeSpace, QueuedCommand, DropTranslations, DropContext, Fence}
 use Rattle.iom_copies.specs.Occurrences.{Plug, Attach, Grant, Release, Detach}
-use Rattle.iom_copies.specs.Scene.{Scene}
+use Rattle.iom_copies.specs.Scene.{Copy, Scene}
 use Rattle.iom_copies.proofs.OccurrenceLemmas.{occurrences_keep_facts}
 use Rattle.iom_driver.specs.Appends.{fence}
 use Rattle.iom_ledger.specs.declared.entry.HistoryEntry.TheVariants.{Granted, Released}
 use Rattle.iom_ledger.specs.History.{History, Pair, confirms, lingering_at}
 use Rattle.iom_ledger.specs.Shown.{Agrees, held_in, lingering_in, released_in}
 use Rattle.iom_machine.specs.declared.state.Attachment.{Attachment}
-use Rattle.iom_machine.specs.declared.state.Attachment.TheVariants.{Detached, Attached, Leaving}
+use Rattle.iom_machine.specs.declared.state.Attachment.TheVariants.{Detached, Attached, Quarantined, Leaving}
 use Rattle.iom_machine.specs.declared.state.DeviceKind.{DeviceKind}
 use Rattle.iom_machine.specs.declared.state.Mode.TheVariants.{First}
-use Rattle.iom_world.specs.Queued.{AreQueuedAs, pending_after}
-use Rattle.iom_world.specs.Scenes.{Values, HasContextsAlone, IsSceneOf, HasFaithfulScene}
-use Rattle.iom_world.proofs.QueuedLemmas.{queued_append, pending_next}
+use Rattle.iom_tlb.specs.declared.trans_cache.Translation.{Translation}
+use Rattle.iom_tlb.specs.Content.{Key}
+use Rattle.iom_world.specs.Queued.{AreQueuedAs, ComeBefore, pending_after}
+use Rattle.iom_world.specs.Scenes.{Values, copy_of, IsSomebodys, GoesInOrder, IsSceneOf, HasFaithfulScene}
+use Rattle.iom_world.proofs.QueuedLemmas.{NumbersStay, queued_append, queued_still, come_on, come_up_to, none_left, pending_next}
 use Rattle.iom_world.proofs.ConfirmScenes.{left_after, confirmed_scene, confirm_all}
+
+-- what is cached of translations is as it was, or less; the fence at the head counted as many; and who has a number keeps it
+pub record KeepsCached (old new : Values) : Type 0 where
+  pub numbers : (device number : ℕ) → old.number_of device ≡ Some number → new.number_of device ≡ Some number
+  pub translations : (key : Key) (translation : Translation) → new.translations key ≡ Some translation → old.translations key ≡ Some translation
+  pub stock : new.stock ≡ old.stock
+
+-- each cached translation is still somebody's
+somebodys_still : (old new : Values) (scene : Scene) → KeepsCached old new → IsSceneOf old scene
+    → (key : Key) (translation : Translation) → new.translations key ≡ Some translation → IsSomebodys new.number_of scene.translations key translation
+somebodys_still old new scene keeps shows key translation at =
+    let was = shows.translations key translation (keeps.translations key translation at) in record {
+      device = was.device;
+      number = was.number;
+      own = keeps.numbers was.device was.number was.own;
+      space = was.space;
+      there = was.there;
+    }
+
+waits_still : (old new : Values) (scene : Scene) → KeepsCached old new → IsSceneOf old scene → new.address ≡ old.address → new.waiting ≡ old.waiting
+    → AreQueuedAs new.address new.number_of new.waiting scene.waiting
+waits_still old new scene keeps shows address waiting =
+    rw (address, waiting) (queued_still old.address old.number_of new.number_of old.waiting scene.waiting (λ device number extent there own. keeps.numbers device number own) shows.waiting)
+
+-- devices that are attached as before leave as before
+leaves_still : (old new : Values) (scene : Scene) → IsSceneOf old scene → ((d : ℕ) → new.attachment_of d ≡ old.attachment_of d) → (d : ℕ) → GoesInOrder d (new.attachment_of d) scene.waiting
+leaves_still old new scene shows same d = rw (same d) (shows.leaving d)
 
 -- the values are the same, but perhaps for the room of the ledger; less may be cached
 pub record AreSameValues (old new : Values) : Type 0 where
@@ -42,11 +71,12 @@ pub record AreSameValues (old new : Values) : Type 0 where
   pub unplugged : (id : ℕ) → new.is_plugged id ≡ false → old.is_plugged id ≡ false
   pub attachments : (id : ℕ) → new.attachment_of id ≡ old.attachment_of id
   pub contexts : (id : ℕ) → new.is_cached id ≡ true → old.is_cached id ≡ true
+  pub cached : KeepsCached old new
 
 same_scene_of : (old new : Values) (scene : Scene) → AreSameValues old new → IsSceneOf old scene → IsSceneOf new scene
 same_scene_of old new scene same shows = record {
   ledger = same.agrees scene.history shows.ledger;
-  waiting = rw (same.address, same.waiting) shows.waiting;
+  waiting = waits_still old new scene same.cached shows same.address same.waiting;
   completed = shows.completed ∙ sym same.completed;
   last_fence = shows.last_fence ∙ sym same.given;
   pending = rw (same.given, same.confirmed) shows.pending;
@@ -57,6 +87,9 @@ same_scene_of old new scene same shows = record {
   unplugged = λ id none. shows.unplugged id (same.unplugged id none);
   attachments = λ id. shows.attachments id ∙ sym (same.attachments id);
   contexts = λ id is. shows.contexts id (same.contexts id is);
+  translations = somebodys_still old new scene same.cached shows;
+  stock = rw same.cached.stock shows.stock;
+  leaving = leaves_still old new scene shows same.attachments;
   alone = shows.alone;
 }
 
@@ -85,6 +118,7 @@ pub record PlugsOne (old new : Values) (id : ℕ) : Type 0 where
   pub in_flight : new.in_flight ≡ old.in_flight
   pub attachments : (d : ℕ) → new.attachment_of d ≡ old.attachment_of d
   pub contexts : (d : ℕ) → new.is_cached d ≡ true → old.is_cached d ≡ true
+  pub cached : KeepsCached old new
 
 pub plug_scene : (old new : Values) (id : ℕ) (kind : DeviceKind) → PlugsOne old new id → HasFaithfulScene old → HasFaithfulScene new
 plug_scene old new id kind plugs (scene, shows, facts) =
@@ -92,7 +126,7 @@ plug_scene old new id kind plugs (scene, shows, facts) =
       next,
       record {
         ledger = plugs.agrees scene.history shows.ledger;
-        waiting = rw (plugs.address, plugs.waiting) shows.waiting;
+        waiting = waits_still old new scene plugs.cached shows plugs.address plugs.waiting;
         completed = shows.completed ∙ sym plugs.completed;
         last_fence = shows.last_fence ∙ sym plugs.given;
         pending = rw (plugs.given, plugs.confirmed) shows.pending;
@@ -103,7 +137,10 @@ plug_scene old new id kind plugs (scene, shows, facts) =
         unplugged = λ d none. ap (λ b. if b then Some kind else scene.kind_of d) (plugs.unplugged d none).1 ∙ shows.unplugged d (plugs.unplugged d none).0;
         attachments = λ d. shows.attachments d ∙ sym (plugs.attachments d);
         contexts = λ d is. shows.contexts d (plugs.contexts d is);
-        alone = record { stock = shows.alone.stock; goes_on = shows.alone.goes_on; translations = shows.alone.translations; entries = shows.alone.entries; messages = shows.alone.messages; slots = shows.alone.slots };
+        translations = somebodys_still old new scene plugs.cached shows;
+        stock = rw plugs.cached.stock shows.stock;
+        leaving = leaves_still old new scene shows plugs.attachments;
+        alone = record { goes_on = shows.alone.goes_on; entries = shows.alone.entries; messages = shows.alone.messages; slots = shows.alone.slots };
       },
       occurrences_keep_facts (Plug id kind) scene next facts (shows.unplugged id plugs.free, refl),
     )
@@ -115,6 +152,14 @@ AttachesOne old new id now = (d : ℕ) → new.attachment_of d ≡ (if id == d t
 attached_as : (old new : Values) (scene : Scene) (id : ℕ) (now : Attachment) → IsSceneOf old scene → AttachesOne old new id now
     → (d : ℕ) → with_attachment scene.attachment_of id now d ≡ new.attachment_of d
 attached_as old new scene id now shows attaches d = ap (λ before. if id == d then now else before) (shows.attachments d) ∙ sym (attaches d)
+
+-- a device that is attached leaves no more, and others leave as before
+attached_leaves : (old new : Values) (scene : Scene) (id : ℕ) → IsSceneOf old scene → AttachesOne old new id (Attached First false) → (d : ℕ) → GoesInOrder d (new.attachment_of d) scene.waiting
+attached_leaves old new scene id shows attaches d = subst (λ a. GoesInOrder d a scene.waiting) (sym (attaches d)) (by (id == d))
+  where
+    by : (b : Bool) → GoesInOrder d (if b then Attached First false else old.attachment_of d) scene.waiting
+    by true = tt
+    by false = shows.leaving d
 
 -- ATTACH, in the first stage and without ATS
 pub record AttachesDetached (old new : Values) (id : ℕ) : Type 0 where
@@ -130,6 +175,7 @@ pub record AttachesDetached (old new : Values) (id : ℕ) : Type 0 where
   pub in_flight : new.in_flight ≡ old.in_flight
   pub unplugged : (d : ℕ) → new.is_plugged d ≡ false → old.is_plugged d ≡ false
   pub contexts : (d : ℕ) → new.is_cached d ≡ true → old.is_cached d ≡ true
+  pub cached : KeepsCached old new
 
 pub attach_scene : (old new : Values) (id : ℕ) → AttachesDetached old new id → HasFaithfulScene old → HasFaithfulScene new
 attach_scene old new id attaches (scene, shows, facts) =
@@ -137,7 +183,7 @@ attach_scene old new id attaches (scene, shows, facts) =
       next,
       record {
         ledger = attaches.agrees scene.history shows.ledger;
-        waiting = rw (attaches.address, attaches.waiting) shows.waiting;
+        waiting = waits_still old new scene attaches.cached shows attaches.address attaches.waiting;
         completed = shows.completed ∙ sym attaches.completed;
         last_fence = shows.last_fence ∙ sym attaches.given;
         pending = rw (attaches.given, attaches.confirmed) shows.pending;
@@ -148,7 +194,10 @@ attach_scene old new id attaches (scene, shows, facts) =
         unplugged = λ d none. shows.unplugged d (attaches.unplugged d none);
         attachments = attached_as old new scene id (Attached First false) shows attaches.attached;
         contexts = λ d is. shows.contexts d (attaches.contexts d is);
-        alone = record { stock = shows.alone.stock; goes_on = shows.alone.goes_on; translations = shows.alone.translations; entries = shows.alone.entries; messages = shows.alone.messages; slots = shows.alone.slots };
+        translations = somebodys_still old new scene attaches.cached shows;
+        stock = rw attaches.cached.stock shows.stock;
+        leaving = attached_leaves old new scene id shows attaches.attached;
+        alone = record { goes_on = shows.alone.goes_on; entries = shows.alone.entries; messages = shows.alone.messages; slots = shows.alone.slots };
       },
       occurrences_keep_facts (Attach id First false) scene next facts (shows.attachments id ∙ attaches.detached, (λ ats. absurd (false≢true ats)), refl),
     )
@@ -169,6 +218,7 @@ pub record GrantsOne (old new : Values) (id page frame : ℕ) (rights : Rights) 
   pub unplugged : (d : ℕ) → new.is_plugged d ≡ false → old.is_plugged d ≡ false
   pub attachments : (d : ℕ) → new.attachment_of d ≡ old.attachment_of d
   pub contexts : (d : ℕ) → new.is_cached d ≡ true → old.is_cached d ≡ true
+  pub cached : KeepsCached old new
 
 is_attached_so : (attachment : Attachment) → attachment ≡ Attached First false → IsAttached attachment
 is_attached_so attachment is = rw is refl
@@ -182,7 +232,7 @@ grant_scene old new id page frame rights grants (scene, shows, facts) =
       next,
       record {
         ledger = grants.agrees scene.history shows.ledger;
-        waiting = rw (grants.address, grants.waiting) shows.waiting;
+        waiting = waits_still old new scene grants.cached shows grants.address grants.waiting;
         completed = shows.completed ∙ sym grants.completed;
         last_fence = shows.last_fence ∙ sym grants.given;
         pending = rw (grants.given, grants.confirmed) shows.pending;
@@ -193,7 +243,10 @@ grant_scene old new id page frame rights grants (scene, shows, facts) =
         unplugged = λ d none. shows.unplugged d (grants.unplugged d none);
         attachments = λ d. shows.attachments d ∙ sym (grants.attachments d);
         contexts = λ d is. shows.contexts d (grants.contexts d is);
-        alone = record { stock = shows.alone.stock; goes_on = shows.alone.goes_on; translations = shows.alone.translations; entries = shows.alone.entries; messages = shows.alone.messages; slots = shows.alone.slots };
+        translations = somebodys_still old new scene grants.cached shows;
+        stock = rw grants.cached.stock shows.stock;
+        leaving = leaves_still old new scene shows grants.attachments;
+        alone = record { goes_on = shows.alone.goes_on; entries = shows.alone.entries; messages = shows.alone.messages; slots = shows.alone.slots };
       },
       occurrences_keep_facts (Grant id page frame rights) scene next facts (
         is_attached_so (scene.attachment_of id) (shows.attachments id ∙ grants.attached),
@@ -206,7 +259,7 @@ grant_scene old new id page frame rights grants (scene, shows, facts) =
 -- what becomes of queue and tickets when these commands are appended, and behind them the fence of the next ticket
 pub record QueuesTicket (old new : Values) (commands : List QueueEntry) (queued : List QueuedCommand) : Type 0 where
   pub ordered : old.confirmed ≤ old.given
-  pub appended : AreQueuedAs old.address commands queued
+  pub appended : AreQueuedAs old.address old.number_of commands queued
   pub waiting : new.waiting ≡ old.waiting ++ (commands ++ Command (fence old.address (old.given + 1)) ∷ [])
   pub address : new.address ≡ old.address
   pub completed : new.completed ≡ old.completed
@@ -216,24 +269,27 @@ pub record QueuesTicket (old new : Values) (commands : List QueueEntry) (queued 
   pub in_flight : new.in_flight ≡ old.in_flight
   pub unplugged : (d : ℕ) → new.is_plugged d ≡ false → old.is_plugged d ≡ false
   pub contexts : (d : ℕ) → new.is_cached d ≡ true → old.is_cached d ≡ true
+  pub cached : KeepsCached old new
 
 module _ (old new : Values) (scene : Scene) (commands : List QueueEntry) (queued : List QueuedCommand) (shows : IsSceneOf old scene) (queues : QueuesTicket old new commands queued) where
-  fence_now : AreQueuedAs old.address (Command (fence old.address (old.given + 1)) ∷ []) (Fence (scene.last_fence + 1) ∷ [])
+  fence_now : AreQueuedAs old.address old.number_of (Command (fence old.address (old.given + 1)) ∷ []) (Fence (scene.last_fence + 1) ∷ [])
   fence_now = (ap (λ n. fence old.address (n + 1)) (sym shows.last_fence), tt)
 
-  waiting_now : AreQueuedAs new.address new.waiting (scene.waiting ++ (queued ++ Fence (scene.last_fence + 1) ∷ []))
+  waiting_now : AreQueuedAs new.address new.number_of new.waiting (scene.waiting ++ (queued ++ Fence (scene.last_fence + 1) ∷ []))
   waiting_now =
       rw (queues.address, queues.waiting)
-      (queued_append old.address old.waiting (commands ++ Command (fence old.address (old.given + 1)) ∷ []) scene.waiting (queued ++ Fence (scene.last_fence + 1) ∷ []) shows.waiting
-      (queued_append old.address commands (Command (fence old.address (old.given + 1)) ∷ []) queued (Fence (scene.last_fence + 1) ∷ []) queues.appended fence_now))
+      (queued_still old.address old.number_of new.number_of _ (scene.waiting ++ (queued ++ Fence (scene.last_fence + 1) ∷ [])) (λ device number extent there own. queues.cached.numbers device number own)
+      (queued_append old.address old.number_of old.waiting (commands ++ Command (fence old.address (old.given + 1)) ∷ []) scene.waiting (queued ++ Fence (scene.last_fence + 1) ∷ []) shows.waiting
+      (queued_append old.address old.number_of commands (Command (fence old.address (old.given + 1)) ∷ []) queued (Fence (scene.last_fence + 1) ∷ []) queues.appended fence_now)))
 
   pending_now : (with_ticket scene queued).pending ≡ pending_after new.confirmed (new.given - new.confirmed)
   pending_now =
       rw (shows.pending, shows.given, shows.last_fence, queues.given, queues.confirmed) (pending_next old.confirmed old.given queues.ordered)
 
   pub ticket_shows : (history : History) (attachment_of : ℕ → Attachment) → Agrees new.ledger history → ((d : ℕ) → attachment_of d ≡ new.attachment_of d)
+      → ((d : ℕ) → GoesInOrder d (new.attachment_of d) (scene.waiting ++ (queued ++ Fence (scene.last_fence + 1) ∷ [])))
       → IsSceneOf new (record (with_ticket scene queued) { history = history; attachment_of = attachment_of })
-  ticket_shows history attachment_of agrees attachments = record {
+  ticket_shows history attachment_of agrees attachments leaving = record {
     ledger = agrees;
     waiting = waiting_now;
     completed = shows.completed ∙ sym queues.completed;
@@ -246,7 +302,10 @@ module _ (old new : Values) (scene : Scene) (commands : List QueueEntry) (queued
     unplugged = λ d none. shows.unplugged d (queues.unplugged d none);
     attachments = attachments;
     contexts = λ d is. shows.contexts d (queues.contexts d is);
-    alone = record { stock = shows.alone.stock; goes_on = shows.alone.goes_on; translations = shows.alone.translations; entries = shows.alone.entries; messages = shows.alone.messages; slots = shows.alone.slots };
+    translations = somebodys_still old new scene queues.cached shows;
+    stock = rw queues.cached.stock shows.stock;
+    leaving = leaving;
+    alone = record { goes_on = shows.alone.goes_on; entries = shows.alone.entries; messages = shows.alone.messages; slots = shows.alone.slots };
   }
 
 -- a ticket above the last that is confirmed isn't confirmed
@@ -256,6 +315,33 @@ unconfirmed_next values scene ticket shows facts above = by (confirms scene.hist
     by : (b : Bool) → confirms scene.history ticket ≡ b → b ≡ false
     by false is = refl
     by true is = let low = facts.order.confirmed ticket is in let same = shows.confirmed in absurd (omega (arith, low, above, same))
+
+-- no invalidation of an attached device is one of a leaving device
+release_goes : (old : Values) (scene : Scene) (id page number d : ℕ) (a : Attachment) → old.attachment_of id ≡ Attached First false → old.attachment_of d ≡ a → GoesInOrder d a scene.waiting
+    → GoesInOrder d a (scene.waiting ++ (release_commands id (OnePage page) false ++ Fence number ∷ []))
+release_goes old scene id page number d Detached attached is goes = tt
+release_goes old scene id page number d (Attached mode ats) attached is goes = tt
+release_goes old scene id page number d (Quarantined ticket mode ats) attached is goes = tt
+release_goes old scene id page number d (Leaving ticket mode ats) attached is goes =
+    come_on d ticket scene.waiting (release_commands id (OnePage page) false ++ Fence number ∷ []) goes
+    ((λ same. let both = sym attached ∙ ap old.attachment_of same ∙ is in cc), tt)
+
+detach_goes : (old : Values) (scene : Scene) (id number d : ℕ) (a : Attachment) → old.attachment_of id ≡ Attached First false → old.attachment_of d ≡ a → GoesInOrder d a scene.waiting
+    → GoesInOrder d a (scene.waiting ++ (leave_commands id ++ Fence number ∷ []))
+detach_goes old scene id number d Detached attached is goes = tt
+detach_goes old scene id number d (Attached mode ats) attached is goes = tt
+detach_goes old scene id number d (Quarantined ticket mode ats) attached is goes = tt
+detach_goes old scene id number d (Leaving ticket mode ats) attached is goes =
+    come_on d ticket scene.waiting (leave_commands id ++ Fence number ∷ []) goes
+    ((λ same. let both = sym attached ∙ ap old.attachment_of same ∙ is in cc), tt)
+
+-- those of the device that leaves now come in front of its fence
+detached_goes : (scene : Scene) (id number : ℕ) → ComeBefore id number (scene.waiting ++ (leave_commands id ++ Fence number ∷ []))
+detached_goes scene id number =
+    let last : Contains (Fence number ∷ []) (Fence number) = contains_head (Fence number) [] in
+    let behind = contains_tail (DropTranslations id WholeSpace) (Fence number ∷ []) (Fence number) last in
+    come_up_to id number scene.waiting (leave_commands id ++ Fence number ∷ []) (contains_tail (DropContext id) (DropTranslations id WholeSpace ∷ Fence number ∷ []) (Fence number) behind)
+    ((λ same. last), tt)
 
 -- RELEASE
 pub release_scene : (old new : Values) (id page : ℕ) (commands : List QueueEntry) → QueuesTicket old new commands (DropTranslations id (OnePage page) ∷ [])
@@ -269,7 +355,9 @@ release_scene old new id page commands queues attached same agrees (scene, shows
     let agreed : Agrees new.ledger (Released id page (scene.given + 1) ∷ scene.history) =
     rw shows.given (agrees scene.history shows.ledger (unconfirmed_next old scene (old.given + 1) shows facts (omega (arith, ordered)))) in (
       next,
-      ticket_shows old new scene commands queued shows queues (Released id page (scene.given + 1) ∷ scene.history) scene.attachment_of agreed (λ d. shows.attachments d ∙ sym (same d)),
+      ticket_shows old new scene commands queued shows queues (Released id page (scene.given + 1) ∷ scene.history) scene.attachment_of agreed (λ d. shows.attachments d ∙ sym (same d))
+          (λ d. subst (λ a. GoesInOrder d a (scene.waiting ++ (queued ++ Fence (scene.last_fence + 1) ∷ []))) (sym (same d))
+          (release_goes old scene id page (scene.last_fence + 1) d (old.attachment_of d) attached refl (shows.leaving d))),
       occurrences_keep_facts (Release id page) scene next facts (First, false, shows.attachments id ∙ attached, refl),
     )
 
@@ -283,7 +371,8 @@ detach_scene old new id commands queues attached leaves nothing agrees (scene, s
     let next : Scene = record (with_ticket scene (leave_commands id)) { attachment_of = now } in
     let leaves_so : AttachesOne old new id (Leaving (scene.given + 1) First false) = rw shows.given leaves in (
       next,
-      ticket_shows old new scene commands (leave_commands id) shows queues scene.history now (agrees scene.history shows.ledger) (attached_as old new scene id (Leaving (scene.given + 1) First false) shows leaves_so),
+      ticket_shows old new scene commands (leave_commands id) shows queues scene.history now (agrees scene.history shows.ledger) (attached_as old new scene id (Leaving (scene.given + 1) First false) shows leaves_so)
+          (λ d. subst (λ a. GoesInOrder d a (scene.waiting ++ (leave_commands id ++ Fence (scene.last_fence + 1) ∷ []))) (sym (leaves d)) (goes d (id == d) refl)),
       occurrences_keep_facts (Detach id) scene next facts (
         First,
         false,
@@ -293,8 +382,65 @@ detach_scene old new id commands queues attached leaves nothing agrees (scene, s
         refl,
       ),
     )
+  where
+    goes : (d : ℕ) (b : Bool) → (id == d) ≡ b
+        → GoesInOrder d (if b then Leaving (old.given + 1) First false else old.attachment_of d) (scene.waiting ++ (leave_commands id ++ Fence (scene.last_fence + 1) ∷ []))
+    goes d true is =
+        let same : id ≡ d = eqb-true id d is in
+        let ticket : scene.last_fence + 1 ≡ old.given + 1 = ap (λ n. n + 1) shows.last_fence in
+        subst (λ n. ComeBefore d n (scene.waiting ++ (leave_commands id ++ Fence (scene.last_fence + 1) ∷ []))) ticket
+        (subst (λ e. ComeBefore e (scene.last_fence + 1) (scene.waiting ++ (leave_commands id ++ Fence (scene.last_fence + 1) ∷ []))) same (detached_goes scene id (scene.last_fence + 1)))
+    goes d false is = detach_goes old scene id (scene.last_fence + 1) d (old.attachment_of d) attached refl (shows.leaving d)
 
 -- POLL, which confirms so many tickets
+
+-- the device leaves, under a ticket up to this one
+abbrev pub HasLeft : Attachment → ℕ → Type 0
+HasLeft Detached last = ⊥
+HasLeft (Attached mode ats) last = ⊥
+HasLeft (Quarantined ticket mode ats) last = ⊥
+HasLeft (Leaving ticket mode ats) last = ticket ≤ last
+
+-- no translation is cached of a device that leaves: it holds nothing, and nothing lingers for it
+pub none_cached : (scene : Scene) (copy : Copy) (a : Attachment) (last : ℕ) → IsFaithful scene → scene.attachment_of copy.device ≡ a → HasLeft a last → ¬ Contains scene.translations copy
+none_cached scene copy Detached last facts is left there = left
+none_cached scene copy (Attached mode ats) last facts is left there = left
+none_cached scene copy (Quarantined ticket mode ats) last facts is left there = left
+none_cached scene copy (Leaving ticket mode ats) last facts is left there =
+    let fits : GrantsFit scene.history copy.device (Leaving ticket mode ats) = subst (GrantsFit scene.history copy.device) is (facts.order.grants copy.device) in
+    let backed = facts.translations copy there in
+    elim backed.3 [
+      | inl holds ↦ let none = fits.0 backed.0 in none_some copy.pair.0 backed.1 (sym none ∙ holds)
+      | inr (under, released, still) ↦ fits.1 backed.0 under (copy.pair.0, backed.1) released
+    ]
+  where
+    none_some : (frame : ℕ) (rights : Rights) → ◌≡◌ {A = Option Pair} None (Some (frame, rights)) → ⊥
+    none_some frame rights same = cc
+
+-- nor is an invalidation of its translations queued, once its fence is done
+none_queued : (scene : Scene) (device : ℕ) (extent : Extent) (a : Attachment) (last : ℕ) → IsFaithful scene → GoesInOrder device a scene.waiting → HasLeft a last → last ≤ scene.completed
+    → ¬ Contains scene.waiting (DropTranslations device extent)
+none_queued scene device extent Detached last facts goes left done there = left
+none_queued scene device extent (Attached mode ats) last facts goes left done there = left
+none_queued scene device extent (Quarantined ticket mode ats) last facts goes left done there = left
+none_queued scene device extent (Leaving ticket mode ats) last facts goes left done there =
+    none_left device ticket scene.completed scene.last_fence extent scene.waiting goes facts.order.fences (omega (arith, left, done)) there
+
+-- who leaves still does so in order, or has left
+goes_once : (d ticket : ℕ) (a : Attachment) (waiting : List QueuedCommand) → GoesInOrder d a waiting → GoesInOrder d (once_confirmed ticket a) waiting
+goes_once d ticket Detached waiting goes = tt
+goes_once d ticket (Attached mode ats) waiting goes = tt
+goes_once d ticket (Quarantined own mode ats) waiting goes = tt
+goes_once d ticket (Leaving own mode ats) waiting goes = by (ticket == own)
+  where
+    by : (b : Bool) → GoesInOrder d (if b then Detached else Leaving own mode ats) waiting
+    by true = tt
+    by false = goes
+
+goes_after : (first n d : ℕ) (attachment_of : ℕ → Attachment) (waiting : List QueuedCommand) → GoesInOrder d (attachment_of d) waiting → GoesInOrder d (left_after first n attachment_of d) waiting
+goes_after first zero d attachment_of waiting goes = goes
+goes_after first (suc n) d attachment_of waiting goes = goes_once d (first + n + 1) (left_after first n attachment_of d) waiting (goes_after first n d attachment_of waiting goes)
+
 pub record ConfirmsSome (old new : Values) (n rest : ℕ) : Type 0 where
   pub many : old.given - old.confirmed ≡ n + rest
   pub done : old.confirmed + n ≤ old.completed
@@ -309,6 +455,10 @@ pub record ConfirmsSome (old new : Values) (n rest : ℕ) : Type 0 where
   pub in_flight : new.in_flight ≡ old.in_flight
   pub unplugged : (d : ℕ) → new.is_plugged d ≡ false → old.is_plugged d ≡ false
   pub contexts : (d : ℕ) → new.is_cached d ≡ true → old.is_cached d ≡ true
+  pub numbers : (device number : ℕ) → old.number_of device ≡ Some number
+      → (new.number_of device ≡ Some number) ⊎ HasLeft (old.attachment_of device) (old.confirmed + n)
+  pub translations : new.translations ≡ old.translations
+  pub stock : new.stock ≡ old.stock
 
 left_alike : (first n : ℕ) (one other : ℕ → Attachment) (d : ℕ) → ((e : ℕ) → one e ≡ other e) → left_after first n one d ≡ left_after first n other d
 left_alike first zero one other d same = same d
@@ -323,7 +473,7 @@ poll_scene old new n rest confirms_some (scene, shows, facts) =
       confirmed_scene scene n rest,
       record {
         ledger = rw c (confirms_some.agrees scene.history shows.ledger);
-        waiting = rw (confirms_some.address, confirms_some.waiting) shows.waiting;
+        waiting = rw (confirms_some.address, confirms_some.waiting) (queued_still old.address old.number_of new.number_of old.waiting scene.waiting stay shows.waiting);
         completed = shows.completed ∙ sym confirms_some.completed;
         last_fence = shows.last_fence ∙ sym confirms_some.given;
         pending = ap (λ k. pending_after k rest) (ap (λ k. k + n) c ∙ sym confirms_some.confirmed) ∙ ap (pending_after new.confirmed) (sym left);
@@ -334,7 +484,27 @@ poll_scene old new n rest confirms_some (scene, shows, facts) =
         unplugged = λ d none. shows.unplugged d (confirms_some.unplugged d none);
         attachments = λ d. ap (λ k. left_after k n scene.attachment_of d) c ∙ left_alike old.confirmed n scene.attachment_of old.attachment_of d shows.attachments ∙ sym (confirms_some.attachments d);
         contexts = λ d is. shows.contexts d (confirms_some.contexts d is);
-        alone = record { stock = shows.alone.stock; goes_on = shows.alone.goes_on; translations = shows.alone.translations; entries = shows.alone.entries; messages = shows.alone.messages; slots = shows.alone.slots };
+        translations = still;
+        stock = rw confirms_some.stock shows.stock;
+        leaving = λ d. subst (λ a. GoesInOrder d a scene.waiting) (sym (confirms_some.attachments d)) (goes_after old.confirmed n d old.attachment_of scene.waiting (shows.leaving d));
+        alone = record { goes_on = shows.alone.goes_on; entries = shows.alone.entries; messages = shows.alone.messages; slots = shows.alone.slots };
       },
       confirm_all scene n rest facts pending done,
     )
+  where
+    done_now : old.confirmed + n ≤ scene.completed
+    done_now = rw shows.completed confirms_some.done
+
+    stay : NumbersStay old.number_of new.number_of scene.waiting
+    stay device number extent there own = elim (confirms_some.numbers device number own) [
+      | inl now ↦ now
+      | inr left ↦ absurd (none_queued scene device extent (old.attachment_of device) (old.confirmed + n) facts (shows.leaving device) left done_now there)
+    ]
+
+    still : (key : Key) (translation : Translation) → new.translations key ≡ Some translation → IsSomebodys new.number_of scene.translations key translation
+    still key translation at =
+        let was = shows.translations key translation (sym (ap (λ c. c key) confirms_some.translations) ∙ at) in
+        elim (confirms_some.numbers was.device was.number was.own) [
+          | inl now ↦ record { device = was.device; number = was.number; own = now; space = was.space; there = was.there }
+          | inr left ↦ absurd (none_cached scene (copy_of was.device key.1 translation) (old.attachment_of was.device) (old.confirmed + n) facts (shows.attachments was.device) left was.there)
+        ]

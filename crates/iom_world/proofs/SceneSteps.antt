@@ -1,7 +1,7 @@
 -- What requests, commits and fetches do to a scene: the facts on copies stay.
-use Rattle.std.proofs.Common.{◌≡◌, ◌≢◌, ◌+◌, ◌≤◌, ◌<◌, ◌==◌, ◌⊎◌, inl, inr, ◌∙◌, ℕ, Bool, true, false, not, List, [], ◌∷◌, ◌++◌, filter, Contains, Option, None, Some, refl, sym, ap, subst, arith}
+use Rattle.std.proofs.Common.{◌≡◌, ◌≢◌, ◌+◌, ◌≤◌, ◌<◌, ◌==◌, ◌&&◌, ◌⊎◌, inl, inr, ◌∙◌, ℕ, Bool, true, false, not, List, [], ◌∷◌, ◌++◌, filter, Contains, Option, None, Some, refl, sym, ap, subst, arith}
 use Rattle.std.specs.Bool.{⊤}
-use Rattle.std.proofs.lemmas.Bool.{false≢true}
+use Rattle.std.proofs.lemmas.Bool.{false≢true, eqb-true, eq-eqb}
 use Rattle.iom_base.specs.declared.access.AccessKind.{AccessKind}
 use Rattle.iom_base.specs.declared.rights.Rights.{Rights}
 use Rattle.iom_base.specs.Rights.{allows}
@@ -15,21 +15,28 @@ use Rattle.iom_copies.specs.Attachments.{in_both_stages, IsAttached}
 use Rattle.iom_copies.specs.Backing.{ComesFrom}
 use Rattle.iom_copies.specs.Faithful.{IsFaithful}
 use Rattle.iom_copies.specs.Fetches.{TranslationsAreDropped, ContextIsDropped, FenceTakesStock, FenceIsDone}
-use Rattle.iom_copies.specs.Queue.{Extent, QueuedCommand, DropTranslations, DropContext, Invalidate, Fence}
-use Rattle.iom_copies.specs.Occurrences.{KeepContext, Accept, Make, FetchIotinval, FetchIodir, TakeStock, CompleteFence}
-use Rattle.iom_copies.specs.Requests.{IsWalked, next_access}
-use Rattle.iom_copies.specs.Scene.{Copy, AccessInFlight, Scene}
+use Rattle.iom_copies.specs.Queue.{Extent, OnePage, WholeSpace, covers, QueuedCommand, DropTranslations, DropContext, Invalidate, Fence}
+use Rattle.iom_copies.specs.Occurrences.{KeepContext, KeepTranslation, Accept, Make, FetchIotinval, FetchIodir, TakeStock, CompleteFence}
+use Rattle.iom_copies.specs.Requests.{IsWalked, IsSource, next_access}
+use Rattle.iom_copies.specs.Scene.{Copy, AccessInFlight, Scene, Stock}
 use Rattle.iom_copies.proofs.ListLemmas.{in_none, cons_cases, contains_head, contains_tail, contains_filter, contains_from_filter}
 use Rattle.iom_copies.proofs.OccurrenceLemmas.{occurrences_keep_facts}
 use Rattle.iom_driver.specs.Appends.{fence}
 use Rattle.iom_driver.proofs.Lists.{differs}
 use Rattle.iom_ledger.specs.Shown.{Agrees, held_in}
 use Rattle.iom_machine.specs.declared.state.Attachment.{Attachment}
-use Rattle.iom_machine.specs.declared.state.Attachment.TheVariants.{Attached}
+use Rattle.iom_machine.specs.declared.state.Attachment.TheVariants.{Detached, Attached, Quarantined, Leaving}
 use Rattle.iom_machine.specs.declared.state.Mode.TheVariants.{First}
-use Rattle.iom_world.specs.Queued.{IsQueuedAs, AreQueuedAs, pending_after}
-use Rattle.iom_world.proofs.QueuedLemmas.{queued_first}
-use Rattle.iom_world.specs.Scenes.{Values, HasContextsAlone, IsSceneOf, HasFaithfulScene}
+use Rattle.iom_iommu.specs.Fetches.{accepted_before}
+use Rattle.iom_tlb.specs.declared.space.Space.{Space}
+use Rattle.iom_tlb.specs.declared.space.Space.TheVariants as space
+use Rattle.iom_tlb.specs.declared.trans_cache.Translation.{Translation}
+use Rattle.iom_tlb.specs.Content.{Key, Content as Translations}
+use Rattle.iom_tlb.specs.Covers.{are_covering}
+use Rattle.iom_tlb.specs.Invalidations.{covers_of, vma_covers}
+use Rattle.iom_world.specs.Queued.{IsOfExtent, IsInvalidation, IsQueuedAs, AreQueuedAs, pending_after}
+use Rattle.iom_world.proofs.QueuedLemmas.{NumbersStay, queued_first, queued_still, come_after}
+use Rattle.iom_world.specs.Scenes.{Values, copy_of, IsSomebodys, IsStockOf, GoesInOrder, IsSceneOf, HasFaithfulScene}
 
 -- what neither a request nor a commit nor a fetch changes
 pub record KeepsGrants (old new : Values) : Type 0 where
@@ -39,46 +46,106 @@ pub record KeepsGrants (old new : Values) : Type 0 where
   pub confirmed : new.confirmed ≡ old.confirmed
   pub plugged : (d : ℕ) → new.is_plugged d ≡ old.is_plugged d
   pub attachments : (d : ℕ) → new.attachment_of d ≡ old.attachment_of d
+  pub numbers : (d : ℕ) → new.number_of d ≡ old.number_of d
 
--- a scene of such values, by what may be others
+-- what a request or a commit leaves of the queue, and what the fence at the head counted
+pub record KeepsQueue (old new : Values) : Type 0 where
+  pub waiting : new.waiting ≡ old.waiting
+  pub completed : new.completed ≡ old.completed
+  pub stock : new.stock ≡ old.stock
+
+-- what is cached of translations is cached before too
+abbrev pub CachesNoMore : Values → Values → Type 0
+CachesNoMore old new = (key : Key) (translation : Translation) → new.translations key ≡ Some translation → old.translations key ≡ Some translation
+
+-- what may be others of a scene of such values
+pub record IsNext (new : Values) (old : Values) (next : Scene) : Type 0 where
+  pub waiting : AreQueuedAs old.address old.number_of new.waiting next.waiting
+  pub completed : next.completed ≡ new.completed
+  pub accepted : next.accepted ≡ new.so_far
+  pub in_flight : next.in_flight ≡ new.in_flight
+  pub contexts : (d : ℕ) → new.is_cached d ≡ true → Contains next.contexts d
+  pub translations : (key : Key) (translation : Translation) → new.translations key ≡ Some translation → IsSomebodys old.number_of next.translations key translation
+  pub stock : IsStockOf new.stock next.stock
+  pub leaving : (d : ℕ) → GoesInOrder d (old.attachment_of d) next.waiting
+
+numbers_alike : (old new : ℕ → Option ℕ) (queued : List QueuedCommand) → ((d : ℕ) → new d ≡ old d) → NumbersStay old new queued
+numbers_alike old new queued same device number extent there own = same device ∙ own
+
+-- a scene of such values
 scene_from : (old new : Values) (scene next : Scene) → KeepsGrants old new → IsSceneOf old scene
-    → next ≡ record scene { waiting = next.waiting; completed = next.completed; accepted = next.accepted; in_flight = next.in_flight; contexts = next.contexts }
-    → AreQueuedAs old.address new.waiting next.waiting → next.completed ≡ new.completed → next.accepted ≡ new.so_far → next.in_flight ≡ new.in_flight
-    → ((d : ℕ) → new.is_cached d ≡ true → Contains next.contexts d) → IsSceneOf new next
-scene_from old new scene next keeps shows same waiting completed accepted in_flight contexts = record {
+    → next ≡ record scene {
+      waiting = next.waiting;
+      completed = next.completed;
+      stock = next.stock;
+      accepted = next.accepted;
+      in_flight = next.in_flight;
+      contexts = next.contexts;
+      translations = next.translations;
+    }
+    → IsNext new old next → IsSceneOf new next
+scene_from old new scene next keeps shows same is = record {
   ledger = rw (keeps.ledger, ap (λ (s : Scene). s.history) same) shows.ledger;
-  waiting = rw keeps.address waiting;
-  completed = completed;
+  waiting = rw keeps.address (queued_still old.address old.number_of new.number_of new.waiting next.waiting (numbers_alike old.number_of new.number_of next.waiting keeps.numbers) is.waiting);
+  completed = is.completed;
   last_fence = ap (λ (s : Scene). s.last_fence) same ∙ shows.last_fence ∙ sym keeps.given;
   pending = rw (ap (λ (s : Scene). s.pending) same, keeps.given, keeps.confirmed) shows.pending;
   given = ap (λ (s : Scene). s.given) same ∙ shows.given ∙ sym keeps.given;
   confirmed = ap (λ (s : Scene). s.confirmed) same ∙ shows.confirmed ∙ sym keeps.confirmed;
-  accepted = accepted;
-  in_flight = in_flight;
+  accepted = is.accepted;
+  in_flight = is.in_flight;
   unplugged = λ d none. ap (λ (s : Scene). s.kind_of d) same ∙ shows.unplugged d (sym (keeps.plugged d) ∙ none);
   attachments = λ d. ap (λ (s : Scene). s.attachment_of d) same ∙ shows.attachments d ∙ sym (keeps.attachments d);
-  contexts = contexts;
+  contexts = is.contexts;
+  translations = λ key translation at.
+      let one = is.translations key translation at in
+      record { device = one.device; number = one.number; own = keeps.numbers one.device ∙ one.own; space = one.space; there = one.there };
+  stock = is.stock;
+  leaving = λ d. subst (λ a. GoesInOrder d a next.waiting) (sym (keeps.attachments d)) (is.leaving d);
   alone = record {
-    stock = ap (λ (s : Scene). s.stock) same ∙ shows.alone.stock;
     goes_on = ap (λ (s : Scene). s.is_stopped) same ∙ shows.alone.goes_on;
-    translations = ap (λ (s : Scene). s.translations) same ∙ shows.alone.translations;
     entries = ap (λ (s : Scene). s.entries) same ∙ shows.alone.entries;
     messages = ap (λ (s : Scene). s.messages) same ∙ shows.alone.messages;
     slots = ap (λ (s : Scene). s.slots) same ∙ shows.alone.slots;
   };
 }
 
+-- a scene's own values
+pub own_next : (old new : Values) (scene : Scene) → KeepsQueue old new → new.so_far ≡ old.so_far → new.in_flight ≡ old.in_flight
+    → ((d : ℕ) → new.is_cached d ≡ true → old.is_cached d ≡ true) → CachesNoMore old new → IsSceneOf old scene → IsNext new old scene
+own_next old new scene queue so_far in_flight cached less shows = record {
+  waiting = rw queue.waiting shows.waiting;
+  completed = shows.completed ∙ sym queue.completed;
+  accepted = shows.accepted ∙ sym so_far;
+  in_flight = shows.in_flight ∙ sym in_flight;
+  contexts = λ d is. shows.contexts d (cached d is);
+  translations = λ key translation at. shows.translations key translation (less key translation at);
+  stock = rw queue.stock shows.stock;
+  leaving = shows.leaving;
+}
+
+is_attached : (attachment : Attachment) → attachment ≡ Attached First false → IsAttached attachment
+is_attached attachment is = rw is refl
+
 -- A CONTEXT IS KEPT: that of an attached device; of what was cached nothing else comes
-pub keep_scene : (old new : Values) (id : ℕ) → KeepsGrants old new → new.waiting ≡ old.waiting → new.completed ≡ old.completed → new.so_far ≡ old.so_far → new.in_flight ≡ old.in_flight
+pub keep_scene : (old new : Values) (id : ℕ) → KeepsGrants old new → KeepsQueue old new → new.so_far ≡ old.so_far → new.in_flight ≡ old.in_flight → CachesNoMore old new
     → old.attachment_of id ≡ Attached First false → ((d : ℕ) → new.is_cached d ≡ true → (old.is_cached d ≡ true) ⊎ (d ≡ id)) → HasFaithfulScene old → HasFaithfulScene new
-keep_scene old new id keeps waiting completed so_far in_flight attached cached (scene, shows, facts) =
+keep_scene old new id keeps queue so_far in_flight less attached cached (scene, shows, facts) =
     let next : Scene = record scene { contexts = id ∷ scene.contexts } in (
       next,
-      scene_from old new scene next keeps shows refl (rw waiting shows.waiting) (shows.completed ∙ sym completed) (shows.accepted ∙ sym so_far) (shows.in_flight ∙ sym in_flight)
-          (λ d is. elim (cached d is) [
-            | inl before ↦ contains_tail id scene.contexts d (shows.contexts d before)
-            | inr same ↦ subst (Contains (id ∷ scene.contexts)) (sym same) (contains_head id scene.contexts)
-          ]),
+      scene_from old new scene next keeps shows refl (record {
+        waiting = rw queue.waiting shows.waiting;
+        completed = shows.completed ∙ sym queue.completed;
+        accepted = shows.accepted ∙ sym so_far;
+        in_flight = shows.in_flight ∙ sym in_flight;
+        contexts = λ d is. elim (cached d is) [
+          | inl before ↦ contains_tail id scene.contexts d (shows.contexts d before)
+          | inr same ↦ subst (Contains (id ∷ scene.contexts)) (sym same) (contains_head id scene.contexts)
+        ];
+        translations = λ key translation at. shows.translations key translation (less key translation at);
+        stock = rw queue.stock shows.stock;
+        leaving = shows.leaving;
+      }),
       occurrences_keep_facts (KeepContext id) scene next facts (
         id ∷ scene.contexts,
         is_attached (scene.attachment_of id) (shows.attachments id ∙ attached),
@@ -86,36 +153,133 @@ keep_scene old new id keeps waiting completed so_far in_flight attached cached (
         refl,
       ),
     )
-  where
-    is_attached : (attachment : Attachment) → attachment ≡ Attached First false → IsAttached attachment
-    is_attached attachment is = rw is refl
 
--- AN ACCESS IS ACCEPTED, on the frame that the device holds at the page, with a right that allows it
-pub accept_scene : (old new : Values) (id page frame : ℕ) (rights : Rights) (kind : AccessKind) → KeepsGrants old new → new.waiting ≡ old.waiting → new.completed ≡ old.completed
-    → new.so_far ≡ old.so_far + 1 → AreAmongWith new.in_flight (record { device = id; frame = frame; kind = kind; number = old.so_far + 1 }) old.in_flight
-    → ((d : ℕ) → new.is_cached d ≡ true → old.is_cached d ≡ true)
-    → old.attachment_of id ≡ Attached First false → held_in old.ledger id page ≡ Some (frame, rights) → allows rights kind ≡ true → HasFaithfulScene old → HasFaithfulScene new
-accept_scene old new id page frame rights kind keeps waiting completed so_far among cached attached held allowed (scene, shows, facts) =
-    let copy : Copy = record { device = id; page = page; pair = (frame, rights) } in
-    let next : Scene = record scene { accepted = scene.accepted + 1; in_flight = new.in_flight } in
+-- what a walk gives is held: in one stage, at the page itself
+walked_there : (values : Values) (scene : Scene) (id page : ℕ) (translation : Translation) → IsSceneOf values scene → values.attachment_of id ≡ Attached First false
+    → held_in values.ledger id page ≡ Some (translation.frame, translation.rights) → IsWalked scene (copy_of id page translation)
+walked_there values scene id page translation shows attached held =
     let one_stage : in_both_stages (scene.attachment_of id) ≡ false = ap in_both_stages (shows.attachments id ∙ attached) in
-    let from : ComesFrom (in_both_stages (scene.attachment_of id)) page rights page rights = subst (λ b. ComesFrom b page rights page rights) (sym one_stage) (refl, refl) in
-    let walked : IsWalked scene copy = (page, rights, from, (shows.ledger.pages id page).holds ∙ held) in
-    let numbered : next_access scene copy kind ≡ record { device = id; frame = frame; kind = kind; number = old.so_far + 1 } = ap (λ n. record { device = id; frame = frame; kind = kind; number = n + 1 }) shows.accepted in (
+    let from : ComesFrom (in_both_stages (scene.attachment_of id)) page translation.rights page translation.rights =
+    subst (λ b. ComesFrom b page translation.rights page translation.rights) (sym one_stage) (refl, refl) in
+    (page, translation.rights, from, (shows.ledger.pages id page).holds ∙ held)
+
+-- A TRANSLATION IS KEPT: that of a page which the device holds; of what was cached nothing else comes
+pub record KeepsWalked (old new : Values) (id number page : ℕ) (translation : Translation) : Type 0 where
+  pub attached : old.attachment_of id ≡ Attached First false
+  pub own : old.number_of id ≡ Some number
+  pub held : held_in old.ledger id page ≡ Some (translation.frame, translation.rights)
+  pub either : (key : Key) (other : Translation) → new.translations key ≡ Some other
+      → (old.translations key ≡ Some other) ⊎ ((key ≡ (space.First number, page)) × (other ≡ translation))
+
+pub walk_scene : (old new : Values) (id number page : ℕ) (translation : Translation) → KeepsGrants old new → KeepsQueue old new → new.so_far ≡ old.so_far → new.in_flight ≡ old.in_flight
+    → ((d : ℕ) → new.is_cached d ≡ true → old.is_cached d ≡ true) → KeepsWalked old new id number page translation → HasFaithfulScene old → HasFaithfulScene new
+walk_scene old new id number page translation keeps queue so_far in_flight cached walks (scene, shows, facts) =
+    let copy : Copy = copy_of id page translation in
+    let next : Scene = record scene { translations = copy ∷ scene.translations } in (
       next,
-      scene_from old new scene next keeps shows refl (rw waiting shows.waiting) (shows.completed ∙ sym completed) (ap (λ n. n + 1) shows.accepted ∙ sym so_far) refl
-          (λ d is. shows.contexts d (cached d is)),
-      occurrences_keep_facts (Accept copy kind) scene next facts
-          (new.in_flight, inl walked, allowed, subst (λ a. AreAmongWith new.in_flight a scene.in_flight) (sym numbered) (subst (AreAmongWith new.in_flight _) (sym shows.in_flight) among), refl),
+      scene_from old new scene next keeps shows refl (record {
+        waiting = rw queue.waiting shows.waiting;
+        completed = shows.completed ∙ sym queue.completed;
+        accepted = shows.accepted ∙ sym so_far;
+        in_flight = shows.in_flight ∙ sym in_flight;
+        contexts = λ d is. shows.contexts d (cached d is);
+        translations = somebodys;
+        stock = rw queue.stock shows.stock;
+        leaving = shows.leaving;
+      }),
+      occurrences_keep_facts (KeepTranslation copy) scene next facts (
+        copy ∷ scene.translations,
+        walked_there old scene id page translation shows walks.attached walks.held,
+        (λ other there. elim (cons_cases copy scene.translations other there) [ inl same ↦ inl (sym same) | inr before ↦ inr before ]),
+        refl,
+      ),
+    )
+  where
+    first_of : (key : Key) → key ≡ (space.First number, page) → key.0 ≡ space.First number
+    first_of key same = ap (λ (k : Key). k.0) same
+
+    page_of : (key : Key) → key ≡ (space.First number, page) → key.1 ≡ page
+    page_of key same = ap (λ (k : Key). k.1) same
+
+    somebodys : (key : Key) (other : Translation) → new.translations key ≡ Some other → IsSomebodys old.number_of (copy_of id page translation ∷ scene.translations) key other
+    somebodys key other at = elim (walks.either key other at) [
+      | inl before ↦
+          let was = shows.translations key other before in
+          record { device = was.device; number = was.number; own = was.own; space = was.space; there = contains_tail (copy_of id page translation) scene.translations (copy_of was.device key.1 other) was.there }
+      | inr one ↦ record {
+        device = id;
+        number = number;
+        own = walks.own;
+        space = first_of key one.0;
+        there = subst (λ t. Contains (copy_of id page translation ∷ scene.translations) (copy_of id key.1 t)) (sym one.1)
+            (subst (λ p. Contains (copy_of id page translation ∷ scene.translations) (copy_of id p translation)) (sym (page_of key one.0)) (contains_head (copy_of id page translation) scene.translations));
+      }
+    ]
+
+-- AN ACCESS IS ACCEPTED, on the frame of what the device holds at the page, or of a cached translation of the page
+abbrev pub IsServedFrom : Values → ℕ → ℕ → ℕ → Translation → Type 0
+IsServedFrom values id number page translation =
+    ((values.attachment_of id ≡ Attached First false) × (held_in values.ledger id page ≡ Some (translation.frame, translation.rights)))
+    ⊎ ((values.translations (space.First number, page) ≡ Some translation) × (values.number_of id ≡ Some number)
+    × ((d : ℕ) → values.number_of d ≡ Some number → d ≡ id))
+
+-- the number of an address space
+number_is : (n m : ℕ) → ◌≡◌ {A = Space} (space.First n) (space.First m) → n ≡ m
+number_is n m same = cc
+
+source_there : (values : Values) (scene : Scene) (id number page : ℕ) (translation : Translation) → IsSceneOf values scene → IsServedFrom values id number page translation
+    → IsSource scene (copy_of id page translation)
+source_there values scene id number page translation shows (inl (attached, held)) = inl (walked_there values scene id page translation shows attached held)
+source_there values scene id number page translation shows (inr (cached, own, alone)) =
+    let was = shows.translations (space.First number, page) translation cached in
+    let same : was.device ≡ id = alone was.device (was.own ∙ ap Some (sym (number_is number was.number was.space))) in
+    inr (inl (subst (λ d. Contains scene.translations (copy_of d page translation)) same was.there))
+
+pub accept_scene : (old new : Values) (id number page : ℕ) (translation : Translation) (kind : AccessKind) → KeepsGrants old new → KeepsQueue old new
+    → new.so_far ≡ old.so_far + 1 → AreAmongWith new.in_flight (record { device = id; frame = translation.frame; kind = kind; number = old.so_far + 1 }) old.in_flight
+    → ((d : ℕ) → new.is_cached d ≡ true → old.is_cached d ≡ true) → CachesNoMore old new
+    → IsServedFrom old id number page translation → allows translation.rights kind ≡ true → HasFaithfulScene old → HasFaithfulScene new
+accept_scene old new id number page translation kind keeps queue so_far among cached less served allowed (scene, shows, facts) =
+    let copy : Copy = copy_of id page translation in
+    let next : Scene = record scene { accepted = scene.accepted + 1; in_flight = new.in_flight } in
+    let numbered : next_access scene copy kind ≡ record { device = id; frame = translation.frame; kind = kind; number = old.so_far + 1 } =
+    ap (λ n. record { device = id; frame = translation.frame; kind = kind; number = n + 1 }) shows.accepted in (
+      next,
+      scene_from old new scene next keeps shows refl (record {
+        waiting = rw queue.waiting shows.waiting;
+        completed = shows.completed ∙ sym queue.completed;
+        accepted = ap (λ n. n + 1) shows.accepted ∙ sym so_far;
+        in_flight = refl;
+        contexts = λ d is. shows.contexts d (cached d is);
+        translations = λ key other at. shows.translations key other (less key other at);
+        stock = rw queue.stock shows.stock;
+        leaving = shows.leaving;
+      }),
+      occurrences_keep_facts (Accept copy kind) scene next facts (
+        new.in_flight,
+        source_there old scene id number page translation shows served,
+        allowed,
+        subst (λ a. AreAmongWith new.in_flight a scene.in_flight) (sym numbered) (subst (AreAmongWith new.in_flight _) (sym shows.in_flight) among),
+        refl,
+      ),
     )
 
 -- AN ACCESS IS MADE, or none is
-pub make_scene : (old new : Values) → KeepsGrants old new → new.waiting ≡ old.waiting → new.completed ≡ old.completed → new.so_far ≡ old.so_far
-    → AreAmong new.in_flight old.in_flight → ((d : ℕ) → new.is_cached d ≡ true → old.is_cached d ≡ true) → HasFaithfulScene old → HasFaithfulScene new
-make_scene old new keeps waiting completed so_far among cached (scene, shows, facts) =
+pub make_scene : (old new : Values) → KeepsGrants old new → KeepsQueue old new → new.so_far ≡ old.so_far
+    → AreAmong new.in_flight old.in_flight → ((d : ℕ) → new.is_cached d ≡ true → old.is_cached d ≡ true) → CachesNoMore old new → HasFaithfulScene old → HasFaithfulScene new
+make_scene old new keeps queue so_far among cached less (scene, shows, facts) =
     let next : Scene = record scene { in_flight = new.in_flight } in (
       next,
-      scene_from old new scene next keeps shows refl (rw waiting shows.waiting) (shows.completed ∙ sym completed) (shows.accepted ∙ sym so_far) refl (λ d is. shows.contexts d (cached d is)),
+      scene_from old new scene next keeps shows refl (record {
+        waiting = rw queue.waiting shows.waiting;
+        completed = shows.completed ∙ sym queue.completed;
+        accepted = shows.accepted ∙ sym so_far;
+        in_flight = refl;
+        contexts = λ d is. shows.contexts d (cached d is);
+        translations = λ key other at. shows.translations key other (less key other at);
+        stock = rw queue.stock shows.stock;
+        leaving = shows.leaving;
+      }),
       occurrences_keep_facts Make scene next facts (new.in_flight, subst (AreAmong new.in_flight) (sym shows.in_flight) among, refl),
     )
 
@@ -138,13 +302,21 @@ CachedAfter before (IotinvalGvma gscid page) after = (d : ℕ) → after d ≡ t
 CachedAfter before (IofenceC store wsi pr pw) after = (d : ℕ) → after d ≡ true → before d ≡ true
 CachedAfter before (AtsInval device range) after = (d : ℕ) → after d ≡ true → before d ≡ true
 
--- a fence with PR or PW is done only while nothing is in flight
-abbrev pub NothingIfFence : Commanded → List AccessInFlight → Type 0
-NothingIfFence (IofenceC store wsi pr pw) in_flight = (address number : ℕ) → IofenceC store wsi pr pw ≡ fence address number → in_flight ≡ []
-NothingIfFence (IotinvalVma gscid pscid page) in_flight = ⊤
-NothingIfFence (IotinvalGvma gscid page) in_flight = ⊤
-NothingIfFence (IodirInvalDdt device) in_flight = ⊤
-NothingIfFence (AtsInval device range) in_flight = ⊤
+-- what the driver's fences wait for is made: each access in flight was accepted after so many
+abbrev pub NoneBefore : ℕ → List AccessInFlight → Type 0
+NoneBefore before in_flight = (access : AccessInFlight) → Contains in_flight access → before < access.number
+
+abbrev pub DoneIfFence : Commanded → ℕ → List AccessInFlight → Type 0
+DoneIfFence (IofenceC store wsi pr pw) before in_flight = (address number : ℕ) → IofenceC store wsi pr pw ≡ fence address number → NoneBefore before in_flight
+DoneIfFence (IotinvalVma gscid pscid page) before in_flight = ⊤
+DoneIfFence (IotinvalGvma gscid page) before in_flight = ⊤
+DoneIfFence (IodirInvalDdt device) before in_flight = ⊤
+DoneIfFence (AtsInval device range) before in_flight = ⊤
+
+-- what is cached after a command was cached before, and isn't covered by it
+abbrev pub TranslationsAfter : Commanded → Translations → Translations → Type 0
+TranslationsAfter command before after = (key : Key) (translation : Translation) → after key ≡ Some translation
+    → (before key ≡ Some translation) × (are_covering (covers_of command) key ≡ false)
 
 pub record DoesFirst (old new : Values) (command : Commanded) : Type 0 where
   pub keeps : KeepsGrants old new
@@ -153,69 +325,265 @@ pub record DoesFirst (old new : Values) (command : Commanded) : Type 0 where
   pub in_flight : new.in_flight ≡ old.in_flight
   pub completed : done_after old.completed command new.completed
   pub contexts : CachedAfter old.is_cached command new.is_cached
-  pub idle : NothingIfFence command old.in_flight
+  pub translations : TranslationsAfter command old.translations new.translations
+  pub stock : new.stock ≡ None
+  pub done : DoneIfFence command (accepted_before old.stock old.so_far) old.in_flight
 
 none_there : {X : Type 0} (xs : List X) (x : X) → xs ≡ [] → ¬ Contains xs x
 none_there xs x none there = in_none x (subst (λ l. Contains l x) none there)
 
-module _ (old new : Values) (scene : Scene) (shows : IsSceneOf old scene) (facts : IsFaithful scene) where
-  drops_translations : (device : ℕ) (extent : Extent) (later : List QueuedCommand) → KeepsGrants old new → scene.waiting ≡ DropTranslations device extent ∷ later
-      → AreQueuedAs old.address new.waiting later → new.so_far ≡ old.so_far → new.in_flight ≡ old.in_flight → new.completed ≡ old.completed → ((d : ℕ) → new.is_cached d ≡ true → old.is_cached d ≡ true)
-      → HasFaithfulScene new
-  drops_translations device extent later keeps waiting queued so_far in_flight completed cached =
-      let next : Scene = record scene { waiting = later } in (
-        next,
-        scene_from old new scene next keeps shows refl queued (shows.completed ∙ sym completed) (shows.accepted ∙ sym so_far) (shows.in_flight ∙ sym in_flight) (λ d is. shows.contexts d (cached d is)),
-        occurrences_keep_facts (FetchIotinval device extent) scene next facts
-            (later, scene.translations, waiting, (λ copy there. absurd (none_there scene.translations copy shows.alone.translations there)), refl),
-      )
+not_true : (b : Bool) → not b ≡ true → b ≡ false
+not_true true it = absurd (false≢true it)
+not_true false it = refl
 
-  drops_context : (device : ℕ) (later : List QueuedCommand) → KeepsGrants old new → scene.waiting ≡ DropContext device ∷ later
-      → AreQueuedAs old.address new.waiting later → new.so_far ≡ old.so_far → new.in_flight ≡ old.in_flight → new.completed ≡ old.completed
-      → ((d : ℕ) → new.is_cached d ≡ true → (old.is_cached d ≡ true) × (d ≢ device)) → HasFaithfulScene new
-  drops_context device later keeps waiting queued so_far in_flight completed cached =
-      let left = filter (λ d. not (device == d)) scene.contexts in
-      let next : Scene = record scene { waiting = later; contexts = left } in (
+-- an invalidation covers the pages of its extent
+covered_there : (number page : ℕ) (extent : Extent) (own : Option ℕ) → IsOfExtent extent own → covers extent page ≡ true
+    → are_covering (vma_covers None (Some number) own) (space.First number, page) ≡ true
+covered_there number page (OnePage own) asked is true_of = rw (is, eq-eqb number number refl, true_of) refl
+covered_there number page WholeSpace asked is true_of = rw (is, eq-eqb number number refl) refl
+
+-- the fence at the head alone has taken stock
+stock_none : (scene : Scene) (command : QueuedCommand) (later : List QueuedCommand) (stock : Option Stock) → IsFaithful scene → scene.waiting ≡ command ∷ later
+    → ((number : ℕ) → command ≢ Fence number) → scene.stock ≡ stock → scene.stock ≡ None
+stock_none scene command later None facts waiting other is = is
+stock_none scene command later (Some taken) facts waiting other is =
+    let head = (facts.order.stocked taken.fence taken.accepted is).head in
+    absurd (other taken.fence (first_same command (Fence taken.fence) later head.0 (sym waiting ∙ head.1)))
+  where
+    first_same : (a b : QueuedCommand) (xs ys : List QueuedCommand) → a ∷ xs ≡ b ∷ ys → a ≡ b
+    first_same a b xs ys same = cc
+
+-- where no stock was taken, none was counted
+counted_none : (counted : Option ℕ) (taken : Option Stock) → IsStockOf counted taken → taken ≡ None → counted ≡ None
+counted_none None taken is none = refl
+counted_none (Some n) None is none = absurd is
+counted_none (Some n) (Some stock) is none = cc
+
+-- what the fence counted is what the stock says
+counted_as : (counted : Option ℕ) (so_far : ℕ) (taken : Stock) → IsStockOf counted (Some taken) → accepted_before counted so_far ≡ taken.accepted
+counted_as None so_far taken is = absurd is
+counted_as (Some n) so_far taken is = sym is
+
+fence_same : (a b : ℕ) (xs ys : List QueuedCommand) → Fence a ∷ xs ≡ Fence b ∷ ys → a ≡ b
+fence_same a b xs ys same = cc
+
+-- who leaves still does so in order, once the first command is done
+goes_later : (d : ℕ) (a : Attachment) (command : QueuedCommand) (later : List QueuedCommand) → GoesInOrder d a (command ∷ later) → GoesInOrder d a later
+goes_later d Detached command later goes = tt
+goes_later d (Attached mode ats) command later goes = tt
+goes_later d (Quarantined ticket mode ats) command later goes = tt
+goes_later d (Leaving ticket mode ats) command later goes = come_after d ticket command later goes
+
+module _ (old new : Values) (scene : Scene) (shows : IsSceneOf old scene) (facts : IsFaithful scene) where
+  -- a command that is no fence leaves the stock, of which there is none
+  drops_translations : (device : ℕ) (extent : Extent) (later : List QueuedCommand) (gscid pscid page : Option ℕ) → DoesFirst old new (IotinvalVma gscid pscid page)
+      → scene.waiting ≡ DropTranslations device extent ∷ later → IsInvalidation old.number_of device extent gscid pscid page → AreQueuedAs old.address old.number_of new.waiting later
+      → HasFaithfulScene new
+  drops_translations device extent later gscid pscid page does waiting is queued =
+      let outside : Copy → Bool = λ copy. not ((device == copy.device) && covers extent copy.page) in
+      let left = filter outside scene.translations in
+      let next : Scene = record scene { waiting = later; translations = left } in
+      let none = stock_none scene (DropTranslations device extent) later scene.stock facts waiting (λ number same. cc) refl in (
         next,
-        scene_from old new scene next keeps shows refl queued (shows.completed ∙ sym completed) (shows.accepted ∙ sym so_far) (shows.in_flight ∙ sym in_flight)
-            (λ d is. contains_filter (λ e. not (device == e)) scene.contexts d (shows.contexts d (cached d is).0) (ap not (differs device d (λ same. (cached d is).1 (sym same))))),
-        occurrences_keep_facts (FetchIodir device) scene next facts
-            (later, left, waiting, (λ d there. let kept = contains_from_filter (λ e. not (device == e)) scene.contexts d there in (kept.0, not_true (device == d) kept.1)), refl),
+        scene_from old new scene next does.keeps shows refl (record {
+          waiting = queued;
+          completed = shows.completed ∙ sym does.completed;
+          accepted = shows.accepted ∙ sym does.so_far;
+          in_flight = shows.in_flight ∙ sym does.in_flight;
+          contexts = λ d is. shows.contexts d (does.contexts d is);
+          translations = somebodys;
+          stock = rw (does.stock, none) tt;
+          leaving = λ d. goes_later d (old.attachment_of d) (DropTranslations device extent) later (subst (GoesInOrder d (old.attachment_of d)) waiting (shows.leaving d));
+        }),
+        occurrences_keep_facts (FetchIotinval device extent) scene next facts (
+          later,
+          left,
+          waiting,
+          (λ copy there. let kept = contains_from_filter outside scene.translations copy there in (kept.0, not_true ((device == copy.device) && covers extent copy.page) kept.1)),
+          refl,
+        ),
       )
     where
-      not_true : (b : Bool) → not b ≡ true → b ≡ false
-      not_true true it = absurd (false≢true it)
-      not_true false it = refl
+      outside_kept : (d p : ℕ) → (device ≡ d → covers extent p ≡ true → ⊥) → not ((device == d) && covers extent p) ≡ true
+      outside_kept d p apart = by (device == d) (covers extent p) refl refl
+        where
+          by : (a b : Bool) → (device == d) ≡ a → covers extent p ≡ b → not (a && b) ≡ true
+          by false b own covered = refl
+          by true false own covered = refl
+          by true true own covered = absurd (apart (eqb-true device d own) covered)
 
-  completes : (number : ℕ) (later : List QueuedCommand) → KeepsGrants old new → scene.waiting ≡ Fence number ∷ later
-      → AreQueuedAs old.address new.waiting later → new.so_far ≡ old.so_far → new.in_flight ≡ old.in_flight → old.in_flight ≡ [] → new.completed ≡ number
-      → ((d : ℕ) → new.is_cached d ≡ true → old.is_cached d ≡ true) → HasFaithfulScene new
-  completes number later keeps waiting queued so_far in_flight idle completed cached =
-      let stocked : Scene = record scene { stock = Some (record { fence = number; accepted = scene.accepted }) } in
-      let next : Scene = record scene { waiting = later; completed = number; stock = None } in
-      let stock_facts = occurrences_keep_facts (TakeStock number) scene stocked facts
-      (later, waiting, (λ slot there. none_there scene.slots slot shows.alone.slots there), shows.alone.goes_on, refl) in
-      let same : next ≡ record scene { waiting = later; completed = number } = ap (λ s. record scene { waiting = later; completed = number; stock = s }) (sym shows.alone.stock) in (
+      somebodys : (key : Key) (translation : Translation) → new.translations key ≡ Some translation
+          → IsSomebodys old.number_of (filter (λ copy. not ((device == copy.device) && covers extent copy.page)) scene.translations) key translation
+      somebodys key translation at =
+          let before = does.translations key translation at in
+          let was = shows.translations key translation before.0 in record {
+            device = was.device;
+            number = was.number;
+            own = was.own;
+            space = was.space;
+            there = contains_filter (λ (copy : Copy). not ((device == copy.device) && covers extent copy.page)) scene.translations (copy_of was.device key.1 translation) was.there
+                (outside_kept was.device key.1 (λ same covered.
+                let numbers : was.number ≡ is.number = some_of was.number is.number (sym was.own ∙ ap old.number_of (sym same) ∙ is.own) in
+                let key_is : key ≡ (space.First is.number, key.1) = ap (λ (s : Space). (s, key.1)) (was.space ∙ ap space.First numbers) in
+                false≢true (sym (ap (are_covering (vma_covers None (Some is.number) page)) (sym key_is) ∙ named before.1)
+                ∙ covered_there is.number key.1 extent page is.extent_of covered)));
+          }
+        where
+          some_of : (x y : ℕ) → Some x ≡ Some y → x ≡ y
+          some_of x y e = cc
+
+          named : are_covering (vma_covers gscid pscid page) key ≡ false → are_covering (vma_covers None (Some is.number) page) key ≡ false
+          named it = ap (λ g. are_covering (vma_covers g (Some is.number) page) key) (sym is.host) ∙ ap (λ n. are_covering (vma_covers gscid n page) key) (sym is.space) ∙ it
+
+  drops_context : (device : ℕ) (later : List QueuedCommand) → DoesFirst old new (IodirInvalDdt (Some device)) → scene.waiting ≡ DropContext device ∷ later
+      → AreQueuedAs old.address old.number_of new.waiting later → HasFaithfulScene new
+  drops_context device later does waiting queued =
+      let left = filter (λ d. not (device == d)) scene.contexts in
+      let next : Scene = record scene { waiting = later; contexts = left } in
+      let none = stock_none scene (DropContext device) later scene.stock facts waiting (λ number same. cc) refl in (
         next,
-        scene_from old new scene next keeps shows same queued (sym completed) (shows.accepted ∙ sym so_far) (shows.in_flight ∙ sym in_flight) (λ d is. shows.contexts d (cached d is)),
-        occurrences_keep_facts (CompleteFence number) stocked next stock_facts
-            (later, scene.accepted, waiting, refl, (λ access there. absurd (none_there scene.in_flight access (shows.in_flight ∙ idle) there)), refl),
+        scene_from old new scene next does.keeps shows refl (record {
+          waiting = queued;
+          completed = shows.completed ∙ sym does.completed;
+          accepted = shows.accepted ∙ sym does.so_far;
+          in_flight = shows.in_flight ∙ sym does.in_flight;
+          contexts = λ d is. contains_filter (λ e. not (device == e)) scene.contexts d (shows.contexts d (does.contexts d is).0) (ap not (differs device d (λ same. (does.contexts d is).1 (sym same))));
+          translations = λ key translation at. shows.translations key translation (does.translations key translation at).0;
+          stock = rw (does.stock, none) tt;
+          leaving = λ d. goes_later d (old.attachment_of d) (DropContext device) later (subst (GoesInOrder d (old.attachment_of d)) waiting (shows.leaving d));
+        }),
+        occurrences_keep_facts (FetchIodir device) scene next facts (
+          later,
+          left,
+          waiting,
+          (λ d there. let kept = contains_from_filter (λ e. not (device == e)) scene.contexts d there in (kept.0, not_true (device == d) kept.1)),
+          refl,
+        ),
       )
+
+  -- a fence that counted before is done, or it counts now
+  completes : (number : ℕ) (later : List QueuedCommand) (store : Option FenceStore) (wsi pr pw : Bool) → DoesFirst old new (IofenceC store wsi pr pw)
+      → scene.waiting ≡ Fence number ∷ later → IofenceC store wsi pr pw ≡ fence old.address number → AreQueuedAs old.address old.number_of new.waiting later → HasFaithfulScene new
+  completes number later store wsi pr pw does waiting is queued = by scene.stock refl
+    where
+      next : Scene
+      next = record scene { waiting = later; completed = number; stock = None }
+
+      none_before : NoneBefore (accepted_before old.stock old.so_far) scene.in_flight
+      none_before = rw shows.in_flight (does.done old.address number is)
+
+      shows_next : IsSceneOf new (record scene { waiting = later; completed = number; stock = None })
+      shows_next = scene_from old new scene next does.keeps shows refl (record {
+        waiting = queued;
+        completed = sym (does.completed old.address number is);
+        accepted = shows.accepted ∙ sym does.so_far;
+        in_flight = shows.in_flight ∙ sym does.in_flight;
+        contexts = λ d is. shows.contexts d (does.contexts d is);
+        translations = λ key translation at. shows.translations key translation (does.translations key translation at).0;
+        stock = rw does.stock tt;
+        leaving = λ d. goes_later d (old.attachment_of d) (Fence number) later (subst (GoesInOrder d (old.attachment_of d)) waiting (shows.leaving d));
+      })
+
+      by : (stock : Option Stock) → scene.stock ≡ stock → HasFaithfulScene new
+      by None none =
+          let stocked : Scene = record scene { stock = Some (record { fence = number; accepted = scene.accepted }) } in
+          let counted : old.stock ≡ None = counted_none old.stock scene.stock shows.stock none in
+          let before : accepted_before old.stock old.so_far ≡ scene.accepted = ap (λ s. accepted_before s old.so_far) counted ∙ sym shows.accepted in
+          let stock_facts = occurrences_keep_facts (TakeStock number) scene stocked facts
+          (later, waiting, (λ slot there. none_there scene.slots slot shows.alone.slots there), shows.alone.goes_on, refl) in (
+            next,
+            shows_next,
+            occurrences_keep_facts (CompleteFence number) stocked next stock_facts
+                (later, scene.accepted, waiting, refl, subst (λ n. NoneBefore n scene.in_flight) before none_before, refl),
+          )
+      by (Some taken) at =
+          let head = (facts.order.stocked taken.fence taken.accepted at).head in
+          let own : taken.fence ≡ number = fence_same taken.fence number head.0 later (sym head.1 ∙ waiting) in
+          let before : accepted_before old.stock old.so_far ≡ taken.accepted = counted_as old.stock old.so_far taken (subst (IsStockOf old.stock) at shows.stock) in (
+            next,
+            shows_next,
+            occurrences_keep_facts (CompleteFence number) scene next facts
+                (later, taken.accepted, waiting, at ∙ ap (λ n. Some (record { fence = n; accepted = taken.accepted })) own, subst (λ n. NoneBefore n scene.in_flight) before none_before, refl),
+          )
 
   -- by what stands first in the scene's queue
   done_first : (command : Commanded) → DoesFirst old new command → (queued : QueuedCommand) (later : List QueuedCommand) → scene.waiting ≡ queued ∷ later
-      → IsQueuedAs old.address (Command command) queued → AreQueuedAs old.address new.waiting later → HasFaithfulScene new
-  done_first (IotinvalVma gscid pscid page) does (DropTranslations device extent) later waiting is rest =
-      drops_translations device extent later does.keeps waiting rest does.so_far does.in_flight does.completed does.contexts
-  done_first (IofenceC store wsi pr pw) does (Fence number) later waiting is rest =
-      completes number later does.keeps waiting rest does.so_far does.in_flight (does.idle old.address number is) (does.completed old.address number is) does.contexts
-  done_first (IodirInvalDdt (Some id)) does (DropContext device) later waiting is rest =
-      drops_context device later does.keeps waiting rest does.so_far does.in_flight does.completed
-      (λ d there. let kept = does.contexts d there in (kept.0, (λ same. kept.1 (same ∙ sym is))))
+      → IsQueuedAs old.address old.number_of (Command command) queued → AreQueuedAs old.address old.number_of new.waiting later → HasFaithfulScene new
+  done_first (IotinvalVma gscid pscid page) does (DropTranslations device extent) later waiting is rest = drops_translations device extent later gscid pscid page does waiting is rest
+  done_first (IofenceC store wsi pr pw) does (Fence number) later waiting is rest = completes number later store wsi pr pw does waiting is rest
+  done_first (IodirInvalDdt (Some id)) does (DropContext device) later waiting is rest = by is does
+    where
+      by : id ≡ device → DoesFirst old new (IodirInvalDdt (Some id)) → HasFaithfulScene new
+      by same it = drops_context device later (subst (λ d. DoesFirst old new (IodirInvalDdt (Some d))) same it) waiting rest
   done_first command does queued later waiting is rest = absurd is
 
 -- A COMMAND IS DONE: it stood first in the scene's queue
 pub fetch_scene : (old new : Values) (command : Commanded) → DoesFirst old new command → HasFaithfulScene old → HasFaithfulScene new
 fetch_scene old new command does (scene, shows, facts) =
-    let first = queued_first old.address (Command command) new.waiting scene.waiting (subst (λ l. AreQueuedAs old.address l scene.waiting) does.first shows.waiting) in
+    let first = queued_first old.address old.number_of (Command command) new.waiting scene.waiting
+    (subst (λ l. AreQueuedAs old.address old.number_of l scene.waiting) does.first shows.waiting) in
     done_first old new scene shows facts command does first.0 first.1 first.2 first.3 first.4
+
+-- A FENCE WAITS: it counts, if it didn't before
+pub record CountsAtHead (old new : Values) : Type 0 where
+  pub keeps : KeepsGrants old new
+  pub waiting : new.waiting ≡ old.waiting
+  pub head : (number : ℕ) × (later : List QueueEntry) × (old.waiting ≡ Command (fence old.address number) ∷ later)
+  pub completed : new.completed ≡ old.completed
+  pub so_far : new.so_far ≡ old.so_far
+  pub in_flight : new.in_flight ≡ old.in_flight
+  pub contexts : (d : ℕ) → new.is_cached d ≡ true → old.is_cached d ≡ true
+  pub translations : CachesNoMore old new
+  pub stock : new.stock ≡ Some (accepted_before old.stock old.so_far)
+
+-- what a fence stands for in a scene
+fence_queued : (address number : ℕ) (numbers : ℕ → Option ℕ) (command : QueuedCommand) → IsQueuedAs address numbers (Command (fence address number)) command → (n : ℕ) × (command ≡ Fence n)
+fence_queued address number numbers (Fence n) is = (n, refl)
+fence_queued address number numbers (DropTranslations d extent) is = absurd is
+fence_queued address number numbers (DropContext d) is = absurd is
+fence_queued address number numbers (Invalidate d extent) is = absurd is
+
+pub count_scene : (old new : Values) → CountsAtHead old new → HasFaithfulScene old → HasFaithfulScene new
+count_scene old new counts (scene, shows, facts) = by scene.stock refl
+  where
+    first : (command : QueuedCommand) × (later : List QueuedCommand) × (scene.waiting ≡ command ∷ later)
+        × IsQueuedAs old.address old.number_of (Command (fence old.address counts.head.0)) command × AreQueuedAs old.address old.number_of counts.head.1 later
+    first = queued_first old.address old.number_of (Command (fence old.address counts.head.0)) counts.head.1 scene.waiting
+        (subst (λ l. AreQueuedAs old.address old.number_of l scene.waiting) counts.head.2 shows.waiting)
+
+    own : (n : ℕ) × (first.0 ≡ Fence n)
+    own = fence_queued old.address counts.head.0 old.number_of first.0 first.3
+
+    by : (stock : Option Stock) → scene.stock ≡ stock → HasFaithfulScene new
+    by None none =
+        let next : Scene = record scene { stock = Some (record { fence = own.0; accepted = scene.accepted }) } in
+        let counted : old.stock ≡ None = counted_none old.stock scene.stock shows.stock none in (
+          next,
+          scene_from old new scene next counts.keeps shows refl (record {
+            waiting = rw counts.waiting shows.waiting;
+            completed = shows.completed ∙ sym counts.completed;
+            accepted = shows.accepted ∙ sym counts.so_far;
+            in_flight = shows.in_flight ∙ sym counts.in_flight;
+            contexts = λ d is. shows.contexts d (counts.contexts d is);
+            translations = λ key translation at. shows.translations key translation (counts.translations key translation at);
+            stock = rw (counts.stock, counted) shows.accepted;
+            leaving = shows.leaving;
+          }),
+          occurrences_keep_facts (TakeStock own.0) scene next facts
+              (first.1, first.2 ∙ ap (λ c. c ∷ first.1) own.1, (λ slot there. none_there scene.slots slot shows.alone.slots there), shows.alone.goes_on, refl),
+        )
+    by (Some taken) at =
+        let was : IsStockOf old.stock (Some taken) = subst (IsStockOf old.stock) at shows.stock in (
+          scene,
+          scene_from old new scene scene counts.keeps shows refl (record {
+            waiting = rw counts.waiting shows.waiting;
+            completed = shows.completed ∙ sym counts.completed;
+            accepted = shows.accepted ∙ sym counts.so_far;
+            in_flight = shows.in_flight ∙ sym counts.in_flight;
+            contexts = λ d is. shows.contexts d (counts.contexts d is);
+            translations = λ key translation at. shows.translations key translation (counts.translations key translation at);
+            stock = rw (counts.stock, at) (sym (counted_as old.stock old.so_far taken was));
+            leaving = shows.leaving;
+          }),
+          facts,
+        )

@@ -12,19 +12,19 @@ use Rattle.iom_driver.specs.Layout.{AreFixed, command_frame, completion_frame, c
 use Rattle.iom_driver.specs.State.{DriverState}
 use Rattle.iom_driver.proofs.Lists.{get_there}
 use Rattle.iom_driver.proofs.Ring.{same_commands}
-use Rattle.iom_iommu.specs.Parts.{registers_of, flights_of, frames_of}
+use Rattle.iom_iommu.specs.Parts.{stock_of, registers_of, flights_of, frames_of}
 use Rattle.iom_phys_mem.specs.Words.{word_at}
 use Rattle.iom_registers.specs.Queues.{is_processing_commands}
 use Rattle.iom_table_frames.specs.Marks.{is_marked}
 use Rattle.iom_world.specs.Devices.{shown_attachment}
 use Rattle.iom_world.specs.Parts.{Parts}
 use Rattle.iom_world.specs.Queued.{completed_in}
-use Rattle.iom_world.specs.Read.{values_of}
+use Rattle.iom_world.specs.Read.{number_in, values_of}
 use Rattle.iom_world.specs.Scenes.{HasFaithfulScene}
 use Rattle.iom_world.specs.Sound.{AreSound, ContextsAreTrue, row_ids}
 use Rattle.iom_world.proofs.DriverLemmas.{IsSoundDriver}
 use Rattle.iom_world.proofs.PartsLemmas.{StaysReady}
-use Rattle.iom_world.proofs.SceneSteps.{KeepsGrants}
+use Rattle.iom_world.proofs.SceneSteps.{KeepsGrants, KeepsQueue}
 
 -- a frame that isn't marked is nobody's, and none that is somebody's
 pub unmarked : (marks : List (Option Owner)) (frame : ℕ) → frame < length marks → is_marked marks frame ≡ false → slice_get marks frame ≡ Some None
@@ -80,7 +80,11 @@ module _ (old new : Parts) (events : ℕ) (sound : AreSound old events) (own : I
     confirmed = ap (λ (d : DriverState). d.confirmed) leaves.driver;
     plugged = λ id. ap (λ (d : DriverState). is_plugged d.devices id) leaves.driver;
     attachments = λ id. ap (λ (d : DriverState). shown_attachment (attachment_of d.devices id)) leaves.driver;
+    numbers = λ id. ap (λ (d : DriverState). number_in d.devices id) leaves.driver;
   }
+
+  pub queue_kept : stock_of new.iommu ≡ stock_of old.iommu → KeepsQueue (values_of old) (values_of new)
+  queue_kept stock = record { waiting = same_waiting; completed = same_done; stock = stock }
 
   pub sound_from : (count : ℕ) → StaysReady old.driver → (flights_of new.iommu).so_far ≤ count → ContextsAreTrue new
       → (HasFaithfulScene (values_of old) → HasFaithfulScene (values_of new)) → AreSound new count

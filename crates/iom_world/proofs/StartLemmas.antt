@@ -1,5 +1,5 @@
 -- A world at power-on.
-use Rattle.std.proofs.Common.{suc, zero, ◌≡◌, ◌+◌, ◌-◌, ◌/◌, ◌%◌, ◌<◌, ◌≤◌, ◌^◌, ◌++◌, ◌∙◌, is_some, ℕ, true, List, [], ◌∷◌, length, replicate, Option, Some, None, option_map, slice_get, slice_set, set, refl, sym, ap, subst, arith}
+use Rattle.std.proofs.Common.{suc, zero, ◌≡◌, ◌+◌, ◌-◌, ◌/◌, ◌%◌, ◌<◌, ◌≤◌, ◌^◌, ◌++◌, ◌∙◌, is_some, ℕ, Bool, true, false, List, [], ◌∷◌, length, replicate, Option, Some, None, option_map, slice_get, slice_set, set, refl, sym, ap, subst, arith, if◌then◌else◌}
 use Rattle.std.specs.Option.{option_map_or}
 use Rattle.std.proofs.lemmas.Bool.{false≢true}
 use Rattle.std.proofs.lemmas.List.{length-set, length-replicate, set-append_right, replicate-append-replicate}
@@ -16,8 +16,8 @@ use Rattle.iom_driver.specs.Layout.{completion_address, directory_frame, ddtp_of
 use Rattle.iom_driver.specs.Ready.{IsReady}
 use Rattle.iom_driver.specs.State.{DriverState}
 use Rattle.iom_driver.proofs.Lists.{get_replicate, get_there}
-use Rattle.iom_iommu.specs.declared.iommu.Iommu.{Iommu}
-use Rattle.iom_iommu.specs.Parts.{IsAtPowerOn, mmio, registers_of, contexts_of, flights_of, frames_of}
+use Rattle.iom_world.specs.OwnIommu.{Iommu}
+use Rattle.iom_iommu.specs.Parts.{translations_of, stock_of, stock_after, IsAtPowerOn, mmio, registers_of, contexts_of, flights_of, frames_of}
 use Rattle.iom_ledger.specs.Shown.{Agrees}
 use Rattle.iom_machine.specs.declared.state.Frame.{Frame}
 use Rattle.iom_machine.specs.PowerOn.{opening, empty_frame}
@@ -27,13 +27,15 @@ use Rattle.iom_phys_mem.proofs.Stores.{put_word, word_back}
 use Rattle.iom_registers.specs.declared.register.Register.TheVariants.{Ddtp, Cqb, Cqcsr}
 use Rattle.iom_registers.specs.declared.registers.Registers.{Registers}
 use Rattle.iom_registers.specs.Table.{written}
-use Rattle.iom_registers.specs.Queues.{is_processing_commands}
+use Rattle.iom_registers.specs.Queues.{is_command_queue_on, is_processing_commands}
 use Rattle.iom_table_frames.specs.Marks.{opening_marks}
+use Rattle.iom_tlb.specs.declared.trans_cache.Translation.{Translation}
+use Rattle.iom_tlb.specs.Content.{Key}
 use Rattle.iom_world.specs.declared.device.Device.{Device}
 use Rattle.iom_world.specs.Queued.{completed_in, AreQueuedAs, pending_after}
 use Rattle.iom_world.specs.Devices.{shown_attachment}
 use Rattle.iom_world.specs.Parts.{Parts}
-use Rattle.iom_world.specs.Read.{values_of, accesses_of}
+use Rattle.iom_world.specs.Read.{number_in, values_of, accesses_of}
 use Rattle.iom_world.specs.Scenes.{IsSceneOf}
 use Rattle.iom_world.specs.Frames.{ShowsFrames}
 use Rattle.iom_world.specs.Shows.{PartsShow}
@@ -157,6 +159,14 @@ completed_zero n many =
     ap (λ m. option_map_or (λ word. word) (word_at 4 m (completion_address (length memory))) 0) (sym same)
     ∙ ap (λ o. option_map_or (λ word. word) o 0) (word_after memory 0 enough (omega arith))
 
+-- a write counts nothing
+none_still : (r : Registers) (stock : Option ℕ) → stock ≡ None → stock_after r stock ≡ None
+none_still r stock none = by (is_command_queue_on r)
+  where
+    by : (b : Bool) → (if b then stock else None) ≡ None
+    by true = none
+    by false = refl
+
 -- the parts of a world whose driver has just been started
 pub record IsStarted (n levels : ℕ) (first next : DriverState) (before memory : List (List ℕ)) (power iommu : Iommu) (devices : List Device) : Type 0 where
   pub size : IsMemorySize n
@@ -209,10 +219,24 @@ module _ (n levels : ℕ) (first next : DriverState) (before memory : List (List
   confirmed_none : next.confirmed ≡ 0
   confirmed_none = ap (λ (d : DriverState). d.confirmed) driver_is
 
+  no_translation : (key : Key) (translation : Translation) → translations_of iommu key ≡ Some translation → ⊥
+  no_translation key translation cached =
+      let none : translations_of iommu key ≡ None = ap (λ i. translations_of i key) started.starts.registers ∙ started.power_on.translations key in
+      let both : ◌≡◌ {A = Option Translation} None (Some translation) = sym none ∙ cached in cc
+
+  none_counted : stock_of iommu ≡ None
+  none_counted =
+      let one = written (registers_of power) Ddtp (ddtp_of (length before) first.levels) in
+      let two = written one Cqb (cqb_of (length before)) in
+      let three = written two Cqcsr 1 in
+      ap stock_of started.starts.registers
+      ∙ none_still three (stock_after two (stock_after one (stock_of power)))
+      (none_still two (stock_after one (stock_of power)) (none_still one (stock_of power) started.power_on.stock))
+
   scene_shows : IsSceneOf (values_of parts) scene_at_power_on
   scene_shows = record {
     ledger = agrees;
-    waiting = subst (λ l. AreQueuedAs (completion_address (length memory)) l []) (sym started.starts.empty) tt;
+    waiting = subst (λ l. AreQueuedAs (completion_address (length memory)) (number_in next.devices) l []) (sym started.starts.empty) tt;
     completed = sym completed;
     last_fence = sym given_none;
     pending = sym (ap (pending_after next.confirmed) {x = next.given - next.confirmed} {y = 0} (omega (arith, given_none)));
@@ -223,7 +247,10 @@ module _ (n levels : ℕ) (first next : DriverState) (before memory : List (List
     unplugged = λ id none. refl;
     attachments = λ id. sym (ap (λ (d : DriverState). shown_attachment (attachment_of d.devices id)) driver_is);
     contexts = λ id is. absurd (false≢true (sym (ap is_some (none_cached id)) ∙ is));
-    alone = record { stock = refl; goes_on = refl; translations = refl; entries = refl; messages = refl; slots = refl };
+    translations = λ key translation at. absurd (no_translation key translation at);
+    stock = rw none_counted tt;
+    leaving = λ id. rw driver_is tt;
+    alone = record { goes_on = refl; entries = refl; messages = refl; slots = refl };
   }
 
   no_context : (id : ℕ) (context : Context) → contexts_of iommu id ≡ Some context → ⊥

@@ -12,7 +12,7 @@ use Rattle.iom_driver.specs.Leaving.{AnswersDetach}
 use Rattle.iom_driver.specs.Polling.{AnswersPoll}
 use Rattle.iom_iommu.specs.declared.fetched.Fetched.{Fetched}
 use Rattle.iom_iommu.specs.declared.fetched.Fetched.TheVariants.{Did, Waiting, Empty, Stopped}
-use Rattle.iom_iommu.specs.declared.iommu.Iommu.{Iommu}
+use Rattle.iom_world.specs.OwnIommu.{Iommu}
 use Rattle.iom_iommu.specs.Fetches.{FetchesCommand}
 use Rattle.iom_iommu.specs.Parts.{mmio, registers_of, AddsDevice}
 use Rattle.iom_ledger.specs.declared.refusal.Refusal.{Refusal}

@@ -1,6 +1,7 @@
 pub mod Told
 pub mod Frames
 pub mod Devices
+pub mod OwnIommu
 pub mod Parts
 pub mod Seen
 pub mod Shows

@@ -1,7 +1,7 @@
 -- The parts of a world: what each call of driver, IOMMU and devices speaks of.
 use Rattle.std.specs.Prelude.{ℕ, List}
 use Rattle.iom_driver.specs.State.{DriverState}
-use Rattle.iom_iommu.specs.declared.iommu.Iommu.{Iommu}
+use Rattle.iom_world.specs.OwnIommu.{Iommu}
 use Rattle.iom_world.specs.declared.device.Device.{Device}
 
 -- the bytes of each frame, the IOMMU, what the driver knows, and the devices in the order of plugging

@@ -1,13 +1,18 @@
 -- What lies between the grants and memory, as values that are read off the parts of a world; and the scene of which the facts on copies speak.
 -- For the facts that a world carries alone; no public contract cites these.
-use Rattle.std.specs.Prelude.{◌≡◌, ℕ, ◌-◌, Bool, true, false, List, [], Contains, None}
+use Rattle.std.specs.Prelude.{◌≡◌, ℕ, ◌-◌, Bool, true, false, List, [], Contains, Option, None, Some, ⊤}
 use Rattle.iom_command_queue.specs.declared.entry.QueueEntry.{QueueEntry}
 use Rattle.iom_copies.specs.Faithful.{IsFaithful}
-use Rattle.iom_copies.specs.Scene.{AccessInFlight, Scene}
+use Rattle.iom_copies.specs.Queue.{QueuedCommand}
+use Rattle.iom_copies.specs.Scene.{AccessInFlight, Copy, Scene, Stock}
 use Rattle.iom_ledger.specs.declared.ledger.Ledger.{Ledger}
 use Rattle.iom_ledger.specs.Shown.{Agrees}
 use Rattle.iom_machine.specs.declared.state.Attachment.{Attachment}
-use Rattle.iom_world.specs.Queued.{AreQueuedAs, pending_after}
+use Rattle.iom_machine.specs.declared.state.Attachment.TheVariants.{Detached, Attached, Quarantined, Leaving}
+use Rattle.iom_tlb.specs.declared.space.Space.TheVariants.{First}
+use Rattle.iom_tlb.specs.declared.trans_cache.Translation.{Translation}
+use Rattle.iom_tlb.specs.Content.{Key, Content as Translations}
+use Rattle.iom_world.specs.Queued.{AreQueuedAs, ComeBefore, pending_after}
 
 pub record Values : Type 0 where
   -- what is held and what lingers
@@ -28,20 +33,50 @@ pub record Values : Type 0 where
   pub is_plugged : ℕ → Bool
   pub attachment_of : ℕ → Attachment
   pub is_cached : ℕ → Bool
+  -- the number of the address space of a device that has one
+  pub number_of : ℕ → Option ℕ
+  -- the translations that are cached
+  pub translations : Translations
+  -- how many accesses were accepted when the fence at the head was first fetched, if it was
+  pub stock : Option ℕ
 
--- nothing is cached but contexts, there are no messages, no fence has taken stock before it is done, and none times out
-pub record HasContextsAlone (scene : Scene) : Type 0 where
-  pub stock : scene.stock ≡ None
+-- what is remembered of a device's page by a cached translation
+abbrev pub copy_of : ℕ → ℕ → Translation → Copy
+copy_of device page translation = record { device = device; page = page; pair = (translation.frame, translation.rights) }
+
+-- a cached translation is of the address space of a device, and among what the scene has of cached translations
+pub record IsSomebodys (number_of : ℕ → Option ℕ) (translations : List Copy) (key : Key) (translation : Translation) : Type 0 where
+  pub device : ℕ
+  pub number : ℕ
+  pub own : number_of device ≡ Some number
+  pub space : key.0 ≡ First number
+  pub there : Contains translations (copy_of device key.1 translation)
+
+-- the fence at the head has taken stock, if it was fetched
+abbrev pub IsStockOf : Option ℕ → Option Stock → Type 0
+IsStockOf None None = ⊤
+IsStockOf None (Some taken) = ⊥
+IsStockOf (Some counted) None = ⊥
+IsStockOf (Some counted) (Some taken) = taken.accepted ≡ counted
+
+-- a leaving device's invalidations are queued in front of the fence of its ticket
+abbrev pub GoesInOrder : ℕ → Attachment → List QueuedCommand → Type 0
+GoesInOrder device Detached waiting = ⊤
+GoesInOrder device (Attached mode ats) waiting = ⊤
+GoesInOrder device (Quarantined ticket mode ats) waiting = ⊤
+GoesInOrder device (Leaving ticket mode ats) waiting = ComeBefore device ticket waiting
+
+-- devices have no caches of their own, there are no messages, and no fence times out
+pub record HasNoMessages (scene : Scene) : Type 0 where
   pub goes_on : scene.is_stopped ≡ false
-  pub translations : scene.translations ≡ []
   pub entries : scene.entries ≡ []
   pub messages : scene.messages ≡ []
   pub slots : scene.slots ≡ []
 
--- the scene is made of these values: of cached contexts it may have more
+-- the scene is made of these values: of what is cached it may have more
 pub record IsSceneOf (values : Values) (scene : Scene) : Type 0 where
   pub ledger : Agrees values.ledger scene.history
-  pub waiting : AreQueuedAs values.address values.waiting scene.waiting
+  pub waiting : AreQueuedAs values.address values.number_of values.waiting scene.waiting
   pub completed : scene.completed ≡ values.completed
   pub last_fence : scene.last_fence ≡ values.given
   pub pending : scene.pending ≡ pending_after values.confirmed (values.given - values.confirmed)
@@ -52,7 +87,11 @@ pub record IsSceneOf (values : Values) (scene : Scene) : Type 0 where
   pub unplugged : (id : ℕ) → values.is_plugged id ≡ false → scene.kind_of id ≡ None
   pub attachments : (id : ℕ) → scene.attachment_of id ≡ values.attachment_of id
   pub contexts : (id : ℕ) → values.is_cached id ≡ true → Contains scene.contexts id
-  pub alone : HasContextsAlone scene
+  pub translations : (key : Key) (translation : Translation) → values.translations key ≡ Some translation
+      → IsSomebodys values.number_of scene.translations key translation
+  pub stock : IsStockOf values.stock scene.stock
+  pub leaving : (id : ℕ) → GoesInOrder id (values.attachment_of id) scene.waiting
+  pub alone : HasNoMessages scene
 
 -- there is such a scene, of which the facts on copies hold
 abbrev pub HasFaithfulScene : Values → Type 0

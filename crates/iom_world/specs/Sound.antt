@@ -10,7 +10,7 @@ use Rattle.iom_driver.specs.Directory.{context_for}
 use Rattle.iom_driver.specs.Ready.{IsReady}
 use Rattle.iom_driver.specs.Seen.{state_of}
 use Rattle.iom_inflight.specs.Flights.{FlightRow}
-use Rattle.iom_iommu.specs.declared.iommu.Iommu.{Iommu}
+use Rattle.iom_world.specs.OwnIommu.{Iommu}
 use Rattle.iom_iommu.specs.Parts.{registers_of, contexts_of, flights_of, frames_of}
 use Rattle.iom_registers.specs.Queues.{is_processing_commands}
 use Rattle.iom_world.specs.declared.device.Device.{Device}

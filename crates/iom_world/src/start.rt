@@ -5,6 +5,7 @@ ghost use Rattle.iom_phys_mem.specs.Sizes.{IsMemorySize};
 ghost use Rattle.iom_phys_mem.specs.Words.{zeroed};
 ghost use Rattle.iom_phys_mem.specs.declared.memory.MemError.TheVariants.{BadSize};
 ghost use Rattle.iom_driver.specs.Layout.{IsLevels};
+ghost use Rattle.iom_iommu.specs.Parts.{IsAtPowerOn};
 ghost use Rattle.iom_world.specs.Seen.{commands_of};
 ghost use Rattle.iom_world.specs.Shows.{Shows};
 
@@ -13,7 +14,15 @@ use iom_base::MAX_DEVICES;
 use iom_driver::Driver;
 use iom_iommu::Iommu;
 use iom_phys_mem::{MemError, Memory};
-use std::alloc::Global;
+use iom_tlb::Ioatc;
+use std::alloc::{AllocError, Global};
+
+/// The IOMMU at power-on, over a cache of translations that has nothing.
+fn iommu_at_power_on(alloc: Global, frames: u32) -> Result<Iommu<Ioatc>, AllocError>
+    ensures { IfOk result (IsAtPowerOn frames) }
+{
+    Iommu::new(alloc, frames, Ioatc::new(alloc)?)
+}
 
 impl World {
     /// The world at power-on, with so many frames of memory and levels of the device directory: all bytes
@@ -34,7 +43,7 @@ impl World {
         let Ok(devices) = Vec::with_capacity(alloc, MAX_DEVICES) else {
             return Err(MemError::OutOfMemory);
         };
-        let Ok(mut iommu) = Iommu::new(alloc, frames) else {
+        let Ok(mut iommu) = iommu_at_power_on(alloc, frames) else {
             return Err(MemError::OutOfMemory);
         };
         driver.start(&mut memory, &mut iommu);

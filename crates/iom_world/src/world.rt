@@ -5,12 +5,13 @@ use crate::device::Device;
 use iom_driver::Driver;
 use iom_iommu::Iommu;
 use iom_phys_mem::Memory;
+use iom_tlb::Ioatc;
 
 /// Memory, the IOMMU, its driver and the devices.
 #[derive(Drop)]
 pub struct World {
     pub(crate) memory: Memory,
-    pub(crate) iommu: Iommu,
+    pub(crate) iommu: Iommu<Ioatc>,
     pub(crate) driver: Driver,
     /// In the order of plugging, at most 16.
     pub(crate) devices: Vec<Device>,

@@ -4,11 +4,11 @@ use Rattle.iom_world.proofs.world.World.new.Goals as goal
 
 pub invariant_of-result : goal.invariant_of-result
 invariant_of-result c =
-    let started : IsStarted c.args.frames c.args.levels (state_of c.in_ok-driver.driver) (state_of c.start.new.self) c.in_ok-memory.memory c.start.new.memory c.in-Ok-new.iommu c.start.new.io c.in-Ok.devices.items = record {
+    let started : IsStarted c.args.frames c.args.levels (state_of c.in_ok-driver.driver) (state_of c.start.new.self) c.in_ok-memory.memory c.start.new.memory c.in-Ok-iommu_at_power_on.iommu c.start.new.io c.in-Ok.devices.items = record {
       size = c.in_ok-memory.ensures.size;
       opening_driver = c.in_ok-driver.ensures.opening;
       zeros = c.in_ok-memory.ensures.zero;
-      power_on = c.in-Ok-new.ensures;
+      power_on = c.in-Ok-iommu_at_power_on.ensures;
       starts = c.start.ensures.effect;
       ready = c.start.ensures.ready;
       unplugged = c.in-Ok.ensures.items;
@@ -17,11 +17,11 @@ invariant_of-result c =
 
 pub returns-clause-opening : goal.returns-clause-opening
 returns-clause-opening c =
-    let started : IsStarted c.args.frames c.args.levels (state_of c.in_ok-driver.driver) (state_of c.start.new.self) c.in_ok-memory.memory c.start.new.memory c.in-Ok-new.iommu c.start.new.io c.in-Ok.devices.items = record {
+    let started : IsStarted c.args.frames c.args.levels (state_of c.in_ok-driver.driver) (state_of c.start.new.self) c.in_ok-memory.memory c.start.new.memory c.in-Ok-iommu_at_power_on.iommu c.start.new.io c.in-Ok.devices.items = record {
       size = c.in_ok-memory.ensures.size;
       opening_driver = c.in_ok-driver.ensures.opening;
       zeros = c.in_ok-memory.ensures.zero;
-      power_on = c.in-Ok-new.ensures;
+      power_on = c.in-Ok-iommu_at_power_on.ensures;
       starts = c.start.ensures.effect;
       ready = c.start.ensures.ready;
       unplugged = c.in-Ok.ensures.items;
@@ -30,11 +30,11 @@ returns-clause-opening c =
 
 pub returns-clause-memory : goal.returns-clause-memory
 returns-clause-memory c =
-    let started : IsStarted c.args.frames c.args.levels (state_of c.in_ok-driver.driver) (state_of c.start.new.self) c.in_ok-memory.memory c.start.new.memory c.in-Ok-new.iommu c.start.new.io c.in-Ok.devices.items = record {
+    let started : IsStarted c.args.frames c.args.levels (state_of c.in_ok-driver.driver) (state_of c.start.new.self) c.in_ok-memory.memory c.start.new.memory c.in-Ok-iommu_at_power_on.iommu c.start.new.io c.in-Ok.devices.items = record {
       size = c.in_ok-memory.ensures.size;
       opening_driver = c.in_ok-driver.ensures.opening;
       zeros = c.in_ok-memory.ensures.zero;
-      power_on = c.in-Ok-new.ensures;
+      power_on = c.in-Ok-iommu_at_power_on.ensures;
       starts = c.start.ensures.effect;
       ready = c.start.ensures.ready;
       unplugged = c.in-Ok.ensures.items;
