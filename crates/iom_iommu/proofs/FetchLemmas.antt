@@ -18,9 +18,10 @@ use Rattle.iom_command_queue.proofs.Waits.{first_is, none_is, drops, stays_by_fr
 use Rattle.iom_iommu.specs.declared.iommu.Iommu.{Iommu}
 use Rattle.iom_iommu.specs.declared.fetched.Fetched.{Fetched}
 use Rattle.iom_iommu.specs.declared.fetched.Fetched.TheVariants.{Did, Waiting, Empty, Stopped}
-use Rattle.iom_inflight.specs.Flights.{some_in_flight}
+use Rattle.iom_inflight.specs.Flights.{Flights}
+use Rattle.iom_tlb.specs.declared.trans_cache.TransCache.{Ghosts as Cache}
 use Rattle.iom_iommu.specs.Parts.{registers_of, flights_of}
-use Rattle.iom_iommu.specs.Fetches.{store_of, asks_for_interrupt, with_store, IsStoredIn, IsOffRing, head_entry, WaitsAt, StopsAtEntry, StopsFetching, FetchesCommand}
+use Rattle.iom_iommu.specs.Fetches.{counted_in, store_of, asks_for_interrupt, with_store, IsStoredIn, IsOffRing, head_entry, WaitsAt, StopsAtEntry, StopsFetching, FetchesCommand}
 
 -- something stands at the head, so head and tail aren't the same
 pub apart : (m : List (List ℕ)) (r : Registers) (entry : QueueEntry) → head_entry m r ≡ Some entry → command_head r ≢ command_tail r
@@ -56,7 +57,7 @@ store_length m None = refl
 store_length m (Some store) = word_length 4 store.data store.address m
 
 -- THE FRAMES that no word was stored in
-pub leaves_frames : (m n : List (List ℕ)) (i j : Iommu) (command : Command) → FetchesCommand m i (Did command) n j
+pub leaves_frames : {C : Type 0} {c : Cache C} (m n : List (List ℕ)) (i j : Iommu C c) (command : Command) → FetchesCommand m i (Did command) n j
     → ((k : ℕ) → ¬ IsStoredIn (store_of command) k → slice_get n k ≡ slice_get m k) × (length n ≡ length m)
 leaves_frames m n i j command f = (
   (λ k ne. ap (λ x. slice_get x k) f.4 ∙ store_elsewhere m (store_of command) k ne),
@@ -68,18 +69,19 @@ fence_list : (m : List (List ℕ)) (r : Registers) (asks : Bool) → commands_in
 fence_list m r true = same_ring m (with_fence_w_ip r) r refl refl refl refl
 fence_list m r false = refl
 
-stop_at_list : (m : List (List ℕ)) (entry : Option QueueEntry) (any : Bool) (i j : Iommu) → StopsAtEntry m entry any i j → commands_in m (registers_of j) ≡ commands_in m (registers_of i)
-stop_at_list m None any i j s = absurd s
-stop_at_list m (Some stands.Outside) any i j s = ap (λ x. commands_in m (registers_of x)) s ∙ same_ring m (with_cqmf (registers_of i)) (registers_of i) refl refl refl refl
-stop_at_list m (Some (stands.Illegal reason)) any i j s = ap (λ x. commands_in m (registers_of x)) s ∙ same_ring m (with_cmd_ill (registers_of i)) (registers_of i) refl refl refl refl
-stop_at_list m (Some (stands.Command command)) any i j s = ap (λ x. commands_in m (registers_of x)) s.2 ∙ same_ring m (with_cqmf (registers_of i)) (registers_of i) refl refl refl refl
+stop_at_list : {C : Type 0} {c : Cache C} (m : List (List ℕ)) (entry : Option QueueEntry) (i j : Iommu C c) → StopsAtEntry m entry i j
+    → commands_in m (registers_of j) ≡ commands_in m (registers_of i)
+stop_at_list m None i j s = absurd s
+stop_at_list m (Some stands.Outside) i j s = ap (λ x. commands_in m (registers_of x)) s ∙ same_ring m (with_cqmf (registers_of i)) (registers_of i) refl refl refl refl
+stop_at_list m (Some (stands.Illegal reason)) i j s = ap (λ x. commands_in m (registers_of x)) s ∙ same_ring m (with_cmd_ill (registers_of i)) (registers_of i) refl refl refl refl
+stop_at_list m (Some (stands.Command command)) i j s = ap (λ x. commands_in m (registers_of x)) s.2 ∙ same_ring m (with_cqmf (registers_of i)) (registers_of i) refl refl refl refl
 
-stop_list : (on : Bool) (m : List (List ℕ)) (any : Bool) (i j : Iommu) → StopsFetching on m any i j → commands_in m (registers_of j) ≡ commands_in m (registers_of i)
-stop_list false m any i j s = ap (λ x. commands_in m (registers_of x)) s
-stop_list true m any i j s = stop_at_list m (head_entry m (registers_of i)) any i j s
+stop_list : {C : Type 0} {c : Cache C} (on : Bool) (m : List (List ℕ)) (i j : Iommu C c) → StopsFetching on m i j → commands_in m (registers_of j) ≡ commands_in m (registers_of i)
+stop_list false m i j s = ap (λ x. commands_in m (registers_of x)) s
+stop_list true m i j s = stop_at_list m (head_entry m (registers_of i)) i j s
 
 -- THE FIRST is taken, and the rest stays
-pub takes_first : (m n : List (List ℕ)) (i j : Iommu) (command : Command) → FetchesCommand m i (Did command) n j
+pub takes_first : {C : Type 0} {c : Cache C} (m n : List (List ℕ)) (i j : Iommu C c) (command : Command) → FetchesCommand m i (Did command) n j
     → IsOffRing (registers_of i) (store_of command) → commands_in m (registers_of i) ≡ stands.Command command ∷ commands_in n (registers_of j)
 takes_first m n i j command f off =
     let r = registers_of i in let done = with_command_done r in
@@ -90,44 +92,44 @@ takes_first m n i j command f off =
     ∙ ap (λ xs. stands.Command command ∷ xs) (sym (stays_by_frames m n done alike) ∙ sym (fence_list n done (asks_for_interrupt command)) ∙ sym (ap (λ x. commands_in n x) f.5.registers))
 
 -- any other answer leaves memory, and the list
-pub leaves_memory : (m n : List (List ℕ)) (i j : Iommu) (answer : Fetched) → FetchesCommand m i answer n j
+pub leaves_memory : {C : Type 0} {c : Cache C} (m n : List (List ℕ)) (i j : Iommu C c) (answer : Fetched) → FetchesCommand m i answer n j
     → ((command : Command) → ¬ (answer ≡ Did command)) → n ≡ m
 leaves_memory m n i j (Did command) f not_done = absurd (not_done command refl)
 leaves_memory m n i j Waiting f not_done = f.2
 leaves_memory m n i j Empty f not_done = f.2
 leaves_memory m n i j Stopped f not_done = f.1
 
-pub leaves_list : (m n : List (List ℕ)) (i j : Iommu) (answer : Fetched) → FetchesCommand m i answer n j
+pub leaves_list : {C : Type 0} {c : Cache C} (m n : List (List ℕ)) (i j : Iommu C c) (answer : Fetched) → FetchesCommand m i answer n j
     → ((command : Command) → ¬ (answer ≡ Did command)) → commands_in n (registers_of j) ≡ commands_in m (registers_of i)
 leaves_list m n i j (Did command) f not_done = absurd (not_done command refl)
 leaves_list m n i j Waiting f not_done = ap (λ x. commands_in x (registers_of j)) f.2 ∙ ap (λ x. commands_in m (registers_of x)) f.3
 leaves_list m n i j Empty f not_done = ap (λ x. commands_in x (registers_of j)) f.2 ∙ ap (λ x. commands_in m (registers_of x)) f.3
 leaves_list m n i j Stopped f not_done =
-    ap (λ x. commands_in x (registers_of j)) f.1 ∙ stop_list (is_processing_commands (registers_of i)) m (some_in_flight (flights_of i)) i j f.0
+    ap (λ x. commands_in x (registers_of j)) f.1 ∙ stop_list (is_processing_commands (registers_of i)) m i j f.0
 
 none_first : (xs : List QueueEntry) → slice_get xs 0 ≡ None → xs ≡ []
 none_first [] e = refl
 none_first (x ∷ xs) e = cc
 
 -- nothing that stands at the head makes a command wait, or stops, where nothing stands there
-none_waits : (m : List (List ℕ)) (r : Registers) (any : Bool) → head_entry m r ≡ None → ¬ WaitsAt (head_entry m r) any
-none_waits m r any none w = subst (λ entry. WaitsAt entry any) none w
+none_waits : (m : List (List ℕ)) (r : Registers) (flights : Flights) (before : ℕ) → head_entry m r ≡ None → ¬ WaitsAt (head_entry m r) flights before
+none_waits m r flights before none w = subst (λ entry. WaitsAt entry flights before) none w
 
-none_stops : (m : List (List ℕ)) (on any : Bool) (i j : Iommu) → on ≡ true → head_entry m (registers_of i) ≡ None → ¬ StopsFetching on m any i j
-none_stops m on any i j is_on none s = subst (λ entry. StopsAtEntry m entry any i j) none (subst (λ b. StopsFetching b m any i j) is_on s)
+none_stops : {C : Type 0} {c : Cache C} (m : List (List ℕ)) (on : Bool) (i j : Iommu C c) → on ≡ true → head_entry m (registers_of i) ≡ None → ¬ StopsFetching on m i j
+none_stops m on i j is_on none s = subst (λ entry. StopsAtEntry m entry i j) none (subst (λ b. StopsFetching b m i j) is_on s)
 
 -- EMPTY exactly where processing is on and nothing waits
-pub empty_then : (m n : List (List ℕ)) (i j : Iommu) (answer : Fetched) → FetchesCommand m i answer n j
+pub empty_then : {C : Type 0} {c : Cache C} (m n : List (List ℕ)) (i j : Iommu C c) (answer : Fetched) → FetchesCommand m i answer n j
     → answer ≡ Empty → (is_processing_commands (registers_of i) ≡ true) × (commands_in m (registers_of i) ≡ [])
 empty_then m n i j (Did command) f e = cc
 empty_then m n i j Waiting f e = cc
 empty_then m n i j Empty f e = (f.0, none_first (commands_in m (registers_of i)) f.1)
 empty_then m n i j Stopped f e = cc
 
-pub empty_where : (m n : List (List ℕ)) (i j : Iommu) (answer : Fetched) → FetchesCommand m i answer n j
+pub empty_where : {C : Type 0} {c : Cache C} (m n : List (List ℕ)) (i j : Iommu C c) (answer : Fetched) → FetchesCommand m i answer n j
     → (is_processing_commands (registers_of i) ≡ true) × (commands_in m (registers_of i) ≡ []) → answer ≡ Empty
 empty_where m n i j (Did command) f p = let e = sym (ap (λ xs. slice_get xs 0) p.1) ∙ f.1 in cc
-empty_where m n i j Waiting f p = absurd (none_waits m (registers_of i) (some_in_flight (flights_of i)) (ap (λ xs. slice_get xs 0) p.1) f.1)
+empty_where m n i j Waiting f p = absurd (none_waits m (registers_of i) (flights_of i) (counted_in i) (ap (λ xs. slice_get xs 0) p.1) f.1)
 empty_where m n i j Empty f p = refl
 empty_where m n i j Stopped f p =
-    absurd (none_stops m (is_processing_commands (registers_of i)) (some_in_flight (flights_of i)) i j p.0 (ap (λ xs. slice_get xs 0) p.1) f.0)
+    absurd (none_stops m (is_processing_commands (registers_of i)) i j p.0 (ap (λ xs. slice_get xs 0) p.1) f.0)

@@ -1,3 +1,5 @@
+pub mod CachedLemmas
 pub mod FetchLemmas
 pub mod ServiceLemmas
+pub mod PartLemmas
 pub mod MadeLemmas

@@ -1,8 +1,8 @@
 -- The access that is made lies within one frame.
-use Rattle.std.proofs.Common.{◌≡◌, ◌<◌, ◌≤◌, ◌+◌, ◌%◌, ◌==◌, ◌∙◌, ℕ, Bool, true, false, List, [], ◌∷◌, Option, None, Some, IfSome, refl, sym, ap, subst, if◌then◌else◌}
+use Rattle.std.proofs.Common.{◌≡◌, ◌==◌, ℕ, Bool, true, false, List, [], ◌∷◌, Option, None, Some, IfSome, sym, subst, if◌then◌else◌}
 use Rattle.iom_inflight.specs.declared.made.MadeAt.{MadeAt}
 use Rattle.iom_inflight.specs.Calls.{Makes}
-use Rattle.iom_inflight.specs.Flights.{NumberedAccess, FlightRow, Flights, row_of, made_at}
+use Rattle.iom_inflight.specs.Flights.{FlightRow, Flights, row_of}
 use Rattle.iom_inflight.specs.Sound.{AreFlights, AreSoundRows, AreSoundAccesses, IsSoundRow, AreRowsIn, AreAccessesIn}
 use Rattle.iom_iommu.specs.Requests.{IsWithinFrame}
 

@@ -38,7 +38,8 @@ fn walk<C: TransCache>(
     space: Space,
     translations: &mut C,
 ) -> Result<u32, Cause>
-    ensures walked { Walks C.SURE memory.now root address kind (space, address / page_size) (C.content translations.old) result (C.content translations.new) }
+    ensures walked { Walks C.SURE memory.now root address kind (space, address / page_size)
+        (C.content translations.old) result (C.content translations.new) }
     ensures inside { IfOk result (λ frame. frame < length memory.now) }
 {
     match walk_first(memory, root, address, kind) {
@@ -77,7 +78,8 @@ fn translate<C: TransCache>(
     translations: &mut C,
 ) -> Result<u32, Cause>
     requires { AreTranslationsIn (length memory.now) (C.content translations.old) }
-    ensures translated { Translates C.SURE context.now.first_stage memory.now address kind (key_of context.now address) (C.content translations.old) result (C.content translations.new) }
+    ensures translated { Translates C.SURE context.now.first_stage memory.now address kind
+        (key_of context.now address) (C.content translations.old) result (C.content translations.new) }
     ensures inside { IfOk result (λ frame. frame < length memory.now) }
 {
     let space = Space::First {
@@ -144,7 +146,8 @@ pub(crate) fn serve<C: TransCache>(
     kind: AccessKind,
 ) -> Result<u32, Cause>
     requires { AreTranslationsIn (length memory.now) (C.content translations.old) }
-    ensures served { Serves C.SURE memory.now registers.now (cached_contexts contexts.old) device address kind (C.content translations.old) result (C.content translations.new) }
+    ensures served { Serves C.SURE memory.now registers.now (cached_contexts contexts.old) device address kind
+        (C.content translations.old) result (C.content translations.new) }
     ensures kept { KeepsContext memory.now registers.now (cached_contexts contexts.old) device (cached_contexts contexts.new) }
     ensures inside { IfOk result (λ frame. frame < length memory.now) }
 {

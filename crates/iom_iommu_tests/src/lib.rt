@@ -7,6 +7,10 @@
 #![tactic(auto)]
 
 #[cfg(test)]
+mod counts;
+#[cfg(test)]
+mod directories;
+#[cfg(test)]
 mod fences;
 #[cfg(test)]
 mod requests;
@@ -18,3 +22,5 @@ mod setup;
 mod stops;
 #[cfg(test)]
 mod table;
+#[cfg(test)]
+mod translations;

@@ -1,48 +1,11 @@
-use crate::setup::{BASE_VALUE, CQT, DDTP, DEVICE, ask, commit, fetch, put, turned_on, write};
+use crate::directories::{CONTEXT, ONE_LEVEL, THREE_LEVELS, directories, with_directory};
+use crate::setup::{CQT, DEVICE, ask, commit, fetch, put, write};
 use iom_base::{AccessKind, Cause};
-use iom_iommu::{Iommu, Reply};
-use iom_phys_mem::{Bytes, Memory};
+use iom_iommu::Reply;
+use iom_phys_mem::Bytes;
 use std::alloc::Global;
 use std::process::Abort;
 use std::test::Fail;
-
-/// A directory of one level in the frame 16.
-const ONE_LEVEL: u64 = 0x4002;
-
-/// A directory of three levels, whose root is in the frame 48, the next one in 52, and contexts in 16.
-const THREE_LEVELS: u64 = 0xc004;
-
-/// The address of the device's context in the frame 16.
-const CONTEXT: u64 = 0x100a0;
-
-/// The directories. The device's first stage has its root in the frame 17, and leads 0x3010 to 0x20010.
-const WORDS: [(u64, u64); 9] = [
-    (CONTEXT, 1),
-    (CONTEXT + 8, 0),
-    (CONTEXT + 16, 0x1000),
-    (CONTEXT + 24, 0x8000_0000_0000_0011),
-    (0x11000, 0x4801),
-    (0x12000, 0x4c01),
-    (0x13018, 0x80d7),
-    (0x30000, 0xd001),
-    (0x34000, 0x4001),
-];
-
-/// A memory with the directories.
-fn directories(alloc: Global) -> Result<Memory, Fail> {
-    let mut memory = Memory::new(alloc, 64)?;
-    for (address, word) in WORDS.iter() {
-        memory.store_u64(*address, *word).ok_or("in memory")?;
-    }
-    Ok(memory)
-}
-
-/// An IOMMU whose command queue is on and whose `ddtp` is written.
-fn with_directory(rt: &impl Abort, alloc: Global, ddtp: u64) -> Result<Iommu, Fail> {
-    let mut iommu = turned_on(rt, alloc, BASE_VALUE)?;
-    write(rt, &mut iommu, DDTP, ddtp);
-    Ok(iommu)
-}
 
 /// A read and a write are accepted and made: the bytes of the write are stored when it is made, and not before.
 fn serves(rt: &impl Abort, alloc: Global, ddtp: u64) -> Result<(), Fail> {

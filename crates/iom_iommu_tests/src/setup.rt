@@ -4,6 +4,7 @@ use iom_inflight::MadeAt;
 use iom_iommu::{Fetched, Iommu, Reply};
 use iom_phys_mem::{Bytes, Memory};
 use iom_registers::Mmio;
+use iom_tlb::Ioatc;
 use std::alloc::{AllocError, Global};
 use std::process::Abort;
 
@@ -41,21 +42,30 @@ fn width_at(offset: u64) -> u32 {
 }
 
 /// Software reads a register of the command queue.
-pub(crate) fn read(rt: &impl Abort, iommu: &Iommu, offset: u64) -> u64 {
+pub(crate) fn read(rt: &impl Abort, iommu: &Iommu<Ioatc>, offset: u64) -> u64 {
     let value = iommu.read(offset, width_at(offset));
     assert!(rt; value.is_ok());
     value.unwrap_or(0)
 }
 
 /// Software writes a register of the command queue.
-pub(crate) fn write(rt: &impl Abort, iommu: &mut Iommu, offset: u64, value: u64) {
+pub(crate) fn write(rt: &impl Abort, iommu: &mut Iommu<Ioatc>, offset: u64, value: u64) {
     assert_eq!(rt; iommu.write(offset, width_at(offset), value), Ok(()));
+}
+
+/// An IOMMU at power-on, beside the memory of a test.
+pub(crate) fn at_power_on(alloc: Global) -> Result<Iommu<Ioatc>, AllocError> {
+    Iommu::new(alloc, FRAMES, Ioatc::new(alloc)?)
 }
 
 /// An IOMMU whose command queue is where `cqb` says, and on, with its interrupts enabled, and to which the
 /// device was added.
-pub(crate) fn turned_on(rt: &impl Abort, alloc: Global, cqb: u64) -> Result<Iommu, AllocError> {
-    let mut iommu = Iommu::new(alloc, FRAMES)?;
+pub(crate) fn turned_on(
+    rt: &impl Abort,
+    alloc: Global,
+    cqb: u64,
+) -> Result<Iommu<Ioatc>, AllocError> {
+    let mut iommu = at_power_on(alloc)?;
     iommu.add(DEVICE);
     write(rt, &mut iommu, CQB, cqb);
     write(rt, &mut iommu, CQCSR, 3);
@@ -63,7 +73,7 @@ pub(crate) fn turned_on(rt: &impl Abort, alloc: Global, cqb: u64) -> Result<Iomm
 }
 
 /// The IOMMU takes its next command.
-pub(crate) fn fetch(rt: &impl Abort, iommu: &mut Iommu, memory: &mut Memory) -> Fetched {
+pub(crate) fn fetch(rt: &impl Abort, iommu: &mut Iommu<Ioatc>, memory: &mut Memory) -> Fetched {
     let is_its = memory.frames() == iommu.frames();
     assert!(rt; is_its);
     iommu.fetch(memory)
@@ -72,7 +82,7 @@ pub(crate) fn fetch(rt: &impl Abort, iommu: &mut Iommu, memory: &mut Memory) -> 
 /// The device asks for a read of one byte, or for a write of these.
 pub(crate) fn ask(
     rt: &impl Abort,
-    iommu: &mut Iommu,
+    iommu: &mut Iommu<Ioatc>,
     memory: &Memory,
     device: u32,
     address: u64,
@@ -93,7 +103,11 @@ pub(crate) fn ask(
 }
 
 /// The oldest access of the device is made.
-pub(crate) fn commit(rt: &impl Abort, iommu: &mut Iommu, memory: &mut Memory) -> Option<MadeAt> {
+pub(crate) fn commit(
+    rt: &impl Abort,
+    iommu: &mut Iommu<Ioatc>,
+    memory: &mut Memory,
+) -> Option<MadeAt> {
     let is_its = memory.frames() == iommu.frames();
     assert!(rt; is_its);
     let is_added = iommu.is_added(DEVICE);
@@ -102,7 +116,7 @@ pub(crate) fn commit(rt: &impl Abort, iommu: &mut Iommu, memory: &mut Memory) ->
 }
 
 /// A read of the device is in flight, without translation.
-pub(crate) fn put_in_flight(rt: &impl Abort, iommu: &mut Iommu, memory: &Memory) {
+pub(crate) fn put_in_flight(rt: &impl Abort, iommu: &mut Iommu<Ioatc>, memory: &Memory) {
     write(rt, iommu, DDTP, 1);
     let reply = ask(rt, iommu, memory, DEVICE, 0x3000, &[]);
     assert_eq!(rt; reply, Reply::Accepted(1));

@@ -1,7 +1,7 @@
 use crate::setup::{
-    BASE_VALUE, CQCSR, CQH, CQT, FRAMES, did_fence_to, fetch, put, read, turned_on, write,
+    BASE_VALUE, CQCSR, CQH, CQT, at_power_on, did_fence_to, fetch, put, read, turned_on, write,
 };
-use iom_iommu::{Fetched, Iommu};
+use iom_iommu::Fetched;
 use iom_phys_mem::{Bytes, Memory};
 use iom_registers::Registers;
 use std::test::Fail;
@@ -41,7 +41,7 @@ fn it_stays_stopped_until_cleared(rt: HostRuntime) -> Result<(), Fail> {
 #[test]
 fn a_queue_that_is_off_is_stopped(rt: HostRuntime) -> Result<(), Fail> {
     let mut memory = Memory::new(rt.alloc(), 64)?;
-    let mut iommu = Iommu::new(rt.alloc(), FRAMES)?;
+    let mut iommu = at_power_on(rt.alloc())?;
     assert_eq!(rt; fetch(&rt, &mut iommu, &mut memory), Fetched::Stopped);
     assert_eq!(rt; *iommu.registers(), Registers::new());
     let mut iommu = turned_on(&rt, rt.alloc(), BASE_VALUE)?;

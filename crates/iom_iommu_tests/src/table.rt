@@ -1,8 +1,9 @@
 use crate::setup::{
-    BASE_VALUE, CQCSR, CQH, CQT, FRAMES, IPSR, did_fence_to, fetch, put, read, turned_on, write,
+    BASE_VALUE, CQCSR, CQH, CQT, IPSR, at_power_on, did_fence_to, fetch, put, put_in_flight, read,
+    turned_on, write,
 };
 use iom_command_queue::{AtsRange, Command, DeviceNumber, PageNumber, Pscid};
-use iom_iommu::{Fetched, Iommu};
+use iom_iommu::Fetched;
 use iom_phys_mem::{Bytes, Memory};
 use iom_registers::{Mmio, RegFault, Registers};
 use std::test::Fail;
@@ -95,7 +96,7 @@ fn a_command_is_done_or_stops_the_queue(rt: HostRuntime) -> Result<(), Fail> {
     Ok(())
 }
 
-// Bytes of commands that change nothing yet, each with what it is.
+// Bytes of commands that store nothing, each with what it is.
 fn others() -> Option<[(u64, u64, Command); 4]> {
     let device = DeviceNumber::new(2)?;
     let page = PageNumber::new(3)?;
@@ -141,6 +142,7 @@ fn other_commands_are_done_in_order(rt: HostRuntime) -> Result<(), Fail> {
     let mut memory = Memory::new(rt.alloc(), 64)?;
     let mut iommu = turned_on(&rt, rt.alloc(), BASE_VALUE)?;
     let others = others().ok_or("fields that fit")?;
+    put_in_flight(&rt, &mut iommu, &memory);
     for (index, (first, second, _)) in others.iter().enumerate() {
         put(&rt, &mut memory, index as u32, *first, *second);
     }
@@ -158,7 +160,7 @@ fn other_commands_are_done_in_order(rt: HostRuntime) -> Result<(), Fail> {
 // A refused access changes nothing, and the registers are those of the table.
 #[test]
 fn registers_are_reached(rt: HostRuntime) -> Result<(), Fail> {
-    let mut iommu = Iommu::new(rt.alloc(), FRAMES)?;
+    let mut iommu = at_power_on(rt.alloc())?;
     assert_eq!(rt; iommu.read(0, 8), Ok(0x0000_0020_1202_0210));
     assert_eq!(rt; iommu.write(24, 4, BASE_VALUE), Err(RegFault::BadWidth));
     assert_eq!(rt; iommu.write(28, 4, BASE_VALUE), Err(RegFault::BadOffset));

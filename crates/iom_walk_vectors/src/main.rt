@@ -18,6 +18,7 @@ use iom_iommu::{Iommu, Reply};
 use iom_phys_mem::{Bytes, Memory};
 use iom_registers::{DirectoryMode, DirectoryPointer, Mmio, Register, Registers};
 use iom_stage_walk::{WalkFault, walk_first};
+use iom_tlb::Ioatc;
 use std::alloc::Global;
 use std::fs;
 
@@ -131,7 +132,7 @@ fn answer(memory: &Memory, ddtp: DirectoryPointer, case: Case<'_>) -> Result<u64
 /// What a request of one byte at the address is answered by an IOMMU whose `ddtp` was written; None where the
 /// request is answered otherwise, or there is no memory for the IOMMU.
 fn requested(alloc: Global, memory: &Memory, case: Case<'_>) -> Option<Result<u64, WalkFault>> {
-    let mut iommu = Iommu::new(alloc, memory.frames()).ok()?;
+    let mut iommu = Iommu::new(alloc, memory.frames(), Ioatc::new(alloc).ok()?).ok()?;
     iommu.write(DDTP, 8, case.ddtp).ok()?;
     iommu.add(case.device);
     if !iommu.is_added(case.device) || iommu.frames() != memory.frames() || iommu.so_far() > 0 {

@@ -2,4 +2,4 @@ use Rattle.iom_iommu.proofs.FetchLemmas.{leaves_memory, leaves_list}
 use Rattle.iom_iommu.proofs.laws.leaves_list.Goals as goal
 
 pub returns : goal.returns
-returns c = λ m n i j answer f not_done. (leaves_memory m n i j answer f not_done, leaves_list m n i j answer f not_done)
+returns g c = λ m n i j answer f not_done. (leaves_memory m n i j answer f not_done, leaves_list m n i j answer f not_done)

@@ -7,15 +7,16 @@ use Rattle.iom_iommu.proofs.MadeLemmas.{made_within}
 use Rattle.iom_iommu.proofs.iommu.Iommu.commit.Goals as goal
 
 pub make-requires : goal.make-requires
-make-requires c =
+make-requires g c =
     subst (λ n. IsReady n (row_of c.args.self.now.in_flight.rows c.args.device)) (sym c.requires.memory)
     (ready_in_memory c.args.self.now.frames c.args.self.now.in_flight.rows c.args.device c.requires.added c.args.self.now.inside)
 
 pub invariant_of-self : goal.invariant_of-self
-invariant_of-self c = record {
+invariant_of-self g c = record {
   inside = makes_in_memory c.args.self.now.frames c.args.memory.now c.args.self.now.in_flight c.args.device c.make.result c.make.new.memory c.make.new.self c.make.ensures c.args.self.now.inside;
+  cached = c.args.self.now.cached;
 }
 
 pub returns-clause-within : goal.returns-clause-within
-returns-clause-within c =
+returns-clause-within g c =
     made_within c.args.self.now.frames c.args.memory.now c.args.self.now.in_flight c.args.device c.make.result c.make.new.memory c.make.new.self c.hold.ensures c.args.self.now.inside c.make.ensures
