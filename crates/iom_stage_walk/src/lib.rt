@@ -7,13 +7,17 @@
 //! 63:54 of an entry have to be zero; memory that isn't there gives an access fault.
 #![tactic(auto)]
 
+mod both;
 mod entry;
 pub mod laws;
 mod pte;
+mod second;
 mod walk;
 mod walked;
 
+pub use both::walk_both;
 pub use entry::{Entry, entry_at};
 pub use pte::{Pte, PteFlags};
+pub use second::{SECOND_LEVELS, walk_second};
 pub use walk::{FIRST_LEVELS, first_indices, walk_first};
 pub use walked::{WalkFault, Walked};
