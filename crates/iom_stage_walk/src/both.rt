@@ -54,10 +54,12 @@ fn guest_entry<B: Bytes>(
 ) -> Result<Loaded, WalkFault>
     requires table { table < 2 ^ 44 }
     requires index { index < table_entries }
-    ensures ok { IfOk result (λ loaded. IsReadFrom second_levels (B.frames_of memory.now) second (slot table index) loaded.frame loaded.entry) }
+    ensures ok { IfOk result (λ loaded.
+        IsReadFrom second_levels (B.frames_of memory.now) second (slot table index) loaded.frame loaded.entry) }
     ensures bounded { IfOk result (λ loaded. IsBounded loaded.entry) }
     ensures inside { IfOk result (λ loaded. loaded.entry ≢ Outside) }
-    ensures err { IfErr result (LeadsToFault second_levels (B.frames_of memory.now) second (entry_address (slot table index)) Read original true) }
+    ensures err { IfErr result
+        (LeadsToFault second_levels (B.frames_of memory.now) second (entry_address (slot table index)) Read original true) }
 {
     let address = PAGE_SIZE * table + ENTRY_SIZE * u64::from(index);
     match lead(memory, second, address, AccessKind::Read, original) {
@@ -80,7 +82,8 @@ fn walk_guest<B: Bytes>(
     requires root { root < 2 ^ 44 }
     requires small { EachIndex indices.now (λ k. slice_index indices.now k < table_entries) }
     requires short { length indices.now ≤ 4 }
-    ensures ok { IfOk result (λ leaf. (loaded : List ℕ) × (leaf.frames ≡ padded 4 loaded) × ReachesGuest second_levels (B.frames_of memory.now) second kind root indices.now loaded leaf.page leaf.rights) }
+    ensures ok { IfOk result (λ leaf. (loaded : List ℕ) × (leaf.frames ≡ padded 4 loaded)
+        × ReachesGuest second_levels (B.frames_of memory.now) second kind root indices.now loaded leaf.page leaf.rights) }
     ensures page { IfOk result (λ leaf. leaf.page < 2 ^ 45) }
     ensures err { IfErr result (StopsGuest second_levels (B.frames_of memory.now) second kind root indices.now) }
 {
@@ -128,8 +131,11 @@ fn final_access<B: Bytes>(
     kind: AccessKind,
 ) -> Result<Walked, WalkFault>
     requires { leaf.page < 2 ^ 45 }
-    ensures ok { IfOk result (λ walked. (walked.guest_frames ≡ leaf.frames) × ((own : Rights) × (walked.rights ≡ rights_of_both leaf.rights own) × LeadsTo second_levels (B.frames_of memory.now) second (guest_address leaf.page address) kind walked.frame own)) }
-    ensures err { IfErr result (LeadsToFault second_levels (B.frames_of memory.now) second (guest_address leaf.page address) kind kind false) }
+    ensures ok { IfOk result (λ walked. (walked.guest_frames ≡ leaf.frames) × ((own : Rights)
+        × (walked.rights ≡ rights_of_both leaf.rights own)
+        × LeadsTo second_levels (B.frames_of memory.now) second (guest_address leaf.page address) kind walked.frame own)) }
+    ensures err { IfErr result
+        (LeadsToFault second_levels (B.frames_of memory.now) second (guest_address leaf.page address) kind kind false) }
 {
     let guest = PAGE_SIZE * leaf.page + address % PAGE_SIZE;
     let guest_frames = leaf.frames;
@@ -177,8 +183,10 @@ pub fn walk_both<B: Bytes>(
     kind: AccessKind,
 ) -> Result<Walked, WalkFault>
     requires { first < 2 ^ 44 }
-    ensures reached { (walked : Walked) → (result ≡ Ok walked) ↔ ReachesBoth first_levels second_levels (B.frames_of memory.now) first second address kind walked }
-    ensures stopped { (fault : WalkFault) → (result ≡ Err fault) ↔ StopsBoth first_levels second_levels (B.frames_of memory.now) first second address kind fault }
+    ensures reached { (walked : Walked) → (result ≡ Ok walked)
+        ↔ ReachesBoth first_levels second_levels (B.frames_of memory.now) first second address kind walked }
+    ensures stopped { (fault : WalkFault) → (result ≡ Err fault)
+        ↔ StopsBoth first_levels second_levels (B.frames_of memory.now) first second address kind fault }
 {
     let indices = first_indices(address / PAGE_SIZE);
     walk_both_levels(memory, first, second, address, &indices, kind)
