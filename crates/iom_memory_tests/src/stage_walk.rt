@@ -1,7 +1,9 @@
 use bitflags::Flags;
 use iom_base::{AccessKind, Cause, Rights};
 use iom_phys_mem::{Bytes, Memory};
-use iom_stage_walk::{Entry, Pte, PteFlags, WalkFault, Walked, entry_at, laws, walk_first};
+use iom_stage_walk::{
+    Entry, Pte, PteFlags, WalkFault, Walked, entry_at, laws, walk_both, walk_first, walk_second,
+};
 use std::process::Abort;
 use std::test::Fail;
 
@@ -24,6 +26,14 @@ fn fault(cause: Cause) -> Result<Walked, WalkFault> {
         cause,
         gpa: 0,
         implicit: false,
+    })
+}
+
+fn guest_fault(cause: Cause, gpa: u64, implicit: bool) -> Result<Walked, WalkFault> {
+    Err(WalkFault {
+        cause,
+        gpa,
+        implicit,
     })
 }
 
@@ -176,10 +186,87 @@ fn a_root_outside_memory_is_an_access_fault(rt: HostRuntime) -> Result<(), Fail>
     Ok(())
 }
 
+// As an emulated processor and an emulated IOMMU answer: of a root of four frames from page 0x30 on, entry
+// 1,024 stands in the third, and an address of 42 bits is refused, whatever is mapped below.
+#[test]
+fn a_second_stage_translates_41_bits(rt: HostRuntime) -> Result<(), Fail> {
+    let mut memory = Memory::new(rt.alloc(), 64)?;
+    put(
+        &rt,
+        &mut memory,
+        &[(0x3_2000, 0xd001), (0x3_4000, 0xd401), (0x3_5018, 0x80d7)],
+    );
+    assert_eq!(rt;
+        walk_second(&memory, 0x30, 0x100_0000_3010, AccessKind::Write),
+        at(0x20, Rights::RW)
+    );
+    put(&rt, &mut memory, &[(0x3_2000, 0), (0x3_0000, 0xd001)]);
+    assert_eq!(rt;
+        walk_second(&memory, 0x30, 0x3010, AccessKind::Read),
+        at(0x20, Rights::RW)
+    );
+    assert_eq!(rt;
+        walk_second(&memory, 0x30, 0x200_0000_3010, AccessKind::Read),
+        guest_fault(Cause::ReadGuestPageFault, 0x200_0000_3010, false)
+    );
+    Ok(())
+}
+
+// As they answer too: the guest's tables are its pages 0, 1 and 2, and lead the page 3 to its page 9. The second
+// stage has the four in frames 0x40, 0x41, 0x42 and 0x20.
+#[test]
+fn both_stages_lead_to_a_frame(rt: HostRuntime) -> Result<(), Fail> {
+    let mut memory = Memory::new(rt.alloc(), 128)?;
+    put(
+        &rt,
+        &mut memory,
+        &[
+            (0x4_0000, 0x401),
+            (0x4_1000, 0x801),
+            (0x4_2018, 0x24d7),
+            (0x3_0000, 0xd001),
+            (0x3_4000, 0xd401),
+            (0x3_5000, 0x1_00d7),
+            (0x3_5008, 0x1_04d7),
+            (0x3_5010, 0x1_08d7),
+            (0x3_5048, 0x80d7),
+        ],
+    );
+    let reached = Walked {
+        frame: 0x20,
+        rights: Rights::RW,
+        guest_frames: [Some(0x40), Some(0x41), Some(0x42), None],
+    };
+    assert_eq!(rt;
+        walk_both(&memory, 0, 0x30, 0x3010, AccessKind::Write),
+        Ok(reached)
+    );
+    put(&rt, &mut memory, &[(0x3_5010, 0)]);
+    assert_eq!(rt;
+        walk_both(&memory, 0, 0x30, 0x3010, AccessKind::Write),
+        guest_fault(Cause::WriteGuestPageFault, 0x2018, true)
+    );
+    put(&rt, &mut memory, &[(0x3_5010, 0x1_08d7), (0x3_5048, 0)]);
+    assert_eq!(rt;
+        walk_both(&memory, 0, 0x30, 0x3010, AccessKind::Write),
+        guest_fault(Cause::WriteGuestPageFault, 0x9010, false)
+    );
+    Ok(())
+}
+
 #[test]
 fn the_laws_can_be_called(_rt: HostRuntime) {
     laws::one_leaf();
     laws::one_end();
     laws::writes_as_reads();
     laws::same_path();
+    laws::one_leaf_second();
+    laws::one_end_second();
+    laws::writes_as_reads_second();
+    laws::same_path_second();
+    laws::one_leaf_both();
+    laws::one_end_both();
+    laws::writes_as_reads_both();
+    laws::guest_frames_are_led();
+    laws::faults_are_told();
 }

@@ -6,7 +6,7 @@ use Rattle.iom_base.specs.declared.access.AccessKind.{AccessKind}
 use Rattle.iom_base.specs.declared.cause.Cause.{Cause}
 use Rattle.iom_base.specs.declared.rights.Rights.{Rights}
 use Rattle.iom_stage_walk.specs.Entries.{Entries, entries, slot}
-use Rattle.iom_stage_walk.specs.Paths.{Reaches, Stops}
+use Rattle.iom_stage_walk.specs.Paths.{Reaches, StopsAs}
 use Rattle.iom_stage_walk.specs.Through.{after_pointer, through}
 use Rattle.iom_stage_walk.specs.declared.entry.Entry.{Entry}
 use Rattle.iom_stage_walk.specs.declared.entry.Entry.TheVariants.{Outside, Invalid, Pointer, Leaf}
@@ -28,11 +28,11 @@ alike_reaches old new table (i ∷ is) kind f r u h =
       | inr y ↦ inr (y.0, y.1, u.0 ∙ y.2, y.3)
     ]
 
-pub alike_stops : (old new : Entries) (table : ℕ) (is : List ℕ) (kind : AccessKind) (c : Cause) → Alike old new table is → Stops old kind table is c → Stops new kind table is c
-alike_stops old new table [] kind c u h = h
-alike_stops old new table (i ∷ is) kind c u h =
+pub alike_stops : (old new : Entries) (table : ℕ) (is : List ℕ) (kind : AccessKind) (page access c : Cause) → Alike old new table is → StopsAs old kind page access table is c → StopsAs new kind page access table is c
+alike_stops old new table [] kind page access c u h = h
+alike_stops old new table (i ∷ is) kind page access c u h =
     elim h [
-      | inl x ↦ inl (x.0, u.0 ∙ x.1, alike_stops old new x.0 is kind c (u.1 x.0 x.1) x.2)
+      | inl x ↦ inl (x.0, u.0 ∙ x.1, alike_stops old new x.0 is kind page access c (u.1 x.0 x.1) x.2)
       | inr y ↦ elim y [
         | inl a ↦ inr (inl (u.0 ∙ a.0, a.1))
         | inr z ↦ elim z [

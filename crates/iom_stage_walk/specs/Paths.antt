@@ -44,16 +44,21 @@ Reaches e kind table (i ∷ below) frame given =
 abbrev pub IsUnlawfulLeaf : AccessKind → ℕ → Rights → List ℕ → Type 0
 IsUnlawfulLeaf kind base rights below = (base % pages_spanned below ≢ 0) ⊎ (allows rights kind ≡ false)
 
--- from the table the path along the indices is lawful up to an entry or a load that has this cause. A pointer at the
--- last level leaves no index for the table that it names
-abbrev pub Stops : Entries → AccessKind → ℕ → List ℕ → Cause → Type 0
-Stops e kind table [] cause = cause ≡ page_fault_of kind
-Stops e kind table (i ∷ below) cause =
-    ((next : ℕ) × (e (slot table i) ≡ Pointer next) × Stops e kind next below cause)
-    ⊎ (((e (slot table i) ≡ Outside) × (cause ≡ access_fault_of kind))
-    ⊎ (((e (slot table i) ≡ Invalid) × (cause ≡ page_fault_of kind))
-    ⊎ ((base : ℕ) × (rights : Rights) × (e (slot table i) ≡ Leaf base rights) × (cause ≡ page_fault_of kind)
+-- from the table the path along the indices is lawful up to an entry or a load that has this cause: `access` where a
+-- load is outside memory, else `page`. They are what the access calls its faults in these tables. A pointer at the last
+-- level leaves no index for the table that it names
+abbrev pub StopsAs : Entries → AccessKind → Cause → Cause → ℕ → List ℕ → Cause → Type 0
+StopsAs e kind page access table [] cause = cause ≡ page
+StopsAs e kind page access table (i ∷ below) cause =
+    ((next : ℕ) × (e (slot table i) ≡ Pointer next) × StopsAs e kind page access next below cause)
+    ⊎ (((e (slot table i) ≡ Outside) × (cause ≡ access))
+    ⊎ (((e (slot table i) ≡ Invalid) × (cause ≡ page))
+    ⊎ ((base : ℕ) × (rights : Rights) × (e (slot table i) ≡ Leaf base rights) × (cause ≡ page)
     × IsUnlawfulLeaf kind base rights below)))
+
+-- the same in the tables of a first stage, where they are page faults
+abbrev pub Stops : Entries → AccessKind → ℕ → List ℕ → Cause → Type 0
+Stops e kind table is cause = StopsAs e kind (page_fault_of kind) (access_fault_of kind) table is cause
 
 -- the indices of a page in tables with so many entries each, the root's first: nine bits of the page number a level,
 -- more in a root that is wider
@@ -89,16 +94,22 @@ pub record ReachesFirst (levels : ℕ) (frames : List (List ℕ)) (root address 
   pub inside : IsInMemory frames walked.frame
   pub no_guest : walked.guest_frames ≡ replicate 4 None
 
--- the path of the address from the root of a first stage stops with the cause: a page fault, where the high bits of
--- the address aren't lawful; the cause with which it stops in the tables; or an access fault, where it reaches a leaf
--- whose page's frame lies outside memory
+-- in one stage, a first or a second, the path along an address's indices stops with the cause: the stage's page fault,
+-- where the address isn't lawful for it; the cause with which the path stops in the tables; or the access fault, where
+-- it reaches a leaf whose page's frame lies outside memory
+abbrev pub StopsIn : Type 0 → List (List ℕ) → AccessKind → Cause → Cause → ℕ → List ℕ → Cause → Type 0
+StopsIn IsLawful frames kind page access root is cause =
+    ((IsLawful → ⊥) × (cause ≡ page))
+    ⊎ ((IsLawful × StopsAs (entries frames) kind page access root is cause)
+    ⊎ (IsLawful × ((frame : ℕ) × (rights : Rights)
+    × Reaches (entries frames) kind root is frame rights
+    × (length frames ≤ frame) × (cause ≡ access))))
+
+-- the path of the address from the root of a first stage stops with the cause. A lawful address is a canonical one
 abbrev pub StopsAt : ℕ → List (List ℕ) → ℕ → ℕ → AccessKind → Cause → Type 0
 StopsAt levels frames root address kind cause =
-    ((IsCanonical levels address → ⊥) × (cause ≡ page_fault_of kind))
-    ⊎ ((IsCanonical levels address × Stops (entries frames) kind root (first_path levels address) cause)
-    ⊎ (IsCanonical levels address × ((frame : ℕ) × (rights : Rights)
-    × Reaches (entries frames) kind root (first_path levels address) frame rights
-    × (length frames ≤ frame) × (cause ≡ access_fault_of kind))))
+    StopsIn (IsCanonical levels address) frames kind (page_fault_of kind) (access_fault_of kind)
+    root (first_path levels address) cause
 
 -- the same, as the fault of a walk without a guest
 pub record StopsFirst (levels : ℕ) (frames : List (List ℕ)) (root address : ℕ) (kind : AccessKind)

@@ -4,6 +4,7 @@ use Rattle.std.specs.List.{All}
 use Rattle.iom_base.specs.Sizes.{table_entries}
 use Rattle.iom_stage_walk.specs.Entries.{Entries, entries, slot}
 use Rattle.iom_stage_walk.specs.Paths.{first_path}
+use Rattle.iom_stage_walk.specs.Second.{second_path}
 use Rattle.iom_stage_walk.specs.declared.entry.Entry.{Entry}
 use Rattle.iom_stage_walk.specs.declared.entry.Entry.TheVariants.{Outside, Invalid, Pointer, Leaf}
 
@@ -22,6 +23,10 @@ through e table (i ∷ below) = slot table i / table_entries ∷ after_pointer (
 -- the frames that the path of an address from the root of a first stage goes through
 abbrev pub first_through : ℕ → List (List ℕ) → ℕ → ℕ → List ℕ
 first_through levels frames root address = through (entries frames) root (first_path levels address)
+
+-- the frames that the path of a guest physical address from the root of a second stage goes through
+abbrev pub second_through : ℕ → List (List ℕ) → ℕ → ℕ → List ℕ
+second_through levels frames root address = through (entries frames) root (second_path levels address)
 
 -- the two memories are of one size, and have the same bytes in these frames
 pub record SameIn (fs : List ℕ) (old new : List (List ℕ)) : Type 0 where

@@ -1,10 +1,9 @@
-ghost use Rattle.std.specs.Prelude.{◌≡◌, ◌≢◌, ◌↔◌, ℕ, ◌+◌, ◌*◌, ◌/◌, ◌%◌, ◌^◌, ◌<◌, ◌≤◌, ◌⊎◌, IsTrue, IfOk, IfErr, Ok, Err, length};
+ghost use Rattle.std.specs.Prelude.{◌≡◌, ◌≢◌, ◌↔◌, ℕ, ◌+◌, ◌*◌, ◌/◌, ◌%◌, ◌^◌, ◌<◌, ◌≤◌, ◌⊎◌, IsTrue, IfOk, IfErr, IfSome, IfNone, Ok, Err, length};
 ghost use Rattle.std.specs.Prelude.{slice_index, EachIndex, true, false};
-ghost use Rattle.iom_base.specs.Causes.{page_fault_of};
 ghost use Rattle.iom_base.specs.Rights.{allows};
 ghost use Rattle.iom_base.specs.Sizes.{page_size};
-ghost use Rattle.iom_stage_walk.specs.Entries.{Entries, IsBounded, entries, slot};
-ghost use Rattle.iom_stage_walk.specs.Paths.{pages_spanned, page_in, IsLawfulLeaf, IsUnlawfulLeaf, Reaches, Stops, StopsAt, path_of};
+ghost use Rattle.iom_stage_walk.specs.Entries.{entries};
+ghost use Rattle.iom_stage_walk.specs.Paths.{pages_spanned, page_in, IsLawfulLeaf, IsUnlawfulLeaf, Reaches, StopsAs, StopsAt, path_of};
 ghost use Rattle.iom_stage_walk.specs.Paths.{first_levels, first_widths, IsCanonical, ReachesFirst, StopsFirst};
 ghost use Rattle.iom_stage_walk.specs.declared.walked.Walked.{Walked};
 ghost use Rattle.iom_stage_walk.specs.declared.walked.WalkFault.{WalkFault};
@@ -18,29 +17,10 @@ use iom_phys_mem::Bytes;
 pub const FIRST_LEVELS: usize = 3;
 
 /// The pages that two levels of tables span.
-const SPAN_OF_TWO: u64 = TABLE_ENTRIES * TABLE_ENTRIES;
+pub(crate) const SPAN_OF_TWO: u64 = TABLE_ENTRIES * TABLE_ENTRIES;
 
 /// The pages that three levels of tables span.
 const SPAN_OF_THREE: u64 = SPAN_OF_TWO * TABLE_ENTRIES;
-
-/// What a walk loads its entries from: memory, or with two stages a guest's memory.
-pub(crate) trait Tables {
-    /// What stands at each entry.
-    ghost entries: { Self → Entries };
-
-    /// The entry at an index of the table that begins at a frame.
-    fn entry(&self, table: u64, index: u16) -> Entry
-        ensures value { result ≡ entries self.now (slot table index) }
-        ensures bounded { IsBounded result };
-}
-
-impl<B: Bytes> Tables for B {
-    ghost entries = { λ memory. entries (B.frames_of memory) };
-
-    fn entry(&self, table: u64, index: u16) -> Entry {
-        entry_at(self, table, index)
-    }
-}
 
 /// The leaf of a path: the frame of the asked page, wherever that is, and what it allows.
 #[derive(Clone, Copy)]
@@ -69,48 +49,69 @@ fn page_below(below: &[u16]) -> (u64, u64)
     }
 }
 
-/// What a leaf gives to an access of the page that the indices below it name.
-fn judge_leaf(kind: AccessKind, base: u64, rights: Rights, below: &[u16]) -> Result<Reached, Cause>
+/// What a leaf gives to an access of the page that the indices below it name. None where it isn't lawful.
+pub(crate) fn judge_leaf(
+    kind: AccessKind,
+    base: u64,
+    rights: Rights,
+    below: &[u16],
+) -> Option<Reached>
     requires base { base < 2 ^ 44 }
     requires short { length below.now ≤ 3 }
-    ensures ok { IfOk result (λ leaf. IsLawfulLeaf kind base rights below.now leaf.frame leaf.rights) }
-    ensures err { IfErr result (λ cause. (cause ≡ page_fault_of kind) × IsUnlawfulLeaf kind base rights below.now) }
+    ensures some { IfSome result (λ leaf. IsLawfulLeaf kind base rights below.now leaf.frame leaf.rights) }
+    ensures fits { IfSome result (λ leaf. leaf.frame < 2 ^ 45) }
+    ensures none { IfNone result (IsUnlawfulLeaf kind base rights below.now) }
 {
     let (pages, inside) = page_below(below);
     if (pages > 1 && base % pages != 0) || !rights.allows(kind) {
-        return Err(Cause::page_fault(kind));
+        return None;
     }
-    Ok(Reached {
+    Some(Reached {
         frame: base + inside,
         rights,
     })
 }
 
+/// What an access calls its faults in the tables of a stage.
+#[derive(Clone, Copy)]
+pub(crate) struct Faults {
+    /// No lawful path.
+    pub(crate) page: Cause,
+    /// A load, or the page, outside memory.
+    pub(crate) access: Cause,
+}
+
 /// Follows the indices, one a level, from the table at `root`: one load a level and no more.
-pub(crate) fn walk<T: Tables>(
-    tables: &T,
+pub(crate) fn walk<B: Bytes>(
+    memory: &B,
     root: u64,
     indices: &[u16],
     kind: AccessKind,
+    faults: Faults,
 ) -> Result<Reached, Cause>
     requires { length indices.now ≤ 4 }
-    ensures ok { IfOk result (λ leaf. Reaches (T.entries tables.now) kind root indices.now leaf.frame leaf.rights) }
-    ensures err { IfErr result (λ cause. Stops (T.entries tables.now) kind root indices.now cause) }
+    ensures ok { IfOk result (λ leaf. Reaches (entries (B.frames_of memory.now)) kind root indices.now leaf.frame leaf.rights) }
+    ensures err { IfErr result (StopsAs (entries (B.frames_of memory.now)) kind faults.page faults.access root indices.now) }
 {
     let mut table = root;
     for (k, index) in indices.iter().enumerate() {
-        match tables.entry(table, *index) {
+        match entry_at(memory, table, *index) {
             Entry::Pointer(next) => table = next,
-            Entry::Leaf(base, rights) => return judge_leaf(kind, base, rights, &indices[k + 1..]),
-            Entry::Invalid => return Err(Cause::page_fault(kind)),
-            Entry::Outside => return Err(Cause::access_fault(kind)),
+            Entry::Leaf(base, rights) => {
+                return match judge_leaf(kind, base, rights, &indices[k + 1..]) {
+                    Some(leaf) => Ok(leaf),
+                    None => Err(faults.page),
+                };
+            }
+            Entry::Invalid => return Err(faults.page),
+            Entry::Outside => return Err(faults.access),
         }
     }
-    Err(Cause::page_fault(kind))
+    Err(faults.page)
 }
 
 /// Whether the highest bit that so many levels translate equals all higher ones.
-fn is_canonical(levels: usize, address: u64) -> bool
+pub(crate) fn is_canonical(levels: usize, address: u64) -> bool
     requires { levels ≤ 4 }
     ensures { IsTrue result ↔ IsCanonical levels address }
 {
@@ -134,7 +135,11 @@ fn walk_levels<B: Bytes>(
     if !is_canonical(indices.len(), address) {
         return Err(Cause::page_fault(kind));
     }
-    let leaf = walk(memory, root, indices, kind)?;
+    let faults = Faults {
+        page: Cause::page_fault(kind),
+        access: Cause::access_fault(kind),
+    };
+    let leaf = walk(memory, root, indices, kind, faults)?;
     if leaf.frame >= u64::from(memory.frames()) {
         return Err(Cause::access_fault(kind));
     }

@@ -2,12 +2,14 @@
 use Rattle.std.proofs.Common.{ℕ, drop}
 use Rattle.iom_base.specs.declared.cause.Cause.{Cause}
 use Rattle.iom_base.specs.declared.rights.Rights.{Rights}
-use Rattle.iom_stage_walk.specs.Paths.{Reaches, Stops}
+use Rattle.iom_stage_walk.specs.Entries.{entries}
+use Rattle.iom_stage_walk.specs.Paths.{Reaches, StopsAs}
 use Rattle.iom_stage_walk.proofs.walk.walk.Given as goal
 
 abbrev pub invariant-loop-k : goal.invariant-loop-k
 invariant-loop-k g l =
+    let e = entries (g.B.Bytes.frames_of l.memory) in
     record {
-      reach : (frame : ℕ) (given : Rights) → Reaches (g.T.Tables.entries l.tables) l.kind l.table (drop l.k l.indices) frame given → Reaches (g.T.Tables.entries l.tables) l.kind l.root l.indices frame given;
-      stop : (cause : Cause) → Stops (g.T.Tables.entries l.tables) l.kind l.table (drop l.k l.indices) cause → Stops (g.T.Tables.entries l.tables) l.kind l.root l.indices cause;
+      reach : (frame : ℕ) (given : Rights) → Reaches e l.kind l.table (drop l.k l.indices) frame given → Reaches e l.kind l.root l.indices frame given;
+      stop : (cause : Cause) → StopsAs e l.kind l.faults.page l.faults.access l.table (drop l.k l.indices) cause → StopsAs e l.kind l.faults.page l.faults.access l.root l.indices cause;
     }

@@ -1,0 +1,131 @@
+ghost use Rattle.std.specs.Prelude.{◌≡◌, ◌↔◌, ◌/◌, ◌≤◌, IsTrue, false, IfOk, IfErr, Ok, Err, length};
+ghost use Rattle.iom_base.specs.Sizes.{page_size};
+ghost use Rattle.iom_stage_walk.specs.Paths.{path_of};
+ghost use Rattle.iom_stage_walk.specs.Second.{second_levels, second_widths, IsGuestPhysical, LeadsTo, LeadsNowhere, LeadsToFault, reported, ReachesSecond, StopsSecond};
+ghost use Rattle.iom_stage_walk.specs.declared.walked.Walked.{Walked};
+ghost use Rattle.iom_stage_walk.specs.declared.walked.WalkFault.{WalkFault};
+
+use crate::walk::{Faults, SPAN_OF_TWO, walk};
+use crate::walked::{WalkFault, Walked};
+use iom_base::{AccessKind, Cause, PAGE_SIZE, Rights, TABLE_ENTRIES};
+use iom_phys_mem::Bytes;
+
+/// The levels of a second stage, Sv39x4.
+pub const SECOND_LEVELS: usize = 3;
+
+/// The entries of the root of a second stage, which fills four frames.
+const ROOT_ENTRIES: u64 = 4 * TABLE_ENTRIES;
+
+/// Where the second stage leads: a frame of memory, and what it allows there.
+#[derive(Clone, Copy)]
+pub(crate) struct Led {
+    pub(crate) frame: u32,
+    pub(crate) rights: Rights,
+}
+
+/// What is reported of a fault at a guest physical address: a guest page fault tells the address.
+pub(crate) fn report(cause: Cause, address: u64, implicit: bool) -> WalkFault
+    ensures { result ≡ reported cause address implicit }
+{
+    match cause {
+        Cause::ReadGuestPageFault | Cause::WriteGuestPageFault => WalkFault {
+            cause,
+            gpa: address,
+            implicit,
+        },
+        _ => WalkFault {
+            cause,
+            gpa: 0,
+            implicit: false,
+        },
+    }
+}
+
+/// Whether all bits above those that so many levels translate are zero.
+fn is_guest_physical(levels: usize, address: u64) -> bool
+    requires { levels ≤ 4 }
+    ensures { IsTrue result ↔ IsGuestPhysical levels address }
+{
+    address < 1u64 << (9 * levels + 14)
+}
+
+/// A second stage of as many levels as there are indices, those of the address.
+fn lead_levels<B: Bytes>(
+    memory: &B,
+    root: u64,
+    address: u64,
+    indices: &[u16],
+    kind: AccessKind,
+    original: AccessKind,
+) -> Result<Led, Cause>
+    requires short { length indices.now ≤ 4 }
+    requires path { indices.now ≡ path_of (second_widths (length indices.now)) (address / page_size) }
+    ensures ok { IfOk result (λ led. LeadsTo (length indices.now) (B.frames_of memory.now) root address kind led.frame led.rights) }
+    ensures err { IfErr result (LeadsNowhere (length indices.now) (B.frames_of memory.now) root address kind original) }
+{
+    let faults = Faults {
+        page: Cause::guest_page_fault(original),
+        access: Cause::access_fault(original),
+    };
+    if !is_guest_physical(indices.len(), address) {
+        return Err(faults.page);
+    }
+    let leaf = walk(memory, root, indices, kind, faults)?;
+    if leaf.frame >= u64::from(memory.frames()) {
+        return Err(faults.access);
+    }
+    Ok(Led {
+        frame: leaf.frame as u32,
+        rights: leaf.rights,
+    })
+}
+
+/// The indices of a guest physical page in the three levels of Sv39x4, the root's first: eleven bits of its number,
+/// then nine each.
+fn second_indices(page: u64) -> [u16; SECOND_LEVELS]
+    ensures { result ≡ path_of (second_widths second_levels) page }
+{
+    [
+        (page / SPAN_OF_TWO % ROOT_ENTRIES) as u16,
+        (page / TABLE_ENTRIES % TABLE_ENTRIES) as u16,
+        (page % TABLE_ENTRIES) as u16,
+    ]
+}
+
+/// Where the second stage, Sv39x4, leads an access of this kind from the guest physical address. Its faults are
+/// numbered by the original access: a walk reads a first stage's entry whatever that is. At most three loads.
+pub(crate) fn lead<B: Bytes>(
+    memory: &B,
+    root: u64,
+    address: u64,
+    kind: AccessKind,
+    original: AccessKind,
+) -> Result<Led, Cause>
+    ensures ok { IfOk result (λ led. LeadsTo second_levels (B.frames_of memory.now) root address kind led.frame led.rights) }
+    ensures err { IfErr result (LeadsNowhere second_levels (B.frames_of memory.now) root address kind original) }
+{
+    let indices = second_indices(address / PAGE_SIZE);
+    lead_levels(memory, root, address, &indices, kind, original)
+}
+
+/// The walk of a second stage of three levels, Sv39x4, whose root table begins at the page number `root`: Ok exactly
+/// where the path of the guest physical address reaches, with its leaf; else the fault with which it stops. A root
+/// outside memory gives an access fault. At most three loads.
+pub fn walk_second<B: Bytes>(
+    memory: &B,
+    root: u64,
+    address: u64,
+    kind: AccessKind,
+) -> Result<Walked, WalkFault>
+    ensures reached { (walked : Walked) → (result ≡ Ok walked) ↔ ReachesSecond second_levels (B.frames_of memory.now) root address kind walked }
+    ensures stopped { (fault : WalkFault) → (result ≡ Err fault) ↔ StopsSecond second_levels (B.frames_of memory.now) root address kind fault }
+{
+    match lead(memory, root, address, kind, kind) {
+        Ok(led) => Ok(Walked {
+            frame: led.frame,
+            rights: led.rights,
+            guest_frames: [None; 4],
+        }),
+        Err(cause) => Err(report(cause, address, false)),
+    }
+}
