@@ -21,6 +21,16 @@ pub(crate) enum Found {
     Unread { line: u64 },
 }
 
+impl Found {
+    /// The line at which the output is refused, if it is.
+    pub(crate) fn refused_line(&self) -> Option<u64> {
+        match *self {
+            Found::Lawful => None,
+            Found::Unlawful { line } | Found::Unread { line } => Some(line),
+        }
+    }
+}
+
 impl fmt::Display for Found {
     fn fmt<W: fmt::Write>(&self, f: &mut fmt::Formatter<W>) -> fmt::Result {
         match *self {

@@ -4,7 +4,8 @@
 //! `data/index.tsv` has an output a line: its file, the script that it came of, `lawful` or `unlawful at line N`,
 //! and the line that was changed to make it unlawful, if one was. Its first line names the columns. Lines of an
 //! output count from 1, and the first is that of `world`. A judge that decides the machine exactly refuses an
-//! output at its first unlawful line: never before the changed one, and never after the checker's.
+//! output at its first unlawful line: never before the changed one, and never after the checker's. A line that
+//! tells no outcome yet, as `miss`, is refused as one that isn't read.
 #![tactic(auto)]
 
 mod driver;
@@ -33,13 +34,12 @@ struct Tally {
 
 impl Tally {
     fn count(&mut self, wanted: Wanted, found: Found) {
-        let counter = match (wanted, found) {
-            (Wanted::Lawful, Found::Lawful) => &mut self.lawful,
-            (Wanted::Unlawful { line, .. }, Found::Unlawful { line: at }) if at == line => {
-                &mut self.unlawful
+        let counter = match (wanted, found.refused_line()) {
+            (Wanted::Lawful, None) => &mut self.lawful,
+            (Wanted::Unlawful { line, .. }, Some(at)) if at == line => &mut self.unlawful,
+            (Wanted::Unlawful { line, changed }, Some(at)) if changed <= at && at < line => {
+                &mut self.earlier
             }
-            (Wanted::Unlawful { line, changed }, Found::Unlawful { line: at })
-                if changed <= at && at < line => { &mut self.earlier }
             _ => &mut self.differed,
         };
         *counter = counter.saturating_add(1);

@@ -9,7 +9,7 @@
 use std::alloc::Global;
 use std::fs;
 
-const ROWS: [&str; 14] = [
+const ROWS: [&str; 16] = [
     "empty-script",
     "first-path",
     "grant-boundaries",
@@ -24,6 +24,8 @@ const ROWS: [&str; 14] = [
     "widest-id",
     "id-too-wide",
     "detach",
+    "stale-but-lawful",
+    "fence-waits-for-first-alone",
 ];
 
 /// The number of the first line that differs, counted from 1.

@@ -224,7 +224,7 @@ IsServedFrom values id number page translation =
     × ((d : ℕ) → values.number_of d ≡ Some number → d ≡ id))
 
 -- the number of an address space
-number_is : (n m : ℕ) → ◌≡◌ {A = Space} (space.First n) (space.First m) → n ≡ m
+pub number_is : (n m : ℕ) → ◌≡◌ {A = Space} (space.First n) (space.First m) → n ≡ m
 number_is n m same = cc
 
 source_there : (values : Values) (scene : Scene) (id number page : ℕ) (translation : Translation) → IsSceneOf values scene → IsServedFrom values id number page translation
