@@ -87,7 +87,7 @@ module _ (old new : Parts) (events : ℕ) (polled : Polled) (sound : AreSound ol
           inr (subst (λ a. HasLeft (shown_attachment a) (old.driver.confirmed + polled.count)) (sym is) low)
       by false stays = inl (
           ap (λ a. option_map (λ (s : FirstStage). s.number) (owned_stage a))
-              (attachment_now id ∙ ap (after (done_after old.driver polled)) is ∙ ap (λ b. if b then Detached else Leaving ticket stage) stays)
+          (attachment_now id ∙ ap (after (done_after old.driver polled)) is ∙ ap (λ b. if b then Detached else Leaving ticket stage) stays)
           ∙ sym (ap (λ a. option_map (λ (s : FirstStage). s.number) (owned_stage a)) is) ∙ at)
 
   confirms_some : ConfirmsSome (values_of old) (values_of new) polled.count (old.driver.given - completed_in old.memory)
