@@ -18,7 +18,7 @@ pub struct DirCache {
 }
 
 impl DirCache {
-    ghost use Rattle.std.specs.Prelude.{◌==◌, true, IfOk};
+    ghost use Rattle.std.specs.Prelude.{◌==◌, ◌≡◌, true, Some, IfOk, IfSome};
     ghost use Rattle.iom_device_dir.specs.Contents.{IsEmptyContent, LooksUp, KeepsOne, DropsCovered};
     ghost use Rattle.iom_device_dir.specs.Cached.{cached_contexts};
 
@@ -33,11 +33,25 @@ impl DirCache {
         })
     }
 
+    /// The context of the device, where it was the last to be used or kept: then it stands where a look would
+    /// put it.
+    #[tactic(auto, unfolding(crate::specs::Cached::cached_contexts))]
+    fn last_used(&self, id: DeviceId) -> Option<Context>
+        ensures { IfSome result (λ context. cached_contexts self.now id ≡ Some context) }
+    {
+        let (last, context) = self.contexts.peek_mru()?;
+        if *last == id { Some(*context) } else { None }
+    }
+
     /// The context that is cached for the device. Nothing changes but which goes next.
     #[tactic(auto, using(crate::proofs::CachedIds::looked), unfolding(crate::specs::Cached::cached_contexts))]
     pub fn look(&mut self, id: DeviceId) -> Option<Context>
         ensures { LooksUp (cached_contexts self.old) id result (cached_contexts self.new) }
     {
+        // A device that makes one request after another is found without a search.
+        if let Some(context) = self.last_used(id) {
+            return Some(context);
+        }
         // Its contract says that the keys are distinct, here and below.
         let _ = self.contexts.len();
         let found = self.contexts.peek(&id).copied();
