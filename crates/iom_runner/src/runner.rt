@@ -95,6 +95,14 @@ fn tell_run<W: Write>(
     }
 }
 
+/// A buffer for lines, with nothing in it.
+fn empty_buffer(alloc: Global) -> Result<LineBuffer, RunFault>
+    ensures empty { IfOk result (λ buffer. buffer ≡ []) }
+    ensures fault { IfErr result (λ fault. fault ≡ RunFault.Memory) }
+{
+    LineBuffer::new(alloc).map_err(|_| RunFault::Memory)
+}
+
 /// Writes the lines of the script.
 fn tell<W: Write>(alloc: Global, script: &Script, writer: &mut W) -> Result<(), RunFault>
     requires events { All IsEvent script.now.events }
@@ -109,7 +117,7 @@ fn tell<W: Write>(alloc: Global, script: &Script, writer: &mut W) -> Result<(), 
     let Some(size) = script.world else {
         return Ok(());
     };
-    let buffer = LineBuffer::new(alloc).map_err(|_| RunFault::Memory)?;
+    let buffer = empty_buffer(alloc)?;
     let mut world = world_of(alloc, size)?;
     tell_run(&mut world, script.events.as_slice(), buffer, writer)
 }
