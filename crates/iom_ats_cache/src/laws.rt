@@ -1,0 +1,24 @@
+//! Laws of the cache, over any calls one after another, for the layers above.
+ghost use Rattle.iom_ats_cache.specs.Laws.{FindsOnlyWhatWasAnswered, EpochCounts, KeepsOnlyWhatWasAskedSince, PagesStayDistinct};
+
+/// Whatever calls are made of a new cache: the frame that it has for a page and a kind of access is one that was
+/// answered for that page, with a right that allows the kind, and in the epoch in which the cache then was. Since
+/// then no other answer for the page was kept, no invalidation covered the page, and there was no reset.
+pub fn finds_only_what_was_answered()
+    ensures { FindsOnlyWhatWasAnswered }
+{}
+
+/// The epoch of a cache is the number of its invalidations and resets.
+pub fn epoch_counts()
+    ensures { EpochCounts }
+{}
+
+/// An answer to a question is kept only where no invalidation and no reset came in between.
+pub fn keeps_only_what_was_asked_since()
+    ensures { KeepsOnlyWhatWasAskedSince }
+{}
+
+/// A cache has at most 32 entries, and no page has two.
+pub fn pages_stay_distinct()
+    ensures { PagesStayDistinct }
+{}
