@@ -1,18 +1,15 @@
 -- Each entry of a cache was answered, call by call; and what the epoch counts.
-use Rattle.std.proofs.Common.{◌≡◌, inl, inr, ◌≤◌, ◌+◌, ◌++◌, ◌∙◌, ℕ, Bool, true, false, not, nat_eq, nat_lt, List, [], ◌∷◌, Some, None, refl, sym, ap, subst, length, drop, length-append, length-drop, arith, if◌then◌else◌}
+use Rattle.std.proofs.Common.{◌≡◌, inl, inr, ◌≤◌, ◌+◌, ◌++◌, ◌∙◌, ℕ, Bool, true, false, not, nat_lt, List, [], ◌∷◌, refl, sym, ap, subst, length, drop, length-append, length-drop, arith, if◌then◌else◌}
 use Rattle.std.specs.List.{All}
-use Rattle.std.proofs.lemmas.List.Elements.{All-nil, All-head, All-tail, All-filter, All-push, filter_passes}
+use Rattle.std.proofs.lemmas.List.Elements.{All-nil, All-filter, All-push, filter_passes}
 use Rattle.std.proofs.lemmas.List.Filters.{length-filter_both}
-use Rattle.std.proofs.lemmas.Bool.{eqb-true}
-use Rattle.iom_base.specs.declared.access.AccessKind.{AccessKind}
-use Rattle.iom_base.specs.Rights.{allows}
 use Rattle.iom_fabric.specs.declared.message.Range.{Range}
 use Rattle.iom_fabric.specs.declared.message.Range.TheVariants as range
 use Rattle.iom_fabric.specs.declared.message.Translation.{Translation}
 use Rattle.iom_fabric.specs.declared.message.Translation.TheVariants as translation
 use Rattle.iom_ats_cache.specs.declared.entry.Entry.{Entry}
 use Rattle.iom_ats_cache.specs.declared.taken.Taken.TheVariants.{Kept, Stale, Refused}
-use Rattle.iom_ats_cache.specs.Cache.{Cache, covers, outside, with_room, with_entry, entry_of, frame_if_allowed, AreEntries}
+use Rattle.iom_ats_cache.specs.Cache.{Cache, covers, outside, with_room, with_entry, AreEntries}
 use Rattle.iom_ats_cache.specs.Calls.{TakesAnswer}
 use Rattle.iom_ats_cache.specs.Laws.{AtcCall, look, ask, answer, invalidate, reset, RunsAtc, rises_in, WasAnswered}
 use Rattle.iom_ats_cache.proofs.EntryLemmas.{all_with_room, all_of_others, distinct_outside, distinct_with_entry}
@@ -91,26 +88,6 @@ all_answered (invalidate serial dropped message ∷ earlier) cache run =
     subst (λ c. AllAnswered (invalidate serial dropped message ∷ earlier) c) (sym run.2.left)
     (all_uncovered (λ entry. WasAnswered entry earlier) dropped run.0.entries (all_answered earlier run.0 run.1))
 all_answered (reset ∷ earlier) cache run = subst (λ c. AllAnswered (reset ∷ earlier) c) (sym run.2) (All-nil (λ entry. WasAnswered entry (reset ∷ earlier)))
-
--- what a look finds is one of the entries
-module _ (P : Entry → Type 0) (page : ℕ) (kind : AccessKind) (frame : ℕ) where
-  abbrev IsFound : Type 0
-  IsFound = (entry : Entry) × (entry.page ≡ page) × (entry.frame ≡ frame) × (allows entry.rights kind ≡ true) × P entry
-
-  allowed : (entry : Entry) → entry.page ≡ page → P entry → (b : Bool) → allows entry.rights kind ≡ b → (if b then Some entry.frame else None) ≡ Some frame → IsFound
-  allowed entry same holds true allow found = (entry, same, cc, allow, holds)
-  allowed entry same holds false allow found = absurd cc
-
-  pub found_is : (entries : List Entry) → All P entries → frame_if_allowed (entry_of entries page) kind ≡ Some frame → IsFound
-  found_is [] all found = absurd cc
-  found_is (entry ∷ entries) all found = by (nat_eq entry.page page) refl found (found_is entries (All-tail P entry entries all))
-    where
-      by : (b : Bool) → nat_eq entry.page page ≡ b
-          → frame_if_allowed (if b then Some entry else entry_of entries page) kind ≡ Some frame
-          → (frame_if_allowed (entry_of entries page) kind ≡ Some frame → IsFound)
-          → IsFound
-      by true same found later = allowed entry (eqb-true entry.page page same) (All-head P entry entries all) (allows entry.rights kind) refl found
-      by false other found later = later found
 
 few_with_room : (entries : List Entry) → length entries ≤ 32 → length (with_room entries) ≤ 31
 few_with_room entries few = by (nat_lt (length entries) 32) refl

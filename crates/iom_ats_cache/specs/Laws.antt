@@ -1,6 +1,7 @@
 -- What the calls of a device's cache mean one after another.
-use Rattle.std.specs.Prelude.{◌≡◌, ◌≢◌, ◌⊎◌, ◌+◌, ℕ, true, false, List, [], ◌∷◌, ◌++◌, Option, Some}
+use Rattle.std.specs.Prelude.{◌≡◌, ◌≢◌, ◌⊎◌, ◌+◌, ◌↔◌, ℕ, true, false, List, [], ◌∷◌, ◌++◌, Contains, Option, Some}
 use Rattle.iom_base.specs.declared.access.AccessKind.{AccessKind}
+use Rattle.iom_base.specs.declared.rights.Rights.{Rights}
 use Rattle.iom_base.specs.Rights.{allows}
 use Rattle.iom_fabric.specs.declared.message.Range.{Range}
 use Rattle.iom_fabric.specs.declared.message.Translation.{Translation}
@@ -78,3 +79,10 @@ KeepsOnlyWhatWasAskedSince =
 -- at most 32 entries, and no page has two, whatever calls there were
 abbrev pub PagesStayDistinct : Type 0
 PagesStayDistinct = (calls : List AtcCall) (cache : Cache) → RunsAtc calls cache → AreEntries cache.entries
+
+-- Each page has one entry, and a look finds that: the frame for an access is found exactly where an entry of the page has it, with a right that allows the kind
+abbrev pub FindsThePagesEntry : Type 0
+FindsThePagesEntry =
+    (cache : Cache) → AreEntries cache.entries → (page : ℕ) (kind : AccessKind) (frame : ℕ)
+    → (frame_for cache page kind ≡ Some frame)
+    ↔ ((rights : Rights) × Contains cache.entries (record { page = page; frame = frame; rights = rights }) × (allows rights kind ≡ true))

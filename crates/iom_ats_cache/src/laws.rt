@@ -1,5 +1,5 @@
 //! Laws of the cache, over any calls one after another, for the layers above.
-ghost use Rattle.iom_ats_cache.specs.Laws.{FindsOnlyWhatWasAnswered, EpochCounts, KeepsOnlyWhatWasAskedSince, PagesStayDistinct};
+ghost use Rattle.iom_ats_cache.specs.Laws.{FindsOnlyWhatWasAnswered, EpochCounts, KeepsOnlyWhatWasAskedSince, PagesStayDistinct, FindsThePagesEntry};
 
 /// Whatever calls are made of a new cache: the frame that it has for a page and a kind of access is one that was
 /// answered for that page, with a right that allows the kind, and in the epoch in which the cache then was. Since
@@ -21,4 +21,10 @@ pub fn keeps_only_what_was_asked_since()
 /// A cache has at most 32 entries, and no page has two.
 pub fn pages_stay_distinct()
     ensures { PagesStayDistinct }
+{}
+
+/// A look finds the entry of its page, and no other: a frame exactly where the page's entry has that frame and a
+/// right that allows the kind.
+pub fn finds_the_pages_entry()
+    ensures { FindsThePagesEntry }
 {}

@@ -1,5 +1,6 @@
 use Rattle.iom_ats_cache.specs.Laws.{WasAnswered}
-use Rattle.iom_ats_cache.proofs.LawLemmas.{all_answered, found_is}
+use Rattle.iom_ats_cache.proofs.FindLemmas.{found_is}
+use Rattle.iom_ats_cache.proofs.LawLemmas.{all_answered}
 use Rattle.iom_ats_cache.proofs.laws.finds_only_what_was_answered.Goals as goal
 
 pub returns : goal.returns
