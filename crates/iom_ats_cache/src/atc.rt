@@ -1,5 +1,5 @@
 ghost use Rattle.std.specs.Prelude.{◌≡◌, ◌+◌, ◌<◌, ◌^◌, option_map};
-ghost use Rattle.iom_ats_cache.specs.Cache.{empty_cache, covers, entry_of, outside, with_entry, frame_for, AreEntries};
+ghost use Rattle.iom_ats_cache.specs.Cache.{empty_cache, covers, entry_of, outside, with_entry, frame_for, AreOfDistinctPages, AreEntries};
 ghost use Rattle.iom_ats_cache.specs.Calls.{Asks, TakesAnswer, Invalidates, Resets};
 
 use crate::entry::Entry;
@@ -49,14 +49,16 @@ fn entry_of(entries: &[Entry], page: PageNumber) -> Option<&Entry>
 
 // Takes out the entries of the pages that are covered; the others stay in their order.
 fn take_out(entries: &mut ArrayVec<Entry, MAX_ENTRIES>, range: Range)
-    ensures { entries.new.items ≡ outside range entries.old.items }
+    ensures left { entries.new.items ≡ outside range entries.old.items }
+    ensures distinct { AreOfDistinctPages entries.old.items → AreOfDistinctPages entries.new.items }
 {
     entries.retain(|entry| !covers(range, entry.page));
 }
 
 // Puts an entry last, in place of its page's old one. Where there are 32 others the oldest goes out.
 fn keep(entries: &mut ArrayVec<Entry, MAX_ENTRIES>, entry: Entry)
-    ensures { entries.new.items ≡ with_entry entries.old.items entry }
+    ensures kept { entries.new.items ≡ with_entry entries.old.items entry }
+    ensures distinct { AreOfDistinctPages entries.old.items → AreOfDistinctPages entries.new.items }
 {
     take_out(entries, Range::Page(entry.page));
     if entries.is_full() {
@@ -122,14 +124,12 @@ impl Atc {
         }
         match translation {
             Translation::Page { frame, rights } => {
-                keep(
-                    &mut self.entries,
-                    Entry {
-                        page,
-                        frame,
-                        rights,
-                    },
-                );
+                let entry = Entry {
+                    page,
+                    frame,
+                    rights,
+                };
+                keep(&mut self.entries, entry);
                 Taken::Kept
             }
             Translation::Refused(_) => Taken::Refused,
