@@ -16,7 +16,7 @@ pub record Cache : Type 0 where
 abbrev pub empty_cache : Cache
 empty_cache = record { epoch = 0; entries = [] }
 
--- whether what is said of a range is said of a page
+-- whether a range, of one page or of everything, covers a page
 abbrev pub covers : Range → ℕ → Bool
 covers (range.Page own) page = own == page
 covers range.Everything page = true
@@ -25,11 +25,11 @@ covers range.Everything page = true
 abbrev pub outside : Range → List Entry → List Entry
 outside dropped entries = filter (λ entry. not (covers dropped entry.page)) entries
 
--- room for one more: where there are 32 the oldest goes out
+-- with room for one more: where there are 32 the oldest goes out
 abbrev pub with_room : List Entry → List Entry
 with_room entries = if nat_lt (length entries) 32 then entries else drop 1 entries
 
--- an entry goes last, and its page's old one goes out
+-- one more is kept: it goes last, and its page's old one goes out; where 32 others are left, so does the oldest
 abbrev pub with_entry : List Entry → Entry → List Entry
 with_entry entries entry = with_room (outside (range.Page entry.page) entries) ++ entry ∷ []
 

@@ -1,4 +1,4 @@
--- What each call of a device's cache does: the messages of a device with ATS (PCI Express Base Specification, chapter 10), and its reset.
+-- What each call of a device's cache does, at the messages of address translation services (PCI Express Base Specification, sections 10.2 and 10.3) and at a reset.
 use Rattle.std.specs.Prelude.{◌≡◌, ◌≢◌, ◌+◌, ℕ, []}
 use Rattle.iom_fabric.specs.declared.message.Range.{Range}
 use Rattle.iom_fabric.specs.declared.message.Translation.{Translation}
@@ -13,8 +13,8 @@ use Rattle.iom_ats_cache.specs.Cache.{Cache, outside, with_entry}
 abbrev pub Asks : Cache → ℕ → Message → Type 0
 Asks cache page message = message ≡ Ask cache.epoch page
 
--- THE RELATION of an answer (Translation Completion), of the epoch of its question. One of another epoch is stale, and one of the cache's own that
--- says that there is no translation is refused; then all stays. Else it is kept, as the page's entry, and the epoch stays
+-- THE RELATION of an answer (Translation Completion), with the epoch of its question. It is stale exactly where that isn't the cache's epoch, refused exactly where
+-- it is and the answer is a refusal, and else kept. Only what is kept changes something: the page's entry, and not the epoch
 abbrev pub TakesAnswer : Cache → ℕ → ℕ → Translation → Taken → Cache → Type 0
 TakesAnswer old epoch page answer taken.Stale new = (epoch ≢ old.epoch) × (new ≡ old)
 TakesAnswer old epoch page (translation.Refused cause) taken.Refused new = (epoch ≡ old.epoch) × (new ≡ old)

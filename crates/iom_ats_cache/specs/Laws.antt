@@ -43,8 +43,8 @@ rises_in (answer epoch page translation taken ∷ earlier) = rises_in earlier
 rises_in (invalidate serial range message ∷ earlier) = rises_in earlier + 1
 rises_in (reset ∷ earlier) = rises_in earlier + 1
 
--- The entry is what one of the calls answered for its page, and was kept: in the epoch that the invalidations and resets before it had made. No later answer
--- for the page was kept, no later invalidation covers it, and there was no later reset
+-- The entry is what an answer for its page told, and that answer was kept: its epoch was the number of invalidations and resets before it. Since then no answer
+-- for the page was kept, no invalidation covered it, and there was no reset
 abbrev pub WasAnswered : Entry → List AtcCall → Type 0
 WasAnswered entry [] = ⊥
 WasAnswered entry (look page kind found ∷ earlier) = WasAnswered entry earlier
@@ -68,8 +68,7 @@ FindsOnlyWhatWasAnswered =
 abbrev pub EpochCounts : Type 0
 EpochCounts = (calls : List AtcCall) (cache : Cache) → RunsAtc calls cache → cache.epoch ≡ rises_in calls
 
--- The cache was asked for a translation, and after some more calls, newest first, an answer with the epoch of that question is kept: then none of these calls was an
--- invalidation or a reset
+-- An answer is kept that has the epoch of a question. Then none of the calls since that question, the newest first, was an invalidation or a reset
 abbrev pub KeepsOnlyWhatWasAskedSince : Type 0
 KeepsOnlyWhatWasAskedSince =
     (since before : List AtcCall) (asked cache new : Cache) → RunsAtc before asked → RunsAtc (since ++ before) cache
@@ -80,7 +79,7 @@ KeepsOnlyWhatWasAskedSince =
 abbrev pub PagesStayDistinct : Type 0
 PagesStayDistinct = (calls : List AtcCall) (cache : Cache) → RunsAtc calls cache → AreEntries cache.entries
 
--- Each page has one entry, and a look finds that: the frame for an access is found exactly where an entry of the page has it, with a right that allows the kind
+-- A frame is found for an access exactly where the page's entry has it, with a right that allows the kind
 abbrev pub FindsThePagesEntry : Type 0
 FindsThePagesEntry =
     (cache : Cache) → AreEntries cache.entries → (page : ℕ) (kind : AccessKind) (frame : ℕ)

@@ -12,8 +12,7 @@ use std::marker::Model;
 /// The most pages of which a device keeps a translation.
 pub const MAX_ENTRIES: usize = 32;
 
-/// The address translation cache of a device, seen as its epoch and its entries, the oldest first. No call takes
-/// memory.
+/// The address translation cache of a device, seen as its epoch and its entries, the oldest first.
 #[derive(Drop)]
 pub struct Atc {
     epoch: u64,
@@ -30,7 +29,7 @@ impl Model for Atc {
     ghost invariant = { λ atc. AreOfDistinctPages atc.entries.items };
 }
 
-// Whether the range takes in the page.
+// Whether the range covers the page.
 fn covers(range: Range, page: PageNumber) -> bool
     ensures { result ≡ covers range page }
 {
@@ -78,7 +77,7 @@ impl Atc {
         }
     }
 
-    /// How many invalidations and resets there were.
+    /// How many invalidations and resets there were. It never falls.
     pub fn epoch(&self) -> u64
         ensures { result ≡ self.now.epoch }
     {
@@ -99,8 +98,8 @@ impl Atc {
         }
     }
 
-    /// The question for the translation of a page (Translation Request). It carries the epoch, and its answer is
-    /// to be handed to [`Atc::answer`].
+    /// The question for the translation of a page (section 10.2, Translation Request). It carries the epoch. Its
+    /// answer is for [`Atc::answer`].
     pub fn ask(&self, page: PageNumber) -> Message
         ensures { Asks self.now page result }
     {
@@ -110,12 +109,12 @@ impl Atc {
         }
     }
 
-    /// Takes the answer to a question of this epoch for a page (Translation Completion).
+    /// Takes the answer to a question of this epoch for a page (section 10.2, Translation Completion).
     ///
     /// It is stale exactly where the epoch isn't the device's: an invalidation or a reset has come in between, and
     /// the answer may tell what held before it. It is refused exactly where it is of the device's epoch and says
-    /// that there is no translation. Then nothing changes. Else it is kept: it goes last, in place of the page's
-    /// old entry, and where there are 32 others the oldest goes out.
+    /// that there is no translation. In both cases nothing changes. Else it is kept: it goes last, in place of the
+    /// page's old entry, and where there are 32 others the oldest goes out.
     pub fn answer(&mut self, epoch: u64, page: PageNumber, translation: Translation) -> Taken
         ensures { TakesAnswer self.old epoch page translation result self.new }
     {
@@ -136,9 +135,11 @@ impl Atc {
         }
     }
 
-    /// Drops what is covered, as the request of this number asks (Invalidate Request), and gives the word that it
-    /// is done (Invalidate Completion), which repeats the number. Nothing else is dropped. The epoch rises by one,
-    /// also where nothing was covered: an answer may be under way.
+    /// Drops what is covered, and nothing else, as the request of this number asks (section 10.3, Invalidate
+    /// Request). Gives the word that it is done (Invalidate Completion), which repeats the number.
+    ///
+    /// The epoch rises by one, also where nothing was covered: an answer for the page may be under way. It has to be
+    /// below its last value, 2^64 - 1.
     pub fn invalidate(&mut self, serial: u64, range: Range) -> Message
         requires { self.old.epoch + 1 < 2 ^ 64 }
         ensures { Invalidates self.old serial range result self.new }
@@ -148,8 +149,8 @@ impl Atc {
         Message::InvDone { serial }
     }
 
-    /// Drops all. The epoch rises by one, and doesn't begin again: answers to questions of before the reset may
-    /// be under way.
+    /// Drops everything: the device is reset. The epoch rises by one and doesn't begin again, since answers to
+    /// questions of before the reset may be under way. It has to be below its last value, 2^64 - 1.
     pub fn reset(&mut self)
         requires { self.old.epoch + 1 < 2 ^ 64 }
         ensures { Resets self.old self.new }

@@ -1,9 +1,9 @@
 //! Laws of the cache, over any calls one after another, for the layers above.
 ghost use Rattle.iom_ats_cache.specs.Laws.{FindsOnlyWhatWasAnswered, EpochCounts, KeepsOnlyWhatWasAskedSince, PagesStayDistinct, FindsThePagesEntry};
 
-/// Whatever calls are made of a new cache: the frame that it has for a page and a kind of access is one that was
-/// answered for that page, with a right that allows the kind, and in the epoch in which the cache then was. Since
-/// then no other answer for the page was kept, no invalidation covered the page, and there was no reset.
+/// Whatever calls are made of a new cache: the frame that it has for a page and a kind of access was answered for that
+/// page, with a right that allows the kind, in the epoch of then. Since then no answer for the page was kept, no
+/// invalidation covered it, and there was no reset.
 pub fn finds_only_what_was_answered()
     ensures { FindsOnlyWhatWasAnswered }
 {}
