@@ -1,14 +1,13 @@
-use crate::calls::{answers, invalidates, page, reads, resets};
+use crate::calls::{answers, asks, at, invalidates, invalidates_page, reads, resets};
 use iom_ats_cache::{Atc, Taken};
-use iom_base::Rights;
-use iom_fabric::{Message, Range};
+use iom_fabric::Range;
 use std::process::Abort;
 
-// Pages 3 and 4 are translated to the frames 13 and 14.
+// Pages 3 and 4 are at the frames 13 and 14.
 fn cache_of_two(rt: &impl Abort) -> Atc {
     let mut atc = Atc::new();
-    assert_eq!(rt; answers(rt, &mut atc, 0, 3, 13, Rights::RW), Taken::Kept);
-    assert_eq!(rt; answers(rt, &mut atc, 0, 4, 14, Rights::RW), Taken::Kept);
+    answers(rt, &mut atc, 0, 3, at(13), Taken::Kept);
+    answers(rt, &mut atc, 0, 4, at(14), Taken::Kept);
     atc
 }
 
@@ -17,15 +16,14 @@ fn cache_of_two(rt: &impl Abort) -> Atc {
 #[test]
 fn an_invalidation_takes_out_what_it_covers(rt: HostRuntime) {
     let mut atc = cache_of_two(&rt);
-    let page_3 = page(&rt, 3);
-    invalidates(&rt, &mut atc, 1, Range::Page(page_3));
+    invalidates_page(&rt, &mut atc, 1, 3);
     reads(&rt, &atc, 3, None);
     reads(&rt, &atc, 4, Some(14));
-    invalidates(&rt, &mut atc, 1, Range::Page(page_3));
+    invalidates_page(&rt, &mut atc, 1, 3);
     reads(&rt, &atc, 4, Some(14));
     invalidates(&rt, &mut atc, u64::MAX, Range::Everything);
     reads(&rt, &atc, 4, None);
-    assert_eq!(rt; atc.epoch(), 3);
+    asks(&rt, &atc, 4, 3);
 }
 
 // An answer to a question of before an invalidation isn't kept, whichever page was invalidated; nor is one of an epoch
@@ -33,21 +31,14 @@ fn an_invalidation_takes_out_what_it_covers(rt: HostRuntime) {
 #[test]
 fn an_answer_of_another_epoch_is_stale(rt: HostRuntime) {
     let mut atc = cache_of_two(&rt);
-    let page_3 = page(&rt, 3);
-    invalidates(&rt, &mut atc, 1, Range::Page(page_3));
-    assert_eq!(rt; answers(&rt, &mut atc, 0, 3, 13, Rights::RW), Taken::Stale);
-    assert_eq!(rt; answers(&rt, &mut atc, 0, 4, 99, Rights::RW), Taken::Stale);
-    assert_eq!(rt; answers(&rt, &mut atc, 2, 3, 13, Rights::RW), Taken::Stale);
+    invalidates_page(&rt, &mut atc, 1, 3);
+    answers(&rt, &mut atc, 0, 3, at(13), Taken::Stale);
+    answers(&rt, &mut atc, 0, 4, at(99), Taken::Stale);
+    answers(&rt, &mut atc, 2, 3, at(13), Taken::Stale);
     reads(&rt, &atc, 3, None);
     reads(&rt, &atc, 4, Some(14));
-    assert_eq!(rt;
-        atc.ask(page_3),
-        Message::Ask {
-            epoch: 1,
-            page: page_3
-        }
-    );
-    assert_eq!(rt; answers(&rt, &mut atc, 1, 3, 23, Rights::RW), Taken::Kept);
+    asks(&rt, &atc, 3, 1);
+    answers(&rt, &mut atc, 1, 3, at(23), Taken::Kept);
     reads(&rt, &atc, 3, Some(23));
 }
 
@@ -59,9 +50,9 @@ fn a_reset_keeps_the_epoch(rt: HostRuntime) {
     reads(&rt, &atc, 3, None);
     reads(&rt, &atc, 4, None);
     resets(&rt, &mut atc);
-    assert_eq!(rt; atc.epoch(), 2);
-    assert_eq!(rt; answers(&rt, &mut atc, 0, 3, 13, Rights::RW), Taken::Stale);
-    assert_eq!(rt; answers(&rt, &mut atc, 1, 3, 13, Rights::RW), Taken::Stale);
-    assert_eq!(rt; answers(&rt, &mut atc, 2, 3, 33, Rights::RW), Taken::Kept);
+    asks(&rt, &atc, 3, 2);
+    answers(&rt, &mut atc, 0, 3, at(13), Taken::Stale);
+    answers(&rt, &mut atc, 1, 3, at(13), Taken::Stale);
+    answers(&rt, &mut atc, 2, 3, at(33), Taken::Kept);
     reads(&rt, &atc, 3, Some(33));
 }

@@ -1,12 +1,10 @@
-use crate::calls::{answers, reads};
+use crate::calls::{answers, at, reads};
 use iom_ats_cache::{Atc, Taken};
-use iom_base::Rights;
 use std::process::Abort;
 
-// A page is translated to the frame of its number.
+// A page is at the frame of its number.
 fn keeps(rt: &impl Abort, atc: &mut Atc, number: u32) {
-    let taken = answers(rt, atc, 0, u64::from(number), number, Rights::R);
-    assert_eq!(rt; taken, Taken::Kept, "page {number}");
+    answers(rt, atc, 0, u64::from(number), at(number), Taken::Kept);
 }
 
 fn finds(rt: &impl Abort, atc: &Atc, number: u32) {
