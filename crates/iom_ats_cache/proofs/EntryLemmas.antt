@@ -1,0 +1,95 @@
+-- The entries of a cache when some go out and when one is kept: what is true of each stays true of each, at most 32 stay, and no page gets two.
+use Rattle.std.proofs.Common.{◌≡◌, ◌≢◌, ◌≤◌, ℕ, Bool, true, false, not, nat_eq, nat_lt, List, [], ◌∷◌, refl, sym, length, drop, length-append, length-drop, arith, if◌then◌else◌}
+use Rattle.std.specs.List.{All}
+use Rattle.std.proofs.lemmas.List.Elements.{All-drop, All-filter, All-push, filter_passes}
+use Rattle.std.proofs.lemmas.List.Filters.{length-filter_both}
+use Rattle.std.proofs.lemmas.List.Kept.{AllPairs-filter}
+use Rattle.std.proofs.lemmas.List.Quantifiers.{all_pairs_push, all_pairs_remove}
+use Rattle.std.proofs.lemmas.Bool.{eq-eqb}
+use Rattle.iom_fabric.specs.declared.message.Range.{Range}
+use Rattle.iom_fabric.specs.declared.message.Range.TheVariants as range
+use Rattle.iom_ats_cache.specs.declared.entry.Entry.{Entry}
+use Rattle.iom_ats_cache.specs.Cache.{covers, outside, with_room, with_entry, AreOfDistinctPages, AreEntries}
+
+not_true : (b : Bool) → not b ≡ true → b ≡ false
+not_true true e = absurd cc
+not_true false e = refl
+
+-- what is left outside of a range was there, and isn't covered
+pub all_outside : (P : Entry → Type 0) (dropped : Range) (entries : List Entry) → All P entries
+    → All (λ entry. (covers dropped entry.page ≡ false) × P entry) (outside dropped entries)
+all_outside P dropped entries all k d below = (
+  not_true _ (filter_passes (λ entry. not (covers dropped entry.page)) entries k d below),
+  All-filter (λ entry. not (covers dropped entry.page)) P entries all k d below,
+)
+
+all_with_room : (P : Entry → Type 0) (entries : List Entry) → All P entries → All P (with_room entries)
+all_with_room P entries all =
+    elim (nat_lt (length entries) 32) as (λ b. All P (if b then entries else drop 1 entries)) [
+      | true ↦ all
+      | false ↦ All-drop P 1 entries all
+    ]
+
+another_page : (page other : ℕ) → nat_eq page other ≡ false → page ≢ other
+another_page page other unequal same = absurd (let e : nat_eq page other ≡ true = eq-eqb page other same in cc)
+
+-- when one is kept, what it is true of, and true of each of another page that was there, is true of each
+pub all_with_entry : (P Q : Entry → Type 0) (entries : List Entry) (entry : Entry) → ((other : Entry) → entry.page ≢ other.page → P other → Q other) → Q entry
+    → All P entries → All Q (with_entry entries entry)
+all_with_entry P Q entries entry others own all =
+    let left : List Entry = outside (range.Page entry.page) entries in
+    All-push Q (with_room left) entry
+    (all_with_room Q left (λ k d below.
+    let was = all_outside P (range.Page entry.page) entries all k d below in
+    others _ (another_page entry.page _ was.0) was.1))
+    own
+
+abbrev AreTwo : Entry → Entry → Type 0
+AreTwo entry later = entry.page ≢ later.page
+
+pub distinct_outside : (dropped : Range) (entries : List Entry) → AreOfDistinctPages entries → AreOfDistinctPages (outside dropped entries)
+distinct_outside dropped entries distinct = AllPairs-filter AreTwo (λ entry. not (covers dropped entry.page)) entries distinct
+
+distinct_without_first : (entries : List Entry) → AreOfDistinctPages entries → AreOfDistinctPages (drop 1 entries)
+distinct_without_first [] distinct = distinct
+distinct_without_first (entry ∷ entries) distinct = all_pairs_remove AreTwo (entry ∷ entries) 0 (omega arith) distinct
+
+distinct_with_room : (entries : List Entry) → AreOfDistinctPages entries → AreOfDistinctPages (with_room entries)
+distinct_with_room entries distinct =
+    elim (nat_lt (length entries) 32) as (λ b. AreOfDistinctPages (if b then entries else drop 1 entries)) [
+      | true ↦ distinct
+      | false ↦ distinct_without_first entries distinct
+    ]
+
+pub distinct_with_entry : (entries : List Entry) (entry : Entry) → AreOfDistinctPages entries → AreOfDistinctPages (with_entry entries entry)
+distinct_with_entry entries entry distinct =
+    let left : List Entry = outside (range.Page entry.page) entries in
+    all_pairs_push AreTwo (with_room left) entry
+    (distinct_with_room left (distinct_outside (range.Page entry.page) entries distinct))
+    (all_with_room (λ other. other.page ≢ entry.page) left (λ k d below same.
+    another_page entry.page _ (all_outside (λ other. Unit {0}) (range.Page entry.page) entries (λ j o low. tt) k d below).0 (sym same)))
+
+few_with_room : (entries : List Entry) → length entries ≤ 32 → length (with_room entries) ≤ 31
+few_with_room entries few = by (nat_lt (length entries) 32) refl
+  where
+    by : (b : Bool) → nat_lt (length entries) 32 ≡ b → length (if b then entries else drop 1 entries) ≤ 31
+    by true room = grind (arith, room)
+    by false full = grind (arith, length-drop, few)
+
+pub entries_outside : (dropped : Range) (entries : List Entry) → AreEntries entries → AreEntries (outside dropped entries)
+entries_outside dropped entries are = record {
+  few =
+      let both = length-filter_both (λ entry. not (covers dropped entry.page)) (λ entry. not (not (covers dropped entry.page))) (λ entry. refl) entries in
+      omega (arith, both, are.few);
+  distinct = distinct_outside dropped entries are.distinct;
+}
+
+pub entries_with_entry : (entries : List Entry) (entry : Entry) → AreEntries entries → AreEntries (with_entry entries entry)
+entries_with_entry entries entry are =
+    let left : List Entry = outside (range.Page entry.page) entries in
+    let room = few_with_room left (entries_outside (range.Page entry.page) entries are).few in
+    let push = length-append (with_room left) (entry ∷ []) in
+    record { few = omega (arith, room, push); distinct = distinct_with_entry entries entry are.distinct }
+
+pub no_entries : AreEntries []
+no_entries = record { few = omega arith; distinct = λ i j d before below. absurd (omega arith) }
