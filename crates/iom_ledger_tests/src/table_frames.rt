@@ -54,3 +54,26 @@ fn no_frame_is_taken_where_none_is_free(rt: HostRuntime) -> Result<(), Fail> {
     );
     Ok(())
 }
+
+/// Of 64 frames 60 to 63 are fixed, and device 1 holds 58: the highest four that are free are 52 to 55. They are
+/// zero when they are taken.
+#[test]
+fn the_highest_four_free_frames_are_taken(rt: HostRuntime) -> Result<(), Fail> {
+    let mut memory = Memory::new(rt.alloc(), 64)?;
+    let mut ledger = Ledger::new(rt.alloc(), 64)?;
+    let mut tables = TableFrames::new(rt.alloc(), 64)?;
+    if ledger.is_vacant(1, 3) {
+        ledger.grant(1, 3, 58, Rights::R)?;
+    }
+    let _ = memory.store_u64(55 * 4096, 7);
+    let one = Owner::OneDevice(1);
+    assert_eq!(rt; tables.take_four(&mut memory, &ledger, one), Some(52));
+    assert_eq!(rt; memory.load_u64(55 * 4096), Some(0));
+    for frame in 52..56 {
+        assert!(rt; tables.is_reserved(frame));
+    }
+    assert!(rt; !tables.is_reserved(51));
+    assert!(rt; !tables.is_reserved(56));
+    assert_eq!(rt; tables.take_four(&mut memory, &ledger, one), Some(48));
+    Ok(())
+}

@@ -1,6 +1,6 @@
 -- The highest free frame is the highest that is unreserved and that no device holds or lingers on.
 use Rattle.std.proofs.Common.{◌≡◌, ◌↔◌, ◌⊎◌, inl, inr, ℕ, zero, suc, ◌<◌, ◌≤◌, true, false, List, length, MatchOption, Option, None, Some, sym, ◌∙◌, subst, arith}
-use Rattle.std.proofs.lemmas.Bool.{cases_lt, and_parts, and_from}
+use Rattle.std.proofs.lemmas.Bool.{cases_lt, and_parts, and_from, false≢true}
 use Rattle.iom_frame_set.specs.Sets.{Words, has, IsCommon, NoneIsCommon, IsHighestCommon}
 use Rattle.iom_ledger.specs.declared.ledger.Ledger.{Ledger}
 use Rattle.iom_ledger.specs.Shown.{IsFreeIn}
@@ -32,6 +32,20 @@ module _ (marks : List (Option Owner)) (ledger : Ledger) (unreserved free : Word
     free = free_from_common frame found.common;
     highest = λ higher above below is_free_for. found.highest higher above below (common_from_free higher (omega arith) is_free_for);
   }
+
+-- a frame of memory is free where both sets have it
+module _ (marks : List (Option Owner)) (ledger : Ledger) (unreserved : Words) (is : IsUnreservedSet marks unreserved) (frame : ℕ) (within : frame < length marks) where
+  pub free_where : (free : Words) → ((f : ℕ) → (has free f ≡ true) ↔ IsFreeIn ledger f) → has unreserved frame ≡ true → (has free frame ≡ true) ↔ IsFreeForTable marks ledger None frame
+  free_where free is_free unmarked = (
+    (λ there. record { other = λ same. cc; unmarked = mark_from_unreserved marks frame (sym (is.has_unreserved frame) ∙ unmarked); ungranted = (is_free frame).0 there }),
+    (λ it. (is_free frame).1 it.ungranted),
+  )
+
+  pub free_unless : has unreserved frame ≡ false → (false ≡ true) ↔ IsFreeForTable marks ledger None frame
+  free_unless marked = (
+    (λ same. absurd (false≢true same)),
+    (λ it. absurd (false≢true (sym marked ∙ is.has_unreserved frame ∙ unreserved_from_mark marks frame within it.unmarked))),
+  )
 
 -- so many free frames below a limit
 module _ (marks : List (Option Owner)) (ledger : Ledger) (named : Option ℕ) where

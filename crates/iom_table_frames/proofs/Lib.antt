@@ -1,3 +1,4 @@
 pub mod ChoiceLemmas
 pub mod GivingLemmas
 pub mod MarkLemmas
+pub mod FourLemmas

@@ -9,6 +9,7 @@
 //! alone; the ledger is only read.
 #![tactic(auto)]
 
+mod fours;
 mod table_frames;
 
 pub use table_frames::TableFrames;

@@ -1,7 +1,7 @@
 ghost use Rattle.std.specs.Prelude.{◌≡◌, ◌↔◌, ◌+◌, ◌-◌, ◌^◌, ◌<◌, ◌≤◌, length, replicate, IfOk, IsTrue, None, Some, slice_get, slice_set, MatchOption};
 ghost use Rattle.std.specs.Option.{option_map_or};
 ghost use Rattle.iom_phys_mem.specs.Words.{zeroed};
-ghost use Rattle.iom_table_frames.specs.Marks.{is_marked, opening_marks, NoneIsFree, IsHighestFree, HasFree, GivesBack};
+ghost use Rattle.iom_table_frames.specs.Marks.{is_marked, opening_marks, IsFreeForTable, NoneIsFree, IsHighestFree, HasFree, GivesBack};
 
 use iom_base::{FRAME_SIZE, Owner};
 use iom_frame_set::FrameSet;
@@ -61,6 +61,15 @@ impl TableFrames {
             None => false,
             Some(mark) => mark.is_some(),
         }
+    }
+
+    /// Whether the frame of memory is free: neither reserved nor held, nor released and not confirmed, by any
+    /// device.
+    pub(crate) fn is_free(&self, ledger: &Ledger, frame: u32) -> bool
+        requires { frame < length self.now }
+        ensures { IsTrue result ↔ IsFreeForTable self.now ledger.now None frame }
+    {
+        self.unreserved.contains(frame) && ledger.free_frames().contains(frame)
     }
 
     /// The highest free frame below the limit, which isn't the named one: free is what is neither
