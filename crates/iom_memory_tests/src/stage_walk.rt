@@ -1,5 +1,5 @@
 use bitflags::Flags;
-use iom_base::{AccessKind, Cause, Rights};
+use iom_base::{AccessKind, Cause, Ppn, Rights};
 use iom_phys_mem::{Bytes, Memory};
 use iom_stage_walk::{
     Entry, Pte, PteFlags, WalkFault, Walked, entry_at, laws, walk_both, walk_first, walk_second,
@@ -237,18 +237,19 @@ fn both_stages_lead_to_a_frame(rt: HostRuntime) -> Result<(), Fail> {
         rights: Rights::RW,
         guest_frames: [Some(0x40), Some(0x41), Some(0x42), None],
     };
+    let first = Ppn::new(0).ok_or("44 bits")?;
     assert_eq!(rt;
-        walk_both(&memory, 0, 0x30, 0x3010, AccessKind::Write),
+        walk_both(&memory, first, 0x30, 0x3010, AccessKind::Write),
         Ok(reached)
     );
     put(&rt, &mut memory, &[(0x3_5010, 0)]);
     assert_eq!(rt;
-        walk_both(&memory, 0, 0x30, 0x3010, AccessKind::Write),
+        walk_both(&memory, first, 0x30, 0x3010, AccessKind::Write),
         guest_fault(Cause::WriteGuestPageFault, 0x2018, true)
     );
     put(&rt, &mut memory, &[(0x3_5010, 0x1_08d7), (0x3_5048, 0)]);
     assert_eq!(rt;
-        walk_both(&memory, 0, 0x30, 0x3010, AccessKind::Write),
+        walk_both(&memory, first, 0x30, 0x3010, AccessKind::Write),
         guest_fault(Cause::WriteGuestPageFault, 0x9010, false)
     );
     Ok(())

@@ -1,5 +1,6 @@
-//! Laws of the tables of Sv39, each the contract of a function that does nothing.
+//! Laws of the tables of Sv39 and of Sv39x4, each the contract of a function that does nothing.
 ghost use Rattle.iom_page_table.specs.Laws.{WalkReachesLeaf, WalkThroughTables, WalkFaultsElse, TreeStays, TreesApart, ZeroedTree, DifferentTables};
+ghost use Rattle.iom_page_table.specs.GuestLaws.{GuestWalkReachesLeaf, GuestLeaves, GuestWalkFaultsElse, GuestTablesFault, ZeroedGuestRoot, GuestTablesStay};
 
 /// The walk of an address reaches exactly the leaf of its page, where that allows the access.
 pub fn walk_reaches_leaf()
@@ -34,4 +35,34 @@ pub fn zeroed_tree()
 /// Different prefixes of a tree have tables in different frames.
 pub fn different_tables()
     ensures { DifferentTables }
+{}
+
+/// The second stage leads an access exactly to the leaf of its page, where that allows the access.
+pub fn guest_walk_reaches_leaf()
+    ensures { GuestWalkReachesLeaf }
+{}
+
+/// Guest physical pages are mapped as the pages of a first stage at the same root.
+pub fn guest_leaves()
+    ensures { GuestLeaves }
+{}
+
+/// In the tables of a second stage a page without a leaf that allows the access is a guest page fault.
+pub fn guest_walk_faults_else()
+    ensures { GuestWalkFaultsElse }
+{}
+
+/// A guest's own tables, read through tables that lie in memory, lead to page faults alone.
+pub fn guest_tables_fault()
+    ensures { GuestTablesFault }
+{}
+
+/// Four zeroed frames are the root of a second stage that reaches nothing.
+pub fn zeroed_guest_root()
+    ensures { ZeroedGuestRoot }
+{}
+
+/// What changes no frame of the tables of a second stage leaves them.
+pub fn guest_tables_stay()
+    ensures { GuestTablesStay }
 {}

@@ -14,7 +14,7 @@ use crate::entry::{Entry, entry_at};
 use crate::second::{lead, report};
 use crate::walk::{first_indices, is_canonical, judge_leaf};
 use crate::walked::{WalkFault, Walked};
-use iom_base::{AccessKind, Cause, ENTRY_SIZE, PAGE_SIZE, Rights};
+use iom_base::{AccessKind, Cause, ENTRY_SIZE, PAGE_SIZE, Ppn, Rights};
 use iom_phys_mem::Bytes;
 
 /// An entry of a guest's tables, and the frame from which it was read.
@@ -152,22 +152,21 @@ fn final_access<B: Bytes>(
 /// Both stages, with as many levels of the first as there are indices, those of the address.
 fn walk_both_levels<B: Bytes>(
     memory: &B,
-    first: u64,
+    first: Ppn,
     second: u64,
     address: u64,
     indices: &[u16],
     kind: AccessKind,
 ) -> Result<Walked, WalkFault>
-    requires first { first < 2 ^ 44 }
     requires short { length indices.now ≤ 4 }
     requires path { indices.now ≡ path_of (first_widths (length indices.now)) (address / page_size) }
-    ensures ok { IfOk result (ReachesBoth (length indices.now) second_levels (B.frames_of memory.now) first second address kind) }
-    ensures err { IfErr result (StopsBoth (length indices.now) second_levels (B.frames_of memory.now) first second address kind) }
+    ensures ok { IfOk result (ReachesBoth (length indices.now) second_levels (B.frames_of memory.now) first.number second address kind) }
+    ensures err { IfErr result (StopsBoth (length indices.now) second_levels (B.frames_of memory.now) first.number second address kind) }
 {
     if !is_canonical(indices.len(), address) {
         return Err(first_fault(kind));
     }
-    let leaf = walk_guest(memory, second, first, indices, kind)?;
+    let leaf = walk_guest(memory, second, first.number(), indices, kind)?;
     final_access(memory, second, leaf, address, kind)
 }
 
@@ -177,16 +176,15 @@ fn walk_both_levels<B: Bytes>(
 /// stops. At most fifteen loads.
 pub fn walk_both<B: Bytes>(
     memory: &B,
-    first: u64,
+    first: Ppn,
     second: u64,
     address: u64,
     kind: AccessKind,
 ) -> Result<Walked, WalkFault>
-    requires { first < 2 ^ 44 }
     ensures reached { (walked : Walked) → (result ≡ Ok walked)
-        ↔ ReachesBoth first_levels second_levels (B.frames_of memory.now) first second address kind walked }
+        ↔ ReachesBoth first_levels second_levels (B.frames_of memory.now) first.number second address kind walked }
     ensures stopped { (fault : WalkFault) → (result ≡ Err fault)
-        ↔ StopsBoth first_levels second_levels (B.frames_of memory.now) first second address kind fault }
+        ↔ StopsBoth first_levels second_levels (B.frames_of memory.now) first.number second address kind fault }
 {
     let indices = first_indices(address / PAGE_SIZE);
     walk_both_levels(memory, first, second, address, &indices, kind)

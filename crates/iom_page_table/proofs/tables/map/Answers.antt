@@ -1,5 +1,5 @@
 -- Mapping a page: its tables are built, and then its leaf is written.
-use Rattle.std.proofs.Common.{◌*◌, ◌%◌, ◌∙◌, [], ◌∷◌, length, refl, sym, ap, arith, subst}
+use Rattle.std.proofs.Common.{◌*◌, ◌%◌, ◌∙◌, [], ◌∷◌, length, refl, sym, ap, subst}
 use Rattle.iom_phys_mem.specs.Words.{with_word}
 use Rattle.iom_stage_walk.specs.Paths.{path_of}
 use Rattle.iom_page_table.specs.Written.{word_of_leaf}

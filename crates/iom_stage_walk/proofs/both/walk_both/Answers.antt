@@ -9,22 +9,22 @@ pub returns-clause-reached : goal.returns-clause-reached
 returns-clause-reached g c =
     let frames = g.B.Bytes.frames_of c.args.memory.now in
     let three = ap length c.first_indices-indices.ensures in
-    exactly_ok (ReachesBoth 3 3 frames c.args.first c.args.second c.args.address c.args.kind) (StopsBoth 3 3 frames c.args.first c.args.second c.args.address c.args.kind)
-    (one_walked_both 3 3 frames c.args.first c.args.second c.args.address c.args.kind c.args.kind)
-    (one_fault_both 3 3 frames c.args.first c.args.second c.args.address c.args.kind)
-    (both_or_stops 3 3 frames c.args.first c.args.second c.args.address c.args.kind)
+    exactly_ok (ReachesBoth 3 3 frames c.args.first.number c.args.second c.args.address c.args.kind) (StopsBoth 3 3 frames c.args.first.number c.args.second c.args.address c.args.kind)
+    (one_walked_both 3 3 frames c.args.first.number c.args.second c.args.address c.args.kind c.args.kind)
+    (one_fault_both 3 3 frames c.args.first.number c.args.second c.args.address c.args.kind)
+    (both_or_stops 3 3 frames c.args.first.number c.args.second c.args.address c.args.kind)
     c.walk_both_levels.result
-    (subst (λ levels. IfOk c.walk_both_levels.result (ReachesBoth levels 3 frames c.args.first c.args.second c.args.address c.args.kind)) three c.walk_both_levels.ensures.ok)
-    (subst (λ levels. IfErr c.walk_both_levels.result (StopsBoth levels 3 frames c.args.first c.args.second c.args.address c.args.kind)) three c.walk_both_levels.ensures.err)
+    (subst (λ levels. IfOk c.walk_both_levels.result (ReachesBoth levels 3 frames c.args.first.number c.args.second c.args.address c.args.kind)) three c.walk_both_levels.ensures.ok)
+    (subst (λ levels. IfErr c.walk_both_levels.result (StopsBoth levels 3 frames c.args.first.number c.args.second c.args.address c.args.kind)) three c.walk_both_levels.ensures.err)
 
 pub returns-clause-stopped : goal.returns-clause-stopped
 returns-clause-stopped g c =
     let frames = g.B.Bytes.frames_of c.args.memory.now in
     let three = ap length c.first_indices-indices.ensures in
-    exactly_err (ReachesBoth 3 3 frames c.args.first c.args.second c.args.address c.args.kind) (StopsBoth 3 3 frames c.args.first c.args.second c.args.address c.args.kind)
-    (one_walked_both 3 3 frames c.args.first c.args.second c.args.address c.args.kind c.args.kind)
-    (one_fault_both 3 3 frames c.args.first c.args.second c.args.address c.args.kind)
-    (both_or_stops 3 3 frames c.args.first c.args.second c.args.address c.args.kind)
+    exactly_err (ReachesBoth 3 3 frames c.args.first.number c.args.second c.args.address c.args.kind) (StopsBoth 3 3 frames c.args.first.number c.args.second c.args.address c.args.kind)
+    (one_walked_both 3 3 frames c.args.first.number c.args.second c.args.address c.args.kind c.args.kind)
+    (one_fault_both 3 3 frames c.args.first.number c.args.second c.args.address c.args.kind)
+    (both_or_stops 3 3 frames c.args.first.number c.args.second c.args.address c.args.kind)
     c.walk_both_levels.result
-    (subst (λ levels. IfOk c.walk_both_levels.result (ReachesBoth levels 3 frames c.args.first c.args.second c.args.address c.args.kind)) three c.walk_both_levels.ensures.ok)
-    (subst (λ levels. IfErr c.walk_both_levels.result (StopsBoth levels 3 frames c.args.first c.args.second c.args.address c.args.kind)) three c.walk_both_levels.ensures.err)
+    (subst (λ levels. IfOk c.walk_both_levels.result (ReachesBoth levels 3 frames c.args.first.number c.args.second c.args.address c.args.kind)) three c.walk_both_levels.ensures.ok)
+    (subst (λ levels. IfErr c.walk_both_levels.result (StopsBoth levels 3 frames c.args.first.number c.args.second c.args.address c.args.kind)) three c.walk_both_levels.ensures.err)
