@@ -37,17 +37,21 @@ tc_clear : (b : Bool) → bits 63 2 (1 + bit 1 b) ≡ 0
 tc_clear true = refl
 tc_clear false = refl
 
-second_is : (stage : SecondStage) (gscid : ℕ) → gscid < 2 ^ 16 → IsSecondStage (bits 63 60 (second_stage_word stage + gscid * 2 ^ 44)) stage
+second_is : (stage : SecondStage) (gscid : ℕ) → gscid < 2 ^ 16 → IsSecondStage (bits 63 60 (second_stage_word stage + gscid * 2 ^ 44)) (bits 43 0 (second_stage_word stage + gscid * 2 ^ 44)) stage
 second_is second.Bare gscid small = omega arith
+second_is (second.Sv39x4 root) gscid small = let fits : root.number < 2 ^ 44 = root.in_range in (omega arith, omega arith)
 
 second_gscid : (stage : SecondStage) (gscid : ℕ) → gscid < 2 ^ 16 → gscid ≡ bits 59 44 (second_stage_word stage + gscid * 2 ^ 44)
 second_gscid second.Bare gscid small = omega arith
+second_gscid (second.Sv39x4 root) gscid small = let fits : root.number < 2 ^ 44 = root.in_range in omega arith
 
-second_unused : (stage : SecondStage) (gscid : ℕ) → gscid < 2 ^ 16 → bits 43 0 (second_stage_word stage + gscid * 2 ^ 44) ≡ 0
-second_unused second.Bare gscid small = omega arith
+second_unused : (stage : SecondStage) (gscid : ℕ) → gscid < 2 ^ 16 → stage ≡ second.Bare → bits 43 0 (second_stage_word stage + gscid * 2 ^ 44) ≡ 0
+second_unused second.Bare gscid small bare = omega arith
+second_unused (second.Sv39x4 root) gscid small bare = cc
 
 second_wide : (stage : SecondStage) (gscid : ℕ) → gscid < 2 ^ 16 → second_stage_word stage + gscid * 2 ^ 44 < 18446744073709551616
 second_wide second.Bare gscid small = omega arith
+second_wide (second.Sv39x4 root) gscid small = let fits : root.number < 2 ^ 44 = root.in_range in omega arith
 
 first_is : (stage : FirstStage) → StageFits stage → IsFirstStage (bits 63 60 (first_stage_word stage)) (bits 43 0 (first_stage_word stage)) stage
 first_is first.Bare fits = refl
@@ -96,7 +100,7 @@ bytes_mean context fits = subst (λ w. AreContextWords w context) (sym (bytes_ba
 unused : (context : Context) → ContextFits context → RootsOfBareStagesAreZero context (encoded_context_words context)
 unfolding encoded_context_words
 unused context fits =
-    (λ bare. ap (λ stage. bits 43 0 (first_stage_word stage)) bare, λ bare. second_unused context.second_stage context.gscid fits.1)
+    (λ bare. ap (λ stage. bits 43 0 (first_stage_word stage)) bare, λ bare. second_unused context.second_stage context.gscid fits.1 bare)
 
 pub bytes_unused : (context : Context) → ContextFits context → RootsOfBareStagesAreZero context (context_words (encoded_context context))
 bytes_unused context fits = subst (RootsOfBareStagesAreZero context) (sym (bytes_back context fits)) (unused context fits)

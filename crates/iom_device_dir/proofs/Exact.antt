@@ -1,5 +1,5 @@
 -- Decoding is exact to the grammars: what it answers is what the words are, and what they are is what it answers.
-use Rattle.std.proofs.Common.{◌≡◌, ◌≢◌, ◌<◌, ◌∙◌, ◌==◌, ℕ, zero, suc, Bool, true, false, inl, inr, Option, Some, None, Result, Ok, Err, refl, sym, ap, subst, arith, if◌then◌else◌}
+use Rattle.std.proofs.Common.{◌≡◌, ◌≢◌, ◌<◌, ◌*◌, ◌/◌, ◌%◌, ◌^◌, ◌∙◌, ◌==◌, ℕ, zero, suc, Bool, true, false, inl, inr, Option, Some, None, Result, Ok, Err, refl, sym, ap, subst, arith, if◌then◌else◌}
 use Rattle.std.specs.Prelude.{◌↔◌}
 use Rattle.std.proofs.lemmas.Bool.Decides.{eqb_tells}
 use Rattle.iom_base.specs.declared.cause.Cause.{Cause}
@@ -11,12 +11,13 @@ use Rattle.iom_device_dir.specs.declared.stages.FirstStage.{FirstStage}
 use Rattle.iom_device_dir.specs.declared.stages.FirstStage.TheVariants as first
 use Rattle.iom_device_dir.specs.declared.stages.SecondStage.{SecondStage}
 use Rattle.iom_device_dir.specs.declared.stages.SecondStage.TheVariants as second
-use Rattle.iom_device_dir.specs.declared.values.Ppn.{Ppn}
+use Rattle.iom_base.specs.declared.ppn.Ppn.{Ppn}
 use Rattle.iom_device_dir.specs.declared.words.ContextWords.{ContextWords}
-use Rattle.iom_device_dir.specs.Values.{page_from, address_space_from}
+use Rattle.iom_base.specs.PageNumbers.{page_from}
+use Rattle.iom_device_dir.specs.Values.{address_space_from, guest_root_from}
 use Rattle.iom_device_dir.specs.Formats.{IsNonLeafEntry, IsNonLeafEntryRefused, IsFirstStage, IsSecondStage, SetsOnlyOfferedBits, AreContextWords, IsContextMisconfigured, IsContextRefused}
 use Rattle.iom_device_dir.specs.Decoded.{decoded_non_leaf_entry, first_stage_at, second_stage_at, sets_only_offered_bits, context_with_stages, decoded_context}
-use Rattle.iom_device_dir.proofs.SameValues.{same_page, same_space}
+use Rattle.iom_device_dir.proofs.SameValues.{same_page, same_space, same_root}
 
 -- a bit that isn't 0 is 1
 one_of_two : (n : ℕ) → n < 2 → n ≢ 0 → n ≡ 1
@@ -68,19 +69,46 @@ first_found : (mode : ℕ) (root : Ppn) (stage : FirstStage) → IsFirstStage mo
 first_found mode root first.Bare h = rw h refl
 first_found mode root (first.Sv39 own) h = rw h.0 (ap (λ page. Some (first.Sv39 page)) (sym (same_page own root h.1)))
 
--- what the mode of the second stage tells
-abbrev TellsSecond : ℕ → Option SecondStage → Type 0
-TellsSecond mode (Some stage) = IsSecondStage mode stage
-TellsSecond mode None = (stage : SecondStage) → ¬ IsSecondStage mode stage
+-- what mode and root of the second stage tell
+abbrev TellsSecond : ℕ → ℕ → Option SecondStage → Type 0
+TellsSecond mode ppn (Some stage) = IsSecondStage mode ppn stage
+TellsSecond mode ppn None = (stage : SecondStage) → ¬ IsSecondStage mode ppn stage
 
-no_second : (mode : ℕ) → mode ≢ 0 → (stage : SecondStage) → ¬ IsSecondStage mode stage
-no_second mode bare second.Bare h = bare h
+no_second : (mode ppn : ℕ) → mode ≢ 0 → mode ≢ 8 → (stage : SecondStage) → ¬ IsSecondStage mode ppn stage
+no_second mode ppn bare sv39x4 second.Bare h = bare h
+no_second mode ppn bare sv39x4 (second.Sv39x4 root) h = sv39x4 h.0
 
-second_told : (mode : ℕ) → TellsSecond mode (second_stage_at mode)
-second_told mode = elim (eqb_tells mode 0) [ inl z ↦ rw z.0 z.1 | inr z ↦ rw z.0 (no_second mode z.1) ]
+-- a root that isn't aligned is none
+unaligned : (mode ppn : ℕ) → mode ≢ 0 → ppn % 4 ≢ 0 → (stage : SecondStage) → ¬ IsSecondStage mode ppn stage
+unaligned mode ppn bare odd second.Bare h = bare h
+unaligned mode ppn bare odd (second.Sv39x4 root) h = odd (ap (λ n. n % 4) (sym h.1) ∙ root.aligned)
 
-second_found : (mode : ℕ) (stage : SecondStage) → IsSecondStage mode stage → second_stage_at mode ≡ Some stage
-second_found mode second.Bare h = rw h refl
+root_number : (ppn : ℕ) → ppn < 2 ^ 44 → ppn % 4 ≡ 0 → 4 * (ppn / 4 % 2 ^ 42) ≡ ppn
+root_number ppn small even = omega (arith, small, even)
+
+root_small : (word : ℕ) → bits 43 0 word < 2 ^ 44
+root_small word = omega arith
+
+second_told : (mode ppn : ℕ) → ppn < 2 ^ 44 → TellsSecond mode ppn (second_stage_at mode ppn)
+second_told mode ppn small =
+    elim (eqb_tells mode 0) [
+      | inl z ↦ rw z.0 z.1
+      | inr z ↦ rw z.0 (elim (eqb_tells mode 8) [
+        | inl e ↦ rw e.0 (elim (eqb_tells (ppn % 4) 0) [
+          | inl a ↦ rw a.0 (e.1, root_number ppn small a.1)
+          | inr a ↦ rw a.0 (unaligned mode ppn z.1 a.1)
+        ])
+        | inr e ↦ rw e.0 (no_second mode ppn z.1 e.1)
+      ])
+    ]
+
+second_found : (mode ppn : ℕ) → ppn < 2 ^ 44 → (stage : SecondStage) → IsSecondStage mode ppn stage → second_stage_at mode ppn ≡ Some stage
+second_found mode ppn small second.Bare h = rw h refl
+second_found mode ppn small (second.Sv39x4 root) h =
+    let even : ppn % 4 ≡ 0 = ap (λ n. n % 4) (sym h.1) ∙ root.aligned in
+    let is : guest_root_from ppn ≡ root = same_root (guest_root_from ppn) root (root_number ppn small even ∙ sym h.1) in
+    let is_even : (ppn % 4 == 0) ≡ true = ap (λ n. n == 0) even in
+    rw (h.0, is_even) (ap (λ own. Some (second.Sv39x4 own)) is)
 
 -- what decoding answers, judged by the grammar
 abbrev pub Judges : ContextWords → Result Context Cause → Type 0
@@ -88,19 +116,19 @@ Judges w (Ok context) = AreContextWords w context
 Judges w (Err cause) = IsContextRefused w cause
 
 judged_stages : (w : ContextWords) → bits 0 0 w.tc ≡ 1 → SetsOnlyOfferedBits w → (f : Option FirstStage) (s : Option SecondStage)
-    → TellsFirst (bits 63 60 w.fsc) (bits 43 0 w.fsc) f → TellsSecond (bits 63 60 w.iohgatp) s → Judges w (context_with_stages w f s)
+    → TellsFirst (bits 63 60 w.fsc) (bits 43 0 w.fsc) f → TellsSecond (bits 63 60 w.iohgatp) (bits 43 0 w.iohgatp) s → Judges w (context_with_stages w f s)
 judged_stages w valid clear (Some f) (Some s) tf ts =
     record { valid = valid; en_ats = refl; second_stage = ts; gscid = refl; pscid = refl; first_stage = tf; clear = clear }
 judged_stages w valid clear (Some f) None tf ts = inr (valid, inr (inr ts), refl)
 judged_stages w valid clear None s tf ts = inr (valid, inr (inl tf), refl)
 
 abbrev stages_of : ContextWords → Result Context Cause
-stages_of w = context_with_stages w (first_stage_at (bits 63 60 w.fsc) (page_from 0 w.fsc)) (second_stage_at (bits 63 60 w.iohgatp))
+stages_of w = context_with_stages w (first_stage_at (bits 63 60 w.fsc) (page_from 0 w.fsc)) (second_stage_at (bits 63 60 w.iohgatp) (bits 43 0 w.iohgatp))
 
 judged_clear : (w : ContextWords) → bits 0 0 w.tc ≡ 1 → (b : Bool) → SaysClear w b → Judges w (if b then stages_of w else Err DirectoryEntryMisconfigured)
 judged_clear w valid true says =
-    judged_stages w valid says (first_stage_at (bits 63 60 w.fsc) (page_from 0 w.fsc)) (second_stage_at (bits 63 60 w.iohgatp))
-    (first_told (bits 63 60 w.fsc) (page_from 0 w.fsc)) (second_told (bits 63 60 w.iohgatp))
+    judged_stages w valid says (first_stage_at (bits 63 60 w.fsc) (page_from 0 w.fsc)) (second_stage_at (bits 63 60 w.iohgatp) (bits 43 0 w.iohgatp))
+    (first_told (bits 63 60 w.fsc) (page_from 0 w.fsc)) (second_told (bits 63 60 w.iohgatp) (bits 43 0 w.iohgatp) (root_small w.iohgatp))
 judged_clear w valid false says = inr (valid, inl says, refl)
 
 -- SOUND: what decoding answers is so
@@ -128,8 +156,8 @@ found w context are =
     let clear = if_clear w (sets_only_offered_bits w) (clear_told w) are.clear in
     ap (λ b. if b then Err DirectoryEntryNotValid else if sets_only_offered_bits w then stages_of w else Err DirectoryEntryMisconfigured) valid
     ∙ ap (λ b. if b then stages_of w else Err DirectoryEntryMisconfigured) clear
-    ∙ ap (λ f. context_with_stages w f (second_stage_at (bits 63 60 w.iohgatp))) (first_found (bits 63 60 w.fsc) (page_from 0 w.fsc) context.first_stage are.first_stage)
-    ∙ ap (λ s. context_with_stages w (Some context.first_stage) s) (second_found (bits 63 60 w.iohgatp) context.second_stage are.second_stage)
+    ∙ ap (λ f. context_with_stages w f (second_stage_at (bits 63 60 w.iohgatp) (bits 43 0 w.iohgatp))) (first_found (bits 63 60 w.fsc) (page_from 0 w.fsc) context.first_stage are.first_stage)
+    ∙ ap (λ s. context_with_stages w (Some context.first_stage) s) (second_found (bits 63 60 w.iohgatp) (bits 43 0 w.iohgatp) (root_small w.iohgatp) context.second_stage are.second_stage)
     ∙ by_fields w context are
 
 no_stage_first : (w : ContextWords) (f : Option FirstStage) (s : Option SecondStage) → TellsFirst (bits 63 60 w.fsc) (bits 43 0 w.fsc) f
@@ -137,8 +165,8 @@ no_stage_first : (w : ContextWords) (f : Option FirstStage) (s : Option SecondSt
 no_stage_first w (Some f) s tell none = absurd (none f tell)
 no_stage_first w None s tell none = refl
 
-no_stage_second : (w : ContextWords) (f : Option FirstStage) (s : Option SecondStage) → TellsSecond (bits 63 60 w.iohgatp) s
-    → ((stage : SecondStage) → ¬ IsSecondStage (bits 63 60 w.iohgatp) stage) → context_with_stages w f s ≡ Err DirectoryEntryMisconfigured
+no_stage_second : (w : ContextWords) (f : Option FirstStage) (s : Option SecondStage) → TellsSecond (bits 63 60 w.iohgatp) (bits 43 0 w.iohgatp) s
+    → ((stage : SecondStage) → ¬ IsSecondStage (bits 63 60 w.iohgatp) (bits 43 0 w.iohgatp) stage) → context_with_stages w f s ≡ Err DirectoryEntryMisconfigured
 no_stage_second w (Some f) (Some s) tell none = absurd (none s tell)
 no_stage_second w (Some f) None tell none = refl
 no_stage_second w None s tell none = refl
@@ -148,9 +176,9 @@ misconfigured : (w : ContextWords) (b : Bool) → SaysClear w b → IsContextMis
 misconfigured w false says h = refl
 misconfigured w true says (inl unclear) = absurd (unclear says)
 misconfigured w true says (inr (inl none)) =
-    no_stage_first w (first_stage_at (bits 63 60 w.fsc) (page_from 0 w.fsc)) (second_stage_at (bits 63 60 w.iohgatp)) (first_told (bits 63 60 w.fsc) (page_from 0 w.fsc)) none
+    no_stage_first w (first_stage_at (bits 63 60 w.fsc) (page_from 0 w.fsc)) (second_stage_at (bits 63 60 w.iohgatp) (bits 43 0 w.iohgatp)) (first_told (bits 63 60 w.fsc) (page_from 0 w.fsc)) none
 misconfigured w true says (inr (inr none)) =
-    no_stage_second w (first_stage_at (bits 63 60 w.fsc) (page_from 0 w.fsc)) (second_stage_at (bits 63 60 w.iohgatp)) (second_told (bits 63 60 w.iohgatp)) none
+    no_stage_second w (first_stage_at (bits 63 60 w.fsc) (page_from 0 w.fsc)) (second_stage_at (bits 63 60 w.iohgatp) (bits 43 0 w.iohgatp)) (second_told (bits 63 60 w.iohgatp) (bits 43 0 w.iohgatp) (root_small w.iohgatp)) none
 
 pub refused : (w : ContextWords) (cause : Cause) → IsContextRefused w cause → decoded_context w ≡ Err cause
 unfolding decoded_context

@@ -1,5 +1,5 @@
 -- The grammars as functions: what words are decoded to.
-use Rattle.std.specs.Prelude.{ℕ, ◌==◌, ◌&&◌, Bool, Option, Some, None, Result, Ok, Err, if◌then◌else◌}
+use Rattle.std.specs.Prelude.{ℕ, ◌%◌, ◌==◌, ◌&&◌, Bool, Option, Some, None, Result, Ok, Err, if◌then◌else◌}
 use Rattle.iom_base.specs.declared.cause.Cause.{Cause}
 use Rattle.iom_base.specs.declared.cause.Cause.TheVariants.{DirectoryEntryNotValid, DirectoryEntryMisconfigured}
 use Rattle.iom_registers.specs.Bits.{bits}
@@ -9,9 +9,10 @@ use Rattle.iom_device_dir.specs.declared.stages.FirstStage.{FirstStage}
 use Rattle.iom_device_dir.specs.declared.stages.FirstStage.TheVariants as first
 use Rattle.iom_device_dir.specs.declared.stages.SecondStage.{SecondStage}
 use Rattle.iom_device_dir.specs.declared.stages.SecondStage.TheVariants as second
-use Rattle.iom_device_dir.specs.declared.values.Ppn.{Ppn}
+use Rattle.iom_base.specs.declared.ppn.Ppn.{Ppn}
 use Rattle.iom_device_dir.specs.declared.words.ContextWords.{ContextWords}
-use Rattle.iom_device_dir.specs.Values.{page_from, address_space_from}
+use Rattle.iom_base.specs.PageNumbers.{page_from}
+use Rattle.iom_device_dir.specs.Values.{address_space_from, guest_root_from}
 
 -- the non-leaf entry that a word is, or the cause
 abbrev pub decoded_non_leaf_entry : ℕ → Result NonLeafEntry Cause
@@ -24,8 +25,12 @@ decoded_non_leaf_entry word =
 abbrev pub first_stage_at : ℕ → Ppn → Option FirstStage
 first_stage_at mode ppn = if mode == 0 then Some first.Bare else if mode == 8 then Some (first.Sv39 ppn) else None
 
-abbrev pub second_stage_at : ℕ → Option SecondStage
-second_stage_at mode = if mode == 0 then Some second.Bare else None
+-- the second's root has to be aligned
+abbrev pub second_stage_at : ℕ → ℕ → Option SecondStage
+second_stage_at mode ppn =
+    if mode == 0 then Some second.Bare
+    else if (mode == 8) && (ppn % 4 == 0) then Some (second.Sv39x4 (guest_root_from ppn))
+    else None
 
 -- whether no bit is set that may not be
 abbrev pub sets_only_offered_bits : ContextWords → Bool
@@ -42,5 +47,6 @@ context_with_stages w None second_stage = Err DirectoryEntryMisconfigured
 unfoldable pub decoded_context : ContextWords → Result Context Cause
 decoded_context w =
     if bits 0 0 w.tc == 0 then Err DirectoryEntryNotValid
-    else if sets_only_offered_bits w then context_with_stages w (first_stage_at (bits 63 60 w.fsc) (page_from 0 w.fsc)) (second_stage_at (bits 63 60 w.iohgatp))
+    else if sets_only_offered_bits w then
+    context_with_stages w (first_stage_at (bits 63 60 w.fsc) (page_from 0 w.fsc)) (second_stage_at (bits 63 60 w.iohgatp) (bits 43 0 w.iohgatp))
     else Err DirectoryEntryMisconfigured

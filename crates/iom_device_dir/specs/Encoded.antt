@@ -20,6 +20,7 @@ first_stage_word (first.Sv39 root) = 8 * 2 ^ 60 + root.number
 
 abbrev pub second_stage_word : SecondStage → ℕ
 second_stage_word second.Bare = 0
+second_stage_word (second.Sv39x4 root) = 8 * 2 ^ 60 + root.number
 
 unfoldable pub encoded_context_words : Context → ContextWords
 encoded_context_words context = record {

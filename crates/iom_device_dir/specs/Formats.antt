@@ -30,9 +30,11 @@ abbrev pub IsFirstStage : ℕ → ℕ → FirstStage → Type 0
 IsFirstStage mode ppn first.Bare = mode ≡ 0
 IsFirstStage mode ppn (first.Sv39 root) = (mode ≡ 8) × (root.number ≡ ppn)
 
--- MODE of iohgatp (section 2.1.3.2): 0 Bare, whatever PPN is. No other mode is offered
-abbrev pub IsSecondStage : ℕ → SecondStage → Type 0
-IsSecondStage mode second.Bare = mode ≡ 0
+-- MODE and PPN of iohgatp (section 2.1.3.2): 0 Bare, whatever PPN is; 8 Sv39x4, whose root is 16 KiB and aligned to that, so PPN is a multiple
+-- of 4. No other mode is offered
+abbrev pub IsSecondStage : ℕ → ℕ → SecondStage → Type 0
+IsSecondStage mode ppn second.Bare = mode ≡ 0
+IsSecondStage mode ppn (second.Sv39x4 root) = (mode ≡ 8) × (root.number ≡ ppn)
 
 -- no bit is set that is reserved, or that asks for what isn't offered: in tc (section 2.1.3.1) all but V 0 and EN_ATS 1, so EN_PRI 2,
 -- T2GPA 3, DTF 4, PDTV 5, PRPR 6, GADE 7, SADE 8, DPE 9, SBE 10 and SXL 11 too; in ta (section 2.1.3.3) all but PSCID 31:12; in fsc
@@ -49,7 +51,7 @@ pub record AreContextWords (w : ContextWords) (context : Context) : Type 0 where
   pub valid : bits 0 0 w.tc ≡ 1
   pub en_ats : context.en_ats ≡ (bits 1 1 w.tc == 1)
   -- iohgatp: PPN 43:0, GSCID 59:44, MODE 63:60
-  pub second_stage : IsSecondStage (bits 63 60 w.iohgatp) context.second_stage
+  pub second_stage : IsSecondStage (bits 63 60 w.iohgatp) (bits 43 0 w.iohgatp) context.second_stage
   pub gscid : context.gscid ≡ bits 59 44 w.iohgatp
   -- ta: PSCID 31:12
   pub pscid : context.pscid.number ≡ bits 31 12 w.ta
@@ -60,12 +62,12 @@ pub record AreContextWords (w : ContextWords) (context : Context) : Type 0 where
 abbrev pub IsContext : List ℕ → Context → Type 0
 IsContext bytes context = AreContextWords (context_words bytes) context
 
--- a bit is set that may not be, or the mode of a stage isn't offered
+-- a bit is set that may not be, or the mode of a stage isn't offered, or the root of the second isn't aligned
 abbrev pub IsContextMisconfigured : ContextWords → Type 0
 IsContextMisconfigured w =
     (¬ SetsOnlyOfferedBits w)
     ⊎ (((stage : FirstStage) → ¬ IsFirstStage (bits 63 60 w.fsc) (bits 43 0 w.fsc) stage)
-    ⊎ ((stage : SecondStage) → ¬ IsSecondStage (bits 63 60 w.iohgatp) stage))
+    ⊎ ((stage : SecondStage) → ¬ IsSecondStage (bits 63 60 w.iohgatp) (bits 43 0 w.iohgatp) stage))
 
 -- the cause with which words are no context: they aren't valid; or they are, and are misconfigured
 abbrev pub IsContextRefused : ContextWords → Cause → Type 0

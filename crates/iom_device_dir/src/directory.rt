@@ -9,9 +9,8 @@ ghost use Rattle.iom_device_dir.specs.Located.{loaded_entry, path_end_from, loca
 use crate::context::{CONTEXT_SIZE, Context};
 use crate::entry::NonLeafEntry;
 use crate::fields::field;
-use crate::values::Ppn;
 use crate::words::ContextWords;
-use iom_base::{Cause, DeviceId, ENTRY_SIZE, PAGE_SIZE};
+use iom_base::{Cause, DeviceId, ENTRY_SIZE, PAGE_SIZE, Ppn};
 use iom_phys_mem::Bytes;
 use iom_registers::{DirectoryMode, DirectoryPointer};
 

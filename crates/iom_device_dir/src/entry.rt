@@ -1,6 +1,5 @@
 use crate::fields::field;
-use crate::values::Ppn;
-use iom_base::Cause;
+use iom_base::{Cause, Ppn};
 
 /// A lawful non-leaf entry of the directory: it names the next page of the directory, one level down.
 #[derive(Clone, Copy, PartialEq, Eq, Debug)]

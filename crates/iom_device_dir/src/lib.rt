@@ -24,4 +24,4 @@ pub use context::{CONTEXT_SIZE, Context};
 pub use directory::locate;
 pub use entry::NonLeafEntry;
 pub use stages::{FirstStage, SecondStage};
-pub use values::{Ppn, Pscid};
+pub use values::{GuestRoot, Pscid};

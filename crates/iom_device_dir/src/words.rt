@@ -8,9 +8,9 @@ ghost use Rattle.iom_device_dir.specs.Encoded.{encoded_context_words};
 use crate::context::{CONTEXT_SIZE, Context};
 use crate::fields::field;
 use crate::stages::{FirstStage, SecondStage};
-use crate::values::{Ppn, Pscid};
+use crate::values::Pscid;
 use byteorder::{ByteOrder, LittleEndian};
-use iom_base::Cause;
+use iom_base::{Cause, Ppn};
 
 /// The words of a context of the base format, under the standard's names.
 #[derive(Clone, Copy)]
@@ -68,7 +68,7 @@ impl ContextWords {
             return Err(Cause::DirectoryEntryMisconfigured);
         }
         let first = FirstStage::at(field(self.fsc, 63, 60), Ppn::from_word(self.fsc, 0));
-        let second = SecondStage::at(field(self.iohgatp, 63, 60));
+        let second = SecondStage::at(field(self.iohgatp, 63, 60), field(self.iohgatp, 43, 0));
         match (first, second) {
             (Some(first_stage), Some(second_stage)) => Ok(Context {
                 en_ats: field(self.tc, 1, 1) == 1,

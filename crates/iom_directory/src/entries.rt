@@ -10,8 +10,8 @@ ghost use Rattle.iom_directory.specs.Written.{word_of, entry_word, with_entry_at
 ghost use Rattle.iom_directory.specs.Changes.{Stores, WritesPlace};
 
 use byteorder::{ByteOrder, LittleEndian};
-use iom_base::{DeviceId, ENTRY_SIZE, PAGE_SIZE};
-use iom_device_dir::{CONTEXT_SIZE, Context, NonLeafEntry, Ppn};
+use iom_base::{DeviceId, ENTRY_SIZE, PAGE_SIZE, Ppn};
+use iom_device_dir::{CONTEXT_SIZE, Context, NonLeafEntry};
 use iom_phys_mem::Bytes;
 
 /// DDI\[level\], the index of an id in a page of the level.

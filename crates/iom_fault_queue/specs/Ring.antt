@@ -19,6 +19,12 @@ abbrev pub meaning_of : Option Fields → Entry
 meaning_of (Some f) = entry.Record f
 meaning_of None = entry.Illegal
 
+-- the record of what stands at a place, where it is one
+abbrev pub record_of_entry : Entry → Option Fields
+record_of_entry (entry.Record f) = Some f
+record_of_entry entry.Illegal = None
+record_of_entry entry.Outside = None
+
 -- what stands in the 32 bytes at an address, a multiple of 32
 unfoldable pub record_at : List (List ℕ) → ℕ → Entry
 record_at memory address =

@@ -19,6 +19,20 @@ pub enum Entry {
     Outside,
 }
 
+impl Entry {
+    ghost use Rattle.iom_fault_queue.specs.Ring.{record_of_entry};
+
+    /// The record, where it is one.
+    pub fn record(self) -> Option<Record>
+        ensures { result ≡ record_of_entry self }
+    {
+        match self {
+            Entry::Record(record) => Some(record),
+            Entry::Illegal | Entry::Outside => None,
+        }
+    }
+}
+
 /// What stands in the 32 bytes at the address.
 pub(crate) fn record_at(memory: &Memory, address: u64) -> Entry
     requires { address % 32 ≡ 0 }

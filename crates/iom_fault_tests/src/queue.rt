@@ -75,7 +75,9 @@ impl Machine {
 
     // The record of a read at this address is taken.
     fn takes_record(&mut self, rt: &impl Abort, address: u64) {
-        self.takes(rt, Some(Entry::Record(record_at(address))));
+        let record = record_at(address);
+        self.takes(rt, Some(Entry::Record(record)));
+        assert_eq!(rt; Entry::Record(record).record(), Some(record));
     }
 
     // So many records fit and come out in order, and one more is dropped, which sets fqof.
@@ -150,6 +152,7 @@ fn bytes_stand_at_the_tail(rt: HostRuntime) {
     machine.holds(&rt, 0x3_e018, 0);
     machine.memory.store_u64(0x3_e008, 1);
     machine.takes(&rt, Some(Entry::Illegal));
+    assert_eq!(rt; Entry::Illegal.record(), None);
     machine.takes(&rt, None);
 }
 

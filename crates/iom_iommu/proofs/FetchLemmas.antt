@@ -21,7 +21,7 @@ use Rattle.iom_iommu.specs.declared.fetched.Fetched.TheVariants.{Did, Waiting, E
 use Rattle.iom_inflight.specs.Flights.{Flights}
 use Rattle.iom_tlb.specs.declared.trans_cache.TransCache.{Ghosts as Cache}
 use Rattle.iom_iommu.specs.Parts.{registers_of, flights_of}
-use Rattle.iom_iommu.specs.Fetches.{counted_in, store_of, asks_for_interrupt, with_store, IsStoredIn, IsOffRing, head_entry, WaitsAt, StopsAtEntry, StopsFetching, FetchesCommand}
+use Rattle.iom_iommu.specs.Fetches.{counted_in, store_of, asks_for_interrupt, with_store, IsStoredIn, IsOffRing, head_entry, WaitsAt, StopsAtEntry, StopsFetching, FetchesCommand, LeavesFaultQueue}
 
 -- something stands at the head, so head and tail aren't the same
 pub apart : (m : List (List ℕ)) (r : Registers) (entry : QueueEntry) → head_entry m r ≡ Some entry → command_head r ≢ command_tail r
@@ -133,3 +133,27 @@ empty_where m n i j Waiting f p = absurd (none_waits m (registers_of i) (flights
 empty_where m n i j Empty f p = refl
 empty_where m n i j Stopped f p =
     absurd (none_stops m (is_processing_commands (registers_of i)) i j p.0 (ap (λ xs. slice_get xs 0) p.1) f.0)
+
+-- THE FAULT QUEUE stays
+fence_leaves : (r : Registers) (asks : Bool) → LeavesFaultQueue r (if asks then with_fence_w_ip (with_command_done r) else with_command_done r)
+fence_leaves r true = (refl, refl, refl, refl)
+fence_leaves r false = (refl, refl, refl, refl)
+
+stop_at_leaves : {C : Type 0} {c : Cache C} (m : List (List ℕ)) (entry : Option QueueEntry) (i j : Iommu C c) → StopsAtEntry m entry i j
+    → LeavesFaultQueue (registers_of i) (registers_of j)
+stop_at_leaves m None i j s = absurd s
+stop_at_leaves m (Some stands.Outside) i j s = subst (λ x. LeavesFaultQueue (registers_of i) (registers_of x)) (sym s) (refl, refl, refl, refl)
+stop_at_leaves m (Some (stands.Illegal reason)) i j s = subst (λ x. LeavesFaultQueue (registers_of i) (registers_of x)) (sym s) (refl, refl, refl, refl)
+stop_at_leaves m (Some (stands.Command command)) i j s = subst (λ x. LeavesFaultQueue (registers_of i) (registers_of x)) (sym s.2) (refl, refl, refl, refl)
+
+stop_leaves : {C : Type 0} {c : Cache C} (on : Bool) (m : List (List ℕ)) (i j : Iommu C c) → StopsFetching on m i j → LeavesFaultQueue (registers_of i) (registers_of j)
+stop_leaves false m i j s = subst (λ x. LeavesFaultQueue (registers_of i) (registers_of x)) (sym s) (refl, refl, refl, refl)
+stop_leaves true m i j s = stop_at_leaves m (head_entry m (registers_of i)) i j s
+
+pub leaves_fault_queue : {C : Type 0} {c : Cache C} (m n : List (List ℕ)) (i j : Iommu C c) (answer : Fetched) → FetchesCommand m i answer n j
+    → LeavesFaultQueue (registers_of i) (registers_of j)
+leaves_fault_queue m n i j (Did command) f =
+    subst (λ r. LeavesFaultQueue (registers_of i) r) (sym f.5.registers) (fence_leaves (registers_of i) (asks_for_interrupt command))
+leaves_fault_queue m n i j Waiting f = subst (λ x. LeavesFaultQueue (registers_of i) (registers_of x)) (sym f.3) (refl, refl, refl, refl)
+leaves_fault_queue m n i j Empty f = subst (λ x. LeavesFaultQueue (registers_of i) (registers_of x)) (sym f.3) (refl, refl, refl, refl)
+leaves_fault_queue m n i j Stopped f = stop_leaves (is_processing_commands (registers_of i)) m i j f.0

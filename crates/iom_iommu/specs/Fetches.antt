@@ -174,3 +174,7 @@ pub record AreAlike {C : Type 0} {c : Cache C} (one other : Iommu C c) : Type 0 
   pub stock : stock_of one ≡ stock_of other
   pub flights : flights_of one ≡ flights_of other
   pub frames : frames_of one ≡ frames_of other
+
+-- the registers of the fault queue are as they were
+abbrev pub LeavesFaultQueue : Registers → Registers → Type 0
+LeavesFaultQueue old new = (new.fqb ≡ old.fqb) × (new.fqh ≡ old.fqh) × (new.fqt ≡ old.fqt) × (new.fqcsr ≡ old.fqcsr)

@@ -1,15 +1,22 @@
 -- What a request of a device is answered and leaves, and what becomes of an access in flight.
-use Rattle.std.specs.Prelude.{◌≡◌, ℕ, ◌+◌, ◌<◌, ◌≤◌, List, Option, Ok, Err}
+use Rattle.std.specs.Prelude.{◌≡◌, ℕ, ◌+◌, ◌%◌, ◌^◌, ◌<◌, ◌≤◌, List, Option, Ok, Err}
 use Rattle.iom_base.specs.Sizes.{page_size}
 use Rattle.iom_base.specs.Accesses.{IsWithinPage}
 use Rattle.iom_base.specs.declared.access.Access.{Access}
 use Rattle.iom_base.specs.declared.access.AccessKind.{AccessKind}
 use Rattle.iom_base.specs.declared.cause.Cause.{Cause}
+use Rattle.iom_fault_queue.specs.declared.record.Fault.{Fault as FaultToRecord}
+use Rattle.iom_fault_queue.specs.declared.record.FaultedRequest.{FaultedRequest}
+use Rattle.iom_fault_queue.specs.declared.ring.Put.{Put}
+use Rattle.iom_fault_queue.specs.Calls.{PutsRecord}
+use Rattle.iom_fault_queue.specs.Fields.{untranslated_of}
+use Rattle.iom_fault_queue.specs.Records.{record_of}
 use Rattle.iom_inflight.specs.declared.made.MadeAt.{MadeAt}
 use Rattle.iom_inflight.specs.Calls.{IsAccepted, IsFull, HasRoom, Makes}
 use Rattle.iom_iommu.specs.declared.iommu.Iommu.{Iommu}
 use Rattle.iom_iommu.specs.declared.reply.Reply.{Reply}
 use Rattle.iom_iommu.specs.declared.reply.Reply.TheVariants.{Accepted, Busy, Fault, BadSpan}
+use Rattle.iom_stage_walk.specs.declared.walked.WalkFault.{WalkFault}
 use Rattle.iom_tlb.specs.declared.trans_cache.TransCache.{Ghosts as Cache}
 use Rattle.iom_iommu.specs.Parts.{registers_of, contexts_of, translations_of, flights_of, stock_of, frames_of}
 use Rattle.iom_iommu.specs.Service.{Serves, KeepsContext}
@@ -30,23 +37,34 @@ pub record AcceptsRequest {C : Type 0} {c : Cache C} (memory : List (List ℕ)) 
   pub stock : stock_of new ≡ stock_of old
   pub frames : frames_of new ≡ frames_of old
 
--- the access isn't translated, for this cause. No fault record is written yet
-pub record RefusesRequest {C : Type 0} {c : Cache C} (memory : List (List ℕ)) (old : Iommu C c) (id : ℕ) (access : Access) (cause : Cause) (new : Iommu C c) : Type 0 where
+-- what is recorded of an untranslated request that faults (section 3.2, "Fault/Event-Queue (FQ)"): of its device's number the 24 bits that DID has
+abbrev pub request_of : ℕ → Access → FaultedRequest
+request_of id access = record { device = id % 2 ^ 24; transaction = untranslated_of access.kind; address = access.address }
+
+abbrev pub fault_of : WalkFault → FaultToRecord
+fault_of fault = record { cause = fault.cause; guest_address = fault.gpa; implicit = fault.implicit }
+
+-- the access isn't translated, for this cause, and the record of its fault is put into the fault queue
+pub record RefusesRequest {C : Type 0} {c : Cache C} (memory : List (List ℕ)) (old : Iommu C c) (id : ℕ) (access : Access) (cause : Cause)
+    (new_memory : List (List ℕ)) (new : Iommu C c) : Type 0 where
   pub within : IsWithinPage access
   pub room : HasRoom (flights_of old) id
-  pub served : Serves c.SURE memory (registers_of old) (contexts_of old) id access.address access.kind (translations_of old) (Err cause) (translations_of new)
+  pub fault : WalkFault
+  pub told : cause ≡ fault.cause
+  pub served : Serves c.SURE memory (registers_of old) (contexts_of old) id access.address access.kind (translations_of old) (Err fault) (translations_of new)
   pub contexts : KeepsContext memory (registers_of old) (contexts_of old) id (contexts_of new)
+  pub answer : Put
+  pub recorded : PutsRecord memory (registers_of old) (record_of (request_of id access) (fault_of fault)) answer new_memory (registers_of new)
   pub flights : flights_of new ≡ flights_of old
-  pub registers : registers_of new ≡ registers_of old
   pub stock : stock_of new ≡ stock_of old
   pub frames : frames_of new ≡ frames_of old
 
 -- A DEVICE ASKS for an access: the first that applies is its answer
-abbrev pub AnswersRequest : {C : Type 0} {c : Cache C} → List (List ℕ) → Iommu C c → ℕ → Access → Reply → Iommu C c → Type 0
-AnswersRequest memory old id access BadSpan new = (¬ IsWithinPage access) × (new ≡ old)
-AnswersRequest memory old id access Busy new = IsWithinPage access × IsFull (flights_of old) id × (new ≡ old)
-AnswersRequest memory old id access (Accepted number) new = AcceptsRequest memory old id access number new
-AnswersRequest memory old id access (Fault cause) new = RefusesRequest memory old id access cause new
+abbrev pub AnswersRequest : {C : Type 0} {c : Cache C} → List (List ℕ) → Iommu C c → ℕ → Access → Reply → List (List ℕ) → Iommu C c → Type 0
+AnswersRequest memory old id access BadSpan new_memory new = (¬ IsWithinPage access) × (new ≡ old) × (new_memory ≡ memory)
+AnswersRequest memory old id access Busy new_memory new = IsWithinPage access × IsFull (flights_of old) id × (new ≡ old) × (new_memory ≡ memory)
+AnswersRequest memory old id access (Accepted number) new_memory new = AcceptsRequest memory old id access number new × (new_memory ≡ memory)
+AnswersRequest memory old id access (Fault cause) new_memory new = RefusesRequest memory old id access cause new_memory new
 
 -- the bytes of an access that is made lie in one of so many frames
 pub record IsWithinFrame (frames : ℕ) (made : MadeAt) : Type 0 where

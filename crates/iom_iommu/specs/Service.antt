@@ -12,10 +12,15 @@ use Rattle.iom_registers.specs.declared.directory.DirectoryMode.TheVariants as m
 use Rattle.iom_registers.specs.declared.registers.Registers.{Registers}
 use Rattle.iom_registers.specs.Queues.{directory_mode}
 use Rattle.iom_stage_walk.specs.declared.walked.Walked.{Walked}
-use Rattle.iom_stage_walk.specs.Paths.{first_levels, ReachesFirst, StopsAt}
+use Rattle.iom_stage_walk.specs.declared.walked.WalkFault.{WalkFault}
+use Rattle.iom_stage_walk.specs.Paths.{first_levels, ReachesFirst, StopsFirst}
+use Rattle.iom_stage_walk.specs.Second.{second_levels, ReachesSecond, StopsSecond}
+use Rattle.iom_stage_walk.specs.Both.{plain, ReachesBoth, StopsBoth}
 use Rattle.iom_device_dir.specs.declared.context.Context.{Context}
 use Rattle.iom_device_dir.specs.declared.stages.FirstStage.{FirstStage}
 use Rattle.iom_device_dir.specs.declared.stages.FirstStage.TheVariants.{Bare, Sv39}
+use Rattle.iom_device_dir.specs.declared.stages.SecondStage.{SecondStage}
+use Rattle.iom_device_dir.specs.declared.stages.SecondStage.TheVariants as second
 use Rattle.iom_device_dir.specs.Contents.{Content, IsSameContent, KeepsOne}
 use Rattle.iom_device_dir.specs.Located.{located_context}
 use Rattle.iom_tlb.specs.declared.space.Space.TheVariants as space
@@ -32,13 +37,20 @@ abbrev pub context_for : List (List ℕ) → Registers → Content ℕ Context �
 context_for memory r content id = found_context (content id) (located_context memory r.ddtp id)
 
 -- the frame of the address itself, if there is one
-abbrev pub own_page : List (List ℕ) → ℕ → AccessKind → Result ℕ Cause
+abbrev pub own_page : List (List ℕ) → ℕ → AccessKind → Result ℕ WalkFault
 own_page memory address kind =
-    if nat_lt (address / page_size) (length memory) then Ok (address / page_size) else Err (access_fault_of kind)
+    if nat_lt (address / page_size) (length memory) then Ok (address / page_size) else Err (plain (access_fault_of kind))
 
--- the page of a context's address space: there is no second stage yet, and the first is named by the context's PSCID
-abbrev pub key_of : Context → ℕ → Key
-key_of context address = (space.First context.pscid.number, address / page_size)
+-- the page of an address, in the address space that the stages of a context translate: a first stage's is named by PSCID, a second's by GSCID,
+-- that of both by both
+abbrev pub first_key : Context → ℕ → Key
+first_key context address = (space.First context.pscid.number, address / page_size)
+
+abbrev pub second_key : Context → ℕ → Key
+second_key context address = (space.Second context.gscid, address / page_size)
+
+abbrev pub both_key : Context → ℕ → Key
+both_key context address = (space.Both context.gscid context.pscid.number, address / page_size)
 
 -- the frame of a cached translation, where its right allows the access: one with too small a right isn't used
 abbrev pub cached_frame : Option Translation → AccessKind → Option ℕ
@@ -49,41 +61,52 @@ cached_frame (Some translation) kind = if allows translation.rights kind then So
 abbrev pub translation_of : Walked → Translation
 translation_of walked = record { frame = walked.frame; rights = walked.rights }
 
--- the walk from the root reaches this frame, and its translation is kept; or it stops with this cause, and nothing is kept
-abbrev pub Walks : Bool → List (List ℕ) → ℕ → ℕ → AccessKind → Key → Translations → Result ℕ Cause → Translations → Type 0
-Walks sure memory root address kind key old (Ok frame) new =
-    (walked : Walked) × ReachesFirst first_levels memory root address kind walked × (frame ≡ walked.frame)
-    × Keeps sure old key (translation_of walked) new
-Walks sure memory root address kind key old (Err cause) new = StopsAt first_levels memory root address kind cause × Stays old new
+-- the walk reaches this frame, and its translation is kept; or it stops with this fault, and nothing is kept. What it reaches, and with what it stops,
+-- is said of the stages that are walked
+abbrev pub Walks : Bool → (Walked → Type 0) → (WalkFault → Type 0) → Key → Translations → Result ℕ WalkFault → Translations → Type 0
+Walks sure Reaches Stops key old (Ok frame) new =
+    (walked : Walked) × Reaches walked × (frame ≡ walked.frame) × Keeps sure old key (translation_of walked) new
+Walks sure Reaches Stops key old (Err fault) new = Stops fault × Stays old new
 
 -- by the frame of a cached translation, if there is one; else by the walk
-abbrev pub LooksOrWalks : Bool → Option ℕ → List (List ℕ) → ℕ → ℕ → AccessKind → Key → Translations → Result ℕ Cause → Translations → Type 0
-LooksOrWalks sure (Some cached) memory root address kind key old answer new = (answer ≡ Ok cached) × Stays old new
-LooksOrWalks sure None memory root address kind key old answer new = Walks sure memory root address kind key old answer new
+abbrev pub LooksOrWalks : Bool → Option ℕ → (Walked → Type 0) → (WalkFault → Type 0) → Key → Translations → Result ℕ WalkFault → Translations → Type 0
+LooksOrWalks sure (Some cached) Reaches Stops key old answer new = (answer ≡ Ok cached) × Stays old new
+LooksOrWalks sure None Reaches Stops key old answer new = Walks sure Reaches Stops key old answer new
 
--- by a first stage: where it is Bare, the address is that of memory, and nothing is cached
-abbrev pub Translates : Bool → FirstStage → List (List ℕ) → ℕ → AccessKind → Key → Translations → Result ℕ Cause → Translations → Type 0
-Translates sure Bare memory address kind key old answer new = (answer ≡ own_page memory address kind) × Stays old new
-Translates sure (Sv39 root) memory address kind key old answer new =
-    LooksOrWalks sure (cached_frame (old key) kind) memory root.number address kind key old answer new
+-- by the stages of a context: where both are Bare, the address is that of memory, and nothing is cached
+abbrev pub Translates : Bool → FirstStage → SecondStage → Context → List (List ℕ) → ℕ → AccessKind → Translations → Result ℕ WalkFault → Translations → Type 0
+Translates sure Bare second.Bare context memory address kind old answer new = (answer ≡ own_page memory address kind) × Stays old new
+Translates sure (Sv39 root) second.Bare context memory address kind old answer new =
+    LooksOrWalks sure (cached_frame (old (first_key context address)) kind)
+    (ReachesFirst first_levels memory root.number address kind) (StopsFirst first_levels memory root.number address kind)
+    (first_key context address) old answer new
+Translates sure Bare (second.Sv39x4 root) context memory address kind old answer new =
+    LooksOrWalks sure (cached_frame (old (second_key context address)) kind)
+    (ReachesSecond second_levels memory root.number address kind) (StopsSecond second_levels memory root.number address kind)
+    (second_key context address) old answer new
+Translates sure (Sv39 first) (second.Sv39x4 second) context memory address kind old answer new =
+    LooksOrWalks sure (cached_frame (old (both_key context address)) kind)
+    (ReachesBoth first_levels second_levels memory first.number second.number address kind)
+    (StopsBoth first_levels second_levels memory first.number second.number address kind)
+    (both_key context address) old answer new
 
 -- by the context that was found
-abbrev pub ServesBy : Bool → Result Context Cause → List (List ℕ) → ℕ → AccessKind → Translations → Result ℕ Cause → Translations → Type 0
+abbrev pub ServesBy : Bool → Result Context Cause → List (List ℕ) → ℕ → AccessKind → Translations → Result ℕ WalkFault → Translations → Type 0
 ServesBy sure (Ok context) memory address kind old answer new =
-    Translates sure context.first_stage memory address kind (key_of context address) old answer new
-ServesBy sure (Err cause) memory address kind old answer new = (answer ≡ Err cause) × Stays old new
+    Translates sure context.first_stage context.second_stage context memory address kind old answer new
+ServesBy sure (Err cause) memory address kind old answer new = (answer ≡ Err (plain cause)) × Stays old new
 
 -- by ddtp's mode: no transaction is allowed, or none is translated, or each by its context
-abbrev pub ServesIn : Bool → DirectoryMode → Result Context Cause → List (List ℕ) → ℕ → AccessKind → Translations → Result ℕ Cause → Translations → Type 0
-ServesIn sure mode.Off found memory address kind old answer new = (answer ≡ Err AllInboundDisallowed) × Stays old new
+abbrev pub ServesIn : Bool → DirectoryMode → Result Context Cause → List (List ℕ) → ℕ → AccessKind → Translations → Result ℕ WalkFault → Translations → Type 0
+ServesIn sure mode.Off found memory address kind old answer new = (answer ≡ Err (plain AllInboundDisallowed)) × Stays old new
 ServesIn sure mode.Bare found memory address kind old answer new = (answer ≡ own_page memory address kind) × Stays old new
 ServesIn sure mode.OneLevel found memory address kind old answer new = ServesBy sure found memory address kind old answer new
 ServesIn sure mode.TwoLevels found memory address kind old answer new = ServesBy sure found memory address kind old answer new
 ServesIn sure mode.ThreeLevels found memory address kind old answer new = ServesBy sure found memory address kind old answer new
 
--- THE ANSWER to an access of a device, with the translations that are cached before and after: the frame to which it is translated, or the cause
+-- THE ANSWER to an access of a device, with the translations that are cached before and after: the frame to which it is translated, or the fault
 -- for which it isn't. Whether the cache is sure says whether a keep may be refused
-abbrev pub Serves : Bool → List (List ℕ) → Registers → Content ℕ Context → ℕ → ℕ → AccessKind → Translations → Result ℕ Cause → Translations → Type 0
+abbrev pub Serves : Bool → List (List ℕ) → Registers → Content ℕ Context → ℕ → ℕ → AccessKind → Translations → Result ℕ WalkFault → Translations → Type 0
 Serves sure memory r contexts id address kind old answer new =
     ServesIn sure (directory_mode r) (context_for memory r contexts id) memory address kind old answer new
 

@@ -7,7 +7,7 @@ ghost use Rattle.iom_command_queue.specs.Waiting.{commands_in};
 ghost use Rattle.iom_iommu.specs.declared.fetched.Fetched.{Fetched as Answer};
 ghost use Rattle.iom_iommu.specs.declared.iommu.Iommu.{Iommu};
 ghost use Rattle.iom_iommu.specs.Parts.{registers_of};
-ghost use Rattle.iom_iommu.specs.Fetches.{FetchesCommand, AreAlike, store_of, IsStoredIn, IsOffRing};
+ghost use Rattle.iom_iommu.specs.Fetches.{FetchesCommand, AreAlike, store_of, IsStoredIn, IsOffRing, LeavesFaultQueue};
 
 use crate::fetched::Fetched;
 use iom_command_queue::QueueEntry;
@@ -57,11 +57,14 @@ pub fn leaves_frames<C: TransCache>()
         → ((k : ℕ) → ¬ IsStoredIn (store_of command) k → slice_get n k ≡ slice_get m k) × (length n ≡ length m) }
 {}
 
-/// What software set up stays: where the queue lies and ends, whether it is on, and the directory.
+/// What software set up stays: where the queue lies and ends, whether it is on, and the directory; and all registers
+/// of the fault queue.
 pub fn leaves_setup<C: TransCache>()
-    ensures { (m n : List (List ℕ)) (i j : Iommu C C.TransCache) (answer : Answer) → FetchesCommand m i answer n j
+    ensures commands { (m n : List (List ℕ)) (i j : Iommu C C.TransCache) (answer : Answer) → FetchesCommand m i answer n j
         → let old = registers_of i in let new = registers_of j in
         (command_base new ≡ command_base old) × (command_entries new ≡ command_entries old)
         × (command_tail new ≡ command_tail old) × (is_command_queue_on new ≡ is_command_queue_on old)
         × (directory_mode new ≡ directory_mode old) × (directory_root new ≡ directory_root old) }
+    ensures faults { (m n : List (List ℕ)) (i j : Iommu C C.TransCache) (answer : Answer) → FetchesCommand m i answer n j
+        → LeavesFaultQueue (registers_of i) (registers_of j) }
 {}

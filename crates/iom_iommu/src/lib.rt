@@ -2,18 +2,19 @@
 //! and translations, and the requests of devices.
 //!
 //! RISC-V IOMMU Architecture Specification 1.0: section 2.3, "Process to translate an IOVA", section 2.8,
-//! "Caching in-memory data structures", section 3.1, "Command-Queue (CQ)", and chapter 5. The IOMMU knows memory, its registers, the bytes of commands,
-//! contexts and tables, and which devices were added; nothing of who writes memory: no driver, no owner of
-//! a frame. The layers above may rely on one relation for each call: `AnswersRequest` and `CommitsOldest`
+//! "Caching in-memory data structures", section 3.1, "Command-Queue (CQ)", section 3.2, "Fault/Event-Queue
+//! (FQ)", and chapter 5. The IOMMU knows memory, its registers, the bytes of commands, records, contexts and
+//! tables, and which devices were added; nothing of who writes memory: no driver, no owner of a frame. The layers
+//! above may rely on one relation for each call: `AnswersRequest` and `CommitsOldest`
 //! in `specs/Requests.antt`, `FetchesCommand` in `specs/Fetches.antt`. [`laws`] says more of fetches: what
 //! they do to the list of the commands that wait. Software reaches the registers by
 //! [`Mmio`](iom_registers::Mmio), which [`Iommu`] meets.
 //!
 //! A request is translated by the device's context, which is cached when it was found in memory, and goes
-//! when IODIR.INVAL_DDT names it; and by the translation that is cached for its page, or else by a walk,
-//! whose translation is cached and goes when IOTINVAL covers it. The cache of translations may be any that
-//! is lawful ([`TransCache`](iom_tlb::TransCache)). There is no second stage yet, and a fault writes no
-//! record.
+//! when IODIR.INVAL_DDT names it; and by the translation that is cached for its page, or else by a walk of the
+//! context's stages, a first, a second or both, whose translation is cached and goes when IOTINVAL covers it. The
+//! cache of translations may be any that is lawful ([`TransCache`](iom_tlb::TransCache)). A request that faults
+//! puts a record into the fault queue.
 #![tactic(auto)]
 
 mod building;
@@ -22,6 +23,7 @@ mod fetched;
 mod iommu;
 pub mod laws;
 mod reply;
+mod reports;
 mod requests;
 mod service;
 

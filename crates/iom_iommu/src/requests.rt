@@ -11,6 +11,7 @@ ghost use Rattle.iom_iommu.specs.Requests.{access_of, AnswersRequest, CommitsOld
 
 use crate::iommu::Iommu;
 use crate::reply::Reply;
+use crate::reports::report;
 use crate::service::serve;
 use iom_base::{AccessKind, DeviceId, Span};
 use iom_inflight::{InFlight, MadeAt};
@@ -47,21 +48,24 @@ impl<C: TransCache> Iommu<C> {
     /// A device that was added asks for an access of so many bytes at the address: of a write these are the
     /// bytes. Its reply is the first that applies: `BadSpan`, `Busy`, and what becomes of it when it is
     /// translated, `Accepted` with its number among the device's or `Fault`. An access that is accepted is
-    /// in flight until it is made. Memory is only read.
+    /// in flight until it is made. The record of a fault is put into the fault queue; nothing else is written to
+    /// memory.
     pub fn request(
         &mut self,
-        memory: &Memory,
+        memory: &mut Memory,
         device: DeviceId,
         address: u64,
         len: u64,
         kind: AccessKind,
         bytes: &[u8],
     ) -> Reply
-        requires memory { length memory.now ≡ frames_of self.old }
+        requires memory { length memory.old ≡ frames_of self.old }
         requires added { IsAdded self.old device }
         requires count { (flights_of self.old).so_far + 1 < 2 ^ 64 }
         requires carries { CarriesBytes kind len bytes.now }
-        ensures { AnswersRequest memory.now self.old device (access_of address len kind bytes.now) result self.new }
+        ensures answered { AnswersRequest memory.old self.old device
+            (access_of address len kind bytes.now) result memory.new self.new }
+        ensures frames { length memory.new ≡ length memory.old }
     {
         let Some(span) = Span::new(address, len) else {
             return Reply::BadSpan;
@@ -89,7 +93,10 @@ impl<C: TransCache> Iommu<C> {
                 bytes,
                 frame,
             )),
-            Err(cause) => Reply::Fault(cause),
+            Err(fault) => {
+                report(memory, &mut self.registers, device, address, kind, fault);
+                Reply::Fault(fault.cause)
+            }
         }
     }
 

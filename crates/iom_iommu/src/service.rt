@@ -1,53 +1,108 @@
 // A transaction is translated (IOMMU specification, section 2.3, "Process to translate an IOVA").
-ghost use Rattle.std.specs.Prelude.{◌≡◌, ◌≢◌, ◌<◌, ◌/◌, length, IfOk, None};
+ghost use Rattle.std.specs.Prelude.{◌≡◌, ◌≢◌, ◌<◌, ◌/◌, length, IfOk, IfErr, IsSome, None};
 ghost use Rattle.iom_registers.specs.Queues.{directory_mode};
 ghost use Rattle.iom_registers.specs.declared.directory.DirectoryMode.TheVariants.{Off, Bare};
 ghost use Rattle.iom_device_dir.specs.Cached.{cached_contexts};
 ghost use Rattle.iom_device_dir.specs.Located.{located_context};
 ghost use Rattle.iom_base.specs.Sizes.{page_size};
+ghost use Rattle.iom_stage_walk.specs.Both.{plain};
 ghost use Rattle.iom_tlb.specs.Content.{Stays};
 ghost use Rattle.iom_iommu.specs.Cached.{AreTranslationsIn};
-ghost use Rattle.iom_iommu.specs.Service.{own_page, key_of, cached_frame, Walks, Translates, context_for, KeepsLocated, Serves, KeepsContext};
+ghost use Rattle.iom_iommu.specs.Service.{own_page, cached_frame, Walks, Translates, context_for, KeepsLocated, Serves, KeepsContext};
+ghost use Rattle.iom_iommu.specs.Stages.{space_through, ReachesThrough, StopsThrough};
 
 use iom_base::{AccessKind, Cause, DeviceId, PAGE_SIZE};
-use iom_device_dir::{Context, DirCache, FirstStage, locate};
+use iom_device_dir::{Context, DirCache, FirstStage, SecondStage, locate};
 use iom_phys_mem::{Bytes, Memory};
 use iom_registers::{DirectoryMode, DirectoryPointer, Registers};
-use iom_stage_walk::{Walked, walk_first};
+use iom_stage_walk::{WalkFault, Walked, walk_both, walk_first, walk_second};
 use iom_tlb::{Space, TransCache, Translation};
 
+/// A fault that tells no guest physical address.
+fn plain(cause: Cause) -> WalkFault
+    ensures { result ≡ plain cause }
+{
+    WalkFault {
+        cause,
+        gpa: 0,
+        implicit: false,
+    }
+}
+
 /// The frame of the address itself.
-fn own_page(memory: &Memory, address: u64, kind: AccessKind) -> Result<u32, Cause>
+fn own_page(memory: &Memory, address: u64, kind: AccessKind) -> Result<u32, WalkFault>
     ensures value { result ≡ own_page memory.now address kind }
     ensures inside { IfOk result (λ frame. frame < length memory.now) }
 {
     let page = address / PAGE_SIZE;
     if page >= u64::from(memory.frames()) {
-        return Err(Cause::access_fault(kind));
+        return Err(plain(Cause::access_fault(kind)));
     }
     Ok(page as u32)
 }
 
-/// The frame that the walk from the root reaches. Its translation is kept for the page of the address space; where
-/// the walk stops, nothing is.
-fn walk<C: TransCache>(
+/// The address space that the stages of the context translate. None where both are Bare.
+fn space_of(context: &Context) -> Option<Space>
+    ensures { result ≡ space_through context.now.first_stage context.now.second_stage context.now }
+{
+    let pscid = context.pscid.number();
+    let gscid = context.gscid;
+    match (context.first_stage, context.second_stage) {
+        (FirstStage::Bare, SecondStage::Bare) => None,
+        (FirstStage::Sv39(_), SecondStage::Bare) => Some(Space::First { pscid }),
+        (FirstStage::Bare, SecondStage::Sv39x4(_)) => Some(Space::Second { gscid }),
+        (FirstStage::Sv39(_), SecondStage::Sv39x4(_)) => Some(Space::Both { gscid, pscid }),
+    }
+}
+
+/// Where the walk of the context's stages ends. One of them at least isn't Bare.
+fn walk(
     memory: &Memory,
-    root: u64,
+    context: &Context,
+    address: u64,
+    kind: AccessKind,
+) -> Result<Walked, WalkFault>
+    requires { IsSome (space_through context.now.first_stage context.now.second_stage context.now) }
+    ensures reached { IfOk result (ReachesThrough context.now.first_stage context.now.second_stage memory.now address kind) }
+    ensures stopped { IfErr result (StopsThrough context.now.first_stage context.now.second_stage memory.now address kind) }
+{
+    match (context.first_stage, context.second_stage) {
+        (FirstStage::Bare, SecondStage::Bare) => unreachable!(),
+        (FirstStage::Sv39(root), SecondStage::Bare) => {
+            walk_first(memory, root.number(), address, kind)
+        }
+        (FirstStage::Bare, SecondStage::Sv39x4(root)) => {
+            walk_second(memory, root.number(), address, kind)
+        }
+        (FirstStage::Sv39(first), SecondStage::Sv39x4(second)) => {
+            walk_both(memory, first, second.number(), address, kind)
+        }
+    }
+}
+
+/// The frame that the walk reaches. Its translation is kept for the page of the address space; where the walk stops,
+/// nothing is.
+fn walk_and_keep<C: TransCache>(
+    memory: &Memory,
+    context: &Context,
     address: u64,
     kind: AccessKind,
     space: Space,
     translations: &mut C,
-) -> Result<u32, Cause>
-    ensures walked { Walks C.SURE memory.now root address kind (space, address / page_size)
-        (C.content translations.old) result (C.content translations.new) }
+) -> Result<u32, WalkFault>
+    requires { IsSome (space_through context.now.first_stage context.now.second_stage context.now) }
+    ensures walked { Walks C.SURE
+        (ReachesThrough context.now.first_stage context.now.second_stage memory.now address kind)
+        (StopsThrough context.now.first_stage context.now.second_stage memory.now address kind)
+        (space, address / page_size) (C.content translations.old) result (C.content translations.new) }
     ensures inside { IfOk result (λ frame. frame < length memory.now) }
 {
-    match walk_first(memory, root, address, kind) {
+    match walk(memory, context, address, kind) {
         Ok(Walked { frame, rights, .. }) => {
             translations.keep(space, address / PAGE_SIZE, Translation { frame, rights });
             Ok(frame)
         }
-        Err(fault) => Err(fault.cause),
+        Err(fault) => Err(fault),
     }
 }
 
@@ -69,30 +124,25 @@ fn find_cached<C: TransCache>(
     }
 }
 
-/// The frame to which the first stage of the context leads.
+/// The frame to which the stages of the context lead.
 fn translate<C: TransCache>(
     memory: &Memory,
     context: &Context,
     address: u64,
     kind: AccessKind,
     translations: &mut C,
-) -> Result<u32, Cause>
+) -> Result<u32, WalkFault>
     requires { AreTranslationsIn (length memory.now) (C.content translations.old) }
-    ensures translated { Translates C.SURE context.now.first_stage memory.now address kind
-        (key_of context.now address) (C.content translations.old) result (C.content translations.new) }
+    ensures translated { Translates C.SURE context.now.first_stage context.now.second_stage context.now memory.now
+        address kind (C.content translations.old) result (C.content translations.new) }
     ensures inside { IfOk result (λ frame. frame < length memory.now) }
 {
-    let space = Space::First {
-        pscid: context.pscid.number(),
+    let Some(space) = space_of(context) else {
+        return own_page(memory, address, kind);
     };
-    match context.first_stage {
-        FirstStage::Bare => own_page(memory, address, kind),
-        FirstStage::Sv39(root) => {
-            match find_cached(translations, space, address / PAGE_SIZE, kind) {
-                Some(frame) => Ok(frame),
-                None => walk(memory, root.number(), address, kind, space, translations),
-            }
-        }
+    match find_cached(translations, space, address / PAGE_SIZE, kind) {
+        Some(frame) => Ok(frame),
+        None => walk_and_keep(memory, context, address, kind, space, translations),
     }
 }
 
@@ -144,7 +194,7 @@ pub(crate) fn serve<C: TransCache>(
     device: DeviceId,
     address: u64,
     kind: AccessKind,
-) -> Result<u32, Cause>
+) -> Result<u32, WalkFault>
     requires { AreTranslationsIn (length memory.now) (C.content translations.old) }
     ensures served { Serves C.SURE memory.now registers.now (cached_contexts contexts.old) device address kind
         (C.content translations.old) result (C.content translations.new) }
@@ -152,11 +202,13 @@ pub(crate) fn serve<C: TransCache>(
     ensures inside { IfOk result (λ frame. frame < length memory.now) }
 {
     match registers.directory_mode() {
-        DirectoryMode::Off => Err(Cause::AllInboundDisallowed),
+        DirectoryMode::Off => Err(plain(Cause::AllInboundDisallowed)),
         DirectoryMode::Bare => own_page(memory, address, kind),
         DirectoryMode::OneLevel | DirectoryMode::TwoLevels | DirectoryMode::ThreeLevels => {
-            let context = find_context(memory, registers, contexts, device)?;
-            translate(memory, &context, address, kind, translations)
+            match find_context(memory, registers, contexts, device) {
+                Ok(context) => translate(memory, &context, address, kind, translations),
+                Err(cause) => Err(plain(cause)),
+            }
         }
     }
 }

@@ -81,7 +81,7 @@ fn answers(
     put(rt, &mut memory, 0, word, 0);
     write(rt, &mut iommu, CQT, 1);
     write(rt, &mut iommu, DDTP, 1);
-    let reply = ask(rt, &mut iommu, &memory, DEVICE, 0x3000, bytes);
+    let reply = ask(rt, &mut iommu, &mut memory, DEVICE, 0x3000, bytes);
     assert_eq!(rt; reply, Reply::Accepted(1));
     assert_eq!(rt; fetch(rt, &mut iommu, &mut memory), wanted);
     Ok(())

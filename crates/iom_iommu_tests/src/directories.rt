@@ -1,4 +1,4 @@
-use crate::setup::{BASE_VALUE, DDTP, turned_on, write};
+use crate::setup::{BASE_VALUE, DDTP, FRAMES, turned_on, write};
 use iom_iommu::Iommu;
 use iom_phys_mem::{Bytes, Memory};
 use iom_tlb::Ioatc;
@@ -32,13 +32,18 @@ const WORDS: [(u64, u64); 9] = [
     (0x34000, 0x4001),
 ];
 
-/// A memory with the directories.
-pub(crate) fn directories(alloc: Global) -> Result<Memory, Fail> {
-    let mut memory = Memory::new(alloc, 64)?;
-    for (address, word) in WORDS.iter() {
+/// A memory with these words at these addresses.
+pub(crate) fn memory_with(alloc: Global, words: &[(u64, u64)]) -> Result<Memory, Fail> {
+    let mut memory = Memory::new(alloc, FRAMES)?;
+    for (address, word) in words.iter() {
         memory.store_u64(*address, *word).ok_or("in memory")?;
     }
     Ok(memory)
+}
+
+/// A memory with the directories.
+pub(crate) fn directories(alloc: Global) -> Result<Memory, Fail> {
+    memory_with(alloc, &WORDS)
 }
 
 /// An IOMMU whose command queue is on and whose `ddtp` is written.

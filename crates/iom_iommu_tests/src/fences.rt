@@ -12,7 +12,7 @@ use std::test::Fail;
 fn a_fence_raises_an_interrupt(rt: HostRuntime) -> Result<(), Fail> {
     let mut memory = Memory::new(rt.alloc(), 64)?;
     let mut iommu = turned_on(&rt, rt.alloc(), BASE_VALUE)?;
-    put_in_flight(&rt, &mut iommu, &memory);
+    put_in_flight(&rt, &mut iommu, &mut memory);
     put(&rt, &mut memory, 0, 0x802, 0);
     put(&rt, &mut memory, 1, 2, 0);
     write(&rt, &mut iommu, CQT, 2);
@@ -82,7 +82,7 @@ fn a_fence_waits_for_accesses(rt: HostRuntime) -> Result<(), Fail> {
             0x0000_0007_0000_0402 + (bits << 12),
             0x1400,
         );
-        put_in_flight(&rt, &mut iommu, &memory);
+        put_in_flight(&rt, &mut iommu, &mut memory);
         write(&rt, &mut iommu, CQT, 1);
         let did = Fetched::Did(fence(bits).ok_or("a multiple of 4")?);
         if bits == 1 || bits == 3 {
@@ -110,7 +110,7 @@ fn waiting_comes_before_storing(rt: HostRuntime) -> Result<(), Fail> {
     let mut memory = Memory::new(rt.alloc(), 64)?;
     let mut iommu = turned_on(&rt, rt.alloc(), BASE_VALUE)?;
     put(&rt, &mut memory, 0, 0x0000_0001_0000_1402, 0x1_0000);
-    put_in_flight(&rt, &mut iommu, &memory);
+    put_in_flight(&rt, &mut iommu, &mut memory);
     write(&rt, &mut iommu, CQT, 1);
     assert_eq!(rt; fetch(&rt, &mut iommu, &mut memory), Fetched::Waiting);
     assert_eq!(rt; read(&rt, &iommu, CQCSR), 0x0001_0003);

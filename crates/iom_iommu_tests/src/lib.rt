@@ -13,11 +13,15 @@ mod directories;
 #[cfg(test)]
 mod fences;
 #[cfg(test)]
+mod records;
+#[cfg(test)]
 mod requests;
 #[cfg(test)]
 mod rings;
 #[cfg(test)]
 mod setup;
+#[cfg(test)]
+mod stages;
 #[cfg(test)]
 mod stops;
 #[cfg(test)]

@@ -11,9 +11,9 @@ use std::test::Fail;
 fn serves(rt: &impl Abort, alloc: Global, ddtp: u64) -> Result<(), Fail> {
     let mut memory = directories(alloc)?;
     let mut iommu = with_directory(rt, alloc, ddtp)?;
-    let read = ask(rt, &mut iommu, &memory, DEVICE, 0x3010, b"");
+    let read = ask(rt, &mut iommu, &mut memory, DEVICE, 0x3010, b"");
     assert_eq!(rt; read, Reply::Accepted(1));
-    let written = ask(rt, &mut iommu, &memory, DEVICE, 0x3018, b"\xaa\xbb");
+    let written = ask(rt, &mut iommu, &mut memory, DEVICE, 0x3018, b"\xaa\xbb");
     assert_eq!(rt; written, Reply::Accepted(2));
     let made = commit(rt, &mut iommu, &mut memory).ok_or("a read")?;
     assert_eq!(rt;
@@ -49,7 +49,7 @@ fn answer(
     let mut memory = directories(alloc)?;
     memory.store_u64(address, word).ok_or("in memory")?;
     let mut iommu = with_directory(rt, alloc, ddtp)?;
-    Ok(ask(rt, &mut iommu, &memory, DEVICE, 0x3010, b""))
+    Ok(ask(rt, &mut iommu, &mut memory, DEVICE, 0x3010, b""))
 }
 
 /// It is refused with this cause.
@@ -114,15 +114,15 @@ fn causes(rt: HostRuntime) -> Result<(), Fail> {
 // Without translation the address is that of memory, of which there are 64 frames.
 #[test]
 fn edges(rt: HostRuntime) -> Result<(), Fail> {
-    let memory = directories(rt.alloc())?;
+    let mut memory = directories(rt.alloc())?;
     let mut iommu = with_directory(&rt, rt.alloc(), 1)?;
-    let last = ask(&rt, &mut iommu, &memory, DEVICE, 0x3_ffff, b"");
+    let last = ask(&rt, &mut iommu, &mut memory, DEVICE, 0x3_ffff, b"");
     assert_eq!(rt; last, Reply::Accepted(1));
-    let read = ask(&rt, &mut iommu, &memory, DEVICE, 0x4_0000, b"");
+    let read = ask(&rt, &mut iommu, &mut memory, DEVICE, 0x4_0000, b"");
     assert_eq!(rt; read, Reply::Fault(Cause::ReadAccessFault));
-    let written = ask(&rt, &mut iommu, &memory, DEVICE, 0x4_0000, b"\xaa");
+    let written = ask(&rt, &mut iommu, &mut memory, DEVICE, 0x4_0000, b"\xaa");
     assert_eq!(rt; written, Reply::Fault(Cause::WriteAccessFault));
-    let leaves = ask(&rt, &mut iommu, &memory, DEVICE, 0x3fff, b"\xaa\xbb");
+    let leaves = ask(&rt, &mut iommu, &mut memory, DEVICE, 0x3fff, b"\xaa\xbb");
     assert_eq!(rt; leaves, Reply::BadSpan);
     Ok(())
 }
@@ -130,10 +130,10 @@ fn edges(rt: HostRuntime) -> Result<(), Fail> {
 // An id of 8 bits is too wide for a directory of one level.
 #[test]
 fn a_wide_id(rt: HostRuntime) -> Result<(), Fail> {
-    let memory = directories(rt.alloc())?;
+    let mut memory = directories(rt.alloc())?;
     let mut iommu = with_directory(&rt, rt.alloc(), ONE_LEVEL)?;
     assert!(rt; iommu.add(128));
-    let wide = ask(&rt, &mut iommu, &memory, 128, 0x3010, b"");
+    let wide = ask(&rt, &mut iommu, &mut memory, 128, 0x3010, b"");
     assert_eq!(rt; wide, Reply::Fault(Cause::TransactionTypeDisallowed));
     Ok(())
 }
@@ -151,16 +151,16 @@ fn a_context_is_cached(rt: HostRuntime) -> Result<(), Fail> {
     put(&rt, &mut memory, 0, invalidate(4), 0);
     put(&rt, &mut memory, 1, invalidate(5), 0);
     write(&rt, &mut iommu, CQT, 2);
-    let first = ask(&rt, &mut iommu, &memory, DEVICE, 0x3010, b"");
+    let first = ask(&rt, &mut iommu, &mut memory, DEVICE, 0x3010, b"");
     assert_eq!(rt; first, Reply::Accepted(1));
     memory.store_u64(CONTEXT, 0).ok_or("in memory")?;
-    let cached = ask(&rt, &mut iommu, &memory, DEVICE, 0x3010, b"");
+    let cached = ask(&rt, &mut iommu, &mut memory, DEVICE, 0x3010, b"");
     assert_eq!(rt; cached, Reply::Accepted(2));
     fetch(&rt, &mut iommu, &mut memory);
-    let still = ask(&rt, &mut iommu, &memory, DEVICE, 0x3010, b"");
+    let still = ask(&rt, &mut iommu, &mut memory, DEVICE, 0x3010, b"");
     assert_eq!(rt; still, Reply::Accepted(3));
     fetch(&rt, &mut iommu, &mut memory);
-    let dropped = ask(&rt, &mut iommu, &memory, DEVICE, 0x3010, b"");
+    let dropped = ask(&rt, &mut iommu, &mut memory, DEVICE, 0x3010, b"");
     assert_eq!(rt; dropped, Reply::Fault(Cause::DirectoryEntryNotValid));
     Ok(())
 }

@@ -16,7 +16,15 @@ pub(crate) const CQH: u64 = 32;
 
 pub(crate) const CQT: u64 = 36;
 
+pub(crate) const FQB: u64 = 40;
+
+pub(crate) const FQH: u64 = 48;
+
+pub(crate) const FQT: u64 = 52;
+
 pub(crate) const CQCSR: u64 = 72;
+
+pub(crate) const FQCSR: u64 = 76;
 
 pub(crate) const IPSR: u64 = 84;
 
@@ -34,21 +42,21 @@ pub(crate) const DEVICE: u32 = 5;
 
 /// The width of the register at an offset.
 fn width_at(offset: u64) -> u32 {
-    if offset == CQB || offset == DDTP {
+    if offset == CQB || offset == DDTP || offset == FQB {
         8
     } else {
         4
     }
 }
 
-/// Software reads a register of the command queue.
+/// Software reads a register.
 pub(crate) fn read(rt: &impl Abort, iommu: &Iommu<Ioatc>, offset: u64) -> u64 {
     let value = iommu.read(offset, width_at(offset));
     assert!(rt; value.is_ok());
     value.unwrap_or(0)
 }
 
-/// Software writes a register of the command queue.
+/// Software writes a register.
 pub(crate) fn write(rt: &impl Abort, iommu: &mut Iommu<Ioatc>, offset: u64, value: u64) {
     assert_eq!(rt; iommu.write(offset, width_at(offset), value), Ok(()));
 }
@@ -83,7 +91,7 @@ pub(crate) fn fetch(rt: &impl Abort, iommu: &mut Iommu<Ioatc>, memory: &mut Memo
 pub(crate) fn ask(
     rt: &impl Abort,
     iommu: &mut Iommu<Ioatc>,
-    memory: &Memory,
+    memory: &mut Memory,
     device: u32,
     address: u64,
     bytes: &[u8],
@@ -116,7 +124,7 @@ pub(crate) fn commit(
 }
 
 /// A read of the device is in flight, without translation.
-pub(crate) fn put_in_flight(rt: &impl Abort, iommu: &mut Iommu<Ioatc>, memory: &Memory) {
+pub(crate) fn put_in_flight(rt: &impl Abort, iommu: &mut Iommu<Ioatc>, memory: &mut Memory) {
     write(rt, iommu, DDTP, 1);
     let reply = ask(rt, iommu, memory, DEVICE, 0x3000, &[]);
     assert_eq!(rt; reply, Reply::Accepted(1));

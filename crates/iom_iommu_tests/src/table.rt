@@ -142,7 +142,7 @@ fn other_commands_are_done_in_order(rt: HostRuntime) -> Result<(), Fail> {
     let mut memory = Memory::new(rt.alloc(), 64)?;
     let mut iommu = turned_on(&rt, rt.alloc(), BASE_VALUE)?;
     let others = others().ok_or("fields that fit")?;
-    put_in_flight(&rt, &mut iommu, &memory);
+    put_in_flight(&rt, &mut iommu, &mut memory);
     for (index, (first, second, _)) in others.iter().enumerate() {
         put(&rt, &mut memory, index as u32, *first, *second);
     }

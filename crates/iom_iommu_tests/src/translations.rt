@@ -95,7 +95,7 @@ fn a_write_needs_its_right(rt: HostRuntime) -> Result<(), Fail> {
         memory.store_u64(LEAF, leaf).ok_or("in memory")?;
         let mut iommu = with_directory(&rt, rt.alloc(), ONE_LEVEL)?;
         assert_eq!(rt; frame(&rt, &mut iommu, &mut memory, b"")?, 32);
-        let refused = ask(&rt, &mut iommu, &memory, DEVICE, 0x3010, b"\xaa");
+        let refused = ask(&rt, &mut iommu, &mut memory, DEVICE, 0x3010, b"\xaa");
         assert_eq!(rt; refused, Reply::Fault(Cause::WritePageFault));
         memory.store_u64(LEAF, MOVED).ok_or("in memory")?;
         assert_eq!(rt; frame(&rt, &mut iommu, &mut memory, b"")?, 32);
@@ -111,7 +111,7 @@ fn a_fault_is_not_cached(rt: HostRuntime) -> Result<(), Fail> {
     let mut memory = directories(rt.alloc())?;
     memory.store_u64(LEAF, 0).ok_or("in memory")?;
     let mut iommu = with_directory(&rt, rt.alloc(), ONE_LEVEL)?;
-    let refused = ask(&rt, &mut iommu, &memory, DEVICE, 0x3010, b"");
+    let refused = ask(&rt, &mut iommu, &mut memory, DEVICE, 0x3010, b"");
     assert_eq!(rt; refused, Reply::Fault(Cause::ReadPageFault));
     memory.store_u64(LEAF, WRITABLE).ok_or("in memory")?;
     assert_eq!(rt; frame(&rt, &mut iommu, &mut memory, b"")?, 32);

@@ -1,6 +1,15 @@
-use iom_base::{AccessKind, DeviceId};
+use iom_base::{AccessKind, Cause, DeviceId};
 use iom_phys_mem::{Bytes, Memory};
-use iom_stage_walk::WalkFault;
+
+/// What is told of a fault: its cause, and the fourth word of its record (IOMMU specification, section 3.2).
+#[derive(Clone, Copy, PartialEq, Eq, Debug)]
+pub(crate) struct Told {
+    pub(crate) cause: Cause,
+    pub(crate) iotval2: u64,
+}
+
+/// Where the access of a case leads: to this address of memory, or to a fault.
+pub(crate) type Answer = Result<u64, Told>;
 
 /// A translation, and the answer that is wanted.
 #[derive(Clone, Copy)]
@@ -29,17 +38,11 @@ fn kind_of(letter: &str) -> Option<AccessKind> {
     }
 }
 
-/// The fourth word of a fault's record (IOMMU specification, section 3.2): bits 63:2 of the guest physical address,
-/// and bit 0 set where a walk's own read failed.
-fn iotval2(fault: WalkFault) -> u64 {
-    fault.gpa / 4 * 4 + u64::from(fault.implicit)
-}
-
 /// Whether the fault is that of `C iotval2 Y`; None where the text has another form.
-fn is_fault(fault: WalkFault, text: &str) -> Option<bool> {
+fn is_fault(told: Told, text: &str) -> Option<bool> {
     let (code, word) = text.split_once(" iotval2 ")?;
     let code = u16::from_str_radix(code, 10).ok()?;
-    Some(code == fault.cause.code() && hex(word)? == iotval2(fault))
+    Some(code == told.cause.code() && hex(word)? == told.iotval2)
 }
 
 /// The case of a line; None where it isn't one.
@@ -71,14 +74,14 @@ pub(crate) fn store_words(memory: &mut Memory, case: Case<'_>, clear: bool) -> O
 }
 
 /// Whether this is what is wanted: `at X`, or `cause C iotval2 Y`.
-pub(crate) fn is_wanted(answer: Result<u64, WalkFault>, case: Case<'_>) -> bool {
+pub(crate) fn is_wanted(answer: Answer, case: Case<'_>) -> bool {
     match answer {
         Ok(place) => match case.want.strip_prefix("at ") {
             Some(wanted) => hex(wanted) == Some(place),
             None => false,
         },
-        Err(fault) => match case.want.strip_prefix("cause ") {
-            Some(text) => is_fault(fault, text) == Some(true),
+        Err(told) => match case.want.strip_prefix("cause ") {
+            Some(text) => is_fault(told, text) == Some(true),
             None => false,
         },
     }

@@ -1,7 +1,7 @@
 //! Runs translations that independent implementations confirmed, an emulated processor's page walk and an
 //! emulated RISC-V IOMMU, and prints how many agree: with the walks of [`iom_stage_walk`], from the root tables
-//! that the device's context names, which [`iom_device_dir::locate`] finds; and where there is a first stage alone
-//! with [`iom_iommu::Iommu::request`] too, where the device asks for one byte.
+//! that the device's context names, which [`iom_device_dir::locate`] finds; and with
+//! [`iom_iommu::Iommu::request`], where the device asks for one byte, and a fault is told by its record.
 //!
 //! `data/first.tsv` is about first-stage tables, `data/directory.tsv` about directories and contexts,
 //! `data/second.tsv` and `data/both.tsv` about a second stage and both, and so is `data/random.tsv`, with tables
@@ -11,27 +11,22 @@
 #![tactic(auto)]
 
 mod case;
-mod first_stage;
-mod two_stages;
+mod requests;
+mod walks;
 
-use crate::case::{Case, is_wanted, parse, store_words};
+use crate::case::{Answer, is_wanted, parse, store_words};
 use iom_phys_mem::Memory;
-use iom_stage_walk::WalkFault;
 use std::alloc::Global;
 use std::fs;
 
 /// What answers the cases of a file.
 #[derive(Clone, Copy)]
 enum By {
-    /// A walk of a first stage.
     Walk,
-    /// A request.
     Request,
-    /// A walk of a second stage, or of both.
-    WalkOfTwo,
 }
 
-/// How the cases went.
+/// How cases went.
 #[derive(Clone, Copy)]
 struct Tally {
     agreed: u32,
@@ -40,6 +35,14 @@ struct Tally {
 }
 
 impl Tally {
+    fn new() -> Tally {
+        Tally {
+            agreed: 0,
+            differed: 0,
+            unread: 0,
+        }
+    }
+
     fn count(&mut self, agrees: Option<bool>) {
         let counter = match agrees {
             Some(true) => &mut self.agreed,
@@ -48,60 +51,61 @@ impl Tally {
         };
         *counter = counter.saturating_add(1);
     }
-}
 
-fn answer(
-    alloc: Global,
-    memory: &Memory,
-    case: Case<'_>,
-    by: By,
-) -> Option<Result<u64, WalkFault>> {
-    match by {
-        By::Walk => first_stage::walked(memory, case),
-        By::Request => first_stage::requested(alloc, memory, case),
-        By::WalkOfTwo => two_stages::walked(memory, case),
+    fn add(&mut self, more: Tally) {
+        self.agreed = self.agreed.saturating_add(more.agreed);
+        self.differed = self.differed.saturating_add(more.differed);
+        self.unread = self.unread.saturating_add(more.unread);
     }
 }
 
-/// Whether the case of the line agrees; None where the program can't read it. Leaves the memory zero.
+/// Whether the case of the line agrees; None where the program can't read it. Leaves the tables' words zero.
 fn run(alloc: Global, memory: &mut Memory, line: &str, by: By) -> Option<bool> {
     let case = parse(line)?;
     store_words(memory, case, false)?;
-    let answer = answer(alloc, memory, case, by);
+    let answer: Option<Answer> = match by {
+        By::Walk => Some(walks::walked(memory, case)),
+        By::Request => requests::requested(alloc, memory, case),
+    };
     store_words(memory, case, true)?;
     Some(is_wanted(answer?, case))
 }
 
 /// How the cases of the lines go, but for the first line.
 fn tally_of(alloc: Global, memory: &mut Memory, text: &str, by: By) -> Tally {
-    let mut tally = Tally {
-        agreed: 0,
-        differed: 0,
-        unread: 0,
-    };
+    let mut tally = Tally::new();
     for line in text.lines().skip(1) {
         tally.count(run(alloc, memory, line, by));
     }
     tally
 }
 
+/// Prints how they went.
+fn print(rt: &HostRuntime, name: &str, by: &str, tally: Tally) -> anyhow::Result<()> {
+    println!(rt;
+        "{name}, {by}: {} agree, {} differ, {} not read",
+        tally.agreed, tally.differed, tally.unread
+    )?;
+    Ok(())
+}
+
 fn main(rt: HostRuntime) -> anyhow::Result<()> {
     let mut memory = Memory::new(rt.alloc(), 2048)?;
-    for (name, file, by) in [
-        ("first stage", "first.tsv", By::Walk),
-        ("first stage, as requests", "first.tsv", By::Request),
-        ("directory", "directory.tsv", By::Walk),
-        ("directory, as requests", "directory.tsv", By::Request),
-        ("second stage", "second.tsv", By::WalkOfTwo),
-        ("both stages", "both.tsv", By::WalkOfTwo),
-        ("random", "random.tsv", By::WalkOfTwo),
-    ] {
-        let text = fs::read_to_string(&rt, file)?;
-        let tally = tally_of(rt.alloc(), &mut memory, text.as_str(), by);
-        println!(rt;
-            "{name}: {} agree, {} differ, {} not read",
-            tally.agreed, tally.differed, tally.unread
-        )?;
+    for (by, words) in [(By::Walk, "by walks"), (By::Request, "by requests")] {
+        let mut all = Tally::new();
+        for (name, file) in [
+            ("first stage", "first.tsv"),
+            ("directory", "directory.tsv"),
+            ("second stage", "second.tsv"),
+            ("both stages", "both.tsv"),
+            ("random", "random.tsv"),
+        ] {
+            let text = fs::read_to_string(&rt, file)?;
+            let tally = tally_of(rt.alloc(), &mut memory, text.as_str(), by);
+            print(&rt, name, words, tally)?;
+            all.add(tally);
+        }
+        print(&rt, "all", words, all)?;
     }
     Ok(())
 }

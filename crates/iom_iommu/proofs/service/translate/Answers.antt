@@ -1,13 +1,19 @@
 -- Where no cached frame serves, the walk decides.
-use Rattle.std.proofs.Common.{ap, ◌/◌}
-use Rattle.iom_tlb.specs.declared.space.Space.TheVariants as space
-use Rattle.iom_iommu.specs.Service.{key_of}
-use Rattle.iom_iommu.proofs.CachedLemmas.{walks_where_none}
+use Rattle.std.proofs.Common.{◌∙◌, ◌/◌, sym}
+use Rattle.iom_iommu.specs.Stages.{ReachesThrough, StopsThrough}
+use Rattle.iom_iommu.proofs.StageLemmas.{walked, through}
 use Rattle.iom_iommu.proofs.service.translate.Goals as goal
 
 pub returns-in-None-clause-translated : goal.returns-in-None-clause-translated
 returns-in-None-clause-translated g c =
-    walks_where_none g.C.TransCache.SURE c.args.context.now.first_stage c.in-Sv39.root c.number-in-None.result c.args.memory.now c.args.address c.args.kind
-    (key_of c.args.context.now c.args.address) (space.First c.number.result, c.args.address / 4096) c.find_cached.result (g.C.TransCache.content c.args.translations.now)
-    (g.C.TransCache.content c.find_cached.new.translations) c.walk.result (g.C.TransCache.content c.walk.new.translations) c.in-Sv39.is c.number-in-None.ensures.value (ap (λ n. (space.First n, c.args.address / 4096)) c.number.ensures.value)
-    c.find_cached.ensures.found c.in-None.is c.find_cached.ensures.stays c.walk.ensures.walked
+    let sure = g.C.TransCache.SURE in
+    let context = c.args.context.now in
+    let memory = c.args.memory.now in
+    let old = g.C.TransCache.content c.args.translations.now in
+    let new = g.C.TransCache.content c.walk_and_keep.new.translations in
+    through sure context memory c.args.address c.args.kind old c.walk_and_keep.result new context.first_stage context.second_stage c.in-Some.space
+    (sym c.space_of.ensures ∙ c.in-Some.is)
+    (walked sure (ReachesThrough context.first_stage context.second_stage memory c.args.address c.args.kind)
+    (StopsThrough context.first_stage context.second_stage memory c.args.address c.args.kind) c.args.kind (c.in-Some.space, c.args.address / 4096) old c.find_cached.result
+    c.find_cached.ensures.found (g.C.TransCache.content c.find_cached.new.translations) new c.walk_and_keep.result c.in-None.is c.find_cached.ensures.stays
+    c.walk_and_keep.ensures.walked)

@@ -17,8 +17,8 @@ invariant_of-self g c = record {
       (subst (λ n. IfOk c.serve.result (λ frame. frame < n)) c.requires.memory c.serve.ensures.inside) c.serve.ensures.served;
 }
 
-pub invariant_of-self-in-Err-1 : goal.invariant_of-self-in-Err-1
-invariant_of-self-in-Err-1 g c = record {
+pub invariant_of-self-in-Err : goal.invariant_of-self-in-Err
+invariant_of-self-in-Err g c = record {
   inside = c.args.self.now.inside;
   cached = serve_inside c.args.self.now.frames g.C.TransCache.SURE c.args.memory.now c.args.self.now.registers (cached_contexts c.args.self.now.contexts) c.args.device c.args.address
       c.args.kind (g.C.TransCache.content c.args.self.now.translations) c.serve.result (g.C.TransCache.content c.serve.new.translations) c.args.self.now.cached

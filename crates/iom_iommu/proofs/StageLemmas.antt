@@ -1,0 +1,108 @@
+-- A look in the cache and a walk of a context's stages, put together
+use Rattle.std.proofs.Common.{◌≡◌, ◌/◌, ◌<◌, ℕ, Bool, List, length, Option, Some, None, Result, Ok, Err, IfOk, IfErr, refl, sym, ◌∙◌, subst}
+use Rattle.std.specs.Prelude.{◌↔◌}
+use Rattle.iom_base.specs.declared.access.AccessKind.{AccessKind}
+use Rattle.iom_base.specs.declared.ppn.Ppn.{Ppn}
+use Rattle.iom_stage_walk.specs.declared.walked.Walked.{Walked}
+use Rattle.iom_stage_walk.specs.declared.walked.WalkFault.{WalkFault}
+use Rattle.iom_stage_walk.specs.Paths.{first_levels, ReachesFirst, StopsFirst}
+use Rattle.iom_stage_walk.specs.Second.{second_levels, ReachesSecond, StopsSecond}
+use Rattle.iom_stage_walk.specs.Both.{ReachesBoth, StopsBoth}
+use Rattle.iom_device_dir.specs.declared.context.Context.{Context}
+use Rattle.iom_device_dir.specs.declared.stages.FirstStage.{FirstStage}
+use Rattle.iom_device_dir.specs.declared.stages.FirstStage.TheVariants.{Bare, Sv39}
+use Rattle.iom_device_dir.specs.declared.stages.SecondStage.{SecondStage}
+use Rattle.iom_device_dir.specs.declared.stages.SecondStage.TheVariants as second
+use Rattle.iom_device_dir.specs.declared.values.GuestRoot.{GuestRoot}
+use Rattle.iom_tlb.specs.declared.space.Space.{Space}
+use Rattle.iom_tlb.specs.declared.space.Space.TheVariants as space
+use Rattle.iom_tlb.specs.Content.{Key, Content, Stays}
+use Rattle.iom_iommu.specs.Service.{own_page, cached_frame, Walks, LooksOrWalks, Translates}
+use Rattle.iom_iommu.specs.Stages.{space_through, ReachesThrough, StopsThrough}
+
+-- what a walk reaches lies in memory
+pub reached_inside : (first_stage : FirstStage) (second_stage : SecondStage) (memory : List (List ℕ)) (address : ℕ) (kind : AccessKind) (walked : Walked)
+    → ReachesThrough first_stage second_stage memory address kind walked → walked.frame < length memory
+reached_inside Bare second.Bare memory address kind walked reached = absurd reached
+reached_inside (Sv39 root) second.Bare memory address kind walked reached = reached.inside
+reached_inside Bare (second.Sv39x4 root) memory address kind walked reached = reached.leads.inside
+reached_inside (Sv39 first) (second.Sv39x4 second) memory address kind walked reached = reached.leads.inside
+
+-- an answer of which each is exactly so is so
+ok_of : {A E : Type 0} (P : A → Type 0) (result : Result A E) → ((a : A) → (result ≡ Ok a) ↔ P a) → IfOk result P
+ok_of P (Ok a) exactly = (exactly a).0 refl
+ok_of P (Err e) exactly = tt
+
+err_of : {A E : Type 0} (P : E → Type 0) (result : Result A E) → ((e : E) → (result ≡ Err e) ↔ P e) → IfErr result P
+err_of P (Ok a) exactly = tt
+err_of P (Err e) exactly = (exactly e).0 refl
+
+-- THE WALK of a context's stages ends where that of the stages that aren't Bare does
+module _ (memory : List (List ℕ)) (address : ℕ) (kind : AccessKind) (first_stage : FirstStage) (second_stage : SecondStage) (result : Result Walked WalkFault) where
+  abbrev EndsThrough : Type 0
+  EndsThrough =
+      IfOk result (ReachesThrough first_stage second_stage memory address kind)
+      × IfErr result (StopsThrough first_stage second_stage memory address kind)
+
+  pub walks_first : (root : Ppn) (number : ℕ) → first_stage ≡ Sv39 root → second_stage ≡ second.Bare → number ≡ root.number
+      → ((walked : Walked) → (result ≡ Ok walked) ↔ ReachesFirst first_levels memory number address kind walked)
+      → ((fault : WalkFault) → (result ≡ Err fault) ↔ StopsFirst first_levels memory number address kind fault) → EndsThrough
+  walks_first root number one two rooted reached stopped =
+      rw (one, two) (subst (λ n. IfOk result (ReachesFirst first_levels memory n address kind) × IfErr result (StopsFirst first_levels memory n address kind)) rooted
+      (ok_of (ReachesFirst first_levels memory number address kind) result reached, err_of (StopsFirst first_levels memory number address kind) result stopped))
+
+  pub walks_second : (root : GuestRoot) (number : ℕ) → first_stage ≡ Bare → second_stage ≡ second.Sv39x4 root → number ≡ root.number
+      → ((walked : Walked) → (result ≡ Ok walked) ↔ ReachesSecond second_levels memory number address kind walked)
+      → ((fault : WalkFault) → (result ≡ Err fault) ↔ StopsSecond second_levels memory number address kind fault) → EndsThrough
+  walks_second root number one two rooted reached stopped =
+      rw (one, two) (subst (λ n. IfOk result (ReachesSecond second_levels memory n address kind) × IfErr result (StopsSecond second_levels memory n address kind)) rooted
+      (ok_of (ReachesSecond second_levels memory number address kind) result reached, err_of (StopsSecond second_levels memory number address kind) result stopped))
+
+  pub walks_both : (first : Ppn) (root : GuestRoot) (number : ℕ) → first_stage ≡ Sv39 first → second_stage ≡ second.Sv39x4 root → number ≡ root.number
+      → ((walked : Walked) → (result ≡ Ok walked) ↔ ReachesBoth first_levels second_levels memory first.number number address kind walked)
+      → ((fault : WalkFault) → (result ≡ Err fault) ↔ StopsBoth first_levels second_levels memory first.number number address kind fault) → EndsThrough
+  walks_both first root number one two rooted reached stopped =
+      rw (one, two) (subst (λ n. IfOk result (ReachesBoth first_levels second_levels memory first.number n address kind) × IfErr result (StopsBoth first_levels second_levels memory first.number n address kind)) rooted
+      (ok_of (ReachesBoth first_levels second_levels memory first.number number address kind) result reached, err_of (StopsBoth first_levels second_levels memory first.number number address kind) result stopped))
+
+module _ (sure : Bool) (Reaches : Walked → Type 0) (Stops : WalkFault → Type 0) (kind : AccessKind) (key : Key) (old : Content) (found : Option ℕ) (is : found ≡ cached_frame (old key) kind) where
+  -- by the frame that was found
+  pub looked : (frame : ℕ) (new : Content) → found ≡ Some frame → Stays old new → LooksOrWalks sure (cached_frame (old key) kind) Reaches Stops key old (Ok frame) new
+  looked frame new some stays =
+      subst (λ (o : Option ℕ). LooksOrWalks sure o Reaches Stops key old (Ok frame) new) (sym some ∙ is) (refl, stays)
+
+  -- by a walk, where none was: the look before it changes nothing of what a keep leaves
+  pub walked : (between new : Content) (answer : Result ℕ WalkFault) → found ≡ None → Stays old between → Walks sure Reaches Stops key between answer new
+      → LooksOrWalks sure (cached_frame (old key) kind) Reaches Stops key old answer new
+  walked between new answer none stays walks =
+      let unchanged : between ≡ old = λ i k. stays k i in
+      subst (λ (o : Option ℕ). LooksOrWalks sure o Reaches Stops key old answer new) (sym none ∙ is)
+      (subst (λ (content : Content). Walks sure Reaches Stops key content answer new) unchanged walks)
+
+-- BY THE STAGES of a context: in the address space that they translate, or where both are Bare in none
+module _ (sure : Bool) (context : Context) (memory : List (List ℕ)) (address : ℕ) (kind : AccessKind) (old : Content) (answer : Result ℕ WalkFault) (new : Content) where
+  abbrev LooksOrWalksIn : (Walked → Type 0) → (WalkFault → Type 0) → Space → Type 0
+  LooksOrWalksIn Reaches Stops at = LooksOrWalks sure (cached_frame (old (at, address / 4096)) kind) Reaches Stops (at, address / 4096) old answer new
+
+  pub through : (first_stage : FirstStage) (second_stage : SecondStage) (at : Space) → space_through first_stage second_stage context ≡ Some at
+      → LooksOrWalks sure (cached_frame (old (at, address / 4096)) kind) (ReachesThrough first_stage second_stage memory address kind)
+      (StopsThrough first_stage second_stage memory address kind) (at, address / 4096) old answer new
+      → Translates sure first_stage second_stage context memory address kind old answer new
+  through Bare second.Bare at is l = absurd (cc)
+  through (Sv39 root) second.Bare at is l =
+      let same : at ≡ space.First context.pscid.number = cc in
+      subst (LooksOrWalksIn (ReachesFirst first_levels memory root.number address kind) (StopsFirst first_levels memory root.number address kind)) same l
+  through Bare (second.Sv39x4 root) at is l =
+      let same : at ≡ space.Second context.gscid = cc in
+      subst (LooksOrWalksIn (ReachesSecond second_levels memory root.number address kind) (StopsSecond second_levels memory root.number address kind)) same l
+  through (Sv39 first) (second.Sv39x4 second) at is l =
+      let same : at ≡ space.Both context.gscid context.pscid.number = cc in
+      subst (LooksOrWalksIn (ReachesBoth first_levels second_levels memory first.number second.number address kind)
+      (StopsBoth first_levels second_levels memory first.number second.number address kind)) same l
+
+  pub through_none : (first_stage : FirstStage) (second_stage : SecondStage) → space_through first_stage second_stage context ≡ None
+      → answer ≡ own_page memory address kind → Stays old new → Translates sure first_stage second_stage context memory address kind old answer new
+  through_none Bare second.Bare none is stays = (is, stays)
+  through_none (Sv39 root) second.Bare none is stays = absurd (cc)
+  through_none Bare (second.Sv39x4 root) none is stays = absurd (cc)
+  through_none (Sv39 first) (second.Sv39x4 second) none is stays = absurd (cc)
