@@ -12,8 +12,8 @@ use Rattle.iom_directory.proofs.Stays.{stays}
 use Rattle.iom_directory.proofs.Zeroed.{zeroed_root}
 use Rattle.iom_phys_mem.specs.Words.{zeroed}
 use Rattle.iom_driver.specs.declared.device.Device.{Device}
-use Rattle.iom_driver.specs.declared.device.FirstStage.{FirstStage}
-use Rattle.iom_driver.specs.Devices.{stage_of}
+use Rattle.iom_driver.specs.declared.device.Stages.{Stages}
+use Rattle.iom_driver.specs.Devices.{stages_of}
 use Rattle.iom_driver.specs.Directory.{context_for, located_for, IsDirectoryFrame, DirectoryStands}
 use Rattle.iom_driver.specs.Layout.{IsLevels, AreFixed, directory_frame, id_limit}
 
@@ -21,7 +21,7 @@ use Rattle.iom_driver.specs.Layout.{IsLevels, AreFixed, directory_frame, id_limi
 pub record DirectoryIn (frames : ℕ) (memory : List (List ℕ)) (marks : List (Option Owner)) (devices : List Device) (levels : ℕ) : Type 0 where
   pub tree : IsDirectory memory (root_level levels) (directory_frame frames)
   pub own : (page : ℕ) → HasPage memory (root_level levels) (directory_frame frames) page → IsDirectoryFrame marks frames page
-  pub contexts : (id : ℕ) → id < ids_below (root_level levels) → path_end_from memory (root_level levels) (directory_frame frames) id ≡ located_for (stage_of devices id)
+  pub contexts : (id : ℕ) → id < ids_below (root_level levels) → path_end_from memory (root_level levels) (directory_frame frames) id ≡ located_for (stages_of devices id)
 
 pub stands_in : (frames : ℕ) (memory : List (List ℕ)) (marks : List (Option Owner)) (devices : List Device) (levels : ℕ) → length memory ≡ frames → DirectoryIn frames memory marks devices levels
     → DirectoryStands memory marks devices levels
@@ -54,7 +54,7 @@ frame_stays marks marks' frames page same own = record { system = same ∙ own.s
 -- while its own frames stay as they are, bytes and marks, and the same devices are attached
 pub directory_stay : (frames : ℕ) (memory memory' : List (List ℕ)) (marks marks' : List (Option Owner)) (devices devices' : List Device) (levels : ℕ) → IsLevels levels → length memory' ≡ length memory
     → ((n : ℕ) → IsDirectoryFrame marks frames n → (slice_get memory' n ≡ slice_get memory n) × (slice_get marks' n ≡ slice_get marks n))
-    → ((id : ℕ) → stage_of devices' id ≡ stage_of devices id) → DirectoryIn frames memory marks devices levels → DirectoryIn frames memory' marks' devices' levels
+    → ((id : ℕ) → stages_of devices' id ≡ stages_of devices id) → DirectoryIn frames memory marks devices levels → DirectoryIn frames memory' marks' devices' levels
 directory_stay frames memory memory' marks marks' devices devices' levels range size kept attached stands =
     let same : SameDirectory memory memory' (root_level levels) (directory_frame frames) =
     stays memory memory' (root_level levels) (directory_frame frames) (low_levels levels range) stands.tree size (λ f at. (kept f (stands.own f at)).0) in
@@ -66,7 +66,7 @@ directory_stay frames memory memory' marks marks' devices devices' levels range 
 
 -- an empty one, of a zeroed root
 pub directory_starts : (frames : ℕ) (memory : List (List ℕ)) (marks : List (Option Owner)) (devices : List Device) (levels : ℕ) → IsLevels levels → 64 ≤ frames → AreFixed marks frames
-    → slice_get memory (directory_frame frames) ≡ Some zeroed → ((id : ℕ) → stage_of devices id ≡ None) → DirectoryIn frames memory marks devices levels
+    → slice_get memory (directory_frame frames) ≡ Some zeroed → ((id : ℕ) → stages_of devices id ≡ None) → DirectoryIn frames memory marks devices levels
 directory_starts frames memory marks devices levels range many fixed cleared none =
     let new = zeroed_root memory (root_level levels) (directory_frame frames) (low_levels levels range) cleared in
     record {
@@ -85,28 +85,28 @@ pub directory_cleared : (frames : ℕ) (memory memory' : List (List ℕ)) (marks
     → DirectoryIn frames memory marks devices levels → IsDirectory memory' (root_level levels) (directory_frame frames)
     → ((f : ℕ) → HasPage memory' (root_level levels) (directory_frame frames) f → HasPage memory (root_level levels) (directory_frame frames) f)
     → path_end_from memory' (root_level levels) (directory_frame frames) id ≡ Err DirectoryEntryNotValid → KeepsOthers memory memory' (root_level levels) (directory_frame frames) id
-    → stage_of devices' id ≡ None → ((other : ℕ) → other ≢ id → stage_of devices' other ≡ stage_of devices other) → DirectoryIn frames memory' marks devices' levels
+    → stages_of devices' id ≡ None → ((other : ℕ) → other ≢ id → stages_of devices' other ≡ stages_of devices other) → DirectoryIn frames memory' marks devices' levels
 directory_cleared frames memory memory' marks devices devices' levels id stands tree pages here others none same = record {
   tree = tree;
   own = λ page at. stands.own page (pages page at);
   contexts = λ other low. elim (eqb_tells other id) [
-    | inl e ↦ ap (λ i. path_end_from memory' (root_level levels) (directory_frame frames) i) e.1 ∙ here ∙ ap located_for (sym (ap (λ i. stage_of devices' i) e.1 ∙ none))
+    | inl e ↦ ap (λ i. path_end_from memory' (root_level levels) (directory_frame frames) i) e.1 ∙ here ∙ ap located_for (sym (ap (λ i. stages_of devices' i) e.1 ∙ none))
     | inr ne ↦ others other low ne.1 ∙ stands.contexts other low ∙ ap located_for (sym (same other ne.1))
   ];
 }
 
 -- a device's context is written, in the directory's pages and some more, and the device attached
-pub directory_put : (frames : ℕ) (memory memory' : List (List ℕ)) (marks : List (Option Owner)) (devices devices' : List Device) (levels id : ℕ) (stage : FirstStage) (pages : List ℕ)
+pub directory_put : (frames : ℕ) (memory memory' : List (List ℕ)) (marks : List (Option Owner)) (devices devices' : List Device) (levels id : ℕ) (stage : Stages) (pages : List ℕ)
     → DirectoryIn frames memory marks devices levels → IsDirectory memory' (root_level levels) (directory_frame frames)
     → ((f : ℕ) → HasPage memory' (root_level levels) (directory_frame frames) f → HasPage memory (root_level levels) (directory_frame frames) f ⊎ Contains pages f)
     → ((f : ℕ) → Contains pages f → IsDirectoryFrame marks frames f)
     → path_end_from memory' (root_level levels) (directory_frame frames) id ≡ Ok (context_for stage) → KeepsOthers memory memory' (root_level levels) (directory_frame frames) id
-    → stage_of devices' id ≡ Some stage → ((other : ℕ) → other ≢ id → stage_of devices' other ≡ stage_of devices other) → DirectoryIn frames memory' marks devices' levels
+    → stages_of devices' id ≡ Some stage → ((other : ℕ) → other ≢ id → stages_of devices' other ≡ stages_of devices other) → DirectoryIn frames memory' marks devices' levels
 directory_put frames memory memory' marks devices devices' levels id stage pages stands tree has fresh here others now same = record {
   tree = tree;
   own = λ page at. elim (has page at) [ inl was ↦ stands.own page was | inr new ↦ fresh page new ];
   contexts = λ other low. elim (eqb_tells other id) [
-    | inl e ↦ ap (λ i. path_end_from memory' (root_level levels) (directory_frame frames) i) e.1 ∙ here ∙ ap located_for (sym (ap (λ i. stage_of devices' i) e.1 ∙ now))
+    | inl e ↦ ap (λ i. path_end_from memory' (root_level levels) (directory_frame frames) i) e.1 ∙ here ∙ ap located_for (sym (ap (λ i. stages_of devices' i) e.1 ∙ now))
     | inr ne ↦ others other low ne.1 ∙ stands.contexts other low ∙ ap located_for (sym (same other ne.1))
   ];
 }

@@ -9,9 +9,9 @@ use Rattle.iom_base.specs.declared.owner.Owner.TheVariants.{System, OneDevice}
 use Rattle.iom_driver.specs.declared.device.Attachment.{Attachment}
 use Rattle.iom_driver.specs.declared.device.Attachment.TheVariants.{Detached, Attached, Leaving}
 use Rattle.iom_driver.specs.declared.device.Device.{Device}
-use Rattle.iom_driver.specs.declared.device.FirstStage.{FirstStage}
+use Rattle.iom_driver.specs.declared.device.Stages.{Stages}
 use Rattle.iom_driver.specs.Confirmed.{has_left, once_confirmed, is_gone, given_back}
-use Rattle.iom_driver.specs.Devices.{device_of, attachment_of, attached_stage, owned_stage, stage_of, owned_stage_of, HaveOwnIds}
+use Rattle.iom_driver.specs.Devices.{device_of, attachment_of, attached_stages, owned_stages, stages_of, owned_stages_of, HaveOwnIds}
 use Rattle.iom_driver.specs.Sound.{LeaveUnderTickets}
 
 -- how an attachment is afterwards
@@ -37,35 +37,35 @@ attachment_confirmed done devices id =
     by (Some device) = refl
 
 -- an attached device stays attached, and none becomes so
-pub stage_after : (done : ℕ) (a : Attachment) → attached_stage (after done a) ≡ attached_stage a
+pub stage_after : (done : ℕ) (a : Attachment) → attached_stages (after done a) ≡ attached_stages a
 stage_after done Detached = refl
 stage_after done (Attached stage) = refl
 stage_after done (Leaving ticket stage) = by (nat_le ticket done)
   where
-    by : (b : Bool) → attached_stage (if b then Detached else Leaving ticket stage) ≡ None
+    by : (b : Bool) → attached_stages (if b then Detached else Leaving ticket stage) ≡ None
     by true = refl
     by false = refl
 
-pub stage_confirmed : (done : ℕ) (devices : List Device) (id : ℕ) → stage_of (map (once_confirmed done) devices) id ≡ stage_of devices id
-stage_confirmed done devices id = ap attached_stage (attachment_confirmed done devices id) ∙ stage_after done (attachment_of devices id)
+pub stage_confirmed : (done : ℕ) (devices : List Device) (id : ℕ) → stages_of (map (once_confirmed done) devices) id ≡ stages_of devices id
+stage_confirmed done devices id = ap attached_stages (attachment_confirmed done devices id) ∙ stage_after done (attachment_of devices id)
 
 -- what is owned was owned, by a device that hasn't left
-owned_after : (done : ℕ) (a : Attachment) (stage : FirstStage) → owned_stage (after done a) ≡ Some stage → (owned_stage a ≡ Some stage) × (has_left done a ≡ false)
+owned_after : (done : ℕ) (a : Attachment) (stage : Stages) → owned_stages (after done a) ≡ Some stage → (owned_stages a ≡ Some stage) × (has_left done a ≡ false)
 owned_after done a stage at = by (has_left done a) refl at
   where
-    by : (b : Bool) → has_left done a ≡ b → owned_stage (if b then Detached else a) ≡ Some stage → (owned_stage a ≡ Some stage) × (has_left done a ≡ false)
+    by : (b : Bool) → has_left done a ≡ b → owned_stages (if b then Detached else a) ≡ Some stage → (owned_stages a ≡ Some stage) × (has_left done a ≡ false)
     by true e at = absurd (none_some at)
       where
-        none_some : ◌≡◌ {A = Option FirstStage} None (Some stage) → ⊥
+        none_some : ◌≡◌ {A = Option Stages} None (Some stage) → ⊥
         none_some same = cc
     by false e at = (at, e)
 
-pub still_owned : (done : ℕ) (devices : List Device) (id : ℕ) (stage : FirstStage) → owned_stage_of (map (once_confirmed done) devices) id ≡ Some stage
-    → (owned_stage_of devices id ≡ Some stage) × (has_left done (attachment_of devices id) ≡ false)
-still_owned done devices id stage at = owned_after done (attachment_of devices id) stage (sym (ap owned_stage (attachment_confirmed done devices id)) ∙ at)
+pub still_owned : (done : ℕ) (devices : List Device) (id : ℕ) (stage : Stages) → owned_stages_of (map (once_confirmed done) devices) id ≡ Some stage
+    → (owned_stages_of devices id ≡ Some stage) × (has_left done (attachment_of devices id) ≡ false)
+still_owned done devices id stage at = owned_after done (attachment_of devices id) stage (sym (ap owned_stages (attachment_confirmed done devices id)) ∙ at)
 
 -- one that still leaves did so, under a later ticket
-leaving_after : (done ticket : ℕ) (stage : FirstStage) (a : Attachment) → after done a ≡ Leaving ticket stage → (a ≡ Leaving ticket stage) × (done < ticket)
+leaving_after : (done ticket : ℕ) (stage : Stages) (a : Attachment) → after done a ≡ Leaving ticket stage → (a ≡ Leaving ticket stage) × (done < ticket)
 leaving_after done ticket stage Detached at = cc
 leaving_after done ticket stage (Attached own) at = cc
 leaving_after done ticket stage (Leaving t own) at = by (nat_le t done) refl at
@@ -74,7 +74,7 @@ leaving_after done ticket stage (Leaving t own) at = by (nat_le t done) refl at
     by true e at = cc
     by false e at = let same : t ≡ ticket = cc in let late : done < t = grind (arith, nat_tests) in (at, subst (λ n. done < n) same late)
 
-pub still_leaving : (done : ℕ) (devices : List Device) (id ticket : ℕ) (stage : FirstStage) → attachment_of (map (once_confirmed done) devices) id ≡ Leaving ticket stage
+pub still_leaving : (done : ℕ) (devices : List Device) (id ticket : ℕ) (stage : Stages) → attachment_of (map (once_confirmed done) devices) id ≡ Leaving ticket stage
     → (attachment_of devices id ≡ Leaving ticket stage) × (done < ticket)
 still_leaving done devices id ticket stage at = leaving_after done ticket stage (attachment_of devices id) (sym (attachment_confirmed done devices id) ∙ at)
 
@@ -94,7 +94,7 @@ pub marked_back : (done : ℕ) (devices : List Device) (marks : List (Option Own
 marked_back done devices marks n owner at stays = slice_get-map (given_back done devices) marks n ∙ ap (option_map (given_back done devices)) at ∙ rw stays refl
 
 -- where no ticket of a leaving device is confirmed, nothing changes
-stays_so : (done : ℕ) (a : Attachment) → ((ticket : ℕ) (stage : FirstStage) → a ≡ Leaving ticket stage → done < ticket) → has_left done a ≡ false
+stays_so : (done : ℕ) (a : Attachment) → ((ticket : ℕ) (stage : Stages) → a ≡ Leaving ticket stage → done < ticket) → has_left done a ≡ false
 stays_so done Detached late = refl
 stays_so done (Attached stage) late = refl
 stays_so done (Leaving ticket stage) late = lt-leb ticket done (late ticket stage refl)

@@ -20,19 +20,21 @@ use Rattle.iom_page_table.specs.Trees.{sv39, IsFrameOf, AreFresh, missing_under,
 use Rattle.iom_page_table.proofs.Pages.{path_shaped}
 use Rattle.iom_page_table.proofs.Stays.{stays}
 use Rattle.iom_page_table.proofs.Trees.{AlikeOn, alike_in}
+use Rattle.iom_base.specs.declared.mode.Mode.{Mode}
 use Rattle.iom_base.specs.declared.owner.Owner.{Owner}
 use Rattle.iom_base.specs.declared.owner.Owner.TheVariants.{OneDevice}
 use Rattle.iom_table_frames.specs.Marks.{IsFreeForTable, is_marked}
 use Rattle.iom_driver.specs.declared.device.Device.{Device}
-use Rattle.iom_driver.specs.declared.device.FirstStage.{FirstStage}
+use Rattle.iom_driver.specs.declared.device.Stages.{Stages}
 use Rattle.iom_driver.specs.Calls.{KeepsOthers}
 use Rattle.iom_driver.specs.Choices.{marked_for, cleared}
-use Rattle.iom_driver.specs.Devices.{owned_stage_of}
+use Rattle.iom_driver.specs.Devices.{owned_stages_of}
 use Rattle.iom_driver.specs.Tables.{AreTablesOf, HaveTables, leaf_for}
 use Rattle.iom_driver.proofs.Chosen.{AreChosen}
 use Rattle.iom_driver.proofs.Keeps.{here_or_there}
 use Rattle.iom_driver.proofs.Taken.{unmarked, owned_differs}
-use Rattle.iom_driver.proofs.Marks.{NotAmong, not_among, among_contained, among_get, mark_stays, bytes_stay, marked_still, marked_among, zero_among}
+use Rattle.iom_driver.proofs.Marks.{Among, NotAmong, not_among, among_not, among_contained, among_get, mark_stays, bytes_stay, marked_still, marked_among, zero_among}
+use Rattle.iom_driver.proofs.Modes.{rest, rooted, root_in, table_of, table_in}
 use Rattle.iom_driver.proofs.Stays.{tables_stay}
 
 -- as many tables are missing on a path whose entries are alike
@@ -69,18 +71,18 @@ pub missing_two : (memory : List (List ℕ)) (root page : ℕ) → missing_for m
 missing_two memory root page = missing_low (entries memory) root _ (_ ∷ _ ∷ [])
 
 -- a frame that is free for a table is none of a device's tables
-not_a_table : (memory : List (List ℕ)) (marks : List (Option Owner)) (ledger : Ledger) (id root f : ℕ) → AreTablesOf memory marks ledger id root → is_marked marks f ≡ false → IsFrameOf sv39 (entries memory) root f → ⊥
-not_a_table memory marks ledger id root f tables free at =
-    contra (sym (ap (λ (o : Option (Option Owner)). option_map_or (λ m. is_some m) o false) (tables.own f at)) ∙ free)
+not_a_table : (memory : List (List ℕ)) (marks : List (Option Owner)) (ledger : Ledger) (id : ℕ) (mode : Mode) (root f : ℕ) → AreTablesOf memory marks ledger id mode root → is_marked marks f ≡ false → IsFrameOf sv39 (entries memory) root f → ⊥
+not_a_table memory marks ledger id mode root f tables free at =
+    contra (sym (ap (λ (o : Option (Option Owner)). option_map_or (λ m. is_some m) o false) (tables.own f (table_in mode memory root f (inl at)))) ∙ free)
   where
     contra : true ≡ false → ⊥
     contra e = cc
 
 -- the tables' frames keep their bytes while free frames are cleared
-table_bytes : (memory : List (List ℕ)) (marks : List (Option Owner)) (ledger : Ledger) (id root named : ℕ) (chosen : List ℕ) → AreTablesOf memory marks ledger id root
+table_bytes : (memory : List (List ℕ)) (marks : List (Option Owner)) (ledger : Ledger) (id : ℕ) (mode : Mode) (root named : ℕ) (chosen : List ℕ) → AreTablesOf memory marks ledger id mode root
     → All (λ f. IsFreeForTable marks ledger (Some named) f) chosen → (f : ℕ) → IsFrameOf sv39 (entries memory) root f → slice_get (cleared chosen memory) f ≡ slice_get memory f
-table_bytes memory marks ledger id root named chosen tables free f at =
-    bytes_stay f chosen memory (not_among (λ t. IsFreeForTable marks ledger (Some named) t) f chosen free (λ is_free. not_a_table memory marks ledger id root f tables is_free.unmarked at))
+table_bytes memory marks ledger id mode root named chosen tables free f at =
+    bytes_stay f chosen memory (not_among (λ t. IsFreeForTable marks ledger (Some named) t) f chosen free (λ is_free. not_a_table memory marks ledger id mode root f tables is_free.unmarked at))
 
 -- what a map of the page asks, once the free frames are cleared
 pub record MayBeMapped (memory : List (List ℕ)) (root page : ℕ) (chosen : List ℕ) : Type 0 where
@@ -89,18 +91,18 @@ pub record MayBeMapped (memory : List (List ℕ)) (root page : ℕ) (chosen : Li
   pub count : length chosen ≡ missing_for memory root page
   pub fresh : AreFresh sv39 memory root chosen
 
-pub may_be_mapped : (memory : List (List ℕ)) (marks : List (Option Owner)) (ledger : Ledger) (id root page named count : ℕ) (chosen : List ℕ) → AreTablesOf memory marks ledger id root
+pub may_be_mapped : (memory : List (List ℕ)) (marks : List (Option Owner)) (ledger : Ledger) (id : ℕ) (mode : Mode) (root page named count : ℕ) (chosen : List ℕ) → AreTablesOf memory marks ledger id mode root
     → page < 2 ^ 26 → held_in ledger id page ≡ None → count ≡ missing_for memory root page → AreChosen marks ledger (Some named) (length memory) count chosen → MayBeMapped (cleared chosen memory) root page chosen
-may_be_mapped memory marks ledger id root page named count chosen tables low none counted chose =
-    let same = table_bytes memory marks ledger id root named chosen tables chose.free in
-    let stay = stays memory (cleared chosen memory) root tables.tree same in
+may_be_mapped memory marks ledger id mode root page named count chosen tables low none counted chose =
+    let same = table_bytes memory marks ledger id mode root named chosen tables chose.free in
+    let stay = stays memory (cleared chosen memory) root (rooted mode memory root tables.tree).tree same in
     record {
       tree = stay.tree;
       free = stay.leaves page ∙ tables.leaves page (omega arith) ∙ ap (option_map leaf_for) none;
       count = chose.many ∙ counted ∙ sym (missing_stays memory (cleared chosen memory) root page same);
       fresh = record {
         zero = λ k d lt. zero_among chosen memory chose.inside (get_or chosen k d) (among_get chosen k d lt);
-        outside = λ k d lt at. not_a_table memory marks ledger id root (get_or chosen k d) tables (chose.free k d lt).unmarked ((stay.tables (get_or chosen k d)).0 at);
+        outside = λ k d lt at. not_a_table memory marks ledger id mode root (get_or chosen k d) tables (chose.free k d lt).unmarked ((stay.tables (get_or chosen k d)).0 at);
         distinct = chose.distinct;
       };
     }
@@ -114,28 +116,32 @@ pub record IsMapped (memory memory' : List (List ℕ)) (root page : ℕ) (mappin
   pub size : length memory' ≡ length memory
 
 -- each frame of the mapped tables is the device's
-mapped_own : (memory memory' : List (List ℕ)) (marks : List (Option Owner)) (ledger : Ledger) (id root page named count : ℕ) (leaf : PageLeaf) (chosen : List ℕ) → length marks ≡ length memory → AreTablesOf memory marks ledger id root
+mapped_own : (memory memory' : List (List ℕ)) (marks : List (Option Owner)) (ledger : Ledger) (id : ℕ) (mode : Mode) (root page named count : ℕ) (leaf : PageLeaf) (chosen : List ℕ) → length marks ≡ length memory
+    → AreTablesOf memory marks ledger id mode root
     → AreChosen marks ledger (Some named) (length memory) count chosen → IsMapped (cleared chosen memory) memory' root page leaf chosen → (f : ℕ) → HasTable memory' root f → slice_get (marked_for (OneDevice id) chosen marks) f ≡ Some (Some (OneDevice id))
-mapped_own memory memory' marks ledger id root page named count leaf chosen long tables chose mapped f at = by ((mapped.tables f).0 at)
+mapped_own memory memory' marks ledger id mode root page named count leaf chosen long tables chose mapped f at = by ((mapped.tables f).0 at)
   where
     by : HasTable (cleared chosen memory) root f ⊎ Contains chosen f → slice_get (marked_for (OneDevice id) chosen marks) f ≡ Some (Some (OneDevice id))
-    by (inl was) = marked_still (OneDevice id) f chosen marks (tables.own f (((stays memory (cleared chosen memory) root tables.tree (table_bytes memory marks ledger id root named chosen tables chose.free)).tables f).0 was))
+    by (inl was) = marked_still (OneDevice id) f chosen marks
+        (tables.own f (table_in mode memory root f (inl (((stays memory (cleared chosen memory) root (rooted mode memory root tables.tree).tree (table_bytes memory marks ledger id mode root named chosen tables chose.free)).tables f).0 was))))
     by (inr new) = marked_among (OneDevice id) f chosen marks (λ k d lt. subst (λ n. get_or chosen k d < n) (sym long) (chose.inside k d lt)) (among_contained f chosen new)
 
 -- a frame that is another's, or nobody's, keeps its bytes
-pub mapped_others : (memory memory' : List (List ℕ)) (marks : List (Option Owner)) (ledger : Ledger) (id root page named count n : ℕ) (leaf : PageLeaf) (chosen : List ℕ) → length marks ≡ length memory → AreTablesOf memory marks ledger id root
+pub mapped_others : (memory memory' : List (List ℕ)) (marks : List (Option Owner)) (ledger : Ledger) (id : ℕ) (mode : Mode) (root page named count n : ℕ) (leaf : PageLeaf) (chosen : List ℕ) → length marks ≡ length memory
+    → AreTablesOf memory marks ledger id mode root
     → AreChosen marks ledger (Some named) (length memory) count chosen → IsMapped (cleared chosen memory) memory' root page leaf chosen
     → (slice_get (marked_for (OneDevice id) chosen marks) n ≡ Some (Some (OneDevice id)) → ⊥) → slice_get memory' n ≡ slice_get (cleared chosen memory) n
-mapped_others memory memory' marks ledger id root page named count n leaf chosen long tables chose mapped differs =
-    mapped.outside n (λ at. differs (mapped_own memory memory' marks ledger id root page named count leaf chosen long tables chose mapped n at))
+mapped_others memory memory' marks ledger id mode root page named count n leaf chosen long tables chose mapped differs =
+    mapped.outside n (λ at. differs (mapped_own memory memory' marks ledger id mode root page named count leaf chosen long tables chose mapped n at))
 
 -- each frame that isn't the device's afterwards keeps its bytes
-pub others_kept : (memory memory' : List (List ℕ)) (marks : List (Option Owner)) (ledger : Ledger) (id root page named count : ℕ) (leaf : PageLeaf) (chosen : List ℕ) → length marks ≡ length memory → AreTablesOf memory marks ledger id root
+pub others_kept : (memory memory' : List (List ℕ)) (marks : List (Option Owner)) (ledger : Ledger) (id : ℕ) (mode : Mode) (root page named count : ℕ) (leaf : PageLeaf) (chosen : List ℕ) → length marks ≡ length memory
+    → AreTablesOf memory marks ledger id mode root
     → AreChosen marks ledger (Some named) (length memory) count chosen → IsMapped (cleared chosen memory) memory' root page leaf chosen
     → KeepsOthers (marked_for (OneDevice id) chosen marks) id memory memory'
-others_kept memory memory' marks ledger id root page named count leaf chosen long tables chose mapped f differs =
+others_kept memory memory' marks ledger id mode root page named count leaf chosen long tables chose mapped f differs =
     let inside : All (λ n. n < length marks) chosen = λ k d lt. subst (λ n. get_or chosen k d < n) (sym long) (chose.inside k d lt) in
-    mapped_others memory memory' marks ledger id root page named count f leaf chosen long tables chose mapped differs
+    mapped_others memory memory' marks ledger id mode root page named count f leaf chosen long tables chose mapped differs
     ∙ bytes_stay f chosen memory (not_among (λ n. slice_get (marked_for (OneDevice id) chosen marks) n ≡ Some (Some (OneDevice id))) f chosen
     (λ k d lt. marked_among (OneDevice id) (get_or chosen k d) chosen marks inside (among_get chosen k d lt)) differs)
 
@@ -147,12 +153,12 @@ not_chosen memory marks ledger named count n chosen owner long chose mark =
     (λ is_free. owned_differs marks n n owner mark (unmarked marks n (subst (λ m. n < m) (sym long) is_free.0) is_free.1.unmarked) refl)
 
 -- a frame that is somebody else's keeps its bytes
-pub kept_others : (memory memory' : List (List ℕ)) (marks : List (Option Owner)) (ledger : Ledger) (id root page named count n : ℕ) (leaf : PageLeaf) (chosen : List ℕ) (owner : Owner) → length marks ≡ length memory
-    → AreTablesOf memory marks ledger id root → AreChosen marks ledger (Some named) (length memory) count chosen → IsMapped (cleared chosen memory) memory' root page leaf chosen
+pub kept_others : (memory memory' : List (List ℕ)) (marks : List (Option Owner)) (ledger : Ledger) (id : ℕ) (mode : Mode) (root page named count n : ℕ) (leaf : PageLeaf) (chosen : List ℕ) (owner : Owner)
+    → length marks ≡ length memory → AreTablesOf memory marks ledger id mode root → AreChosen marks ledger (Some named) (length memory) count chosen → IsMapped (cleared chosen memory) memory' root page leaf chosen
     → slice_get marks n ≡ Some (Some owner) → owner ≢ OneDevice id → slice_get memory' n ≡ slice_get memory n
-kept_others memory memory' marks ledger id root page named count n leaf chosen owner long tables chose mapped mark other =
+kept_others memory memory' marks ledger id mode root page named count n leaf chosen owner long tables chose mapped mark other =
     let apart = not_chosen memory marks ledger named count n chosen owner long chose mark in
-    mapped_others memory memory' marks ledger id root page named count n leaf chosen long tables chose mapped
+    mapped_others memory memory' marks ledger id mode root page named count n leaf chosen long tables chose mapped
     (λ now. let both : ◌≡◌ {A = Option (Option Owner)} (Some (Some owner)) (Some (Some (OneDevice id))) = sym mark ∙ sym (mark_stays (OneDevice id) n chosen marks apart) ∙ now in other cc)
     ∙ bytes_stay n chosen memory apart
 
@@ -164,19 +170,20 @@ mapped_is memory before after root page leaf granted clears maps chosen whole is
     ∙ ap (λ l. mapped (cleared chosen memory) root page l chosen) leaf_is
 
 -- the tables of all devices
-pub tables_granted : (memory memory' : List (List ℕ)) (marks : List (Option Owner)) (old new : Ledger) (devices : List Device) (id page frame count : ℕ) (rights : Rights) (stage : FirstStage) (chosen : List ℕ)
-    → length marks ≡ length memory → HaveTables memory marks old devices → owned_stage_of devices id ≡ Some stage → page < 2 ^ 26
+pub tables_granted : (memory memory' : List (List ℕ)) (marks : List (Option Owner)) (old new : Ledger) (devices : List Device) (id page frame count : ℕ) (rights : Rights) (stage : Stages) (chosen : List ℕ)
+    → length marks ≡ length memory → HaveTables memory marks old devices → owned_stages_of devices id ≡ Some stage → page < 2 ^ 26
     → changes.ShowsGrant old new id page (frame, rights) → AreChosen marks old (Some frame) (length memory) count chosen
     → IsMapped (cleared chosen memory) memory' stage.root page (record { frame = frame; rights = rights }) chosen → HaveTables memory' (marked_for (OneDevice id) chosen marks) new devices
 tables_granted memory memory' marks old new devices id page frame count rights stage chosen long tables attached low granted chose mapped other found at =
     elim (eqb_tells other id) [
       | inl e ↦
-          let both : Some stage ≡ Some found = sym attached ∙ ap (λ i. owned_stage_of devices i) (sym e.1) ∙ at in
-          let root : stage.root ≡ found.root = let same : stage ≡ found = cc in ap (λ (s : FirstStage). s.root) same in
-          subst (λ i. AreTablesOf memory' (marked_for (OneDevice id) chosen marks) new i found.root) (sym e.1) (subst (λ q. AreTablesOf memory' (marked_for (OneDevice id) chosen marks) new id q) root own_tables)
-      | inr ne ↦ tables_stay memory memory' marks (marked_for (OneDevice id) chosen marks) old new other found.root (tables other found at)
+          let both : Some stage ≡ Some found = sym attached ∙ ap (λ i. owned_stages_of devices i) (sym e.1) ∙ at in
+          let same : stage ≡ found = cc in
+          subst (λ i. AreTablesOf memory' (marked_for (OneDevice id) chosen marks) new i found.mode found.root) (sym e.1)
+          (subst (λ (s : Stages). AreTablesOf memory' (marked_for (OneDevice id) chosen marks) new id s.mode s.root) same own_tables)
+      | inr ne ↦ tables_stay memory memory' marks (marked_for (OneDevice id) chosen marks) old new other found.mode found.root (tables other found at)
           (λ n mark. (
-            kept_others memory memory' marks old id stage.root page frame count n (record { frame = frame; rights = rights }) chosen (OneDevice other) long before chose mapped mark (λ same. ne.1 (one_id other same)),
+            kept_others memory memory' marks old id stage.mode stage.root page frame count n (record { frame = frame; rights = rights }) chosen (OneDevice other) long before chose mapped mark (λ same. ne.1 (one_id other same)),
             mark_stays (OneDevice id) n chosen marks (not_chosen memory marks old frame count n chosen (OneDevice other) long chose mark),
           ))
           (λ p. elim (here_or_there id page other p (frame, rights) (held_in old other p) (held_in new other p) (granted.held other p)) [ inl now ↦ absurd (ne.1 (sym now.0)) | inr still ↦ still.1 ])
@@ -185,7 +192,7 @@ tables_granted memory memory' marks old new devices id page frame count rights s
     one_id : (i : ℕ) → ◌≡◌ {A = Owner} (OneDevice i) (OneDevice id) → i ≡ id
     one_id i same = cc
 
-    before : AreTablesOf memory marks old id stage.root
+    before : AreTablesOf memory marks old id stage.mode stage.root
     before = tables id stage attached
 
     leaf_by : (p : ℕ) → leaf_of 3 (cleared chosen memory) stage.root p ≡ option_map leaf_for (held_in old id p)
@@ -198,11 +205,29 @@ tables_granted memory memory' marks old new devices id page frame count rights s
       | inr ne ↦ rw ne.0 (was ∙ sym (ap (option_map leaf_for) (elim (here_or_there id page id p (frame, rights) (held_in old id p) (held_in new id p) (granted.held id p)) [ inl now ↦ absurd (ne.1 (sym now.1)) | inr still ↦ still.1 ])))
     ]
 
-    own_tables : AreTablesOf memory' (marked_for (OneDevice id) chosen marks) new id stage.root
+    -- the root's other frames are none of the chosen ones, and no tables
+    unchosen : (f : ℕ) → Among f (rest stage.mode stage.root) → NotAmong f chosen
+    unchosen f here = not_chosen memory marks old frame count f chosen (OneDevice id) long chose (before.own f (table_in stage.mode memory stage.root f (inr here)))
+
+    own_tables : AreTablesOf memory' (marked_for (OneDevice id) chosen marks) new id stage.mode stage.root
     own_tables =
-        let stay = stays memory (cleared chosen memory) stage.root before.tree (table_bytes memory marks old id stage.root frame chosen before chose.free) in
+        let was = rooted stage.mode memory stage.root before.tree in
+        let stay = stays memory (cleared chosen memory) stage.root was.tree (table_bytes memory marks old id stage.mode stage.root frame chosen before chose.free) in
+        let apart : (f : ℕ) → HasTable memory' stage.root f → Among f (rest stage.mode stage.root) → ⊥ =
+        λ f at here. elim ((mapped.tables f).0 at) [
+          | inl still ↦ was.apart f ((stay.tables f).0 still) here
+          | inr new ↦ among_not f chosen (unchosen f here) (among_contained f chosen new)
+        ] in
         record {
-          tree = mapped.tree;
-          own = mapped_own memory memory' marks old id stage.root page frame count (record { frame = frame; rights = rights }) chosen long before chose mapped;
+          tree = root_in stage.mode memory' stage.root record {
+            tree = mapped.tree;
+            others = λ f here. mapped.outside f (λ at. apart f at here) ∙ bytes_stay f chosen memory (unchosen f here) ∙ was.others f here;
+            apart = apart;
+            aligned = was.aligned;
+          };
+          own = λ f at. elim (table_of stage.mode memory' stage.root f at) [
+            | inl now ↦ mapped_own memory memory' marks old id stage.mode stage.root page frame count (record { frame = frame; rights = rights }) chosen long before chose mapped f now
+            | inr here ↦ marked_still (OneDevice id) f chosen marks (before.own f (table_in stage.mode memory stage.root f (inr here)))
+          ];
           leaves = λ p below. mapped.leaf p below ∙ leaf_by p (stay.leaves p ∙ before.leaves p below);
         }

@@ -16,19 +16,18 @@ use Rattle.iom_table_frames.specs.Marks.{IsFreeForTable}
 use Rattle.iom_driver.specs.declared.device.Attachment.{Attachment}
 use Rattle.iom_driver.specs.declared.device.Attachment.TheVariants.{Attached, Leaving}
 use Rattle.iom_driver.specs.declared.device.Device.{Device}
-use Rattle.iom_driver.specs.declared.device.FirstStage.{FirstStage}
+use Rattle.iom_driver.specs.declared.device.Stages.{Stages}
 use Rattle.iom_driver.specs.Choices.{marked_for}
 use Rattle.iom_driver.specs.Confirmed.{once_confirmed, given_back}
-use Rattle.iom_driver.specs.Devices.{device_of, attachment_of, attached_stage, owned_stage, stage_of, owned_stage_of, is_plugged, detached, with_attachment, IsLowestNumber}
+use Rattle.iom_driver.specs.Devices.{device_of, attachment_of, attached_stages, owned_stages, stages_of, owned_stages_of, is_plugged, detached, with_attachment, IsLowestNumber}
 use Rattle.iom_driver.specs.Layout.{AreFixed, id_limit}
 use Rattle.iom_driver.specs.Sound.{IsGrant, AreGrants, IsSound, RiseBetween}
-use Rattle.iom_driver.proofs.Chosen.{AreChosen}
 use Rattle.iom_driver.proofs.Gone.{attachment_confirmed, stage_confirmed, still_owned, still_leaving, detached_after, ids_confirmed, unmarked_back, marked_back}
 use Rattle.iom_driver.proofs.Ids.{ids_with, ids_plugged}
-use Rattle.iom_driver.proofs.Marks.{NotAmong, not_among, mark_stays, length-marked_for}
+use Rattle.iom_driver.proofs.Marks.{NotAmong, not_among, all_among, mark_stays, length-marked_for}
 use Rattle.iom_driver.proofs.Numbers.{numbers_attached}
 use Rattle.iom_driver.proofs.Places.{attachment_set, attachment_other, attachment_plugged, attached_there, attached_owns, length-with_attachment}
-use Rattle.iom_driver.proofs.Taken.{unmarked, owned_differs, owned_not_chosen, taken_marks, length-taken, taken_stays}
+use Rattle.iom_driver.proofs.Taken.{unmarked, owned_differs, taken_marks, length-taken, taken_stays, AreTaken, owned_not_taken, taken_free}
 use Rattle.iom_driver.proofs.Tickets.{rise_further, rise_more, rise_left}
 
 -- PLUG
@@ -42,12 +41,12 @@ sound_plugged ledger marks devices frames levels started given confirmed id soun
       sizes = sound.sizes;
       fixed = sound.fixed;
       grants = sound.grants;
-      holders = λ other page free. sound.holders other page (sym (ap attached_stage (same other)) ∙ free);
+      holders = λ other page free. sound.holders other page (sym (ap attached_stages (same other)) ∙ free);
       numbers = record {
-        small = λ other stage at. sound.numbers.small other stage (sym (ap owned_stage (same other)) ∙ at);
-        own = λ one other a b at_one at_other equal. sound.numbers.own one other a b (sym (ap owned_stage (same one)) ∙ at_one) (sym (ap owned_stage (same other)) ∙ at_other) equal;
+        small = λ other stage at. sound.numbers.small other stage (sym (ap owned_stages (same other)) ∙ at);
+        own = λ one other a b at_one at_other equal. sound.numbers.own one other a b (sym (ap owned_stages (same one)) ∙ at_one) (sym (ap owned_stages (same other)) ∙ at_other) equal;
       };
-      named = λ other stage at. sound.named other stage (sym (ap owned_stage (same other)) ∙ at);
+      named = λ other stage at. sound.named other stage (sym (ap owned_stages (same other)) ∙ at);
       tickets = sound.tickets;
       leaving = λ other ticket stage at. sound.leaving other ticket stage (sym (same other) ∙ at);
       ids = ids_plugged devices id none sound.ids;
@@ -154,26 +153,27 @@ set_or_other devices id a other plugged = elim (eqb_tells other id) [
   | inr ne ↦ inr (ne.1, attachment_other devices id other a ne.1)
 ]
 
-pub sound_attached : (ledger : Ledger) (marks : List (Option Owner)) (devices : List Device) (frames levels : ℕ) (started : Bool) (given confirmed id count : ℕ) (stage : FirstStage) (pages : List ℕ)
+pub sound_attached : (ledger : Ledger) (marks : List (Option Owner)) (devices : List Device) (frames levels : ℕ) (started : Bool) (given confirmed id count : ℕ) (stage : Stages) (pages roots : List ℕ)
     → IsSound ledger marks devices frames levels started given confirmed → started ≡ true → is_plugged devices id ≡ true → id < id_limit levels
-    → AreChosen marks ledger None frames count (pages ++ stage.root ∷ []) → IsLowestNumber devices stage.number → stage.number ≤ 17
-    → IsSound ledger (taken_marks id pages stage.root marks) (with_attachment devices id (Attached stage)) frames levels started given confirmed
-sound_attached ledger marks devices frames levels started given confirmed id count stage pages sound runs plugged narrow chosen lowest small =
+    → AreTaken marks ledger frames count pages roots → IsLowestNumber devices stage.number → stage.number ≤ 17
+    → IsSound ledger (taken_marks id pages roots marks) (with_attachment devices id (Attached stage)) frames levels started given confirmed
+sound_attached ledger marks devices frames levels started given confirmed id count stage pages roots sound runs plugged narrow taken lowest small =
     let either : (other : ℕ) → ((other ≡ id) × (attachment_of (with_attachment devices id (Attached stage)) other ≡ Attached stage)) ⊎ ((other ≢ id) × (attachment_of (with_attachment devices id (Attached stage)) other ≡ attachment_of devices other)) =
     λ other. set_or_other devices id (Attached stage) other plugged in
     record {
-      sizes = record { marked = length-taken id pages stage.root marks ∙ sound.sizes.marked; size = sound.sizes.size; in_range = sound.sizes.in_range };
-      fixed = fixed_stay marks (taken_marks id pages stage.root marks) frames
-          (λ n system. taken_stays id n pages stage.root marks (owned_not_chosen marks ledger None frames count n (pages ++ stage.root ∷ []) System sound.sizes.marked chosen system)) sound.fixed;
-      grants = grants_reserved marks (taken_marks id pages stage.root marks) ledger (pages ++ stage.root ∷ []) sound.grants chosen.free (λ n apart. taken_stays id n pages stage.root marks apart);
+      sizes = record { marked = length-taken id pages roots marks ∙ sound.sizes.marked; size = sound.sizes.size; in_range = sound.sizes.in_range };
+      fixed = fixed_stay marks (taken_marks id pages roots marks) frames
+          (λ n system. taken_stays id n pages roots marks (owned_not_taken marks ledger frames count n pages roots System sound.sizes.marked taken system)) sound.fixed;
+      grants = grants_reserved marks (taken_marks id pages roots marks) ledger (pages ++ roots) sound.grants
+          (all_among (λ f. IsFreeForTable marks ledger None f) (pages ++ roots) (taken_free marks ledger frames count pages roots taken)) (λ n apart. taken_stays id n pages roots marks apart);
       holders = λ other page none. elim (either other) [
-        | inl now ↦ absurd (some_none (sym (ap attached_stage now.1) ∙ none))
-        | inr was ↦ sound.holders other page (sym (ap attached_stage was.1) ∙ none)
+        | inl now ↦ absurd (some_none (sym (ap attached_stages now.1) ∙ none))
+        | inr was ↦ sound.holders other page (sym (ap attached_stages was.1) ∙ none)
       ];
       numbers = numbers_attached devices id stage sound.numbers plugged lowest small;
       named = λ other s at. elim (either other) [
         | inl now ↦ subst (λ i. i < id_limit levels) (sym now.0) narrow
-        | inr was ↦ sound.named other s (sym (ap owned_stage was.1) ∙ at)
+        | inr was ↦ sound.named other s (sym (ap owned_stages was.1) ∙ at)
       ];
       tickets = sound.tickets;
       leaving = λ other ticket s at. elim (either other) [
@@ -185,24 +185,24 @@ sound_attached ledger marks devices frames levels started given confirmed id cou
       idle = λ stopped. absurd (false≢true (sym stopped ∙ runs));
     }
   where
-    some_none : ◌≡◌ {A = Option FirstStage} (Some stage) None → ⊥
+    some_none : ◌≡◌ {A = Option Stages} (Some stage) None → ⊥
     some_none same = cc
 
-    attached_leaving : (ticket : ℕ) (s : FirstStage) → ◌≡◌ {A = Attachment} (Attached stage) (Leaving ticket s) → ⊥
+    attached_leaving : (ticket : ℕ) (s : Stages) → ◌≡◌ {A = Attachment} (Attached stage) (Leaving ticket s) → ⊥
     attached_leaving ticket s same = cc
 
 -- DETACH
 
 -- a device that begins to leave owns what it owned
-pub owned_leaving : (devices : List Device) (id ticket : ℕ) (stage : FirstStage) → stage_of devices id ≡ Some stage → (other : ℕ)
-    → owned_stage_of (with_attachment devices id (Leaving ticket stage)) other ≡ owned_stage_of devices other
+pub owned_leaving : (devices : List Device) (id ticket : ℕ) (stage : Stages) → stages_of devices id ≡ Some stage → (other : ℕ)
+    → owned_stages_of (with_attachment devices id (Leaving ticket stage)) other ≡ owned_stages_of devices other
 owned_leaving devices id ticket stage attached other = elim (set_or_other devices id (Leaving ticket stage) other (attached_there devices id stage attached)) [
-  | inl now ↦ ap owned_stage now.1 ∙ sym (attached_owns (attachment_of devices id) stage attached) ∙ ap (λ i. owned_stage_of devices i) (sym now.0)
-  | inr was ↦ ap owned_stage was.1
+  | inl now ↦ ap owned_stages now.1 ∙ sym (attached_owns (attachment_of devices id) stage attached) ∙ ap (λ i. owned_stages_of devices i) (sym now.0)
+  | inr was ↦ ap owned_stages was.1
 ]
 
-pub sound_detached : (ledger : Ledger) (marks : List (Option Owner)) (devices : List Device) (frames levels : ℕ) (started : Bool) (given confirmed id : ℕ) (stage : FirstStage)
-    → IsSound ledger marks devices frames levels started given confirmed → started ≡ true → stage_of devices id ≡ Some stage → ((page : ℕ) → held_in ledger id page ≡ None)
+pub sound_detached : (ledger : Ledger) (marks : List (Option Owner)) (devices : List Device) (frames levels : ℕ) (started : Bool) (given confirmed id : ℕ) (stage : Stages)
+    → IsSound ledger marks devices frames levels started given confirmed → started ≡ true → stages_of devices id ≡ Some stage → ((page : ℕ) → held_in ledger id page ≡ None)
     → IsSound ledger marks (with_attachment devices id (Leaving (given + 1) stage)) frames levels started (given + 1) confirmed
 sound_detached ledger marks devices frames levels started given confirmed id stage sound runs attached none =
     let either : (other : ℕ) → ((other ≡ id) × (attachment_of (with_attachment devices id (Leaving (given + 1) stage)) other ≡ Leaving (given + 1) stage))
@@ -216,7 +216,7 @@ sound_detached ledger marks devices frames levels started given confirmed id sta
       grants = sound.grants;
       holders = λ other page free. elim (either other) [
         | inl now ↦ ap (λ i. held_in ledger i page) now.0 ∙ none page
-        | inr was ↦ sound.holders other page (sym (ap attached_stage was.1) ∙ free)
+        | inr was ↦ sound.holders other page (sym (ap attached_stages was.1) ∙ free)
       ];
       numbers = record {
         small = λ other s at. sound.numbers.small other s (sym (owned other) ∙ at);
@@ -233,7 +233,7 @@ sound_detached ledger marks devices frames levels started given confirmed id sta
       idle = λ stopped. absurd (false≢true (sym stopped ∙ runs));
     }
   where
-    own_ticket : (ticket : ℕ) (s : FirstStage) → ◌≡◌ {A = Attachment} (Leaving (given + 1) stage) (Leaving ticket s) → given + 1 ≡ ticket
+    own_ticket : (ticket : ℕ) (s : Stages) → ◌≡◌ {A = Attachment} (Leaving (given + 1) stage) (Leaving ticket s) → given + 1 ≡ ticket
     own_ticket ticket s same = cc
 
 -- GRANT
@@ -274,8 +274,8 @@ grants_more marks old new id page frame rights tables grants granted low unreser
         let grant = grants.held device p f r before in
         record { page_low = grant.page_low; unreserved = mark_stays (OneDevice id) f tables marks (not_among (λ t. IsFreeForTable marks old (Some frame) t) f tables free (λ is_free. (is_free.ungranted device p r).0 before)) ∙ grant.unreserved }
 
-pub sound_granted : (old new : Ledger) (marks : List (Option Owner)) (devices : List Device) (frames levels : ℕ) (started : Bool) (given confirmed id page frame : ℕ) (rights : Rights) (stage : FirstStage) (tables : List ℕ)
-    → IsSound old marks devices frames levels started given confirmed → ShowsGrant old new id page (frame, rights) → stage_of devices id ≡ Some stage
+pub sound_granted : (old new : Ledger) (marks : List (Option Owner)) (devices : List Device) (frames levels : ℕ) (started : Bool) (given confirmed id page frame : ℕ) (rights : Rights) (stage : Stages) (tables : List ℕ)
+    → IsSound old marks devices frames levels started given confirmed → ShowsGrant old new id page (frame, rights) → stages_of devices id ≡ Some stage
     → page < page_limit → slice_get marks frame ≡ Some None → All (λ f. f < length marks) tables → All (λ f. IsFreeForTable marks old (Some frame) f) tables
     → IsSound new (marked_for (OneDevice id) tables marks) devices frames levels started given confirmed
 sound_granted old new marks devices frames levels started given confirmed id page frame rights stage tables sound granted attached low unreserved inside free = record {
@@ -285,7 +285,7 @@ sound_granted old new marks devices frames levels started given confirmed id pag
       (λ is_free. owned_differs marks n n System system (unmarked marks n is_free.0 is_free.1.unmarked) refl))) sound.fixed;
   grants = grants_more marks old new id page frame rights tables sound.grants granted low unreserved free;
   holders = λ other p none. elim (here_or_there id page other p (frame, rights) (held_in old other p) (held_in new other p) (granted.held other p)) [
-    | inl now ↦ absurd (some_none (sym attached ∙ ap (λ i. stage_of devices i) now.0 ∙ none))
+    | inl now ↦ absurd (some_none (sym attached ∙ ap (λ i. stages_of devices i) now.0 ∙ none))
     | inr still ↦ still.1 ∙ sound.holders other p none
   ];
   numbers = sound.numbers;
@@ -297,7 +297,7 @@ sound_granted old new marks devices frames levels started given confirmed id pag
   idle = sound.idle;
 }
   where
-    some_none : ◌≡◌ {A = Option FirstStage} (Some stage) None → ⊥
+    some_none : ◌≡◌ {A = Option Stages} (Some stage) None → ⊥
     some_none same = cc
 
 -- where the ledger shows the same

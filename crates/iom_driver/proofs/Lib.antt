@@ -10,11 +10,16 @@ pub mod Openings
 pub mod Ring
 pub mod Marks
 pub mod Directories
+pub mod Modes
+pub mod FaultRings
 pub mod Stays
+pub mod Reported
+pub mod Taking
 pub mod Chosen
 pub mod Taken
 pub mod Keeps
 pub mod AttachTables
+pub mod AttachRoots
 pub mod AttachDirectory
 pub mod GrantTables
 pub mod ReleaseTables

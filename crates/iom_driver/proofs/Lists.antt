@@ -1,5 +1,5 @@
 -- Items of a list after one is set, or one more is there.
-use Rattle.std.proofs.Common.{suc, zero, ◌≡◌, ◌≢◌, ◌==◌, ◌<◌, ◌⊎◌, ◌∙◌, ℕ, false, List, [], ◌∷◌, ◌++◌, take, length, Option, None, Some, slice_get, set, get_or, replicate, refl, sym, ap, inl, inr, arith}
+use Rattle.std.proofs.Common.{suc, zero, ◌≡◌, ◌≢◌, ◌==◌, ◌<◌, ◌⊎◌, ◌∙◌, ℕ, false, List, [], ◌∷◌, ◌++◌, take, length, Option, None, Some, IfSome, slice_get, set, get_or, replicate, refl, sym, ap, inl, inr, arith}
 use Rattle.std.proofs.lemmas.Bool.Decides.{eqb_tells}
 use Rattle.std.proofs.lemmas.List.{length-set, get_or-set_same, get_or-set_other}
 use Rattle.std.proofs.lemmas.Option.{slice_get_read, slice_get_cases, slice_get_past, slice_get-get_or, get_or_from_slice_get}
@@ -71,3 +71,7 @@ pub take_more : {X : Type 0} (xs : List X) (k : ℕ) (x : X) → slice_get xs k 
 take_more [] k x at = cc
 take_more (y ∷ ys) zero x at = let same : y ≡ x = cc in ap (λ z. z ∷ []) same
 take_more (y ∷ ys) (suc k) x at = ap (λ zs. y ∷ zs) (take_more ys k x at)
+
+-- what holds of the value that is there
+pub of_some : {A : Type 0} (P : A → Type 0) (o : Option A) (x : A) → o ≡ Some x → IfSome o P → P x
+of_some P o x is holds = rw is at holds

@@ -47,6 +47,47 @@ among_get (f ∷ fs) (suc k) d lt = inr (among_get fs k d (omega arith))
 pub among_contained : (n : ℕ) (fs : List ℕ) → Contains fs n → Among n fs
 among_contained n fs here = among_at n fs here.0 here.1 here.2
 
+pub contained_among : (n : ℕ) (fs : List ℕ) → Among n fs → Contains fs n
+contained_among n [] here = absurd here
+contained_among n (f ∷ fs) (inl same) = (0, omega arith, sym same)
+contained_among n (f ∷ fs) (inr later) = let rest = contained_among n fs later in (suc rest.0, (let lt = rest.1 in omega (arith, lt)), rest.2)
+
+pub all_among : (P : ℕ → Type 0) (fs : List ℕ) → ((f : ℕ) → Among f fs → P f) → All P fs
+all_among P fs holds = λ k d lt. holds (get_or fs k d) (among_get fs k d lt)
+
+-- a number among two lists, one after the other
+pub among_left : (n : ℕ) (fs gs : List ℕ) → Among n fs → Among n (fs ++ gs)
+among_left n [] gs here = absurd here
+among_left n (f ∷ fs) gs (inl same) = inl same
+among_left n (f ∷ fs) gs (inr later) = inr (among_left n fs gs later)
+
+pub among_right : (n : ℕ) (fs gs : List ℕ) → Among n gs → Among n (fs ++ gs)
+among_right n [] gs here = here
+among_right n (f ∷ fs) gs here = inr (among_right n fs gs here)
+
+pub among_either : (n : ℕ) (fs gs : List ℕ) → Among n (fs ++ gs) → Among n fs ⊎ Among n gs
+among_either n [] gs here = inr here
+among_either n (f ∷ fs) gs (inl same) = inl (inl same)
+among_either n (f ∷ fs) gs (inr later) = elim (among_either n fs gs later) [ inl one ↦ inl (inr one) | inr other ↦ inr other ]
+
+pub among_not : (n : ℕ) (fs : List ℕ) → NotAmong n fs → Among n fs → ⊥
+among_not n [] apart here = here
+among_not n (f ∷ fs) apart (inl same) = apart.0 same
+among_not n (f ∷ fs) apart (inr later) = among_not n fs apart.1 later
+
+pub not_among_left : (n : ℕ) (fs gs : List ℕ) → NotAmong n (fs ++ gs) → NotAmong n fs
+not_among_left n [] gs apart = tt
+not_among_left n (f ∷ fs) gs apart = (apart.0, not_among_left n fs gs apart.1)
+
+pub not_among_right : (n : ℕ) (fs gs : List ℕ) → NotAmong n (fs ++ gs) → NotAmong n gs
+not_among_right n [] gs apart = apart
+not_among_right n (f ∷ fs) gs apart = not_among_right n fs gs apart.1
+
+-- two lists that have no number in common
+pub apart_either : (fs gs : List ℕ) → ((f : ℕ) → Among f gs → NotAmong f fs) → (n : ℕ) → Among n fs → NotAmong n gs
+apart_either fs gs apart n here =
+    not_among (λ f. Among f fs → ⊥) n gs (all_among (λ f. Among f fs → ⊥) gs (λ f other. among_not f fs (apart f other))) (λ none. none here)
+
 pub length-marked_for : (owner : Owner) (fs : List ℕ) (marks : List (Option Owner)) → length (marked_for owner fs marks) ≡ length marks
 length-marked_for owner [] marks = refl
 length-marked_for owner (f ∷ fs) marks = length-marked_for owner fs (slice_set marks f (Some owner)) ∙ length-set marks f (Some owner)

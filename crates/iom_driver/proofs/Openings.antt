@@ -11,8 +11,8 @@ use Rattle.iom_ledger.specs.Shown.{Agrees, held_in, lingering_in, released_in}
 use Rattle.iom_phys_mem.specs.Sizes.{IsMemorySize}
 use Rattle.iom_table_frames.specs.Marks.{opening_marks}
 use Rattle.iom_driver.specs.declared.device.Device.{Device}
-use Rattle.iom_driver.specs.declared.device.FirstStage.{FirstStage}
-use Rattle.iom_driver.specs.Devices.{owned_stage_of}
+use Rattle.iom_driver.specs.declared.device.Stages.{Stages}
+use Rattle.iom_driver.specs.Devices.{owned_stages_of}
 use Rattle.iom_driver.specs.Layout.{IsLevels, AreFixed}
 use Rattle.iom_driver.specs.Ready.{IsReady}
 use Rattle.iom_driver.specs.State.{DriverState}
@@ -86,12 +86,13 @@ pub ready_opening : (d : DriverState) (frames : ℕ) (memory : List (List ℕ)) 
 ready_opening d frames memory r marked size none stopped = record {
   stand = record {
     size = size ∙ sym marked;
-    tables = λ id stage at. absurd (none_attached id stage (ap (λ (ds : List Device). owned_stage_of ds id) (sym none) ∙ at));
+    tables = λ id stage at. absurd (none_attached id stage (ap (λ (ds : List Device). owned_stages_of ds id) (sym none) ∙ at));
     directory = λ runs. absurd (false≢true (sym stopped ∙ runs));
   };
   ring = λ runs. absurd (false≢true (sym stopped ∙ runs));
+  faults = λ runs. absurd (false≢true (sym stopped ∙ runs));
   directory = λ runs. absurd (false≢true (sym stopped ∙ runs));
 }
   where
-    none_attached : (id : ℕ) (stage : FirstStage) → ◌≡◌ {A = Option FirstStage} None (Some stage) → ⊥
+    none_attached : (id : ℕ) (stage : Stages) → ◌≡◌ {A = Option Stages} None (Some stage) → ⊥
     none_attached id stage same = cc

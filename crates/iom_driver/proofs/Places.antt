@@ -6,8 +6,8 @@ use Rattle.std.proofs.lemmas.Bool.{eq-eqb, false≢true}
 use Rattle.iom_driver.specs.declared.device.Attachment.{Attachment}
 use Rattle.iom_driver.specs.declared.device.Attachment.TheVariants.{Detached, Attached, Leaving}
 use Rattle.iom_driver.specs.declared.device.Device.{Device}
-use Rattle.iom_driver.specs.declared.device.FirstStage.{FirstStage}
-use Rattle.iom_driver.specs.Devices.{device_of, is_plugged, attachment_of, attached_stage, owned_stage, stage_of, detached, with_attachment}
+use Rattle.iom_driver.specs.declared.device.Stages.{Stages}
+use Rattle.iom_driver.specs.Devices.{device_of, is_plugged, attachment_of, attached_stages, owned_stages, stages_of, detached, with_attachment}
 use Rattle.iom_driver.specs.Places.{IsPlaceOf}
 use Rattle.iom_driver.proofs.Lists.{differs}
 
@@ -38,26 +38,26 @@ pub attachment_absent : (devices : List Device) (id : ℕ) → device_of devices
 attachment_absent devices id at = ap (λ (o : Option Device). option_map_or (λ (d : Device). d.attachment) o Detached) at
 
 -- an attached device owns its stage; one that owns none is detached
-pub attached_owns : (a : Attachment) (stage : FirstStage) → attached_stage a ≡ Some stage → owned_stage a ≡ Some stage
+pub attached_owns : (a : Attachment) (stage : Stages) → attached_stages a ≡ Some stage → owned_stages a ≡ Some stage
 attached_owns Detached stage at = at
 attached_owns (Attached own) stage at = at
 attached_owns (Leaving ticket own) stage at = cc
 
-pub owns_nothing : (a : Attachment) → owned_stage a ≡ None → a ≡ Detached
+pub owns_nothing : (a : Attachment) → owned_stages a ≡ None → a ≡ Detached
 owns_nothing Detached none = refl
 owns_nothing (Attached stage) none = cc
 owns_nothing (Leaving ticket stage) none = cc
 
-pub not_attached : (a : Attachment) → owned_stage a ≡ None → attached_stage a ≡ None
-not_attached a none = ap attached_stage (owns_nothing a none)
+pub not_attached : (a : Attachment) → owned_stages a ≡ None → attached_stages a ≡ None
+not_attached a none = ap attached_stages (owns_nothing a none)
 
-pub attached_is : (a : Attachment) (stage : FirstStage) → attached_stage a ≡ Some stage → a ≡ Attached stage
+pub attached_is : (a : Attachment) (stage : Stages) → attached_stages a ≡ Some stage → a ≡ Attached stage
 attached_is Detached stage at = cc
 attached_is (Attached own) stage at = let same : own ≡ stage = cc in ap Attached same
 attached_is (Leaving ticket own) stage at = cc
 
 -- an attached device is there
-pub attached_there : (devices : List Device) (id : ℕ) (stage : FirstStage) → stage_of devices id ≡ Some stage → is_plugged devices id ≡ true
+pub attached_there : (devices : List Device) (id : ℕ) (stage : Stages) → stages_of devices id ≡ Some stage → is_plugged devices id ≡ true
 attached_there [] id stage at = cc
 attached_there (device ∷ others) id stage at = elim (eqb_tells device.id id) [ inl e ↦ rw e.0 refl | inr ne ↦ rw ne.0 (attached_there others id stage (rw ne.0 at at)) ]
 

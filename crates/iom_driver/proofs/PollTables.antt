@@ -28,7 +28,7 @@ pub tables_polled : (done : ℕ) (memory memory' : List (List ℕ)) (marks : Lis
     → HaveTables memory' (map (given_back done devices) marks) ledger' (map (once_confirmed done) devices)
 tables_polled done memory memory' marks ledger ledger' devices tables clears held id stage at =
     let still = still_owned done devices id stage at in
-    tables_stay memory memory' marks (map (given_back done devices) marks) ledger ledger' id stage.root (tables id stage still.0)
+    tables_stay memory memory' marks (map (given_back done devices) marks) ledger ledger' id stage.mode stage.root (tables id stage still.0)
     (λ n own. owned_stays done devices marks memory memory' n (OneDevice id) clears own still.1) (λ page. held id page)
 
 pub directory_polled : (frames done : ℕ) (memory memory' : List (List ℕ)) (marks : List (Option Owner)) (devices : List Device) (levels : ℕ) → IsLevels levels → ClearsGone done devices marks memory memory'

@@ -9,13 +9,15 @@ use Rattle.iom_ledger.specs.Shown.{held_in}
 use Rattle.iom_page_table.specs.declared.leaf.PageLeaf.{PageLeaf}
 use Rattle.iom_page_table.specs.Leaves.{leaf_of}
 use Rattle.iom_page_table.specs.Sv39.{IsRoot, HasTable, ChangesLeaf, KeepsOutside}
+use Rattle.iom_base.specs.declared.mode.Mode.{Mode}
 use Rattle.iom_base.specs.declared.owner.Owner.{Owner}
 use Rattle.iom_base.specs.declared.owner.Owner.TheVariants.{OneDevice}
 use Rattle.iom_driver.specs.declared.device.Device.{Device}
-use Rattle.iom_driver.specs.declared.device.FirstStage.{FirstStage}
-use Rattle.iom_driver.specs.Devices.{owned_stage_of}
+use Rattle.iom_driver.specs.declared.device.Stages.{Stages}
+use Rattle.iom_driver.specs.Devices.{owned_stages_of}
 use Rattle.iom_driver.specs.Tables.{AreTablesOf, HaveTables, leaf_for}
 use Rattle.iom_driver.proofs.Lists.{differs}
+use Rattle.iom_driver.proofs.Modes.{IsRooted, rooted, root_in, table_of, table_in}
 use Rattle.iom_driver.proofs.Stays.{tables_kept}
 
 -- the leaf of a page of the root's tables is cleared, and no other, and no frame but theirs changes
@@ -31,14 +33,25 @@ pub other_frame : (memory memory' : List (List ℕ)) (root page f : ℕ) → IsU
 other_frame memory memory' root page f unmapped other = unmapped.outside f (λ at. other ((unmapped.tables f).0 at))
 
 -- the tables of the device
-own_tables : (memory memory' : List (List ℕ)) (marks : List (Option Owner)) (ledger ledger' : Ledger) (id root page ticket : ℕ)
-    → AreTablesOf memory marks ledger id root → IsUnmapped memory memory' root page → ShowsRelease ledger ledger' id page ticket → AreTablesOf memory' marks ledger' id root
-own_tables memory memory' marks ledger ledger' id root page ticket tables unmapped released = record {
-  tree = unmapped.tree;
-  own = λ f at. tables.own f ((unmapped.tables f).0 at);
+own_tables : (memory memory' : List (List ℕ)) (marks : List (Option Owner)) (ledger ledger' : Ledger) (id : ℕ) (mode : Mode) (root page ticket : ℕ)
+    → AreTablesOf memory marks ledger id mode root → IsUnmapped memory memory' root page → ShowsRelease ledger ledger' id page ticket → AreTablesOf memory' marks ledger' id mode root
+own_tables memory memory' marks ledger ledger' id mode root page ticket tables unmapped released = record {
+  tree = root_in mode memory' root record {
+    tree = unmapped.tree;
+    others = λ f here. other_frame memory memory' root page f unmapped (λ at. was.apart f at here) ∙ was.others f here;
+    apart = λ f at here. was.apart f ((unmapped.tables f).0 at) here;
+    aligned = was.aligned;
+  };
+  own = λ f at. elim (table_of mode memory' root f at) [
+    | inl now ↦ tables.own f (table_in mode memory root f (inl ((unmapped.tables f).0 now)))
+    | inr here ↦ tables.own f (table_in mode memory root f (inr here))
+  ];
   leaves = λ p low. unmapped.leaf p low ∙ by p (tables.leaves p low);
 }
   where
+    was : IsRooted mode memory root
+    was = rooted mode memory root tables.tree
+
     cleared : (same : Bool) (leaf : Option PageLeaf) (held : Option Pair) → leaf ≡ option_map leaf_for held
         → ◌≡◌ {A = Option PageLeaf} (if same then None else leaf) (option_map leaf_for (if same then None else held))
     cleared true leaf held shows = refl
@@ -58,11 +71,12 @@ own_tables memory memory' marks ledger ledger' id root page ticket tables unmapp
         ∙ ap (option_map leaf_for) (sym (released.held id p))
 
 -- the tables of another device
-other_tables : (memory memory' : List (List ℕ)) (marks : List (Option Owner)) (ledger ledger' : Ledger) (id root page ticket other other_root : ℕ) → other ≢ id
-    → AreTablesOf memory marks ledger id root → AreTablesOf memory marks ledger other other_root → IsUnmapped memory memory' root page → ShowsRelease ledger ledger' id page ticket
-    → AreTablesOf memory' marks ledger' other other_root
-other_tables memory memory' marks ledger ledger' id root page ticket other other_root apart tables others unmapped released =
-    let kept = tables_kept memory memory' marks ledger other other_root others (λ n marked. other_frame memory memory' root page n unmapped (λ at. absurd (apart (one_owner n marked (tables.own n at))))) unmapped.size in
+other_tables : (memory memory' : List (List ℕ)) (marks : List (Option Owner)) (ledger ledger' : Ledger) (id : ℕ) (mode : Mode) (root page ticket other : ℕ) (other_mode : Mode) (other_root : ℕ) → other ≢ id
+    → AreTablesOf memory marks ledger id mode root → AreTablesOf memory marks ledger other other_mode other_root → IsUnmapped memory memory' root page → ShowsRelease ledger ledger' id page ticket
+    → AreTablesOf memory' marks ledger' other other_mode other_root
+other_tables memory memory' marks ledger ledger' id mode root page ticket other other_mode other_root apart tables others unmapped released =
+    let kept = tables_kept memory memory' marks ledger other other_mode other_root others
+    (λ n marked. other_frame memory memory' root page n unmapped (λ at. absurd (apart (one_owner n marked (tables.own n (table_in mode memory root n (inl at))))))) unmapped.size in
     record {
       tree = kept.tree;
       own = kept.own;
@@ -73,16 +87,16 @@ other_tables memory memory' marks ledger ledger' id root page ticket other other
     one_owner n a b = cc
 
 -- the tables of all devices
-pub tables_released : (memory memory' : List (List ℕ)) (marks : List (Option Owner)) (ledger ledger' : Ledger) (devices : List Device) (id page ticket : ℕ) (stage : FirstStage)
-    → HaveTables memory marks ledger devices → owned_stage_of devices id ≡ Some stage → IsUnmapped memory memory' stage.root page → ShowsRelease ledger ledger' id page ticket
+pub tables_released : (memory memory' : List (List ℕ)) (marks : List (Option Owner)) (ledger ledger' : Ledger) (devices : List Device) (id page ticket : ℕ) (stage : Stages)
+    → HaveTables memory marks ledger devices → owned_stages_of devices id ≡ Some stage → IsUnmapped memory memory' stage.root page → ShowsRelease ledger ledger' id page ticket
     → HaveTables memory' marks ledger' devices
 tables_released memory memory' marks ledger ledger' devices id page ticket stage tables attached unmapped released other found at =
     elim (eqb_tells other id) [
       | inl e ↦
-          let both : Some stage ≡ Some found = sym attached ∙ ap (λ i. owned_stage_of devices i) (sym e.1) ∙ at in
-          let root : stage.root ≡ found.root = let same : stage ≡ found = cc in ap (λ (s : FirstStage). s.root) same in
-          subst (λ i. AreTablesOf memory' marks ledger' i found.root) (sym e.1)
-          (subst (λ r. AreTablesOf memory' marks ledger' id r) root
-          (own_tables memory memory' marks ledger ledger' id stage.root page ticket (tables id stage attached) unmapped released))
-      | inr ne ↦ other_tables memory memory' marks ledger ledger' id stage.root page ticket other found.root ne.1 (tables id stage attached) (tables other found at) unmapped released
+          let both : Some stage ≡ Some found = sym attached ∙ ap (λ i. owned_stages_of devices i) (sym e.1) ∙ at in
+          let same : stage ≡ found = cc in
+          subst (λ i. AreTablesOf memory' marks ledger' i found.mode found.root) (sym e.1)
+          (subst (λ (s : Stages). AreTablesOf memory' marks ledger' id s.mode s.root) same
+          (own_tables memory memory' marks ledger ledger' id stage.mode stage.root page ticket (tables id stage attached) unmapped released))
+      | inr ne ↦ other_tables memory memory' marks ledger ledger' id stage.mode stage.root page ticket other found.mode found.root ne.1 (tables id stage attached) (tables other found at) unmapped released
     ]

@@ -1,54 +1,88 @@
 -- The registers go on to name the driver's ring, and the list of the commands in it.
-use Rattle.std.proofs.Common.{zero, suc, ◌≡◌, ◌+◌, ◌-◌, ◌*◌, ◌/◌, ◌%◌, ◌^◌, ◌<◌, ◌≤◌, ◌++◌, ◌∙◌, ℕ, true, List, [], ◌∷◌, length, slice_get, refl, sym, ap, subst, arith}
+use Rattle.std.proofs.Common.{zero, suc, ◌≡◌, ◌+◌, ◌-◌, ◌*◌, ◌/◌, ◌%◌, ◌^◌, ◌<◌, ◌≤◌, ◌++◌, ◌∙◌, ℕ, true, List, [], ◌∷◌, length, slice_get, refl, sym, ap, subst, arith, All}
+use Rattle.std.proofs.lemmas.List.Elements.{All-nil}
 use Rattle.std.proofs.Math.Nat.{zero-mod}
 use Rattle.iom_command_queue.specs.declared.command.Command.{Command}
 use Rattle.iom_command_queue.specs.declared.entry.QueueEntry.{QueueEntry}
 use Rattle.iom_command_queue.specs.declared.entry.QueueEntry.TheVariants as stands
 use Rattle.iom_command_queue.specs.Waiting.{commands_in, place_of}
 use Rattle.iom_command_queue.proofs.Waits.{empty, stays_by_frames}
+use Rattle.iom_fault_queue.specs.declared.entry.Entry.{Entry}
+use Rattle.iom_fault_queue.specs.Ring.{records_in}
+use Rattle.iom_fault_queue.proofs.Lists.{empty as no_records}
 use Rattle.iom_registers.specs.declared.mmio.Mmio.{Ghosts}
 use Rattle.iom_registers.specs.declared.registers.Registers.{Registers}
-use Rattle.iom_registers.specs.declared.register.Register.TheVariants.{Ddtp, Cqb, Cqcsr}
+use Rattle.iom_registers.specs.declared.register.Register.TheVariants.{Ddtp, Cqb, Cqcsr, Fqb, Fqcsr}
 use Rattle.iom_registers.specs.Fields.{entry_count}
-use Rattle.iom_registers.specs.Queues.{command_base, command_entries, command_head, command_tail, directory_mode, directory_root, is_command_queue_on}
+use Rattle.iom_registers.specs.Queues.{command_base, command_entries, command_head, command_tail, directory_mode, directory_root, is_command_queue_on, fault_base, fault_entries, fault_head, fault_tail, is_fault_queue_on}
 use Rattle.iom_registers.specs.Table.{written}
 use Rattle.iom_driver.specs.Appends.{AppendsTwo, AppendsThree}
 use Rattle.iom_driver.specs.Calls.{IsOff}
 use Rattle.iom_driver.specs.Directory.{NamesDirectory}
-use Rattle.iom_driver.specs.Layout.{IsLevels, command_frame, cqb_of, ddtp_of}
-use Rattle.iom_driver.specs.Ready.{IsRing}
+use Rattle.iom_driver.specs.Layout.{IsLevels, command_frame, cqb_of, ddtp_of, fqb_of}
+use Rattle.iom_driver.specs.Ready.{IsRing, IsReport, IsFaultRing}
 
 -- after a start
-abbrev pub started : Registers → ℕ → ℕ → Registers
-started r ddtp cqb = written (written (written r Ddtp ddtp) Cqb cqb) Cqcsr 1
+abbrev pub started : Registers → ℕ → ℕ → ℕ → Registers
+started r ddtp cqb fqb = written (written (written (written (written r Ddtp ddtp) Cqb cqb) Cqcsr 1) Fqb fqb) Fqcsr 1
 
-started_on : (r : Registers) (ddtp cqb : ℕ) → IsOff r → is_command_queue_on (started r ddtp cqb) ≡ true
-started_on r ddtp cqb off = rw off.off refl
+started_on : (r : Registers) (ddtp cqb fqb : ℕ) → IsOff r → is_command_queue_on (started r ddtp cqb fqb) ≡ true
+started_on r ddtp cqb fqb off = rw (off.off, off.faults_off) refl
 
-started_entries : (r : Registers) (ddtp frames : ℕ) → IsOff r → command_entries (started r ddtp (cqb_of frames)) ≡ 256
+started_entries : (r : Registers) (ddtp frames fqb : ℕ) → IsOff r → command_entries (started r ddtp (cqb_of frames) fqb) ≡ 256
 unfolding entry_count
-started_entries r ddtp frames off =
+started_entries r ddtp frames fqb off =
     let low : cqb_of frames / 2 ^ 0 % 2 ^ (4 + 1 - 0) ≡ 7 = omega arith in
-    rw off.off (rw low refl)
+    rw (off.off, off.faults_off) (rw low refl)
 
-started_base : (r : Registers) (ddtp frames : ℕ) → IsOff r → frames ≤ 4096 → command_base (started r ddtp (cqb_of frames)) ≡ 4096 * (frames - 1)
-started_base r ddtp frames off le = rw off.off (omega arith)
+started_base : (r : Registers) (ddtp frames fqb : ℕ) → IsOff r → frames ≤ 4096 → command_base (started r ddtp (cqb_of frames) fqb) ≡ 4096 * (frames - 1)
+started_base r ddtp frames fqb off le = rw (off.off, off.faults_off) (omega arith)
 
-pub started_ring : (r : Registers) (ddtp frames : ℕ) → IsOff r → frames ≤ 4096 → IsRing frames (started r ddtp (cqb_of frames))
-started_ring r ddtp frames off le = record {
-  on = started_on r ddtp (cqb_of frames) off;
-  base = started_base r ddtp frames off le;
-  entries = started_entries r ddtp frames off;
+pub started_ring : (r : Registers) (ddtp frames fqb : ℕ) → IsOff r → frames ≤ 4096 → IsRing frames (started r ddtp (cqb_of frames) fqb)
+started_ring r ddtp frames fqb off le = record {
+  on = started_on r ddtp (cqb_of frames) fqb off;
+  base = started_base r ddtp frames fqb off le;
+  entries = started_entries r ddtp frames fqb off;
 }
 
-started_head : (r : Registers) (ddtp cqb : ℕ) → IsOff r → command_head (started r ddtp cqb) ≡ 0
-started_head r ddtp cqb off = rw off.off (zero-mod _)
+started_head : (r : Registers) (ddtp cqb fqb : ℕ) → IsOff r → command_head (started r ddtp cqb fqb) ≡ 0
+started_head r ddtp cqb fqb off = rw (off.off, off.faults_off) (zero-mod _)
 
-started_tail : (r : Registers) (ddtp cqb : ℕ) → IsOff r → command_tail (started r ddtp cqb) ≡ 0
-started_tail r ddtp cqb off = rw (off.off, off.tail) (zero-mod _)
+started_tail : (r : Registers) (ddtp cqb fqb : ℕ) → IsOff r → command_tail (started r ddtp cqb fqb) ≡ 0
+started_tail r ddtp cqb fqb off = rw (off.off, off.faults_off, off.tail) (zero-mod _)
 
-pub started_empty : (memory : List (List ℕ)) (r : Registers) (ddtp cqb : ℕ) → IsOff r → commands_in memory (started r ddtp cqb) ≡ []
-started_empty memory r ddtp cqb off = empty memory (started r ddtp cqb) (started_head r ddtp cqb off ∙ sym (started_tail r ddtp cqb off))
+pub started_empty : (memory : List (List ℕ)) (r : Registers) (ddtp cqb fqb : ℕ) → IsOff r → commands_in memory (started r ddtp cqb fqb) ≡ []
+started_empty memory r ddtp cqb fqb off = empty memory (started r ddtp cqb fqb) (started_head r ddtp cqb fqb off ∙ sym (started_tail r ddtp cqb fqb off))
+
+-- and the fault queue is on, and empty
+started_fault_head : (r : Registers) (ddtp cqb fqb : ℕ) → IsOff r → fault_head (started r ddtp cqb fqb) ≡ 0
+started_fault_head r ddtp cqb fqb off = rw (off.off, off.faults_off, off.head) (zero-mod _)
+
+started_fault_tail : (r : Registers) (ddtp cqb fqb : ℕ) → IsOff r → fault_tail (started r ddtp cqb fqb) ≡ 0
+started_fault_tail r ddtp cqb fqb off = rw (off.off, off.faults_off) (zero-mod _)
+
+pub started_unreported : (memory : List (List ℕ)) (r : Registers) (ddtp cqb fqb : ℕ) → IsOff r → records_in memory (started r ddtp cqb fqb) ≡ []
+started_unreported memory r ddtp cqb fqb off = no_records memory (started r ddtp cqb fqb) (started_fault_head r ddtp cqb fqb off ∙ sym (started_fault_tail r ddtp cqb fqb off))
+
+started_faults_on : (r : Registers) (ddtp cqb fqb : ℕ) → IsOff r → is_fault_queue_on (started r ddtp cqb fqb) ≡ true
+started_faults_on r ddtp cqb fqb off = rw (off.off, off.faults_off) refl
+
+started_fault_entries : (r : Registers) (ddtp cqb frames : ℕ) → IsOff r → fault_entries (started r ddtp cqb (fqb_of frames)) ≡ 128
+unfolding entry_count
+started_fault_entries r ddtp cqb frames off =
+    let low : fqb_of frames / 2 ^ 0 % 2 ^ (4 + 1 - 0) ≡ 6 = omega arith in
+    rw (off.off, off.faults_off) (rw low refl)
+
+started_fault_base : (r : Registers) (ddtp cqb frames : ℕ) → IsOff r → frames ≤ 4096 → fault_base (started r ddtp cqb (fqb_of frames)) ≡ 4096 * (frames - 2)
+started_fault_base r ddtp cqb frames off le = rw (off.off, off.faults_off) (omega arith)
+
+pub started_fault_ring : (memory : List (List ℕ)) (r : Registers) (ddtp cqb frames : ℕ) → IsOff r → length memory ≡ frames → frames ≤ 4096 → IsFaultRing memory (started r ddtp cqb (fqb_of frames))
+started_fault_ring memory r ddtp cqb frames off size le = record {
+  on = started_faults_on r ddtp cqb (fqb_of frames) off;
+  base = started_fault_base r ddtp cqb frames off le ∙ ap (λ n. 4096 * (n - 2)) (sym size);
+  entries = started_fault_entries r ddtp cqb frames off;
+  reports = subst (λ (es : List Entry). All IsReport es) (sym (started_unreported memory r ddtp cqb (fqb_of frames) off)) (All-nil IsReport);
+}
 
 -- a place of the ring lies in its frame
 pub in_ring : (r : Registers) (frames j : ℕ) → IsRing frames r → j < command_entries r → place_of r j / 4096 ≡ command_frame frames
@@ -91,8 +125,8 @@ pub stays_named : (frames levels : ℕ) (old new : Registers) → (directory_mod
 stays_named frames levels old new same names = record { mode = same.0 ∙ names.mode; root = same.1 ∙ names.root }
 
 -- after a start the registers name the directory
-pub started_names : (r : Registers) (frames levels : ℕ) → IsOff r → frames ≤ 4096 → IsLevels levels → NamesDirectory frames levels (started r (ddtp_of frames levels) (cqb_of frames))
-started_names r frames levels off few range = by levels range.0 range.1
+pub started_names : (r : Registers) (frames levels : ℕ) → IsOff r → frames ≤ 4096 → IsLevels levels → (cqb fqb : ℕ) → NamesDirectory frames levels (started r (ddtp_of frames levels) cqb fqb)
+started_names r frames levels off few range cqb fqb = by levels range.0 range.1
   where
     low : (n : ℕ) → n ≤ 3 → ddtp_of frames n / 2 ^ 0 % 2 ^ (3 + 1 - 0) ≡ n + 1
     low n le = omega (arith, le)
@@ -100,9 +134,9 @@ started_names r frames levels off few range = by levels range.0 range.1
     high : (n : ℕ) → n ≤ 3 → ddtp_of frames n / 2 ^ 10 % 2 ^ (53 + 1 - 10) ≡ frames - 4
     high n le = omega (arith, le, few)
 
-    by : (n : ℕ) → 1 ≤ n → n ≤ 3 → NamesDirectory frames n (started r (ddtp_of frames n) (cqb_of frames))
+    by : (n : ℕ) → 1 ≤ n → n ≤ 3 → NamesDirectory frames n (started r (ddtp_of frames n) cqb fqb)
     by zero one three = absurd (omega arith)
-    by (suc zero) one three = record { mode = rw off.off (rw (low 1 three) refl); root = rw off.off (rw (low 1 three) (high 1 three)) }
-    by (suc (suc zero)) one three = record { mode = rw off.off (rw (low 2 three) refl); root = rw off.off (rw (low 2 three) (high 2 three)) }
-    by (suc (suc (suc zero))) one three = record { mode = rw off.off (rw (low 3 three) refl); root = rw off.off (rw (low 3 three) (high 3 three)) }
+    by (suc zero) one three = record { mode = rw (off.off, off.faults_off) (rw (low 1 three) refl); root = rw (off.off, off.faults_off) (rw (low 1 three) (high 1 three)) }
+    by (suc (suc zero)) one three = record { mode = rw (off.off, off.faults_off) (rw (low 2 three) refl); root = rw (off.off, off.faults_off) (rw (low 2 three) (high 2 three)) }
+    by (suc (suc (suc zero))) one three = record { mode = rw (off.off, off.faults_off) (rw (low 3 three) refl); root = rw (off.off, off.faults_off) (rw (low 3 three) (high 3 three)) }
     by (suc (suc (suc (suc n)))) one three = absurd (omega arith)

@@ -1,14 +1,13 @@
 -- The marks, once the chosen frames become pages of the directory and a device's root.
-use Rattle.std.proofs.Common.{◌≡◌, ◌≢◌, ◌<◌, ◌∙◌, ℕ, true, false, List, [], ◌∷◌, ◌++◌, length, Option, Some, None, slice_get, slice_set, refl, sym, ap, subst}
-use Rattle.std.proofs.lemmas.List.{length-set}
+use Rattle.std.proofs.Common.{◌≡◌, ◌≢◌, ◌<◌, ◌∙◌, inl, inr, ℕ, true, false, List, ◌++◌, length, Option, Some, None, slice_get, refl, sym, ap, subst}
 use Rattle.iom_base.specs.declared.owner.Owner.{Owner}
 use Rattle.iom_base.specs.declared.owner.Owner.TheVariants.{OneDevice, System}
 use Rattle.iom_ledger.specs.declared.ledger.Ledger.{Ledger}
 use Rattle.iom_table_frames.specs.Marks.{is_marked, IsFreeForTable}
 use Rattle.iom_driver.specs.Choices.{marked_for}
 use Rattle.iom_driver.proofs.Chosen.{AreChosen}
-use Rattle.iom_driver.proofs.Lists.{get_set_other, get_there}
-use Rattle.iom_driver.proofs.Marks.{NotAmong, not_among, length-marked_for, mark_stays}
+use Rattle.iom_driver.proofs.Lists.{get_there}
+use Rattle.iom_driver.proofs.Marks.{Among, NotAmong, not_among, not_among_left, not_among_right, among_either, among_all, all_among, length-marked_for, mark_stays}
 
 -- a frame that isn't marked has no mark
 pub unmarked : (marks : List (Option Owner)) (n : ℕ) → n < length marks → is_marked marks n ≡ false → slice_get marks n ≡ Some None
@@ -33,20 +32,45 @@ owned_not_chosen marks ledger named limit count n chosen owner long chose mark =
     not_among (λ t. (t < limit) × IsFreeForTable marks ledger named t) n chosen (λ k d lt. (chose.inside k d lt, chose.free k d lt))
     (λ is_free. owned_differs marks n n owner mark (unmarked marks n (subst (λ m. n < m) (sym long) is_free.0) is_free.1.unmarked) refl)
 
--- the marks: the pages are the system's, and the root the device's
-abbrev pub taken_marks : ℕ → List ℕ → ℕ → List (Option Owner) → List (Option Owner)
-taken_marks id pages root marks = slice_set (marked_for System pages marks) root (Some (OneDevice id))
+-- the marks: the pages are the system's, and the root's frames the device's
+abbrev pub taken_marks : ℕ → List ℕ → List ℕ → List (Option Owner) → List (Option Owner)
+taken_marks id pages roots marks = marked_for (OneDevice id) roots (marked_for System pages marks)
 
-pub length-taken : (id : ℕ) (pages : List ℕ) (root : ℕ) (marks : List (Option Owner)) → length (taken_marks id pages root marks) ≡ length marks
-length-taken id pages root marks = length-set (marked_for System pages marks) root (Some (OneDevice id)) ∙ length-marked_for System pages marks
-
--- a number that is none of a longer list
-pub not_among_parts : (n : ℕ) (fs : List ℕ) (last : ℕ) → NotAmong n (fs ++ last ∷ []) → NotAmong n fs × (n ≢ last)
-not_among_parts n [] last apart = (tt, apart.0)
-not_among_parts n (f ∷ fs) last apart = let rest = not_among_parts n fs last apart.1 in ((apart.0, rest.0), rest.1)
+pub length-taken : (id : ℕ) (pages roots : List ℕ) (marks : List (Option Owner)) → length (taken_marks id pages roots marks) ≡ length marks
+length-taken id pages roots marks = length-marked_for (OneDevice id) roots (marked_for System pages marks) ∙ length-marked_for System pages marks
 
 -- another frame keeps its mark
-pub taken_stays : (id n : ℕ) (pages : List ℕ) (root : ℕ) (marks : List (Option Owner)) → NotAmong n (pages ++ root ∷ []) → slice_get (taken_marks id pages root marks) n ≡ slice_get marks n
-taken_stays id n pages root marks apart =
-    let parts = not_among_parts n pages root apart in
-    get_set_other (marked_for System pages marks) root n (Some (OneDevice id)) parts.1 ∙ mark_stays System n pages marks parts.0
+pub taken_stays : (id n : ℕ) (pages roots : List ℕ) (marks : List (Option Owner)) → NotAmong n (pages ++ roots) → slice_get (taken_marks id pages roots marks) n ≡ slice_get marks n
+taken_stays id n pages roots marks apart =
+    mark_stays (OneDevice id) n roots (marked_for System pages marks) (not_among_right n pages roots apart) ∙ mark_stays System n pages marks (not_among_left n pages roots apart)
+
+-- The frames that an attach takes: the directory's pages, and those of the root, below them.
+pub record AreTaken (marks : List (Option Owner)) (ledger : Ledger) (frames count : ℕ) (pages roots : List ℕ) : Type 0 where
+  pub chosen : AreChosen marks ledger None frames count pages
+  pub inside : (f : ℕ) → Among f roots → f < frames
+  pub free : (f : ℕ) → Among f roots → IsFreeForTable marks ledger None f
+  pub apart : (f : ℕ) → Among f roots → NotAmong f pages
+
+-- each of them is a free frame of memory
+pub taken_inside : (marks : List (Option Owner)) (ledger : Ledger) (frames count : ℕ) (pages roots : List ℕ) → AreTaken marks ledger frames count pages roots
+    → (n : ℕ) → Among n (pages ++ roots) → n < frames
+taken_inside marks ledger frames count pages roots taken n here = elim (among_either n pages roots here) [
+  | inl page ↦ among_all (λ f. f < frames) n pages taken.chosen.inside page
+  | inr root ↦ taken.inside n root
+]
+
+pub taken_free : (marks : List (Option Owner)) (ledger : Ledger) (frames count : ℕ) (pages roots : List ℕ) → AreTaken marks ledger frames count pages roots
+    → (n : ℕ) → Among n (pages ++ roots) → IsFreeForTable marks ledger None n
+taken_free marks ledger frames count pages roots taken n here = elim (among_either n pages roots here) [
+  | inl page ↦ among_all (λ f. IsFreeForTable marks ledger None f) n pages taken.chosen.free page
+  | inr root ↦ taken.free n root
+]
+
+-- so a frame that is somebody's isn't taken
+pub owned_not_taken : (marks : List (Option Owner)) (ledger : Ledger) (frames count n : ℕ) (pages roots : List ℕ) (owner : Owner) → length marks ≡ frames
+    → AreTaken marks ledger frames count pages roots → slice_get marks n ≡ Some (Some owner) → NotAmong n (pages ++ roots)
+owned_not_taken marks ledger frames count n pages roots owner long taken mark =
+    not_among (λ t. (t < frames) × IsFreeForTable marks ledger None t) n (pages ++ roots)
+    (all_among (λ t. (t < frames) × IsFreeForTable marks ledger None t) (pages ++ roots)
+    (λ f here. (taken_inside marks ledger frames count pages roots taken f here, taken_free marks ledger frames count pages roots taken f here)))
+    (λ is_free. owned_differs marks n n owner mark (unmarked marks n (subst (λ m. n < m) (sym long) is_free.0) is_free.1.unmarked) refl)

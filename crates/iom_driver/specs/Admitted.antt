@@ -1,36 +1,44 @@
 -- What a call has found out when it wasn't refused: for the calls inside this crate alone.
-use Rattle.std.specs.Prelude.{◌≡◌, ℕ, ◌+◌, ◌-◌, ◌<◌, ◌≤◌, true, false, length, None, Some, IsSome}
+use Rattle.std.specs.Prelude.{◌≡◌, ℕ, ◌+◌, ◌-◌, ◌%◌, ◌<◌, ◌≤◌, ⊤, true, false, length, None, Some, IsSome}
+use Rattle.iom_base.specs.declared.mode.Mode.{Mode}
+use Rattle.iom_base.specs.declared.mode.Mode.TheVariants.{First, Second, Both}
 use Rattle.iom_base.specs.Sizes.{page_limit}
 use Rattle.iom_command_queue.specs.Waiting.{how_many}
 use Rattle.iom_ledger.specs.Pending.{pending_limit}
 use Rattle.iom_ledger.specs.Shown.{held_in, lingering_in}
 use Rattle.iom_registers.specs.declared.registers.Registers.{Registers}
 use Rattle.iom_table_frames.specs.Marks.{is_marked}
-use Rattle.iom_driver.specs.declared.device.FirstStage.{FirstStage}
-use Rattle.iom_driver.specs.Devices.{stage_of}
+use Rattle.iom_driver.specs.declared.device.Stages.{Stages}
+use Rattle.iom_driver.specs.Devices.{stages_of}
 use Rattle.iom_driver.specs.Layout.{queue_entries}
 use Rattle.iom_driver.specs.State.{DriverState}
 
-pub record MayBeGranted (d : DriverState) (id page frame : ℕ) (stage : FirstStage) : Type 0 where
-  pub attached : stage_of d.devices id ≡ Some stage
+pub record MayBeGranted (d : DriverState) (id page frame : ℕ) (stage : Stages) : Type 0 where
+  pub attached : stages_of d.devices id ≡ Some stage
   pub inside : frame < length d.marks
   pub unreserved : is_marked d.marks frame ≡ false
   pub page_low : page < page_limit
   pub not_held : held_in d.ledger id page ≡ None
   pub not_lingering : lingering_in d.ledger id page ≡ None
 
-pub record MayBeReleased (d : DriverState) (r : Registers) (id page : ℕ) (stage : FirstStage) : Type 0 where
+pub record MayBeReleased (d : DriverState) (r : Registers) (id page : ℕ) (stage : Stages) : Type 0 where
   pub started : d.started ≡ true
-  pub attached : stage_of d.devices id ≡ Some stage
+  pub attached : stages_of d.devices id ≡ Some stage
   pub held : IsSome (held_in d.ledger id page)
   pub few : d.given - d.confirmed < pending_limit
   pub room : how_many r + 3 ≤ queue_entries
   pub number : d.given < 4294967295
 
-pub record MayBeDetached (d : DriverState) (r : Registers) (id : ℕ) (stage : FirstStage) : Type 0 where
+pub record MayBeDetached (d : DriverState) (r : Registers) (id : ℕ) (stage : Stages) : Type 0 where
   pub started : d.started ≡ true
-  pub attached : stage_of d.devices id ≡ Some stage
+  pub attached : stages_of d.devices id ≡ Some stage
   pub none_held : (page : ℕ) → held_in d.ledger id page ≡ None
   pub few : d.given - d.confirmed < pending_limit
   pub room : how_many r + 4 ≤ queue_entries
   pub number : d.given < 4294967295
+
+-- the root may be that of tables in the mode: a second stage's fills four frames, and is aligned to that
+abbrev pub IsAligned : Mode → ℕ → Type 0
+IsAligned First root = ⊤
+IsAligned Second root = root % 4 ≡ 0
+IsAligned Both root = root % 4 ≡ 0

@@ -1,20 +1,29 @@
 -- The commands of a release and of a detach, and what appending them does to memory and to whatever has registers.
-use Rattle.std.specs.Prelude.{◌≡◌, ℕ, ◌++◌, true, false, List, [], ◌∷◌, None, Some}
+use Rattle.std.specs.Prelude.{◌≡◌, ℕ, ◌++◌, true, false, List, [], ◌∷◌, Option, None, Some}
 use Rattle.iom_command_queue.specs.declared.command.Command.{Command}
-use Rattle.iom_command_queue.specs.declared.command.Command.TheVariants.{IotinvalVma, IofenceC, IodirInvalDdt}
+use Rattle.iom_base.specs.declared.mode.Mode.{Mode}
+use Rattle.iom_base.specs.declared.mode.Mode.TheVariants.{First, Second, Both}
+use Rattle.iom_command_queue.specs.declared.command.Command.TheVariants.{IotinvalVma, IotinvalGvma, IofenceC, IodirInvalDdt}
 use Rattle.iom_command_queue.specs.declared.entry.QueueEntry.TheVariants as stands
 use Rattle.iom_command_queue.specs.Waiting.{commands_in, place_of, WritesCommand}
 use Rattle.iom_registers.specs.declared.mmio.Mmio.{Ghosts}
 use Rattle.iom_registers.specs.declared.register.Register.TheVariants.{Cqt}
 use Rattle.iom_registers.specs.Queues.{command_entries, command_tail, next_index}
 
--- IOTINVAL.VMA: translations of the page go, in this address space (IOMMU specification, section 3.1.1, "IOMMU Page-Table cache invalidation commands")
-abbrev pub invalidation : ℕ → ℕ → Command
-invalidation number page = IotinvalVma None (Some number) (Some page)
+-- Translations go, of the address space of this number in the mode: those of the page, or all (IOMMU specification, section 3.1.1, "IOMMU Page-Table
+-- cache invalidation commands"). IOTINVAL.VMA where the first stage translates alone; else IOTINVAL.GVMA, whose page is a guest physical one.
+abbrev pub invalidation_of : Mode → ℕ → Option ℕ → Command
+invalidation_of First number page = IotinvalVma None (Some number) page
+invalidation_of Second number page = IotinvalGvma (Some number) page
+invalidation_of Both number page = IotinvalGvma (Some number) page
 
--- all translations go, in this address space
-abbrev pub space_invalidation : ℕ → Command
-space_invalidation number = IotinvalVma None (Some number) None
+-- those of the page
+abbrev pub invalidation : Mode → ℕ → ℕ → Command
+invalidation mode number page = invalidation_of mode number (Some page)
+
+-- all of the address space
+abbrev pub space_invalidation : Mode → ℕ → Command
+space_invalidation mode number = invalidation_of mode number None
 
 -- IODIR.INVAL_DDT: the context of the device goes (section 3.1.3, "IOMMU directory cache invalidation commands")
 abbrev pub context_invalidation : ℕ → Command

@@ -1,14 +1,18 @@
 -- What an attach answers, what it leaves, and what stays.
-use Rattle.std.specs.Prelude.{◌≡◌, ◌≢◌, ℕ, ◌+◌, List, [], ◌∷◌, ◌++◌, length, None, Some, Result, Ok, Err, Contains, slice_get, slice_set}
+use Rattle.std.specs.Prelude.{◌≡◌, ◌≢◌, ◌⊎◌, ℕ, List, [], ◌∷◌, ◌++◌, length, None, Some, Result, Ok, Err, Contains, slice_get}
+use Rattle.iom_base.specs.declared.mode.Mode.{Mode}
+use Rattle.iom_base.specs.declared.mode.Mode.TheVariants.{First, Second, Both}
 use Rattle.iom_base.specs.declared.owner.Owner.TheVariants.{System, OneDevice}
 use Rattle.iom_directory.specs.Pages.{missing_pages, root_level}
 use Rattle.iom_directory.specs.Written.{hung}
 use Rattle.iom_ledger.specs.declared.refusal.Refusal.{Refusal}
 use Rattle.iom_ledger.specs.declared.refusal.Refusal.TheVariants.{NoFrames}
 use Rattle.iom_ledger.specs.Refusals.{NoneApplies, IsRefusedBy}
-use Rattle.iom_table_frames.specs.Marks.{HasFree}
+use Rattle.iom_page_table.specs.Sv39x4.{other_quarters}
+use Rattle.iom_table_frames.specs.Fours.{IsHighestFour, NoFourAreFree}
+use Rattle.iom_table_frames.specs.Marks.{HasFree, IsHighestFree, NoneIsFree}
 use Rattle.iom_driver.specs.declared.device.Attachment.TheVariants.{Attached}
-use Rattle.iom_driver.specs.declared.device.FirstStage.{FirstStage}
+use Rattle.iom_driver.specs.declared.device.Stages.{Stages}
 use Rattle.iom_driver.specs.Choices.{AreHighestFree, marked_for, cleared}
 use Rattle.iom_driver.specs.Devices.{with_attachment, IsLowestNumber}
 use Rattle.iom_driver.specs.Directory.{context_for}
@@ -16,28 +20,62 @@ use Rattle.iom_driver.specs.Layout.{directory_frame}
 use Rattle.iom_driver.specs.Reasons.{why_not_attach}
 use Rattle.iom_driver.specs.State.{DriverState}
 
--- how many frames an attach takes: the directory pages that the id's path lacks, and the root of the device's tables
-abbrev pub frames_to_attach : DriverState → List (List ℕ) → ℕ → ℕ
-frames_to_attach d memory id = missing_pages memory (root_level d.levels) (directory_frame (length memory)) id + 1
+-- how many pages of the directory the id's path lacks
+abbrev pub lacking_pages : DriverState → List (List ℕ) → ℕ → ℕ
+lacking_pages d memory id = missing_pages memory (root_level d.levels) (directory_frame (length memory)) id
 
--- The directory pages that the id's path lacks, from the root of the directory down, and then the root of the device's tables take the highest free
--- frames, in this order. The lowest free number is the device's address space. Memory is what it was, but that these frames are zero, and then the pages
--- hang on the id's path, with the device's context: no frame but these and the system's changes.
-pub record TakesRoot (d : DriverState) (memory : List (List ℕ)) (id : ℕ) (d' : DriverState) (memory' : List (List ℕ)) : Type 0 where
-  pub stage : FirstStage
+-- these are the highest free frames, as many as the directory lacks pages
+abbrev pub ArePages : DriverState → List (List ℕ) → ℕ → List ℕ → Type 0
+ArePages d memory id pages = AreHighestFree d.marks d.ledger None (length memory) (lacking_pages d memory id) pages
+
+-- what is free once these pages, the highest free frames, are taken, lies below the last of them
+abbrev pub limit_below : ℕ → List ℕ → ℕ
+limit_below limit [] = limit
+limit_below limit (page ∷ pages) = limit_below page pages
+
+-- a root of a first stage takes the highest free frame below the limit; one of a second stage the highest four, the first a multiple of four
+abbrev pub IsRootBelow : Mode → DriverState → ℕ → ℕ → Type 0
+IsRootBelow First d limit root = IsHighestFree d.marks d.ledger None limit root
+IsRootBelow Second d limit root = IsHighestFour d.marks d.ledger limit root
+IsRootBelow Both d limit root = IsHighestFour d.marks d.ledger limit root
+
+-- there is no place for it
+abbrev pub NoRootBelow : Mode → DriverState → ℕ → Type 0
+NoRootBelow First d limit = NoneIsFree d.marks d.ledger None 0 limit
+NoRootBelow Second d limit = NoFourAreFree d.marks d.ledger 0 limit
+NoRootBelow Both d limit = NoFourAreFree d.marks d.ledger 0 limit
+
+-- the frames that the root fills
+abbrev pub root_frames : Mode → ℕ → List ℕ
+root_frames First root = root ∷ []
+root_frames Second root = root ∷ other_quarters root
+root_frames Both root = root ∷ other_quarters root
+
+-- The directory pages that the id's path lacks, from the root of the directory down, take the highest free frames, and then the root of the device's
+-- tables the highest that are free then. The lowest free number is the device's address space. Memory is what it was, but that these frames are zero, and
+-- then the pages hang on the id's path, with the device's context: no frame but these and the system's changes.
+pub record TakesRoot (d : DriverState) (memory : List (List ℕ)) (id : ℕ) (mode : Mode) (d' : DriverState) (memory' : List (List ℕ)) : Type 0 where
+  pub stage : Stages
+  pub in_mode : stage.mode ≡ mode
   pub pages : List ℕ
-  pub chosen : AreHighestFree d.marks d.ledger None (length memory) (frames_to_attach d memory id) (pages ++ stage.root ∷ [])
+  pub chosen : ArePages d memory id pages
+  pub root : IsRootBelow mode d (limit_below (length memory) pages) stage.root
   pub lowest : IsLowestNumber d.devices stage.number
-  pub driver : d' ≡ record d { marks = slice_set (marked_for System pages d.marks) stage.root (Some (OneDevice id)); devices = with_attachment d.devices id (Attached stage) }
-  pub bytes : memory' ≡ hung (cleared (pages ++ stage.root ∷ []) memory) (root_level d.levels) (directory_frame (length memory)) id pages (context_for stage)
-  pub others : (f : ℕ) → slice_get d.marks f ≢ Some (Some System) → ¬ Contains (pages ++ stage.root ∷ []) f → slice_get memory' f ≡ slice_get memory f
+  pub driver : d' ≡ record d {
+    marks = marked_for (OneDevice id) (root_frames mode stage.root) (marked_for System pages d.marks);
+    devices = with_attachment d.devices id (Attached stage);
+  }
+  pub bytes : memory' ≡ hung (cleared (pages ++ root_frames mode stage.root) memory) (root_level d.levels) (directory_frame (length memory)) id pages (context_for stage)
+  pub others : (f : ℕ) → slice_get d.marks f ≢ Some (Some System) → ¬ Contains (pages ++ root_frames mode stage.root) f → slice_get memory' f ≡ slice_get memory f
 
--- an attach finds too few free frames
-abbrev pub LacksRoot : DriverState → List (List ℕ) → ℕ → Refusal → Type 0
-LacksRoot d memory id NoFrames = ¬ HasFree d.marks d.ledger None (frames_to_attach d memory id) (length memory)
-LacksRoot d memory id _ = ⊥
+-- an attach finds too few free frames: for the pages, or, once these are taken, for the root
+abbrev pub LacksRoot : DriverState → List (List ℕ) → ℕ → Mode → Refusal → Type 0
+LacksRoot d memory id mode NoFrames =
+    (¬ HasFree d.marks d.ledger None (lacking_pages d memory id) (length memory))
+    ⊎ ((pages : List ℕ) × ArePages d memory id pages × NoRootBelow mode d (limit_below (length memory) pages))
+LacksRoot d memory id mode _ = ⊥
 
 -- ATTACH
-abbrev pub AnswersAttach : DriverState → List (List ℕ) → ℕ → Result (Unit {0}) Refusal → DriverState → List (List ℕ) → Type 0
-AnswersAttach d memory id (Ok done) d' memory' = NoneApplies (why_not_attach d id) × TakesRoot d memory id d' memory'
-AnswersAttach d memory id (Err why) d' memory' = IsRefusedBy (why_not_attach d id) (LacksRoot d memory id) why × (d' ≡ d) × (memory' ≡ memory)
+abbrev pub AnswersAttach : DriverState → List (List ℕ) → ℕ → Mode → Result (Unit {0}) Refusal → DriverState → List (List ℕ) → Type 0
+AnswersAttach d memory id mode (Ok done) d' memory' = NoneApplies (why_not_attach d id) × TakesRoot d memory id mode d' memory'
+AnswersAttach d memory id mode (Err why) d' memory' = IsRefusedBy (why_not_attach d id) (LacksRoot d memory id mode) why × (d' ≡ d) × (memory' ≡ memory)

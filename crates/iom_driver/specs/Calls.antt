@@ -7,6 +7,7 @@ use Rattle.iom_base.specs.declared.owner.Owner.{Owner}
 use Rattle.iom_base.specs.declared.owner.Owner.TheVariants.{OneDevice}
 use Rattle.iom_command_queue.specs.declared.entry.QueueEntry.TheVariants as stands
 use Rattle.iom_command_queue.specs.Waiting.{commands_in}
+use Rattle.iom_fault_queue.specs.Ring.{records_in}
 use Rattle.iom_ledger.specs.Changes.{IsUnchanged, ShowsGrant, ShowsRelease}
 use Rattle.iom_ledger.specs.declared.entry.HistoryEntry.TheVariants as entry
 use Rattle.iom_ledger.specs.declared.refusal.Refusal.{Refusal}
@@ -17,17 +18,17 @@ use Rattle.iom_page_table.specs.declared.leaf.PageLeaf.{PageLeaf}
 use Rattle.iom_page_table.specs.Sv39.{missing_for, mapped, unmapped}
 use Rattle.iom_phys_mem.specs.Words.{with_word, zeroed}
 use Rattle.iom_registers.specs.declared.mmio.Mmio.{Ghosts}
-use Rattle.iom_registers.specs.declared.register.Register.TheVariants.{Ddtp, Cqb, Cqcsr}
+use Rattle.iom_registers.specs.declared.register.Register.TheVariants.{Ddtp, Cqb, Cqcsr, Fqb, Fqcsr}
 use Rattle.iom_registers.specs.declared.registers.Registers.{Registers}
-use Rattle.iom_registers.specs.Queues.{is_command_queue_on}
+use Rattle.iom_registers.specs.Queues.{is_command_queue_on, is_fault_queue_on}
 use Rattle.iom_table_frames.specs.Marks.{HasFree, opening_marks, is_marked}
 use Rattle.iom_ledger.specs.Shown.{Agrees, IsFreeIn}
 use Rattle.iom_driver.specs.declared.answers.Ticket.{Ticket}
-use Rattle.iom_driver.specs.declared.device.FirstStage.{FirstStage}
+use Rattle.iom_driver.specs.declared.device.Stages.{Stages}
 use Rattle.iom_driver.specs.Appends.{invalidation, fence, AppendsTwo}
 use Rattle.iom_driver.specs.Choices.{AreHighestFree, marked_for, cleared}
-use Rattle.iom_driver.specs.Devices.{stage_of, detached}
-use Rattle.iom_driver.specs.Layout.{command_frame, directory_frame, completion_address, ddtp_of, cqb_of}
+use Rattle.iom_driver.specs.Devices.{stages_of, detached}
+use Rattle.iom_driver.specs.Layout.{command_frame, directory_frame, completion_address, ddtp_of, cqb_of, fqb_of}
 use Rattle.iom_driver.specs.Reasons.{why_not_plug, why_not_grant, why_not_release}
 use Rattle.iom_driver.specs.State.{DriverState}
 
@@ -36,17 +37,25 @@ pub record IsOpening (frames levels : ℕ) (d : DriverState) : Type 0 where
   pub ledger : Agrees d.ledger []
   pub rest : d ≡ record d { marks = opening_marks frames; devices = []; levels = levels; started = false; given = 0; confirmed = 0 }
 
--- the command queue is off, and the index that software writes is 0: at power-on it is so
+-- both queues are off, and the indices that software writes are 0: at power-on it is so
 pub record IsOff (r : Registers) : Type 0 where
   pub off : is_command_queue_on r ≡ false
   pub tail : r.cqt ≡ 0
+  pub faults_off : is_fault_queue_on r ≡ false
+  pub head : r.fqh ≡ 0
 
--- START: the completion word and the root of the directory are zero; ddtp, cqb and cqcsr are written, in this order; and no command waits
+-- whatever has registers, once it is told where the queues are, and they are turned on
+abbrev pub turned_on : {M : Type 0} → Ghosts M → ℕ → M → M
+turned_on g frames io = g.after (g.after (g.after (g.after io Cqb (cqb_of frames)) Cqcsr 1) Fqb (fqb_of frames)) Fqcsr 1
+
+-- START: the completion word and the root of the directory are zero; ddtp, cqb, cqcsr, fqb and fqcsr are written, in this order; no command waits, and no
+-- fault record
 pub record Starts {M : Type 0} (g : Ghosts M) (d : DriverState) (memory : List (List ℕ)) (io : M) (d' : DriverState) (memory' : List (List ℕ)) (io' : M) : Type 0 where
   pub driver : d' ≡ record d { started = true }
   pub bytes : memory' ≡ slice_set (with_word 4 memory (completion_address (length memory)) 0) (directory_frame (length memory)) zeroed
-  pub registers : io' ≡ g.after (g.after (g.after io Ddtp (ddtp_of (length memory) d.levels)) Cqb (cqb_of (length memory))) Cqcsr 1
+  pub registers : io' ≡ turned_on g (length memory) (g.after io Ddtp (ddtp_of (length memory) d.levels))
   pub empty : commands_in memory' (g.registers io') ≡ []
+  pub unreported : records_in memory' (g.registers io') ≡ []
 
 -- PLUG: one more device, attached to nothing; or a refusal, which changes nothing
 abbrev pub AnswersPlug : DriverState → ℕ → Result (Unit {0}) Refusal → DriverState → Type 0
@@ -71,8 +80,8 @@ KeepsOthers marks id memory memory' = (f : ℕ) → slice_get marks f ≢ Some (
 -- these frames are zero, and then hang on the page's path, from the root down, with the page's leaf: no frame but the device's changes. The ledger has
 -- the grant.
 pub record TakesTables (d : DriverState) (memory : List (List ℕ)) (id page frame : ℕ) (rights : GrantRights) (d' : DriverState) (memory' : List (List ℕ)) : Type 0 where
-  pub stage : FirstStage
-  pub attached : stage_of d.devices id ≡ Some stage
+  pub stage : Stages
+  pub attached : stages_of d.devices id ≡ Some stage
   pub tables : List ℕ
   pub chosen : AreHighestFree d.marks d.ledger (Some frame) (length memory) (missing_for memory stage.root page) tables
   pub shown : ShowsGrant d.ledger d'.ledger id page (frame, rights_of rights)
@@ -83,8 +92,8 @@ pub record TakesTables (d : DriverState) (memory : List (List ℕ)) (id page fra
 
 -- the frames that are free besides the granted one are enough for the tables that the page lacks
 pub record HasFrames (d : DriverState) (memory : List (List ℕ)) (id page frame : ℕ) : Type 0 where
-  pub stage : FirstStage
-  pub attached : stage_of d.devices id ≡ Some stage
+  pub stage : Stages
+  pub attached : stages_of d.devices id ≡ Some stage
   pub enough : HasFree d.marks d.ledger (Some frame) (missing_for memory stage.root page) (length memory)
 
 -- a grant finds too few free frames, or else no memory for its row
@@ -102,15 +111,15 @@ AnswersGrant d memory id page frame rights (Err why) d' memory' =
 -- The next ticket is given; the page's leaf is cleared; an invalidation of the page and the ticket's fence are appended: no frame but the device's and
 -- the ring's changes. The ledger has the release.
 pub record QueuesRelease {M : Type 0} (g : Ghosts M) (d : DriverState) (memory : List (List ℕ)) (io : M) (id page ticket : ℕ) (d' : DriverState) (memory' : List (List ℕ)) (io' : M) : Type 0 where
-  pub stage : FirstStage
-  pub attached : stage_of d.devices id ≡ Some stage
+  pub stage : Stages
+  pub attached : stages_of d.devices id ≡ Some stage
   pub next : ticket ≡ d.given + 1
   pub shown : ShowsRelease d.ledger d'.ledger id page ticket
   pub agrees : (h : History) → Agrees d.ledger h → confirms h ticket ≡ false → Agrees d'.ledger (entry.Released id page ticket ∷ h)
   pub driver : d' ≡ record d { ledger = d'.ledger; given = ticket }
-  pub queued : AppendsTwo g (unmapped memory stage.root page) io (invalidation stage.number page) (fence (completion_address (length memory)) ticket) memory' io'
+  pub queued : AppendsTwo g (unmapped memory stage.root page) io (invalidation stage.mode stage.number page) (fence (completion_address (length memory)) ticket) memory' io'
   pub list : commands_in memory' (g.registers io') ≡ commands_in memory (g.registers io)
-      ++ stands.Command (invalidation stage.number page) ∷ stands.Command (fence (completion_address (length memory)) ticket) ∷ []
+      ++ stands.Command (invalidation stage.mode stage.number page) ∷ stands.Command (fence (completion_address (length memory)) ticket) ∷ []
   pub others : (f : ℕ) → slice_get d.marks f ≢ Some (Some (OneDevice id)) → f ≢ command_frame (length memory) → slice_get memory' f ≡ slice_get memory f
 
 -- RELEASE

@@ -5,7 +5,7 @@ use Rattle.std.specs.Option.{option_map_or}
 use Rattle.iom_driver.specs.declared.device.Attachment.{Attachment}
 use Rattle.iom_driver.specs.declared.device.Attachment.TheVariants.{Detached, Attached, Leaving}
 use Rattle.iom_driver.specs.declared.device.Device.{Device}
-use Rattle.iom_driver.specs.declared.device.FirstStage.{FirstStage}
+use Rattle.iom_driver.specs.declared.device.Stages.{Stages}
 
 -- the device with this id
 abbrev pub device_of : List Device → ℕ → Option Device
@@ -20,25 +20,25 @@ is_plugged devices id = is_some (device_of devices id)
 abbrev pub attachment_of : List Device → ℕ → Attachment
 attachment_of devices id = option_map_or (λ (device : Device). device.attachment) (device_of devices id) Detached
 
--- the first stage of an attached device
-abbrev pub attached_stage : Attachment → Option FirstStage
-attached_stage Detached = None
-attached_stage (Attached stage) = Some stage
-attached_stage (Leaving ticket stage) = None
+-- the stages of an attached device
+abbrev pub attached_stages : Attachment → Option Stages
+attached_stages Detached = None
+attached_stages (Attached stage) = Some stage
+attached_stages (Leaving ticket stage) = None
 
--- that of an attached or a leaving one: its tables and its number are still its own
-abbrev pub owned_stage : Attachment → Option FirstStage
-owned_stage Detached = None
-owned_stage (Attached stage) = Some stage
-owned_stage (Leaving ticket stage) = Some stage
+-- those of an attached or a leaving one: its tables and its number are still its own
+abbrev pub owned_stages : Attachment → Option Stages
+owned_stages Detached = None
+owned_stages (Attached stage) = Some stage
+owned_stages (Leaving ticket stage) = Some stage
 
--- the first stage of the device with this id, where it is attached
-abbrev pub stage_of : List Device → ℕ → Option FirstStage
-stage_of devices id = attached_stage (attachment_of devices id)
+-- the stages of the device with this id, where it is attached
+abbrev pub stages_of : List Device → ℕ → Option Stages
+stages_of devices id = attached_stages (attachment_of devices id)
 
 -- where it is attached, or leaving
-abbrev pub owned_stage_of : List Device → ℕ → Option FirstStage
-owned_stage_of devices id = owned_stage (attachment_of devices id)
+abbrev pub owned_stages_of : List Device → ℕ → Option Stages
+owned_stages_of devices id = owned_stages (attachment_of devices id)
 
 -- a device as it is plugged in: attached to nothing
 abbrev pub detached : ℕ → Device
@@ -57,7 +57,7 @@ HaveOwnIds (device ∷ others) = (device_of others device.id ≡ None) × HaveOw
 
 -- whether the device, attached or leaving, has this address-space number
 abbrev pub has_number : ℕ → Device → Bool
-has_number number device = option_map_or (λ (stage : FirstStage). stage.number == number) (owned_stage device.attachment) false
+has_number number device = option_map_or (λ (stage : Stages). stage.number == number) (owned_stages device.attachment) false
 
 -- whether an attached or leaving device holds the number
 abbrev pub is_used : List Device → ℕ → Bool

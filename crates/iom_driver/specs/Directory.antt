@@ -5,33 +5,55 @@ use Rattle.iom_base.specs.declared.cause.Cause.TheVariants.{DirectoryEntryNotVal
 use Rattle.iom_base.specs.declared.owner.Owner.{Owner}
 use Rattle.iom_base.specs.declared.owner.Owner.TheVariants.{System}
 use Rattle.iom_device_dir.specs.declared.context.Context.{Context}
-use Rattle.iom_device_dir.specs.declared.stages.FirstStage.TheVariants.{Sv39}
-use Rattle.iom_device_dir.specs.declared.stages.SecondStage.TheVariants.{Bare}
+use Rattle.iom_device_dir.specs.declared.stages.FirstStage.TheVariants as first
+use Rattle.iom_device_dir.specs.declared.stages.SecondStage.TheVariants as second
 use Rattle.iom_device_dir.specs.Located.{path_end_from}
 use Rattle.iom_device_dir.specs.Paths.{ids_below}
-use Rattle.iom_device_dir.specs.Values.{page_from, address_space_from}
+use Rattle.iom_base.specs.PageNumbers.{page_from}
+use Rattle.iom_base.specs.declared.mode.Mode.{Mode}
+use Rattle.iom_base.specs.declared.mode.Mode.TheVariants.{First, Second, Both}
+use Rattle.iom_device_dir.specs.Values.{address_space_from, guest_root_from}
 use Rattle.iom_directory.specs.Pages.{IsDirectory, HasPage, root_level}
 use Rattle.iom_registers.specs.declared.directory.DirectoryMode.{DirectoryMode}
 use Rattle.iom_registers.specs.declared.directory.DirectoryMode.TheVariants.{OneLevel, TwoLevels, ThreeLevels}
 use Rattle.iom_registers.specs.declared.registers.Registers.{Registers}
 use Rattle.iom_registers.specs.Queues.{directory_mode, directory_root}
 use Rattle.iom_driver.specs.declared.device.Device.{Device}
-use Rattle.iom_driver.specs.declared.device.FirstStage.{FirstStage}
-use Rattle.iom_driver.specs.Devices.{stage_of}
+use Rattle.iom_driver.specs.declared.device.Stages.{Stages}
+use Rattle.iom_driver.specs.Devices.{stages_of}
 use Rattle.iom_driver.specs.Layout.{command_frame, fault_frame, completion_frame, directory_frame}
 
--- the context of a device that is attached in this first stage: no ATS, and no second stage
-abbrev pub context_for : FirstStage → Context
-context_for stage = record {
+-- The context of a device that is attached in a mode, with a root and an address-space number, without ATS. In both stages the root of the first is
+-- the guest physical page 0.
+abbrev pub context_in : Mode → ℕ → ℕ → Context
+context_in First root number = record {
   en_ats = false;
-  first_stage = Sv39 (page_from 0 stage.root);
-  second_stage = Bare;
-  pscid = address_space_from 0 stage.number;
+  first_stage = first.Sv39 (page_from 0 root);
+  second_stage = second.Bare;
+  pscid = address_space_from 0 number;
   gscid = 0;
 }
+context_in Second root number = record {
+  en_ats = false;
+  first_stage = first.Bare;
+  second_stage = second.Sv39x4 (guest_root_from root);
+  pscid = address_space_from 0 0;
+  gscid = number;
+}
+context_in Both root number = record {
+  en_ats = false;
+  first_stage = first.Sv39 (page_from 0 0);
+  second_stage = second.Sv39x4 (guest_root_from root);
+  pscid = address_space_from 0 number;
+  gscid = number;
+}
 
--- where the path of an id ends, by the first stage that it is attached in
-abbrev pub located_for : Option FirstStage → Result Context Cause
+-- that of these stages
+abbrev pub context_for : Stages → Context
+context_for stages = context_in stages.mode stages.root stages.number
+
+-- where the path of an id ends, by the stages in which it is attached
+abbrev pub located_for : Option Stages → Result Context Cause
 located_for None = Err DirectoryEntryNotValid
 located_for (Some stage) = Ok (context_for stage)
 
@@ -47,7 +69,7 @@ pub record DirectoryStands (memory : List (List ℕ)) (marks : List (Option Owne
   pub tree : IsDirectory memory (root_level levels) (directory_frame (length memory))
   pub own : (page : ℕ) → HasPage memory (root_level levels) (directory_frame (length memory)) page → IsDirectoryFrame marks (length memory) page
   pub contexts : (id : ℕ) → id < ids_below (root_level levels)
-      → path_end_from memory (root_level levels) (directory_frame (length memory)) id ≡ located_for (stage_of devices id)
+      → path_end_from memory (root_level levels) (directory_frame (length memory)) id ≡ located_for (stages_of devices id)
 
 -- the mode of a directory of so many levels
 abbrev pub mode_of : ℕ → DirectoryMode

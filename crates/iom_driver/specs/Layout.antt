@@ -25,13 +25,20 @@ completion_address frames = page_size * completion_frame frames
 abbrev pub queue_entries : ℕ
 queue_entries = 256
 
--- what is written to ddtp and cqb (IOMMU specification, chapter 5): the page of the directory's root, with iommu_mode 2, 3 or 4 for one, two or
--- three levels; and the page of the queue, with LOG2SZ-1
+-- and how many the fault queue
+abbrev pub record_entries : ℕ
+record_entries = 128
+
+-- what is written to ddtp, cqb and fqb (IOMMU specification, chapter 5): the page of the directory's root, with iommu_mode 2, 3 or 4 for one, two or
+-- three levels; and the page of each queue, with LOG2SZ-1
 abbrev pub ddtp_of : ℕ → ℕ → ℕ
 ddtp_of frames levels = 2 ^ 10 * directory_frame frames + levels + 1
 
 abbrev pub cqb_of : ℕ → ℕ
 cqb_of frames = 2 ^ 10 * command_frame frames + 7
+
+abbrev pub fqb_of : ℕ → ℕ
+fqb_of frames = 2 ^ 10 * fault_frame frames + 6
 
 -- a device directory has one to three levels (IOMMU specification, section 2.1, "Device-Directory-Table (DDT)")
 abbrev pub IsLevels : ℕ → Type 0

@@ -17,4 +17,5 @@ pub mod Calls
 pub mod Attaching
 pub mod Leaving
 pub mod Polling
+pub mod Reports
 pub mod Laws

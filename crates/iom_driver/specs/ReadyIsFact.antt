@@ -3,9 +3,13 @@ use Rattle.std.specs.Prelude.{ℕ, Bool, Option, List, [], ◌∷◌, Result, Ok
 use Rattle.std.specs.Coded.{Unit-prop}
 use Rattle.std.proofs.Props.{props}
 use Rattle.iom_base.specs.declared.cause.Cause.{Cause}
+use Rattle.iom_base.specs.declared.mode.Mode.{Mode}
+use Rattle.iom_base.specs.declared.mode.Mode.TheVariants.{First, Second, Both}
 use Rattle.iom_base.specs.declared.owner.Owner.{Owner}
 use Rattle.iom_device_dir.specs.declared.context.Context.{Context}
 use Rattle.iom_directory.specs.Pages.{EndsLawfully}
+use Rattle.iom_fault_queue.specs.declared.entry.Entry.{Entry as QueueEntry}
+use Rattle.iom_fault_queue.specs.declared.entry.Entry.TheVariants as queue
 use Rattle.iom_ledger.specs.declared.ledger.Ledger.{Ledger}
 use Rattle.iom_page_table.specs.Trees.{IsUpper, IsLowest}
 use Rattle.iom_registers.specs.declared.registers.Registers.{Registers}
@@ -13,9 +17,10 @@ use Rattle.iom_stage_walk.specs.declared.entry.Entry.{Entry}
 use Rattle.iom_stage_walk.specs.declared.entry.Entry.TheVariants.{Outside, Invalid, Pointer, Leaf}
 use Rattle.iom_driver.specs.declared.device.Device.{Device}
 use Rattle.iom_driver.specs.Devices.{HaveOwnIds}
-use Rattle.iom_driver.specs.Ready.{TablesStand, IsReady}
+use Rattle.iom_driver.specs.Ready.{TablesStand, IsReport, IsReady}
 use Rattle.iom_driver.specs.Sound.{RiseBetween, IsSound}
 use Rattle.iom_driver.specs.State.{DriverState}
+use Rattle.iom_driver.specs.Tables.{IsRootIn}
 
 pub upper_prop : (e : Entry) → IsProp (IsUpper e)
 upper_prop Outside = hlevel props
@@ -45,8 +50,18 @@ pub sound_prop : (ledger : Ledger) (marks : List (Option Owner)) (devices : List
     → IsProp (IsSound ledger marks devices frames levels started given confirmed)
 sound_prop ledger marks devices frames levels started given confirmed = hlevel (props, rise_prop, own_ids_prop)
 
+pub root_prop : (mode : Mode) (memory : List (List ℕ)) (root : ℕ) → IsProp (IsRootIn mode memory root)
+root_prop First memory root = hlevel (props, upper_prop, lowest_prop)
+root_prop Second memory root = hlevel (props, upper_prop, lowest_prop)
+root_prop Both memory root = hlevel (props, upper_prop, lowest_prop)
+
+pub report_prop : (e : QueueEntry) → IsProp (IsReport e)
+report_prop (queue.Record fields) = Unit-prop
+report_prop queue.Illegal = hlevel props
+report_prop queue.Outside = hlevel props
+
 pub stand_prop : (d : DriverState) (memory : List (List ℕ)) → IsProp (TablesStand d memory)
-stand_prop d memory = hlevel (props, upper_prop, lowest_prop, ends_prop)
+stand_prop d memory = hlevel (props, root_prop, ends_prop)
 
 pub ready_prop : (d : DriverState) (memory : List (List ℕ)) (r : Registers) → IsProp (IsReady d memory r)
-ready_prop d memory r = hlevel (props, upper_prop, lowest_prop, ends_prop)
+ready_prop d memory r = hlevel (props, root_prop, ends_prop, report_prop)

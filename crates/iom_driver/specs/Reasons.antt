@@ -10,7 +10,7 @@ use Rattle.iom_ledger.specs.Shown.{held_in, lingering_in}
 use Rattle.iom_registers.specs.declared.registers.Registers.{Registers}
 use Rattle.iom_registers.specs.Queues.{command_entries}
 use Rattle.iom_table_frames.specs.Marks.{is_marked}
-use Rattle.iom_driver.specs.Devices.{is_plugged, stage_of, owned_stage_of}
+use Rattle.iom_driver.specs.Devices.{is_plugged, stages_of, owned_stages_of}
 use Rattle.iom_driver.specs.Layout.{id_limit}
 use Rattle.iom_driver.specs.State.{DriverState}
 
@@ -38,7 +38,7 @@ abbrev pub why_not_attach : DriverState → ℕ → List (Bool × Refusal)
 why_not_attach d id =
     (not d.started, NotStarted)
     ∷ (not (is_plugged d.devices id), NoSuchDevice)
-    ∷ (is_some (owned_stage_of d.devices id), AlreadyAttached)
+    ∷ (is_some (owned_stages_of d.devices id), AlreadyAttached)
     ∷ (nat_le (id_limit d.levels) id, IdTooWide)
     ∷ []
 
@@ -47,7 +47,7 @@ abbrev pub why_not_attached : DriverState → ℕ → List (Bool × Refusal) →
 why_not_attached d id later =
     (not d.started, NotStarted)
     ∷ (not (is_plugged d.devices id), NoSuchDevice)
-    ∷ (is_none (stage_of d.devices id), NotAttached)
+    ∷ (is_none (stages_of d.devices id), NotAttached)
     ∷ later
 
 -- beyond that: a frame is granted at a page

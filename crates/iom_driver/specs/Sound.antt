@@ -7,9 +7,9 @@ use Rattle.iom_ledger.specs.declared.ledger.Ledger.{Ledger}
 use Rattle.iom_ledger.specs.Shown.{held_in, lingering_in, pending_in}
 use Rattle.iom_phys_mem.specs.Sizes.{IsMemorySize}
 use Rattle.iom_driver.specs.declared.device.Device.{Device}
-use Rattle.iom_driver.specs.declared.device.FirstStage.{FirstStage}
+use Rattle.iom_driver.specs.declared.device.Stages.{Stages}
 use Rattle.iom_driver.specs.declared.device.Attachment.TheVariants.{Detached, Leaving}
-use Rattle.iom_driver.specs.Devices.{attachment_of, stage_of, owned_stage_of, HaveOwnIds}
+use Rattle.iom_driver.specs.Devices.{attachment_of, stages_of, owned_stages_of, HaveOwnIds}
 use Rattle.iom_driver.specs.Layout.{AreFixed, IsLevels, id_limit}
 
 -- a pair that is granted at a page: the page is one that tables map, and the frame is of memory and isn't reserved
@@ -24,21 +24,21 @@ pub record AreGrants (marks : List (Option Owner)) (ledger : Ledger) : Type 0 wh
 
 -- a device holds nothing while it isn't attached
 abbrev pub HoldersAreAttached : Ledger → List Device → Type 0
-HoldersAreAttached ledger devices = (id page : ℕ) → stage_of devices id ≡ None → held_in ledger id page ≡ None
+HoldersAreAttached ledger devices = (id page : ℕ) → stages_of devices id ≡ None → held_in ledger id page ≡ None
 
 -- the address-space numbers of attached and leaving devices count from 1, there are no more than devices may be, and no two devices have the same
 pub record HaveNumbers (devices : List Device) : Type 0 where
-  pub small : (id : ℕ) (stage : FirstStage) → owned_stage_of devices id ≡ Some stage → (1 ≤ stage.number) × (stage.number ≤ 17)
-  pub own : (one other : ℕ) (a b : FirstStage) → owned_stage_of devices one ≡ Some a → owned_stage_of devices other ≡ Some b → a.number ≡ b.number → one ≡ other
+  pub small : (id : ℕ) (stage : Stages) → owned_stages_of devices id ≡ Some stage → (1 ≤ stage.number) × (stage.number ≤ 17)
+  pub own : (one other : ℕ) (a b : Stages) → owned_stages_of devices one ≡ Some a → owned_stages_of devices other ≡ Some b → a.number ≡ b.number → one ≡ other
 
 -- the directory can name each attached or leaving device
 abbrev pub AreNamed : List Device → ℕ → Type 0
-AreNamed devices levels = (id : ℕ) (stage : FirstStage) → owned_stage_of devices id ≡ Some stage → id < id_limit levels
+AreNamed devices levels = (id : ℕ) (stage : Stages) → owned_stages_of devices id ≡ Some stage → id < id_limit levels
 
 -- a device leaves under a ticket that was given and isn't confirmed
 abbrev pub LeaveUnderTickets : List Device → ℕ → ℕ → Type 0
 LeaveUnderTickets devices given confirmed =
-    (id ticket : ℕ) (stage : FirstStage) → attachment_of devices id ≡ Leaving ticket stage → (confirmed < ticket) × (ticket ≤ given)
+    (id ticket : ℕ) (stage : Stages) → attachment_of devices id ≡ Leaving ticket stage → (confirmed < ticket) × (ticket ≤ given)
 
 -- the tickets rise, from above the first number up to the last at most
 abbrev pub RiseBetween : ℕ → ℕ → List ℕ → Type 0

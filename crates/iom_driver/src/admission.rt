@@ -5,23 +5,23 @@ ghost use Rattle.iom_ledger.specs.declared.refusal.Refusal.{Refusal};
 ghost use Rattle.iom_ledger.specs.Refusals.{first_that_applies, NoneApplies};
 ghost use Rattle.iom_registers.specs.Queues.{command_entries};
 ghost use Rattle.iom_driver.specs.Admitted.{MayBeGranted, MayBeReleased, MayBeDetached};
-ghost use Rattle.iom_driver.specs.Devices.{device_of, stage_of};
+ghost use Rattle.iom_driver.specs.Devices.{device_of, stages_of};
 ghost use Rattle.iom_driver.specs.Layout.{queue_entries};
 ghost use Rattle.iom_driver.specs.Reasons.{why_not_attached, why_not_grant, why_not_release, why_not_detach, HasGrants};
 ghost use Rattle.iom_driver.specs.Seen.{state_of};
 
 use crate::access::{lacks_three_places, lacks_two_places};
-use crate::device::FirstStage;
+use crate::device::Stages;
 use crate::driver::Driver;
 use iom_base::{DeviceId, PAGE_LIMIT};
 use iom_ledger::{MAX_PENDING, Refusal};
 use iom_registers::Mmio;
 
 impl Driver {
-    /// The first stage of the attached device, or why it has none.
-    fn stage_of(&self, id: DeviceId) -> Result<FirstStage, Refusal>
+    /// The stages of the attached device, or why it has none.
+    fn stages_of(&self, id: DeviceId) -> Result<Stages, Refusal>
         ensures started { IfOk result (λ stage. self.now.started ≡ true) }
-        ensures attached { IfOk result (λ stage. stage_of self.now.devices.items id ≡ Some stage) }
+        ensures attached { IfOk result (λ stage. stages_of self.now.devices.items id ≡ Some stage) }
         ensures goes_on { IfOk result (λ stage. (later : List (Bool × Refusal))
             → first_that_applies (why_not_attached (state_of self.now) id later) ≡ first_that_applies later) }
         ensures refused { IfErr result (λ why. (later : List (Bool × Refusal))
@@ -33,25 +33,20 @@ impl Driver {
         let Some(device) = self.device_of(id) else {
             return Err(Refusal::NoSuchDevice);
         };
-        match device.attachment.attached_stage() {
+        match device.attachment.attached_stages() {
             None => Err(Refusal::NotAttached),
             Some(stage) => Ok(stage),
         }
     }
 
-    /// The root of the device's tables, where the frame may be granted to it at the page, or why not.
-    pub(crate) fn admit_grant(
-        &self,
-        id: DeviceId,
-        page: u64,
-        frame: u64,
-    ) -> Result<FirstStage, Refusal>
+    /// The stages of the device, where the frame may be granted to it at the page, or why not.
+    pub(crate) fn admit_grant(&self, id: DeviceId, page: u64, frame: u64) -> Result<Stages, Refusal>
         ensures admitted { IfOk result (λ stage. NoneApplies (why_not_grant (state_of self.now) id page frame)) }
         ensures may { IfOk result (λ stage. MayBeGranted (state_of self.now) id page frame stage) }
         ensures refused { IfErr result (λ why.
             first_that_applies (why_not_grant (state_of self.now) id page frame) ≡ Some why) }
     {
-        let stage = self.stage_of(id)?;
+        let stage = self.stages_of(id)?;
         if frame >= u64::from(self.frames) {
             return Err(Refusal::FrameOutOfRange);
         }
@@ -67,13 +62,13 @@ impl Driver {
         Ok(stage)
     }
 
-    /// The first stage of the device, where it may release the page, or why it may not.
+    /// The stages of the device, where it may release the page, or why it may not.
     pub(crate) fn admit_release<M: Mmio>(
         &self,
         io: &M,
         id: DeviceId,
         page: u64,
-    ) -> Result<FirstStage, Refusal>
+    ) -> Result<Stages, Refusal>
         requires { self.now.started ≡ true → command_entries (M.registers io.now) ≡ queue_entries }
         ensures admitted { IfOk result (λ stage.
             NoneApplies (why_not_release (state_of self.now) (M.registers io.now) id page)) }
@@ -81,7 +76,7 @@ impl Driver {
         ensures refused { IfErr result (λ why.
             first_that_applies (why_not_release (state_of self.now) (M.registers io.now) id page) ≡ Some why) }
     {
-        let stage = self.stage_of(id)?;
+        let stage = self.stages_of(id)?;
         if self.ledger.holds(id, page).is_none() {
             return Err(Refusal::NotGranted);
         }
@@ -107,8 +102,8 @@ impl Driver {
         self.ledger.lingers_anything(id)
     }
 
-    /// The first stage of the device, where it may be detached, or why it may not.
-    pub(crate) fn admit_detach<M: Mmio>(&self, io: &M, id: DeviceId) -> Result<FirstStage, Refusal>
+    /// The stages of the device, where it may be detached, or why it may not.
+    pub(crate) fn admit_detach<M: Mmio>(&self, io: &M, id: DeviceId) -> Result<Stages, Refusal>
         requires { self.now.started ≡ true → command_entries (M.registers io.now) ≡ queue_entries }
         ensures admitted { IfOk result (λ stage. (granted : Bool) → (IsTrue granted ↔ HasGrants self.now.ledger id)
             → NoneApplies (why_not_detach (state_of self.now) (M.registers io.now) granted id)) }
@@ -116,7 +111,7 @@ impl Driver {
         ensures refused { IfErr result (λ why. (granted : Bool) → (IsTrue granted ↔ HasGrants self.now.ledger id)
             → first_that_applies (why_not_detach (state_of self.now) (M.registers io.now) granted id) ≡ Some why) }
     {
-        let stage = self.stage_of(id)?;
+        let stage = self.stages_of(id)?;
         if self.has_grants(id) {
             return Err(Refusal::StillGranted);
         }

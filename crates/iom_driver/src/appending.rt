@@ -1,42 +1,53 @@
 // The commands of a release and of a detach.
 ghost use Rattle.std.specs.Prelude.{◌≡◌, ◌+◌, ◌*◌, ◌/◌, ◌%◌, ◌<◌, ◌≤◌, ◌^◌, ◌≢◌, ℕ, length, slice_get};
 ghost use Rattle.iom_command_queue.specs.Waiting.{how_many};
-ghost use Rattle.iom_driver.specs.Appends.{invalidation, space_invalidation, context_invalidation, fence, AppendsTwo, AppendsThree};
+ghost use Rattle.iom_driver.specs.Appends.{invalidation_of, invalidation, space_invalidation, context_invalidation, fence, AppendsTwo, AppendsThree};
 ghost use Rattle.iom_driver.specs.Layout.{command_frame, completion_address, queue_entries};
 ghost use Rattle.iom_driver.specs.Directory.{KeepsDirectory};
-ghost use Rattle.iom_driver.specs.Ready.{IsRing};
+ghost use Rattle.iom_driver.specs.Ready.{IsRing, KeepsFaults};
 
 use crate::layout::completion_address;
-use iom_base::DeviceId;
+use iom_base::{DeviceId, Mode};
 use iom_command_queue::{
     Command, CommandRing, DeviceNumber, FenceAddress, FenceStore, PageNumber, Pscid,
 };
 use iom_phys_mem::Memory;
 use iom_registers::Mmio;
 
-/// Drop the translations of the page in this address space.
-pub(crate) fn invalidation(number: u32, page: u64) -> Command
-    requires number { number < 2 ^ 20 }
-    requires page { page < 2 ^ 52 }
-    ensures { result ≡ invalidation number page }
+/// Drop translations in the address space of this number in the mode: those of the page, or all. Where the
+/// first stage translates alone the number is a PSCID; else it is a GSCID, and the page a guest physical one.
+fn invalidation_of(mode: Mode, number: u32, page: Option<PageNumber>) -> Command
+    requires { number < 2 ^ 16 }
+    ensures { result ≡ invalidation_of mode number page }
 {
-    Command::IotinvalVma {
-        gscid: None,
-        pscid: Pscid::new(number),
-        page: PageNumber::new(page),
+    match mode {
+        Mode::First => Command::IotinvalVma {
+            gscid: None,
+            pscid: Pscid::new(number),
+            page,
+        },
+        Mode::Second | Mode::Both => Command::IotinvalGvma {
+            gscid: Some(number as u16),
+            page,
+        },
     }
 }
 
-/// Drop all translations in this address space.
-pub(crate) fn space_invalidation(number: u32) -> Command
-    requires { number < 2 ^ 20 }
-    ensures { result ≡ space_invalidation number }
+/// Drop the translations of the page in this address space.
+pub(crate) fn invalidation(mode: Mode, number: u32, page: u64) -> Command
+    requires number { number < 2 ^ 16 }
+    requires page { page < 2 ^ 52 }
+    ensures { result ≡ invalidation mode number page }
 {
-    Command::IotinvalVma {
-        gscid: None,
-        pscid: Pscid::new(number),
-        page: None,
-    }
+    invalidation_of(mode, number, PageNumber::new(page))
+}
+
+/// Drop all translations in this address space.
+pub(crate) fn space_invalidation(mode: Mode, number: u32) -> Command
+    requires { number < 2 ^ 16 }
+    ensures { result ≡ space_invalidation mode number }
+{
+    invalidation_of(mode, number, None)
 }
 
 /// Drop the context of the device.
@@ -80,6 +91,7 @@ pub(crate) fn append_release<M: Mmio>(
         AppendsTwo M.Mmio memory.old io.old invalidation last memory.new io.new }
     ensures ring { IsRing frames (M.registers io.new) }
     ensures named { KeepsDirectory (M.registers io.old) (M.registers io.new) }
+    ensures faults { KeepsFaults (M.registers io.old) (M.registers io.new) }
     ensures other_frames { (n : ℕ) → n ≢ command_frame frames → slice_get memory.new n ≡ slice_get memory.old n }
     ensures size { length memory.new ≡ length memory.old }
 {
@@ -105,6 +117,7 @@ pub(crate) fn append_detach<M: Mmio>(
         AppendsThree M.Mmio memory.old io.old context space last memory.new io.new }
     ensures ring { IsRing frames (M.registers io.new) }
     ensures named { KeepsDirectory (M.registers io.old) (M.registers io.new) }
+    ensures faults { KeepsFaults (M.registers io.old) (M.registers io.new) }
     ensures other_frames { (n : ℕ) → n ≢ command_frame frames → slice_get memory.new n ≡ slice_get memory.old n }
     ensures size { length memory.new ≡ length memory.old }
 {

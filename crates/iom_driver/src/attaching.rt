@@ -1,7 +1,12 @@
-// A device is attached in its first stage.
-ghost use Rattle.std.specs.Prelude.{◌≡◌, ◌≤◌, ◌<◌, ◌+◌, ◌++◌, ◌^◌, ◌∷◌, [], None, length, IfSome, IfNone};
+// A device is attached.
+ghost use Rattle.std.specs.Prelude.{◌≡◌, ◌≤◌, ◌<◌, ◌^◌, ◌%◌, ◌⊎◌, ℕ, List, None, length, IfSome, IfNone, MatchOption};
+ghost use Rattle.iom_base.specs.PageNumbers.{page_from};
+ghost use Rattle.iom_device_dir.specs.Values.{address_space_from, guest_root_from};
+ghost use Rattle.iom_device_dir.specs.declared.stages.FirstStage.TheVariants as first;
+ghost use Rattle.iom_device_dir.specs.declared.stages.SecondStage.TheVariants as second;
 ghost use Rattle.iom_registers.specs.declared.registers.Registers.{Registers};
-ghost use Rattle.iom_driver.specs.Attaching.{AnswersAttach};
+ghost use Rattle.iom_driver.specs.Admitted.{IsAligned};
+ghost use Rattle.iom_driver.specs.Attaching.{AnswersAttach, IsRootBelow, NoRootBelow, limit_below};
 ghost use Rattle.iom_driver.specs.Choices.{AreHighestFree};
 ghost use Rattle.iom_driver.specs.Devices.{is_used, IsLowestNumber};
 ghost use Rattle.iom_driver.specs.Directory.{context_for};
@@ -9,14 +14,14 @@ ghost use Rattle.iom_driver.specs.Ready.{TablesStand, IsReady};
 ghost use Rattle.iom_driver.specs.Seen.{state_of};
 ghost use Rattle.iom_table_frames.specs.Marks.{HasFree};
 
-use crate::choosing::reserve_all;
-use crate::device::{Attachment, Device, FirstStage};
+use crate::choosing::{reserve_all, reserve_root};
+use crate::device::{Attachment, Device, Stages};
 use crate::driver::Driver;
 use crate::layout::{MAX_DEVICES, directory_frame, id_limit};
 use crate::lookups::place_of;
 use arrayvec::ArrayVec;
-use iom_base::{DeviceId, Owner};
-use iom_device_dir::{Context, FirstStage as ContextStage, Ppn, Pscid, SecondStage};
+use iom_base::{DeviceId, Mode, Owner, Ppn};
+use iom_device_dir::{Context, FirstStage, GuestRoot, Pscid, SecondStage};
 use iom_directory::{missing, put_context};
 use iom_ledger::Refusal;
 use iom_phys_mem::Memory;
@@ -47,21 +52,63 @@ fn lowest_number(devices: &[Device]) -> u32
     MAX_DEVICES as u32 + 1
 }
 
-/// The context of a device that is attached in this first stage: no ATS, and no second stage.
-fn context_for(stage: FirstStage) -> Context
-    requires { stage.number < 2 ^ 20 }
-    ensures { result ≡ context_for stage }
+/// A first stage with its root in this page.
+fn sv39(root: u32) -> FirstStage
+    ensures { result ≡ first.Sv39 (page_from 0 root) }
 {
-    Context {
-        en_ats: false,
-        first_stage: ContextStage::Sv39(Ppn::new(u64::from(stage.root)).unwrap()),
-        second_stage: SecondStage::Bare,
-        pscid: Pscid::new(stage.number).unwrap(),
-        gscid: 0,
+    FirstStage::Sv39(Ppn::new(u64::from(root)).unwrap())
+}
+
+/// A second stage with its root in the four frames from this one on.
+fn sv39x4(root: u32) -> SecondStage
+    requires { root % 4 ≡ 0 }
+    ensures { result ≡ second.Sv39x4 (guest_root_from root) }
+{
+    SecondStage::Sv39x4(GuestRoot::new(u64::from(root)).unwrap())
+}
+
+/// The address space of this number.
+fn space(number: u32) -> Pscid
+    requires { number < 2 ^ 20 }
+    ensures { result ≡ address_space_from 0 number }
+{
+    Pscid::new(number).unwrap()
+}
+
+/// The context of a device that is attached in these stages, without ATS. In both the root of the first is the
+/// guest physical page 0.
+fn context_for(stages: Stages) -> Context
+    requires number { stages.number < 2 ^ 16 }
+    requires root { IsAligned stages.mode stages.root }
+    ensures { result ≡ context_for stages }
+{
+    match stages.mode {
+        Mode::First => Context {
+            en_ats: false,
+            first_stage: sv39(stages.root),
+            second_stage: SecondStage::Bare,
+            pscid: space(stages.number),
+            gscid: 0,
+        },
+        Mode::Second => Context {
+            en_ats: false,
+            first_stage: FirstStage::Bare,
+            second_stage: sv39x4(stages.root),
+            pscid: space(0),
+            gscid: stages.number as u16,
+        },
+        Mode::Both => Context {
+            en_ats: false,
+            first_stage: sv39(0),
+            second_stage: sv39x4(stages.root),
+            pscid: space(stages.number),
+            gscid: stages.number as u16,
+        },
     }
 }
 
-/// The frames that an attach takes: pages of the directory, and the root of a device's tables.
+/// The frames that an attach takes: pages of the directory, and the root of a device's tables, by the first
+/// of its frames.
 #[derive(Drop)]
 struct Taken {
     pages: ArrayVec<u32, 2>,
@@ -69,27 +116,43 @@ struct Taken {
 }
 
 impl Driver {
+    /// The root of tables in the mode: the highest free frame below the limit, or the highest four.
+    fn choose_root(&self, mode: Mode, limit: u32) -> Option<u32>
+        requires { limit ≤ self.now.frames }
+        ensures { MatchOption result (NoRootBelow mode (state_of self.now) limit) (IsRootBelow mode (state_of self.now) limit) }
+    {
+        match mode {
+            Mode::First => self.marks.highest_free(&self.ledger, limit, None),
+            Mode::Second | Mode::Both => self.marks.highest_four(&self.ledger, limit),
+        }
+    }
+
     /// The highest free frames: so many pages, and then a root.
-    fn choose_with_root(&self, pages: usize) -> Option<Taken>
+    fn choose_with_root(&self, mode: Mode, pages: usize) -> Option<Taken>
         requires { pages ≤ 2 }
         ensures chosen { IfSome result (λ taken.
-            AreHighestFree self.now.marks self.now.ledger None self.now.frames (pages + 1) (taken.pages.items ++ taken.root ∷ [])) }
-        ensures none { IfNone result (¬ HasFree self.now.marks self.now.ledger None (pages + 1) self.now.frames) }
+            AreHighestFree self.now.marks self.now.ledger None self.now.frames pages taken.pages.items) }
+        ensures root { IfSome result (λ taken.
+            IsRootBelow mode (state_of self.now) (limit_below self.now.frames taken.pages.items) taken.root) }
+        ensures none { IfNone result ((¬ HasFree self.now.marks self.now.ledger None pages self.now.frames)
+            ⊎ ((few : List ℕ) × AreHighestFree self.now.marks self.now.ledger None self.now.frames pages few
+            × NoRootBelow mode (state_of self.now) (limit_below self.now.frames few))) }
     {
         let pages = self.choose(pages, None)?;
         let limit = pages.last().copied().unwrap_or(self.frames);
-        let root = self.marks.highest_free(&self.ledger, limit, None)?;
+        let root = self.choose_root(mode, limit)?;
         Some(Taken { pages, root })
     }
 
-    /// The device is attached in its first stage, without ATS: the directory pages that its id's path lacks,
-    /// from the root of the directory down, and then the root of its tables take the highest free frames, and
-    /// its address space the lowest number from 1 on that no attached or leaving device holds; its context is
-    /// written. `NotStarted`, `NoSuchDevice`, `AlreadyAttached` (a leaving device too), `IdTooWide`,
-    /// `NoFrames`: the first that applies, and then nothing changes. Takes no memory.
-    pub fn attach(&mut self, memory: &mut Memory, id: DeviceId) -> Result<(), Refusal>
+    /// The device is attached in the mode, without ATS: the directory pages that its id's path lacks, from
+    /// the root of the directory down, and then the root of its tables take the highest free frames, a root
+    /// of a second stage the highest four side by side; its address space takes the lowest number from 1 on
+    /// that no attached or leaving device holds; its context is written. `NotStarted`, `NoSuchDevice`,
+    /// `AlreadyAttached` (a leaving device too), `IdTooWide`, `NoFrames`: the first that applies, and then
+    /// nothing changes. Takes no memory.
+    pub fn attach(&mut self, memory: &mut Memory, id: DeviceId, mode: Mode) -> Result<(), Refusal>
         requires stand { TablesStand (state_of self.old) memory.old }
-        ensures effect { AnswersAttach (state_of self.old) memory.old id result (state_of self.new) memory.new }
+        ensures effect { AnswersAttach (state_of self.old) memory.old id mode result (state_of self.new) memory.new }
         ensures stand { TablesStand (state_of self.new) memory.new }
         ensures ready { (r : Registers) → IsReady (state_of self.old) memory.old r → IsReady (state_of self.new) memory.new r }
     {
@@ -99,7 +162,7 @@ impl Driver {
         let Some(place) = place_of(&self.devices, id) else {
             return Err(Refusal::NoSuchDevice);
         };
-        if self.devices[place].attachment.owned_stage().is_some() {
+        if self.devices[place].attachment.owned_stages().is_some() {
             return Err(Refusal::AlreadyAttached);
         }
         if id >= id_limit(self.levels) {
@@ -107,25 +170,18 @@ impl Driver {
         }
         let directory = directory_frame(self.frames);
         let lacking = missing(memory, self.levels, directory, id);
-        let Some(taken) = self.choose_with_root(lacking) else {
+        let Some(taken) = self.choose_with_root(mode, lacking) else {
             return Err(Refusal::NoFrames);
         };
         let pages = taken.pages.as_slice();
-        let stage = FirstStage {
-            root: taken.root,
-            number: lowest_number(&self.devices),
-        };
+        let root = taken.root;
+        let number = lowest_number(&self.devices);
+        let stages = Stages { mode, root, number };
+        let context = context_for(stages);
         reserve_all(&mut self.marks, memory, pages, Owner::System);
-        self.marks.reserve(memory, stage.root, Owner::OneDevice(id));
-        put_context(
-            memory,
-            self.levels,
-            directory,
-            id,
-            context_for(stage),
-            pages,
-        );
-        self.devices[place].attachment = Attachment::Attached(stage);
+        reserve_root(&mut self.marks, memory, mode, root, Owner::OneDevice(id));
+        put_context(memory, self.levels, directory, id, context, pages);
+        self.devices[place].attachment = Attachment::Attached(stages);
         Ok(())
     }
 }

@@ -1,11 +1,13 @@
 // The frames that become tables, or pages of the directory.
-ghost use Rattle.std.specs.Prelude.{◌≡◌, ◌<◌, ◌≤◌, Some, None, All, length, IfSome, IfNone};
+ghost use Rattle.std.specs.Prelude.{◌≡◌, ◌<◌, ◌≤◌, ◌+◌, ◌^◌, ◌∷◌, Some, None, All, length, IfSome, IfNone};
+ghost use Rattle.iom_driver.specs.Attaching.{root_frames};
 ghost use Rattle.iom_driver.specs.Choices.{AreHighestFree, marked_for, cleared};
+ghost use Rattle.iom_page_table.specs.Sv39x4.{other_quarters};
 ghost use Rattle.iom_table_frames.specs.Marks.{HasFree};
 
 use crate::driver::Driver;
 use arrayvec::ArrayVec;
-use iom_base::Owner;
+use iom_base::{Mode, Owner};
 use iom_phys_mem::Memory;
 use iom_table_frames::TableFrames;
 
@@ -23,6 +25,38 @@ pub(crate) fn reserve_all(
 {
     for frame in frames {
         marks.reserve(memory, *frame, owner);
+    }
+}
+
+/// Reserves four frames side by side for the owner, and makes them zero.
+fn reserve_four(marks: &mut TableFrames, memory: &mut Memory, root: u32, owner: Owner)
+    requires marked { All (λ frame. frame < length marks.old) (root ∷ other_quarters root) }
+    requires inside { All (λ frame. frame < length memory.old) (root ∷ other_quarters root) }
+    requires fits { root + 4 < 2 ^ 32 }
+    ensures marks { marks.new ≡ marked_for owner (root ∷ other_quarters root) marks.old }
+    ensures memory { memory.new ≡ cleared (root ∷ other_quarters root) memory.old }
+{
+    let frames = [root, root + 1, root + 2, root + 3];
+    reserve_all(marks, memory, &frames, owner);
+}
+
+/// Reserves the frames of a root for the owner, and makes them zero: one in the first stage, four else.
+pub(crate) fn reserve_root(
+    marks: &mut TableFrames,
+    memory: &mut Memory,
+    mode: Mode,
+    root: u32,
+    owner: Owner,
+)
+    requires marked { All (λ frame. frame < length marks.old) (root_frames mode root) }
+    requires inside { All (λ frame. frame < length memory.old) (root_frames mode root) }
+    requires fits { root + 4 < 2 ^ 32 }
+    ensures marks { marks.new ≡ marked_for owner (root_frames mode root) marks.old }
+    ensures memory { memory.new ≡ cleared (root_frames mode root) memory.old }
+{
+    match mode {
+        Mode::First => reserve_all(marks, memory, &[root], owner),
+        Mode::Second | Mode::Both => reserve_four(marks, memory, root, owner),
     }
 }
 

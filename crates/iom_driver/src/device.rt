@@ -1,11 +1,14 @@
-use iom_base::DeviceId;
+use iom_base::{DeviceId, Mode};
 
-/// The first stage of a device.
+/// The stages by which a device's addresses are translated.
 #[derive(Clone, Copy, PartialEq, Eq, Debug)]
-pub struct FirstStage {
-    /// The frame of the root of its tables.
+pub struct Stages {
+    /// Which stages they are.
+    pub(crate) mode: Mode,
+    /// The frame of the root of its tables, which the driver writes: those of the first stage where that
+    /// translates alone, else those of the second, whose root fills four frames from this one on.
     pub(crate) root: u32,
-    /// Its address-space number, which commands name it by (PSCID).
+    /// Its address-space number, which commands name it by: the PSCID of a first stage, the GSCID of a second.
     pub(crate) number: u32,
 }
 
@@ -14,10 +17,10 @@ pub struct FirstStage {
 pub enum Attachment {
     /// To nothing.
     Detached,
-    /// In this first stage.
-    Attached(FirstStage),
+    /// In these stages.
+    Attached(Stages),
     /// It was detached under the ticket. Until that is confirmed, its tables and its number are still its own.
-    Leaving { ticket: u32, stage: FirstStage },
+    Leaving { ticket: u32, stage: Stages },
 }
 
 /// A device that is plugged in, as the driver keeps it.
@@ -30,11 +33,11 @@ pub struct Device {
 impl Attachment {
     ghost use Rattle.std.specs.Prelude.{◌≡◌};
     ghost use Rattle.iom_driver.specs.Confirmed.{has_left};
-    ghost use Rattle.iom_driver.specs.Devices.{attached_stage, owned_stage};
+    ghost use Rattle.iom_driver.specs.Devices.{attached_stages, owned_stages};
 
-    // The first stage of an attached device.
-    pub(crate) fn attached_stage(self) -> Option<FirstStage>
-        ensures { result ≡ attached_stage self }
+    // The stages of an attached device.
+    pub(crate) fn attached_stages(self) -> Option<Stages>
+        ensures { result ≡ attached_stages self }
     {
         match self {
             Attachment::Attached(stage) => Some(stage),
@@ -42,9 +45,9 @@ impl Attachment {
         }
     }
 
-    // The first stage of an attached or a leaving device.
-    pub(crate) fn owned_stage(self) -> Option<FirstStage>
-        ensures { result ≡ owned_stage self }
+    // The stages of an attached or a leaving device.
+    pub(crate) fn owned_stages(self) -> Option<Stages>
+        ensures { result ≡ owned_stages self }
     {
         match self {
             Attachment::Detached => None,

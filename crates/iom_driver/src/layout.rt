@@ -1,6 +1,6 @@
 // Where the fixed frames are, and what the registers are told of them.
 ghost use Rattle.std.specs.Prelude.{◌≡◌, ◌≤◌, ◌<◌, ◌^◌, ◌%◌};
-ghost use Rattle.iom_driver.specs.Layout.{command_frame, completion_frame, directory_frame, completion_address, ddtp_of, cqb_of, id_limit};
+ghost use Rattle.iom_driver.specs.Layout.{command_frame, completion_frame, directory_frame, completion_address, ddtp_of, cqb_of, fqb_of, id_limit};
 
 use iom_base::{DeviceId, PAGE_SIZE};
 
@@ -11,9 +11,12 @@ pub(crate) const MAX_DEVICES: usize = 16;
 pub(crate) const QUEUE_ENTRIES: u64 = 256;
 
 /// The exponent of that number less 1, as `cqb` has it.
-const LOG2SZ_LESS_1: u64 = 7;
+const COMMANDS_LOG2SZ_LESS_1: u64 = 7;
 
-/// Where the PPN stands in `ddtp` and `cqb`.
+/// The same for the 128 entries that fill the frame of the fault queue, as `fqb` has it.
+const RECORDS_LOG2SZ_LESS_1: u64 = 6;
+
+/// Where the PPN stands in `ddtp`, `cqb` and `fqb`.
 const PPN_SHIFT: u32 = 10;
 
 /// The number of `iommu_mode` is this much above that of the levels.
@@ -57,7 +60,15 @@ pub(crate) fn cqb_of(frames: u32) -> u64
     requires { 64 ≤ frames }
     ensures { result ≡ cqb_of frames }
 {
-    (u64::from(frames - 1) << PPN_SHIFT) + LOG2SZ_LESS_1
+    (u64::from(frames - 1) << PPN_SHIFT) + COMMANDS_LOG2SZ_LESS_1
+}
+
+/// What `fqb` is told: the queue's frame and its size.
+pub(crate) fn fqb_of(frames: u32) -> u64
+    requires { 64 ≤ frames }
+    ensures { result ≡ fqb_of frames }
+{
+    (u64::from(frames - 2) << PPN_SHIFT) + RECORDS_LOG2SZ_LESS_1
 }
 
 /// The ids that a device directory of so many levels can name are below this: of 7, 16 or 24 bits

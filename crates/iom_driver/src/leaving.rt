@@ -46,7 +46,7 @@ impl Driver {
             io,
             self.frames,
             context_invalidation(id),
-            space_invalidation(stage.number),
+            space_invalidation(stage.mode, stage.number),
             ticket,
         );
         Ok(Ticket(ticket))

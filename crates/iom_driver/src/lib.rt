@@ -1,18 +1,24 @@
 //! The driver of the IOMMU: devices, page tables, grants, commands and tickets.
 //!
-//! It writes the device directory and first-stage tables of Sv39 into memory (RISC-V IOMMU Architecture
-//! Specification, section 2.1; RISC-V Privileged Architecture), commands of 16 bytes into the ring of the
-//! command queue, and registers (section 3.1 and chapter 5). Of the IOMMU it knows that it has registers, as
-//! [`iom_registers::Mmio`] says, and that a fence stores its number: nothing else. It keeps no list of the
-//! commands that wait.
+//! It writes the device directory and page tables into memory (RISC-V IOMMU Architecture Specification,
+//! section 2.1; RISC-V Privileged Architecture), commands of 16 bytes into the ring of the command queue, and
+//! registers (section 3.1 and chapter 5); and it takes fault records out of the fault queue (section 3.2). Of
+//! the IOMMU it knows that it has registers, as [`iom_registers::Mmio`] says, and that a fence stores its
+//! number: nothing else. It keeps no list of the commands that wait.
+//!
+//! A device is attached in a [`Mode`], without ATS. Where the first stage translates alone the tables are those
+//! of Sv39, else those of a second stage, Sv39x4, whose root fills four frames: what is granted then are guest
+//! physical pages. In both stages the first one's tables are the guest's own business, with their root in its
+//! page 0.
 //!
 //! The layers above may rely on this. The whole effect of each call is one relation, over the driver, memory
-//! and whatever has registers, by the answer (`specs/Calls.antt`, and `Attaching`, `Leaving` and `Polling`
-//! beside it); a refusal is the first that applies, and changes nothing. What ties a driver to memory and
-//! registers between its calls is `IsReady` (`specs/Ready.antt`): each call asks it and gives it back, and
-//! [`laws`] says what others may change meanwhile. Devices are attached in the first stage, without ATS, and
-//! the directory has a context for each attached device and for no other. A device that was detached keeps its
-//! frames and its number until a poll confirms its ticket.
+//! and whatever has registers, by the answer (`specs/Calls.antt`, and `Attaching`, `Leaving`, `Polling` and
+//! `Reports` beside it); a refusal is the first that applies, and changes nothing. What ties a driver to memory
+//! and registers between its calls is `IsReady` (`specs/Ready.antt`): each call asks it and gives it back, and
+//! [`laws`] says what others may change meanwhile. The directory has a context for each attached device and for
+//! no other. A device that was detached keeps its frames and its number until a poll confirms its ticket.
+//!
+//! [`Mode`]: iom_base::Mode
 #![tactic(auto)]
 
 mod access;
@@ -31,8 +37,9 @@ mod lookups;
 mod plugging;
 mod polling;
 mod releasing;
+mod reporting;
 mod starting;
 
 pub use answers::{Polled, Ticket};
-pub use device::{Attachment, Device, FirstStage};
+pub use device::{Attachment, Device, Stages};
 pub use driver::Driver;

@@ -40,7 +40,7 @@ impl Driver {
             memory,
             io,
             self.frames,
-            invalidation(stage.number, page),
+            invalidation(stage.mode, stage.number, page),
             self.given,
         );
         Ok(Ticket(self.given))

@@ -1,4 +1,4 @@
-// The IOMMU is told where its structures are, and its command queue is turned on.
+// The IOMMU is told where its structures are, and its queues are turned on.
 ghost use Rattle.std.specs.Prelude.{◌≡◌, ◌<◌, length, false, slice_set};
 ghost use Rattle.iom_phys_mem.specs.Words.{zeroed};
 ghost use Rattle.iom_driver.specs.Calls.{Starts, IsOff};
@@ -7,10 +7,13 @@ ghost use Rattle.iom_driver.specs.Seen.{state_of};
 
 use crate::access::write;
 use crate::driver::Driver;
-use crate::layout::{completion_address, cqb_of, ddtp_of, directory_frame};
+use crate::layout::{completion_address, cqb_of, ddtp_of, directory_frame, fqb_of};
 use iom_base::FRAME_SIZE;
 use iom_phys_mem::{Bytes, Memory};
 use iom_registers::{Mmio, Register};
+
+/// What `cqcsr` and `fqcsr` are told: the queue is on, without interrupts.
+const ON: u64 = 1;
 
 /// Makes the bytes of the frame zero.
 fn clear(memory: &mut Memory, frame: u32)
@@ -23,9 +26,9 @@ fn clear(memory: &mut Memory, frame: u32)
 }
 
 impl Driver {
-    /// Starts a driver that isn't started, on a memory of its size, where the command queue is off and its
-    /// tail 0, as at power-on. The completion word and the root of the device directory are zero; then
-    /// `ddtp`, `cqb` and `cqcsr` are written, in this order.
+    /// Starts a driver that isn't started, on a memory of its size, where both queues are off and the indices
+    /// that software writes are 0, as at power-on. The completion word and the root of the device directory
+    /// are zero; then `ddtp`, `cqb`, `cqcsr`, `fqb` and `fqcsr` are written, in this order.
     pub fn start<M: Mmio>(&mut self, memory: &mut Memory, io: &mut M)
         requires idle { (state_of self.old).started ≡ false }
         requires size { length memory.old ≡ length (state_of self.old).marks }
@@ -37,7 +40,9 @@ impl Driver {
         clear(memory, directory_frame(self.frames));
         write(io, Register::Ddtp, ddtp_of(self.frames, self.levels));
         write(io, Register::Cqb, cqb_of(self.frames));
-        write(io, Register::Cqcsr, 1);
+        write(io, Register::Cqcsr, ON);
+        write(io, Register::Fqb, fqb_of(self.frames));
+        write(io, Register::Fqcsr, ON);
         self.started = true;
     }
 }

@@ -4,12 +4,14 @@ use Rattle.iom_registers.specs.declared.register.Register.{Register}
 use Rattle.iom_registers.specs.Table.{written}
 use Rattle.iom_driver_tests.specs.declared.recording.Recording.{Recording}
 
--- the register file is written, and the register is the last of the four
+-- the register file is written, and the register is the last of the six
 abbrev pub recorded : Recording → Register → ℕ → Recording
 recorded recording register value = record {
   registers = written recording.registers register value;
-  before = recording.first;
   first = recording.second;
   second = recording.third;
-  third = Some register;
+  third = recording.fourth;
+  fourth = recording.fifth;
+  fifth = recording.sixth;
+  sixth = Some register;
 }

@@ -4,14 +4,17 @@ use std::test::Fail;
 
 // The four words of a context: valid, no second stage, PSCID 1, and Sv39 from the root of the tables.
 fn is_context(bench: &Bench, place: u32, root: u64) -> bool {
+    has_words(bench, place, [1, 0, 0x1000, 8 << 60 | root])
+}
+
+// tc, iohgatp, ta and fsc of the context at the place.
+fn has_words(bench: &Bench, place: u32, words: [u64; 4]) -> bool {
     let place = u64::from(place);
-    let [tc, iohgatp, ta, fsc] = [
-        bench.word(place),
-        bench.word(place + 8),
-        bench.word(place + 16),
-        bench.word(place + 24),
-    ];
-    tc == Some(1) && iohgatp == Some(0) && ta == Some(0x1000) && fsc == Some(8 << 60 | root)
+    let [tc, iohgatp, ta, fsc] = words;
+    bench.word(place) == Some(tc)
+        && bench.word(place + 8) == Some(iohgatp)
+        && bench.word(place + 16) == Some(ta)
+        && bench.word(place + 24) == Some(fsc)
 }
 
 // With one level the context of id 1 stands in the directory's root, page 0x3c; the tables' root is page 0x3b.

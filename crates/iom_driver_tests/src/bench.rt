@@ -1,8 +1,9 @@
 // A driver with memory and registers of its own, of which a test sees no parts.
 use crate::recording::Recording;
-use iom_base::{DeviceId, GrantRights};
+use iom_base::{DeviceId, GrantRights, Mode};
 use iom_driver::laws::stays_ready;
 use iom_driver::{Driver, Polled, Ticket};
+use iom_fault_queue::Record;
 use iom_ledger::Refusal;
 use iom_phys_mem::{Bytes, MemError, Memory};
 use iom_registers::Register;
@@ -55,11 +56,20 @@ impl Bench {
         Bench::of_size(alloc, FRAMES, 1)
     }
 
-    /// Started so, and the device is attached.
+    /// Started so, and the device is attached in the first stage.
     pub(crate) fn with_device(alloc: Global, id: DeviceId) -> Result<Bench, MemError> {
+        Bench::with_device_in(alloc, id, Mode::First)
+    }
+
+    /// Started so, and the device is attached in the mode.
+    pub(crate) fn with_device_in(
+        alloc: Global,
+        id: DeviceId,
+        mode: Mode,
+    ) -> Result<Bench, MemError> {
         let mut bench = Bench::new(alloc)?;
         let _ = bench.plug(id);
-        let _ = bench.attach(id);
+        let _ = bench.attach_in(id, mode);
         Ok(bench)
     }
 
@@ -67,8 +77,13 @@ impl Bench {
         self.driver.plug(id)
     }
 
+    /// In the first stage.
     pub(crate) fn attach(&mut self, id: DeviceId) -> Result<(), Refusal> {
-        self.driver.attach(&mut self.memory, id)
+        self.attach_in(id, Mode::First)
+    }
+
+    pub(crate) fn attach_in(&mut self, id: DeviceId, mode: Mode) -> Result<(), Refusal> {
+        self.driver.attach(&mut self.memory, id, mode)
     }
 
     pub(crate) fn grant(&mut self, id: DeviceId, page: u64, frame: u64) -> Result<(), Refusal> {
@@ -87,6 +102,10 @@ impl Bench {
 
     pub(crate) fn poll(&mut self) -> Result<Polled, Refusal> {
         self.driver.poll(&mut self.memory, &self.io)
+    }
+
+    pub(crate) fn faults(&mut self) -> Result<Option<Record>, Refusal> {
+        self.driver.faults(&self.memory, &mut self.io)
     }
 
     pub(crate) fn is_free(&self, frame: u32) -> bool {
@@ -110,9 +129,10 @@ impl Bench {
         self.io.registers.value(register)
     }
 
-    /// The last four registers that were written, the oldest first.
-    pub(crate) fn writes(&self) -> [Option<Register>; 4] {
-        [self.io.before, self.io.first, self.io.second, self.io.third]
+    /// The last six registers that were written, the oldest first.
+    pub(crate) fn writes(&self) -> [Option<Register>; 6] {
+        let io = &self.io;
+        [io.first, io.second, io.third, io.fourth, io.fifth, io.sixth]
     }
 
     /// A fence stores its number, as the IOMMU would.

@@ -1,5 +1,6 @@
-//! Tests of the driver: the bytes of its commands, tables and contexts against the standard's figures, the
-//! order of its register writes, its refusals, and what a poll confirms and gives back.
+//! Tests of the driver: the bytes of its commands, tables and contexts in each mode against the standard's
+//! figures, the order of its register writes, its refusals, what a poll confirms and gives back, and what it
+//! tells of faults.
 //!
 //! The driver stands on memory and on registers with no IOMMU around them: a test takes its place, and
 //! writes what a fence would. The crate has tests alone, and nothing stands on it, since a crate with tests
@@ -23,6 +24,10 @@ mod recording;
 mod refusals;
 #[cfg(test)]
 mod releases;
+#[cfg(test)]
+mod reports;
+#[cfg(test)]
+mod second_stages;
 #[cfg(test)]
 mod starts;
 

@@ -1,16 +1,16 @@
 // Registers that remember in which order they were written.
 use iom_registers::{Mmio, RegFault, Register, Registers};
 
-/// A register file, and the last four registers that were written.
+/// A register file, and the last six registers that were written, the oldest first.
 #[derive(Clone, Copy, PartialEq, Eq, Debug)]
 pub struct Recording {
     pub registers: Registers,
-    /// The fourth last.
-    pub before: Option<Register>,
     pub first: Option<Register>,
     pub second: Option<Register>,
-    /// The last.
     pub third: Option<Register>,
+    pub fourth: Option<Register>,
+    pub fifth: Option<Register>,
+    pub sixth: Option<Register>,
 }
 
 impl Recording {
@@ -23,10 +23,12 @@ impl Recording {
     {
         Recording {
             registers: Registers::new(),
-            before: None,
             first: None,
             second: None,
             third: None,
+            fourth: None,
+            fifth: None,
+            sixth: None,
         }
     }
 }
@@ -49,10 +51,12 @@ impl Mmio for Recording {
     fn write(&mut self, offset: u64, width: u32, value: u64) -> Result<(), RegFault> {
         let register = Register::at(offset, width)?;
         self.registers.set(register, value);
-        self.before = self.first;
         self.first = self.second;
         self.second = self.third;
-        self.third = Some(register);
+        self.third = self.fourth;
+        self.fourth = self.fifth;
+        self.fifth = self.sixth;
+        self.sixth = Some(register);
         Ok(())
     }
 }

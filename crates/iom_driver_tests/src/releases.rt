@@ -30,10 +30,10 @@ fn a_release_writes_two_commands(rt: HostRuntime) -> Result<(), Fail> {
     expect(&rt, bench.word(0x3f010) == Some(0x0000_0001_0000_3402));
     expect(&rt, bench.word(0x3f018) == Some(0x0000_0000_0000_f400));
     expect(&rt, bench.word(0x39018) == Some(0));
-    let [_, first, second, third] = bench.writes();
-    expect(&rt, first == Some(Register::Cqcsr));
+    let [.., before, first, second] = bench.writes();
+    expect(&rt, before == Some(Register::Fqcsr));
+    expect(&rt, first == Some(Register::Cqt));
     expect(&rt, second == Some(Register::Cqt));
-    expect(&rt, third == Some(Register::Cqt));
     expect(&rt, bench.register(Register::Cqt) == 2);
     expect(&rt, bench.pending() == 1);
     Ok(())

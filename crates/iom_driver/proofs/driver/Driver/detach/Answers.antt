@@ -12,13 +12,14 @@ use Rattle.iom_base.specs.declared.owner.Owner.TheVariants.{System, OneDevice}
 use Rattle.iom_driver.specs.declared.device.Attachment.TheVariants.{Leaving}
 use Rattle.iom_driver.specs.declared.device.Device.{Device}
 use Rattle.iom_driver.specs.Appends.{fence}
-use Rattle.iom_driver.specs.Devices.{attachment_of, attached_stage, stage_of, owned_stage_of, with_attachment}
+use Rattle.iom_driver.specs.Devices.{attachment_of, attached_stages, stages_of, owned_stages_of, with_attachment}
 use Rattle.iom_driver.specs.Directory.{NamesDirectory}
-use Rattle.iom_driver.specs.Layout.{id_limit, command_frame, completion_address, directory_frame}
+use Rattle.iom_driver.specs.Layout.{id_limit, command_frame, fault_frame, completion_address, directory_frame}
 use Rattle.iom_driver.specs.Ready.{IsRing}
 use Rattle.iom_driver.specs.Sound.{IsSound}
 use Rattle.iom_driver.specs.Tables.{HaveTables}
 use Rattle.iom_driver.proofs.Directories.{DirectoryIn, room_for_ids, in_stands, stands_in, directory_cleared, directory_stay}
+use Rattle.iom_driver.proofs.FaultRings.{fault_ring_stays}
 use Rattle.iom_driver.proofs.Keeps.{sound_detached, owned_leaving}
 use Rattle.iom_driver.proofs.Places.{attached_owns, attached_there, attachment_set, attachment_other}
 use Rattle.iom_driver.proofs.Ring.{same_commands, three_last, stays_named}
@@ -37,7 +38,7 @@ system_device : (marks : List (Option Owner)) (n id : ℕ) → slice_get marks n
 system_device marks n id system own = let both : ◌≡◌ {A = Option (Option Owner)} (Some (Some System)) (Some (Some (OneDevice id))) = sym system ∙ own in cc
 
 -- the tables of devices that own the same stages
-owned_tables : (memory : List (List ℕ)) (marks : List (Option Owner)) (ledger : Ledger) (devices devices' : List Device) → ((id : ℕ) → owned_stage_of devices' id ≡ owned_stage_of devices id)
+owned_tables : (memory : List (List ℕ)) (marks : List (Option Owner)) (ledger : Ledger) (devices devices' : List Device) → ((id : ℕ) → owned_stages_of devices' id ≡ owned_stages_of devices id)
     → HaveTables memory marks ledger devices → HaveTables memory marks ledger devices'
 owned_tables memory marks ledger devices devices' same tables id stage at = tables id stage (sym (same id) ∙ at)
 
@@ -50,7 +51,7 @@ invariant_of-self g c =
     let may = c.in-Ok.ensures.may in
     record {
       sound =
-          subst (λ (ds : List Device). IsSound driver.ledger driver.marks ds driver.frames driver.levels driver.started (driver.given + 1) driver.confirmed) (sym c.set_attachment.ensures)
+          subst (λ (ds : List Device). IsSound driver.ledger driver.marks ds driver.frames driver.levels driver.started (driver.given + 1) driver.confirmed) (sym {A = List Device} c.set_attachment.ensures)
           (sound_detached driver.ledger driver.marks driver.devices.items driver.frames driver.levels driver.started driver.given driver.confirmed c.args.id c.in-Ok.stage
           driver.sound may.started may.attached may.none_held);
     }
@@ -141,9 +142,9 @@ returns-clause-ready g c =
       others = c.clear_context.ensures.others;
       outside = c.clear_context.ensures.outside;
     } in
-    let none : stage_of devices c.args.id ≡ None = ap attached_stage (attachment_set driver.devices.items c.args.id (Leaving (driver.given + 1) c.in-Ok.stage) (attached_there driver.devices.items c.args.id c.in-Ok.stage may.attached)) in
-    let same : (other : ℕ) → other ≢ c.args.id → stage_of devices other ≡ stage_of driver.devices.items other =
-    λ other apart. ap attached_stage (attachment_other driver.devices.items c.args.id other (Leaving (driver.given + 1) c.in-Ok.stage) apart) in
+    let none : stages_of devices c.args.id ≡ None = ap attached_stages (attachment_set driver.devices.items c.args.id (Leaving (driver.given + 1) c.in-Ok.stage) (attached_there driver.devices.items c.args.id c.in-Ok.stage may.attached)) in
+    let same : (other : ℕ) → other ≢ c.args.id → stages_of devices other ≡ stages_of driver.devices.items other =
+    λ other apart. ap attached_stages (attachment_other driver.devices.items c.args.id other (Leaving (driver.given + 1) c.in-Ok.stage) apart) in
     let between = directory_cleared driver.frames memory c.clear_context.new.memory driver.marks driver.devices.items devices driver.levels c.args.id here cleared.tree cleared.pages cleared.here cleared.others none same in
     let kept : (n id : ℕ) → slice_get driver.marks n ≡ Some (Some (OneDevice id)) → slice_get c.append_detach.new.memory n ≡ slice_get memory n =
     λ n id own. c.append_detach.ensures.other_frames n (of_one driver.marks (driver.frames - 1) n id driver.sound.fixed.command own)
@@ -158,6 +159,12 @@ returns-clause-ready g c =
             (directory_stay driver.frames c.clear_context.new.memory c.append_detach.new.memory driver.marks driver.marks devices devices driver.levels driver.sound.sizes.in_range c.append_detach.ensures.size
             (λ n own. (c.append_detach.ensures.other_frames n own.no_command, refl)) (λ id. refl) between);
       };
+      faults = λ started.
+          let fault = fault_frame (length memory) in
+          fault_ring_stays memory c.append_detach.new.memory (g.M.Mmio.registers c.args.io.now) (g.M.Mmio.registers c.append_detach.new.io) size
+          (c.append_detach.ensures.other_frames fault (λ same. absurd (omega (arith, many, driver.sound.sizes.size.0, same)))
+          ∙ cleared.outside fault (λ at. (here.own fault (cleared.pages fault at)).no_fault (ap fault_frame many)))
+          c.append_detach.ensures.faults (c.requires.ready.faults started);
       ring = λ started. subst (λ n. IsRing n (g.M.Mmio.registers c.append_detach.new.io)) (sym (size ∙ many)) c.append_detach.ensures.ring;
       directory = λ started. subst (λ n. NamesDirectory n driver.levels (g.M.Mmio.registers c.append_detach.new.io)) (sym size)
           (stays_named (length memory) driver.levels (g.M.Mmio.registers c.args.io.now) (g.M.Mmio.registers c.append_detach.new.io) c.append_detach.ensures.named (c.requires.ready.directory started));

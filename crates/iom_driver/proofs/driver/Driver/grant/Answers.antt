@@ -14,6 +14,7 @@ use Rattle.iom_page_table.specs.Sv39.{missing_for, mapped}
 use Rattle.iom_driver.specs.Calls.{granted_leaf, KeepsOthers}
 use Rattle.iom_driver.specs.Choices.{AreHighestFree, marked_for, cleared}
 use Rattle.iom_driver.specs.Devices.{attachment_of}
+use Rattle.iom_driver.specs.Layout.{fault_frame}
 use Rattle.iom_driver.specs.Seen.{state_of}
 use Rattle.iom_driver.specs.Sound.{IsSound}
 use Rattle.iom_driver.specs.Tables.{HaveTables}
@@ -35,6 +36,13 @@ ok_then (Err y) same known = absurd (false≢true (sym same))
 err_then : {T E P : Type 0} (r : Result T E) → is_err r ≡ true → OnErr r P → P
 err_then (Ok x) same known = absurd (false≢true same)
 err_then (Err y) same known = known
+
+-- the system is no device
+not_system : (id : ℕ) → ◌≡◌ {A = Owner} System (OneDevice id) → ⊥
+not_system id same = cc
+
+system_device : (id : ℕ) → ◌≡◌ {A = Option (Option Owner)} (Some (Some System)) (Some (Some (OneDevice id))) → ⊥
+system_device id same = cc
 
 -- the frames that are cleared and then mapped are the chosen ones
 mapped_as : (memory before after : List (List ℕ)) (root page : ℕ) (leaf : PageLeaf) (clears maps chosen : List ℕ) → before ≡ cleared clears memory → clears ≡ chosen → maps ≡ chosen
@@ -97,7 +105,7 @@ pub map-requires-clause-tree : goal.map-requires-clause-tree
 map-requires-clause-tree c =
     let driver = c.args.self.now in
     let many = sym (c.requires.stand.size ∙ driver.sound.sizes.marked) in
-    let may = may_be_mapped c.args.memory.now driver.marks driver.ledger c.args.id c.in-Ok.stage.root c.args.page c.args.frame c.missing-lacking.result c.in-Some.tables.items
+    let may = may_be_mapped c.args.memory.now driver.marks driver.ledger c.args.id c.in-Ok.stage.mode c.in-Ok.stage.root c.args.page c.args.frame c.missing-lacking.result c.in-Some.tables.items
     (c.requires.stand.tables c.args.id c.in-Ok.stage (attached_owns (attachment_of driver.devices.items c.args.id) c.in-Ok.stage c.in-Ok.ensures.may.attached)) c.in-Ok.ensures.may.page_low c.in-Ok.ensures.may.not_held c.missing-lacking.ensures
     (chosen_below driver.marks driver.ledger c.args.frame driver.frames c.missing-lacking.result c.in-Some.tables.items c.args.memory.now many c.in-Some.ensures.chosen) in
     rw (c.reserve_all.ensures.memory, c.as_slice.ensures.value) may.tree
@@ -106,7 +114,7 @@ pub map-requires-clause-free : goal.map-requires-clause-free
 map-requires-clause-free c =
     let driver = c.args.self.now in
     let many = sym (c.requires.stand.size ∙ driver.sound.sizes.marked) in
-    let may = may_be_mapped c.args.memory.now driver.marks driver.ledger c.args.id c.in-Ok.stage.root c.args.page c.args.frame c.missing-lacking.result c.in-Some.tables.items
+    let may = may_be_mapped c.args.memory.now driver.marks driver.ledger c.args.id c.in-Ok.stage.mode c.in-Ok.stage.root c.args.page c.args.frame c.missing-lacking.result c.in-Some.tables.items
     (c.requires.stand.tables c.args.id c.in-Ok.stage (attached_owns (attachment_of driver.devices.items c.args.id) c.in-Ok.stage c.in-Ok.ensures.may.attached)) c.in-Ok.ensures.may.page_low c.in-Ok.ensures.may.not_held c.missing-lacking.ensures
     (chosen_below driver.marks driver.ledger c.args.frame driver.frames c.missing-lacking.result c.in-Some.tables.items c.args.memory.now many c.in-Some.ensures.chosen) in
     rw (c.reserve_all.ensures.memory, c.as_slice.ensures.value) may.free
@@ -115,7 +123,7 @@ pub map-requires-clause-count : goal.map-requires-clause-count
 map-requires-clause-count c =
     let driver = c.args.self.now in
     let many = sym (c.requires.stand.size ∙ driver.sound.sizes.marked) in
-    let may = may_be_mapped c.args.memory.now driver.marks driver.ledger c.args.id c.in-Ok.stage.root c.args.page c.args.frame c.missing-lacking.result c.in-Some.tables.items
+    let may = may_be_mapped c.args.memory.now driver.marks driver.ledger c.args.id c.in-Ok.stage.mode c.in-Ok.stage.root c.args.page c.args.frame c.missing-lacking.result c.in-Some.tables.items
     (c.requires.stand.tables c.args.id c.in-Ok.stage (attached_owns (attachment_of driver.devices.items c.args.id) c.in-Ok.stage c.in-Ok.ensures.may.attached)) c.in-Ok.ensures.may.page_low c.in-Ok.ensures.may.not_held c.missing-lacking.ensures
     (chosen_below driver.marks driver.ledger c.args.frame driver.frames c.missing-lacking.result c.in-Some.tables.items c.args.memory.now many c.in-Some.ensures.chosen) in
     rw (c.as_slice-2.ensures.value, c.reserve_all.ensures.memory, c.as_slice.ensures.value) may.count
@@ -124,7 +132,7 @@ pub map-requires-clause-fresh : goal.map-requires-clause-fresh
 map-requires-clause-fresh c =
     let driver = c.args.self.now in
     let many = sym (c.requires.stand.size ∙ driver.sound.sizes.marked) in
-    let may = may_be_mapped c.args.memory.now driver.marks driver.ledger c.args.id c.in-Ok.stage.root c.args.page c.args.frame c.missing-lacking.result c.in-Some.tables.items
+    let may = may_be_mapped c.args.memory.now driver.marks driver.ledger c.args.id c.in-Ok.stage.mode c.in-Ok.stage.root c.args.page c.args.frame c.missing-lacking.result c.in-Some.tables.items
     (c.requires.stand.tables c.args.id c.in-Ok.stage (attached_owns (attachment_of driver.devices.items c.args.id) c.in-Ok.stage c.in-Ok.ensures.may.attached)) c.in-Ok.ensures.may.page_low c.in-Ok.ensures.may.not_held c.missing-lacking.ensures
     (chosen_below driver.marks driver.ledger c.args.frame driver.frames c.missing-lacking.result c.in-Some.tables.items c.args.memory.now many c.in-Some.ensures.chosen) in
     rw (c.as_slice-2.ensures.value, c.reserve_all.ensures.memory, c.as_slice.ensures.value) may.fresh
@@ -164,7 +172,7 @@ returns-clause-effect c =
             } in
             subst (λ (ms : List (Option Owner)). KeepsOthers ms c.args.id memory c.map.new.memory)
             (sym (c.reserve_all.ensures.marks ∙ ap (λ fs. marked_for (OneDevice c.args.id) fs driver.marks) c.as_slice.ensures.value))
-            (others_kept memory c.map.new.memory driver.marks driver.ledger c.args.id root c.args.page c.args.frame c.missing-lacking.result leaf tables (sym c.requires.stand.size)
+            (others_kept memory c.map.new.memory driver.marks driver.ledger c.args.id c.in-Ok.stage.mode root c.args.page c.args.frame c.missing-lacking.result leaf tables (sym c.requires.stand.size)
             (c.requires.stand.tables c.args.id c.in-Ok.stage (attached_owns (attachment_of driver.devices.items c.args.id) c.in-Ok.stage c.in-Ok.ensures.may.attached))
             (chosen_below driver.marks driver.ledger c.args.frame driver.frames c.missing-lacking.result tables memory many c.in-Some.ensures.chosen) mapped);
       },
@@ -199,27 +207,33 @@ returns-clause-stand c =
           (tables_granted memory c.map.new.memory driver.marks driver.ledger c.grant.new.self driver.devices.items c.args.id c.args.page c.args.frame c.missing-lacking.result c.rights-rights.result c.in-Ok.stage tables
           (sym c.requires.stand.size) c.requires.stand.tables (attached_owns (attachment_of driver.devices.items c.args.id) c.in-Ok.stage c.in-Ok.ensures.may.attached) may.page_low granted chose mapped);
       directory = λ started.
-          let long = sym c.requires.stand.size in
           let before = c.requires.stand.tables c.args.id c.in-Ok.stage (attached_owns (attachment_of driver.devices.items c.args.id) c.in-Ok.stage c.in-Ok.ensures.may.attached) in
           let size : length c.map.new.memory ≡ length memory = mapped.size ∙ length-cleared tables memory in
           stands_in driver.frames c.map.new.memory _ driver.devices.items driver.levels (size ∙ sym many)
           (directory_stay driver.frames memory c.map.new.memory driver.marks _ driver.devices.items driver.devices.items driver.levels driver.sound.sizes.in_range size
           (λ n own. (
-            kept_others memory c.map.new.memory driver.marks driver.ledger c.args.id c.in-Ok.stage.root c.args.page c.args.frame c.missing-lacking.result n leaf tables System long before chose mapped own.system
-                (λ same. not_system c.args.id same),
+            kept_others memory c.map.new.memory driver.marks driver.ledger c.args.id c.in-Ok.stage.mode c.in-Ok.stage.root c.args.page c.args.frame c.missing-lacking.result n leaf tables System
+                (sym c.requires.stand.size) before chose mapped own.system (λ same. not_system c.args.id same),
             ap (λ (ms : List (Option Owner)). slice_get ms n) marks ∙ mark_stays (OneDevice c.args.id) n tables driver.marks
-                (owned_not_chosen driver.marks driver.ledger (Some c.args.frame) (length memory) c.missing-lacking.result n tables System long chose own.system),
+                (owned_not_chosen driver.marks driver.ledger (Some c.args.frame) (length memory) c.missing-lacking.result n tables System (sym c.requires.stand.size) chose own.system),
           )) (λ id. refl) (in_stands driver.frames memory driver.marks driver.devices.items driver.levels (sym many) (c.requires.stand.directory started)));
     }
-  where
-    not_system : (id : ℕ) → ◌≡◌ {A = Owner} System (OneDevice id) → ⊥
-    not_system id same = cc
 
 pub returns-then-is_err-clause-ready : goal.returns-then-is_err-clause-ready
 returns-then-is_err-clause-ready c = λ r ready.
-    ready_from (state_of c.args.self.now) _ c.args.memory.now c.args.memory.now r (returns-then-is_err-clause-stand c) refl refl refl ready
+    ready_from (state_of c.args.self.now) _ c.args.memory.now c.args.memory.now r (returns-then-is_err-clause-stand c) refl refl refl refl ready
 
 pub returns-clause-ready : goal.returns-clause-ready
 returns-clause-ready c = λ r ready.
-    let size = c.map.ensures.size ∙ ap (λ (m : List (List ℕ)). length m) c.reserve_all.ensures.memory ∙ length-cleared c.as_slice.result.now c.args.memory.now in
-    ready_from (state_of c.args.self.now) _ c.args.memory.now c.map.new.memory r (returns-clause-stand c) size refl refl ready
+    let driver = c.args.self.now in
+    let memory = c.args.memory.now in
+    let tables = c.in-Some.tables.items in
+    let size = c.map.ensures.size ∙ ap (λ (m : List (List ℕ)). length m) c.reserve_all.ensures.memory ∙ length-cleared c.as_slice.result.now memory in
+    let many : length memory ≡ driver.frames = c.requires.stand.size ∙ driver.sound.sizes.marked in
+    let system : slice_get driver.marks (fault_frame (length memory)) ≡ Some (Some System) = ap (λ n. slice_get driver.marks (fault_frame n)) many ∙ driver.sound.fixed.fault in
+    let chose = chosen_below driver.marks driver.ledger c.args.frame driver.frames c.missing-lacking.result tables memory (sym many) c.in-Some.ensures.chosen in
+    let marks = c.reserve_all.ensures.marks ∙ ap (λ fs. marked_for (OneDevice c.args.id) fs driver.marks) c.as_slice.ensures.value in
+    let still = ap (λ (ms : List (Option Owner)). slice_get ms (fault_frame (length memory))) marks ∙ mark_stays (OneDevice c.args.id) (fault_frame (length memory)) tables driver.marks
+    (owned_not_chosen driver.marks driver.ledger (Some c.args.frame) (length memory) c.missing-lacking.result (fault_frame (length memory)) tables System (sym c.requires.stand.size) chose system) ∙ system in
+    let unreported = (returns-clause-effect c).1.others (fault_frame (length memory)) (λ own. system_device c.args.id (sym still ∙ own)) in
+    ready_from (state_of driver) _ memory c.map.new.memory r (returns-clause-stand c) size unreported refl refl ready

@@ -2,21 +2,23 @@ use Rattle.std.proofs.Common.{◌≡◌, ◌≤◌, ◌+◌, ◌*◌, ◌∙◌,
 use Rattle.std.proofs.lemmas.Bool.{false≢true}
 use Rattle.std.proofs.lemmas.List.{length-map}
 use Rattle.iom_base.specs.declared.owner.Owner.{Owner}
+use Rattle.iom_base.specs.declared.owner.Owner.TheVariants.{System}
 use Rattle.iom_phys_mem.specs.Words.{word_at}
 use Rattle.iom_driver.specs.declared.device.Device.{Device}
 use Rattle.iom_driver.specs.Confirmed.{once_confirmed, given_back, is_gone, has_left, ClearsGone}
 use Rattle.iom_driver.specs.Directory.{NamesDirectory}
-use Rattle.iom_driver.specs.Layout.{completion_address}
+use Rattle.iom_driver.specs.Layout.{completion_address, fault_frame}
 use Rattle.iom_driver.specs.Ready.{IsRing}
 use Rattle.iom_driver.specs.Seen.{state_of}
 use Rattle.iom_driver.specs.State.{DriverState}
 use Rattle.iom_driver.proofs.Confirms.{confirms_none}
 use Rattle.iom_driver.proofs.Directories.{in_stands, stands_in}
+use Rattle.iom_driver.proofs.FaultRings.{fault_ring_stays, same_faults}
 use Rattle.iom_driver.proofs.Gone.{none_left, nobody_gone, marks_same, devices_same}
 use Rattle.iom_driver.proofs.Ids.{device_at}
 use Rattle.iom_driver.proofs.Keeps.{sound_polled}
 use Rattle.iom_driver.proofs.Places.{attachment_is}
-use Rattle.iom_driver.proofs.PollTables.{tables_polled, directory_polled}
+use Rattle.iom_driver.proofs.PollTables.{owned_stays, tables_polled, directory_polled}
 use Rattle.iom_driver.proofs.driver.Driver.poll.Goals as goal
 
 -- a driver of which no device has left
@@ -93,5 +95,10 @@ returns-clause-ready g c =
             (in_stands driver.frames memory driver.marks driver.devices.items driver.levels many (ready.stand.directory started)));
       };
       ring = λ started. subst (λ n. IsRing n (g.M.Mmio.registers c.args.io.now)) (sym size) (ready.ring started);
+      faults = λ started.
+          let system : slice_get driver.marks (fault_frame (length memory)) ≡ Some (Some System) = ap (λ n. slice_get driver.marks (fault_frame n)) many ∙ driver.sound.fixed.fault in
+          fault_ring_stays memory c.let_go.new.memory (g.M.Mmio.registers c.args.io.now) (g.M.Mmio.registers c.args.io.now) size
+          (owned_stays done driver.devices.items driver.marks memory c.let_go.new.memory (fault_frame (length memory)) System c.let_go.ensures.memory system refl).0
+          (same_faults (g.M.Mmio.registers c.args.io.now)) (ready.faults started);
       directory = λ started. subst (λ n. NamesDirectory n driver.levels (g.M.Mmio.registers c.args.io.now)) (sym size) (ready.directory started);
     }

@@ -1,4 +1,4 @@
-use Rattle.std.proofs.Common.{◌≡◌, ◌≤◌, ◌<◌, ◌+◌, ◌-◌, ◌++◌, ◌∙◌, ℕ, List, [], ◌∷◌, slice_get, Option, Some, None, IsSome, length, refl, sym, ap, subst, arith}
+use Rattle.std.proofs.Common.{◌≡◌, ◌≤◌, ◌<◌, ◌+◌, ◌-◌, ◌++◌, ◌∙◌, inl, ℕ, List, [], ◌∷◌, slice_get, Option, Some, None, IsSome, length, refl, sym, ap, subst, arith}
 use Rattle.iom_base.specs.Sizes.{page_limit}
 use Rattle.iom_ledger.specs.Pending.{pending_limit}
 use Rattle.iom_ledger.specs.Shown.{pending_in}
@@ -10,10 +10,12 @@ use Rattle.iom_command_queue.specs.declared.entry.QueueEntry.TheVariants as stan
 use Rattle.iom_driver.specs.Appends.{fence}
 use Rattle.iom_driver.specs.Devices.{attachment_of}
 use Rattle.iom_driver.specs.Directory.{NamesDirectory}
-use Rattle.iom_driver.specs.Layout.{command_frame, completion_address}
+use Rattle.iom_driver.specs.Layout.{command_frame, fault_frame, completion_address}
 use Rattle.iom_driver.specs.Ready.{IsRing}
 use Rattle.iom_driver.proofs.Directories.{directory_stay, in_stands, stands_in}
+use Rattle.iom_driver.proofs.FaultRings.{fault_ring_stays}
 use Rattle.iom_driver.proofs.Keeps.{sound_released}
+use Rattle.iom_driver.proofs.Modes.{rooted, table_in}
 use Rattle.iom_driver.proofs.Places.{attached_owns}
 use Rattle.iom_driver.proofs.ReleaseTables.{IsUnmapped, other_frame, tables_released}
 use Rattle.iom_driver.proofs.Ring.{same_commands, two_last, stays_named}
@@ -47,7 +49,8 @@ invariant_of-self g c =
 
 pub unmap-requires-clause-tree : goal.unmap-requires-clause-tree
 unmap-requires-clause-tree g c =
-    (c.requires.ready.stand.tables c.args.id c.in-Ok.stage (attached_owns (attachment_of c.args.self.now.devices.items c.args.id) c.in-Ok.stage c.in-Ok.ensures.may.attached)).tree
+    let tables = c.requires.ready.stand.tables c.args.id c.in-Ok.stage (attached_owns (attachment_of c.args.self.now.devices.items c.args.id) c.in-Ok.stage c.in-Ok.ensures.may.attached) in
+    (rooted c.in-Ok.stage.mode c.args.memory.now c.in-Ok.stage.root tables.tree).tree
 
 pub unmap-requires-clause-page : goal.unmap-requires-clause-page
 unmap-requires-clause-page g c =
@@ -93,14 +96,15 @@ returns-clause-effect g c =
             let io = c.args.io.now in
             let r = g.M.Mmio.registers io in
             let kept = other_frame memory c.unmap.new.memory c.in-Ok.stage.root c.args.page (command_frame (length memory)) unmapped_so
-            (λ at. not_of_device driver.marks (command_frame (length memory)) c.args.id (rw many driver.sound.fixed.command) (tables.own (command_frame (length memory)) at)) in
+            (λ at. not_of_device driver.marks (command_frame (length memory)) c.args.id (rw many driver.sound.fixed.command)
+            (tables.own (command_frame (length memory)) (table_in c.in-Ok.stage.mode memory c.in-Ok.stage.root (command_frame (length memory)) (inl at)))) in
             let last : Command = fence (completion_address driver.frames) (driver.given + 1) in
             rw (many, sym c.invalidation.ensures)
             (two_last g.M.Mmio c.unmap.new.memory c.append_release.new.memory io c.append_release.new.io c.invalidation.result last c.append_release.ensures.appended
             ∙ ap (λ (xs : List QueueEntry). xs ++ stands.Command c.invalidation.result ∷ stands.Command last ∷ []) (same_commands memory c.unmap.new.memory r (c.requires.ready.ring c.in-Ok.ensures.may.started) kept));
         others = λ f differs apart.
             c.append_release.ensures.other_frames f (λ same. apart (same ∙ ap command_frame (sym many)))
-            ∙ other_frame memory c.unmap.new.memory c.in-Ok.stage.root c.args.page f unmapped_so (λ at. differs (tables.own f at));
+            ∙ other_frame memory c.unmap.new.memory c.in-Ok.stage.root c.args.page f unmapped_so (λ at. differs (tables.own f (table_in c.in-Ok.stage.mode memory c.in-Ok.stage.root f (inl at))));
       },
     )
 
@@ -130,11 +134,20 @@ returns-clause-ready g c =
             (directory_stay driver.frames c.args.memory.now c.append_release.new.memory driver.marks driver.marks driver.devices.items driver.devices.items driver.levels driver.sound.sizes.in_range size
             (λ n own. (
               c.append_release.ensures.other_frames n own.no_command
-                  ∙ other_frame c.args.memory.now c.unmap.new.memory c.in-Ok.stage.root c.args.page n unmapped (λ at. not_of_device driver.marks n c.args.id own.system (before.own n at)),
+                  ∙ other_frame c.args.memory.now c.unmap.new.memory c.in-Ok.stage.root c.args.page n unmapped
+                  (λ at. not_of_device driver.marks n c.args.id own.system (before.own n (table_in c.in-Ok.stage.mode c.args.memory.now c.in-Ok.stage.root n (inl at)))),
               refl,
             )) (λ id. refl) (in_stands driver.frames c.args.memory.now driver.marks driver.devices.items driver.levels many (stand.directory started)));
       };
       directory = λ started. subst (λ n. NamesDirectory n driver.levels (g.M.Mmio.registers c.append_release.new.io)) (sym size)
           (stays_named (length c.args.memory.now) driver.levels (g.M.Mmio.registers c.args.io.now) (g.M.Mmio.registers c.append_release.new.io) c.append_release.ensures.named (c.requires.ready.directory started));
+      faults = λ started.
+          let fault = fault_frame (length c.args.memory.now) in
+          let system : slice_get driver.marks fault ≡ Some (Some System) = ap (λ n. slice_get driver.marks (fault_frame n)) many ∙ driver.sound.fixed.fault in
+          fault_ring_stays c.args.memory.now c.append_release.new.memory (g.M.Mmio.registers c.args.io.now) (g.M.Mmio.registers c.append_release.new.io) size
+          (c.append_release.ensures.other_frames fault (λ same. absurd (omega (arith, many, driver.sound.sizes.size.0, same)))
+          ∙ other_frame c.args.memory.now c.unmap.new.memory c.in-Ok.stage.root c.args.page fault unmapped
+          (λ at. not_of_device driver.marks fault c.args.id system (before.own fault (table_in c.in-Ok.stage.mode c.args.memory.now c.in-Ok.stage.root fault (inl at)))))
+          c.append_release.ensures.faults (c.requires.ready.faults started);
       ring = λ started. subst (λ n. IsRing n (g.M.Mmio.registers c.append_release.new.io)) (sym (size ∙ stand.size ∙ driver.sound.sizes.marked)) c.append_release.ensures.ring;
     }

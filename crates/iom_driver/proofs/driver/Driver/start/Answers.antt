@@ -2,16 +2,17 @@ use Rattle.std.proofs.Common.{◌≡◌, ◌/◌, ◌%◌, ◌<◌, ◌≤◌, �
 use Rattle.std.proofs.lemmas.List.{length-set}
 use Rattle.iom_phys_mem.specs.Words.{zeroed, with_word}
 use Rattle.iom_registers.specs.declared.registers.Registers.{Registers}
-use Rattle.iom_registers.specs.declared.register.Register.TheVariants.{Ddtp, Cqb, Cqcsr}
+use Rattle.iom_registers.specs.declared.register.Register.TheVariants.{Ddtp, Cqb, Cqcsr, Fqb, Fqcsr}
 use Rattle.iom_registers.specs.Table.{written}
 use Rattle.iom_command_queue.specs.Waiting.{commands_in}
+use Rattle.iom_fault_queue.specs.Ring.{records_in}
 use Rattle.iom_driver.specs.declared.device.Device.{Device}
-use Rattle.iom_driver.specs.declared.device.FirstStage.{FirstStage}
-use Rattle.iom_driver.specs.Devices.{owned_stage_of, owned_stage, attached_stage}
+use Rattle.iom_driver.specs.declared.device.Stages.{Stages}
+use Rattle.iom_driver.specs.Devices.{owned_stages_of, owned_stages, attached_stages}
 use Rattle.iom_driver.specs.Directory.{NamesDirectory}
-use Rattle.iom_driver.specs.Layout.{completion_address, directory_frame, ddtp_of, cqb_of}
-use Rattle.iom_driver.specs.Ready.{IsRing}
-use Rattle.iom_driver.proofs.Ring.{started, started_ring, started_empty, started_names}
+use Rattle.iom_driver.specs.Layout.{completion_address, directory_frame, ddtp_of, cqb_of, fqb_of}
+use Rattle.iom_driver.specs.Ready.{IsRing, IsFaultRing}
+use Rattle.iom_driver.proofs.Ring.{started, started_ring, started_empty, started_names, started_unreported, started_fault_ring}
 use Rattle.iom_driver.proofs.Directories.{directory_starts, stands_in}
 use Rattle.iom_driver.proofs.Lists.{get_set_same}
 use Rattle.iom_driver.proofs.driver.Driver.start.Goals as goal
@@ -28,8 +29,8 @@ place frames memory address many le at = (omega (arith, at), omega (arith, at, m
 inside : (frames size : ℕ) → size ≡ frames → 64 ≤ frames → directory_frame frames < size
 inside frames size same many = omega (arith, same, many)
 
-none_some : (devices : List Device) (id : ℕ) (stage : FirstStage) → owned_stage_of devices id ≡ None → owned_stage_of devices id ≡ Some stage → ⊥
-none_some devices id stage none some = let both : ◌≡◌ {A = Option FirstStage} None (Some stage) = sym none ∙ some in cc
+none_some : (devices : List Device) (id : ℕ) (stage : Stages) → owned_stages_of devices id ≡ None → owned_stages_of devices id ≡ Some stage → ⊥
+none_some devices id stage none some = let both : ◌≡◌ {A = Option Stages} None (Some stage) = sym none ∙ some in cc
 
 pub returns-clause-effect : goal.returns-clause-effect
 returns-clause-effect g c =
@@ -41,11 +42,14 @@ returns-clause-effect g c =
     let whole = on_some c.store_u32.result
     (c.store_u32.ensures.done.1 (place driver.frames memory c.completion_address.result many driver.sound.sizes.size.0 c.completion_address.ensures.value)) c.store_u32.ensures.whole in
     let r = g.M.Mmio.registers in
-    let ran : r c.write-3.new.io ≡ started (r c.args.io.now) c.ddtp_of.result (cqb_of driver.frames) =
-    ap r c.write-3.ensures ∙ law c.write-2.new.io Cqcsr 1
+    let ran : r c.write-5.new.io ≡ started (r c.args.io.now) c.ddtp_of.result (cqb_of driver.frames) (fqb_of driver.frames) =
+    ap r c.write-5.ensures ∙ law c.write-4.new.io Fqcsr 1
+    ∙ ap (λ (x : Registers). written x Fqcsr 1) (ap r c.write-4.ensures ∙ law c.write-3.new.io Fqb c.fqb_of.result
+    ∙ ap (λ (x : Registers). written x Fqb c.fqb_of.result) (ap r c.write-3.ensures ∙ law c.write-2.new.io Cqcsr 1
     ∙ ap (λ (x : Registers). written x Cqcsr 1) (ap r c.write-2.ensures ∙ law c.write.new.io Cqb c.cqb_of.result
-    ∙ ap (λ (x : Registers). written x Cqb c.cqb_of.result) (ap r c.write.ensures ∙ law c.args.io.now Ddtp c.ddtp_of.result))
-    ∙ ap (λ v. started (r c.args.io.now) c.ddtp_of.result v) c.cqb_of.ensures in
+    ∙ ap (λ (x : Registers). written x Cqb c.cqb_of.result) (ap r c.write.ensures ∙ law c.args.io.now Ddtp c.ddtp_of.result))))
+    ∙ ap (λ v. started (r c.args.io.now) c.ddtp_of.result v c.fqb_of.result) c.cqb_of.ensures
+    ∙ ap (λ v. started (r c.args.io.now) c.ddtp_of.result (cqb_of driver.frames) v) c.fqb_of.ensures in
     record {
       driver = refl;
       bytes =
@@ -53,10 +57,15 @@ returns-clause-effect g c =
           ∙ ap (λ n. slice_set c.store_u32.new.self n zeroed) (c.directory_frame.ensures ∙ ap (λ n. directory_frame n) (sym many))
           ∙ ap (λ m. slice_set m (directory_frame (length memory)) zeroed) (whole ∙ ap (λ a. with_word 4 memory a 0) (c.completion_address.ensures.value ∙ ap (λ n. completion_address n) (sym many)));
       registers =
-          c.write-3.ensures
+          c.write-5.ensures
+          ∙ ap (λ x. after x Fqcsr 1) (c.write-4.ensures ∙ ap (λ v. after c.write-3.new.io Fqb v) (c.fqb_of.ensures ∙ ap (λ n. fqb_of n) (sym many))
+          ∙ ap (λ x. after x Fqb (fqb_of (length memory))) (c.write-3.ensures
           ∙ ap (λ x. after x Cqcsr 1) (c.write-2.ensures ∙ ap (λ v. after c.write.new.io Cqb v) (c.cqb_of.ensures ∙ ap (λ n. cqb_of n) (sym many))
-          ∙ ap (λ x. after x Cqb (cqb_of (length memory))) (c.write.ensures ∙ ap (λ v. after c.args.io.now Ddtp v) (c.ddtp_of.ensures ∙ ap (λ n. ddtp_of n driver.levels) (sym many))));
-      empty = ap (λ (x : Registers). commands_in c.clear.new.memory x) ran ∙ started_empty c.clear.new.memory (r c.args.io.now) c.ddtp_of.result (cqb_of driver.frames) c.requires.off;
+          ∙ ap (λ x. after x Cqb (cqb_of (length memory))) (c.write.ensures ∙ ap (λ v. after c.args.io.now Ddtp v) (c.ddtp_of.ensures ∙ ap (λ n. ddtp_of n driver.levels) (sym many))))));
+      empty = ap (λ (x : Registers). commands_in c.clear.new.memory x) ran
+          ∙ started_empty c.clear.new.memory (r c.args.io.now) c.ddtp_of.result (cqb_of driver.frames) (fqb_of driver.frames) c.requires.off;
+      unreported = ap (λ (x : Registers). records_in c.clear.new.memory x) ran
+          ∙ started_unreported c.clear.new.memory (r c.args.io.now) c.ddtp_of.result (cqb_of driver.frames) (fqb_of driver.frames) c.requires.off;
     }
 
 pub returns-clause-ready : goal.returns-clause-ready
@@ -66,28 +75,35 @@ returns-clause-ready g c =
     let law = g.met.M.Mmio.writes_registers in
     let many : length memory ≡ driver.frames = c.requires.size ∙ driver.sound.sizes.marked in
     let r = g.M.Mmio.registers in
-    let ran : r c.write-3.new.io ≡ started (r c.args.io.now) c.ddtp_of.result (cqb_of driver.frames) =
-    ap r c.write-3.ensures ∙ law c.write-2.new.io Cqcsr 1
+    let ran : r c.write-5.new.io ≡ started (r c.args.io.now) c.ddtp_of.result (cqb_of driver.frames) (fqb_of driver.frames) =
+    ap r c.write-5.ensures ∙ law c.write-4.new.io Fqcsr 1
+    ∙ ap (λ (x : Registers). written x Fqcsr 1) (ap r c.write-4.ensures ∙ law c.write-3.new.io Fqb c.fqb_of.result
+    ∙ ap (λ (x : Registers). written x Fqb c.fqb_of.result) (ap r c.write-3.ensures ∙ law c.write-2.new.io Cqcsr 1
     ∙ ap (λ (x : Registers). written x Cqcsr 1) (ap r c.write-2.ensures ∙ law c.write.new.io Cqb c.cqb_of.result
-    ∙ ap (λ (x : Registers). written x Cqb c.cqb_of.result) (ap r c.write.ensures ∙ law c.args.io.now Ddtp c.ddtp_of.result))
-    ∙ ap (λ v. started (r c.args.io.now) c.ddtp_of.result v) c.cqb_of.ensures in
+    ∙ ap (λ (x : Registers). written x Cqb c.cqb_of.result) (ap r c.write.ensures ∙ law c.args.io.now Ddtp c.ddtp_of.result))))
+    ∙ ap (λ v. started (r c.args.io.now) c.ddtp_of.result v c.fqb_of.result) c.cqb_of.ensures
+    ∙ ap (λ v. started (r c.args.io.now) c.ddtp_of.result (cqb_of driver.frames) v) c.fqb_of.ensures in
     let size : length c.clear.new.memory ≡ length memory = ap (λ (m : List (List ℕ)). length m) c.clear.ensures ∙ length-set c.store_u32.new.self c.directory_frame.result zeroed ∙ c.store_u32.ensures.frames in
     record {
       stand = record {
         size = size ∙ c.requires.size;
-        tables = λ id stage at. absurd (none_some driver.devices.items id stage (ap owned_stage (driver.sound.idle c.requires.idle id)) at);
+        tables = λ id stage at. absurd (none_some driver.devices.items id stage (ap owned_stages (driver.sound.idle c.requires.idle id)) at);
         directory = λ running.
             let zero = ap (λ (m : List (List ℕ)). slice_get m (directory_frame driver.frames)) (c.clear.ensures ∙ ap (λ n. slice_set c.store_u32.new.self n zeroed) c.directory_frame.ensures)
             ∙ get_set_same c.store_u32.new.self (directory_frame driver.frames) zeroed (inside driver.frames (length c.store_u32.new.self) (c.store_u32.ensures.frames ∙ many) driver.sound.sizes.size.0) in
             stands_in driver.frames c.clear.new.memory driver.marks driver.devices.items driver.levels (size ∙ many)
             (directory_starts driver.frames c.clear.new.memory driver.marks driver.devices.items driver.levels driver.sound.sizes.in_range driver.sound.sizes.size.0 driver.sound.fixed zero
-            (λ id. ap attached_stage (driver.sound.idle c.requires.idle id)));
+            (λ id. ap attached_stages (driver.sound.idle c.requires.idle id)));
       };
       ring = λ running.
-          subst (λ n. IsRing n (r c.write-3.new.io)) (sym (size ∙ many))
-          (subst (λ (x : Registers). IsRing driver.frames x) (sym ran) (started_ring (r c.args.io.now) c.ddtp_of.result driver.frames c.requires.off driver.sound.sizes.size.1));
+          subst (λ n. IsRing n (r c.write-5.new.io)) (sym (size ∙ many))
+          (subst (λ (x : Registers). IsRing driver.frames x) (sym ran) (started_ring (r c.args.io.now) c.ddtp_of.result driver.frames (fqb_of driver.frames) c.requires.off driver.sound.sizes.size.1));
+      faults = λ running.
+          subst (λ (x : Registers). IsFaultRing c.clear.new.memory x) (sym ran)
+          (started_fault_ring c.clear.new.memory (r c.args.io.now) c.ddtp_of.result (cqb_of driver.frames) driver.frames c.requires.off (size ∙ many) driver.sound.sizes.size.1);
       directory = λ running.
-          subst (λ n. NamesDirectory n driver.levels (r c.write-3.new.io)) (sym (size ∙ many))
-          (subst (λ (x : Registers). NamesDirectory driver.frames driver.levels x) (sym (ran ∙ ap (λ v. started (r c.args.io.now) v (cqb_of driver.frames)) c.ddtp_of.ensures))
-          (started_names (r c.args.io.now) driver.frames driver.levels c.requires.off driver.sound.sizes.size.1 driver.sound.sizes.in_range));
+          subst (λ n. NamesDirectory n driver.levels (r c.write-5.new.io)) (sym (size ∙ many))
+          (subst (λ (x : Registers). NamesDirectory driver.frames driver.levels x)
+          (sym (ran ∙ ap (λ v. started (r c.args.io.now) v (cqb_of driver.frames) (fqb_of driver.frames)) c.ddtp_of.ensures))
+          (started_names (r c.args.io.now) driver.frames driver.levels c.requires.off driver.sound.sizes.size.1 driver.sound.sizes.in_range (cqb_of driver.frames) (fqb_of driver.frames)));
     }

@@ -1,0 +1,122 @@
+use crate::bench::Bench;
+use crate::expect::expect;
+use iom_base::Cause;
+use iom_driver::Driver;
+use iom_driver::laws::ready_after_record;
+use iom_fault_queue::{Fault, FaultRing, FaultedRequest, Put, Record, Transaction};
+use iom_ledger::Refusal;
+use iom_phys_mem::{MemError, Memory};
+use iom_registers::{Register, Registers};
+use std::alloc::Global;
+use std::marker::Model;
+use std::process::Abort;
+use std::test::Fail;
+
+// A driver that was started, with memory and registers of its own, to which faults are reported.
+#[derive(Drop)]
+struct Desk {
+    memory: Memory,
+    registers: Registers,
+    driver: Driver,
+}
+
+impl Model for Desk {
+    ghost use Rattle.std.specs.Prelude.{◌≡◌, ℕ, true};
+    ghost use Rattle.iom_driver.specs.Ready.{IsReady};
+    ghost use Rattle.iom_driver.specs.Seen.{state_of};
+
+    ghost Value = { ℕ };
+
+    ghost view = { λ desk. 0 };
+
+    ghost invariant = { λ desk. ((state_of desk.driver).started ≡ true) × IsReady (state_of desk.driver) desk.memory desk.registers };
+}
+
+impl Desk {
+    fn new(alloc: Global) -> Result<Desk, MemError> {
+        let mut memory = Memory::new(alloc, 64)?;
+        let mut registers = Registers::new();
+        let mut driver = Driver::new(alloc, 64, 1)?;
+        driver.start(&mut memory, &mut registers);
+        Ok(Desk {
+            memory,
+            registers,
+            driver,
+        })
+    }
+
+    // The IOMMU reports a fault.
+    fn report(&mut self, record: Record) -> Put {
+        ready_after_record();
+        FaultRing::put(&mut self.memory, &mut self.registers, record)
+    }
+
+    fn faults(&mut self) -> Result<Option<Record>, Refusal> {
+        self.driver.faults(&self.memory, &mut self.registers)
+    }
+
+    fn register(&self, register: Register) -> u64 {
+        self.registers.value(register)
+    }
+
+    // So many faults fit into the queue and come out in their order, and one more is lost.
+    fn overflows(&mut self, rt: &impl Abort, room: u64) {
+        for at in 0..room {
+            expect(rt, self.report(fault_at(at)) == Put::Written);
+        }
+        expect(rt, self.report(fault_at(room)) == Put::Overflow);
+        for at in 0..room {
+            expect(rt, self.faults() == Ok(Some(fault_at(at))));
+        }
+    }
+}
+
+// The record of device 1's read at an address, which no page maps.
+fn fault_at(address: u64) -> Record {
+    let request = FaultedRequest {
+        device: 1,
+        transaction: Transaction::UntranslatedRead,
+        address,
+    };
+    let fault = Fault {
+        cause: Cause::ReadPageFault,
+        guest_address: 0,
+        implicit: false,
+    };
+    Record::new(request, fault)
+}
+
+#[test]
+fn before_the_start_there_are_none(rt: HostRuntime) -> Result<(), Fail> {
+    let mut bench = Bench::off(rt.alloc())?;
+    expect(&rt, bench.faults() == Err(Refusal::NotStarted));
+    Ok(())
+}
+
+// A fault is told once, and the head moves on behind it.
+#[test]
+fn a_fault_is_told_once(rt: HostRuntime) -> Result<(), Fail> {
+    let mut desk = Desk::new(rt.alloc())?;
+    expect(&rt, desk.faults() == Ok(None));
+    expect(&rt, desk.report(fault_at(0x4000)) == Put::Written);
+    expect(&rt, desk.faults() == Ok(Some(fault_at(0x4000))));
+    expect(&rt, desk.register(Register::Fqh) == 1);
+    expect(&rt, desk.faults() == Ok(None));
+    expect(&rt, desk.register(Register::Fqh) == 1);
+    Ok(())
+}
+
+// The queue holds 127 records. The next sets fqof, bit 9 of fqcsr, and while that is 1 none is written, though
+// there is room; when the queue is found empty it is cleared, and the queue stays on.
+#[test]
+fn an_empty_queue_is_open_again(rt: HostRuntime) -> Result<(), Fail> {
+    let mut desk = Desk::new(rt.alloc())?;
+    for round in 0..3 {
+        desk.overflows(&rt, 127);
+        expect(&rt, desk.register(Register::Fqcsr) == 0x1_0201);
+        expect(&rt, desk.report(fault_at(0)) == Put::Overflow);
+        expect(&rt, desk.faults() == Ok(None));
+        expect(&rt, desk.register(Register::Fqcsr) == 0x1_0001);
+    }
+    Ok(())
+}
