@@ -10,7 +10,7 @@ use Rattle.iom_copies.specs.Faithful.{GrantsFit, IsFaithful}
 use Rattle.iom_copies.specs.Holdings.{HoldsNothing, LingersUpTo}
 use Rattle.iom_copies.specs.Scene.{Answer, Copy, Scene}
 use Rattle.iom_machine.specs.declared.state.Attachment.TheVariants.{Attached, Detached, Quarantined}
-use Rattle.iom_machine.specs.declared.state.Mode.{Mode}
+use Rattle.iom_base.specs.declared.mode.Mode.{Mode}
 use Rattle.iom_copies.proofs.ToComeLemmas.{ticket_within}
 use Rattle.iom_copies.proofs.LedgerLemmas.{backed-still, backed-never, Lingering, backed-as}
 use Rattle.iom_copies.proofs.TicketLemmas.{same_number}

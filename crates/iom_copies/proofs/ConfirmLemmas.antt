@@ -12,7 +12,7 @@ use Rattle.iom_copies.specs.Scene.{Copy, Scene, PendingTicket}
 use Rattle.iom_copies.specs.ToCome.{AreToCome, InOrder, QueuedStep, TicketsRise, drops_context, drops_translation, invalidates, is_fence}
 use Rattle.iom_machine.specs.declared.state.Attachment.{Attachment}
 use Rattle.iom_machine.specs.declared.state.Attachment.TheVariants.{Attached, Detached, Leaving, Quarantined}
-use Rattle.iom_machine.specs.declared.state.Mode.{Mode}
+use Rattle.iom_base.specs.declared.mode.Mode.{Mode}
 use Rattle.iom_copies.proofs.ListLemmas.{cons_cases}
 use Rattle.iom_copies.proofs.ToComeLemmas.{in_order-rest, fence_above, ticket_within, Waits}
 use Rattle.iom_copies.proofs.LedgerLemmas.{backed, backed-never, confirmed, lingers_confirmed, apart-confirmed, backed-as}

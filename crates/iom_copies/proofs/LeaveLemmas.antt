@@ -14,7 +14,7 @@ use Rattle.iom_copies.specs.Scene.{Scene}
 use Rattle.iom_copies.specs.ToCome.{AreToCome, InOrder, drops_context, drops_translation, invalidates, is_fence}
 use Rattle.iom_machine.specs.declared.state.Attachment.{Attachment}
 use Rattle.iom_machine.specs.declared.state.Attachment.TheVariants.{Attached, Detached, Leaving, Quarantined}
-use Rattle.iom_machine.specs.declared.state.Mode.{Mode}
+use Rattle.iom_base.specs.declared.mode.Mode.{Mode}
 use Rattle.iom_copies.proofs.LedgerLemmas.{backed, backed-still, backed-never, Lingering, still, all_released, lingers_all_released, none_held, none_after_all_released, apart-all_released, backed-as}
 use Rattle.iom_copies.proofs.TicketLemmas.{same_number, Ticketed, to_come-ticket, to_come-new, translation-ticket, access-ticket, access-new, context-ticket, entry-ticket, fresh, ordered-ticket}
 

@@ -15,7 +15,7 @@ use Rattle.iom_copies.specs.Scene.{PendingTicket, Scene}
 use Rattle.iom_copies.specs.Worked.{RevivalsOccur, attach_and_detach, both_rights, cut_off, revival}
 use Rattle.iom_machine.specs.declared.state.Attachment.TheVariants.{Attached, Leaving, Quarantined}
 use Rattle.iom_machine.specs.declared.state.DeviceKind.TheVariants.{Ats}
-use Rattle.iom_machine.specs.declared.state.Mode.TheVariants.{Both, Second}
+use Rattle.iom_base.specs.declared.mode.Mode.TheVariants.{Both, Second}
 
 -- a scene after its head is fetched
 abbrev Fetched : Scene → List QueuedCommand → Scene

@@ -16,7 +16,7 @@ use Rattle.iom_copies.specs.Scene.{Copy, Scene}
 use Rattle.iom_copies.specs.ToCome.{AreToCome, FencesRise, InOrder, QueuedStep, drops_context, drops_translation, invalidates, is_fence}
 use Rattle.iom_machine.specs.declared.state.Attachment.{Attachment}
 use Rattle.iom_machine.specs.declared.state.Attachment.TheVariants.{Attached, Detached, Leaving, Quarantined}
-use Rattle.iom_machine.specs.declared.state.Mode.{Mode}
+use Rattle.iom_base.specs.declared.mode.Mode.{Mode}
 use Rattle.iom_copies.proofs.ToComeLemmas.{in_order-more, in_order-last, rise_le, rise-fence, rise-more, tickets-push, Waits, tickets_le}
 use Rattle.iom_copies.proofs.LedgerLemmas.{backed, Lingering, released, lingers_released, none_after_release, apart-released}
 

@@ -13,7 +13,7 @@ use Rattle.iom_copies.specs.Scene.{Answer, InvalidateCompletion, InvalidateReque
 use Rattle.iom_copies.specs.Worked.{StaleWritesOccur, both_rights, first_invalidation, first_write, its_end, remembered, stale_write}
 use Rattle.iom_machine.specs.declared.state.Attachment.TheVariants.{Attached}
 use Rattle.iom_machine.specs.declared.state.DeviceKind.TheVariants.{Ats}
-use Rattle.iom_machine.specs.declared.state.Mode.TheVariants.{First}
+use Rattle.iom_base.specs.declared.mode.Mode.TheVariants.{First}
 
 -- the only element of a list
 only : {X : Type 0} (x y : X) → Contains (x ∷ []) y → y ≡ x

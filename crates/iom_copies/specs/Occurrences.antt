@@ -3,7 +3,7 @@ use Rattle.std.specs.Prelude.{◌≡◌, ℕ, Bool, List, [], ◌∷◌}
 use Rattle.iom_base.specs.declared.access.AccessKind.{AccessKind}
 use Rattle.iom_base.specs.declared.rights.Rights.{Rights}
 use Rattle.iom_machine.specs.declared.state.DeviceKind.{DeviceKind}
-use Rattle.iom_machine.specs.declared.state.Mode.{Mode}
+use Rattle.iom_base.specs.declared.mode.Mode.{Mode}
 use Rattle.iom_copies.specs.Queue.{Extent}
 use Rattle.iom_copies.specs.Scene.{Copy, Invalidation, Scene}
 use Rattle.iom_copies.specs.DriverCalls.{DeviceIsPlugged, DeviceIsAttached, PageIsGranted, PageIsReleased, DeviceIsDetached, DeviceIsQuarantined, DeviceIsRevived, QueueIsRestarted, TicketIsConfirmed}

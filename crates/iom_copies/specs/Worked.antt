@@ -7,7 +7,7 @@ use Rattle.iom_base.specs.GrantRights.{rights_of}
 use Rattle.iom_ledger.specs.History.{held_at, confirms}
 use Rattle.iom_machine.specs.declared.state.Attachment.TheVariants.{Detached, Attached, Quarantined}
 use Rattle.iom_machine.specs.declared.state.DeviceKind.TheVariants.{Ats}
-use Rattle.iom_machine.specs.declared.state.Mode.TheVariants.{First, Second, Both}
+use Rattle.iom_base.specs.declared.mode.Mode.TheVariants.{First, Second, Both}
 use Rattle.iom_copies.specs.Queue.{OnePage, WholeSpace}
 use Rattle.iom_copies.specs.Scene.{Copy, AccessInFlight, Invalidation, Scene}
 use Rattle.iom_copies.specs.Occurrences.{Occurrence, Plug, Attach, Grant, Release, Confirm, KeepContext, KeepTranslation, Accept, Make, FetchIotinval, FetchAtsInval, TakeStock, CompleteFence, CarryMessages, DeliverAnswer, DeliverRequest, DeliverCompletion, OccurInTurn, Detach, FetchIodir, Quarantine, TimeOut, Restart, Revive, Reset}

@@ -8,7 +8,7 @@ use Rattle.std.proofs.lemmas.Option.{slice_get-get_or}
 use Rattle.iom_machine.specs.declared.event.Event.{Event}
 use Rattle.iom_machine.specs.declared.event.Event.TheVariants as events
 use Rattle.iom_machine.specs.declared.outcome.Outcome.{Outcome}
-use Rattle.iom_machine.specs.declared.outcome.Outcome.TheVariants.{Done, Refused, Ticket, Confirmed, NoneConfirmed, Fetched, Accepted, Busy, BadSpan, Fault, Read, Wrote, NothingInFlight, Bytes, Free}
+use Rattle.iom_machine.specs.declared.outcome.Outcome.TheVariants.{Done, Refused, Ticket, Confirmed, NoneConfirmed, Record, NoRecord, Fetched, Accepted, Busy, BadSpan, Fault, Read, Wrote, NothingInFlight, Bytes, Free}
 use Rattle.iom_base.specs.declared.access.Access.{Access}
 use Rattle.iom_base.specs.declared.access.AcceptedAccess.{AcceptedAccess}
 use Rattle.iom_machine.specs.declared.state.Device.{Device}
@@ -339,6 +339,9 @@ devices-step old new events.Poll (Confirmed first last) (choice, step) =
     DevicesChange.leave (λ other. (refl, refl)) (with_confirmed old first last).history (ap (λ (s : State). s.devices) step.1)
 devices-step old new events.Poll NoneConfirmed (choice, step) = stays_asking _ _ old new refl (λ other. refl) (ap (λ (s : State). s.devices) step)
 devices-step old new events.Poll _ (choice, step) = absurd step
+devices-step old new events.Faults (Record taken) (choice, step) = stays_asking _ _ old new refl (λ other. refl) (ap (λ (s : State). s.devices) step)
+devices-step old new events.Faults NoRecord (choice, step) = stays_asking _ _ old new refl (λ other. refl) (ap (λ (s : State). s.devices) step)
+devices-step old new events.Faults _ (choice, step) = absurd step
 devices-step old new (events.Read id address len) outcome (choice, step) = change-requests choice.frame old new _ outcome id (read_of address len) step refl (λ told other. refl)
 devices-step old new (events.Write id address bytes) outcome (choice, step) = change-requests choice.frame old new _ outcome id (write_of address bytes) step refl (λ told other. refl)
 devices-step old new (events.Commit id) outcome (choice, step) = change-commits old new id outcome step

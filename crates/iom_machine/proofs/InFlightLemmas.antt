@@ -9,14 +9,14 @@ use Rattle.iom_ledger.specs.History.{History, May}
 use Rattle.iom_machine.specs.declared.event.Event.{Event}
 use Rattle.iom_machine.specs.declared.event.Event.TheVariants as events
 use Rattle.iom_machine.specs.declared.outcome.Outcome.{Outcome}
-use Rattle.iom_machine.specs.declared.outcome.Outcome.TheVariants.{Done, Refused, Ticket, Confirmed, NoneConfirmed, Fetched, Accepted, Busy, BadSpan, Fault, Read, Wrote, NothingInFlight, Bytes, Free}
+use Rattle.iom_machine.specs.declared.outcome.Outcome.TheVariants.{Done, Refused, Ticket, Confirmed, NoneConfirmed, Record, NoRecord, Fetched, Accepted, Busy, BadSpan, Fault, Read, Wrote, NothingInFlight, Bytes, Free}
 use Rattle.iom_base.specs.declared.access.Access.{Access}
 use Rattle.iom_machine.specs.declared.state.Attachment.{Attachment}
 use Rattle.iom_machine.specs.declared.state.Attachment.TheVariants.{Detached, Attached, Quarantined, Leaving}
 use Rattle.iom_machine.specs.declared.state.Device.{Device}
 use Rattle.iom_base.specs.declared.access.AcceptedAccess.{AcceptedAccess}
-use Rattle.iom_machine.specs.declared.state.Mode.{Mode}
-use Rattle.iom_machine.specs.declared.state.Mode.TheVariants.{First, Second, Both}
+use Rattle.iom_base.specs.declared.mode.Mode.{Mode}
+use Rattle.iom_base.specs.declared.mode.Mode.TheVariants.{First, Second, Both}
 use Rattle.iom_machine.specs.declared.state.State.{State}
 use Rattle.iom_machine.specs.Devices.{device_of, replaced_device}
 use Rattle.iom_base.specs.Accesses.{read_of, write_of, page_of, IsWithinPage}
@@ -207,6 +207,9 @@ in_flight-step P old new events.Poll (Confirmed first last) (choice, step) enter
     devices_leave P old new (with_confirmed old first last).history (ap (λ (s : State). s.devices) step.1) all
 in_flight-step P old new events.Poll NoneConfirmed (choice, step) enters all = devices_stay P old new (ap (λ (s : State). s.devices) step) all
 in_flight-step P old new events.Poll _ (choice, step) enters all = absurd step
+in_flight-step P old new events.Faults (Record taken) (choice, step) enters all = devices_stay P old new (ap (λ (s : State). s.devices) step) all
+in_flight-step P old new events.Faults NoRecord (choice, step) enters all = devices_stay P old new (ap (λ (s : State). s.devices) step) all
+in_flight-step P old new events.Faults _ (choice, step) enters all = absurd step
 in_flight-step P old new (events.Read id address len) outcome (choice, step) enters all =
     in_flight-requests P choice.frame old new id (read_of address len) outcome step
     (λ accepts within may. enters id _ (accepted_if (events.Read id address len) outcome id (read_of address len) refl accepts) within may) all

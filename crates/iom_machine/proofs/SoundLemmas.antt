@@ -18,7 +18,7 @@ use Rattle.iom_ledger.specs.History.{History, May, Pair, held_at, confirms}
 use Rattle.iom_machine.specs.declared.event.Event.{Event}
 use Rattle.iom_machine.specs.declared.event.Event.TheVariants as events
 use Rattle.iom_machine.specs.declared.outcome.Outcome.{Outcome}
-use Rattle.iom_machine.specs.declared.outcome.Outcome.TheVariants.{Done, Refused, Ticket, Confirmed, NoneConfirmed, Fetched, Accepted, BadSpan, Read, Wrote, NothingInFlight, Bytes, Free}
+use Rattle.iom_machine.specs.declared.outcome.Outcome.TheVariants.{Done, Refused, Ticket, Confirmed, NoneConfirmed, Record, NoRecord, Fetched, Accepted, BadSpan, Read, Wrote, NothingInFlight, Bytes, Free}
 use Rattle.iom_base.specs.declared.access.Access.{Access}
 use Rattle.iom_machine.specs.declared.state.Device.{Device}
 use Rattle.iom_machine.specs.declared.state.Frame.{Frame}
@@ -202,6 +202,9 @@ change-step old new events.Poll (Confirmed first last) (choice, step) =
     Change.confirms_some first (suc (last - first)) (omega arith) (ap (λ (s : State). s.history) step.1) (ap (λ (s : State). s.last_ticket) step.1) step.2
 change-step old new events.Poll NoneConfirmed (choice, step) = unchanged _ _ old new step
 change-step old new events.Poll _ (choice, step) = absurd step
+change-step old new events.Faults (Record taken) (choice, step) = unchanged _ _ old new step
+change-step old new events.Faults NoRecord (choice, step) = unchanged _ _ old new step
+change-step old new events.Faults _ (choice, step) = absurd step
 change-step old new (events.Read id address len) outcome (choice, step) = Change.ledger_stays (same_ledger-requests choice.frame old new id (read_of address len) outcome step)
 change-step old new (events.Write id address bytes) outcome (choice, step) = Change.ledger_stays (same_ledger-requests choice.frame old new id (write_of address bytes) outcome step)
 change-step old new (events.Commit id) outcome (choice, step) = Change.ledger_stays (same_ledger-commits old new id outcome step)
@@ -350,6 +353,9 @@ frames-step W P owned returned written poked old new events.Poll (Confirmed firs
     subst P (sym (ap (λ (s : State). s.frames) step.1)) (returned old.frames (is_of_left (with_confirmed old first last)) its)
 frames-step W P owned returned written poked old new events.Poll NoneConfirmed all (choice, step) its = subst P (sym (ap (λ (s : State). s.frames) step)) its
 frames-step W P owned returned written poked old new events.Poll _ all (choice, step) its = absurd step
+frames-step W P owned returned written poked old new events.Faults (Record taken) all (choice, step) its = subst P (sym (ap (λ (s : State). s.frames) step)) its
+frames-step W P owned returned written poked old new events.Faults NoRecord all (choice, step) its = subst P (sym (ap (λ (s : State). s.frames) step)) its
+frames-step W P owned returned written poked old new events.Faults _ all (choice, step) its = absurd step
 frames-step W P owned returned written poked old new (events.Read id address len) outcome all (choice, step) its = subst P (sym (same_frames-requests choice.frame old new id (read_of address len) outcome step)) its
 frames-step W P owned returned written poked old new (events.Write id address bytes) outcome all (choice, step) its = subst P (sym (same_frames-requests choice.frame old new id (write_of address bytes) outcome step)) its
 frames-step W P owned returned written poked old new (events.Commit id) outcome all (choice, step) its = frames-commits W P written old new id outcome all step its

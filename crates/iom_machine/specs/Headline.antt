@@ -6,14 +6,14 @@ use Rattle.iom_ledger.specs.History.{May}
 use Rattle.iom_machine.specs.declared.event.Event.{Event}
 use Rattle.iom_machine.specs.declared.event.Event.TheVariants as events
 use Rattle.iom_machine.specs.declared.outcome.Outcome.{Outcome}
-use Rattle.iom_machine.specs.declared.outcome.Outcome.TheVariants.{Done, Refused, Ticket, Confirmed, NoneConfirmed, Fetched, Accepted, Busy, BadSpan, Fault, Read, Wrote, NothingInFlight, Bytes, Free}
+use Rattle.iom_machine.specs.declared.outcome.Outcome.TheVariants.{Done, Refused, Ticket, Confirmed, NoneConfirmed, Record, NoRecord, Fetched, Accepted, Busy, BadSpan, Fault, Read, Wrote, NothingInFlight, Bytes, Free}
 use Rattle.iom_base.specs.declared.access.Access.{Access}
 use Rattle.iom_machine.specs.declared.state.Attachment.TheVariants.{Attached}
 use Rattle.iom_machine.specs.declared.state.Device.{Device}
 use Rattle.iom_machine.specs.declared.state.DeviceKind.TheVariants.{Raw}
 use Rattle.iom_machine.specs.declared.state.Frame.{Frame}
 use Rattle.iom_base.specs.declared.access.AcceptedAccess.{AcceptedAccess}
-use Rattle.iom_machine.specs.declared.state.Mode.TheVariants.{First, Second}
+use Rattle.iom_base.specs.declared.mode.Mode.TheVariants.{First, Second}
 use Rattle.iom_machine.specs.declared.state.State.{State}
 use Rattle.iom_machine.specs.Frames.{IsFree, bytes_of}
 use Rattle.iom_machine.specs.Devices.{IsPlugged, EachInFlightMay}
@@ -76,6 +76,7 @@ asked_by (events.Grant id page frame rights) = None
 asked_by (events.Release id page) = None
 asked_by events.Fetch = None
 asked_by events.Poll = None
+asked_by events.Faults = None
 asked_by (events.Commit id) = None
 asked_by (events.Poke address bytes) = None
 asked_by (events.Peek address len) = None
@@ -93,6 +94,8 @@ accepted_by event (Refused why) id = []
 accepted_by event (Ticket ticket) id = []
 accepted_by event (Confirmed first last) id = []
 accepted_by event NoneConfirmed id = []
+accepted_by event (Record taken) id = []
+accepted_by event NoRecord id = []
 accepted_by event (Fetched result) id = []
 accepted_by event Busy id = []
 accepted_by event BadSpan id = []
@@ -123,6 +126,7 @@ made_by (events.Grant d page frame rights) outcome id = 0
 made_by (events.Release d page) outcome id = 0
 made_by events.Fetch outcome id = 0
 made_by events.Poll outcome id = 0
+made_by events.Faults outcome id = 0
 made_by (events.Read d address len) outcome id = 0
 made_by (events.Write d address bytes) outcome id = 0
 made_by (events.Poke address bytes) outcome id = 0
@@ -158,6 +162,7 @@ GrantsFrame (events.Detach id) outcome frame = ⊥
 GrantsFrame (events.Release id page) outcome frame = ⊥
 GrantsFrame events.Fetch outcome frame = ⊥
 GrantsFrame events.Poll outcome frame = ⊥
+GrantsFrame events.Faults outcome frame = ⊥
 GrantsFrame (events.Read id address len) outcome frame = ⊥
 GrantsFrame (events.Write id address bytes) outcome frame = ⊥
 GrantsFrame (events.Commit id) outcome frame = ⊥
@@ -185,6 +190,7 @@ TouchesFrame old (events.Grant id page named rights) outcome frame = ⊥
 TouchesFrame old (events.Release id page) outcome frame = ⊥
 TouchesFrame old events.Fetch outcome frame = ⊥
 TouchesFrame old events.Poll outcome frame = ⊥
+TouchesFrame old events.Faults outcome frame = ⊥
 TouchesFrame old (events.Read id address len) outcome frame = ⊥
 TouchesFrame old (events.Write id address bytes) outcome frame = ⊥
 -- the processor is no device

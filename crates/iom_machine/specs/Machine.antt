@@ -12,15 +12,14 @@ use Rattle.iom_machine.specs.declared.choice.Choice.{Choice}
 use Rattle.iom_machine.specs.declared.event.Event.{Event}
 use Rattle.iom_machine.specs.declared.event.Event.TheVariants as events
 use Rattle.iom_machine.specs.declared.outcome.Outcome.{Outcome}
-use Rattle.iom_machine.specs.declared.outcome.Outcome.TheVariants.{Done, Refused, Ticket, Confirmed, NoneConfirmed, Fetched, Read, Wrote, BadSpan, NothingInFlight, Bytes, Free}
+use Rattle.iom_machine.specs.declared.outcome.Outcome.TheVariants.{Done, Refused, Ticket, Confirmed, NoneConfirmed, Record, NoRecord, Fetched, Read, Wrote, BadSpan, NothingInFlight, Bytes, Free}
 use Rattle.iom_base.specs.declared.access.Access.{Access}
 use Rattle.iom_machine.specs.declared.state.Attachment.TheVariants.{Detached, Attached}
 use Rattle.iom_machine.specs.declared.state.Device.{Device}
 use Rattle.iom_machine.specs.declared.state.DeviceKind.{DeviceKind}
 use Rattle.iom_machine.specs.declared.state.DeviceKind.TheVariants.{Raw}
 use Rattle.iom_base.specs.declared.access.AcceptedAccess.{AcceptedAccess}
-use Rattle.iom_machine.specs.declared.state.Mode.{Mode}
-use Rattle.iom_machine.specs.declared.state.Mode.TheVariants.{First}
+use Rattle.iom_base.specs.declared.mode.Mode.{Mode}
 use Rattle.iom_base.specs.declared.owner.Owner.TheVariants.{System, OneDevice}
 use Rattle.iom_machine.specs.declared.state.State.{State}
 use Rattle.iom_machine.specs.Frames.{is_reserved, IsFree, IsFreeBesides, reserved_for, bytes_of, stored}
@@ -32,16 +31,17 @@ use Rattle.iom_base.specs.Accesses.{read_of, write_of, offset_of}
 use Rattle.iom_machine.specs.Requests.{MayAnswer, state_after}
 use Rattle.iom_machine.specs.Leaving.{leaving_under, with_left}
 
--- The event can come, so far: of devices raw ones alone, and of attachments those in the first stage without ATS. The steps below say what the others
--- lead to all the same; nothing that asks for this takes them yet.
+-- The event can come, so far: of devices raw ones alone, and of attachments those without ATS, in any mode. The steps below say what the others lead
+-- to all the same; nothing that asks for this takes them yet.
 abbrev pub IsEvent : Event → Type 0
 IsEvent (events.Plug id kind) = kind ≡ Raw
-IsEvent (events.Attach id mode ats) = (mode ≡ First) × (ats ≡ false)
+IsEvent (events.Attach id mode ats) = ats ≡ false
 IsEvent (events.Detach id) = ⊤
 IsEvent (events.Grant id page frame rights) = ⊤
 IsEvent (events.Release id page) = ⊤
 IsEvent events.Fetch = ⊤
 IsEvent events.Poll = ⊤
+IsEvent events.Faults = ⊤
 IsEvent (events.Read id address len) = ⊤
 IsEvent (events.Write id address bytes) = ⊤
 IsEvent (events.Commit id) = ⊤
@@ -115,6 +115,12 @@ Polls old (Confirmed first last) new =
     AreNextTickets old first last × (new ≡ with_left (with_confirmed old first last)) × EachInFlightMay new
 Polls old NoneConfirmed new = new ≡ old
 Polls old _ new = ⊥
+
+-- The driver takes a fault record, or finds none. Nothing changes that the machine knows.
+abbrev pub TakesRecord : State → Outcome → State → Type 0
+TakesRecord old (Record taken) new = new ≡ old
+TakesRecord old NoRecord new = new ≡ old
+TakesRecord old _ new = ⊥
 
 -- A device acts; one that isn't plugged in is refused.
 abbrev pub Acts : (Device → Type 0) → State → ℕ → Outcome → State → Type 0
@@ -197,6 +203,7 @@ ChosenStep choice old (events.Grant id page frame rights) outcome new = Grants c
 ChosenStep choice old (events.Release id page) outcome new = Releases old id page outcome new
 ChosenStep choice old events.Fetch outcome new = Fetches old outcome new
 ChosenStep choice old events.Poll outcome new = Polls old outcome new
+ChosenStep choice old events.Faults outcome new = TakesRecord old outcome new
 ChosenStep choice old (events.Read id address len) outcome new = Requests choice.frame old id (read_of address len) outcome new
 ChosenStep choice old (events.Write id address bytes) outcome new = Requests choice.frame old id (write_of address bytes) outcome new
 ChosenStep choice old (events.Commit id) outcome new = Commits old id outcome new

@@ -11,8 +11,8 @@ use Rattle.iom_ledger.specs.History.{History, held_at, lingering_at}
 use Rattle.iom_ledger.specs.Pending.{pending_limit}
 use Rattle.iom_machine.specs.declared.state.DeviceKind.{DeviceKind}
 use Rattle.iom_machine.specs.declared.state.DeviceKind.TheVariants.{Raw, Ats, Block, CachedBlock}
-use Rattle.iom_machine.specs.declared.state.Mode.{Mode}
-use Rattle.iom_machine.specs.declared.state.Mode.TheVariants.{First, Second, Both}
+use Rattle.iom_base.specs.declared.mode.Mode.{Mode}
+use Rattle.iom_base.specs.declared.mode.Mode.TheVariants.{First, Second, Both}
 use Rattle.iom_machine.specs.declared.state.Attachment.{Attachment}
 use Rattle.iom_machine.specs.declared.state.Attachment.TheVariants.{Detached, Quarantined, Leaving}
 use Rattle.iom_machine.specs.declared.state.State.{State}

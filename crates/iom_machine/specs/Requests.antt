@@ -16,8 +16,8 @@ use Rattle.iom_base.specs.declared.access.Access.{Access}
 use Rattle.iom_machine.specs.declared.state.Attachment.{Attachment}
 use Rattle.iom_machine.specs.declared.state.Attachment.TheVariants.{Detached, Attached, Quarantined, Leaving}
 use Rattle.iom_machine.specs.declared.state.Device.{Device}
-use Rattle.iom_machine.specs.declared.state.Mode.{Mode}
-use Rattle.iom_machine.specs.declared.state.Mode.TheVariants.{First, Second, Both}
+use Rattle.iom_base.specs.declared.mode.Mode.{Mode}
+use Rattle.iom_base.specs.declared.mode.Mode.TheVariants.{First, Second, Both}
 use Rattle.iom_machine.specs.declared.state.State.{State}
 use Rattle.iom_machine.specs.Devices.{with_device}
 use Rattle.iom_machine.specs.Refusals.{is_too_wide}

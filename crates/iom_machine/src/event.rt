@@ -1,5 +1,5 @@
-use crate::state::{DeviceKind, Mode};
-use iom_base::{DeviceId, GrantRights, Sequence};
+use crate::state::DeviceKind;
+use iom_base::{DeviceId, GrantRights, Mode, Sequence};
 
 /// One thing that happens: a call of the driver, an act of a device or a step of the IOMMU.
 #[derive(Drop)]
@@ -35,6 +35,8 @@ pub enum Event {
     Fetch,
     /// The driver looks which tickets are done.
     Poll,
+    /// The driver takes the oldest fault record.
+    Faults,
     /// The device asks to read so many bytes at the address.
     Read {
         device: DeviceId,

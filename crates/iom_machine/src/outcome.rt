@@ -25,6 +25,12 @@ pub enum Fetched {
     Stopped,
 }
 
+/// A fault record, by its four words (IOMMU specification, section 3.2, "Fault/Event-Queue (FQ)").
+#[derive(Clone, Copy, PartialEq, Eq, Debug)]
+pub struct FaultRecord {
+    pub words: [u64; 4],
+}
+
 /// What comes of an event.
 #[derive(Drop)]
 pub enum Outcome {
@@ -39,6 +45,10 @@ pub enum Outcome {
     Confirmed { first: u32, last: u32 },
     /// No ticket is confirmed now.
     NoneConfirmed,
+    /// The driver took this fault record, the oldest.
+    Record(FaultRecord),
+    /// There was no fault record to take.
+    NoRecord,
     Fetched(Fetched),
     /// The access is accepted; the number counts the device's accepted accesses from 1.
     Accepted(u64),

@@ -1,4 +1,4 @@
-use iom_base::{AcceptedAccess, DeviceId, Owner, Sequence};
+use iom_base::{AcceptedAccess, DeviceId, Mode, Owner, Sequence};
 use iom_ledger::HistoryEntry;
 
 /// What a device is, and so which requests it can make.
@@ -12,14 +12,6 @@ pub enum DeviceKind {
     Block,
     /// A virtio block device with a cache of translations.
     CachedBlock,
-}
-
-/// Which stages translate a device's addresses.
-#[derive(Clone, Copy, PartialEq, Eq, Debug)]
-pub enum Mode {
-    First,
-    Second,
-    Both,
 }
 
 /// How a device is attached.

@@ -7,6 +7,10 @@
 #![tactic(auto)]
 
 #[cfg(test)]
+mod lines;
+#[cfg(test)]
 mod machine;
+#[cfg(test)]
+mod modes;
 #[cfg(test)]
 mod script;

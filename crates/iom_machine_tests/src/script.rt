@@ -1,7 +1,7 @@
 use arrayvec::ArrayVec;
-use iom_base::{Cause, GrantRights};
+use iom_base::{Cause, GrantRights, Mode};
 use iom_ledger::Refusal;
-use iom_machine::{CommandName, Event, Fetched, Outcome};
+use iom_machine::{CommandName, Event, FaultRecord, Fetched, Outcome};
 use iom_script::{LineBuffer, ScriptFault, WorldSize, parse};
 use std::test::Fail;
 
@@ -28,61 +28,69 @@ fn many(
     Ok(bytes)
 }
 
-/// The line of an outcome of each kind.
-const LINES: &[u8] = b"\
-    ok\n\
-    refused 12 TooManyPending\n\
-    ticket 1\n\
-    confirmed 1-256\n\
-    confirmed -\n\
-    did iotinval.vma\n\
-    did iofence.c\n\
-    empty\n\
-    accepted 1\n\
-    busy\n\
-    badspan\n\
-    fault 13\n\
-    read 00af\n\
-    wrote 4096\n\
-    none\n\
-    bytes 00af\n\
-    free yes\n\
-    free no\n";
+/// Whether this is the line of the outcome.
+fn is_told(out: &mut LineBuffer, outcome: Outcome, line: &[u8]) -> bool {
+    out.clear();
+    out.append_line(&outcome);
+    out.as_slice() == line
+}
 
 #[test]
-fn lines_tell_outcomes(rt: HostRuntime) -> Result<(), Fail> {
+fn lines_tell_what_the_driver_answers(rt: HostRuntime) -> Result<(), Fail> {
     let mut out = LineBuffer::new(rt.alloc())?;
     assert!(rt; out.has_room());
+    let confirmed = Outcome::Confirmed {
+        first: 1,
+        last: 256,
+    };
+    let record = FaultRecord {
+        words: [0x0000010800000015, 0, 0x30f0, u64::MAX],
+    };
+    let record_line =
+        b"record 0x0000010800000015 0x0000000000000000 0x00000000000030f0 0xffffffffffffffff\n";
+    let full = Outcome::Refused(Refusal::TooManyPending);
+    assert!(rt; is_told(&mut out, Outcome::Done, b"ok\n"));
+    assert!(rt; is_told(&mut out, full, b"refused 12 TooManyPending\n"));
+    assert!(rt; is_told(&mut out, Outcome::Ticket(1), b"ticket 1\n"));
+    assert!(rt; is_told(&mut out, confirmed, b"confirmed 1-256\n"));
+    assert!(rt; is_told(&mut out, Outcome::NoneConfirmed, b"confirmed -\n"));
+    assert!(rt; is_told(&mut out, Outcome::Record(record), record_line));
+    assert!(rt; is_told(&mut out, Outcome::NoRecord, b"no record\n"));
+    assert!(rt; is_told(&mut out, Outcome::Free(true), b"free yes\n"));
+    assert!(rt; is_told(&mut out, Outcome::Free(false), b"free no\n"));
+    out.clear();
+    assert!(rt; out.as_slice().is_empty());
+    Ok(())
+}
+
+#[test]
+fn lines_tell_what_hardware_does(rt: HostRuntime) -> Result<(), Fail> {
+    let mut out = LineBuffer::new(rt.alloc())?;
     let mut read = ArrayVec::<u8, 4096>::new();
     read.try_push(0)?;
     read.try_push(0xaf)?;
     let mut shown = ArrayVec::<u8, 4096>::new();
     shown.try_push(0)?;
     shown.try_push(0xaf)?;
-    out.append_line(&Outcome::Done);
-    out.append_line(&Outcome::Refused(Refusal::TooManyPending));
-    out.append_line(&Outcome::Ticket(1));
-    out.append_line(&Outcome::Confirmed {
-        first: 1,
-        last: 256,
-    });
-    out.append_line(&Outcome::NoneConfirmed);
-    out.append_line(&Outcome::Fetched(Fetched::Did(CommandName::IotinvalVma)));
-    out.append_line(&Outcome::Fetched(Fetched::Did(CommandName::IofenceC)));
-    out.append_line(&Outcome::Fetched(Fetched::Empty));
-    out.append_line(&Outcome::Accepted(1));
-    out.append_line(&Outcome::Busy);
-    out.append_line(&Outcome::BadSpan);
-    out.append_line(&Outcome::Fault(Cause::ReadPageFault));
-    out.append_line(&Outcome::Read(read));
-    out.append_line(&Outcome::Wrote(4096));
-    out.append_line(&Outcome::NothingInFlight);
-    out.append_line(&Outcome::Bytes(shown));
-    out.append_line(&Outcome::Free(true));
-    out.append_line(&Outcome::Free(false));
-    assert!(rt; out.as_slice() == LINES);
-    out.clear();
-    assert!(rt; out.as_slice().is_empty());
+    let vma = Outcome::Fetched(Fetched::Did(CommandName::IotinvalVma));
+    let fence = Outcome::Fetched(Fetched::Did(CommandName::IofenceC));
+    assert!(rt; is_told(&mut out, vma, b"did iotinval.vma\n"));
+    assert!(rt; is_told(&mut out, fence, b"did iofence.c\n"));
+    assert!(rt; is_told(&mut out, Outcome::Fetched(Fetched::Empty), b"empty\n"));
+    assert!(rt; is_told(&mut out, Outcome::Accepted(1), b"accepted 1\n"));
+    assert!(rt; is_told(&mut out, Outcome::Busy, b"busy\n"));
+    assert!(rt; is_told(&mut out, Outcome::BadSpan, b"badspan\n"));
+    assert!(rt;
+        is_told(
+            &mut out,
+            Outcome::Fault(Cause::ReadPageFault),
+            b"fault 13\n"
+        )
+    );
+    assert!(rt; is_told(&mut out, Outcome::Read(read), b"read 00af\n"));
+    assert!(rt; is_told(&mut out, Outcome::Wrote(4096), b"wrote 4096\n"));
+    assert!(rt; is_told(&mut out, Outcome::NothingInFlight, b"none\n"));
+    assert!(rt; is_told(&mut out, Outcome::Bytes(shown), b"bytes 00af\n"));
     Ok(())
 }
 
@@ -174,6 +182,41 @@ fn a_detach_is_read(rt: HostRuntime) -> Result<(), Fail> {
     let script = parse(rt.alloc(), b"world 64 2\ndetach 00000a\n")?;
     match script.events.as_slice() {
         [Event::Detach { device: 10 }] => Ok(()),
+        _ => Err(Fail::new("another event")),
+    }
+}
+
+/// The mode of the event, if it attaches device 10 without ATS.
+fn attached_in(event: Option<&Event>) -> Option<Mode> {
+    match event {
+        Some(
+            Event::Attach {
+                device: 10,
+                mode,
+                ats: false,
+            },
+        ) => Some(*mode),
+        _ => None,
+    }
+}
+
+const MODES: &[u8] = b"\
+    world 64 2\n\
+    attach 00000a first\n\
+    attach 00000a second\n\
+    attach 00000a both\n\
+    faults\n";
+
+#[test]
+fn modes_and_faults_are_read(rt: HostRuntime) -> Result<(), Fail> {
+    let script = parse(rt.alloc(), MODES)?;
+    let events = script.events.as_slice();
+    assert_eq!(rt; events.len(), 4usize);
+    assert_eq!(rt; attached_in(events.get(0)), Some(Mode::First));
+    assert_eq!(rt; attached_in(events.get(1)), Some(Mode::Second));
+    assert_eq!(rt; attached_in(events.get(2)), Some(Mode::Both));
+    match events.get(3) {
+        Some(Event::Faults) => Ok(()),
         _ => Err(Fail::new("another event")),
     }
 }
@@ -291,7 +334,18 @@ const BAD_SECOND: &[u8] = b"\
     |world 64 1\ndevice 00000A raw\n\
     |world 64 1\ndevice 00000g raw\n\
     |world 64 1\ndevice 000001 raw raw\n\
-    |world 64 1\nattach 000001 second\n\
+    |world 64 1\npolls\n\
+    |world 64 1\nfault\n\
+    |world 64 1\nfaults \n\
+    |world 64 1\nfaults 1\n\
+    |world 64 1\nattach 000001\n\
+    |world 64 1\nattach 000001 \n\
+    |world 64 1\nattach 000001 third\n\
+    |world 64 1\nattach 000001 firs\n\
+    |world 64 1\nattach 000001 seconds\n\
+    |world 64 1\nattach 000001 Both\n\
+    |world 64 1\nattach 000001 both ats\n\
+    |world 64 1\nattach 000001 both first\n\
     |world 64 1\ndetach\n\
     |world 64 1\ndetach 1\n\
     |world 64 1\ndetach 000001 \n\

@@ -15,13 +15,13 @@ use Rattle.iom_machine.specs.declared.event.Event.{Event}
 use Rattle.iom_machine.specs.declared.event.Event.TheVariants as events
 use Rattle.iom_machine.specs.declared.outcome.Fetched.TheVariants.{Empty}
 use Rattle.iom_machine.specs.declared.outcome.Outcome.{Outcome}
-use Rattle.iom_machine.specs.declared.outcome.Outcome.TheVariants.{Done, Refused, Ticket, NoneConfirmed, Fetched, Accepted, Busy, BadSpan, Fault}
+use Rattle.iom_machine.specs.declared.outcome.Outcome.TheVariants.{Done, Refused, Ticket, NoneConfirmed, NoRecord, Fetched, Accepted, Busy, BadSpan, Fault}
 use Rattle.iom_base.specs.declared.access.Access.{Access}
 use Rattle.iom_machine.specs.declared.state.Attachment.{Attachment}
 use Rattle.iom_machine.specs.declared.state.Attachment.TheVariants.{Detached, Attached, Quarantined, Leaving}
 use Rattle.iom_machine.specs.declared.state.Device.{Device}
-use Rattle.iom_machine.specs.declared.state.Mode.{Mode}
-use Rattle.iom_machine.specs.declared.state.Mode.TheVariants.{First, Second, Both}
+use Rattle.iom_base.specs.declared.mode.Mode.{Mode}
+use Rattle.iom_base.specs.declared.mode.Mode.TheVariants.{First, Second, Both}
 use Rattle.iom_machine.specs.declared.state.State.{State}
 use Rattle.iom_machine.specs.Devices.{device_of, with_device}
 use Rattle.iom_machine.specs.Frames.{IsFree}
@@ -183,6 +183,7 @@ is_answered state (events.Grant id page frame rights) reached = grant_is_answere
 is_answered state (events.Release id page) reached = release_is_answered state id page
 is_answered state events.Fetch reached = (Fetched Empty, state, (no_choice, refl))
 is_answered state events.Poll reached = (NoneConfirmed, state, (no_choice, refl))
+is_answered state events.Faults reached = (NoRecord, state, (no_choice, refl))
 is_answered state (events.Read id address len) reached =
     let told = request_is_answered state id (read_of address len) in (told.1, told.2, (frame_chosen told.0, told.3))
 is_answered state (events.Write id address bytes) reached =

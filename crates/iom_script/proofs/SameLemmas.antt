@@ -5,11 +5,12 @@ use Rattle.std.proofs.lemmas.Str.Parse.{IsNumeralModel, numerals_by_value, tells
 use Rattle.std.proofs.lemmas.Fmt.{digits_value-decimal}
 use Rattle.std.proofs.lemmas.List.{append_cancel_left}
 use Rattle.iom_machine.specs.declared.event.Event.{Event}
-use Rattle.iom_machine.specs.declared.event.Event.TheVariants.{Plug, Attach, Detach, Grant, Release, Fetch, Poll, Read, Write, Commit, Poke, Peek, Free}
+use Rattle.iom_machine.specs.declared.event.Event.TheVariants.{Plug, Attach, Detach, Grant, Release, Fetch, Poll, Faults, Read, Write, Commit, Poke, Peek, Free}
+use Rattle.iom_base.specs.declared.mode.Mode.TheVariants.{First, Second, Both}
 use Rattle.iom_script.specs.declared.script.WorldSize.{WorldSize}
 use Rattle.iom_script.specs.declared.script.Script.{Script}
 use Rattle.iom_script.specs.Digits.{hex_digits}
-use Rattle.iom_script.specs.Words.{◌␣◌, IsDevice, IsNumber, IsAddress, IsRight, IsHex}
+use Rattle.iom_script.specs.Words.{◌␣◌, IsDevice, IsNumber, IsAddress, IsRight, IsMode, IsHex}
 use Rattle.iom_script.specs.Grammar.{IsEventLine, IsWorldLine, SayEvents, Says}
 use Rattle.iom_script.proofs.CutLemmas.{cut_is_one}
 use Rattle.iom_script.proofs.HexLemmas.{same_hex, length_hex}
@@ -17,7 +18,7 @@ use Rattle.iom_script.proofs.HexBytesLemmas.{same_hex_of}
 use Rattle.iom_script.proofs.DecimalLemmas.{number_without_space}
 use Rattle.iom_script.proofs.WordLemmas.{device_without_space, address_without_space}
 use Rattle.iom_script.proofs.FieldLemmas.{HasNoSpace, Followed}
-use Rattle.iom_script.proofs.EventLemmas.{IsWord, other_line, device_event, device_from, PlugWords, attach_event, attach_from, AttachWords, grant_event, grant_from, GrantWords, release_event, release_from, ReleaseWords, read_event, read_from, ReadWords, write_event, write_from, WriteWords, commit_event, commit_from, detach_event, detach_from, poke_event, poke_from, PokeWords, peek_event, peek_from, PeekWords, free_event, free_from}
+use Rattle.iom_script.proofs.EventLemmas.{IsWord, other_line, device_event, device_from, PlugWords, attach_event, attach_from, AttachWords, grant_event, grant_from, GrantWords, release_event, release_from, ReleaseWords, read_event, read_from, ReadWords, write_event, write_from, WriteWords, commit_event, commit_from, detach_event, detach_from, poke_event, poke_from, PokeWords, peek_event, peek_from, PeekWords, free_event, free_from, faults_only}
 
 -- the text says one value
 abbrev SaysOne : {X : Type 0} → (List ℕ → X → Type 0) → Type 0
@@ -43,6 +44,17 @@ right_same text x y (inl a) (inl b) = a.1 ∙ sym b.1
 right_same text x y (inl a) (inr b) = absurd (omega (arith, ap length (sym a.0 ∙ b.0)))
 right_same text x y (inr a) (inl b) = absurd (omega (arith, ap length (sym a.0 ∙ b.0)))
 right_same text x y (inr a) (inr b) = a.1 ∙ sym b.1
+
+mode_same : SaysOne IsMode
+mode_same text First First p q = refl
+mode_same text First Second p q = absurd (omega (arith, ap length (sym p ∙ q)))
+mode_same text First Both p q = absurd (omega (arith, ap length (sym p ∙ q)))
+mode_same text Second First p q = absurd (omega (arith, ap length (sym p ∙ q)))
+mode_same text Second Second p q = refl
+mode_same text Second Both p q = absurd (omega (arith, ap length (sym p ∙ q)))
+mode_same text Both First p q = absurd (omega (arith, ap length (sym p ∙ q)))
+mode_same text Both Second p q = absurd (omega (arith, ap length (sym p ∙ q)))
+mode_same text Both Both p q = refl
 
 hex_same : SaysOne IsHex
 hex_same text x y p q = same_hex_of x y p.2 q.2 (sym p.3 ∙ q.3)
@@ -78,9 +90,9 @@ event_same line (Plug device kind) b p q =
     event_by_words device_event (PlugWords text) (Plug device kind) b (followed_same IsDevice (IsWord (codes "raw")) device_without_space device_same (nothing_same (codes "raw")) text)
     (device_from text (Plug device kind) (p.0, p.1, p.2, refl)) (device_from text b (subst (λ l. IsEventLine l b) p.3 q))
 event_same line (Attach device mode ats) b p q =
-    let text = p.0 ␣ codes "first" in
-    event_by_words attach_event (AttachWords text) (Attach device mode ats) b (followed_same IsDevice (IsWord (codes "first")) device_without_space device_same (nothing_same (codes "first")) text)
-    (attach_from text (Attach device mode ats) (p.0, p.1, p.2, p.3, refl)) (attach_from text b (subst (λ l. IsEventLine l b) p.4 q))
+    let text = p.0 ␣ p.1 in
+    event_by_words attach_event (AttachWords text) (Attach device mode ats) b (followed_same IsDevice IsMode device_without_space device_same mode_same text)
+    (attach_from text (Attach device mode ats) (p.0, p.1, p.2, p.3, p.4, refl)) (attach_from text b (subst (λ l. IsEventLine l b) p.5 q))
 event_same line (Grant device page frame rights) b p q =
     let text = p.0 ␣ p.1 ␣ p.2 ␣ p.3 in
     event_by_words grant_event (GrantWords text) (Grant device page frame rights) b
@@ -93,6 +105,7 @@ event_same line (Release device page) b p q =
     (release_from text (Release device page) (p.0, p.1, p.2, p.3, refl)) (release_from text b (subst (λ l. IsEventLine l b) p.4 q))
 event_same line Fetch b p q = fetch_same b (subst (λ l. IsEventLine l b) p q)
 event_same line Poll b p q = poll_same b (subst (λ l. IsEventLine l b) p q)
+event_same line Faults b p q = faults_only b (subst (λ l. IsEventLine l b) p q)
 event_same line (Read device address len) b p q =
     let text = p.0 ␣ p.1 ␣ p.2 in
     event_by_words read_event (ReadWords text) (Read device address len) b

@@ -4,7 +4,7 @@ use Rattle.std.specs.Borrow.{Bor}
 use Rattle.std.specs.Int.{IsInRange}
 use Rattle.std.specs.Str.Parse.{AllDigits, digits_value}
 use Rattle.iom_machine.specs.declared.event.Event.{Event}
-use Rattle.iom_machine.specs.declared.event.Event.TheVariants.{Plug, Attach, Detach, Grant, Release, Fetch, Poll, Read, Write, Commit, Poke, Peek, Free}
+use Rattle.iom_machine.specs.declared.event.Event.TheVariants.{Plug, Attach, Detach, Grant, Release, Fetch, Poll, Faults, Read, Write, Commit, Poke, Peek, Free}
 use Rattle.iom_script.specs.Words.{◌␣◌, IsWithout, IsNumber}
 use Rattle.iom_script.specs.Digits.{hex_digit, hex_digits}
 use Rattle.iom_script.specs.Grammar.{IsEventLine}
@@ -60,6 +60,7 @@ start_of (Grant device page frame rights) = codes "grant "
 start_of (Release device page) = codes "release "
 start_of Fetch = codes "fetch"
 start_of Poll = codes "poll"
+start_of Faults = codes "faults"
 start_of (Read device address len) = codes "read "
 start_of (Write device address bytes) = codes "write "
 start_of (Commit device) = codes "commit "
@@ -85,8 +86,9 @@ processor_starts = codes "peek " ∷ codes "poke " ∷ []
 
 -- how the lines begin that say what the driver is asked
 abbrev pub driver_starts : List (List ℕ)
-driver_starts = codes "grant " ∷ codes "release " ∷ codes "device " ∷ codes "attach " ∷ codes "detach " ∷ codes "free " ∷ []
+driver_starts =
+    codes "grant " ∷ codes "release " ∷ codes "device " ∷ codes "attach " ∷ codes "detach " ∷ codes "free " ∷ codes "faults" ∷ []
 
--- the lines of one word
+-- the lines of what comes next: a step of the IOMMU, or a look of the driver
 abbrev pub single_starts : List (List ℕ)
 single_starts = codes "poll" ∷ codes "fetch" ∷ []

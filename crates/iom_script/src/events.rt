@@ -5,9 +5,9 @@ ghost use Rattle.iom_script.specs.Grammar.{IsEventLine, IsWorldLine};
 
 use crate::script::WorldSize;
 use crate::words::{
-    address_and, after, bytes_of, device_and, device_of, number_and, number_of, right_of,
+    address_and, after, bytes_of, device_and, device_of, mode_of, number_and, number_of, right_of,
 };
-use iom_machine::{DeviceKind, Event, Mode};
+use iom_machine::{DeviceKind, Event};
 use std::alloc::{AllocError, Global};
 
 /// The event of the first of these that gives one; those behind it aren't tried.
@@ -123,18 +123,16 @@ fn plug(line: &[u8]) -> Option<Event>
     })
 }
 
-/// `attach ID first`
+/// `attach ID MODE`
 fn attach(line: &[u8]) -> Option<Event>
     ensures { Reads result (IsLineWith (codes "attach ") line.now) }
 {
     let arguments = after(line, b"attach ")?;
-    let (device, mode) = device_and(arguments)?;
-    if mode != b"first".as_slice() {
-        return None;
-    }
+    let (device, rest) = device_and(arguments)?;
+    let mode = mode_of(rest)?;
     Some(Event::Attach {
         device,
-        mode: Mode::First,
+        mode,
         ats: false,
     })
 }
@@ -157,6 +155,17 @@ fn free(line: &[u8]) -> Option<Event>
     Some(Event::Free { frame })
 }
 
+/// `faults`
+fn faults(line: &[u8]) -> Option<Event>
+    ensures { Reads result (IsLineWith (codes "faults") line.now) }
+{
+    if line == b"faults".as_slice() {
+        Some(Event::Faults)
+    } else {
+        None
+    }
+}
+
 /// A line on what the driver is asked, the commonest first.
 fn call_of_driver(line: &[u8]) -> Option<Event>
     ensures { Reads result (IsLineOf driver_starts line.now) }
@@ -167,7 +176,8 @@ fn call_of_driver(line: &[u8]) -> Option<Event>
         plug(line),
         attach(line),
         detach(line),
-        free(line)
+        free(line),
+        faults(line)
     )
 }
 
@@ -207,7 +217,7 @@ fn act_of_processor(alloc: Global, line: &[u8]) -> Result<Option<Event>, AllocEr
     }
 }
 
-/// A line of one word.
+/// `poll` or `fetch`
 fn single(line: &[u8]) -> Option<Event>
     ensures { Reads result (IsLineOf single_starts line.now) }
 {

@@ -1,10 +1,10 @@
 ghost use Rattle.std.specs.Prelude.{◌≡◌, ◌/◌, ◌%◌, ◌^◌, ◌<◌, ◌≤◌, ◌++◌, length, IfOk};
 ghost use Rattle.memchr.specs.Find.{IsFirstByte, is_byte};
 ghost use Rattle.iom_script.specs.Digits.{hex_digit, hex_digits};
-ghost use Rattle.iom_script.specs.Words.{Reads, IsDevice, IsNumber, IsAddress, IsRight, IsHex};
+ghost use Rattle.iom_script.specs.Words.{Reads, IsDevice, IsNumber, IsAddress, IsRight, IsMode, IsHex};
 ghost use Rattle.iom_script.specs.Cuts.{shown, shown_rest, with_rest, IsCut, Begins, LeadsWithHex, LeadsWithDecimal, LeadsWithNumber};
 
-use iom_base::{DeviceId, GrantRights, Sequence};
+use iom_base::{DeviceId, GrantRights, Mode, Sequence};
 use memchr::memchr_iter;
 use std::alloc::{AllocError, Global};
 
@@ -151,6 +151,21 @@ pub(crate) fn right_of(text: &[u8]) -> Option<GrantRights>
         Some(GrantRights::ReadOnly)
     } else if text == b"rw".as_slice() {
         Some(GrantRights::ReadWrite)
+    } else {
+        None
+    }
+}
+
+/// The mode that the word says.
+pub(crate) fn mode_of(text: &[u8]) -> Option<Mode>
+    ensures { Reads result (IsMode text.now) }
+{
+    if text == b"first".as_slice() {
+        Some(Mode::First)
+    } else if text == b"second".as_slice() {
+        Some(Mode::Second)
+    } else if text == b"both".as_slice() {
+        Some(Mode::Both)
     } else {
         None
     }

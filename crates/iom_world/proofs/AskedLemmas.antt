@@ -10,8 +10,28 @@ use Rattle.iom_world.specs.Parts.{Parts}
 use Rattle.iom_world.specs.Requests.{AsksAccess}
 use Rattle.iom_world.specs.Sound.{AreSound}
 use Rattle.iom_world.proofs.DriverLemmas.{IsSoundDriver}
-use Rattle.iom_world.proofs.PartsLemmas.{StaysReady, stays_of}
+use Rattle.iom_world.proofs.PartsLemmas.{StaysReady, stays_of, StaysReported, reported_of}
 use Rattle.iom_world.proofs.RequestKeeps.{keeps_asked}
+use Rattle.iom_world.proofs.ServedLemmas.{ServiceLaws}
+
+-- the laws of the layers below, as the service has them
+pub service_laws : LawsBelow → ServiceLaws
+service_laws laws = record {
+  ends = laws.ends;
+  walks = record {
+    reaches = laws.reaches;
+    faults = laws.faults;
+    one_end = laws.one_end;
+    guest_reaches = laws.guest_reaches;
+    guest_leaves = laws.guest_leaves;
+    guest_faults = laws.guest_faults;
+    guest_tables = laws.guest_tables;
+    one_end_second = laws.one_end_second;
+    as_reads_second = laws.as_reads_second;
+    as_reads_both = laws.as_reads_both;
+    led = laws.led;
+  };
+}
 
 pub keeps_asked_counted : LawsBelow → (driver : Driver) (old new : Parts) (events id : ℕ) (access : Access) (told : Outcome) → AreSound old events → IsSoundDriver old.driver → old.driver ≡ state_of driver
     → (flights_of old.iommu).so_far < events → access.address < 2 ^ 64 → AsksAccess old id access told new → AreSound new events
@@ -30,5 +50,5 @@ keeps_asked_counted laws driver old new events id access told sound own is below
     } in
     let again : events - 1 + 1 ≡ events = omega (arith, below) in
     subst (AreSound new) again
-    (keeps_asked (record { ends = laws.ends; reaches = laws.reaches; faults = laws.faults; one_end = laws.one_end }) old new (events - 1) id access told before own
-    (subst StaysReady (sym is) (stays_of laws.stays driver)) fits asks)
+    (keeps_asked (service_laws laws) old new (events - 1) id access told before own
+    (subst StaysReady (sym is) (stays_of laws.stays driver)) (subst StaysReported (sym is) (reported_of laws.reported driver)) fits asks)

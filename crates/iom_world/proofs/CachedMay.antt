@@ -5,35 +5,36 @@ use Rattle.std.proofs.lemmas.Bool.{false≢true}
 use Rattle.std.proofs.lemmas.Grind.{not_there}
 use Rattle.iom_base.specs.declared.access.Access.{Access}
 use Rattle.iom_base.specs.Rights.{allows}
-use Rattle.iom_copies.specs.Attachments.{in_both_stages}
+use Rattle.iom_copies.specs.Attachments.{is_both, in_both_stages}
 use Rattle.iom_copies.specs.Faithful.{IsFaithful}
 use Rattle.iom_copies.specs.Laws.{IsReachable}
 use Rattle.iom_copies.proofs.LawLemmas.{translations_reachable}
 use Rattle.iom_copies.specs.Scene.{Copy, Scene}
 use Rattle.iom_driver.specs.declared.device.Attachment.{Attachment}
 use Rattle.iom_driver.specs.declared.device.Attachment.TheVariants as driver
-use Rattle.iom_driver.specs.declared.device.FirstStage.{FirstStage}
-use Rattle.iom_driver.specs.Devices.{attachment_of, owned_stage, owned_stage_of}
+use Rattle.iom_driver.specs.declared.device.Stages.{Stages}
+use Rattle.iom_driver.specs.Devices.{attachment_of, owned_stages, owned_stages_of}
 use Rattle.iom_iommu.specs.Parts.{translations_of}
-use Rattle.iom_ledger.specs.History.{History}
+use Rattle.iom_driver.specs.State.{DriverState}
+use Rattle.iom_ledger.specs.History.{History, May}
 use Rattle.iom_machine.specs.Judging.{holds_for, lingers_for}
 use Rattle.iom_machine.specs.Requests.{HoldsNoneFor, MayAccept, MayAcceptInOneStage}
 use Rattle.iom_machine.specs.declared.state.State.{State}
-use Rattle.iom_machine.specs.declared.state.Attachment.TheVariants.{Leaving}
-use Rattle.iom_machine.specs.declared.state.Mode.TheVariants.{First}
+use Rattle.iom_machine.specs.declared.state.Attachment.TheVariants.{Attached, Leaving}
+use Rattle.iom_base.specs.declared.mode.Mode.{Mode}
+use Rattle.iom_base.specs.declared.mode.Mode.TheVariants.{First, Second, Both}
 use Rattle.iom_machine.proofs.JudgeLemmas.{HoldsFor-from, HoldsFor-test, LingersFor-from, LingersFor-test}
-use Rattle.iom_tlb.specs.declared.space.Space.TheVariants as space
+use Rattle.iom_tlb.specs.declared.space.Space.{Space}
 use Rattle.iom_tlb.specs.declared.trans_cache.Translation.{Translation}
 use Rattle.iom_world.specs.Devices.{shown_attachment}
 use Rattle.iom_world.specs.Parts.{Parts}
-use Rattle.iom_world.specs.Read.{values_of}
+use Rattle.iom_world.specs.Read.{space_in, space_at, values_of}
 use Rattle.iom_world.specs.Scenes.{copy_of, IsSceneOf}
 use Rattle.iom_world.specs.Shows.{PartsShow}
 use Rattle.iom_world.specs.Sound.{AreSound}
 use Rattle.iom_world.proofs.DriverLemmas.{IsSoundDriver}
-use Rattle.iom_world.proofs.HistoryMay.{facts_of_history}
+use Rattle.iom_world.proofs.HistoryMay.{may_merely, facts_of_history}
 use Rattle.iom_world.proofs.SceneCalls.{none_cached}
-use Rattle.iom_world.proofs.SceneSteps.{number_is}
 
 -- which of them it is, is decided by the history: what merely is so, is
 accept_merely : (history : History) (id frame : ℕ) (access : Access) → ∥ MayAcceptInOneStage history id access frame ∥₁ → MayAcceptInOneStage history id access frame
@@ -57,68 +58,91 @@ accept_merely history id frame access merely = by (holds_for history id (access.
     by true is = inl (HoldsFor-from history id (access.address / 4096) access.kind frame is)
     by false is = lingers (lingers_for history history id (access.address / 4096) access.kind frame) refl is
 
-module _ (parts : Parts) (events : ℕ) (state : State) (id : ℕ) (access : Access) (stage : FirstStage) (translation : Translation) (sound : AreSound parts events)
-    (own : IsSoundDriver parts.driver) (shows : PartsShow parts state) (owned : owned_stage_of parts.driver.devices id ≡ Some stage)
-    (cached : translations_of parts.iommu (space.First stage.number, access.address / 4096) ≡ Some translation) (allowed : allows translation.rights access.kind ≡ true) where
-  -- whose number it is
-  owner_of : (d n : ℕ) (o : Option FirstStage) → owned_stage_of parts.driver.devices d ≡ o → option_map (λ (s : FirstStage). s.number) o ≡ Some n
-      → (s : FirstStage) × (owned_stage_of parts.driver.devices d ≡ Some s) × (s.number ≡ n)
-  owner_of d n None is at = cc
-  owner_of d n (Some s) is at = (s, is, some_same s.number n at)
-    where
-      some_same : (x y : ℕ) → Some x ≡ Some y → x ≡ y
-      some_same x y same = cc
+-- the number of an address space, and its mode
+same_number : (mode own : Mode) (n m : ℕ) → ◌≡◌ {A = Space} (space_in mode n) (space_in own m) → n ≡ m
+same_number First First n m same = cc
+same_number Second Second n m same = cc
+same_number Both Both n m same = cc
+same_number First Second n m same = cc
+same_number First Both n m same = cc
+same_number Second First n m same = cc
+same_number Second Both n m same = cc
+same_number Both First n m same = cc
+same_number Both Second n m same = cc
 
+-- whose address space it is: no two devices have the same
+pub one_space : (d : DriverState) → IsSoundDriver d → (id other : ℕ) (stage : Stages) → owned_stages_of d.devices id ≡ Some stage
+    → space_at d.devices other ≡ Some (space_in stage.mode stage.number) → other ≡ id
+one_space d own id other stage owned at = by (owned_stages_of d.devices other) refl at
+  where
+    some_same : (x y : Space) → Some x ≡ Some y → x ≡ y
+    some_same x y same = cc
+
+    by : (o : Option Stages) → owned_stages_of d.devices other ≡ o → option_map (λ (s : Stages). space_in s.mode s.number) o ≡ Some (space_in stage.mode stage.number) → other ≡ id
+    by None is named = cc
+    by (Some s) is named =
+        own.numbers.own other id s stage is owned (same_number s.mode stage.mode s.number stage.number (some_same (space_in s.mode s.number) (space_in stage.mode stage.number) named))
+
+module _ (parts : Parts) (events : ℕ) (state : State) (id : ℕ) (access : Access) (stage : Stages) (translation : Translation) (sound : AreSound parts events)
+    (own : IsSoundDriver parts.driver) (shows : PartsShow parts state) (owned : owned_stages_of parts.driver.devices id ≡ Some stage)
+    (cached : translations_of parts.iommu (space_in stage.mode stage.number, access.address / 4096) ≡ Some translation) (allowed : allows translation.rights access.kind ≡ true) where
   -- the scene has the translation as one of the device's
   there_in : (scene : Scene) → IsSceneOf (values_of parts) scene → Contains scene.translations (copy_of id (access.address / 4096) translation)
   there_in scene is =
-      let was = is.translations (space.First stage.number, access.address / 4096) translation cached in
-      let it = owner_of was.device was.number (owned_stage_of parts.driver.devices was.device) refl was.own in
-      let same : was.device ≡ id = own.numbers.own was.device id it.0 stage it.1 owned (it.2 ∙ sym (number_is stage.number was.number was.space)) in
-      subst (λ d. Contains scene.translations (copy_of d (access.address / 4096) translation)) same was.there
+      let was = is.translations (space_in stage.mode stage.number, access.address / 4096) translation cached in
+      subst (λ d. Contains scene.translations (copy_of d (access.address / 4096) translation)) (one_space parts.driver own id was.device stage owned was.own) was.there
 
   -- of a history with which the ledger agrees
   in_history : (scene : Scene) → IsSceneOf (values_of parts) scene → IsFaithful scene → IsFaithful (record scene { history = state.history })
   in_history scene is facts =
       facts_of_history parts.driver.ledger scene state.history is.ledger shows.ledger (λ ticket later. shows.none_later ticket (subst (λ n. n < ticket) is.confirmed later)) facts
 
-  -- in one stage it is what is held at the page, or what lingers there
-  one_stage : (a : Attachment) → in_both_stages (shown_attachment a) ≡ false
-  one_stage driver.Detached = refl
-  one_stage (driver.Attached s) = refl
-  one_stage (driver.Leaving ticket s) = refl
-
-  accept_in : (scene : Scene) → IsSceneOf (values_of parts) scene → IsFaithful scene → MayAcceptInOneStage state.history id access translation.frame
-  accept_in scene shown facts =
+  -- what the facts on copies say of it
+  reachable_in : (both_stages : Bool) → in_both_stages (shown_attachment (attachment_of parts.driver.devices id)) ≡ both_stages → (scene : Scene) → IsSceneOf (values_of parts) scene
+      → IsFaithful scene → IsReachable both_stages state.history (copy_of id (access.address / 4096) translation)
+  reachable_in both_stages is scene shown facts =
       let copy : Copy = copy_of id (access.address / 4096) translation in
       let kept = in_history scene shown facts in
-      let one : in_both_stages (scene.attachment_of id) ≡ false = ap in_both_stages (shown.attachments id) ∙ one_stage (attachment_of parts.driver.devices id) in
-      let reachable : IsReachable false state.history copy =
-      subst (λ b. IsReachable b state.history copy) one (translations_reachable (record scene { history = state.history }) copy kept (there_in scene shown)) in
-      elim reachable [
+      subst (λ b. IsReachable b state.history copy) (ap in_both_stages (shown.attachments id) ∙ is) (translations_reachable (record scene { history = state.history }) copy kept (there_in scene shown))
+
+  -- in one stage it is what is held at the page, or what lingers there
+  accept_in : in_both_stages (shown_attachment (attachment_of parts.driver.devices id)) ≡ false → (scene : Scene) → IsSceneOf (values_of parts) scene → IsFaithful scene
+      → MayAcceptInOneStage state.history id access translation.frame
+  accept_in one scene shown facts =
+      elim (reachable_in false one scene shown facts) [
         | inl held ↦ inl (translation.rights, held, allowed)
         | inr lingers ↦ inr (
-          (λ other holds. kept.order.apart id (access.address / 4096) lingers.0 (other, holds.0) (translation.frame, translation.rights) holds.1 lingers.1),
+          (λ other holds. (in_history scene shown facts).order.apart id (access.address / 4096) lingers.0 (other, holds.0) (translation.frame, translation.rights) holds.1 lingers.1),
           (translation.rights, lingers, allowed),
         )
       ]
 
+  -- in both its frame may be reached
+  may_in : in_both_stages (shown_attachment (attachment_of parts.driver.devices id)) ≡ true → (scene : Scene) → IsSceneOf (values_of parts) scene → IsFaithful scene
+      → May state.history id translation.frame access.kind
+  may_in both scene shown facts = reachable_in true both scene shown facts access.kind allowed
+
   -- no translation is cached of a device that leaves
-  leaves_none : (ticket : ℕ) (s : FirstStage) → attachment_of parts.driver.devices id ≡ driver.Leaving ticket s → ⊥
+  leaves_none : (ticket : ℕ) (s : Stages) → attachment_of parts.driver.devices id ≡ driver.Leaving ticket s → ⊥
   leaves_none ticket s is =
       not_there sound.copies (λ (scene, shown, facts).
-      none_cached scene (copy_of id (access.address / 4096) translation) (Leaving ticket First false) ticket facts (shown.attachments id ∙ ap shown_attachment is) (omega arith) (there_in scene shown))
+      none_cached scene (copy_of id (access.address / 4096) translation) (Leaving ticket s.mode false) ticket facts (shown.attachments id ∙ ap shown_attachment is) (omega arith) (there_in scene shown))
+
+  by_mode : (mode : Mode) → in_both_stages (shown_attachment (attachment_of parts.driver.devices id)) ≡ is_both mode → MayAccept (Attached mode false) state id access translation.frame
+  by_mode First is = accept_merely state.history id translation.frame access (∥∥₁_map sound.copies (λ (scene, shown, facts). accept_in is scene shown facts))
+  by_mode Second is = accept_merely state.history id translation.frame access (∥∥₁_map sound.copies (λ (scene, shown, facts). accept_in is scene shown facts))
+  by_mode Both is = may_merely state.history id translation.frame access.kind (∥∥₁_map sound.copies (λ (scene, shown, facts). may_in is scene shown facts))
 
   by_attachment : (a : Attachment) → attachment_of parts.driver.devices id ≡ a → MayAccept (shown_attachment a) state id access translation.frame
-  by_attachment driver.Detached is = absurd (none_some (sym (ap owned_stage is) ∙ owned))
+  by_attachment driver.Detached is = absurd (none_some (sym (ap owned_stages is) ∙ owned))
     where
-      none_some : ◌≡◌ {A = Option FirstStage} None (Some stage) → ⊥
+      none_some : ◌≡◌ {A = Option Stages} None (Some stage) → ⊥
       none_some same = cc
-  by_attachment (driver.Attached s) is = accept_merely state.history id translation.frame access (∥∥₁_map sound.copies (λ (scene, shown, facts). accept_in scene shown facts))
+  by_attachment (driver.Attached s) is = by_mode s.mode (ap (λ a. in_both_stages (shown_attachment a)) is)
   by_attachment (driver.Leaving ticket s) is = absurd (leaves_none ticket s is)
 
-pub cached_accept : (parts : Parts) (events : ℕ) (state : State) (id : ℕ) (access : Access) (stage : FirstStage) (translation : Translation) → AreSound parts events → IsSoundDriver parts.driver
-    → PartsShow parts state → owned_stage_of parts.driver.devices id ≡ Some stage → translations_of parts.iommu (space.First stage.number, access.address / 4096) ≡ Some translation
+pub cached_accept : (parts : Parts) (events : ℕ) (state : State) (id : ℕ) (access : Access) (stage : Stages) (translation : Translation) → AreSound parts events → IsSoundDriver parts.driver
+    → PartsShow parts state → owned_stages_of parts.driver.devices id ≡ Some stage → translations_of parts.iommu (space_in stage.mode stage.number, access.address / 4096) ≡ Some translation
     → allows translation.rights access.kind ≡ true → MayAccept (shown_attachment (attachment_of parts.driver.devices id)) state id access translation.frame
 cached_accept parts events state id access stage translation sound own shows owned cached allowed =
     by_attachment parts events state id access stage translation sound own shows owned cached allowed (attachment_of parts.driver.devices id) refl

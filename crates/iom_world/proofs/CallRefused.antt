@@ -1,6 +1,7 @@
 -- A refusal of a call of the driver changes nothing, and a fetch is never refused.
 use Rattle.std.proofs.Common.{◌≡◌, ◌+◌, ◌-◌, ◌==◌, ◌∙◌, ℕ, Bool, true, false, Result, Ok, Err, refl, sym, ap, subst, if◌then◌else◌}
 use Rattle.iom_base.specs.declared.grant_rights.GrantRights.{GrantRights}
+use Rattle.iom_base.specs.declared.mode.Mode.{Mode}
 use Rattle.iom_driver.specs.declared.answers.Polled.{Polled}
 use Rattle.iom_driver.specs.declared.answers.Ticket as answers
 use Rattle.iom_driver.specs.Attaching.{AnswersAttach}
@@ -40,10 +41,10 @@ plug_refused old new id kind told does why is = by does.answer (sym does.told_so
     by (Ok done) refused call row devices = absurd (done_refused why refused)
     by (Err reason) refused call row devices = same_of old new does.memory row devices call.1
 
-pub attach_refused : (old new : Parts) (id : ℕ) (told : Outcome) → AttachesDevice old id told new → SameIfRefused told old new
-attach_refused old new id told does why is = by does.answer (sym does.told_so ∙ is) does.call
+pub attach_refused : (old new : Parts) (id : ℕ) (mode : Mode) (told : Outcome) → AttachesDevice old id mode told new → SameIfRefused told old new
+attach_refused old new id mode told does why is = by does.answer (sym does.told_so ∙ is) does.call
   where
-    by : (answer : Result (Unit {0}) Refusal) → told_of answer ≡ outcome.Refused why → AnswersAttach old.driver old.memory id answer new.driver new.memory → AreSame old new
+    by : (answer : Result (Unit {0}) Refusal) → told_of answer ≡ outcome.Refused why → AnswersAttach old.driver old.memory id mode answer new.driver new.memory → AreSame old new
     by (Ok done) refused call = absurd (done_refused why refused)
     by (Err reason) refused call = same_of old new call.2 does.iommu does.devices call.1
 

@@ -34,10 +34,15 @@ use Rattle.iom_world.specs.Happens.{waiting_in, KeepsCommands}
 use Rattle.iom_world.specs.Parts.{Parts}
 use Rattle.iom_world.specs.Processor.{StoresIfAny}
 use Rattle.iom_world.specs.Requests.{AsksAccess}
+use Rattle.iom_base.specs.declared.mode.Mode.{Mode}
 use Rattle.iom_world.specs.Sound.{AreSound}
 use Rattle.iom_world.proofs.DriverKeeps.{owned_differs, unmarked, attach_keeps_ring, tables_keep_system}
 use Rattle.iom_world.proofs.DriverLemmas.{IsSoundDriver}
 use Rattle.iom_world.proofs.ProcessorKeeps.{stores_keep}
+use Rattle.iom_world.proofs.PartsLemmas.{StaysReported}
+use Rattle.iom_world.proofs.ReportKeeps.{taken_waiting}
+use Rattle.iom_world.proofs.RequestKeeps.{report_leaves}
+use Rattle.iom_world.proofs.SoundFrom.{report_waiting}
 use Rattle.iom_world.proofs.SoundLemmas.{same_waiting, fixed_frames}
 
 -- the system's frames keep their bytes
@@ -58,11 +63,11 @@ stored_keeps : (old : Parts) (frame : ℕ) (bytes : List ℕ) (memory : List (Li
 stored_keeps old frame bytes memory free stored n system =
     ap (λ m. slice_get m n) stored ∙ get_set_other old.memory frame n bytes (owned_differs old.driver.marks n frame System system free)
 
-attach_keeps : (old new : Parts) (events id : ℕ) (told : Outcome) → AreSound old events → IsSoundDriver old.driver → AttachesDevice old id told new → waiting_in new ≡ waiting_in old
-attach_keeps old new events id told sound own does = by does.answer does.call
+attach_keeps : (old new : Parts) (events id : ℕ) (mode : Mode) (told : Outcome) → AreSound old events → IsSoundDriver old.driver → AttachesDevice old id mode told new → waiting_in new ≡ waiting_in old
+attach_keeps old new events id mode told sound own does = by does.answer does.call
   where
-    by : (answer : Result (Unit {0}) Refusal) → AnswersAttach old.driver old.memory id answer new.driver new.memory → waiting_in new ≡ waiting_in old
-    by (Ok done) (admitted, takes) = same_waiting old new events sound (ap registers_of does.iommu) (attach_keeps_ring old new events id sound own admitted takes)
+    by : (answer : Result (Unit {0}) Refusal) → AnswersAttach old.driver old.memory id mode answer new.driver new.memory → waiting_in new ≡ waiting_in old
+    by (Ok done) (admitted, takes) = same_waiting old new events sound (ap registers_of does.iommu) (attach_keeps_ring old new events id sound own admitted mode takes)
     by (Err why) (refused, driver, memory) = waits_same old new memory (ap registers_of does.iommu)
 
 grant_keeps : (old new : Parts) (events id page frame : ℕ) (rights : GrantRights) (told : Outcome) → AreSound old events → GrantsPage old id page frame rights told new → KeepsSystem old new.memory
@@ -90,18 +95,19 @@ poll_keeps old new told does = by does.answer does.call
         subst (λ o. is_gone (done_after old.driver polled) old.driver.devices o ≡ false) (sym same) refl)
     by (Err why) (refused, driver, memory) = λ n system. ap (λ m. slice_get m n) memory
 
--- the IOMMU's answer to a request leaves its registers
-answers_keep : (old new : Parts) (id : ℕ) (access : Access) (reply : Reply) → AnswersRequest old.memory old.iommu id access reply new.iommu → registers_of new.iommu ≡ registers_of old.iommu
-answers_keep old new id access reply.BadSpan answers = ap registers_of answers.1
-answers_keep old new id access reply.Busy answers = ap registers_of answers.2
-answers_keep old new id access (reply.Accepted number) answers = answers.registers
-answers_keep old new id access (reply.Fault cause) answers = answers.registers
-
-asks_keep : (old new : Parts) (id : ℕ) (access : Access) (told : Outcome) → AsksAccess old id access told new → waiting_in new ≡ waiting_in old
-asks_keep old new id access told asks = elim asks [
+-- the IOMMU's answer to a request leaves the registers of the command queue: a fault is reported in those of another queue
+asks_keep : (old new : Parts) (events id : ℕ) (access : Access) (told : Outcome) → AreSound old events → IsSoundDriver old.driver → StaysReported old.driver
+    → AsksAccess old id access told new → waiting_in new ≡ waiting_in old
+asks_keep old new events id access told sound own reported asks = elim asks [
   | inl unknown ↦ ap waiting_in unknown.same
-  | inr answered ↦ waits_same old new answered.memory (answers_keep old new id access answered.reply answered.call)
+  | inr answered ↦ by answered.driver answered.devices answered.reply answered.call
 ]
+  where
+    by : new.driver ≡ old.driver → new.devices ≡ old.devices → (reply : Reply) → AnswersRequest old.memory old.iommu id access reply new.memory new.iommu → waiting_in new ≡ waiting_in old
+    by driver devices reply.BadSpan answers = waits_same old new answers.2 (ap registers_of answers.1)
+    by driver devices reply.Busy answers = waits_same old new answers.3 (ap registers_of answers.2)
+    by driver devices (reply.Accepted number) answers = waits_same old new answers.1 answers.0.registers
+    by driver devices (reply.Fault cause) answers = report_waiting old new events sound own (report_leaves old new events id access sound reported driver devices cause answers)
 
 -- what an access that is made does to memory: a frame changes that is nobody's, or none
 performs_keep : (old : Parts) (accepted : AcceptedAccess) (memory : List (List ℕ)) → slice_get old.driver.marks accepted.frame ≡ Some None
@@ -130,17 +136,18 @@ commits_keep old new events id told sound own commits = elim commits [
 poke_keeps : (old : Parts) (events address : ℕ) (bytes : List ℕ) (told : Outcome) (memory : List (List ℕ)) → AreSound old events → StoresIfAny old address bytes told memory → KeepsSystem old memory
 poke_keeps old events address bytes told memory sound stores n system = (stores_keep old events address bytes told memory sound stores).1 n System system
 
-pub commands_stay : (old new : Parts) (before : ℕ) (event : Event) (told : Outcome) → AreSound old before → IsSoundDriver old.driver → Does old event told new → KeepsCommands event old new
-commands_stay old new before (events.Release id page) told sound own does = tt
-commands_stay old new before (events.Detach id) told sound own does = tt
-commands_stay old new before events.Fetch told sound own does = tt
-commands_stay old new before (events.Plug id kind) told sound own does = plug_keeps old new id kind told does
-commands_stay old new before (events.Attach id mode ats) told sound own does = attach_keeps old new before id told sound own does
-commands_stay old new before (events.Grant id page frame rights) told sound own does = waits_still old new before sound own (ap registers_of does.iommu) (grant_keeps old new before id page frame rights told sound does)
-commands_stay old new before events.Poll told sound own does = waits_still old new before sound own (ap registers_of does.iommu) (poll_keeps old new told does)
-commands_stay old new before (events.Read id address len) told sound own does = asks_keep old new id (read_of address len) told does
-commands_stay old new before (events.Write id address bytes) told sound own does = asks_keep old new id (write_of address bytes) told does
-commands_stay old new before (events.Commit id) told sound own does = commits_keep old new before id told sound own does
-commands_stay old new before (events.Poke address bytes) told sound own does = waits_still old new before sound own (ap registers_of does.iommu) (poke_keeps old before address bytes told new.memory sound does.memory)
-commands_stay old new before (events.Peek address len) told sound own does = ap waiting_in does.1
-commands_stay old new before (events.Free frame) told sound own does = ap waiting_in does.1
+pub commands_stay : (old new : Parts) (before : ℕ) (event : Event) (told : Outcome) → AreSound old before → IsSoundDriver old.driver → StaysReported old.driver → Does old event told new → KeepsCommands event old new
+commands_stay old new before (events.Release id page) told sound own reported does = tt
+commands_stay old new before (events.Detach id) told sound own reported does = tt
+commands_stay old new before events.Fetch told sound own reported does = tt
+commands_stay old new before (events.Plug id kind) told sound own reported does = plug_keeps old new id kind told does
+commands_stay old new before (events.Attach id mode ats) told sound own reported does = attach_keeps old new before id mode told sound own does
+commands_stay old new before (events.Grant id page frame rights) told sound own reported does = waits_still old new before sound own (ap registers_of does.iommu) (grant_keeps old new before id page frame rights told sound does)
+commands_stay old new before events.Poll told sound own reported does = waits_still old new before sound own (ap registers_of does.iommu) (poll_keeps old new told does)
+commands_stay old new before events.Faults told sound own reported does = taken_waiting old new before told sound own does
+commands_stay old new before (events.Read id address len) told sound own reported does = asks_keep old new before id (read_of address len) told sound own reported does
+commands_stay old new before (events.Write id address bytes) told sound own reported does = asks_keep old new before id (write_of address bytes) told sound own reported does
+commands_stay old new before (events.Commit id) told sound own reported does = commits_keep old new before id told sound own does
+commands_stay old new before (events.Poke address bytes) told sound own reported does = waits_still old new before sound own (ap registers_of does.iommu) (poke_keeps old before address bytes told new.memory sound does.memory)
+commands_stay old new before (events.Peek address len) told sound own reported does = ap waiting_in does.1
+commands_stay old new before (events.Free frame) told sound own reported does = ap waiting_in does.1

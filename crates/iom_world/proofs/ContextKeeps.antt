@@ -8,8 +8,8 @@ use Rattle.iom_device_dir.specs.Contents.{Content, IsSameContent, KeepsOne}
 use Rattle.iom_device_dir.specs.Located.{located_context}
 use Rattle.iom_driver.specs.declared.device.Attachment.{Attachment}
 use Rattle.iom_driver.specs.declared.device.Attachment.TheVariants.{Detached, Attached, Leaving}
-use Rattle.iom_driver.specs.declared.device.FirstStage.{FirstStage}
-use Rattle.iom_driver.specs.Devices.{attachment_of, owned_stage_of, attached_stage, owned_stage}
+use Rattle.iom_driver.specs.declared.device.Stages.{Stages}
+use Rattle.iom_driver.specs.Devices.{attachment_of, owned_stages_of, attached_stages, owned_stages}
 use Rattle.iom_driver.specs.Directory.{context_for, mode_of}
 use Rattle.iom_driver.specs.Layout.{IsLevels}
 use Rattle.iom_iommu.specs.Parts.{registers_of, contexts_of}
@@ -21,7 +21,7 @@ use Rattle.iom_world.proofs.ServedLemmas.{ServiceLaws, located, located_as}
 
 -- nothing changes, or the context of an attached device is kept
 abbrev pub KeepsAttached : Attachment → ℕ → Content ℕ Context → Content ℕ Context → Type 0
-KeepsAttached a id old new = IsSameContent old new ⊎ ((stage : FirstStage) × (a ≡ Attached stage) × KeepsOne old id (context_for stage) new)
+KeepsAttached a id old new = IsSameContent old new ⊎ ((stage : Stages) × (a ≡ Attached stage) × KeepsOne old id (context_for stage) new)
 
 keeps_in : (levels : ℕ) → IsLevels levels → (cached : Option Context) (found : Result Context Cause) (old : Content ℕ Context) (id : ℕ) (new : Content ℕ Context)
     → KeepsIn (mode_of levels) cached found old id new → KeepsLocated cached found old id new
@@ -31,7 +31,7 @@ keeps_in (suc (suc zero)) range cached found old id new is = is
 keeps_in (suc (suc (suc zero))) range cached found old id new is = is
 keeps_in (suc (suc (suc (suc n)))) range cached found old id new is = absurd (let high = range.1 in omega (arith, high))
 
-by_attachment : (levels id : ℕ) (a : Attachment) (cached : Option Context) (old new : Content ℕ Context) → KeepsLocated cached (located_as levels id (attached_stage a)) old id new → KeepsAttached a id old new
+by_attachment : (levels id : ℕ) (a : Attachment) (cached : Option Context) (old new : Content ℕ Context) → KeepsLocated cached (located_as levels id (attached_stages a)) old id new → KeepsAttached a id old new
 by_attachment levels id a (Some context) old new keeps = inl keeps
 by_attachment levels id Detached None old new keeps = inl keeps
 by_attachment levels id (Attached stage) None old new keeps = inr (stage, refl, keeps)
@@ -63,12 +63,12 @@ cached_or a id old new (inr (stage, is, inl (here, lost, others))) d there = eli
 
 -- and each is true
 contexts_true : (old : Parts) (id : ℕ) (new : Content ℕ Context) → ContextsAreTrue old → KeepsAttached (attachment_of old.driver.devices id) id (contexts_of old.iommu) new
-    → (d : ℕ) (context : Context) → new d ≡ Some context → option_map context_for (owned_stage_of old.driver.devices d) ≡ Some context
+    → (d : ℕ) (context : Context) → new d ≡ Some context → option_map context_for (owned_stages_of old.driver.devices d) ≡ Some context
 contexts_true old id new are (inl same) d context at = are d context (sym (same d) ∙ at)
 contexts_true old id new are (inr (stage, is, inr none)) d context at = are d context (sym (none.1 d) ∙ at)
 contexts_true old id new are (inr (stage, is, inl (here, lost, others))) d context at = elim (eqb_tells d id) [
   | inl e ↦
-      ap (λ n. option_map context_for (owned_stage_of old.driver.devices n)) e.1 ∙ ap (λ a. option_map context_for (owned_stage a)) is
+      ap (λ n. option_map context_for (owned_stages_of old.driver.devices n)) e.1 ∙ ap (λ a. option_map context_for (owned_stages a)) is
       ∙ sym here ∙ ap (λ n. new n) (sym e.1) ∙ at
   | inr ne ↦ elim (others d ne.1) [
     | inl same ↦ are d context (sym same ∙ at)

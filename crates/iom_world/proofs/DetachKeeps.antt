@@ -14,8 +14,8 @@ use Rattle.iom_directory.specs.Written.{without_context}
 use Rattle.iom_driver.specs.declared.answers.Ticket as answers
 use Rattle.iom_driver.specs.declared.device.Attachment.TheVariants.{Attached, Leaving}
 use Rattle.iom_driver.specs.Appends.{context_invalidation, space_invalidation, fence}
-use Rattle.iom_driver.specs.declared.device.FirstStage.{FirstStage}
-use Rattle.iom_driver.specs.Devices.{attachment_of, is_plugged, owned_stage, owned_stage_of, with_attachment}
+use Rattle.iom_driver.specs.declared.device.Stages.{Stages}
+use Rattle.iom_driver.specs.Devices.{attachment_of, is_plugged, owned_stages, owned_stages_of, with_attachment}
 use Rattle.iom_driver.specs.Directory.{context_for}
 use Rattle.iom_driver.specs.Layout.{completion_frame, completion_address, directory_frame}
 use Rattle.iom_driver.specs.Leaving.{QueuesDetach, IsToldOfDetach, DoesDetach}
@@ -31,16 +31,16 @@ use Rattle.iom_ledger.specs.Refusals.{NoneApplies}
 use Rattle.iom_ledger.specs.Shown.{Agrees, held_in, lingering_in}
 use Rattle.iom_machine.specs.declared.outcome.Outcome.{Outcome}
 use Rattle.iom_machine.specs.declared.state.Attachment.TheVariants as shown
-use Rattle.iom_machine.specs.declared.state.Mode.TheVariants.{First}
 use Rattle.iom_registers.specs.declared.registers.Registers.{Registers}
 use Rattle.iom_world.specs.Devices.{shown_attachment}
 use Rattle.iom_world.specs.Does.{DetachesDevice}
 use Rattle.iom_world.specs.Parts.{Parts}
 use Rattle.iom_world.specs.Queued.{completed_in}
-use Rattle.iom_world.specs.Read.{values_of, accesses_of}
+use Rattle.iom_world.specs.Read.{space_in, space_at, values_of, accesses_of}
 use Rattle.iom_world.specs.Sound.{AreSound, known_ids, row_ids}
 use Rattle.iom_world.proofs.DeviceLemmas.{shown_set, plugged_set, ids_set, attachment_set, attachment_other}
-use Rattle.iom_world.proofs.CachedLemmas.{numbers_owned}
+use Rattle.iom_world.proofs.CachedLemmas.{spaces_owned}
+use Rattle.iom_world.proofs.QueuedLemmas.{queued_space}
 use Rattle.iom_world.proofs.DriverKeeps.{attached_is}
 use Rattle.iom_world.proofs.DriverLemmas.{IsSoundDriver}
 use Rattle.iom_world.proofs.PollKeeps.{same_known}
@@ -79,7 +79,7 @@ module _ (old new : Parts) (events id ticket : ℕ) (sound : AreSound old events
   rung : IsRung old.iommu new.iommu
   rung =
       rung_again (without_context old.memory (root_level old.driver.levels) (directory_frame (length old.memory)) id) queues.queued.between_memory new.memory
-      old.iommu queues.queued.between_io new.iommu (context_invalidation id) (space_invalidation queues.stage.number) (fence (completion_address (length old.memory)) ticket)
+      old.iommu queues.queued.between_io new.iommu (context_invalidation id) (space_invalidation queues.stage.mode queues.stage.number) (fence (completion_address (length old.memory)) ticket)
       queues.queued.first queues.queued.rest
 
   leaves : LeavesWord old new
@@ -101,16 +101,16 @@ module _ (old new : Parts) (events id ticket : ℕ) (sound : AreSound old events
   plugged = attached_there old.driver.devices id queues.stage queues.attached
 
   abbrev commands : List QueueEntry
-  commands = stands.Command (context_invalidation id) ∷ stands.Command (space_invalidation queues.stage.number) ∷ []
+  commands = stands.Command (context_invalidation id) ∷ stands.Command (space_invalidation queues.stage.mode queues.stage.number) ∷ []
 
   -- a leaving device has its stage still
-  owned_still : (other : ℕ) → owned_stage_of new.driver.devices other ≡ owned_stage_of old.driver.devices other
+  owned_still : (other : ℕ) → owned_stages_of new.driver.devices other ≡ owned_stages_of old.driver.devices other
   owned_still other =
-      ap (λ (s : DriverState). owned_stage_of s.devices other) queues.driver
+      ap (λ (s : DriverState). owned_stages_of s.devices other) queues.driver
       ∙ elim (eqb_tells other id) [
-        | inl e ↦ ap (owned_stage_of (with_attachment old.driver.devices id (Leaving ticket queues.stage))) e.1
-            ∙ ap owned_stage (attachment_set old.driver.devices id (Leaving ticket queues.stage) plugged) ∙ sym (ap owned_stage was_attached) ∙ sym (ap (owned_stage_of old.driver.devices) e.1)
-        | inr ne ↦ ap owned_stage (attachment_other old.driver.devices id other (Leaving ticket queues.stage) ne.1)
+        | inl e ↦ ap (owned_stages_of (with_attachment old.driver.devices id (Leaving ticket queues.stage))) e.1
+            ∙ ap owned_stages (attachment_set old.driver.devices id (Leaving ticket queues.stage) plugged) ∙ sym (ap owned_stages was_attached) ∙ sym (ap (owned_stages_of old.driver.devices) e.1)
+        | inr ne ↦ ap owned_stages (attachment_other old.driver.devices id other (Leaving ticket queues.stage) ne.1)
       ]
 
   queues_ticket : QueuesTicket (values_of old) (values_of new) commands (leave_commands id)
@@ -122,18 +122,13 @@ module _ (old new : Parts) (events id ticket : ℕ) (sound : AreSound old events
         appended = (
           refl,
           (
-            record {
-              number = queues.stage.number;
-              own = ap (λ a. option_map (λ (stage : FirstStage). stage.number) (owned_stage a)) was_attached;
-              host = refl;
-              space = refl;
-              extent_of = refl;
-            },
+            queued_space (completion_address (length old.memory)) (space_at old.driver.devices) queues.stage.mode queues.stage.number id
+                (ap (λ a. option_map (λ (stage : Stages). space_in stage.mode stage.number) (owned_stages a)) was_attached),
             tt,
           ),
         );
         waiting = queues.list ∙ ap (λ t. commands_in old.memory (registers_of old.iommu)
-            ++ stands.Command (context_invalidation id) ∷ stands.Command (space_invalidation queues.stage.number) ∷ stands.Command (fence (completion_address (length old.memory)) t) ∷ []) queues.next;
+            ++ stands.Command (context_invalidation id) ∷ stands.Command (space_invalidation queues.stage.mode queues.stage.number) ∷ stands.Command (fence (completion_address (length old.memory)) t) ∷ []) queues.next;
         address = ap completion_address leaves.size;
         completed = same_completed old.memory new.memory leaves.size leaves.word;
         given = given_now;
@@ -142,7 +137,7 @@ module _ (old new : Parts) (events id ticket : ℕ) (sound : AreSound old events
         in_flight = ap (λ f. accesses_of f.rows) rung.flights;
         unplugged = λ d none. sym (ap (λ (s : DriverState). is_plugged s.devices d) queues.driver ∙ plugged_set old.driver.devices id (Leaving ticket queues.stage) d) ∙ none;
         contexts = λ d is. sym (ap is_some (rung.contexts d)) ∙ is;
-        cached = rung_cached old new sound.processing rung (numbers_owned old.driver.devices new.driver.devices owned_still);
+        cached = rung_cached old new sound.processing rung (spaces_owned old.driver.devices new.driver.devices owned_still);
       }
 
   pub detached_sound : AreSound new events
@@ -153,10 +148,10 @@ module _ (old new : Parts) (events id ticket : ℕ) (sound : AreSound old events
       (subst (λ n. n < 2 ^ 32) (sym given_now) (next_small old.driver.given (numbers_left old.driver (registers_of old.iommu) id admitted)))
       (λ other context cached. ap (option_map context_for) (owned_still other) ∙ sound.contexts other context (sym (rung.contexts other) ∙ cached))
       (∥∥₁_map sound.copies
-      (detach_scene (values_of old) (values_of new) id commands queues_ticket
+      (detach_scene (values_of old) (values_of new) id queues.stage.mode commands queues_ticket
       (ap shown_attachment was_attached)
       (λ d. ap (λ (s : DriverState). shown_attachment (attachment_of s.devices d)) queues.driver ∙ shown_set old.driver.devices id (Leaving ticket queues.stage) plugged d
-      ∙ ap (λ t. if id == d then shown.Leaving t First false else shown_attachment (attachment_of old.driver.devices d)) queues.next)
+      ∙ ap (λ t. if id == d then shown.Leaving t queues.stage.mode false else shown_attachment (attachment_of old.driver.devices d)) queues.next)
       (ungranted old.driver (registers_of old.iommu) id admitted)
       (λ h agrees. subst (λ (s : DriverState). Agrees s.ledger h) (sym queues.driver) agrees)))
 

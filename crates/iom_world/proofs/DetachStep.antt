@@ -18,7 +18,6 @@ use Rattle.iom_ledger.specs.declared.refusal.Refusal.{Refusal}
 use Rattle.iom_machine.specs.declared.outcome.Outcome.{Outcome}
 use Rattle.iom_machine.specs.declared.state.Attachment.TheVariants.{Detached, Attached}
 use Rattle.iom_machine.specs.declared.state.Device as declared
-use Rattle.iom_machine.specs.declared.state.Mode.TheVariants.{First}
 use Rattle.iom_machine.specs.declared.state.State.{State}
 use Rattle.iom_machine.specs.Devices.{device_of, with_device}
 use Rattle.iom_machine.specs.Leaving.{leaving_under}
@@ -62,8 +61,8 @@ abbrev pub left_state : State → declared.Device → ℕ → State
 left_state state device ticket = record (with_device state (record device { attachment = leaving_under ticket device.attachment })) { last_ticket = ticket }
 
 shows_left : (old new : Parts) (events id ticket : ℕ) (found : declared.Device) → AreSound old events → IsSoundDriver old.driver
-    → QueuesDetach mmio old.driver old.memory old.iommu id ticket new.driver new.memory new.iommu → new.devices ≡ old.devices
-    → (state : State) → PartsShow old state → device_of state id ≡ Some found → found.attachment ≡ Attached First false → PartsShow new (left_state state found ticket)
+    → (queues : QueuesDetach mmio old.driver old.memory old.iommu id ticket new.driver new.memory new.iommu) → new.devices ≡ old.devices
+    → (state : State) → PartsShow old state → device_of state id ≡ Some found → found.attachment ≡ Attached queues.stage.mode false → PartsShow new (left_state state found ticket)
 shows_left old new events id ticket found sound sound_driver queues devices state shows at how =
     let d = old.driver in
     let rows = (flights_of old.iommu).rows in
@@ -99,7 +98,7 @@ detach_step old new events id told sound sound_driver does state shows =
         let d = old.driver in
         let there = attached_there d.devices id queues.stage queues.attached in
         let found = found_there (device_of state id) (there_shown old events state id sound shows ∙ there) in
-        let how : found.0.attachment ≡ Attached First false = found_how state id found.0 found.1 ∙ how_shown old events state id sound shows
+        let how : found.0.attachment ≡ Attached queues.stage.mode false = found_how state id found.0 found.1 ∙ how_shown old events state id sound shows
         ∙ ap shown_attachment (attached_is (attachment_of d.devices id) queues.stage queues.attached) in (
           left_state state found.0 ticket.0,
           subst (λ t. machine.Detaches state id t (left_state state found.0 ticket.0)) (sym is) (

@@ -7,13 +7,12 @@ use Rattle.iom_copies.specs.DriverCalls.{once_confirmed as ticket_confirmed}
 use Rattle.iom_driver.specs.declared.device.Attachment.{Attachment}
 use Rattle.iom_driver.specs.declared.device.Attachment.TheVariants.{Detached, Attached, Leaving}
 use Rattle.iom_driver.specs.declared.device.Device.{Device}
-use Rattle.iom_driver.specs.declared.device.FirstStage.{FirstStage}
+use Rattle.iom_driver.specs.declared.device.Stages.{Stages}
 use Rattle.iom_driver.specs.Confirmed.{has_left, once_confirmed}
-use Rattle.iom_driver.specs.Devices.{device_of, is_plugged, attachment_of, owned_stage, with_attachment}
+use Rattle.iom_driver.specs.Devices.{device_of, is_plugged, attachment_of, owned_stages, with_attachment}
 use Rattle.iom_driver.proofs.Lists.{differs}
 use Rattle.iom_machine.specs.declared.state.Attachment as machine
 use Rattle.iom_machine.specs.declared.state.Attachment.TheVariants as shown
-use Rattle.iom_machine.specs.declared.state.Mode.TheVariants.{First}
 use Rattle.iom_world.specs.Devices.{shown_attachment}
 use Rattle.iom_world.specs.Sound.{known_ids}
 use Rattle.iom_world.proofs.ConfirmScenes.{left_after}
@@ -56,7 +55,7 @@ left_still : (first n : ℕ) (f : ℕ → machine.Attachment) (d : ℕ) (a : mac
 left_still first zero f d a is still = is
 left_still first (suc n) f d a is still = ap (ticket_confirmed (first + n + 1)) (left_still first n f d a is still) ∙ still (first + n + 1)
 
-left_leaving : (first n : ℕ) (f : ℕ → machine.Attachment) (d ticket : ℕ) (stage : FirstStage) → f d ≡ shown.Leaving ticket First false → first < ticket
+left_leaving : (first n : ℕ) (f : ℕ → machine.Attachment) (d ticket : ℕ) (stage : Stages) → f d ≡ shown.Leaving ticket stage.mode false → first < ticket
     → left_after first n f d ≡ shown_attachment (after (first + n) (Leaving ticket stage))
 left_leaving first zero f d ticket stage is above =
     let waits : nat_le ticket (first + 0) ≡ false = lt-leb ticket (first + 0) (omega (arith, above)) in
@@ -73,12 +72,12 @@ left_leaving first (suc n) f d ticket stage is above =
           ∙ elim (eqb_tells (first + n + 1) ticket) [
             | inl e ↦
                 let gone : nat_le ticket (first + suc n) ≡ true = le-leb ticket (first + suc n) (let l = e.1 in omega (arith, l)) in
-                ap (λ b. if b then shown.Detached else shown.Leaving ticket First false) e.0
+                ap (λ b. if b then shown.Detached else shown.Leaving ticket stage.mode false) e.0
                 ∙ sym (ap (λ b. shown_attachment (if b then Detached else Leaving ticket stage)) gone)
             | inr ne ↦
                 let over : first + suc n < ticket = (let far = over_next (first + n) ticket high.1 ne.1 in omega (arith, far)) in
                 let waits : nat_le ticket (first + suc n) ≡ false = lt-leb ticket (first + suc n) over in
-                ap (λ b. if b then shown.Detached else shown.Leaving ticket First false) ne.0
+                ap (λ b. if b then shown.Detached else shown.Leaving ticket stage.mode false) ne.0
                 ∙ sym (ap (λ b. shown_attachment (if b then Detached else Leaving ticket stage)) waits)
           ]
     ]
@@ -88,9 +87,9 @@ left_leaving first (suc n) f d ticket stage is above =
 
 -- so many tickets after the first number are confirmed, one after another: an attachment is then as the driver has it
 pub left_is : (first n : ℕ) (f : ℕ → machine.Attachment) (d : ℕ) (a : Attachment) → f d ≡ shown_attachment a
-    → ((ticket : ℕ) (stage : FirstStage) → a ≡ Leaving ticket stage → first < ticket) → left_after first n f d ≡ shown_attachment (after (first + n) a)
+    → ((ticket : ℕ) (stage : Stages) → a ≡ Leaving ticket stage → first < ticket) → left_after first n f d ≡ shown_attachment (after (first + n) a)
 left_is first n f d Detached is later = left_still first n f d shown.Detached is (λ ticket. refl)
-left_is first n f d (Attached stage) is later = left_still first n f d (shown.Attached First false) is (λ ticket. refl)
+left_is first n f d (Attached stage) is later = left_still first n f d (shown.Attached stage.mode false) is (λ ticket. refl)
 left_is first n f d (Leaving ticket stage) is later = left_leaving first n f d ticket stage is (later ticket stage refl)
 
 -- one device is attached so
@@ -150,7 +149,7 @@ shown_set devices id a there d = elim (eqb_tells id d) [
   | inr ne ↦ rw ne.0 (ap shown_attachment (attachment_other devices id d a (λ same. ne.1 (sym same))))
 ]
 
-pub owns_nothing : (a : Attachment) → owned_stage a ≡ None → a ≡ Detached
+pub owns_nothing : (a : Attachment) → owned_stages a ≡ None → a ≡ Detached
 owns_nothing Detached none = refl
 owns_nothing (Attached stage) none = cc
 owns_nothing (Leaving ticket stage) none = cc

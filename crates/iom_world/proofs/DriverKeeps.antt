@@ -1,11 +1,12 @@
 -- What stays true of a world when its driver is asked to attach a device, to grant a frame, and to poll.
-use Rattle.std.proofs.Common.{zero, suc, ◌≡◌, ◌≢◌, ◌^◌, ◌<◌, ◌≤◌, ◌||◌, ◌++◌, ◌∙◌, not, is_some, ℕ, Bool, true, false, List, [], ◌∷◌, length, Option, Some, None, Result, Ok, Err, slice_get, inl, inr, refl, sym, ap, subst, arith}
+use Rattle.std.proofs.Common.{zero, suc, ◌≡◌, ◌≢◌, ◌^◌, ◌<◌, ◌≤◌, ◌||◌, ◌++◌, ◌∙◌, ◌==◌, not, is_some, if◌then◌else◌, All, ℕ, Bool, true, false, List, [], ◌∷◌, length, Option, Some, None, Result, Ok, Err, slice_get, inl, inr, refl, sym, ap, subst, arith}
 use Rattle.std.specs.Option.{option_map}
 use Rattle.std.proofs.Math.Logic.{∥∥₁_map}
 use Rattle.std.proofs.lemmas.Bool.{false≢true, leb-false}
 use Rattle.std.proofs.lemmas.Bool.Decides.{eqb_tells}
 use Rattle.std.proofs.lemmas.List.{length-set}
 use Rattle.iom_base.specs.declared.grant_rights.GrantRights.{GrantRights}
+use Rattle.iom_base.specs.declared.mode.Mode.{Mode}
 use Rattle.iom_base.specs.declared.owner.Owner.{Owner}
 use Rattle.iom_base.specs.declared.owner.Owner.TheVariants.{System, OneDevice}
 use Rattle.iom_base.specs.GrantRights.{rights_of}
@@ -14,11 +15,11 @@ use Rattle.iom_device_dir.specs.Paths.{ids_below}
 use Rattle.iom_directory.specs.Pages.{HasPage, root_level}
 use Rattle.iom_driver.specs.declared.device.Attachment.{Attachment}
 use Rattle.iom_driver.specs.declared.device.Attachment.TheVariants.{Detached, Attached, Leaving}
-use Rattle.iom_driver.specs.declared.device.FirstStage.{FirstStage}
-use Rattle.iom_driver.specs.Attaching.{AnswersAttach, TakesRoot}
+use Rattle.iom_driver.specs.declared.device.Stages.{Stages}
+use Rattle.iom_driver.specs.Attaching.{AnswersAttach, TakesRoot, root_frames}
 use Rattle.iom_driver.specs.Calls.{AnswersGrant, TakesTables, IsSame}
 use Rattle.iom_driver.specs.Choices.{AreHighestFree, marked_for, cleared}
-use Rattle.iom_driver.specs.Devices.{attachment_of, is_plugged, attached_stage, owned_stage, owned_stage_of}
+use Rattle.iom_driver.specs.Devices.{attachment_of, is_plugged, attached_stages, owned_stages, owned_stages_of}
 use Rattle.iom_driver.specs.Directory.{context_for, DirectoryStands}
 use Rattle.iom_driver.specs.Layout.{IsLevels, id_limit, command_frame, completion_frame, directory_frame, completion_address}
 use Rattle.iom_driver.specs.Ready.{IsReady}
@@ -34,21 +35,24 @@ use Rattle.iom_ledger.specs.declared.refusal.Refusal.TheVariants.{NoSuchDevice, 
 use Rattle.iom_ledger.specs.Refusals.{NoneApplies}
 use Rattle.iom_ledger.specs.Shown.{Agrees, held_in, lingering_in}
 use Rattle.iom_machine.specs.declared.outcome.Outcome.{Outcome}
+use Rattle.iom_machine.specs.declared.state.Attachment.TheVariants as shown
 use Rattle.iom_phys_mem.specs.Words.{zeroed}
 use Rattle.iom_table_frames.specs.Marks.{IsFreeForTable, is_marked}
 use Rattle.iom_world.specs.Devices.{shown_attachment}
 use Rattle.iom_world.specs.Does.{AttachesDevice, GrantsPage, PollsTickets}
 use Rattle.iom_world.specs.Parts.{Parts}
 use Rattle.iom_world.specs.Queued.{completed_in}
-use Rattle.iom_world.specs.Read.{number_in, values_of, accesses_of}
+use Rattle.iom_tlb.specs.declared.space.Space.{Space}
+use Rattle.iom_world.specs.Read.{space_in, space_at, values_of, accesses_of}
 use Rattle.iom_world.specs.Sound.{AreSound, ContextsAreTrue, known_ids, row_ids}
-use Rattle.iom_world.proofs.CachedLemmas.{same_cached, numbers_same, none_numbered}
+use Rattle.iom_world.proofs.CachedLemmas.{same_cached, spaces_same, none_spaced}
 use Rattle.iom_world.proofs.DeviceLemmas.{shown_set, plugged_set, ids_set, attachment_other, owns_nothing}
 use Rattle.iom_world.proofs.DriverLemmas.{IsSoundDriver}
 use Rattle.iom_world.proofs.HungKeeps.{AreZeros, AreOnce, hung_keeps}
 use Rattle.iom_world.proofs.PollKeeps as polling
 use Rattle.iom_world.proofs.PollKeeps.{same_known}
 use Rattle.iom_world.proofs.SceneCalls.{AreSameValues, same_scene, AttachesDetached, attach_scene, GrantsOne, grant_scene}
+use Rattle.iom_world.proofs.TakenLemmas.{taken_all}
 use Rattle.iom_world.proofs.SoundLemmas.{same_completed, LeavesWord, same_iommu, sound_from, same_waiting, fixed_frames, none_at}
 
 -- small facts of tests
@@ -60,7 +64,7 @@ pub not_false : (b : Bool) → not b ≡ false → b ≡ true
 not_false true it = refl
 not_false false it = absurd (false≢true (sym it))
 
-pub attached_is : (a : Attachment) (stage : FirstStage) → attached_stage a ≡ Some stage → a ≡ Attached stage
+pub attached_is : (a : Attachment) (stage : Stages) → attached_stages a ≡ Some stage → a ≡ Attached stage
 attached_is Detached stage at = cc
 attached_is (Attached own) stage at = let same : own ≡ stage = cc in ap Attached same
 attached_is (Leaving ticket own) stage at = cc
@@ -97,14 +101,6 @@ chosen_once marks ledger named limit (suc count) [] chose = absurd chose
 chosen_once marks ledger named limit (suc count) (frame ∷ frames) chose =
     (not_among (λ t. t < frame) frame frames (are_chosen marks ledger named frame count frames chose.1).inside (λ lt. absurd (omega (arith, lt))), chosen_once marks ledger named frame count frames chose.1)
 
-once_before : (fs gs : List ℕ) → AreOnce (fs ++ gs) → AreOnce fs
-once_before [] gs once = tt
-once_before (f ∷ fs) gs once = (apart_before f fs gs once.0, once_before fs gs once.1)
-  where
-    apart_before : (n : ℕ) (fs gs : List ℕ) → NotAmong n (fs ++ gs) → NotAmong n fs
-    apart_before n [] gs apart = tt
-    apart_before n (f ∷ fs) gs apart = (apart.0, apart_before n fs gs apart.1)
-
 among_before : (n : ℕ) (fs gs : List ℕ) → NotAmong n (fs ++ gs) → NotAmong n fs
 among_before n [] gs apart = tt
 among_before n (f ∷ fs) gs apart = (apart.0, among_before n fs gs apart.1)
@@ -130,74 +126,79 @@ room_for_ids levels range = by levels range.0 range.1
     by (suc (suc (suc (suc n)))) one three = absurd (omega arith)
 
 -- ATTACH: a frame of the system's that is no page of the directory keeps its bytes
-pub root_keeps : (d : DriverState) (memory : List (List ℕ)) (id : ℕ) (d' : DriverState) (memory' : List (List ℕ)) → length memory ≡ length d.marks → IsLevels d.levels
-    → NoneApplies (why_not_attach d id) → DirectoryStands memory d.marks d.devices d.levels → TakesRoot d memory id d' memory'
+pub root_keeps : (d : DriverState) (memory : List (List ℕ)) (id : ℕ) (mode : Mode) (d' : DriverState) (memory' : List (List ℕ)) → length memory ≡ length d.marks → IsLevels d.levels
+    → NoneApplies (why_not_attach d id) → DirectoryStands memory d.marks d.devices d.levels → TakesRoot d memory id mode d' memory'
     → (f : ℕ) → slice_get d.marks f ≡ Some (Some System) → ((g : ℕ) → HasPage memory (root_level d.levels) (directory_frame (length memory)) g → f ≢ g)
     → slice_get memory' f ≡ slice_get memory f
-root_keeps d memory id d' memory' size range admitted stands takes f system apart =
+root_keeps d memory id mode d' memory' size range admitted stands takes f system apart =
     let top = root_level d.levels in
-    let taken = takes.pages ++ takes.stage.root ∷ [] in
+    let roots = root_frames mode takes.stage.root in
+    let taken = takes.pages ++ roots in
     let low : id < id_limit d.levels = leb-false (id_limit d.levels) id (none_at (why_not_attach d id) 3 _ IdTooWide refl admitted) in
     let below : id < ids_below top = subst (λ n. id < n) (room_for_ids d.levels range) low in
-    let chose = are_chosen d.marks d.ledger None (length memory) _ taken takes.chosen in
-    let not_taken = λ (g : ℕ) (of : slice_get d.marks g ≡ Some (Some System)). owned_not_chosen d.marks d.ledger None (length memory) _ g taken System size takes.chosen of in
+    let free = taken_all d memory id takes.stage.root mode takes.pages takes.chosen takes.root in
+    let inside : All (λ n. n < length memory) taken = λ k n lt. (free k n lt).0 in
+    let not_taken : (g : ℕ) → slice_get d.marks g ≡ Some (Some System) → NotAmong g taken = λ g of.
+    not_among (λ n. (n < length memory) × IsFreeForTable d.marks d.ledger None n) g taken free
+    (λ is_free. owned_differs d.marks g g System of (unmarked d.marks g (subst (λ m. g < m) size is_free.0) is_free.1.unmarked) refl) in
     let zeros : AreZeros (cleared taken memory) takes.pages =
-    zeros_where (cleared taken memory) takes.pages (λ n here. zero_among taken memory chose.inside n (among_more n takes.pages (takes.stage.root ∷ []) here)) in
+    zeros_where (cleared taken memory) takes.pages (λ n here. zero_among taken memory inside n (among_more n takes.pages roots here)) in
     ap (λ m. slice_get m f) takes.bytes
     ∙ hung_keeps memory (cleared taken memory) top (directory_frame (length memory)) id takes.pages (context_for takes.stage) f
     (λ lower g le at.
     let page : HasPage memory top (directory_frame (length memory)) g = (lower, id, le, below, at) in
     let mine = not_taken g (stands.own g page).system in
-    (bytes_stay g taken memory mine, apart g page, among_before g takes.pages (takes.stage.root ∷ []) mine))
-    zeros (once_before takes.pages (takes.stage.root ∷ []) (chosen_once d.marks d.ledger None (length memory) _ taken takes.chosen))
-    (among_before f takes.pages (takes.stage.root ∷ []) (not_taken f system))
+    (bytes_stay g taken memory mine, apart g page, among_before g takes.pages roots mine))
+    zeros (chosen_once d.marks d.ledger None (length memory) _ takes.pages takes.chosen)
+    (among_before f takes.pages roots (not_taken f system))
     ∙ bytes_stay f taken memory (not_taken f system)
 
 module _ (old new : Parts) (events id : ℕ) (sound : AreSound old events) (own : IsSoundDriver old.driver) (admitted : NoneApplies (why_not_attach old.driver id))
-    (takes : TakesRoot old.driver old.memory id new.driver new.memory) where
+    (mode : Mode) (takes : TakesRoot old.driver old.memory id mode new.driver new.memory) where
   pub attach_keeps_ring : slice_get new.memory (command_frame (length old.memory)) ≡ slice_get old.memory (command_frame (length old.memory))
   attach_keeps_ring =
       let stands = sound.ready.stand.directory sound.started in
-      root_keeps old.driver old.memory id new.driver new.memory sound.ready.stand.size own.sizes.in_range admitted stands takes
+      root_keeps old.driver old.memory id mode new.driver new.memory sound.ready.stand.size own.sizes.in_range admitted stands takes
       (command_frame (length old.memory)) (fixed_frames old events sound own).command (λ g page same. (stands.own g page).no_command (sym same))
 
   pub attach_keeps_word : slice_get new.memory (completion_frame (length old.memory)) ≡ slice_get old.memory (completion_frame (length old.memory))
   attach_keeps_word =
       let stands = sound.ready.stand.directory sound.started in
-      root_keeps old.driver old.memory id new.driver new.memory sound.ready.stand.size own.sizes.in_range admitted stands takes
+      root_keeps old.driver old.memory id mode new.driver new.memory sound.ready.stand.size own.sizes.in_range admitted stands takes
       (completion_frame (length old.memory)) (fixed_frames old events sound own).completion (λ g page same. (stands.own g page).no_completion (sym same))
 
 module _ (old new : Parts) (events id : ℕ) (sound : AreSound old events) (own : IsSoundDriver old.driver) (ready : IsReady new.driver new.memory (registers_of new.iommu))
-    (admitted : NoneApplies (why_not_attach old.driver id)) (takes : TakesRoot old.driver old.memory id new.driver new.memory)
+    (admitted : NoneApplies (why_not_attach old.driver id)) (mode : Mode) (takes : TakesRoot old.driver old.memory id mode new.driver new.memory)
     (iommu : new.iommu ≡ old.iommu) (devices : new.devices ≡ old.devices) where
   leaves_attached : LeavesWord old new
   leaves_attached = record {
-    size = ready.stand.size ∙ ap (λ (d : DriverState). length d.marks) takes.driver ∙ length-set (marked_for System takes.pages old.driver.marks) takes.stage.root (Some (OneDevice id))
+    size = ready.stand.size ∙ ap (λ (d : DriverState). length d.marks) takes.driver ∙ length-marked_for (OneDevice id) (root_frames mode takes.stage.root) (marked_for System takes.pages old.driver.marks)
         ∙ length-marked_for System takes.pages old.driver.marks ∙ sym sound.ready.stand.size;
-    word = attach_keeps_word old new events id sound own admitted takes;
+    word = attach_keeps_word old new events id sound own admitted mode takes;
   }
 
   plugged : is_plugged old.driver.devices id ≡ true
   plugged = not_false (is_plugged old.driver.devices id) (none_at (why_not_attach old.driver id) 1 _ NoSuchDevice refl admitted)
 
-  owns_none : owned_stage_of old.driver.devices id ≡ None
-  owns_none = none_of (owned_stage_of old.driver.devices id) (none_at (why_not_attach old.driver id) 2 _ AlreadyAttached refl admitted)
+  owns_none : owned_stages_of old.driver.devices id ≡ None
+  owns_none = none_of (owned_stages_of old.driver.devices id) (none_at (why_not_attach old.driver id) 2 _ AlreadyAttached refl admitted)
 
-  -- who has a number keeps it
-  numbers_attached : (other number : ℕ) → number_in old.driver.devices other ≡ Some number → number_in new.driver.devices other ≡ Some number
-  numbers_attached other number at = elim (eqb_tells other id) [
-    | inl e ↦ absurd (none_numbered old.driver.devices other number (ap (owned_stage_of old.driver.devices) e.1 ∙ owns_none) at)
-    | inr ne ↦ ap (λ (s : DriverState). number_in s.devices other) takes.driver
-        ∙ ap (λ a. option_map (λ (stage : FirstStage). stage.number) (owned_stage a)) (attachment_other old.driver.devices id other (Attached takes.stage) ne.1) ∙ at
+  -- who has an address space keeps it
+  spaces_attached : (other : ℕ) (space : Space) → space_at old.driver.devices other ≡ Some space → space_at new.driver.devices other ≡ Some space
+  spaces_attached other space at = elim (eqb_tells other id) [
+    | inl e ↦ absurd (none_spaced old.driver.devices other space (ap (owned_stages_of old.driver.devices) e.1 ∙ owns_none) at)
+    | inr ne ↦ ap (λ (s : DriverState). space_at s.devices other) takes.driver
+        ∙ ap (λ a. option_map (λ (stage : Stages). space_in stage.mode stage.number) (owned_stages a)) (attachment_other old.driver.devices id other (Attached takes.stage) ne.1) ∙ at
   ]
 
-  attaches_detached : AttachesDetached (values_of old) (values_of new) id
+  attaches_detached : AttachesDetached (values_of old) (values_of new) id mode
   attaches_detached = record {
     detached = ap shown_attachment (owns_nothing (attachment_of old.driver.devices id) owns_none);
-    attached = λ d. ap (λ (s : DriverState). shown_attachment (attachment_of s.devices d)) takes.driver ∙ shown_set old.driver.devices id (Attached takes.stage) plugged d;
+    attached = λ d. ap (λ (s : DriverState). shown_attachment (attachment_of s.devices d)) takes.driver ∙ shown_set old.driver.devices id (Attached takes.stage) plugged d
+        ∙ ap (λ m. if id == d then shown.Attached m false else shown_attachment (attachment_of old.driver.devices d)) takes.in_mode;
     agrees = λ h agrees. subst (λ (s : DriverState). Agrees s.ledger h) (sym takes.driver) agrees;
     address = ap completion_address leaves_attached.size;
-    waiting = same_waiting old new events sound (ap registers_of iommu) (attach_keeps_ring old new events id sound own admitted takes);
+    waiting = same_waiting old new events sound (ap registers_of iommu) (attach_keeps_ring old new events id sound own admitted mode takes);
     completed = same_completed old.memory new.memory leaves_attached.size leaves_attached.word;
     given = ap (λ (d : DriverState). d.given) takes.driver;
     confirmed = ap (λ (d : DriverState). d.confirmed) takes.driver;
@@ -205,17 +206,17 @@ module _ (old new : Parts) (events id : ℕ) (sound : AreSound old events) (own 
     in_flight = ap (λ i. accesses_of (flights_of i).rows) iommu;
     unplugged = λ d none. sym (ap (λ (s : DriverState). is_plugged s.devices d) takes.driver ∙ plugged_set old.driver.devices id (Attached takes.stage) d) ∙ none;
     contexts = λ d is. ap (λ i. is_some (contexts_of i d)) (sym iommu) ∙ is;
-    cached = same_cached old new iommu numbers_attached;
+    cached = same_cached old new iommu spaces_attached;
   }
 
   -- nothing was cached for a device that had no stage
   contexts_attached : ContextsAreTrue new
   contexts_attached other context cached =
-      let was : option_map context_for (owned_stage_of old.driver.devices other) ≡ Some context = sound.contexts other context (ap (λ i. contexts_of i other) (sym iommu) ∙ cached) in
+      let was : option_map context_for (owned_stages_of old.driver.devices other) ≡ Some context = sound.contexts other context (ap (λ i. contexts_of i other) (sym iommu) ∙ cached) in
       elim (eqb_tells other id) [
-        | inl e ↦ absurd (none_some (ap (option_map context_for) (sym owns_none) ∙ ap (λ k. option_map context_for (owned_stage_of old.driver.devices k)) (sym e.1) ∙ was))
-        | inr ne ↦ ap (λ (s : DriverState). option_map context_for (owned_stage_of s.devices other)) takes.driver
-            ∙ ap (λ a. option_map context_for (owned_stage a)) (attachment_other old.driver.devices id other (Attached takes.stage) ne.1) ∙ was
+        | inl e ↦ absurd (none_some (ap (option_map context_for) (sym owns_none) ∙ ap (λ k. option_map context_for (owned_stages_of old.driver.devices k)) (sym e.1) ∙ was))
+        | inr ne ↦ ap (λ (s : DriverState). option_map context_for (owned_stages_of s.devices other)) takes.driver
+            ∙ ap (λ a. option_map context_for (owned_stages a)) (attachment_other old.driver.devices id other (Attached takes.stage) ne.1) ∙ was
       ]
     where
       none_some : ◌≡◌ {A = Option Context} None (Some context) → ⊥
@@ -228,14 +229,14 @@ module _ (old new : Parts) (events id : ℕ) (sound : AreSound old events) (own 
       (subst (λ (d : DriverState). d.confirmed ≤ completed_in old.memory) (sym takes.driver) sound.confirmed)
       (subst (λ (d : DriverState). d.given < 2 ^ 32) (sym takes.driver) sound.small)
       contexts_attached
-      (∥∥₁_map sound.copies (attach_scene (values_of old) (values_of new) id attaches_detached))
+      (∥∥₁_map sound.copies (attach_scene (values_of old) (values_of new) id mode attaches_detached))
 
-pub keeps_attached : (old new : Parts) (events id : ℕ) (told : Outcome) → AreSound old events → IsSoundDriver old.driver → IsReady new.driver new.memory (registers_of new.iommu)
-    → AttachesDevice old id told new → AreSound new events
-keeps_attached old new events id told sound own ready attaches = by attaches.answer attaches.call
+pub keeps_attached : (old new : Parts) (events id : ℕ) (mode : Mode) (told : Outcome) → AreSound old events → IsSoundDriver old.driver → IsReady new.driver new.memory (registers_of new.iommu)
+    → AttachesDevice old id mode told new → AreSound new events
+keeps_attached old new events id mode told sound own ready attaches = by attaches.answer attaches.call
   where
-    by : (answer : Result (Unit {0}) Refusal) → AnswersAttach old.driver old.memory id answer new.driver new.memory → AreSound new events
-    by (Ok done) (admitted, takes) = attached_sound old new events id sound own ready admitted takes attaches.iommu attaches.devices
+    by : (answer : Result (Unit {0}) Refusal) → AnswersAttach old.driver old.memory id mode answer new.driver new.memory → AreSound new events
+    by (Ok done) (admitted, takes) = attached_sound old new events id sound own ready admitted mode takes attaches.iommu attaches.devices
     by (Err why) (refused, driver_stays, memory_stays) = rw (memory_stays, attaches.iommu, driver_stays, attaches.devices) sound
 
 -- a page that isn't busy
@@ -273,6 +274,7 @@ module _ (old new : Parts) (events id page frame : ℕ) (rights : GrantRights) (
   grants_one =
       let vacant = vacant_where old.driver id page frame admitted in
       record {
+        mode = takes.stage.mode;
         attached = ap shown_attachment (attached_is (attachment_of old.driver.devices id) takes.stage takes.attached);
         not_held = vacant.0;
         not_lingering = vacant.1;
@@ -287,7 +289,7 @@ module _ (old new : Parts) (events id page frame : ℕ) (rights : GrantRights) (
         unplugged = λ d none. sym (ap (λ (s : DriverState). is_plugged s.devices d) takes.driver) ∙ none;
         attachments = λ d. ap (λ (s : DriverState). shown_attachment (attachment_of s.devices d)) takes.driver;
         contexts = λ d is. ap (λ i. is_some (contexts_of i d)) (sym iommu) ∙ is;
-        cached = same_cached old new iommu (numbers_same old.driver.devices new.driver.devices (ap (λ (d : DriverState). d.devices) takes.driver));
+        cached = same_cached old new iommu (spaces_same old.driver.devices new.driver.devices (ap (λ (d : DriverState). d.devices) takes.driver));
       }
 
   pub granted_sound : AreSound new events
@@ -297,7 +299,7 @@ module _ (old new : Parts) (events id page frame : ℕ) (rights : GrantRights) (
       (subst (λ n. n ≤ completed_in old.memory) (sym (ap (λ (d : DriverState). d.confirmed) takes.driver)) sound.confirmed)
       (subst (λ n. n < 2 ^ 32) (sym (ap (λ (d : DriverState). d.given) takes.driver)) sound.small)
       (λ other context cached.
-      ap (λ (s : DriverState). option_map context_for (owned_stage_of s.devices other)) takes.driver ∙ sound.contexts other context (ap (λ i. contexts_of i other) (sym iommu) ∙ cached))
+      ap (λ (s : DriverState). option_map context_for (owned_stages_of s.devices other)) takes.driver ∙ sound.contexts other context (ap (λ i. contexts_of i other) (sym iommu) ∙ cached))
       (∥∥₁_map sound.copies (grant_scene (values_of old) (values_of new) id page frame (rights_of rights) grants_one))
 
 -- nothing changes but what room the driver's ledger has
@@ -318,14 +320,14 @@ roomy_sound old new events sound ready same memory iommu devices =
       unplugged = λ d none. sym (ap (λ (s : DriverState). is_plugged s.devices d) same.rest) ∙ none;
       attachments = λ d. ap (λ (s : DriverState). shown_attachment (attachment_of s.devices d)) same.rest;
       contexts = λ d is. ap (λ i. is_some (contexts_of i d)) (sym iommu) ∙ is;
-      cached = same_cached old new iommu (numbers_same old.driver.devices new.driver.devices (ap (λ (d : DriverState). d.devices) same.rest));
+      cached = same_cached old new iommu (spaces_same old.driver.devices new.driver.devices (ap (λ (d : DriverState). d.devices) same.rest));
     } in
     sound_from old new events sound (record { size = size; word = word }) (same_iommu old new iommu) (ap (λ (d : DriverState). d.started) same.rest) ready
     (same_known old new devices (ap (λ (d : DriverState). known_ids d.devices) same.rest) (ap (λ i. row_ids (flights_of i).rows) iommu) sound.known)
     (subst (λ n. n ≤ completed_in old.memory) (sym (ap (λ (d : DriverState). d.confirmed) same.rest)) sound.confirmed)
     (subst (λ n. n < 2 ^ 32) (sym (ap (λ (d : DriverState). d.given) same.rest)) sound.small)
     (λ other context cached.
-    ap (λ (s : DriverState). option_map context_for (owned_stage_of s.devices other)) same.rest ∙ sound.contexts other context (ap (λ i. contexts_of i other) (sym iommu) ∙ cached))
+    ap (λ (s : DriverState). option_map context_for (owned_stages_of s.devices other)) same.rest ∙ sound.contexts other context (ap (λ i. contexts_of i other) (sym iommu) ∙ cached))
     (∥∥₁_map sound.copies (same_scene (values_of old) (values_of new) alike))
 
 pub keeps_granted : (old new : Parts) (events id page frame : ℕ) (rights : GrantRights) (told : Outcome) → AreSound old events → IsSoundDriver old.driver

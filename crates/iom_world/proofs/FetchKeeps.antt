@@ -44,7 +44,8 @@ use Rattle.iom_tlb.specs.declared.trans_cache.Translation.{Translation}
 use Rattle.iom_tlb.specs.Content.{Content as Translations}
 use Rattle.iom_tlb.specs.Covers.{are_covering}
 use Rattle.iom_tlb.specs.Invalidations.{covers_of}
-use Rattle.iom_world.specs.Read.{number_in, values_of, accesses_of}
+use Rattle.iom_tlb.specs.declared.space.Space.{Space}
+use Rattle.iom_world.specs.Read.{space_at, values_of, accesses_of}
 use Rattle.iom_world.specs.Scenes.{HasFaithfulScene}
 use Rattle.iom_world.specs.Sound.{AreSound, row_ids}
 use Rattle.iom_world.proofs.DriverLemmas.{IsSoundDriver}
@@ -56,6 +57,7 @@ use Rattle.iom_world.proofs.SceneSteps.{KeepsGrants, DoesFirst, CountsAtHead, do
 -- whether what waits is a command of the driver's, a fence with a number from above the one to the other
 abbrev is_ours : ℕ → ℕ → ℕ → QueueEntry → Bool
 is_ours address low given (Command (IotinvalVma gscid pscid page)) = true
+is_ours address low given (Command (IotinvalGvma gscid page)) = true
 is_ours address low given (Command (IofenceC (Some store) wsi pr pw)) =
     (store.address == address) && (nat_lt low store.data && (nat_le store.data given && (not wsi && (pr && pw))))
 is_ours address low given (Command (IodirInvalDdt (Some id))) = true
@@ -69,15 +71,16 @@ rise_le low (Invalidate d extent ∷ later) high rise = rise_le low later high r
 rise_le low (Fence number ∷ later) high rise =
     let above = rise.0 in let rest = rise_le number later high rise.1 in omega (arith, above, rest)
 
-ours_queued : (address low given : ℕ) (numbers : ℕ → Option ℕ) (entry : QueueEntry) (queued : QueuedCommand) (later : List QueuedCommand) → IsQueuedAs address numbers entry queued
+ours_queued : (address low given : ℕ) (spaces : ℕ → Option Space) (entry : QueueEntry) (queued : QueuedCommand) (later : List QueuedCommand) → IsQueuedAs address spaces entry queued
     → FencesRise low (queued ∷ later) given → is_ours address low given entry ≡ true
-ours_queued address low given numbers (Command (IotinvalVma gscid pscid page)) (DropTranslations device extent) later is rise = refl
-ours_queued address low given numbers (Command (IofenceC store wsi pr pw)) (Fence number) later is rise =
+ours_queued address low given spaces (Command (IotinvalVma gscid pscid page)) (DropTranslations device extent) later is rise = refl
+ours_queued address low given spaces (Command (IotinvalGvma gscid page)) (DropTranslations device extent) later is rise = refl
+ours_queued address low given spaces (Command (IofenceC store wsi pr pw)) (Fence number) later is rise =
     let above : low < number = rise.0 in
     subst (λ c. is_ours address low given (Command c) ≡ true) (sym is)
     (rw (eq-eqb address address refl, le-leb (suc low) number above, le-leb number given (rise_le number later given rise.1)) refl)
-ours_queued address low given numbers (Command (IodirInvalDdt (Some id))) (DropContext device) later is rise = refl
-ours_queued address low given numbers entry queued later is rise = absurd is
+ours_queued address low given spaces (Command (IodirInvalDdt (Some id))) (DropContext device) later is rise = refl
+ours_queued address low given spaces entry queued later is rise = absurd is
 
 -- what a command of the driver's is
 abbrev pub IsNext : ℕ → ℕ → ℕ → Commanded → Type 0
@@ -85,7 +88,7 @@ IsNext address low given (IotinvalVma gscid pscid page) = Unit {0}
 IsNext address low given (IofenceC store wsi pr pw) = (number : ℕ) × (IofenceC store wsi pr pw ≡ fence address number) × (low < number) × (number ≤ given)
 IsNext address low given (IodirInvalDdt None) = ⊥
 IsNext address low given (IodirInvalDdt (Some id)) = Unit {0}
-IsNext address low given (IotinvalGvma gscid page) = ⊥
+IsNext address low given (IotinvalGvma gscid page) = Unit {0}
 IsNext address low given (AtsInval device range) = ⊥
 
 not_true : (b : Bool) → not b ≡ true → b ≡ false
@@ -111,7 +114,7 @@ next_of address low given (IofenceC (Some store) wsi pr pw) ours =
     )
 next_of address low given (IodirInvalDdt None) ours = absurd (false≢true ours)
 next_of address low given (IodirInvalDdt (Some id)) ours = tt
-next_of address low given (IotinvalGvma gscid page) ours = absurd (false≢true ours)
+next_of address low given (IotinvalGvma gscid page) ours = tt
 next_of address low given (AtsInval device range) ours = absurd (false≢true ours)
 
 -- what stands first in a list
@@ -130,8 +133,8 @@ module _ (old : Parts) (events : ℕ) (sound : AreSound old events) where
   in_scene : (entry : QueueEntry) (rest : List QueueEntry) → commands_in old.memory (registers_of old.iommu) ≡ entry ∷ rest → HasFaithfulScene (values_of old)
       → is_ours (completion_address (length old.memory)) (completed_in old.memory) old.driver.given entry ≡ true
   in_scene entry rest at (scene, shows, facts) =
-      let first = queued_first place (number_in old.driver.devices) entry rest scene.waiting (subst (λ l. AreQueuedAs place (number_in old.driver.devices) l scene.waiting) at shows.waiting) in
-      ours_queued place done old.driver.given (number_in old.driver.devices) entry first.0 first.1 first.3
+      let first = queued_first place (space_at old.driver.devices) entry rest scene.waiting (subst (λ l. AreQueuedAs place (space_at old.driver.devices) l scene.waiting) at shows.waiting) in
+      ours_queued place done old.driver.given (space_at old.driver.devices) entry first.0 first.1 first.3
       (subst (λ n. FencesRise n (first.0 ∷ first.1) old.driver.given) shows.completed
       (subst (λ n. FencesRise scene.completed (first.0 ∷ first.1) n) shows.last_fence
       (subst (λ l. FencesRise scene.completed l scene.last_fence) first.2 facts.order.fences)))
@@ -159,7 +162,7 @@ is_storable memory low given (IofenceC store wsi pr pw) many next =
     subst (λ s. IsStorable memory s) (sym same) (omega arith, omega (arith, many))
 is_storable memory low given (IodirInvalDdt None) many next = absurd next
 is_storable memory low given (IodirInvalDdt (Some id)) many next = tt
-is_storable memory low given (IotinvalGvma gscid page) many next = absurd next
+is_storable memory low given (IotinvalGvma gscid page) many next = tt
 is_storable memory low given (AtsInval device range) many next = absurd next
 
 -- it lies in the frame of the completion word alone
@@ -202,16 +205,16 @@ completed_after memory low given (IofenceC store wsi pr pw) many small next size
     ∙ ap (λ c. number_after (completed_in memory) c) (sym next.1)
 completed_after memory low given (IodirInvalDdt None) many small next size = absurd next
 completed_after memory low given (IodirInvalDdt (Some id)) many small next size = refl
-completed_after memory low given (IotinvalGvma gscid page) many small next size = absurd next
+completed_after memory low given (IotinvalGvma gscid page) many small next size = refl
 completed_after memory low given (AtsInval device range) many small next size = absurd next
 
 -- the registers once it is done: ring and directory are where they were, and processing goes on
 ring_kept : (r : Registers) (command : Commanded) (address low given : ℕ) → IsNext address low given command → KeepsRing r (with_done r command) × (is_processing_commands (with_done r command) ≡ is_processing_commands r)
-ring_kept r (IotinvalVma gscid pscid page) address low given next = (record { on = refl; base = refl; entries = refl; mode = refl; root = refl }, refl)
+ring_kept r (IotinvalVma gscid pscid page) address low given next = (record { on = refl; base = refl; entries = refl; faults_on = refl; faults_base = refl; faults_head = refl; faults_tail = refl; mode = refl; root = refl }, refl)
 ring_kept r (IofenceC store wsi pr pw) address low given next =
-    subst (λ c. KeepsRing r (with_done r c) × (is_processing_commands (with_done r c) ≡ is_processing_commands r)) (sym next.1) (record { on = refl; base = refl; entries = refl; mode = refl; root = refl }, refl)
-ring_kept r (IodirInvalDdt device) address low given next = (record { on = refl; base = refl; entries = refl; mode = refl; root = refl }, refl)
-ring_kept r (IotinvalGvma gscid page) address low given next = absurd next
+    subst (λ c. KeepsRing r (with_done r c) × (is_processing_commands (with_done r c) ≡ is_processing_commands r)) (sym next.1) (record { on = refl; base = refl; entries = refl; faults_on = refl; faults_base = refl; faults_head = refl; faults_tail = refl; mode = refl; root = refl }, refl)
+ring_kept r (IodirInvalDdt device) address low given next = (record { on = refl; base = refl; entries = refl; faults_on = refl; faults_base = refl; faults_head = refl; faults_tail = refl; mode = refl; root = refl }, refl)
+ring_kept r (IotinvalGvma gscid page) address low given next = (record { on = refl; base = refl; entries = refl; faults_on = refl; faults_base = refl; faults_head = refl; faults_tail = refl; mode = refl; root = refl }, refl)
 ring_kept r (AtsInval device range) address low given next = absurd next
 
 -- the number doesn't fall
@@ -221,7 +224,7 @@ more_done address low given before (IofenceC store wsi pr pw) same next =
     let above : low < next.0 = next.2 in
     subst (λ c. before ≤ number_after before c) (sym next.1) (omega (arith, same, above))
 more_done address low given before (IodirInvalDdt device) same next = omega arith
-more_done address low given before (IotinvalGvma gscid page) same next = absurd next
+more_done address low given before (IotinvalGvma gscid page) same next = omega arith
 more_done address low given before (AtsInval device range) same next = absurd next
 
 -- what it does to the completion word, as scenes say it
@@ -229,7 +232,7 @@ done_as : (address low given before after : ℕ) (command : Commanded) → IsNex
 done_as address low given before after (IotinvalVma gscid pscid page) next is = is
 done_as address low given before after (IofenceC store wsi pr pw) next is = λ place number same. is ∙ ap (λ c. number_after before c) same
 done_as address low given before after (IodirInvalDdt device) next is = is
-done_as address low given before after (IotinvalGvma gscid page) next is = absurd next
+done_as address low given before after (IotinvalGvma gscid page) next is = is
 done_as address low given before after (AtsInval device range) next is = absurd next
 
 -- contexts that are cached after it were cached before
@@ -326,7 +329,7 @@ keeps_done old new events command sound own stays fetches driver devices =
       confirmed = ap (λ (d : DriverState). d.confirmed) driver;
       plugged = λ id. ap (λ (d : DriverState). is_plugged d.devices id) driver;
       attachments = λ id. ap (λ (d : DriverState). shown_attachment (attachment_of d.devices id)) driver;
-      numbers = λ id. ap (λ (d : DriverState). number_in d.devices id) driver;
+      spaces = λ id. ap (λ (d : DriverState). space_at d.devices id) driver;
     } in
     let does : DoesFirst (values_of old) (values_of new) command = record {
       keeps = grants;
@@ -397,7 +400,7 @@ keeps_counted old events sound waits = record {
 
     counts : CountsAtHead (values_of old) (values_of (record old { iommu = with_registers old.iommu (registers_of old.iommu) (Some (counted_in old.iommu)) }))
     counts = record {
-      keeps = record { ledger = refl; address = refl; given = refl; confirmed = refl; plugged = λ d. refl; attachments = λ d. refl; numbers = λ d. refl };
+      keeps = record { ledger = refl; address = refl; given = refl; confirmed = refl; plugged = λ d. refl; attachments = λ d. refl; spaces = λ d. refl };
       waiting = refl;
       head = head;
       completed = refl;

@@ -4,10 +4,10 @@ use Rattle.std.specs.List.{IsDistinct}
 use Rattle.iom_base.specs.declared.grant_rights.GrantRights.{GrantRights}
 use Rattle.iom_base.specs.declared.owner.Owner.TheVariants.{OneDevice}
 use Rattle.iom_base.specs.GrantRights.{rights_of}
-use Rattle.iom_driver.specs.declared.device.FirstStage.{FirstStage}
+use Rattle.iom_driver.specs.declared.device.Stages.{Stages}
 use Rattle.iom_driver.specs.Calls.{AnswersGrant, TakesTables, LacksTables, granted_leaf}
 use Rattle.iom_driver.specs.Choices.{marked_for, cleared}
-use Rattle.iom_driver.specs.Devices.{is_plugged, stage_of}
+use Rattle.iom_driver.specs.Devices.{is_plugged, stages_of}
 use Rattle.iom_driver.specs.Reasons.{why_not_grant, granting_reasons}
 use Rattle.iom_driver.specs.State.{DriverState}
 use Rattle.iom_driver.proofs.Chosen.{are_chosen}
@@ -41,8 +41,8 @@ use Rattle.iom_world.proofs.StayLemmas.{shows_still, not_owned, length-mapped}
 -- THE REASONS
 
 -- where no reason applies the device is attached
-attached_then : (started there : Bool) (stage : Option FirstStage) (later : List (Bool × Refusal))
-    → first_that_applies ((not started, NotStarted) ∷ (not there, NoSuchDevice) ∷ (is_none stage, NotAttached) ∷ later) ≡ None → (found : FirstStage) × (stage ≡ Some found)
+attached_then : (started there : Bool) (stage : Option Stages) (later : List (Bool × Refusal))
+    → first_that_applies ((not started, NotStarted) ∷ (not there, NoSuchDevice) ∷ (is_none stage, NotAttached) ∷ later) ≡ None → (found : Stages) × (stage ≡ Some found)
 attached_then false there stage later none = cc
 attached_then true false stage later none = cc
 attached_then true true None later none = cc
@@ -62,7 +62,7 @@ fewer_than_two old state frame count shows few lacks numbers distinct free =
     known : (n : ℕ) → IsFreeBesides state (Some frame) n → (n < length old.memory) × IsFreeForTable old.driver.marks old.driver.ledger (Some frame) n
     known n is_free = free_in_world old.memory old.driver.marks old.driver.ledger state (Some frame) n shows.ledger shows.frames (named n is_free.1) is_free.0
 
-may_lack_tables : (old : Parts) (state : State) (id page frame : ℕ) (why : Refusal) (stage : FirstStage) → PartsShow old state → stage_of old.driver.devices id ≡ Some stage
+may_lack_tables : (old : Parts) (state : State) (id page frame : ℕ) (why : Refusal) (stage : Stages) → PartsShow old state → stages_of old.driver.devices id ≡ Some stage
     → LacksTables old.driver old.memory id page frame why → MayRefuseGrant state frame why
 may_lack_tables old state id page frame NoFrames stage shows attached lacks =
     fewer_than_two old state frame (missing_for old.memory stage.root page) shows (missing_two old.memory stage.root page)
@@ -136,7 +136,7 @@ grant_step old new events id page frame rights told sound does state shows = by 
             refused_as (why_not_grant d id page frame) (refusals.grant_reasons state id page frame) (LacksTables d old.memory id page frame) (MayRefuseGrant state frame) why
                 (grant_first old events state id page frame sound shows)
                 (λ none.
-                let stage = attached_then d.started (is_plugged d.devices id) (stage_of d.devices id) (granting_reasons d id page frame) none in
+                let stage = attached_then d.started (is_plugged d.devices id) (stages_of d.devices id) (granting_reasons d id page frame) none in
                 may_lack_tables old state id page frame why stage.0 shows stage.1) call.0,
             refl,
           ),

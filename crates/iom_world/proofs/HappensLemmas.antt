@@ -30,14 +30,18 @@ use Rattle.iom_world.proofs.ReleaseStep.{release_step}
 use Rattle.iom_world.proofs.RequestStep.{request_step}
 use Rattle.iom_world.proofs.RunLemmas.{no_choice, frame_chosen, frames_taken, pages_taken}
 use Rattle.iom_world.proofs.ServedLemmas.{ServiceLaws}
+use Rattle.iom_world.proofs.AskedLemmas.{service_laws}
+use Rattle.iom_world.proofs.GuestMay.{guest_tables_for}
+use Rattle.iom_world.proofs.PartsLemmas.{StaysReported, reported_of}
+use Rattle.iom_world.proofs.ReportKeeps.{taken_step}
 
 -- a step by the event
-module _ (laws : ServiceLaws) (old new : Parts) (counted before : ℕ) (sound : AreSound old before) (own : IsSoundDriver old.driver) (sound' : AreSound new counted) where
+module _ (laws : ServiceLaws) (old new : Parts) (counted before : ℕ) (sound : AreSound old before) (own : IsSoundDriver old.driver) (reported : StaysReported old.driver) (sound' : AreSound new counted) where
   steps : (event : Event) (told : Outcome) → IsEvent event → AddressFits event → Does old event told new → (state : State) → PartsShow old state → (next : State) × Step state event told next × PartsShow new next
   steps (events.Plug id kind) told may fits does state shows =
       let step = plug_step old new before id kind told sound does state shows in (step.0, (no_choice, step.1), step.2)
   steps (events.Attach id mode ats) told may fits does state shows =
-      let step = attach_step old new before id told sound own does state shows in (step.2, (pages_taken step.0 step.1, rw (may.0, may.1) step.3), step.4)
+      let step = attach_step old new before id mode told sound own does state shows in (step.2, (pages_taken step.0 step.1, rw may step.3), step.4)
   steps (events.Detach id) told may fits does state shows =
       let step = detach_step old new before id told sound own does state shows in (step.0, (no_choice, step.1), step.2)
   steps (events.Grant id page frame rights) told may fits does state shows =
@@ -48,10 +52,12 @@ module _ (laws : ServiceLaws) (old new : Parts) (counted before : ℕ) (sound : 
       let step = fetch_step old new before told sound own does state shows in (step.0, (no_choice, step.1), step.2)
   steps events.Poll told may fits does state shows =
       let step = poll_step old new before counted told sound own sound' does (each_may new counted sound') state shows in (step.0, (no_choice, step.1), step.2)
+  steps events.Faults told may fits does state shows =
+      let step = taken_step old new before told sound does state shows in (state, (no_choice, step.0), step.1)
   steps (events.Read id address len) told may fits does state shows =
-      let step = request_step laws old new before id (read_of address len) told sound own fits does state shows in (step.1, (frame_chosen step.0, step.2), step.3)
+      let step = request_step laws old new before id (read_of address len) told sound own reported fits does state shows in (step.1, (frame_chosen step.0, step.2), step.3)
   steps (events.Write id address bytes) told may fits does state shows =
-      let step = request_step laws old new before id (write_of address bytes) told sound own fits does state shows in (step.1, (frame_chosen step.0, step.2), step.3)
+      let step = request_step laws old new before id (write_of address bytes) told sound own reported fits does state shows in (step.1, (frame_chosen step.0, step.2), step.3)
   steps (events.Commit id) told may fits does state shows =
       let step = commit_step old new before id told sound does state shows in (step.0, (no_choice, step.1), step.2)
   steps (events.Poke address bytes) told may fits does state shows =
@@ -64,11 +70,13 @@ module _ (laws : ServiceLaws) (old new : Parts) (counted before : ℕ) (sound : 
 -- WHAT HAPPENS
 pub happens : LawsBelow → (old new : World) (event : Event) (told : Outcome) → IsEvent event → AddressFits event → Does (parts_of old) event told (parts_of new) → new.events ≡ old.events + 1 → Happens old event told new
 happens laws old new event told may fits does counted =
-    let service : ServiceLaws = record { ends = laws.ends; reaches = laws.reaches; faults = laws.faults; one_end = laws.one_end } in
+    let service = service_laws laws in
+    let reported = reported_of laws.reported old.driver in
     record {
-      step = steps service (parts_of old) (parts_of new) new.events old.events old.sound (sound_driver old.driver) new.sound event told may fits does;
+      step = steps service (parts_of old) (parts_of new) new.events old.events old.sound (sound_driver old.driver) reported new.sound event told may fits does;
       does = does;
-      commands = commands_stay (parts_of old) (parts_of new) old.events event told old.sound (sound_driver old.driver) does;
+      commands = commands_stay (parts_of old) (parts_of new) old.events event told old.sound (sound_driver old.driver) reported does;
+      guest = λ state shows. guest_tables_for service (parts_of old) old.events event old.sound (sound_driver old.driver) state shows;
       refused = refused_same (parts_of old) (parts_of new) event told does;
       events = counted;
     }

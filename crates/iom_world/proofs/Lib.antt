@@ -21,6 +21,7 @@ pub mod FlightMay
 pub mod FrameLemmas
 pub mod FreeLemmas
 pub mod GrantStep
+pub mod GuestMay
 pub mod HappensLemmas
 pub mod HistoryMay
 pub mod HungKeeps
@@ -43,6 +44,7 @@ pub mod RefusalLemmas
 pub mod RefusedSame
 pub mod ReleaseKeeps
 pub mod ReleaseStep
+pub mod ReportKeeps
 pub mod RequestKeeps
 pub mod RequestStep
 pub mod RowLemmas
@@ -55,4 +57,6 @@ pub mod SoundFrom
 pub mod SoundLemmas
 pub mod StartLemmas
 pub mod StayLemmas
+pub mod TakenLemmas
+pub mod WalkLemmas
 pub mod StoreLemmas

@@ -1,7 +1,10 @@
 -- The parts of a world by what each of them is, and the driver's law for a state.
-use Rattle.std.proofs.Common.{◌≡◌, ◌∙◌, ℕ, List, ap}
+use Rattle.std.proofs.Common.{◌≡◌, ◌∙◌, ℕ, true, List, ap}
 use Rattle.iom_driver.specs.declared.driver.Driver.{Driver}
-use Rattle.iom_driver.specs.Laws.{KeepsReserved, KeepsRing, ReadyStays}
+use Rattle.iom_driver.specs.Laws.{KeepsReserved, KeepsRing, ReadyStays, LeavesAllElse, ReadyAfterRecord}
+use Rattle.iom_fault_queue.specs.declared.ring.Put.{Put}
+use Rattle.iom_fault_queue.specs.Calls.{PutsRecord}
+use Rattle.iom_fault_queue.specs.Fields.{Fields}
 use Rattle.iom_driver.specs.Ready.{IsReady}
 use Rattle.iom_driver.specs.Seen.{state_of}
 use Rattle.iom_driver.specs.State.{DriverState}
@@ -28,3 +31,11 @@ StaysReady d = (old new : List (List ℕ)) (r s : Registers) → IsReady d old r
 
 pub stays_of : ReadyStays → (driver : Driver) → StaysReady (state_of driver)
 stays_of law driver old new r s ready reserved ring = law driver old new r s ready reserved ring
+
+-- and of a state in which a fault is reported
+abbrev pub StaysReported : DriverState → Type 0
+StaysReported d = (old new : List (List ℕ)) (r s : Registers) (fields : Fields) (answer : Put) → IsReady d old r → d.started ≡ true → PutsRecord old r fields answer new s
+    → IsReady d new s × LeavesAllElse old new r s
+
+pub reported_of : ReadyAfterRecord → (driver : Driver) → StaysReported (state_of driver)
+reported_of law driver old new r s fields answer ready started puts = law driver old new r s fields answer ready started puts

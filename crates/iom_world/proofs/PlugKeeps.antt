@@ -5,8 +5,8 @@ use Rattle.std.proofs.Math.Logic.{∥∥₁_map}
 use Rattle.std.proofs.lemmas.Bool.{false≢true, eq-eqb}
 use Rattle.iom_driver.specs.declared.device.Device as driver
 use Rattle.iom_driver.specs.Calls.{AnswersPlug}
-use Rattle.iom_driver.specs.declared.device.FirstStage.{FirstStage}
-use Rattle.iom_driver.specs.Devices.{device_of, is_plugged, attachment_of, owned_stage, detached}
+use Rattle.iom_driver.specs.declared.device.Stages.{Stages}
+use Rattle.iom_driver.specs.Devices.{device_of, is_plugged, attachment_of, owned_stages, detached}
 use Rattle.iom_driver.specs.Directory.{context_for}
 use Rattle.iom_driver.specs.Layout.{command_frame, completion_frame, completion_address}
 use Rattle.iom_driver.specs.Ready.{IsReady}
@@ -29,7 +29,7 @@ use Rattle.iom_world.specs.Does.{PlugsDevice, AddsRow, new_device, devices_after
 use Rattle.iom_tlb.specs.Chosen.{ioatc}
 use Rattle.iom_world.specs.Parts.{Parts}
 use Rattle.iom_world.specs.Queued.{completed_in}
-use Rattle.iom_world.specs.Read.{values_of, access_of, accesses_of}
+use Rattle.iom_world.specs.Read.{space_in, values_of, access_of, accesses_of}
 use Rattle.iom_world.specs.Sound.{AreSound, AreKnown, HaveOwnIds, known_ids, ids_of, row_ids}
 use Rattle.iom_world.proofs.SceneCalls.{PlugsOne, plug_scene}
 use Rattle.iom_world.proofs.SoundLemmas.{same_completed, LeavesWord, sound_from, same_waiting, none_at}
@@ -140,7 +140,7 @@ module _ (old new : Parts) (events id : ℕ) (kind : DeviceKind) (sound : AreSou
     attachments = λ d. ap shown_attachment (attachments_now d);
     contexts = λ d is. sym (ap is_some (contexts_now d)) ∙ is;
     cached = record {
-      numbers = λ other number at. ap (λ a. option_map (λ (stage : FirstStage). stage.number) (owned_stage a)) (attachments_now other) ∙ at;
+      spaces = λ other space at. ap (λ a. option_map (λ (stage : Stages). space_in stage.mode stage.number) (owned_stages a)) (attachments_now other) ∙ at;
       translations = λ key translation at. sym (ap (λ c. ioatc.content c key) row.translations) ∙ at;
       stock = row.stock;
     };
@@ -153,7 +153,7 @@ module _ (old new : Parts) (events id : ℕ) (kind : DeviceKind) (sound : AreSou
       (ap (λ (d : DriverState). d.started) driver_now) ready known_now
       (subst (λ (d : DriverState). d.confirmed ≤ completed_in old.memory) (sym driver_now) sound.confirmed)
       (subst (λ (d : DriverState). d.given < 2 ^ 32) (sym driver_now) sound.small)
-      (λ other context cached. ap (λ a. option_map context_for (owned_stage a)) (attachments_now other) ∙ sound.contexts other context (sym (contexts_now other) ∙ cached))
+      (λ other context cached. ap (λ a. option_map context_for (owned_stages a)) (attachments_now other) ∙ sound.contexts other context (sym (contexts_now other) ∙ cached))
       (∥∥₁_map sound.copies (plug_scene (values_of old) (values_of new) id kind plugs_one))
 
 pub keeps_plugged : (old new : Parts) (events id : ℕ) (kind : DeviceKind) (told : Outcome) → AreSound old events → IsReady new.driver new.memory (registers_of new.iommu)

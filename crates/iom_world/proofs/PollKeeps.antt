@@ -9,9 +9,9 @@ use Rattle.iom_base.specs.declared.owner.Owner.TheVariants.{System}
 use Rattle.iom_driver.specs.declared.answers.Polled.{Polled}
 use Rattle.iom_driver.specs.declared.device.Attachment.{Attachment}
 use Rattle.iom_driver.specs.declared.device.Attachment.TheVariants.{Detached, Attached, Leaving}
-use Rattle.iom_driver.specs.declared.device.FirstStage.{FirstStage}
+use Rattle.iom_driver.specs.declared.device.Stages.{Stages}
 use Rattle.iom_driver.specs.Confirmed.{has_left, is_gone}
-use Rattle.iom_driver.specs.Devices.{attachment_of, is_plugged, owned_stage, owned_stage_of}
+use Rattle.iom_driver.specs.Devices.{attachment_of, is_plugged, owned_stages, owned_stages_of}
 use Rattle.iom_driver.specs.Directory.{context_for}
 use Rattle.iom_driver.specs.Layout.{command_frame, completion_frame, completion_address}
 use Rattle.iom_driver.specs.Polling.{AnswersPoll, ConfirmsDone, done_after}
@@ -24,12 +24,13 @@ use Rattle.iom_world.specs.Devices.{shown_attachment}
 use Rattle.iom_world.specs.Does.{PollsTickets}
 use Rattle.iom_world.specs.Parts.{Parts}
 use Rattle.iom_world.specs.Queued.{completed_in}
-use Rattle.iom_world.specs.Read.{number_in, values_of, accesses_of}
+use Rattle.iom_tlb.specs.declared.space.Space.{Space}
+use Rattle.iom_world.specs.Read.{space_in, space_at, values_of, accesses_of}
 use Rattle.iom_world.specs.Scenes.{HasFaithfulScene}
 use Rattle.iom_world.specs.Sound.{AreSound, AreKnown, ContextsAreTrue, known_ids, ids_of, row_ids}
 use Rattle.iom_world.proofs.DeviceLemmas.{after, attachment_confirmed, plugged_confirmed, ids_confirmed, left_is}
 use Rattle.iom_world.proofs.DriverLemmas.{IsSoundDriver}
-use Rattle.iom_world.proofs.CachedLemmas.{none_numbered}
+use Rattle.iom_world.proofs.CachedLemmas.{none_spaced}
 use Rattle.iom_world.proofs.SceneCalls.{HasLeft, ConfirmsSome, poll_scene}
 use Rattle.iom_world.proofs.SoundLemmas.{completed_given, detached_uncached, same_completed, LeavesWord, same_iommu, sound_from, same_waiting, fixed_frames}
 
@@ -71,24 +72,24 @@ module _ (old new : Parts) (events : ℕ) (polled : Polled) (sound : AreSound ol
   plugged_now : (id : ℕ) → is_plugged new.driver.devices id ≡ is_plugged old.driver.devices id
   plugged_now id = ap (λ (d : DriverState). is_plugged d.devices id) confirms.driver ∙ plugged_confirmed (done_after old.driver polled) old.driver.devices id
 
-  -- who has a number keeps it, or has left
-  numbers_polled : (id number : ℕ) (a : Attachment) → attachment_of old.driver.devices id ≡ a → number_in old.driver.devices id ≡ Some number
-      → (number_in new.driver.devices id ≡ Some number) ⊎ HasLeft (shown_attachment (attachment_of old.driver.devices id)) (old.driver.confirmed + polled.count)
-  numbers_polled id number Detached is at = absurd (none_numbered old.driver.devices id number (ap owned_stage is) at)
-  numbers_polled id number (Attached stage) is at = inl (
-      ap (λ a. option_map (λ (s : FirstStage). s.number) (owned_stage a)) (attachment_now id ∙ ap (after (done_after old.driver polled)) is)
-      ∙ sym (ap (λ a. option_map (λ (s : FirstStage). s.number) (owned_stage a)) is) ∙ at)
-  numbers_polled id number (Leaving ticket stage) is at = by (nat_le ticket (done_after old.driver polled)) refl
+  -- who has an address space keeps it, or has left
+  spaces_polled : (id : ℕ) (space : Space) (a : Attachment) → attachment_of old.driver.devices id ≡ a → space_at old.driver.devices id ≡ Some space
+      → (space_at new.driver.devices id ≡ Some space) ⊎ HasLeft (shown_attachment (attachment_of old.driver.devices id)) (old.driver.confirmed + polled.count)
+  spaces_polled id space Detached is at = absurd (none_spaced old.driver.devices id space (ap owned_stages is) at)
+  spaces_polled id space (Attached stage) is at = inl (
+      ap (λ a. option_map (λ (s : Stages). space_in s.mode s.number) (owned_stages a)) (attachment_now id ∙ ap (after (done_after old.driver polled)) is)
+      ∙ sym (ap (λ a. option_map (λ (s : Stages). space_in s.mode s.number) (owned_stages a)) is) ∙ at)
+  spaces_polled id space (Leaving ticket stage) is at = by (nat_le ticket (done_after old.driver polled)) refl
     where
       by : (b : Bool) → nat_le ticket (done_after old.driver polled) ≡ b
-          → (number_in new.driver.devices id ≡ Some number) ⊎ HasLeft (shown_attachment (attachment_of old.driver.devices id)) (old.driver.confirmed + polled.count)
+          → (space_at new.driver.devices id ≡ Some space) ⊎ HasLeft (shown_attachment (attachment_of old.driver.devices id)) (old.driver.confirmed + polled.count)
       by true gone =
           let low : ticket ≤ old.driver.confirmed + polled.count = leb-true ticket (old.driver.confirmed + polled.count) gone in
           inr (subst (λ a. HasLeft (shown_attachment a) (old.driver.confirmed + polled.count)) (sym is) low)
       by false stays = inl (
-          ap (λ a. option_map (λ (s : FirstStage). s.number) (owned_stage a))
+          ap (λ a. option_map (λ (s : Stages). space_in s.mode s.number) (owned_stages a))
           (attachment_now id ∙ ap (after (done_after old.driver polled)) is ∙ ap (λ b. if b then Detached else Leaving ticket stage) stays)
-          ∙ sym (ap (λ a. option_map (λ (s : FirstStage). s.number) (owned_stage a)) is) ∙ at)
+          ∙ sym (ap (λ a. option_map (λ (s : Stages). space_in s.mode s.number) (owned_stages a)) is) ∙ at)
 
   confirms_some : ConfirmsSome (values_of old) (values_of new) polled.count (old.driver.given - completed_in old.memory)
   confirms_some =
@@ -112,7 +113,7 @@ module _ (old new : Parts) (events : ℕ) (polled : Polled) (sound : AreSound ol
         in_flight = ap (λ i. accesses_of (flights_of i).rows) iommu;
         unplugged = λ d none. sym (plugged_now d) ∙ none;
         contexts = λ d is. ap (λ i. is_some (contexts_of i d)) (sym iommu) ∙ is;
-        numbers = λ d number at. numbers_polled d number (attachment_of old.driver.devices d) refl at;
+        spaces = λ d space at. spaces_polled d space (attachment_of old.driver.devices d) refl at;
         translations = ap translations_of iommu;
         stock = ap stock_of iommu;
       }
@@ -120,13 +121,13 @@ module _ (old new : Parts) (events : ℕ) (polled : Polled) (sound : AreSound ol
   contexts_true : ∥ HasFaithfulScene (values_of new) ∥₁ → ContextsAreTrue new
   contexts_true copies id context cached = by (has_left (done_after old.driver polled) (attachment_of old.driver.devices id)) refl
     where
-      by : (b : Bool) → has_left (done_after old.driver polled) (attachment_of old.driver.devices id) ≡ b → option_map context_for (owned_stage_of new.driver.devices id) ≡ Some context
+      by : (b : Bool) → has_left (done_after old.driver polled) (attachment_of old.driver.devices id) ≡ b → option_map context_for (owned_stages_of new.driver.devices id) ≡ Some context
       by true gone =
           absurd (detached_uncached new id context copies cached
           (ap shown_attachment (attachment_now id) ∙ ap (λ b. shown_attachment (if b then Detached else attachment_of old.driver.devices id)) gone))
       by false stays =
-          ap (λ a. option_map context_for (owned_stage a)) (attachment_now id)
-          ∙ ap (λ b. option_map context_for (owned_stage (if b then Detached else attachment_of old.driver.devices id))) stays
+          ap (λ a. option_map context_for (owned_stages a)) (attachment_now id)
+          ∙ ap (λ b. option_map context_for (owned_stages (if b then Detached else attachment_of old.driver.devices id))) stays
           ∙ sound.contexts id context (ap (λ i. contexts_of i id) (sym iommu) ∙ cached)
 
   pub polled_sound : AreSound new events

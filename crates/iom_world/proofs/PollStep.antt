@@ -9,7 +9,7 @@ use Rattle.iom_driver.specs.declared.answers.Polled.{Polled}
 use Rattle.iom_driver.specs.declared.device.Attachment as owned
 use Rattle.iom_driver.specs.declared.device.Attachment.TheVariants as attached
 use Rattle.iom_driver.specs.declared.device.Device as known
-use Rattle.iom_driver.specs.declared.device.FirstStage.{FirstStage}
+use Rattle.iom_driver.specs.declared.device.Stages.{Stages}
 use Rattle.iom_driver.specs.Confirmed as driver
 use Rattle.iom_driver.specs.Devices.{attachment_of}
 use Rattle.iom_driver.specs.Polling.{AnswersPoll, ConfirmsDone}
@@ -30,7 +30,6 @@ use Rattle.iom_machine.specs.declared.outcome.Outcome.TheVariants.{Confirmed, No
 use Rattle.iom_machine.specs.declared.state.Attachment.{Attachment}
 use Rattle.iom_machine.specs.declared.state.Attachment.TheVariants.{Detached, Leaving}
 use Rattle.iom_machine.specs.declared.state.Frame.{Frame}
-use Rattle.iom_machine.specs.declared.state.Mode.TheVariants.{First}
 use Rattle.iom_machine.specs.declared.state.State.{State}
 use Rattle.iom_machine.specs.Machine as machine
 use Rattle.iom_machine.specs.Devices.{EachInFlightMay}
@@ -105,14 +104,14 @@ left_as h done (attached.Leaving ticket stage) same = same
 once_as : (h : History) (done : ℕ) (how : owned.Attachment) → ConfirmsAs h done how → once_confirmed h (shown_attachment how) ≡ shown_attachment (after done how)
 once_as h done attached.Detached same = refl
 once_as h done (attached.Attached stage) same = refl
-once_as h done (attached.Leaving ticket stage) same = ap (λ (b : Bool). if b then Detached else Leaving ticket First false) same ∙ by (nat_le ticket done)
+once_as h done (attached.Leaving ticket stage) same = ap (λ (b : Bool). if b then Detached else Leaving ticket stage.mode false) same ∙ by (nat_le ticket done)
   where
-    by : (b : Bool) → ◌≡◌ {A = Attachment} (if b then Detached else Leaving ticket First false) (shown_attachment (if b then attached.Detached else attached.Leaving ticket stage))
+    by : (b : Bool) → ◌≡◌ {A = Attachment} (if b then Detached else Leaving ticket stage.mode false) (shown_attachment (if b then attached.Detached else attached.Leaving ticket stage))
     by true = refl
     by false = refl
 
 confirmed_as : (h : History) (confirmed n given : ℕ) (how : owned.Attachment) → ((ticket : ℕ) → confirmed < ticket → confirms h ticket ≡ false)
-    → ((ticket : ℕ) (stage : FirstStage) → how ≡ attached.Leaving ticket stage → (confirmed < ticket) × (ticket ≤ given))
+    → ((ticket : ℕ) (stage : Stages) → how ≡ attached.Leaving ticket stage → (confirmed < ticket) × (ticket ≤ given))
     → ConfirmsAs (confirmed_from (confirmed + 1) n h) (confirmed + n) how
 confirmed_as h confirmed n given attached.Detached none leaves = tt
 confirmed_as h confirmed n given (attached.Attached stage) none leaves = tt

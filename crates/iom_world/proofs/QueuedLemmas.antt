@@ -1,55 +1,83 @@
 -- What waits: queues one after the other, their first command, and the tickets up to a number.
 use Rattle.std.proofs.Common.{◌≡◌, ◌+◌, ◌-◌, ◌≤◌, ◌<◌, ◌∙◌, ℕ, zero, suc, List, [], ◌∷◌, ◌++◌, inl, inr, Contains, Option, None, Some, refl, sym, ap, subst, arith, slice_get}
 use Rattle.std.proofs.lemmas.List.Elements.{Contains-append_left, Contains-append_right}
+use Rattle.iom_command_queue.specs.declared.command.Command.{Command as Commanded}
 use Rattle.iom_command_queue.specs.declared.command.Command.TheVariants.{IotinvalVma, IotinvalGvma, IofenceC, IodirInvalDdt, AtsInval}
 use Rattle.iom_command_queue.specs.declared.entry.QueueEntry.{QueueEntry}
 use Rattle.iom_command_queue.specs.declared.entry.QueueEntry.TheVariants.{Command, Illegal, Outside}
-use Rattle.iom_copies.specs.Queue.{Extent, QueuedCommand, DropTranslations, DropContext, Invalidate, Fence}
+use Rattle.iom_copies.specs.DriverCalls.{released_extent}
+use Rattle.iom_copies.specs.Queue.{Extent, WholeSpace, QueuedCommand, DropTranslations, DropContext, Invalidate, Fence}
 use Rattle.iom_copies.specs.Scene.{PendingTicket}
 use Rattle.iom_copies.specs.ToCome.{FencesRise}
 use Rattle.iom_copies.proofs.ListLemmas.{in_none, cons_cases, contains_head, contains_tail}
+use Rattle.iom_base.specs.declared.mode.Mode.{Mode}
+use Rattle.iom_base.specs.declared.mode.Mode.TheVariants.{First, Second, Both}
+use Rattle.iom_driver.specs.Appends.{invalidation, space_invalidation}
+use Rattle.iom_tlb.specs.declared.space.Space.{Space}
+use Rattle.iom_tlb.specs.declared.space.Space.TheVariants as space
+use Rattle.iom_world.specs.Read.{space_in}
 use Rattle.iom_world.specs.Queued.{IsInvalidation, IsQueuedAs, AreQueuedAs, ComeBefore, pending_after}
 
-pub queued_append : (address : ℕ) (numbers : ℕ → Option ℕ) (entries more : List QueueEntry) (queued added : List QueuedCommand) → AreQueuedAs address numbers entries queued
-    → AreQueuedAs address numbers more added → AreQueuedAs address numbers (entries ++ more) (queued ++ added)
-queued_append address numbers [] more [] added these those = those
-queued_append address numbers (entry ∷ entries) more (command ∷ later) added these those = (these.0, queued_append address numbers entries more later added these.1 those)
-queued_append address numbers [] more (command ∷ later) added these those = absurd these
-queued_append address numbers (entry ∷ entries) more [] added these those = absurd these
+pub queued_append : (address : ℕ) (spaces : ℕ → Option Space) (entries more : List QueueEntry) (queued added : List QueuedCommand) → AreQueuedAs address spaces entries queued
+    → AreQueuedAs address spaces more added → AreQueuedAs address spaces (entries ++ more) (queued ++ added)
+queued_append address spaces [] more [] added these those = those
+queued_append address spaces (entry ∷ entries) more (command ∷ later) added these those = (these.0, queued_append address spaces entries more later added these.1 those)
+queued_append address spaces [] more (command ∷ later) added these those = absurd these
+queued_append address spaces (entry ∷ entries) more [] added these those = absurd these
 
 -- what is queued first, and the rest
-pub queued_first : (address : ℕ) (numbers : ℕ → Option ℕ) (entry : QueueEntry) (entries : List QueueEntry) (queued : List QueuedCommand)
-    → AreQueuedAs address numbers (entry ∷ entries) queued
-    → (command : QueuedCommand) × (later : List QueuedCommand) × (queued ≡ command ∷ later) × IsQueuedAs address numbers entry command × AreQueuedAs address numbers entries later
-queued_first address numbers entry entries [] these = absurd these
-queued_first address numbers entry entries (command ∷ later) these = (command, later, refl, these.0, these.1)
+pub queued_first : (address : ℕ) (spaces : ℕ → Option Space) (entry : QueueEntry) (entries : List QueueEntry) (queued : List QueuedCommand)
+    → AreQueuedAs address spaces (entry ∷ entries) queued
+    → (command : QueuedCommand) × (later : List QueuedCommand) × (queued ≡ command ∷ later) × IsQueuedAs address spaces entry command × AreQueuedAs address spaces entries later
+queued_first address spaces entry entries [] these = absurd these
+queued_first address spaces entry entries (command ∷ later) these = (command, later, refl, these.0, these.1)
 
--- the numbers that the invalidations of a queue name are still those of their devices
-abbrev pub NumbersStay : (ℕ → Option ℕ) → (ℕ → Option ℕ) → List QueuedCommand → Type 0
-NumbersStay before after queued = (device number : ℕ) (extent : Extent) → Contains queued (DropTranslations device extent) → before device ≡ Some number → after device ≡ Some number
+-- the address spaces that the invalidations of a queue are about are still those of their devices
+abbrev pub SpacesStay : (ℕ → Option Space) → (ℕ → Option Space) → List QueuedCommand → Type 0
+SpacesStay before after queued = (device : ℕ) (space : Space) (extent : Extent) → Contains queued (DropTranslations device extent) → before device ≡ Some space → after device ≡ Some space
 
-one_still : (address : ℕ) (before after : ℕ → Option ℕ) (entry : QueueEntry) (command : QueuedCommand) (later : List QueuedCommand) → NumbersStay before after (command ∷ later)
-    → IsQueuedAs address before entry command → IsQueuedAs address after entry command
-one_still address before after (Command (IotinvalVma gscid pscid page)) (DropTranslations device extent) later stay is = record {
-  number = is.number;
-  own = stay device is.number extent (contains_head (DropTranslations device extent) later) is.own;
-  host = is.host;
+invalidates_still : (before after : ℕ → Option Space) (command : Commanded) (device : ℕ) (extent : Extent) (later : List QueuedCommand)
+    → SpacesStay before after (DropTranslations device extent ∷ later) → IsInvalidation before device extent command → IsInvalidation after device extent command
+invalidates_still before after command device extent later stay is = record {
   space = is.space;
-  extent_of = is.extent_of;
+  page = is.page;
+  own = stay device is.space extent (contains_head (DropTranslations device extent) later) is.own;
+  named = is.named;
+  about = is.about;
 }
+
+one_still : (address : ℕ) (before after : ℕ → Option Space) (entry : QueueEntry) (command : QueuedCommand) (later : List QueuedCommand) → SpacesStay before after (command ∷ later)
+    → IsQueuedAs address before entry command → IsQueuedAs address after entry command
+one_still address before after (Command (IotinvalVma gscid pscid page)) (DropTranslations device extent) later stay is =
+    invalidates_still before after (IotinvalVma gscid pscid page) device extent later stay is
+one_still address before after (Command (IotinvalGvma gscid page)) (DropTranslations device extent) later stay is =
+    invalidates_still before after (IotinvalGvma gscid page) device extent later stay is
 one_still address before after (Command (IofenceC store wsi pr pw)) (Fence number) later stay is = is
 one_still address before after (Command (IodirInvalDdt (Some id))) (DropContext device) later stay is = is
 one_still address before after entry command later stay is = absurd is
 
-pub queued_still : (address : ℕ) (before after : ℕ → Option ℕ) (entries : List QueueEntry) (queued : List QueuedCommand) → NumbersStay before after queued
+pub queued_still : (address : ℕ) (before after : ℕ → Option Space) (entries : List QueueEntry) (queued : List QueuedCommand) → SpacesStay before after queued
     → AreQueuedAs address before entries queued → AreQueuedAs address after entries queued
 queued_still address before after [] [] stay these = tt
 queued_still address before after (entry ∷ entries) (command ∷ later) stay these = (
   one_still address before after entry command later stay these.0,
-  queued_still address before after entries later (λ device number extent there. stay device number extent (contains_tail command later (DropTranslations device extent) there)) these.1,
+  queued_still address before after entries later (λ device space extent there. stay device space extent (contains_tail command later (DropTranslations device extent) there)) these.1,
 )
 queued_still address before after [] (command ∷ later) stay these = absurd these
 queued_still address before after (entry ∷ entries) [] stay these = absurd these
+
+-- what a release and a detach queue for a device's address space
+pub queued_page : (address : ℕ) (spaces : ℕ → Option Space) (mode : Mode) (number page device : ℕ) → spaces device ≡ Some (space_in mode number)
+    → IsQueuedAs address spaces (Command (invalidation mode number page)) (DropTranslations device (released_extent mode page))
+queued_page address spaces First number page device own = record { space = space.First number; page = Some page; own = own; named = refl; about = refl }
+queued_page address spaces Second number page device own = record { space = space.Second number; page = Some page; own = own; named = refl; about = refl }
+queued_page address spaces Both number page device own = record { space = space.Both number number; page = Some page; own = own; named = refl; about = refl }
+
+pub queued_space : (address : ℕ) (spaces : ℕ → Option Space) (mode : Mode) (number device : ℕ) → spaces device ≡ Some (space_in mode number)
+    → IsQueuedAs address spaces (Command (space_invalidation mode number)) (DropTranslations device WholeSpace)
+queued_space address spaces First number device own = record { space = space.First number; page = None; own = own; named = refl; about = refl }
+queued_space address spaces Second number device own = record { space = space.Second number; page = None; own = own; named = refl; about = refl }
+queued_space address spaces Both number device own = record { space = space.Both number number; page = None; own = own; named = refl; about = refl }
 
 -- what comes in front of a fence still does, where more is queued: with none of the device's, or up to the fence itself
 pub come_on : (device fence : ℕ) (queued more : List QueuedCommand) → ComeBefore device fence queued → ComeBefore device fence more → ComeBefore device fence (queued ++ more)

@@ -8,7 +8,7 @@ use Rattle.iom_driver.specs.declared.device.Device as driver
 use Rattle.iom_driver.specs.declared.device.Attachment as owned
 use Rattle.iom_driver.specs.declared.device.Attachment.TheVariants as attached
 use Rattle.iom_driver.specs.Devices as as_known
-use Rattle.iom_driver.specs.Devices.{device_of, is_plugged, attached_stage, owned_stage}
+use Rattle.iom_driver.specs.Devices.{device_of, is_plugged, attached_stages, owned_stages}
 use Rattle.iom_driver.specs.Layout.{id_limit}
 use Rattle.iom_driver.specs.Reasons.{why_not_plug, why_not_attach, why_not_grant, granting_reasons, why_not_release, releasing_reasons, why_not_detach, detaching_reasons, is_busy, lacks_two_places, lacks_three_places, HasGrants}
 use Rattle.iom_inflight.specs.Flights.{FlightRow}
@@ -144,7 +144,7 @@ plug_tests there there' many many' same as_many = rw (same, as_many) refl
 
 attach_tests : (there wide trusted : Bool) (how : owned.Attachment)
     → first_that_applies ((not there, NoSuchDevice) ∷ (not (is_detached (shown_attachment how)), AlreadyAttached) ∷ (wide, IdTooWide) ∷ (false && not trusted, NotTrusted) ∷ [])
-    ≡ first_that_applies ((false, NotStarted) ∷ (not there, NoSuchDevice) ∷ (is_some (owned_stage how), AlreadyAttached) ∷ (wide, IdTooWide) ∷ [])
+    ≡ first_that_applies ((false, NotStarted) ∷ (not there, NoSuchDevice) ∷ (is_some (owned_stages how), AlreadyAttached) ∷ (wide, IdTooWide) ∷ [])
 attach_tests false wide trusted how = refl
 attach_tests true wide trusted (attached.Attached stage) = refl
 attach_tests true wide trusted (attached.Leaving ticket stage) = refl
@@ -153,7 +153,7 @@ attach_tests true false trusted attached.Detached = refl
 
 attach_same : (there there' wide wide' trusted started : Bool) (attachment : Attachment) (how : owned.Attachment) → there ≡ there' → attachment ≡ shown_attachment how → wide ≡ wide' → started ≡ true
     → first_that_applies ((not there, NoSuchDevice) ∷ (not (is_detached attachment), AlreadyAttached) ∷ (wide, IdTooWide) ∷ (false && not trusted, NotTrusted) ∷ [])
-    ≡ first_that_applies ((not started, NotStarted) ∷ (not there', NoSuchDevice) ∷ (is_some (owned_stage how), AlreadyAttached) ∷ (wide', IdTooWide) ∷ [])
+    ≡ first_that_applies ((not started, NotStarted) ∷ (not there', NoSuchDevice) ∷ (is_some (owned_stages how), AlreadyAttached) ∷ (wide', IdTooWide) ∷ [])
 attach_same there there' wide wide' trusted started attachment how same attached width on = rw (same, attached, width, on) (attach_tests there' wide' trusted how)
 
 -- a call for an attached device, in the machine and in the driver
@@ -166,7 +166,7 @@ machine_first there attachment later = first_that_applies (
 
 abbrev driver_first : Bool → Bool → owned.Attachment → List (Bool × Refusal) → Option Refusal
 driver_first started there how later =
-    first_that_applies ((not started, NotStarted) ∷ (not there, NoSuchDevice) ∷ (is_none (attached_stage how), NotAttached) ∷ later)
+    first_that_applies ((not started, NotStarted) ∷ (not there, NoSuchDevice) ∷ (is_none (attached_stages how), NotAttached) ∷ later)
 
 attachment_tests : (there : Bool) (how : owned.Attachment) (later later' : List (Bool × Refusal)) → first_that_applies later ≡ first_that_applies later'
     → machine_first there (shown_attachment how) later ≡ driver_first true there how later'

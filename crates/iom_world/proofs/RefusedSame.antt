@@ -20,6 +20,7 @@ use Rattle.iom_world.specs.Parts.{Parts}
 use Rattle.iom_world.specs.Processor.{PokesBytes, StoresIfAny}
 use Rattle.iom_world.specs.Requests.{AsksAccess, reply_told_of}
 use Rattle.iom_world.proofs.CallRefused.{same_of, plug_refused, attach_refused, grant_refused, release_refused, detach_refused, fetch_refused, poll_refused}
+use Rattle.iom_world.proofs.ReportKeeps.{taken_refused}
 
 -- parts that are the same
 pub same_parts : (old new : Parts) → new ≡ old → AreSame old new
@@ -76,12 +77,13 @@ poked_refused old new address bytes told pokes why refused =
 -- EACH EVENT
 pub refused_same : (old new : Parts) (event : Event) (told : Outcome) → Does old event told new → SameIfRefused told old new
 refused_same old new (events.Plug id kind) told does = plug_refused old new id kind told does
-refused_same old new (events.Attach id mode ats) told does = attach_refused old new id told does
+refused_same old new (events.Attach id mode ats) told does = attach_refused old new id mode told does
 refused_same old new (events.Grant id page frame rights) told does = grant_refused old new id page frame rights told does
 refused_same old new (events.Release id page) told does = release_refused old new id page told does
 refused_same old new (events.Detach id) told does = detach_refused old new id told does
 refused_same old new events.Fetch told does = fetch_refused old new told does
 refused_same old new events.Poll told does = poll_refused old new told does
+refused_same old new events.Faults told does = taken_refused old new told does
 refused_same old new (events.Read id address len) told does = asked_refused old new id (read_of address len) told does
 refused_same old new (events.Write id address bytes) told does = asked_refused old new id (write_of address bytes) told does
 refused_same old new (events.Commit id) told does = committed_refused old new id told does

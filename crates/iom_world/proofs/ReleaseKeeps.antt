@@ -12,8 +12,8 @@ use Rattle.iom_copies.specs.Queue.{OnePage, DropTranslations}
 use Rattle.iom_driver.specs.declared.answers.Ticket as answers
 use Rattle.iom_driver.specs.Appends.{invalidation, fence, Appends, AppendsTwo}
 use Rattle.iom_driver.specs.Calls.{AnswersRelease, QueuesRelease}
-use Rattle.iom_driver.specs.declared.device.FirstStage.{FirstStage}
-use Rattle.iom_driver.specs.Devices.{attachment_of, is_plugged, owned_stage, owned_stage_of}
+use Rattle.iom_driver.specs.declared.device.Stages.{Stages}
+use Rattle.iom_driver.specs.Devices.{attachment_of, is_plugged, owned_stages, owned_stages_of}
 use Rattle.iom_driver.specs.Directory.{context_for}
 use Rattle.iom_driver.specs.Layout.{completion_frame, completion_address}
 use Rattle.iom_driver.specs.Ready.{IsReady}
@@ -35,12 +35,15 @@ use Rattle.iom_world.specs.Devices.{shown_attachment}
 use Rattle.iom_world.specs.Does.{ReleasesPage}
 use Rattle.iom_world.specs.Parts.{Parts}
 use Rattle.iom_world.specs.Queued.{completed_in}
-use Rattle.iom_world.specs.Read.{number_in, values_of, accesses_of}
+use Rattle.iom_tlb.specs.declared.space.Space.{Space}
+use Rattle.iom_world.specs.Read.{space_in, space_at, values_of, accesses_of}
 use Rattle.iom_world.specs.Sound.{AreSound, known_ids, row_ids}
 use Rattle.iom_world.proofs.DriverKeeps.{attached_is}
 use Rattle.iom_world.proofs.DriverLemmas.{IsSoundDriver}
 use Rattle.iom_world.proofs.PollKeeps.{same_known}
-use Rattle.iom_world.proofs.CachedLemmas.{numbers_same}
+use Rattle.iom_copies.specs.DriverCalls.{released_extent}
+use Rattle.iom_world.proofs.CachedLemmas.{spaces_same}
+use Rattle.iom_world.proofs.QueuedLemmas.{queued_page}
 use Rattle.iom_world.proofs.SceneCalls.{KeepsCached, QueuesTicket, release_scene}
 use Rattle.iom_world.proofs.SoundLemmas.{completed_given, same_completed, LeavesWord, LeavesIommu, sound_from, fixed_frames, none_at}
 
@@ -95,9 +98,9 @@ processing_on : (r : Registers) → is_processing_commands r ≡ true → is_com
 processing_on r is = (and_parts (is_command_queue_on r) (not (is_command_queue_stopped r)) is).0
 
 pub rung_cached : (old new : Parts) → is_processing_commands (registers_of old.iommu) ≡ true → IsRung old.iommu new.iommu
-    → ((id number : ℕ) → number_in old.driver.devices id ≡ Some number → number_in new.driver.devices id ≡ Some number) → KeepsCached (values_of old) (values_of new)
-rung_cached old new processing rung numbers = record {
-  numbers = numbers;
+    → ((id : ℕ) (space : Space) → space_at old.driver.devices id ≡ Some space → space_at new.driver.devices id ≡ Some space) → KeepsCached (values_of old) (values_of new)
+rung_cached old new processing rung spaces = record {
+  spaces = spaces;
   translations = λ key translation at. sym (ap (λ (c : Content). c key) rung.translations) ∙ at;
   stock = rung.stock (processing_on (registers_of old.iommu) processing);
 }
@@ -110,7 +113,7 @@ module _ (old new : Parts) (events id page ticket : ℕ) (sound : AreSound old e
     (numbers : nat_le 4294967295 old.driver.given ≡ false) (queues : QueuesRelease mmio old.driver old.memory old.iommu id page ticket new.driver new.memory new.iommu)
     (devices : new.devices ≡ old.devices) where
   rung : IsRung old.iommu new.iommu
-  rung = rung_twice (unmapped old.memory queues.stage.root page) new.memory old.iommu new.iommu (invalidation queues.stage.number page) (fence (completion_address (length old.memory)) ticket) queues.queued
+  rung = rung_twice (unmapped old.memory queues.stage.root page) new.memory old.iommu new.iommu (invalidation queues.stage.mode queues.stage.number page) (fence (completion_address (length old.memory)) ticket) queues.queued
 
   leaves : LeavesWord old new
   leaves = record {
@@ -124,24 +127,19 @@ module _ (old new : Parts) (events id page ticket : ℕ) (sound : AreSound old e
   given_now : new.driver.given ≡ old.driver.given + 1
   given_now = ap (λ (d : DriverState). d.given) queues.driver ∙ queues.next
 
-  queues_ticket : QueuesTicket (values_of old) (values_of new) (stands.Command (invalidation queues.stage.number page) ∷ []) (DropTranslations id (OnePage page) ∷ [])
+  queues_ticket : QueuesTicket (values_of old) (values_of new) (stands.Command (invalidation queues.stage.mode queues.stage.number page) ∷ []) (DropTranslations id (released_extent queues.stage.mode page) ∷ [])
   queues_ticket =
       let low = completed_given old events sound in
       let before = sound.confirmed in
       record {
         ordered = omega (arith, low, before);
         appended = (
-          record {
-            number = queues.stage.number;
-            own = ap (option_map (λ (stage : FirstStage). stage.number)) (ap owned_stage (attached_is (attachment_of old.driver.devices id) queues.stage queues.attached));
-            host = refl;
-            space = refl;
-            extent_of = refl;
-          },
+          queued_page (completion_address (length old.memory)) (space_at old.driver.devices) queues.stage.mode queues.stage.number page id
+              (ap (option_map (λ (stage : Stages). space_in stage.mode stage.number)) (ap owned_stages (attached_is (attachment_of old.driver.devices id) queues.stage queues.attached))),
           tt,
         );
         waiting = queues.list
-            ∙ ap (λ t. commands_in old.memory (registers_of old.iommu) ++ stands.Command (invalidation queues.stage.number page) ∷ stands.Command (fence (completion_address (length old.memory)) t) ∷ []) queues.next;
+            ∙ ap (λ t. commands_in old.memory (registers_of old.iommu) ++ stands.Command (invalidation queues.stage.mode queues.stage.number page) ∷ stands.Command (fence (completion_address (length old.memory)) t) ∷ []) queues.next;
         address = ap completion_address leaves.size;
         completed = same_completed old.memory new.memory leaves.size leaves.word;
         given = given_now;
@@ -150,7 +148,7 @@ module _ (old new : Parts) (events id page ticket : ℕ) (sound : AreSound old e
         in_flight = ap (λ f. accesses_of f.rows) rung.flights;
         unplugged = λ d none. sym (ap (λ (s : DriverState). is_plugged s.devices d) queues.driver) ∙ none;
         contexts = λ d is. sym (ap is_some (rung.contexts d)) ∙ is;
-        cached = rung_cached old new sound.processing rung (numbers_same old.driver.devices new.driver.devices (ap (λ (d : DriverState). d.devices) queues.driver));
+        cached = rung_cached old new sound.processing rung (spaces_same old.driver.devices new.driver.devices (ap (λ (d : DriverState). d.devices) queues.driver));
       }
 
   pub released_sound : AreSound new events
@@ -160,9 +158,9 @@ module _ (old new : Parts) (events id page ticket : ℕ) (sound : AreSound old e
       (subst (λ n. n ≤ completed_in old.memory) (sym (ap (λ (d : DriverState). d.confirmed) queues.driver)) sound.confirmed)
       (subst (λ n. n < 2 ^ 32) (sym given_now) (next_small old.driver.given numbers))
       (λ other context cached.
-      ap (λ (s : DriverState). option_map context_for (owned_stage_of s.devices other)) queues.driver ∙ sound.contexts other context (sym (rung.contexts other) ∙ cached))
+      ap (λ (s : DriverState). option_map context_for (owned_stages_of s.devices other)) queues.driver ∙ sound.contexts other context (sym (rung.contexts other) ∙ cached))
       (∥∥₁_map sound.copies
-      (release_scene (values_of old) (values_of new) id page (stands.Command (invalidation queues.stage.number page) ∷ []) queues_ticket
+      (release_scene (values_of old) (values_of new) id page queues.stage.mode (stands.Command (invalidation queues.stage.mode queues.stage.number page) ∷ []) queues_ticket
       (ap shown_attachment (attached_is (attachment_of old.driver.devices id) queues.stage queues.attached))
       (λ d. ap (λ (s : DriverState). shown_attachment (attachment_of s.devices d)) queues.driver)
       (subst (λ t. (h : History) → Agrees old.driver.ledger h → confirms h t ≡ false → Agrees new.driver.ledger (Released id page t ∷ h)) queues.next queues.agrees)))

@@ -4,35 +4,38 @@ use Rattle.iom_base.specs.declared.access.Access.{Access}
 use Rattle.iom_base.specs.declared.cause.Cause.{Cause}
 use Rattle.iom_base.specs.Rights.{allows}
 use Rattle.iom_copies.specs.Among.{AreAmong, AreAmongWith}
-use Rattle.iom_driver.specs.declared.device.FirstStage.{FirstStage}
-use Rattle.iom_driver.specs.Devices.{attachment_of, owned_stage, owned_stage_of}
+use Rattle.iom_driver.specs.declared.device.Stages.{Stages}
+use Rattle.iom_driver.specs.Devices.{attachment_of, owned_stages}
+use Rattle.iom_fault_queue.specs.Records.{record_of}
 use Rattle.iom_inflight.specs.Calls.{with_access}
 use Rattle.iom_inflight.specs.Flights.{Flights}
 use Rattle.iom_iommu.specs.declared.reply.Reply.{Reply}
 use Rattle.iom_iommu.specs.declared.reply.Reply.TheVariants.{Accepted, Busy, BadSpan, Fault}
 use Rattle.iom_iommu.specs.Parts.{registers_of, contexts_of, translations_of, flights_of, stock_of, frames_of}
-use Rattle.iom_iommu.specs.Requests.{AnswersRequest, AcceptsRequest, RefusesRequest}
+use Rattle.iom_iommu.specs.Requests.{request_of, fault_of, AnswersRequest, AcceptsRequest, RefusesRequest}
 use Rattle.iom_machine.specs.declared.outcome.Outcome.{Outcome}
+use Rattle.iom_stage_walk.specs.declared.walked.WalkFault.{WalkFault}
 use Rattle.iom_machine.specs.declared.state.Attachment.TheVariants as shown
-use Rattle.iom_machine.specs.declared.state.Mode.TheVariants.{First}
-use Rattle.iom_tlb.specs.declared.space.Space.TheVariants as space
+use Rattle.iom_base.specs.declared.mode.Mode.{Mode}
+use Rattle.iom_tlb.specs.declared.space.Space.{Space}
 use Rattle.iom_tlb.specs.declared.trans_cache.Translation.{Translation}
 use Rattle.iom_tlb.specs.Chosen.{ioatc}
 use Rattle.iom_tlb.specs.Content.{Key, Content as Translations, Keeps}
 use Rattle.iom_tlb.proofs.KeyLemmas.{one_or_other}
 use Rattle.iom_world.specs.Devices.{shown_attachment}
 use Rattle.iom_world.specs.Parts.{Parts}
-use Rattle.iom_world.specs.Read.{number_in, values_of, accesses_of}
+use Rattle.iom_world.specs.Read.{space_in, values_of, accesses_of}
 use Rattle.iom_world.specs.Requests.{AsksAccess}
 use Rattle.iom_world.specs.Scenes.{Values, HasFaithfulScene}
 use Rattle.iom_world.specs.Sound.{AreSound, row_ids}
 use Rattle.iom_world.proofs.ContextKeeps.{KeepsAttached, keeps_attached, cached_or, contexts_kept}
 use Rattle.iom_world.proofs.DriverLemmas.{IsSoundDriver}
-use Rattle.iom_world.proofs.PartsLemmas.{StaysReady, parts_are}
+use Rattle.iom_world.proofs.CachedMay.{one_space}
+use Rattle.iom_world.proofs.PartsLemmas.{StaysReady, StaysReported, parts_are}
 use Rattle.iom_world.proofs.RowLemmas.{accepted_among, row_ids_kept}
 use Rattle.iom_world.proofs.SceneSteps.{KeepsGrants, KeepsQueue, KeepsWalked, IsServedFrom, keep_scene, walk_scene, accept_scene, make_scene}
 use Rattle.iom_world.proofs.ServedLemmas.{ServiceLaws, IsAnswered, served}
-use Rattle.iom_world.proofs.SoundFrom.{Leaves, sound_from, queue_kept, grants_kept}
+use Rattle.iom_world.proofs.SoundFrom.{Leaves, sound_from, queue_kept, grants_kept, LeavesReport, report_grants, report_queue, report_sound}
 
 -- what is sound stays so where one more event is counted
 pub sound_counted : (parts : Parts) (events : ℕ) → AreSound parts events → AreSound parts (events + 1)
@@ -54,35 +57,35 @@ abbrev cached_so : Values → (ℕ → Bool) → Translations → Values
 cached_so values cached translations = record values { is_cached = cached; translations = translations }
 
 grants_same : (values : Values) (cached : ℕ → Bool) (translations : Translations) → KeepsGrants values (cached_so values cached translations)
-grants_same values cached translations = record { ledger = refl; address = refl; given = refl; confirmed = refl; plugged = λ d. refl; attachments = λ d. refl; numbers = λ d. refl }
+grants_same values cached translations = record { ledger = refl; address = refl; given = refl; confirmed = refl; plugged = λ d. refl; attachments = λ d. refl; spaces = λ d. refl }
 
 queue_same : (values : Values) (cached : ℕ → Bool) (translations : Translations) → KeepsQueue values (cached_so values cached translations)
 queue_same values cached translations = record { waiting = refl; completed = refl; stock = refl }
 
 -- a scene of a world stays one where a request kept a context
 kept_scene : (values : Values) (cached : ℕ → Bool) (id : ℕ) → (((d : ℕ) → cached d ≡ true → values.is_cached d ≡ true)
-    ⊎ ((values.attachment_of id ≡ shown.Attached First false) × ((d : ℕ) → cached d ≡ true → (values.is_cached d ≡ true) ⊎ (d ≡ id))))
+    ⊎ ((mode : Mode) × (values.attachment_of id ≡ shown.Attached mode false) × ((d : ℕ) → cached d ≡ true → (values.is_cached d ≡ true) ⊎ (d ≡ id))))
     → HasFaithfulScene values → HasFaithfulScene (cached_so values cached values.translations)
 kept_scene values cached id (inl before) has =
     make_scene values (cached_so values cached values.translations) (grants_same values cached values.translations) (queue_same values cached values.translations)
     refl (λ x there. there) before (λ key translation at. at) has
-kept_scene values cached id (inr (attached, either)) has =
-    keep_scene values (cached_so values cached values.translations) id (grants_same values cached values.translations) (queue_same values cached values.translations)
+kept_scene values cached id (inr (mode, attached, either)) has =
+    keep_scene values (cached_so values cached values.translations) id mode (grants_same values cached values.translations) (queue_same values cached values.translations)
     refl refl (λ key translation at. at) attached either has
 
 -- and one where it kept a translation
 abbrev TranslationsChange : Values → ℕ → Translations → Type 0
 TranslationsChange values id translations =
     ((key : Key) (translation : Translation) → translations key ≡ Some translation → values.translations key ≡ Some translation)
-    ⊎ ((number page : ℕ) × (translation : Translation) × KeepsWalked values (record values { translations = translations }) id number page translation)
+    ⊎ ((page : ℕ) × (space : Space) × (translation : Translation) × KeepsWalked values (record values { translations = translations }) id page space translation)
 
 translated_scene : (values : Values) (translations : Translations) (id : ℕ) → TranslationsChange values id translations
     → HasFaithfulScene values → HasFaithfulScene (cached_so values values.is_cached translations)
 translated_scene values translations id (inl less) has =
     make_scene values (cached_so values values.is_cached translations) (grants_same values values.is_cached translations) (queue_same values values.is_cached translations)
     refl (λ x there. there) (λ d is. is) less has
-translated_scene values translations id (inr (number, page, translation, walks)) has =
-    walk_scene values (cached_so values values.is_cached translations) id number page translation (grants_same values values.is_cached translations)
+translated_scene values translations id (inr (page, space, translation, walks)) has =
+    walk_scene values (cached_so values values.is_cached translations) id page space translation (grants_same values values.is_cached translations)
     (queue_same values values.is_cached translations) refl refl (λ d is. is) walks has
 
 -- what a keep leaves: what was there, or the translation that is kept
@@ -103,8 +106,22 @@ kept_or sure old new at translation (inl sets) key other there = elim (one_or_ot
     none_some : ◌≡◌ {A = Option Translation} None (Some other) → ⊥
     none_some same = cc
 
-module _ (laws : ServiceLaws) (old new : Parts) (events id : ℕ) (access : Access) (sound : AreSound old events) (own : IsSoundDriver old.driver) (stays_ready : StaysReady old.driver)
-    (memory : new.memory ≡ old.memory) (driver : new.driver ≡ old.driver) (devices : new.devices ≡ old.devices) where
+-- where a fault is reported, memory changes in the fault queue's frame alone
+pub report_leaves : (old new : Parts) (events id : ℕ) (access : Access) → AreSound old events → StaysReported old.driver → new.driver ≡ old.driver → new.devices ≡ old.devices
+    → (cause : Cause) → RefusesRequest old.memory old.iommu id access cause new.memory new.iommu → LeavesReport old new
+report_leaves old new events id access sound reported driver devices cause call =
+    let after = reported old.memory new.memory (registers_of old.iommu) (registers_of new.iommu) (record_of (request_of id access) (fault_of call.fault)) call.answer sound.ready sound.started call.recorded in
+    record {
+      ready = rw driver after.0;
+      else_same = after.1;
+      frames = call.frames;
+      flights = call.flights;
+      driver = driver;
+      devices = devices;
+    }
+
+module _ (laws : ServiceLaws) (old new : Parts) (events id : ℕ) (access : Access) (sound : AreSound old events) (own : IsSoundDriver old.driver) (stays_ready : StaysReady old.driver) (report_ready : StaysReported old.driver)
+    (driver : new.driver ≡ old.driver) (devices : new.devices ≡ old.devices) where
   abbrev cached : ℕ → Bool
   cached d = is_some (contexts_of new.iommu d)
 
@@ -120,16 +137,17 @@ module _ (laws : ServiceLaws) (old new : Parts) (events id : ℕ) (access : Acce
     where
       by : KeepsAttached (attachment_of old.driver.devices id) id (contexts_of old.iommu) (contexts_of new.iommu)
           → ((d : ℕ) → is_some (contexts_of new.iommu d) ≡ true → is_some (contexts_of old.iommu d) ≡ true)
-          ⊎ ((shown_attachment (attachment_of old.driver.devices id) ≡ shown.Attached First false)
+          ⊎ ((mode : Mode) × (shown_attachment (attachment_of old.driver.devices id) ≡ shown.Attached mode false)
           × ((d : ℕ) → is_some (contexts_of new.iommu d) ≡ true → (is_some (contexts_of old.iommu d) ≡ true) ⊎ (d ≡ id)))
       by (inl same) = inl (λ d there. ap is_some (sym (same d)) ∙ there)
       by (inr (stage, is, one)) = inr (
+        stage.mode,
         ap shown_attachment is,
         cached_or (attachment_of old.driver.devices id) id (contexts_of old.iommu) (contexts_of new.iommu) (inr (stage, is, one)),
       )
 
-  leaves_asked : registers_of new.iommu ≡ registers_of old.iommu → frames_of new.iommu ≡ frames_of old.iommu → row_ids (flights_of new.iommu).rows ≡ row_ids (flights_of old.iommu).rows → Leaves old new
-  leaves_asked registers frames rows = record {
+  leaves_asked : new.memory ≡ old.memory → registers_of new.iommu ≡ registers_of old.iommu → frames_of new.iommu ≡ frames_of old.iommu → row_ids (flights_of new.iommu).rows ≡ row_ids (flights_of old.iommu).rows → Leaves old new
+  leaves_asked memory registers frames rows = record {
     size = ap (λ m. length m) memory;
     reserved = λ frame owner mark. ap (λ m. slice_get m frame) memory;
     registers = registers;
@@ -140,9 +158,8 @@ module _ (laws : ServiceLaws) (old new : Parts) (events id : ℕ) (access : Acce
   }
 
   -- between the values and those of the new world little lies
-  grants_on : (leaves : Leaves old new) → KeepsGrants between (values_of new)
-  grants_on leaves =
-      let grants = grants_kept old new events sound own leaves in
+  grants_on : KeepsGrants (values_of old) (values_of new) → KeepsGrants between (values_of new)
+  grants_on grants =
       record {
         ledger = grants.ledger;
         address = grants.address;
@@ -150,87 +167,75 @@ module _ (laws : ServiceLaws) (old new : Parts) (events id : ℕ) (access : Acce
         confirmed = grants.confirmed;
         plugged = grants.plugged;
         attachments = grants.attachments;
-        numbers = grants.numbers;
+        spaces = grants.spaces;
       }
 
-  queue_on : (leaves : Leaves old new) → stock_of new.iommu ≡ stock_of old.iommu → KeepsQueue between (values_of new)
-  queue_on leaves stock = let queue = queue_kept old new events sound own leaves stock in record { waiting = queue.waiting; completed = queue.completed; stock = queue.stock }
+  queue_on : KeepsQueue (values_of old) (values_of new) → KeepsQueue between (values_of new)
+  queue_on queue = record { waiting = queue.waiting; completed = queue.completed; stock = queue.stock }
 
   -- the answer that the service gives, with the translations before and after
-  abbrev Answers : Result ℕ Cause → Type 0
+  abbrev Answers : Result ℕ WalkFault → Type 0
   Answers answer = IsAnswered ioatc.SURE old.driver id access.address access.kind (translations_of old.iommu) answer (translations_of new.iommu)
 
   -- what becomes of the cached translations: they stay, or that of a held page is kept
   change_of : (frame : ℕ) → IsAnswered ioatc.SURE old.driver id access.address access.kind (translations_of old.iommu) (Ok frame) (translations_of new.iommu)
       → TranslationsChange (values_of old) id (translations_of new.iommu)
   change_of frame (inl reaches) = inr (
-    reaches.stage.number,
     access.address / 4096,
+    space_in reaches.stage.mode reaches.stage.number,
     reaches.translation,
     record {
+      mode = reaches.stage.mode;
       attached = ap shown_attachment reaches.attached;
-      own = ap (λ a. option_map (λ (stage : FirstStage). stage.number) (owned_stage a)) reaches.attached;
+      own = ap (λ a. option_map (λ (stage : Stages). space_in stage.mode stage.number) (owned_stages a)) reaches.attached;
       held = reaches.held;
-      either = kept_or ioatc.SURE (translations_of old.iommu) (translations_of new.iommu) (space.First reaches.stage.number, access.address / 4096) reaches.translation reaches.kept;
+      either = kept_or ioatc.SURE (translations_of old.iommu) (translations_of new.iommu) (space_in reaches.stage.mode reaches.stage.number, access.address / 4096) reaches.translation reaches.kept;
     },
   )
   change_of frame (inr finds) = inl (λ key translation at. sym (finds.stays key) ∙ at)
 
   -- what the access is served from
   served_from : (frame : ℕ) → IsAnswered ioatc.SURE old.driver id access.address access.kind (translations_of old.iommu) (Ok frame) (translations_of new.iommu)
-      → (number : ℕ) × (translation : Translation) × (frame ≡ translation.frame) × (allows translation.rights access.kind ≡ true)
-      × IsServedFrom between id number (access.address / 4096) translation
+      → (space : Space) × (translation : Translation) × (frame ≡ translation.frame) × (allows translation.rights access.kind ≡ true)
+      × IsServedFrom between id (access.address / 4096) space translation
   served_from frame (inl reaches) = (
-    reaches.stage.number,
+    space_in reaches.stage.mode reaches.stage.number,
     reaches.translation,
     reaches.frame_is,
     reaches.allowed,
-    inl (ap shown_attachment reaches.attached, reaches.held),
+    inl (reaches.stage.mode, ap shown_attachment reaches.attached, reaches.held),
   )
   served_from frame (inr finds) = (
-    finds.stage.number,
+    space_in finds.stage.mode finds.stage.number,
     finds.translation,
     finds.frame_is,
     finds.allowed,
     inr (
-      finds.stays (space.First finds.stage.number, access.address / 4096) ∙ finds.cached,
-      ap (option_map (λ (stage : FirstStage). stage.number)) finds.owned,
-      (λ d number. one_owner d finds.stage number finds.owned),
+      finds.stays (space_in finds.stage.mode finds.stage.number, access.address / 4096) ∙ finds.cached,
+      (λ d at. one_space old.driver own id d finds.stage finds.owned at),
     ),
   )
-    where
-      owner_of : (d n : ℕ) (o : Option FirstStage) → owned_stage_of old.driver.devices d ≡ o → option_map (λ (stage : FirstStage). stage.number) o ≡ Some n
-          → (stage : FirstStage) × (owned_stage_of old.driver.devices d ≡ Some stage) × (stage.number ≡ n)
-      owner_of d n None is at = cc
-      owner_of d n (Some stage) is at = (stage, is, some_same stage.number n at)
-        where
-          some_same : (x y : ℕ) → Some x ≡ Some y → x ≡ y
-          some_same x y same = cc
 
-      one_owner : (d : ℕ) (stage : FirstStage) → number_in old.driver.devices d ≡ Some stage.number → owned_stage_of old.driver.devices id ≡ Some stage → d ≡ id
-      one_owner d stage number owned =
-          let it = owner_of d stage.number (owned_stage_of old.driver.devices d) refl number in
-          own.numbers.own d id it.0 stage it.1 owned it.2
-
-  keeps_fault : access.address < 2 ^ 64 → (cause : Cause) → RefusesRequest old.memory old.iommu id access cause new.iommu → AreSound new (events + 1)
+  keeps_fault : access.address < 2 ^ 64 → (cause : Cause) → RefusesRequest old.memory old.iommu id access cause new.memory new.iommu → AreSound new (events + 1)
   keeps_fault fits cause call =
       let keeps = keeps_attached laws old events sound own id (contexts_of new.iommu) call.contexts in
-      let leaves = leaves_asked call.registers call.frames (ap (λ (f : Flights). row_ids f.rows) call.flights) in
-      let stays = served laws old events sound own id access.address access.kind ioatc.SURE (translations_of old.iommu) (translations_of new.iommu) (Err cause) fits call.served in
+      let leaves = report_leaves old new events id access sound report_ready driver devices cause call in
+      let stays = served laws old events sound own id access.address access.kind ioatc.SURE (translations_of old.iommu) (translations_of new.iommu) (Err call.fault) fits call.served in
       let count = sound.counted in
       let more : (flights_of old.iommu).so_far ≤ events + 1 = omega (arith, count) in
-      sound_from old new events sound own leaves (events + 1) stays_ready (subst (λ (f : Flights). f.so_far ≤ events + 1) (sym call.flights) more)
+      report_sound old new events sound own leaves (events + 1) (subst (λ (f : Flights). f.so_far ≤ events + 1) (sym call.flights) more)
       (contexts_kept old new id sound.contexts keeps driver)
-      (λ has. make_scene between (values_of new) (grants_on leaves) (queue_on leaves call.stock) (ap (λ (f : Flights). f.so_far) call.flights)
+      (λ has. make_scene between (values_of new) (grants_on (report_grants old new events sound own leaves)) (queue_on (report_queue old new events sound own leaves call.stock))
+      (ap (λ (f : Flights). f.so_far) call.flights)
       (subst (λ (f : Flights). AreAmong (accesses_of f.rows) (accesses_of (flights_of old.iommu).rows)) (sym call.flights) (λ x there. there))
       (λ d there. there) (λ key translation at. at) (between_scene keeps (inl (λ key translation at. sym (stays.1 key) ∙ at)) has))
 
-  keeps_accept : access.address < 2 ^ 64 → (number : ℕ) → AcceptsRequest old.memory old.iommu id access number new.iommu → AreSound new (events + 1)
-  keeps_accept fits number call =
+  keeps_accept : access.address < 2 ^ 64 → new.memory ≡ old.memory → (number : ℕ) → AcceptsRequest old.memory old.iommu id access number new.iommu → AreSound new (events + 1)
+  keeps_accept fits memory number call =
       let keeps = keeps_attached laws old events sound own id (contexts_of new.iommu) call.contexts in
       let is = call.accepted in
       let so_far = (flights_of old.iommu).so_far in
-      let leaves = leaves_asked call.registers call.frames
+      let leaves = leaves_asked memory call.registers call.frames
       (ap (λ (f : Flights). row_ids f.rows) is.after ∙ row_ids_kept (flights_of old.iommu).rows (with_access is.row (record { access = access; frame = call.frame }) (so_far + 1))) in
       let answers = served laws old events sound own id access.address access.kind ioatc.SURE (translations_of old.iommu) (translations_of new.iommu) (Ok call.frame) fits call.served in
       let from = served_from call.frame answers in
@@ -238,25 +243,26 @@ module _ (laws : ServiceLaws) (old new : Parts) (events id : ℕ) (access : Acce
       let more : so_far + 1 ≤ events + 1 = omega (arith, count) in
       sound_from old new events sound own leaves (events + 1) stays_ready (subst (λ (f : Flights). f.so_far ≤ events + 1) (sym is.after) more)
       (contexts_kept old new id sound.contexts keeps driver)
-      (λ has. accept_scene between (values_of new) id from.0 (access.address / 4096) from.1 access.kind (grants_on leaves) (queue_on leaves call.stock) (ap (λ (f : Flights). f.so_far) is.after)
+      (λ has. accept_scene between (values_of new) id (access.address / 4096) from.0 from.1 access.kind (grants_on (grants_kept old new events sound own leaves))
+      (queue_on (queue_kept old new events sound own leaves call.stock)) (ap (λ (f : Flights). f.so_far) is.after)
       (subst (λ n. AreAmongWith (accesses_of (flights_of new.iommu).rows) (record { device = id; frame = n; kind = access.kind; number = so_far + 1 }) (accesses_of (flights_of old.iommu).rows)) from.2
       (subst (λ (f : Flights). AreAmongWith (accesses_of f.rows) (record { device = id; frame = call.frame; kind = access.kind; number = so_far + 1 }) (accesses_of (flights_of old.iommu).rows)) (sym is.after)
       (accepted_among (flights_of old.iommu).rows id is.row (record { access = access; frame = call.frame }) (so_far + 1) is.stands)))
       (λ d there. there) (λ key translation at. at) from.4 from.3 (between_scene keeps (change_of call.frame answers) has))
 
-  keeps_same : new.iommu ≡ old.iommu → AreSound new (events + 1)
-  keeps_same iommu =
+  keeps_same : new.memory ≡ old.memory → new.iommu ≡ old.iommu → AreSound new (events + 1)
+  keeps_same memory iommu =
       subst (λ parts. AreSound parts (events + 1)) (sym (parts_are new old.memory old.iommu old.driver old.devices memory iommu driver devices)) (sound_counted old events sound)
 
-  keeps_replied : access.address < 2 ^ 64 → (reply : Reply) → AnswersRequest old.memory old.iommu id access reply new.iommu → AreSound new (events + 1)
-  keeps_replied fits (Accepted number) call = keeps_accept fits number call
-  keeps_replied fits Busy call = keeps_same call.2
-  keeps_replied fits BadSpan call = keeps_same call.1
+  keeps_replied : access.address < 2 ^ 64 → (reply : Reply) → AnswersRequest old.memory old.iommu id access reply new.memory new.iommu → AreSound new (events + 1)
+  keeps_replied fits (Accepted number) call = keeps_accept fits call.1 number call.0
+  keeps_replied fits Busy call = keeps_same call.3 call.2
+  keeps_replied fits BadSpan call = keeps_same call.2 call.1
   keeps_replied fits (Fault cause) call = keeps_fault fits cause call
 
-pub keeps_asked : ServiceLaws → (old new : Parts) (events id : ℕ) (access : Access) (told : Outcome) → AreSound old events → IsSoundDriver old.driver → StaysReady old.driver → access.address < 2 ^ 64
-    → AsksAccess old id access told new → AreSound new (events + 1)
-keeps_asked laws old new events id access told sound own stays fits asks = elim asks [
+pub keeps_asked : ServiceLaws → (old new : Parts) (events id : ℕ) (access : Access) (told : Outcome) → AreSound old events → IsSoundDriver old.driver → StaysReady old.driver
+    → StaysReported old.driver → access.address < 2 ^ 64 → AsksAccess old id access told new → AreSound new (events + 1)
+keeps_asked laws old new events id access told sound own stays reported fits asks = elim asks [
   | inl unknown ↦ subst (λ parts. AreSound parts (events + 1)) (sym unknown.same) (sound_counted old events sound)
-  | inr answered ↦ keeps_replied laws old new events id access sound own stays answered.memory answered.driver answered.devices fits answered.reply answered.call
+  | inr answered ↦ keeps_replied laws old new events id access sound own stays reported answered.driver answered.devices fits answered.reply answered.call
 ]

@@ -1,5 +1,5 @@
 -- A request is a lawful step of the ledger machine.
-use Rattle.std.proofs.Common.{◌≡◌, ◌+◌, ◌/◌, ◌^◌, ◌<◌, ◌∙◌, ◌∷◌, ◌++◌, inl, inr, ℕ, Bool, true, List, [], length, map, Some, Ok, Err, refl, sym, ap, subst, arith}
+use Rattle.std.proofs.Common.{◌≡◌, ◌+◌, ◌/◌, ◌^◌, ◌<◌, ◌∙◌, ◌∷◌, ◌++◌, inl, inr, ℕ, Bool, true, false, List, [], length, map, Some, Ok, Err, slice_get, refl, sym, ap, subst, arith}
 use Rattle.std.proofs.lemmas.List.{length-map}
 use Rattle.iom_base.specs.declared.access.AcceptedAccess.{AcceptedAccess}
 use Rattle.iom_base.specs.declared.access.Access.{Access}
@@ -8,6 +8,7 @@ use Rattle.iom_base.specs.Rights.{allows}
 use Rattle.iom_driver.specs.declared.device.Attachment.{Attachment}
 use Rattle.iom_driver.specs.declared.device.Attachment.TheVariants as driver
 use Rattle.iom_driver.specs.Devices.{attachment_of}
+use Rattle.iom_driver.specs.Layout.{fault_frame}
 use Rattle.iom_driver.specs.State.{DriverState}
 use Rattle.iom_inflight.specs.Calls.{with_access}
 use Rattle.iom_inflight.specs.Flights.{NumberedAccess, FlightRow, row_of, with_row}
@@ -20,27 +21,39 @@ use Rattle.iom_ledger.specs.declared.ledger.Ledger.{Ledger}
 use Rattle.iom_ledger.specs.declared.refusal.Refusal.TheVariants.{NoSuchDevice}
 use Rattle.iom_machine.specs.declared.outcome.Outcome.{Outcome}
 use Rattle.iom_machine.specs.declared.outcome.Outcome.TheVariants as outcome
+use Rattle.iom_machine.specs.declared.state.Attachment.TheVariants as shown
+use Rattle.iom_base.specs.declared.mode.Mode.{Mode}
+use Rattle.iom_base.specs.declared.mode.Mode.TheVariants.{First, Second, Both}
+use Rattle.iom_base.specs.declared.owner.Owner.TheVariants.{System}
 use Rattle.iom_machine.specs.declared.state.Device as machine
 use Rattle.iom_machine.specs.declared.state.State.{State}
 use Rattle.iom_machine.specs.Devices.{replaced_device}
 use Rattle.iom_machine.specs.Machine.{Acts, Requests}
 use Rattle.iom_machine.specs.Requests as requests
-use Rattle.iom_machine.specs.Requests.{MayAccept, MayAcceptInOneStage, MayFault, MayAnswer, IsBusy, state_after, with_accepted}
+use Rattle.iom_machine.specs.Requests.{MayAccept, MayFault, MayAnswer, IsBusy, state_after, with_accepted}
 use Rattle.iom_ledger.specs.Shown.{Agrees, held_in}
-use Rattle.iom_tlb.specs.declared.space.Space.TheVariants as space
 use Rattle.iom_tlb.specs.declared.trans_cache.Translation.{Translation}
 use Rattle.iom_tlb.specs.Chosen.{ioatc}
 use Rattle.iom_tlb.specs.Content.{Content as Translations}
 use Rattle.iom_world.specs.Devices.{accepted_of, in_flight_of, shown_device, shown_devices, shown_attachment}
+use Rattle.iom_world.specs.Frames.{ShowsFrames}
 use Rattle.iom_world.specs.Parts.{Parts}
 use Rattle.iom_world.specs.Places.{IsAbsent}
+use Rattle.iom_world.specs.Read.{space_in}
 use Rattle.iom_world.specs.Requests.{AsksAccess, reply_told_of}
 use Rattle.iom_world.specs.Shows.{PartsShow}
 use Rattle.iom_world.specs.Sound.{AreSound}
 use Rattle.iom_world.proofs.DriverLemmas.{IsSoundDriver}
 use Rattle.iom_world.proofs.RowPlaces.{IsFound, absent_shown, present_found, row_shown, accepted_at, in_flight_at, with_own}
 use Rattle.iom_world.proofs.RowLemmas.{map_push}
-use Rattle.iom_world.proofs.ServedLemmas.{ServiceLaws, NoneIsHeldFor, FaultsAs, IsAnswered, cause_at, served}
+use Rattle.iom_world.proofs.FrameLemmas.{shows_kept}
+use Rattle.iom_world.proofs.PartsLemmas.{StaysReported}
+use Rattle.iom_world.proofs.RequestKeeps.{report_leaves}
+use Rattle.iom_world.proofs.SceneSteps.{HoldsWalked}
+use Rattle.iom_world.proofs.ServedLemmas.{ServiceLaws, FaultsAs, IsAnswered, cause_at, served}
+use Rattle.iom_world.proofs.SoundFrom.{LeavesReport}
+use Rattle.iom_world.proofs.StayLemmas.{not_owned}
+use Rattle.iom_world.proofs.WalkLemmas.{NoneIsHeldFor, FaultsBy}
 use Rattle.iom_world.proofs.CachedMay.{cached_accept}
 
 -- a device acts where it is found; one that isn't there is refused
@@ -57,11 +70,16 @@ acts_absent IfPlugged old state id told shows absent is = rw (shows, absent_show
 pub shows_same : (old new : Parts) (state : State) → new ≡ old → PartsShow old state → PartsShow new state
 shows_same old new state same shows = subst (λ parts. PartsShow parts state) (sym same) shows
 
--- what the ledger shows as held is held by the history
-held_shown : (state : State) (ledger : Ledger) (id : ℕ) (access : Access) (translation : Translation) → Agrees ledger state.history
-    → held_in ledger id (access.address / 4096) ≡ Some (translation.frame, translation.rights) → allows translation.rights access.kind ≡ true
-    → requests.HoldsFor state.history id access translation.frame
-held_shown state ledger id access translation agrees held allowed = (translation.rights, (agrees.pages id (access.address / 4096)).holds ∙ held, allowed)
+-- what a walk gives is held by the history: in one stage at the page itself, in both at some page
+held_shown : (state : State) (ledger : Ledger) (mode : Mode) (id : ℕ) (access : Access) (translation : Translation) → Agrees ledger state.history
+    → HoldsWalked ledger mode id (access.address / 4096) translation → allows translation.rights access.kind ≡ true
+    → MayAccept (shown.Attached mode false) state id access translation.frame
+held_shown state ledger First id access translation agrees (granted, rights, (at, same), held) allowed =
+    inl (rights, (agrees.pages id (access.address / 4096)).holds ∙ ap (held_in ledger id) (sym at) ∙ held, ap (λ r. allows r access.kind) same ∙ allowed)
+held_shown state ledger Second id access translation agrees (granted, rights, (at, same), held) allowed =
+    inl (rights, (agrees.pages id (access.address / 4096)).holds ∙ ap (held_in ledger id) (sym at) ∙ held, ap (λ r. allows r access.kind) same ∙ allowed)
+held_shown state ledger Both id access translation agrees (granted, rights, no_less, held) allowed =
+    (granted, rights, inl ((agrees.pages id granted).holds ∙ held), no_less access.kind allowed)
 
 none_held_shown : (state : State) (ledger : Ledger) (id : ℕ) (access : Access) → Agrees ledger state.history
     → NoneIsHeldFor ledger id (access.address / 4096) access.kind → requests.HoldsNoneFor state.history id access
@@ -74,17 +92,23 @@ may_accept : (parts : Parts) (events : ℕ) (state : State) (id frame : ℕ) (ac
     → MayAccept (shown_attachment (attachment_of parts.driver.devices id)) state id access frame
 may_accept parts events state id frame access sure old new sound own shows same (inl reaches) =
     subst (λ a. MayAccept (shown_attachment a) state id access frame) (sym reaches.attached)
-    (subst (λ n. MayAcceptInOneStage state.history id access n) (sym reaches.frame_is)
-    (inl (held_shown state parts.driver.ledger id access reaches.translation shows.ledger reaches.held reaches.allowed)))
+    (subst (λ n. MayAccept (shown.Attached reaches.stage.mode false) state id access n) (sym reaches.frame_is)
+    (held_shown state parts.driver.ledger reaches.stage.mode id access reaches.translation shows.ledger reaches.held reaches.allowed))
 may_accept parts events state id frame access sure old new sound own shows same (inr finds) =
     subst (λ n. MayAccept (shown_attachment (attachment_of parts.driver.devices id)) state id access n) (sym finds.frame_is)
     (cached_accept parts events state id access finds.stage finds.translation sound own shows finds.owned
-    (ap (λ (c : Translations). c (space.First finds.stage.number, access.address / 4096)) (sym same) ∙ finds.cached) finds.allowed)
+    (ap (λ (c : Translations). c (space_in finds.stage.mode finds.stage.number, access.address / 4096)) (sym same) ∙ finds.cached) finds.allowed)
+
+attached_fault : (mode : Mode) (state : State) (ledger : Ledger) (id : ℕ) (access : Access) (cause : Cause) → Agrees ledger state.history
+    → FaultsBy mode ledger id (access.address / 4096) access.kind cause → MayFault (shown.Attached mode false) state id access cause
+attached_fault First state ledger id access cause agrees faults = (none_held_shown state ledger id access agrees faults.1, faults.0)
+attached_fault Second state ledger id access cause agrees faults = (none_held_shown state ledger id access agrees faults.1, faults.0)
+attached_fault Both state ledger id access cause agrees faults = faults
 
 may_fault : (a : Attachment) (parts : Parts) (state : State) (id : ℕ) (access : Access) (cause : Cause) → IsSoundDriver parts.driver → PartsShow parts state
     → attachment_of parts.driver.devices id ≡ a → FaultsAs a parts.driver id access.address access.kind cause → MayFault (shown_attachment a) state id access cause
 may_fault driver.Detached parts state id access cause own shows is faults = faults ∙ ap (λ l. cause_at l id) (sym shows.levels)
-may_fault (driver.Attached stage) parts state id access cause own shows is faults = (none_held_shown state parts.driver.ledger id access shows.ledger faults.1, faults.0)
+may_fault (driver.Attached stage) parts state id access cause own shows is faults = attached_fault stage.mode state parts.driver.ledger id access cause shows.ledger faults
 may_fault (driver.Leaving ticket stage) parts state id access cause own shows is (inl page) = inr (shows.none_later ticket (own.leaving id ticket stage is).0, page)
 may_fault (driver.Leaving ticket stage) parts state id access cause own shows is (inr none) = inl (none ∙ ap (λ l. cause_at l id) (sym shows.levels))
 
@@ -92,7 +116,28 @@ may_fault (driver.Leaving ticket stage) parts state id access cause own shows is
 abbrev Steps : State → ℕ → Access → Outcome → Parts → Type 0
 Steps state id access told new = (frame : ℕ) × (next : State) × Requests frame state id access told next × PartsShow new next
 
--- nothing changes that the machine shows, though other contexts are cached
+-- nothing changes that the machine shows, though other contexts are cached, and reserved frames have other bytes
+shows_where : (old new : Parts) (state : State) → ShowsFrames new.memory old.driver.marks state.frames → new.driver ≡ old.driver → new.devices ≡ old.devices
+    → flights_of new.iommu ≡ flights_of old.iommu → PartsShow old state → PartsShow new state
+shows_where old new state frames driver devices flights shows = record {
+  ledger = rw driver shows.ledger;
+  frames = rw driver frames;
+  devices = rw (driver, devices, flights) shows.devices;
+  given = rw driver shows.given;
+  confirmed = rw driver shows.confirmed;
+  none_later = rw driver shows.none_later;
+  levels = rw driver shows.levels;
+}
+
+-- a frame that is nobody's isn't the fault queue's, and keeps its bytes where a fault is reported
+shows_reported : (old new : Parts) (state : State) (leaves : LeavesReport old new) → length old.memory ≡ length old.driver.marks → IsSoundDriver old.driver
+    → PartsShow old state → ShowsFrames new.memory old.driver.marks state.frames
+shows_reported old new state leaves size own shows =
+    shows_kept old.memory new.memory old.driver.marks state.frames shows.frames
+    (λ k free. leaves.else_same.frames k (λ same. not_owned old.driver.marks k System free
+    (ap (slice_get old.driver.marks) (same ∙ ap fault_frame size) ∙ own.fixed.fault)))
+    leaves.else_same.size
+
 pub shows_flights : (old new : Parts) (state : State) → new.memory ≡ old.memory → new.driver ≡ old.driver → new.devices ≡ old.devices → flights_of new.iommu ≡ flights_of old.iommu
     → PartsShow old state → PartsShow new state
 shows_flights old new state memory driver devices flights shows = record {
@@ -106,7 +151,7 @@ shows_flights old new state memory driver devices flights shows = record {
 }
 
 module _ (laws : ServiceLaws) (old new : Parts) (events id : ℕ) (access : Access) (sound : AreSound old events) (own : IsSoundDriver old.driver) (fits : access.address < 2 ^ 64)
-    (memory : new.memory ≡ old.memory) (driver : new.driver ≡ old.driver) (devices : new.devices ≡ old.devices) (state : State) (shows : PartsShow old state)
+    (reported : StaysReported old.driver) (driver : new.driver ≡ old.driver) (devices : new.devices ≡ old.devices) (state : State) (shows : PartsShow old state)
     (is : IsFound old.driver.devices (flights_of old.iommu).rows old.devices id) where
   abbrev rows : List FlightRow
   rows = (flights_of old.iommu).rows
@@ -126,29 +171,34 @@ module _ (laws : ServiceLaws) (old new : Parts) (events id : ℕ) (access : Acce
 
   step_same : (told : Outcome) → MayAnswer state (shown_device old.driver.devices (flights_of old.iommu).rows is.device) access 0 told
       → state ≡ state_after state (shown_device old.driver.devices (flights_of old.iommu).rows is.device) access 0 told
-      → flights_of new.iommu ≡ flights_of old.iommu → Steps state id access told new
-  step_same told may stays flights = (
+      → ShowsFrames new.memory old.driver.marks state.frames → flights_of new.iommu ≡ flights_of old.iommu → Steps state id access told new
+  step_same told may stays frames flights = (
     0,
     state,
     acts_at (MayTell 0 state told) old state id told state shows.devices is (may, stays),
-    shows_flights old new state memory driver devices flights shows,
+    shows_where old new state frames driver devices flights shows,
   )
 
-  step_fault : (cause : Cause) → RefusesRequest old.memory old.iommu id access cause new.iommu → Steps state id access (outcome.Fault cause) new
+  same_frames : new.memory ≡ old.memory → ShowsFrames new.memory old.driver.marks state.frames
+  same_frames memory = rw memory shows.frames
+
+  step_fault : (cause : Cause) → RefusesRequest old.memory old.iommu id access cause new.memory new.iommu → Steps state id access (outcome.Fault cause) new
   step_fault cause call =
       let room = call.room in
-      let faults = (served laws old events sound own id access.address access.kind ioatc.SURE (translations_of old.iommu) (translations_of new.iommu) (Err cause) fits call.served).0 in
+      let faults = (served laws old events sound own id access.address access.kind ioatc.SURE (translations_of old.iommu) (translations_of new.iommu) (Err call.fault) fits call.served).0 in
+      let leaves = report_leaves old new events id access sound reported driver devices cause call in
       let count = room.room in
       let many = long room.row room.stands in
       step_same (outcome.Fault cause) (
         (call.within, (λ busy. absurd (omega (arith, count, many, busy)))),
         subst (λ n. MayFault (shown_attachment (attachment_of old.driver.devices n)) state n access cause) (sym is.own)
-            (may_fault (attachment_of old.driver.devices id) old state id access cause own shows refl faults),
+            (subst (λ c. MayFault (shown_attachment (attachment_of old.driver.devices id)) state id access c) (sym call.told)
+            (may_fault (attachment_of old.driver.devices id) old state id access call.fault.cause own shows refl faults)),
       )
-      refl call.flights
+      refl (shows_reported old new state leaves sound.ready.stand.size own shows) call.flights
 
-  step_accept : (number : ℕ) → AcceptsRequest old.memory old.iommu id access number new.iommu → Steps state id access (outcome.Accepted number) new
-  step_accept number call =
+  step_accept : new.memory ≡ old.memory → (number : ℕ) → AcceptsRequest old.memory old.iommu id access number new.iommu → Steps state id access (outcome.Accepted number) new
+  step_accept memory number call =
       let it = call.accepted in
       let flight : AcceptedAccess = record { access = access; frame = call.frame } in
       let so_far = (flights_of old.iommu).so_far in
@@ -192,18 +242,19 @@ module _ (laws : ServiceLaws) (old new : Parts) (events id : ℕ) (access : Acce
         },
       )
 
-  step_replied : (reply : Reply) → AnswersRequest old.memory old.iommu id access reply new.iommu → Steps state id access (reply_told_of reply) new
-  step_replied (Accepted number) call = step_accept number call
+  step_replied : (reply : Reply) → AnswersRequest old.memory old.iommu id access reply new.memory new.iommu → Steps state id access (reply_told_of reply) new
+  step_replied (Accepted number) call = step_accept call.1 number call.0
   step_replied Busy call =
       let full = call.1.full in
       let many = long call.1.row call.1.stands in
-      step_same outcome.Busy (call.0, omega (arith, full, many)) refl (ap flights_of call.2)
-  step_replied BadSpan call = step_same outcome.BadSpan call.0 refl (ap flights_of call.1)
+      step_same outcome.Busy (call.0, omega (arith, full, many)) refl (same_frames call.3) (ap flights_of call.2)
+  step_replied BadSpan call = step_same outcome.BadSpan call.0 refl (same_frames call.2) (ap flights_of call.1)
   step_replied (Fault cause) call = step_fault cause call
 
-pub request_step : ServiceLaws → (old new : Parts) (events id : ℕ) (access : Access) (told : Outcome) → AreSound old events → IsSoundDriver old.driver → access.address < 2 ^ 64 → AsksAccess old id access told new
+pub request_step : ServiceLaws → (old new : Parts) (events id : ℕ) (access : Access) (told : Outcome) → AreSound old events → IsSoundDriver old.driver → StaysReported old.driver
+    → access.address < 2 ^ 64 → AsksAccess old id access told new
     → (state : State) → PartsShow old state → (frame : ℕ) × (next : State) × Requests frame state id access told next × PartsShow new next
-request_step laws old new events id access told sound own fits asks state shows = elim asks [
+request_step laws old new events id access told sound own reported fits asks state shows = elim asks [
   | inl unknown ↦ (
     0,
     state,
@@ -211,7 +262,7 @@ request_step laws old new events id access told sound own fits asks state shows 
     shows_same old new state unknown.same shows,
   )
   | inr answered ↦
-      let step = step_replied laws old new events id access sound own fits answered.memory answered.driver answered.devices state shows
+      let step = step_replied laws old new events id access sound own fits reported answered.driver answered.devices state shows
       (present_found old.driver.devices (flights_of old.iommu).rows old.devices id answered.present) answered.reply answered.call in
       (step.0, step.1, subst (λ t. Requests step.0 state id access t step.1) (sym answered.told_so) step.2, step.3)
 ]

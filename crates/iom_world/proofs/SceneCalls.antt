@@ -7,7 +7,7 @@ use Rattle.iom_command_queue.specs.declared.command.Command.TheVariants.{Iotinva
 use Rattle.iom_command_queue.specs.declared.entry.QueueEntry.{QueueEntry}
 use Rattle.iom_command_queue.specs.declared.entry.QueueEntry.TheVariants.{Command}
 use Rattle.iom_copies.specs.Attachments.{IsAttached}
-use Rattle.iom_copies.specs.DriverCalls.{with_attachment, with_kind, with_ticket, release_commands, leave_commands, once_confirmed}
+use Rattle.iom_copies.specs.DriverCalls.{with_attachment, with_kind, with_ticket, released_extent, release_commands, leave_commands, once_confirmed}
 use Rattle.iom_copies.proofs.ListLemmas.{in_none, contains_head, contains_tail}
 use Rattle.iom_ledger.specs.Confirmations.{confirmed_from}
 use Rattle.iom_copies.specs.Faithful.{GrantsFit, IsFaithful}
@@ -23,36 +23,35 @@ use Rattle.iom_ledger.specs.Shown.{Agrees, held_in, lingering_in, released_in}
 use Rattle.iom_machine.specs.declared.state.Attachment.{Attachment}
 use Rattle.iom_machine.specs.declared.state.Attachment.TheVariants.{Detached, Attached, Quarantined, Leaving}
 use Rattle.iom_machine.specs.declared.state.DeviceKind.{DeviceKind}
-use Rattle.iom_machine.specs.declared.state.Mode.TheVariants.{First}
+use Rattle.iom_base.specs.declared.mode.Mode.{Mode}
+use Rattle.iom_tlb.specs.declared.space.Space.{Space}
 use Rattle.iom_tlb.specs.declared.trans_cache.Translation.{Translation}
 use Rattle.iom_tlb.specs.Content.{Key}
 use Rattle.iom_world.specs.Queued.{AreQueuedAs, ComeBefore, pending_after}
 use Rattle.iom_world.specs.Scenes.{Values, copy_of, IsSomebodys, GoesInOrder, IsSceneOf, HasFaithfulScene}
-use Rattle.iom_world.proofs.QueuedLemmas.{NumbersStay, queued_append, queued_still, come_on, come_up_to, none_left, pending_next}
+use Rattle.iom_world.proofs.QueuedLemmas.{SpacesStay, queued_append, queued_still, come_on, come_up_to, none_left, pending_next}
 use Rattle.iom_world.proofs.ConfirmScenes.{left_after, confirmed_scene, confirm_all}
 
 -- what is cached of translations is as it was, or less; the fence at the head counted as many; and who has a number keeps it
 pub record KeepsCached (old new : Values) : Type 0 where
-  pub numbers : (device number : ℕ) → old.number_of device ≡ Some number → new.number_of device ≡ Some number
+  pub spaces : (device : ℕ) (space : Space) → old.space_of device ≡ Some space → new.space_of device ≡ Some space
   pub translations : (key : Key) (translation : Translation) → new.translations key ≡ Some translation → old.translations key ≡ Some translation
   pub stock : new.stock ≡ old.stock
 
 -- each cached translation is still somebody's
 somebodys_still : (old new : Values) (scene : Scene) → KeepsCached old new → IsSceneOf old scene
-    → (key : Key) (translation : Translation) → new.translations key ≡ Some translation → IsSomebodys new.number_of scene.translations key translation
+    → (key : Key) (translation : Translation) → new.translations key ≡ Some translation → IsSomebodys new.space_of scene.translations key translation
 somebodys_still old new scene keeps shows key translation at =
     let was = shows.translations key translation (keeps.translations key translation at) in record {
       device = was.device;
-      number = was.number;
-      own = keeps.numbers was.device was.number was.own;
-      space = was.space;
+      own = keeps.spaces was.device key.0 was.own;
       there = was.there;
     }
 
 waits_still : (old new : Values) (scene : Scene) → KeepsCached old new → IsSceneOf old scene → new.address ≡ old.address → new.waiting ≡ old.waiting
-    → AreQueuedAs new.address new.number_of new.waiting scene.waiting
+    → AreQueuedAs new.address new.space_of new.waiting scene.waiting
 waits_still old new scene keeps shows address waiting =
-    rw (address, waiting) (queued_still old.address old.number_of new.number_of old.waiting scene.waiting (λ device number extent there own. keeps.numbers device number own) shows.waiting)
+    rw (address, waiting) (queued_still old.address old.space_of new.space_of old.waiting scene.waiting (λ device space extent there own. keeps.spaces device space own) shows.waiting)
 
 -- devices that are attached as before leave as before
 leaves_still : (old new : Values) (scene : Scene) → IsSceneOf old scene → ((d : ℕ) → new.attachment_of d ≡ old.attachment_of d) → (d : ℕ) → GoesInOrder d (new.attachment_of d) scene.waiting
@@ -154,17 +153,17 @@ attached_as : (old new : Values) (scene : Scene) (id : ℕ) (now : Attachment) �
 attached_as old new scene id now shows attaches d = ap (λ before. if id == d then now else before) (shows.attachments d) ∙ sym (attaches d)
 
 -- a device that is attached leaves no more, and others leave as before
-attached_leaves : (old new : Values) (scene : Scene) (id : ℕ) → IsSceneOf old scene → AttachesOne old new id (Attached First false) → (d : ℕ) → GoesInOrder d (new.attachment_of d) scene.waiting
-attached_leaves old new scene id shows attaches d = subst (λ a. GoesInOrder d a scene.waiting) (sym (attaches d)) (by (id == d))
+attached_leaves : (old new : Values) (scene : Scene) (id : ℕ) (mode : Mode) → IsSceneOf old scene → AttachesOne old new id (Attached mode false) → (d : ℕ) → GoesInOrder d (new.attachment_of d) scene.waiting
+attached_leaves old new scene id mode shows attaches d = subst (λ a. GoesInOrder d a scene.waiting) (sym (attaches d)) (by (id == d))
   where
-    by : (b : Bool) → GoesInOrder d (if b then Attached First false else old.attachment_of d) scene.waiting
+    by : (b : Bool) → GoesInOrder d (if b then Attached mode false else old.attachment_of d) scene.waiting
     by true = tt
     by false = shows.leaving d
 
--- ATTACH, in the first stage and without ATS
-pub record AttachesDetached (old new : Values) (id : ℕ) : Type 0 where
+-- ATTACH, without ATS
+pub record AttachesDetached (old new : Values) (id : ℕ) (mode : Mode) : Type 0 where
   pub detached : old.attachment_of id ≡ Detached
-  pub attached : AttachesOne old new id (Attached First false)
+  pub attached : AttachesOne old new id (Attached mode false)
   pub agrees : (h : History) → Agrees old.ledger h → Agrees new.ledger h
   pub address : new.address ≡ old.address
   pub waiting : new.waiting ≡ old.waiting
@@ -177,9 +176,9 @@ pub record AttachesDetached (old new : Values) (id : ℕ) : Type 0 where
   pub contexts : (d : ℕ) → new.is_cached d ≡ true → old.is_cached d ≡ true
   pub cached : KeepsCached old new
 
-pub attach_scene : (old new : Values) (id : ℕ) → AttachesDetached old new id → HasFaithfulScene old → HasFaithfulScene new
-attach_scene old new id attaches (scene, shows, facts) =
-    let next : Scene = record scene { attachment_of = with_attachment scene.attachment_of id (Attached First false) } in (
+pub attach_scene : (old new : Values) (id : ℕ) (mode : Mode) → AttachesDetached old new id mode → HasFaithfulScene old → HasFaithfulScene new
+attach_scene old new id mode attaches (scene, shows, facts) =
+    let next : Scene = record scene { attachment_of = with_attachment scene.attachment_of id (Attached mode false) } in (
       next,
       record {
         ledger = attaches.agrees scene.history shows.ledger;
@@ -192,19 +191,20 @@ attach_scene old new id attaches (scene, shows, facts) =
         accepted = shows.accepted ∙ sym attaches.so_far;
         in_flight = shows.in_flight ∙ sym attaches.in_flight;
         unplugged = λ d none. shows.unplugged d (attaches.unplugged d none);
-        attachments = attached_as old new scene id (Attached First false) shows attaches.attached;
+        attachments = attached_as old new scene id (Attached mode false) shows attaches.attached;
         contexts = λ d is. shows.contexts d (attaches.contexts d is);
         translations = somebodys_still old new scene attaches.cached shows;
         stock = rw attaches.cached.stock shows.stock;
-        leaving = attached_leaves old new scene id shows attaches.attached;
+        leaving = attached_leaves old new scene id mode shows attaches.attached;
         alone = record { goes_on = shows.alone.goes_on; entries = shows.alone.entries; messages = shows.alone.messages; slots = shows.alone.slots };
       },
-      occurrences_keep_facts (Attach id First false) scene next facts (shows.attachments id ∙ attaches.detached, (λ ats. absurd (false≢true ats)), refl),
+      occurrences_keep_facts (Attach id mode false) scene next facts (shows.attachments id ∙ attaches.detached, (λ ats. absurd (false≢true ats)), refl),
     )
 
 -- GRANT
 pub record GrantsOne (old new : Values) (id page frame : ℕ) (rights : Rights) : Type 0 where
-  pub attached : old.attachment_of id ≡ Attached First false
+  pub mode : Mode
+  pub attached : old.attachment_of id ≡ Attached mode false
   pub not_held : held_in old.ledger id page ≡ None
   pub not_lingering : lingering_in old.ledger id page ≡ None
   pub agrees : (h : History) → Agrees old.ledger h → Agrees new.ledger (Granted id page frame rights ∷ h)
@@ -220,8 +220,8 @@ pub record GrantsOne (old new : Values) (id page frame : ℕ) (rights : Rights) 
   pub contexts : (d : ℕ) → new.is_cached d ≡ true → old.is_cached d ≡ true
   pub cached : KeepsCached old new
 
-is_attached_so : (attachment : Attachment) → attachment ≡ Attached First false → IsAttached attachment
-is_attached_so attachment is = rw is refl
+is_attached_so : (attachment : Attachment) (mode : Mode) → attachment ≡ Attached mode false → IsAttached attachment
+is_attached_so attachment mode is = rw is refl
 
 none_in : {X : Type 0} (xs : List X) (x : X) → xs ≡ [] → ¬ Contains xs x
 none_in xs x none there = in_none x (subst (λ l. Contains l x) none there)
@@ -249,7 +249,7 @@ grant_scene old new id page frame rights grants (scene, shows, facts) =
         alone = record { goes_on = shows.alone.goes_on; entries = shows.alone.entries; messages = shows.alone.messages; slots = shows.alone.slots };
       },
       occurrences_keep_facts (Grant id page frame rights) scene next facts (
-        is_attached_so (scene.attachment_of id) (shows.attachments id ∙ grants.attached),
+        is_attached_so (scene.attachment_of id) grants.mode (shows.attachments id ∙ grants.attached),
         (shows.ledger.pages id page).holds ∙ grants.not_held,
         (λ released. none_in (lingering_at scene.history id page) released (nothing_lingers old scene id page shows grants.not_lingering)),
         refl,
@@ -259,7 +259,7 @@ grant_scene old new id page frame rights grants (scene, shows, facts) =
 -- what becomes of queue and tickets when these commands are appended, and behind them the fence of the next ticket
 pub record QueuesTicket (old new : Values) (commands : List QueueEntry) (queued : List QueuedCommand) : Type 0 where
   pub ordered : old.confirmed ≤ old.given
-  pub appended : AreQueuedAs old.address old.number_of commands queued
+  pub appended : AreQueuedAs old.address old.space_of commands queued
   pub waiting : new.waiting ≡ old.waiting ++ (commands ++ Command (fence old.address (old.given + 1)) ∷ [])
   pub address : new.address ≡ old.address
   pub completed : new.completed ≡ old.completed
@@ -272,15 +272,15 @@ pub record QueuesTicket (old new : Values) (commands : List QueueEntry) (queued 
   pub cached : KeepsCached old new
 
 module _ (old new : Values) (scene : Scene) (commands : List QueueEntry) (queued : List QueuedCommand) (shows : IsSceneOf old scene) (queues : QueuesTicket old new commands queued) where
-  fence_now : AreQueuedAs old.address old.number_of (Command (fence old.address (old.given + 1)) ∷ []) (Fence (scene.last_fence + 1) ∷ [])
+  fence_now : AreQueuedAs old.address old.space_of (Command (fence old.address (old.given + 1)) ∷ []) (Fence (scene.last_fence + 1) ∷ [])
   fence_now = (ap (λ n. fence old.address (n + 1)) (sym shows.last_fence), tt)
 
-  waiting_now : AreQueuedAs new.address new.number_of new.waiting (scene.waiting ++ (queued ++ Fence (scene.last_fence + 1) ∷ []))
+  waiting_now : AreQueuedAs new.address new.space_of new.waiting (scene.waiting ++ (queued ++ Fence (scene.last_fence + 1) ∷ []))
   waiting_now =
       rw (queues.address, queues.waiting)
-      (queued_still old.address old.number_of new.number_of _ (scene.waiting ++ (queued ++ Fence (scene.last_fence + 1) ∷ [])) (λ device number extent there own. queues.cached.numbers device number own)
-      (queued_append old.address old.number_of old.waiting (commands ++ Command (fence old.address (old.given + 1)) ∷ []) scene.waiting (queued ++ Fence (scene.last_fence + 1) ∷ []) shows.waiting
-      (queued_append old.address old.number_of commands (Command (fence old.address (old.given + 1)) ∷ []) queued (Fence (scene.last_fence + 1) ∷ []) queues.appended fence_now)))
+      (queued_still old.address old.space_of new.space_of _ (scene.waiting ++ (queued ++ Fence (scene.last_fence + 1) ∷ [])) (λ device space extent there own. queues.cached.spaces device space own)
+      (queued_append old.address old.space_of old.waiting (commands ++ Command (fence old.address (old.given + 1)) ∷ []) scene.waiting (queued ++ Fence (scene.last_fence + 1) ∷ []) shows.waiting
+      (queued_append old.address old.space_of commands (Command (fence old.address (old.given + 1)) ∷ []) queued (Fence (scene.last_fence + 1) ∷ []) queues.appended fence_now)))
 
   pending_now : (with_ticket scene queued).pending ≡ pending_after new.confirmed (new.given - new.confirmed)
   pending_now =
@@ -317,21 +317,21 @@ unconfirmed_next values scene ticket shows facts above = by (confirms scene.hist
     by true is = let low = facts.order.confirmed ticket is in let same = shows.confirmed in absurd (omega (arith, low, above, same))
 
 -- no invalidation of an attached device is one of a leaving device
-release_goes : (old : Values) (scene : Scene) (id page number d : ℕ) (a : Attachment) → old.attachment_of id ≡ Attached First false → old.attachment_of d ≡ a → GoesInOrder d a scene.waiting
-    → GoesInOrder d a (scene.waiting ++ (release_commands id (OnePage page) false ++ Fence number ∷ []))
-release_goes old scene id page number d Detached attached is goes = tt
-release_goes old scene id page number d (Attached mode ats) attached is goes = tt
-release_goes old scene id page number d (Quarantined ticket mode ats) attached is goes = tt
-release_goes old scene id page number d (Leaving ticket mode ats) attached is goes =
-    come_on d ticket scene.waiting (release_commands id (OnePage page) false ++ Fence number ∷ []) goes
+release_goes : (old : Values) (scene : Scene) (id number d : ℕ) (extent : Extent) (mode : Mode) (a : Attachment) → old.attachment_of id ≡ Attached mode false → old.attachment_of d ≡ a → GoesInOrder d a scene.waiting
+    → GoesInOrder d a (scene.waiting ++ (release_commands id extent false ++ Fence number ∷ []))
+release_goes old scene id number d extent mode Detached attached is goes = tt
+release_goes old scene id number d extent mode (Attached own ats) attached is goes = tt
+release_goes old scene id number d extent mode (Quarantined ticket own ats) attached is goes = tt
+release_goes old scene id number d extent mode (Leaving ticket own ats) attached is goes =
+    come_on d ticket scene.waiting (release_commands id extent false ++ Fence number ∷ []) goes
     ((λ same. let both = sym attached ∙ ap old.attachment_of same ∙ is in cc), tt)
 
-detach_goes : (old : Values) (scene : Scene) (id number d : ℕ) (a : Attachment) → old.attachment_of id ≡ Attached First false → old.attachment_of d ≡ a → GoesInOrder d a scene.waiting
+detach_goes : (old : Values) (scene : Scene) (id number d : ℕ) (mode : Mode) (a : Attachment) → old.attachment_of id ≡ Attached mode false → old.attachment_of d ≡ a → GoesInOrder d a scene.waiting
     → GoesInOrder d a (scene.waiting ++ (leave_commands id ++ Fence number ∷ []))
-detach_goes old scene id number d Detached attached is goes = tt
-detach_goes old scene id number d (Attached mode ats) attached is goes = tt
-detach_goes old scene id number d (Quarantined ticket mode ats) attached is goes = tt
-detach_goes old scene id number d (Leaving ticket mode ats) attached is goes =
+detach_goes old scene id number d mode Detached attached is goes = tt
+detach_goes old scene id number d mode (Attached own ats) attached is goes = tt
+detach_goes old scene id number d mode (Quarantined ticket own ats) attached is goes = tt
+detach_goes old scene id number d mode (Leaving ticket own ats) attached is goes =
     come_on d ticket scene.waiting (leave_commands id ++ Fence number ∷ []) goes
     ((λ same. let both = sym attached ∙ ap old.attachment_of same ∙ is in cc), tt)
 
@@ -344,12 +344,12 @@ detached_goes scene id number =
     ((λ same. last), tt)
 
 -- RELEASE
-pub release_scene : (old new : Values) (id page : ℕ) (commands : List QueueEntry) → QueuesTicket old new commands (DropTranslations id (OnePage page) ∷ [])
-    → old.attachment_of id ≡ Attached First false → ((d : ℕ) → new.attachment_of d ≡ old.attachment_of d)
+pub release_scene : (old new : Values) (id page : ℕ) (mode : Mode) (commands : List QueueEntry) → QueuesTicket old new commands (DropTranslations id (released_extent mode page) ∷ [])
+    → old.attachment_of id ≡ Attached mode false → ((d : ℕ) → new.attachment_of d ≡ old.attachment_of d)
     → ((h : History) → Agrees old.ledger h → confirms h (old.given + 1) ≡ false → Agrees new.ledger (Released id page (old.given + 1) ∷ h))
     → HasFaithfulScene old → HasFaithfulScene new
-release_scene old new id page commands queues attached same agrees (scene, shows, facts) =
-    let queued = release_commands id (OnePage page) false in
+release_scene old new id page mode commands queues attached same agrees (scene, shows, facts) =
+    let queued = release_commands id (released_extent mode page) false in
     let ordered = queues.ordered in
     let next : Scene = record (with_ticket scene queued) { history = Released id page (scene.given + 1) ∷ scene.history } in
     let agreed : Agrees new.ledger (Released id page (scene.given + 1) ∷ scene.history) =
@@ -357,24 +357,24 @@ release_scene old new id page commands queues attached same agrees (scene, shows
       next,
       ticket_shows old new scene commands queued shows queues (Released id page (scene.given + 1) ∷ scene.history) scene.attachment_of agreed (λ d. shows.attachments d ∙ sym (same d))
           (λ d. subst (λ a. GoesInOrder d a (scene.waiting ++ (queued ++ Fence (scene.last_fence + 1) ∷ []))) (sym (same d))
-          (release_goes old scene id page (scene.last_fence + 1) d (old.attachment_of d) attached refl (shows.leaving d))),
-      occurrences_keep_facts (Release id page) scene next facts (First, false, shows.attachments id ∙ attached, refl),
+          (release_goes old scene id (scene.last_fence + 1) d (released_extent mode page) mode (old.attachment_of d) attached refl (shows.leaving d))),
+      occurrences_keep_facts (Release id page) scene next facts (mode, false, shows.attachments id ∙ attached, refl),
     )
 
 -- DETACH
-pub detach_scene : (old new : Values) (id : ℕ) (commands : List QueueEntry) → QueuesTicket old new commands (leave_commands id)
-    → old.attachment_of id ≡ Attached First false → AttachesOne old new id (Leaving (old.given + 1) First false)
+pub detach_scene : (old new : Values) (id : ℕ) (mode : Mode) (commands : List QueueEntry) → QueuesTicket old new commands (leave_commands id)
+    → old.attachment_of id ≡ Attached mode false → AttachesOne old new id (Leaving (old.given + 1) mode false)
     → ((page : ℕ) → (held_in old.ledger id page ≡ None) × (lingering_in old.ledger id page ≡ None))
     → ((h : History) → Agrees old.ledger h → Agrees new.ledger h) → HasFaithfulScene old → HasFaithfulScene new
-detach_scene old new id commands queues attached leaves nothing agrees (scene, shows, facts) =
-    let now = with_attachment scene.attachment_of id (Leaving (scene.given + 1) First false) in
+detach_scene old new id mode commands queues attached leaves nothing agrees (scene, shows, facts) =
+    let now = with_attachment scene.attachment_of id (Leaving (scene.given + 1) mode false) in
     let next : Scene = record (with_ticket scene (leave_commands id)) { attachment_of = now } in
-    let leaves_so : AttachesOne old new id (Leaving (scene.given + 1) First false) = rw shows.given leaves in (
+    let leaves_so : AttachesOne old new id (Leaving (scene.given + 1) mode false) = rw shows.given leaves in (
       next,
-      ticket_shows old new scene commands (leave_commands id) shows queues scene.history now (agrees scene.history shows.ledger) (attached_as old new scene id (Leaving (scene.given + 1) First false) shows leaves_so)
+      ticket_shows old new scene commands (leave_commands id) shows queues scene.history now (agrees scene.history shows.ledger) (attached_as old new scene id (Leaving (scene.given + 1) mode false) shows leaves_so)
           (λ d. subst (λ a. GoesInOrder d a (scene.waiting ++ (leave_commands id ++ Fence (scene.last_fence + 1) ∷ []))) (sym (leaves d)) (goes d (id == d) refl)),
       occurrences_keep_facts (Detach id) scene next facts (
-        First,
+        mode,
         false,
         shows.attachments id ∙ attached,
         (λ page. (shows.ledger.pages id page).holds ∙ (nothing page).0),
@@ -384,13 +384,13 @@ detach_scene old new id commands queues attached leaves nothing agrees (scene, s
     )
   where
     goes : (d : ℕ) (b : Bool) → (id == d) ≡ b
-        → GoesInOrder d (if b then Leaving (old.given + 1) First false else old.attachment_of d) (scene.waiting ++ (leave_commands id ++ Fence (scene.last_fence + 1) ∷ []))
+        → GoesInOrder d (if b then Leaving (old.given + 1) mode false else old.attachment_of d) (scene.waiting ++ (leave_commands id ++ Fence (scene.last_fence + 1) ∷ []))
     goes d true is =
         let same : id ≡ d = eqb-true id d is in
         let ticket : scene.last_fence + 1 ≡ old.given + 1 = ap (λ n. n + 1) shows.last_fence in
         subst (λ n. ComeBefore d n (scene.waiting ++ (leave_commands id ++ Fence (scene.last_fence + 1) ∷ []))) ticket
         (subst (λ e. ComeBefore e (scene.last_fence + 1) (scene.waiting ++ (leave_commands id ++ Fence (scene.last_fence + 1) ∷ []))) same (detached_goes scene id (scene.last_fence + 1)))
-    goes d false is = detach_goes old scene id (scene.last_fence + 1) d (old.attachment_of d) attached refl (shows.leaving d)
+    goes d false is = detach_goes old scene id (scene.last_fence + 1) d mode (old.attachment_of d) attached refl (shows.leaving d)
 
 -- POLL, which confirms so many tickets
 
@@ -455,8 +455,8 @@ pub record ConfirmsSome (old new : Values) (n rest : ℕ) : Type 0 where
   pub in_flight : new.in_flight ≡ old.in_flight
   pub unplugged : (d : ℕ) → new.is_plugged d ≡ false → old.is_plugged d ≡ false
   pub contexts : (d : ℕ) → new.is_cached d ≡ true → old.is_cached d ≡ true
-  pub numbers : (device number : ℕ) → old.number_of device ≡ Some number
-      → (new.number_of device ≡ Some number) ⊎ HasLeft (old.attachment_of device) (old.confirmed + n)
+  pub spaces : (device : ℕ) (space : Space) → old.space_of device ≡ Some space
+      → (new.space_of device ≡ Some space) ⊎ HasLeft (old.attachment_of device) (old.confirmed + n)
   pub translations : new.translations ≡ old.translations
   pub stock : new.stock ≡ old.stock
 
@@ -473,7 +473,7 @@ poll_scene old new n rest confirms_some (scene, shows, facts) =
       confirmed_scene scene n rest,
       record {
         ledger = rw c (confirms_some.agrees scene.history shows.ledger);
-        waiting = rw (confirms_some.address, confirms_some.waiting) (queued_still old.address old.number_of new.number_of old.waiting scene.waiting stay shows.waiting);
+        waiting = rw (confirms_some.address, confirms_some.waiting) (queued_still old.address old.space_of new.space_of old.waiting scene.waiting stay shows.waiting);
         completed = shows.completed ∙ sym confirms_some.completed;
         last_fence = shows.last_fence ∙ sym confirms_some.given;
         pending = ap (λ k. pending_after k rest) (ap (λ k. k + n) c ∙ sym confirms_some.confirmed) ∙ ap (pending_after new.confirmed) (sym left);
@@ -495,16 +495,16 @@ poll_scene old new n rest confirms_some (scene, shows, facts) =
     done_now : old.confirmed + n ≤ scene.completed
     done_now = rw shows.completed confirms_some.done
 
-    stay : NumbersStay old.number_of new.number_of scene.waiting
-    stay device number extent there own = elim (confirms_some.numbers device number own) [
+    stay : SpacesStay old.space_of new.space_of scene.waiting
+    stay device space extent there own = elim (confirms_some.spaces device space own) [
       | inl now ↦ now
       | inr left ↦ absurd (none_queued scene device extent (old.attachment_of device) (old.confirmed + n) facts (shows.leaving device) left done_now there)
     ]
 
-    still : (key : Key) (translation : Translation) → new.translations key ≡ Some translation → IsSomebodys new.number_of scene.translations key translation
+    still : (key : Key) (translation : Translation) → new.translations key ≡ Some translation → IsSomebodys new.space_of scene.translations key translation
     still key translation at =
         let was = shows.translations key translation (sym (ap (λ c. c key) confirms_some.translations) ∙ at) in
-        elim (confirms_some.numbers was.device was.number was.own) [
-          | inl now ↦ record { device = was.device; number = was.number; own = now; space = was.space; there = was.there }
+        elim (confirms_some.spaces was.device key.0 was.own) [
+          | inl now ↦ record { device = was.device; own = now; there = was.there }
           | inr left ↦ absurd (none_cached scene (copy_of was.device key.1 translation) (old.attachment_of was.device) (old.confirmed + n) facts (shows.attachments was.device) left was.there)
         ]

@@ -11,7 +11,7 @@ use Rattle.iom_command_queue.specs.declared.command.FenceStore.{FenceStore}
 use Rattle.iom_command_queue.specs.declared.entry.QueueEntry.{QueueEntry}
 use Rattle.iom_command_queue.specs.declared.entry.QueueEntry.TheVariants.{Command, Illegal, Outside}
 use Rattle.iom_copies.specs.Among.{AreAmong, AreAmongWith}
-use Rattle.iom_copies.specs.Attachments.{in_both_stages, IsAttached}
+use Rattle.iom_copies.specs.Attachments.{is_both, in_both_stages, IsAttached}
 use Rattle.iom_copies.specs.Backing.{ComesFrom}
 use Rattle.iom_copies.specs.Faithful.{IsFaithful}
 use Rattle.iom_copies.specs.Fetches.{TranslationsAreDropped, ContextIsDropped, FenceTakesStock, FenceIsDone}
@@ -23,19 +23,20 @@ use Rattle.iom_copies.proofs.ListLemmas.{in_none, cons_cases, contains_head, con
 use Rattle.iom_copies.proofs.OccurrenceLemmas.{occurrences_keep_facts}
 use Rattle.iom_driver.specs.Appends.{fence}
 use Rattle.iom_driver.proofs.Lists.{differs}
+use Rattle.iom_ledger.specs.declared.ledger.Ledger.{Ledger}
 use Rattle.iom_ledger.specs.Shown.{Agrees, held_in}
 use Rattle.iom_machine.specs.declared.state.Attachment.{Attachment}
 use Rattle.iom_machine.specs.declared.state.Attachment.TheVariants.{Detached, Attached, Quarantined, Leaving}
-use Rattle.iom_machine.specs.declared.state.Mode.TheVariants.{First}
+use Rattle.iom_base.specs.declared.mode.Mode.{Mode}
 use Rattle.iom_iommu.specs.Fetches.{accepted_before}
 use Rattle.iom_tlb.specs.declared.space.Space.{Space}
 use Rattle.iom_tlb.specs.declared.space.Space.TheVariants as space
 use Rattle.iom_tlb.specs.declared.trans_cache.Translation.{Translation}
 use Rattle.iom_tlb.specs.Content.{Key, Content as Translations}
 use Rattle.iom_tlb.specs.Covers.{are_covering}
-use Rattle.iom_tlb.specs.Invalidations.{covers_of, vma_covers}
-use Rattle.iom_world.specs.Queued.{IsOfExtent, IsInvalidation, IsQueuedAs, AreQueuedAs, pending_after}
-use Rattle.iom_world.proofs.QueuedLemmas.{NumbersStay, queued_first, queued_still, come_after}
+use Rattle.iom_tlb.specs.Invalidations.{covers_of}
+use Rattle.iom_world.specs.Queued.{invalidation_in, extent_in, IsInvalidation, IsQueuedAs, AreQueuedAs, pending_after}
+use Rattle.iom_world.proofs.QueuedLemmas.{SpacesStay, queued_first, queued_still, come_after}
 use Rattle.iom_world.specs.Scenes.{Values, copy_of, IsSomebodys, IsStockOf, GoesInOrder, IsSceneOf, HasFaithfulScene}
 
 -- what neither a request nor a commit nor a fetch changes
@@ -46,7 +47,7 @@ pub record KeepsGrants (old new : Values) : Type 0 where
   pub confirmed : new.confirmed ≡ old.confirmed
   pub plugged : (d : ℕ) → new.is_plugged d ≡ old.is_plugged d
   pub attachments : (d : ℕ) → new.attachment_of d ≡ old.attachment_of d
-  pub numbers : (d : ℕ) → new.number_of d ≡ old.number_of d
+  pub spaces : (d : ℕ) → new.space_of d ≡ old.space_of d
 
 -- what a request or a commit leaves of the queue, and what the fence at the head counted
 pub record KeepsQueue (old new : Values) : Type 0 where
@@ -60,17 +61,17 @@ CachesNoMore old new = (key : Key) (translation : Translation) → new.translati
 
 -- what may be others of a scene of such values
 pub record IsNext (new : Values) (old : Values) (next : Scene) : Type 0 where
-  pub waiting : AreQueuedAs old.address old.number_of new.waiting next.waiting
+  pub waiting : AreQueuedAs old.address old.space_of new.waiting next.waiting
   pub completed : next.completed ≡ new.completed
   pub accepted : next.accepted ≡ new.so_far
   pub in_flight : next.in_flight ≡ new.in_flight
   pub contexts : (d : ℕ) → new.is_cached d ≡ true → Contains next.contexts d
-  pub translations : (key : Key) (translation : Translation) → new.translations key ≡ Some translation → IsSomebodys old.number_of next.translations key translation
+  pub translations : (key : Key) (translation : Translation) → new.translations key ≡ Some translation → IsSomebodys old.space_of next.translations key translation
   pub stock : IsStockOf new.stock next.stock
   pub leaving : (d : ℕ) → GoesInOrder d (old.attachment_of d) next.waiting
 
-numbers_alike : (old new : ℕ → Option ℕ) (queued : List QueuedCommand) → ((d : ℕ) → new d ≡ old d) → NumbersStay old new queued
-numbers_alike old new queued same device number extent there own = same device ∙ own
+spaces_alike : (old new : ℕ → Option Space) (queued : List QueuedCommand) → ((d : ℕ) → new d ≡ old d) → SpacesStay old new queued
+spaces_alike old new queued same device space extent there own = same device ∙ own
 
 -- a scene of such values
 scene_from : (old new : Values) (scene next : Scene) → KeepsGrants old new → IsSceneOf old scene
@@ -86,7 +87,7 @@ scene_from : (old new : Values) (scene next : Scene) → KeepsGrants old new →
     → IsNext new old next → IsSceneOf new next
 scene_from old new scene next keeps shows same is = record {
   ledger = rw (keeps.ledger, ap (λ (s : Scene). s.history) same) shows.ledger;
-  waiting = rw keeps.address (queued_still old.address old.number_of new.number_of new.waiting next.waiting (numbers_alike old.number_of new.number_of next.waiting keeps.numbers) is.waiting);
+  waiting = rw keeps.address (queued_still old.address old.space_of new.space_of new.waiting next.waiting (spaces_alike old.space_of new.space_of next.waiting keeps.spaces) is.waiting);
   completed = is.completed;
   last_fence = ap (λ (s : Scene). s.last_fence) same ∙ shows.last_fence ∙ sym keeps.given;
   pending = rw (ap (λ (s : Scene). s.pending) same, keeps.given, keeps.confirmed) shows.pending;
@@ -99,7 +100,7 @@ scene_from old new scene next keeps shows same is = record {
   contexts = is.contexts;
   translations = λ key translation at.
       let one = is.translations key translation at in
-      record { device = one.device; number = one.number; own = keeps.numbers one.device ∙ one.own; space = one.space; there = one.there };
+      record { device = one.device; own = keeps.spaces one.device ∙ one.own; there = one.there };
   stock = is.stock;
   leaving = λ d. subst (λ a. GoesInOrder d a next.waiting) (sym (keeps.attachments d)) (is.leaving d);
   alone = record {
@@ -124,13 +125,13 @@ own_next old new scene queue so_far in_flight cached less shows = record {
   leaving = shows.leaving;
 }
 
-is_attached : (attachment : Attachment) → attachment ≡ Attached First false → IsAttached attachment
-is_attached attachment is = rw is refl
+is_attached : (attachment : Attachment) (mode : Mode) → attachment ≡ Attached mode false → IsAttached attachment
+is_attached attachment mode is = rw is refl
 
 -- A CONTEXT IS KEPT: that of an attached device; of what was cached nothing else comes
-pub keep_scene : (old new : Values) (id : ℕ) → KeepsGrants old new → KeepsQueue old new → new.so_far ≡ old.so_far → new.in_flight ≡ old.in_flight → CachesNoMore old new
-    → old.attachment_of id ≡ Attached First false → ((d : ℕ) → new.is_cached d ≡ true → (old.is_cached d ≡ true) ⊎ (d ≡ id)) → HasFaithfulScene old → HasFaithfulScene new
-keep_scene old new id keeps queue so_far in_flight less attached cached (scene, shows, facts) =
+pub keep_scene : (old new : Values) (id : ℕ) (mode : Mode) → KeepsGrants old new → KeepsQueue old new → new.so_far ≡ old.so_far → new.in_flight ≡ old.in_flight → CachesNoMore old new
+    → old.attachment_of id ≡ Attached mode false → ((d : ℕ) → new.is_cached d ≡ true → (old.is_cached d ≡ true) ⊎ (d ≡ id)) → HasFaithfulScene old → HasFaithfulScene new
+keep_scene old new id mode keeps queue so_far in_flight less attached cached (scene, shows, facts) =
     let next : Scene = record scene { contexts = id ∷ scene.contexts } in (
       next,
       scene_from old new scene next keeps shows refl (record {
@@ -148,32 +149,40 @@ keep_scene old new id keeps queue so_far in_flight less attached cached (scene, 
       }),
       occurrences_keep_facts (KeepContext id) scene next facts (
         id ∷ scene.contexts,
-        is_attached (scene.attachment_of id) (shows.attachments id ∙ attached),
+        is_attached (scene.attachment_of id) mode (shows.attachments id ∙ attached),
         (λ d there. elim (cons_cases id scene.contexts d there) [ inl same ↦ inl (sym same) | inr before ↦ inr before ]),
         refl,
       ),
     )
 
--- what a walk gives is held: in one stage, at the page itself
-walked_there : (values : Values) (scene : Scene) (id page : ℕ) (translation : Translation) → IsSceneOf values scene → values.attachment_of id ≡ Attached First false
-    → held_in values.ledger id page ≡ Some (translation.frame, translation.rights) → IsWalked scene (copy_of id page translation)
-walked_there values scene id page translation shows attached held =
-    let one_stage : in_both_stages (scene.attachment_of id) ≡ false = ap in_both_stages (shows.attachments id ∙ attached) in
-    let from : ComesFrom (in_both_stages (scene.attachment_of id)) page translation.rights page translation.rights =
-    subst (λ b. ComesFrom b page translation.rights page translation.rights) (sym one_stage) (refl, refl) in
-    (page, translation.rights, from, (shows.ledger.pages id page).holds ∙ held)
+-- what a walk of the page gives is held: in one stage at the page itself, in both at some guest page, with a right that allows no less
+abbrev pub HoldsWalked : Ledger → Mode → ℕ → ℕ → Translation → Type 0
+HoldsWalked ledger mode id page translation =
+    (granted : ℕ) × (rights : Rights) × ComesFrom (is_both mode) granted rights page translation.rights
+    × (held_in ledger id granted ≡ Some (translation.frame, rights))
+
+walked_there : (values : Values) (scene : Scene) (id page : ℕ) (mode : Mode) (translation : Translation) → IsSceneOf values scene → values.attachment_of id ≡ Attached mode false
+    → HoldsWalked values.ledger mode id page translation → IsWalked scene (copy_of id page translation)
+walked_there values scene id page mode translation shows attached (granted, rights, from, held) =
+    let stages : in_both_stages (scene.attachment_of id) ≡ is_both mode = ap in_both_stages (shows.attachments id ∙ attached) in (
+      granted,
+      rights,
+      subst (λ b. ComesFrom b granted rights page translation.rights) (sym stages) from,
+      (shows.ledger.pages id granted).holds ∙ held,
+    )
 
 -- A TRANSLATION IS KEPT: that of a page which the device holds; of what was cached nothing else comes
-pub record KeepsWalked (old new : Values) (id number page : ℕ) (translation : Translation) : Type 0 where
-  pub attached : old.attachment_of id ≡ Attached First false
-  pub own : old.number_of id ≡ Some number
-  pub held : held_in old.ledger id page ≡ Some (translation.frame, translation.rights)
+pub record KeepsWalked (old new : Values) (id page : ℕ) (space : Space) (translation : Translation) : Type 0 where
+  pub mode : Mode
+  pub attached : old.attachment_of id ≡ Attached mode false
+  pub own : old.space_of id ≡ Some space
+  pub held : HoldsWalked old.ledger mode id page translation
   pub either : (key : Key) (other : Translation) → new.translations key ≡ Some other
-      → (old.translations key ≡ Some other) ⊎ ((key ≡ (space.First number, page)) × (other ≡ translation))
+      → (old.translations key ≡ Some other) ⊎ ((key ≡ (space, page)) × (other ≡ translation))
 
-pub walk_scene : (old new : Values) (id number page : ℕ) (translation : Translation) → KeepsGrants old new → KeepsQueue old new → new.so_far ≡ old.so_far → new.in_flight ≡ old.in_flight
-    → ((d : ℕ) → new.is_cached d ≡ true → old.is_cached d ≡ true) → KeepsWalked old new id number page translation → HasFaithfulScene old → HasFaithfulScene new
-walk_scene old new id number page translation keeps queue so_far in_flight cached walks (scene, shows, facts) =
+pub walk_scene : (old new : Values) (id page : ℕ) (space : Space) (translation : Translation) → KeepsGrants old new → KeepsQueue old new → new.so_far ≡ old.so_far → new.in_flight ≡ old.in_flight
+    → ((d : ℕ) → new.is_cached d ≡ true → old.is_cached d ≡ true) → KeepsWalked old new id page space translation → HasFaithfulScene old → HasFaithfulScene new
+walk_scene old new id page space translation keeps queue so_far in_flight cached walks (scene, shows, facts) =
     let copy : Copy = copy_of id page translation in
     let next : Scene = record scene { translations = copy ∷ scene.translations } in (
       next,
@@ -189,57 +198,50 @@ walk_scene old new id number page translation keeps queue so_far in_flight cache
       }),
       occurrences_keep_facts (KeepTranslation copy) scene next facts (
         copy ∷ scene.translations,
-        walked_there old scene id page translation shows walks.attached walks.held,
+        walked_there old scene id page walks.mode translation shows walks.attached walks.held,
         (λ other there. elim (cons_cases copy scene.translations other there) [ inl same ↦ inl (sym same) | inr before ↦ inr before ]),
         refl,
       ),
     )
   where
-    first_of : (key : Key) → key ≡ (space.First number, page) → key.0 ≡ space.First number
-    first_of key same = ap (λ (k : Key). k.0) same
+    first_of : (key : Key) → key ≡ (space, page) → space ≡ key.0
+    first_of key same = sym (ap (λ (k : Key). k.0) same)
 
-    page_of : (key : Key) → key ≡ (space.First number, page) → key.1 ≡ page
+    page_of : (key : Key) → key ≡ (space, page) → key.1 ≡ page
     page_of key same = ap (λ (k : Key). k.1) same
 
-    somebodys : (key : Key) (other : Translation) → new.translations key ≡ Some other → IsSomebodys old.number_of (copy_of id page translation ∷ scene.translations) key other
+    somebodys : (key : Key) (other : Translation) → new.translations key ≡ Some other → IsSomebodys old.space_of (copy_of id page translation ∷ scene.translations) key other
     somebodys key other at = elim (walks.either key other at) [
       | inl before ↦
           let was = shows.translations key other before in
-          record { device = was.device; number = was.number; own = was.own; space = was.space; there = contains_tail (copy_of id page translation) scene.translations (copy_of was.device key.1 other) was.there }
+          record { device = was.device; own = was.own; there = contains_tail (copy_of id page translation) scene.translations (copy_of was.device key.1 other) was.there }
       | inr one ↦ record {
         device = id;
-        number = number;
-        own = walks.own;
-        space = first_of key one.0;
+        own = walks.own ∙ ap Some (first_of key one.0);
         there = subst (λ t. Contains (copy_of id page translation ∷ scene.translations) (copy_of id key.1 t)) (sym one.1)
             (subst (λ p. Contains (copy_of id page translation ∷ scene.translations) (copy_of id p translation)) (sym (page_of key one.0)) (contains_head (copy_of id page translation) scene.translations));
       }
     ]
 
 -- AN ACCESS IS ACCEPTED, on the frame of what the device holds at the page, or of a cached translation of the page
-abbrev pub IsServedFrom : Values → ℕ → ℕ → ℕ → Translation → Type 0
-IsServedFrom values id number page translation =
-    ((values.attachment_of id ≡ Attached First false) × (held_in values.ledger id page ≡ Some (translation.frame, translation.rights)))
-    ⊎ ((values.translations (space.First number, page) ≡ Some translation) × (values.number_of id ≡ Some number)
-    × ((d : ℕ) → values.number_of d ≡ Some number → d ≡ id))
+abbrev pub IsServedFrom : Values → ℕ → ℕ → Space → Translation → Type 0
+IsServedFrom values id page space translation =
+    ((mode : Mode) × (values.attachment_of id ≡ Attached mode false) × HoldsWalked values.ledger mode id page translation)
+    ⊎ ((values.translations (space, page) ≡ Some translation) × ((d : ℕ) → values.space_of d ≡ Some space → d ≡ id))
 
--- the number of an address space
-pub number_is : (n m : ℕ) → ◌≡◌ {A = Space} (space.First n) (space.First m) → n ≡ m
-number_is n m same = cc
-
-source_there : (values : Values) (scene : Scene) (id number page : ℕ) (translation : Translation) → IsSceneOf values scene → IsServedFrom values id number page translation
+source_there : (values : Values) (scene : Scene) (id page : ℕ) (space : Space) (translation : Translation) → IsSceneOf values scene → IsServedFrom values id page space translation
     → IsSource scene (copy_of id page translation)
-source_there values scene id number page translation shows (inl (attached, held)) = inl (walked_there values scene id page translation shows attached held)
-source_there values scene id number page translation shows (inr (cached, own, alone)) =
-    let was = shows.translations (space.First number, page) translation cached in
-    let same : was.device ≡ id = alone was.device (was.own ∙ ap Some (sym (number_is number was.number was.space))) in
+source_there values scene id page space translation shows (inl (mode, attached, held)) = inl (walked_there values scene id page mode translation shows attached held)
+source_there values scene id page space translation shows (inr (cached, alone)) =
+    let was = shows.translations (space, page) translation cached in
+    let same : was.device ≡ id = alone was.device was.own in
     inr (inl (subst (λ d. Contains scene.translations (copy_of d page translation)) same was.there))
 
-pub accept_scene : (old new : Values) (id number page : ℕ) (translation : Translation) (kind : AccessKind) → KeepsGrants old new → KeepsQueue old new
+pub accept_scene : (old new : Values) (id page : ℕ) (space : Space) (translation : Translation) (kind : AccessKind) → KeepsGrants old new → KeepsQueue old new
     → new.so_far ≡ old.so_far + 1 → AreAmongWith new.in_flight (record { device = id; frame = translation.frame; kind = kind; number = old.so_far + 1 }) old.in_flight
     → ((d : ℕ) → new.is_cached d ≡ true → old.is_cached d ≡ true) → CachesNoMore old new
-    → IsServedFrom old id number page translation → allows translation.rights kind ≡ true → HasFaithfulScene old → HasFaithfulScene new
-accept_scene old new id number page translation kind keeps queue so_far among cached less served allowed (scene, shows, facts) =
+    → IsServedFrom old id page space translation → allows translation.rights kind ≡ true → HasFaithfulScene old → HasFaithfulScene new
+accept_scene old new id page space translation kind keeps queue so_far among cached less served allowed (scene, shows, facts) =
     let copy : Copy = copy_of id page translation in
     let next : Scene = record scene { accepted = scene.accepted + 1; in_flight = new.in_flight } in
     let numbered : next_access scene copy kind ≡ record { device = id; frame = translation.frame; kind = kind; number = old.so_far + 1 } =
@@ -257,7 +259,7 @@ accept_scene old new id number page translation kind keeps queue so_far among ca
       }),
       occurrences_keep_facts (Accept copy kind) scene next facts (
         new.in_flight,
-        source_there old scene id number page translation shows served,
+        source_there old scene id page space translation shows served,
         allowed,
         subst (λ a. AreAmongWith new.in_flight a scene.in_flight) (sym numbered) (subst (AreAmongWith new.in_flight _) (sym shows.in_flight) among),
         refl,
@@ -329,6 +331,16 @@ pub record DoesFirst (old new : Values) (command : Commanded) : Type 0 where
   pub stock : new.stock ≡ None
   pub done : DoneIfFence command (accepted_before old.stock old.so_far) old.in_flight
 
+-- what an invalidation of translations does: nothing else changes
+record DropsAlone (old new : Values) (command : Commanded) : Type 0 where
+  pub keeps : KeepsGrants old new
+  pub so_far : new.so_far ≡ old.so_far
+  pub in_flight : new.in_flight ≡ old.in_flight
+  pub completed : new.completed ≡ old.completed
+  pub contexts : (d : ℕ) → new.is_cached d ≡ true → old.is_cached d ≡ true
+  pub translations : TranslationsAfter command old.translations new.translations
+  pub stock : new.stock ≡ None
+
 none_there : {X : Type 0} (xs : List X) (x : X) → xs ≡ [] → ¬ Contains xs x
 none_there xs x none there = in_none x (subst (λ l. Contains l x) none there)
 
@@ -337,10 +349,13 @@ not_true true it = absurd (false≢true it)
 not_true false it = refl
 
 -- an invalidation covers the pages of its extent
-covered_there : (number page : ℕ) (extent : Extent) (own : Option ℕ) → IsOfExtent extent own → covers extent page ≡ true
-    → are_covering (vma_covers None (Some number) own) (space.First number, page) ≡ true
-covered_there number page (OnePage own) asked is true_of = rw (is, eq-eqb number number refl, true_of) refl
-covered_there number page WholeSpace asked is true_of = rw (is, eq-eqb number number refl) refl
+covered_there : (space : Space) (named : Option ℕ) (page : ℕ) → covers (extent_in space named) page ≡ true → are_covering (covers_of (invalidation_in space named)) (space, page) ≡ true
+covered_there (space.First pscid) None page is = rw (eq-eqb pscid pscid refl) refl
+covered_there (space.First pscid) (Some own) page is = rw (eq-eqb pscid pscid refl, is) refl
+covered_there (space.Second gscid) None page is = rw (eq-eqb gscid gscid refl) refl
+covered_there (space.Second gscid) (Some own) page is = rw (eq-eqb gscid gscid refl, is) refl
+covered_there (space.Both gscid pscid) None page is = rw (eq-eqb gscid gscid refl) refl
+covered_there (space.Both gscid pscid) (Some own) page is = rw (eq-eqb gscid gscid refl) refl
 
 -- the fence at the head alone has taken stock
 stock_none : (scene : Scene) (command : QueuedCommand) (later : List QueuedCommand) (stock : Option Stock) → IsFaithful scene → scene.waiting ≡ command ∷ later
@@ -376,10 +391,10 @@ goes_later d (Leaving ticket mode ats) command later goes = come_after d ticket 
 
 module _ (old new : Values) (scene : Scene) (shows : IsSceneOf old scene) (facts : IsFaithful scene) where
   -- a command that is no fence leaves the stock, of which there is none
-  drops_translations : (device : ℕ) (extent : Extent) (later : List QueuedCommand) (gscid pscid page : Option ℕ) → DoesFirst old new (IotinvalVma gscid pscid page)
-      → scene.waiting ≡ DropTranslations device extent ∷ later → IsInvalidation old.number_of device extent gscid pscid page → AreQueuedAs old.address old.number_of new.waiting later
+  drops_translations : (device : ℕ) (extent : Extent) (later : List QueuedCommand) (command : Commanded) → DropsAlone old new command
+      → scene.waiting ≡ DropTranslations device extent ∷ later → IsInvalidation old.space_of device extent command → AreQueuedAs old.address old.space_of new.waiting later
       → HasFaithfulScene new
-  drops_translations device extent later gscid pscid page does waiting is queued =
+  drops_translations device extent later command does waiting is queued =
       let outside : Copy → Bool = λ copy. not ((device == copy.device) && covers extent copy.page) in
       let left = filter outside scene.translations in
       let next : Scene = record scene { waiting = later; translations = left } in
@@ -413,30 +428,28 @@ module _ (old new : Values) (scene : Scene) (shows : IsSceneOf old scene) (facts
           by true true own covered = absurd (apart (eqb-true device d own) covered)
 
       somebodys : (key : Key) (translation : Translation) → new.translations key ≡ Some translation
-          → IsSomebodys old.number_of (filter (λ copy. not ((device == copy.device) && covers extent copy.page)) scene.translations) key translation
+          → IsSomebodys old.space_of (filter (λ copy. not ((device == copy.device) && covers extent copy.page)) scene.translations) key translation
       somebodys key translation at =
           let before = does.translations key translation at in
           let was = shows.translations key translation before.0 in record {
             device = was.device;
-            number = was.number;
             own = was.own;
-            space = was.space;
             there = contains_filter (λ (copy : Copy). not ((device == copy.device) && covers extent copy.page)) scene.translations (copy_of was.device key.1 translation) was.there
                 (outside_kept was.device key.1 (λ same covered.
-                let numbers : was.number ≡ is.number = some_of was.number is.number (sym was.own ∙ ap old.number_of (sym same) ∙ is.own) in
-                let key_is : key ≡ (space.First is.number, key.1) = ap (λ (s : Space). (s, key.1)) (was.space ∙ ap space.First numbers) in
-                false≢true (sym (ap (are_covering (vma_covers None (Some is.number) page)) (sym key_is) ∙ named before.1)
-                ∙ covered_there is.number key.1 extent page is.extent_of covered)));
+                let spaces : key.0 ≡ is.space = some_of key.0 is.space (sym was.own ∙ ap old.space_of (sym same) ∙ is.own) in
+                let key_is : key ≡ (is.space, key.1) = ap (λ (s : Space). (s, key.1)) spaces in
+                false≢true (sym (ap (are_covering (covers_of (invalidation_in is.space is.page))) (sym key_is) ∙ named before.1)
+                ∙ covered_there is.space is.page key.1 (subst (λ e. covers e key.1 ≡ true) is.about covered))));
           }
         where
-          some_of : (x y : ℕ) → Some x ≡ Some y → x ≡ y
+          some_of : (x y : Space) → Some x ≡ Some y → x ≡ y
           some_of x y e = cc
 
-          named : are_covering (vma_covers gscid pscid page) key ≡ false → are_covering (vma_covers None (Some is.number) page) key ≡ false
-          named it = ap (λ g. are_covering (vma_covers g (Some is.number) page) key) (sym is.host) ∙ ap (λ n. are_covering (vma_covers gscid n page) key) (sym is.space) ∙ it
+          named : are_covering (covers_of command) key ≡ false → are_covering (covers_of (invalidation_in is.space is.page)) key ≡ false
+          named it = ap (λ (c : Commanded). are_covering (covers_of c) key) (sym is.named) ∙ it
 
   drops_context : (device : ℕ) (later : List QueuedCommand) → DoesFirst old new (IodirInvalDdt (Some device)) → scene.waiting ≡ DropContext device ∷ later
-      → AreQueuedAs old.address old.number_of new.waiting later → HasFaithfulScene new
+      → AreQueuedAs old.address old.space_of new.waiting later → HasFaithfulScene new
   drops_context device later does waiting queued =
       let left = filter (λ d. not (device == d)) scene.contexts in
       let next : Scene = record scene { waiting = later; contexts = left } in
@@ -463,7 +476,7 @@ module _ (old new : Values) (scene : Scene) (shows : IsSceneOf old scene) (facts
 
   -- a fence that counted before is done, or it counts now
   completes : (number : ℕ) (later : List QueuedCommand) (store : Option FenceStore) (wsi pr pw : Bool) → DoesFirst old new (IofenceC store wsi pr pw)
-      → scene.waiting ≡ Fence number ∷ later → IofenceC store wsi pr pw ≡ fence old.address number → AreQueuedAs old.address old.number_of new.waiting later → HasFaithfulScene new
+      → scene.waiting ≡ Fence number ∷ later → IofenceC store wsi pr pw ≡ fence old.address number → AreQueuedAs old.address old.space_of new.waiting later → HasFaithfulScene new
   completes number later store wsi pr pw does waiting is queued = by scene.stock refl
     where
       next : Scene
@@ -508,8 +521,11 @@ module _ (old new : Values) (scene : Scene) (shows : IsSceneOf old scene) (facts
 
   -- by what stands first in the scene's queue
   done_first : (command : Commanded) → DoesFirst old new command → (queued : QueuedCommand) (later : List QueuedCommand) → scene.waiting ≡ queued ∷ later
-      → IsQueuedAs old.address old.number_of (Command command) queued → AreQueuedAs old.address old.number_of new.waiting later → HasFaithfulScene new
-  done_first (IotinvalVma gscid pscid page) does (DropTranslations device extent) later waiting is rest = drops_translations device extent later gscid pscid page does waiting is rest
+      → IsQueuedAs old.address old.space_of (Command command) queued → AreQueuedAs old.address old.space_of new.waiting later → HasFaithfulScene new
+  done_first (IotinvalVma gscid pscid page) does (DropTranslations device extent) later waiting is rest =
+      drops_translations device extent later (IotinvalVma gscid pscid page) (record { keeps = does.keeps; so_far = does.so_far; in_flight = does.in_flight; completed = does.completed; contexts = does.contexts; translations = does.translations; stock = does.stock }) waiting is rest
+  done_first (IotinvalGvma gscid page) does (DropTranslations device extent) later waiting is rest =
+      drops_translations device extent later (IotinvalGvma gscid page) (record { keeps = does.keeps; so_far = does.so_far; in_flight = does.in_flight; completed = does.completed; contexts = does.contexts; translations = does.translations; stock = does.stock }) waiting is rest
   done_first (IofenceC store wsi pr pw) does (Fence number) later waiting is rest = completes number later store wsi pr pw does waiting is rest
   done_first (IodirInvalDdt (Some id)) does (DropContext device) later waiting is rest = by is does
     where
@@ -520,8 +536,8 @@ module _ (old new : Values) (scene : Scene) (shows : IsSceneOf old scene) (facts
 -- A COMMAND IS DONE: it stood first in the scene's queue
 pub fetch_scene : (old new : Values) (command : Commanded) → DoesFirst old new command → HasFaithfulScene old → HasFaithfulScene new
 fetch_scene old new command does (scene, shows, facts) =
-    let first = queued_first old.address old.number_of (Command command) new.waiting scene.waiting
-    (subst (λ l. AreQueuedAs old.address old.number_of l scene.waiting) does.first shows.waiting) in
+    let first = queued_first old.address old.space_of (Command command) new.waiting scene.waiting
+    (subst (λ l. AreQueuedAs old.address old.space_of l scene.waiting) does.first shows.waiting) in
     done_first old new scene shows facts command does first.0 first.1 first.2 first.3 first.4
 
 -- A FENCE WAITS: it counts, if it didn't before
@@ -537,22 +553,22 @@ pub record CountsAtHead (old new : Values) : Type 0 where
   pub stock : new.stock ≡ Some (accepted_before old.stock old.so_far)
 
 -- what a fence stands for in a scene
-fence_queued : (address number : ℕ) (numbers : ℕ → Option ℕ) (command : QueuedCommand) → IsQueuedAs address numbers (Command (fence address number)) command → (n : ℕ) × (command ≡ Fence n)
-fence_queued address number numbers (Fence n) is = (n, refl)
-fence_queued address number numbers (DropTranslations d extent) is = absurd is
-fence_queued address number numbers (DropContext d) is = absurd is
-fence_queued address number numbers (Invalidate d extent) is = absurd is
+fence_queued : (address number : ℕ) (spaces : ℕ → Option Space) (command : QueuedCommand) → IsQueuedAs address spaces (Command (fence address number)) command → (n : ℕ) × (command ≡ Fence n)
+fence_queued address number spaces (Fence n) is = (n, refl)
+fence_queued address number spaces (DropTranslations d extent) is = absurd is
+fence_queued address number spaces (DropContext d) is = absurd is
+fence_queued address number spaces (Invalidate d extent) is = absurd is
 
 pub count_scene : (old new : Values) → CountsAtHead old new → HasFaithfulScene old → HasFaithfulScene new
 count_scene old new counts (scene, shows, facts) = by scene.stock refl
   where
     first : (command : QueuedCommand) × (later : List QueuedCommand) × (scene.waiting ≡ command ∷ later)
-        × IsQueuedAs old.address old.number_of (Command (fence old.address counts.head.0)) command × AreQueuedAs old.address old.number_of counts.head.1 later
-    first = queued_first old.address old.number_of (Command (fence old.address counts.head.0)) counts.head.1 scene.waiting
-        (subst (λ l. AreQueuedAs old.address old.number_of l scene.waiting) counts.head.2 shows.waiting)
+        × IsQueuedAs old.address old.space_of (Command (fence old.address counts.head.0)) command × AreQueuedAs old.address old.space_of counts.head.1 later
+    first = queued_first old.address old.space_of (Command (fence old.address counts.head.0)) counts.head.1 scene.waiting
+        (subst (λ l. AreQueuedAs old.address old.space_of l scene.waiting) counts.head.2 shows.waiting)
 
     own : (n : ℕ) × (first.0 ≡ Fence n)
-    own = fence_queued old.address counts.head.0 old.number_of first.0 first.3
+    own = fence_queued old.address counts.head.0 old.space_of first.0 first.3
 
     by : (stock : Option Stock) → scene.stock ≡ stock → HasFaithfulScene new
     by None none =

@@ -7,19 +7,22 @@ use Rattle.iom_base.specs.declared.owner.Owner.{Owner}
 use Rattle.iom_base.specs.declared.owner.Owner.TheVariants.{System}
 use Rattle.iom_command_queue.specs.Waiting.{commands_in}
 use Rattle.iom_driver.specs.Devices.{attachment_of, is_plugged}
-use Rattle.iom_driver.specs.Laws.{KeepsReserved, KeepsRing}
+use Rattle.iom_driver.specs.Laws.{KeepsReserved, KeepsRing, LeavesCommands, LeavesAllElse}
 use Rattle.iom_driver.specs.Layout.{AreFixed, command_frame, completion_frame, completion_address}
+use Rattle.iom_driver.specs.Ready.{IsReady}
 use Rattle.iom_driver.specs.State.{DriverState}
 use Rattle.iom_driver.proofs.Lists.{get_there}
 use Rattle.iom_driver.proofs.Ring.{same_commands}
 use Rattle.iom_iommu.specs.Parts.{stock_of, registers_of, flights_of, frames_of}
+use Rattle.iom_inflight.specs.Flights.{Flights}
 use Rattle.iom_phys_mem.specs.Words.{word_at}
+use Rattle.iom_registers.specs.declared.registers.Registers.{Registers}
 use Rattle.iom_registers.specs.Queues.{is_processing_commands}
 use Rattle.iom_table_frames.specs.Marks.{is_marked}
 use Rattle.iom_world.specs.Devices.{shown_attachment}
 use Rattle.iom_world.specs.Parts.{Parts}
 use Rattle.iom_world.specs.Queued.{completed_in}
-use Rattle.iom_world.specs.Read.{number_in, values_of}
+use Rattle.iom_world.specs.Read.{space_at, values_of}
 use Rattle.iom_world.specs.Scenes.{HasFaithfulScene}
 use Rattle.iom_world.specs.Sound.{AreSound, ContextsAreTrue, row_ids}
 use Rattle.iom_world.proofs.DriverLemmas.{IsSoundDriver}
@@ -80,7 +83,7 @@ module _ (old new : Parts) (events : ℕ) (sound : AreSound old events) (own : I
     confirmed = ap (λ (d : DriverState). d.confirmed) leaves.driver;
     plugged = λ id. ap (λ (d : DriverState). is_plugged d.devices id) leaves.driver;
     attachments = λ id. ap (λ (d : DriverState). shown_attachment (attachment_of d.devices id)) leaves.driver;
-    numbers = λ id. ap (λ (d : DriverState). number_in d.devices id) leaves.driver;
+    spaces = λ id. ap (λ (d : DriverState). space_at d.devices id) leaves.driver;
   }
 
   pub queue_kept : stock_of new.iommu ≡ stock_of old.iommu → KeepsQueue (values_of old) (values_of new)
@@ -90,7 +93,7 @@ module _ (old new : Parts) (events : ℕ) (sound : AreSound old events) (own : I
       → (HasFaithfulScene (values_of old) → HasFaithfulScene (values_of new)) → AreSound new count
   sound_from count stays counted contexts scene =
       let keeps : KeepsReserved old.driver old.memory new.memory = record { size = leaves.size; bytes = λ frame owner mark other. leaves.reserved frame owner mark } in
-      let ring : KeepsRing (registers_of old.iommu) (registers_of old.iommu) = record { on = refl; base = refl; entries = refl; mode = refl; root = refl } in
+      let ring : KeepsRing (registers_of old.iommu) (registers_of old.iommu) = record { on = refl; base = refl; entries = refl; faults_on = refl; faults_base = refl; faults_head = refl; faults_tail = refl; mode = refl; root = refl } in
       record {
         ready = rw leaves.driver
             (stays old.memory new.memory (registers_of old.iommu) (registers_of new.iommu) sound.ready keeps (subst (λ s. KeepsRing (registers_of old.iommu) s) (sym leaves.registers) ring));
@@ -108,3 +111,65 @@ module _ (old new : Parts) (events : ℕ) (sound : AreSound old events) (own : I
         contexts = contexts;
         copies = ∥∥₁_map sound.copies scene;
       }
+
+-- where a fault was reported: the fault queue's frame and registers changed, and of the IOMMU what it cached
+pub record LeavesReport (old new : Parts) : Type 0 where
+  pub ready : IsReady new.driver new.memory (registers_of new.iommu)
+  pub else_same : LeavesAllElse old.memory new.memory (registers_of old.iommu) (registers_of new.iommu)
+  pub frames : frames_of new.iommu ≡ frames_of old.iommu
+  pub flights : flights_of new.iommu ≡ flights_of old.iommu
+  pub driver : new.driver ≡ old.driver
+  pub devices : new.devices ≡ old.devices
+
+-- the same registers of the command queue give the same commands
+pub commands_by : (memory : List (List ℕ)) (r s : Registers) → LeavesCommands r s → commands_in memory s ≡ commands_in memory r
+unfolding commands_in
+commands_by memory r s same = rw (same.base, same.head, same.tail) refl
+
+module _ (old new : Parts) (events : ℕ) (sound : AreSound old events) (own : IsSoundDriver old.driver) (leaves : LeavesReport old new) where
+  pub report_waiting : commands_in new.memory (registers_of new.iommu) ≡ commands_in old.memory (registers_of old.iommu)
+  report_waiting =
+      let many = own.sizes.size.0 in
+      let size = sound.ready.stand.size in
+      commands_by new.memory (registers_of old.iommu) (registers_of new.iommu) leaves.else_same.registers
+      ∙ same_commands old.memory new.memory (registers_of old.iommu) (sound.ready.ring sound.started)
+      (leaves.else_same.frames (command_frame (length old.memory)) (λ same. absurd (omega (arith, many, size, same))))
+
+  report_done : completed_in new.memory ≡ completed_in old.memory
+  report_done =
+      let many = own.sizes.size.0 in
+      let size = sound.ready.stand.size in
+      same_completed old.memory new.memory leaves.else_same.size
+      (leaves.else_same.frames (completion_frame (length old.memory)) (λ same. absurd (omega (arith, many, size, same))))
+
+  pub report_grants : KeepsGrants (values_of old) (values_of new)
+  report_grants = record {
+    ledger = ap (λ (d : DriverState). d.ledger) leaves.driver;
+    address = ap completion_address leaves.else_same.size;
+    given = ap (λ (d : DriverState). d.given) leaves.driver;
+    confirmed = ap (λ (d : DriverState). d.confirmed) leaves.driver;
+    plugged = λ id. ap (λ (d : DriverState). is_plugged d.devices id) leaves.driver;
+    attachments = λ id. ap (λ (d : DriverState). shown_attachment (attachment_of d.devices id)) leaves.driver;
+    spaces = λ id. ap (λ (d : DriverState). space_at d.devices id) leaves.driver;
+  }
+
+  pub report_queue : stock_of new.iommu ≡ stock_of old.iommu → KeepsQueue (values_of old) (values_of new)
+  report_queue stock = record { waiting = report_waiting; completed = report_done; stock = stock }
+
+  pub report_sound : (count : ℕ) → (flights_of new.iommu).so_far ≤ count → ContextsAreTrue new → (HasFaithfulScene (values_of old) → HasFaithfulScene (values_of new)) → AreSound new count
+  report_sound count counted contexts scene = record {
+    ready = leaves.ready;
+    started = rw leaves.driver sound.started;
+    processing = rw leaves.else_same.registers.status sound.processing;
+    size = leaves.frames ∙ sound.size ∙ sym leaves.else_same.size;
+    known = record {
+      own_ids = rw leaves.devices sound.known.own_ids;
+      driver = rw (leaves.driver, leaves.devices) sound.known.driver;
+      iommu = ap (λ (f : Flights). row_ids f.rows) leaves.flights ∙ rw leaves.devices sound.known.iommu;
+    };
+    confirmed = rw (report_done, leaves.driver) sound.confirmed;
+    small = rw leaves.driver sound.small;
+    counted = counted;
+    contexts = contexts;
+    copies = ∥∥₁_map sound.copies scene;
+  }

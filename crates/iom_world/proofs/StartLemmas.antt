@@ -12,7 +12,7 @@ use Rattle.iom_copies.specs.Laws.{scene_at_power_on}
 use Rattle.iom_copies.proofs.OccurrenceLemmas.{faithful_at_power_on}
 use Rattle.iom_driver.specs.Calls.{IsOpening, Starts}
 use Rattle.iom_driver.specs.Devices.{attachment_of}
-use Rattle.iom_driver.specs.Layout.{completion_address, directory_frame, ddtp_of, cqb_of}
+use Rattle.iom_driver.specs.Layout.{completion_address, directory_frame, ddtp_of, cqb_of, fqb_of}
 use Rattle.iom_driver.specs.Ready.{IsReady}
 use Rattle.iom_driver.specs.State.{DriverState}
 use Rattle.iom_driver.proofs.Lists.{get_replicate, get_there}
@@ -24,7 +24,7 @@ use Rattle.iom_machine.specs.PowerOn.{opening, empty_frame}
 use Rattle.iom_phys_mem.specs.Sizes.{IsMemorySize}
 use Rattle.iom_phys_mem.specs.Words.{zeroed, with_word, word_at}
 use Rattle.iom_phys_mem.proofs.Stores.{put_word, word_back}
-use Rattle.iom_registers.specs.declared.register.Register.TheVariants.{Ddtp, Cqb, Cqcsr}
+use Rattle.iom_registers.specs.declared.register.Register.TheVariants.{Ddtp, Cqb, Cqcsr, Fqb, Fqcsr}
 use Rattle.iom_registers.specs.declared.registers.Registers.{Registers}
 use Rattle.iom_registers.specs.Table.{written}
 use Rattle.iom_registers.specs.Queues.{is_command_queue_on, is_processing_commands}
@@ -35,7 +35,7 @@ use Rattle.iom_world.specs.declared.device.Device.{Device}
 use Rattle.iom_world.specs.Queued.{completed_in, AreQueuedAs, pending_after}
 use Rattle.iom_world.specs.Devices.{shown_attachment}
 use Rattle.iom_world.specs.Parts.{Parts}
-use Rattle.iom_world.specs.Read.{number_in, values_of, accesses_of}
+use Rattle.iom_world.specs.Read.{space_at, values_of, accesses_of}
 use Rattle.iom_world.specs.Scenes.{IsSceneOf}
 use Rattle.iom_world.specs.Frames.{ShowsFrames}
 use Rattle.iom_world.specs.Shows.{PartsShow}
@@ -202,7 +202,8 @@ module _ (n levels : ℕ) (first next : DriverState) (before memory : List (List
   processes : is_processing_commands (registers_of iommu) ≡ true
   processes =
       ap (λ i. is_processing_commands (registers_of i)) started.starts.registers
-      ∙ ap (λ (r : Registers). is_processing_commands (written (written (written r Ddtp (ddtp_of (length before) first.levels)) Cqb (cqb_of (length before))) Cqcsr 1)) started.power_on.registers
+      ∙ ap (λ (r : Registers). is_processing_commands (written (written (written (written (written r Ddtp (ddtp_of (length before) first.levels)) Cqb (cqb_of (length before))) Cqcsr 1) Fqb (fqb_of (length before))) Fqcsr 1))
+      started.power_on.registers
 
   rows_none : (flights_of iommu).rows ≡ []
   rows_none = ap (λ i. (flights_of i).rows) started.starts.registers ∙ ap (λ f. f.rows) started.power_on.flights
@@ -229,14 +230,18 @@ module _ (n levels : ℕ) (first next : DriverState) (before memory : List (List
       let one = written (registers_of power) Ddtp (ddtp_of (length before) first.levels) in
       let two = written one Cqb (cqb_of (length before)) in
       let three = written two Cqcsr 1 in
+      let four = written three Fqb (fqb_of (length before)) in
+      let five = written four Fqcsr 1 in
       ap stock_of started.starts.registers
-      ∙ none_still three (stock_after two (stock_after one (stock_of power)))
-      (none_still two (stock_after one (stock_of power)) (none_still one (stock_of power) started.power_on.stock))
+      ∙ none_still five (stock_after four (stock_after three (stock_after two (stock_after one (stock_of power)))))
+      (none_still four (stock_after three (stock_after two (stock_after one (stock_of power))))
+      (none_still three (stock_after two (stock_after one (stock_of power)))
+      (none_still two (stock_after one (stock_of power)) (none_still one (stock_of power) started.power_on.stock))))
 
   scene_shows : IsSceneOf (values_of parts) scene_at_power_on
   scene_shows = record {
     ledger = agrees;
-    waiting = subst (λ l. AreQueuedAs (completion_address (length memory)) (number_in next.devices) l []) (sym started.starts.empty) tt;
+    waiting = subst (λ l. AreQueuedAs (completion_address (length memory)) (space_at next.devices) l []) (sym started.starts.empty) tt;
     completed = sym completed;
     last_fence = sym given_none;
     pending = sym (ap (pending_after next.confirmed) {x = next.given - next.confirmed} {y = 0} (omega (arith, given_none)));

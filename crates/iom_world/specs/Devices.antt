@@ -9,15 +9,14 @@ use Rattle.iom_driver.specs.Devices.{attachment_of}
 use Rattle.iom_inflight.specs.Flights.{NumberedAccess, FlightRow, row_of}
 use Rattle.iom_machine.specs.declared.state.Attachment.{Attachment}
 use Rattle.iom_machine.specs.declared.state.Attachment.TheVariants.{Detached, Attached, Leaving}
-use Rattle.iom_machine.specs.declared.state.Mode.TheVariants.{First}
 use Rattle.iom_machine.specs.declared.state.Device as machine
 use Rattle.iom_world.specs.declared.device.Device.{Device}
 
--- a device is attached in its first stage, without ATS
+-- a device is attached in its mode, without ATS
 abbrev pub shown_attachment : driver.Attachment → Attachment
 shown_attachment attached.Detached = Detached
-shown_attachment (attached.Attached stage) = Attached First false
-shown_attachment (attached.Leaving ticket stage) = Leaving ticket First false
+shown_attachment (attached.Attached stage) = Attached stage.mode false
+shown_attachment (attached.Leaving ticket stage) = Leaving ticket stage.mode false
 
 -- what the device has in flight, the oldest first
 abbrev pub in_flight_of : List FlightRow → ℕ → List AcceptedAccess

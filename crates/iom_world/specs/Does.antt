@@ -1,6 +1,7 @@
 -- What each event does to the parts of a world: the relation of the call behind it, and what stays.
-use Rattle.std.specs.Prelude.{◌≡◌, ℕ, ◌+◌, ◌-◌, ◌==◌, Bool, true, List, [], ◌∷◌, ◌++◌, Result, Ok, Err, if◌then◌else◌}
+use Rattle.std.specs.Prelude.{◌≡◌, ℕ, ◌+◌, ◌-◌, ◌==◌, Bool, true, List, [], ◌∷◌, ◌++◌, Option, None, Some, Result, Ok, Err, if◌then◌else◌}
 use Rattle.iom_base.specs.declared.grant_rights.GrantRights.{GrantRights}
+use Rattle.iom_base.specs.declared.mode.Mode.{Mode}
 use Rattle.iom_base.specs.Accesses.{read_of, write_of}
 use Rattle.iom_command_queue.specs.declared.command.Command.{Command}
 use Rattle.iom_command_queue.specs.declared.command.Command.TheVariants.{IotinvalVma, IotinvalGvma, IofenceC, IodirInvalDdt, AtsInval}
@@ -10,6 +11,9 @@ use Rattle.iom_driver.specs.Attaching.{AnswersAttach}
 use Rattle.iom_driver.specs.Calls.{AnswersPlug, AnswersGrant, AnswersRelease}
 use Rattle.iom_driver.specs.Leaving.{AnswersDetach}
 use Rattle.iom_driver.specs.Polling.{AnswersPoll}
+use Rattle.iom_driver.specs.Reports.{AnswersFaults}
+use Rattle.iom_fault_queue.specs.Fields.{Fields}
+use Rattle.iom_fault_queue.specs.Grammar.{words}
 use Rattle.iom_iommu.specs.declared.fetched.Fetched.{Fetched}
 use Rattle.iom_iommu.specs.declared.fetched.Fetched.TheVariants.{Did, Waiting, Empty, Stopped}
 use Rattle.iom_world.specs.OwnIommu.{Iommu}
@@ -44,6 +48,11 @@ abbrev pub polled_told_of : Result Polled Refusal → Outcome
 polled_told_of (Ok polled) =
     if polled.count == 0 then outcome.NoneConfirmed else outcome.Confirmed polled.first (polled.first + polled.count - 1)
 polled_told_of (Err why) = outcome.Refused why
+
+abbrev pub report_told_of : Result (Option Fields) Refusal → Outcome
+report_told_of (Ok (Some fields)) = outcome.Record (record { words = words fields })
+report_told_of (Ok None) = outcome.NoRecord
+report_told_of (Err why) = outcome.Refused why
 
 -- what an answer of the IOMMU is told as
 abbrev pub name_of_command : Command → CommandName
@@ -83,10 +92,10 @@ pub record PlugsDevice (old : Parts) (id : ℕ) (kind : DeviceKind) (told : Outc
   pub memory : new.memory ≡ old.memory
 
 -- a device is attached
-pub record AttachesDevice (old : Parts) (id : ℕ) (told : Outcome) (new : Parts) : Type 0 where
+pub record AttachesDevice (old : Parts) (id : ℕ) (mode : Mode) (told : Outcome) (new : Parts) : Type 0 where
   pub answer : Result (Unit {0}) Refusal
   pub told_so : told ≡ told_of answer
-  pub call : AnswersAttach old.driver old.memory id answer new.driver new.memory
+  pub call : AnswersAttach old.driver old.memory id mode answer new.driver new.memory
   pub iommu : new.iommu ≡ old.iommu
   pub devices : new.devices ≡ old.devices
 
@@ -128,15 +137,25 @@ pub record PollsTickets (old : Parts) (told : Outcome) (new : Parts) : Type 0 wh
   pub iommu : new.iommu ≡ old.iommu
   pub devices : new.devices ≡ old.devices
 
+-- the driver takes a fault record
+pub record TakesReport (old : Parts) (told : Outcome) (new : Parts) : Type 0 where
+  pub answer : Result (Option Fields) Refusal
+  pub told_so : told ≡ report_told_of answer
+  pub call : AnswersFaults mmio old.driver old.memory old.iommu answer new.iommu
+  pub driver : new.driver ≡ old.driver
+  pub memory : new.memory ≡ old.memory
+  pub devices : new.devices ≡ old.devices
+
 -- THE RELATION of an event
 abbrev pub Does : Parts → Event → Outcome → Parts → Type 0
 Does old (events.Plug id kind) told new = PlugsDevice old id kind told new
-Does old (events.Attach id mode ats) told new = AttachesDevice old id told new
+Does old (events.Attach id mode ats) told new = AttachesDevice old id mode told new
 Does old (events.Grant id page frame rights) told new = GrantsPage old id page frame rights told new
 Does old (events.Release id page) told new = ReleasesPage old id page told new
 Does old (events.Detach id) told new = DetachesDevice old id told new
 Does old events.Fetch told new = FetchesNext old told new
 Does old events.Poll told new = PollsTickets old told new
+Does old events.Faults told new = TakesReport old told new
 Does old (events.Read id address len) told new = AsksAccess old id (read_of address len) told new
 Does old (events.Write id address bytes) told new = AsksAccess old id (write_of address bytes) told new
 Does old (events.Commit id) told new = CommitsAccess old id told new

@@ -1,10 +1,12 @@
 -- What an event does to a world, and what comes of it.
 use Rattle.std.specs.Prelude.{◌≡◌, ◌+◌, ⊤, List}
+use Rattle.iom_base.specs.Accesses.{read_of, write_of}
 use Rattle.iom_command_queue.specs.declared.entry.QueueEntry.{QueueEntry}
 use Rattle.iom_command_queue.specs.Waiting.{commands_in}
 use Rattle.iom_iommu.specs.Parts.{registers_of}
 use Rattle.iom_ledger.specs.Changes.{IsUnchanged}
 use Rattle.iom_ledger.specs.declared.refusal.Refusal.{Refusal}
+use Rattle.iom_ledger.specs.History.{History}
 use Rattle.iom_machine.specs.declared.event.Event.{Event}
 use Rattle.iom_machine.specs.declared.event.Event.TheVariants as events
 use Rattle.iom_machine.specs.declared.outcome.Outcome.{Outcome}
@@ -14,6 +16,7 @@ use Rattle.iom_machine.specs.Machine.{Step}
 use Rattle.iom_world.specs.declared.world.World.{World}
 use Rattle.iom_world.specs.Does.{Does}
 use Rattle.iom_world.specs.Parts.{Parts}
+use Rattle.iom_world.specs.Requests.{ReadsGuestTables}
 use Rattle.iom_world.specs.Seen.{parts_of}
 use Rattle.iom_world.specs.Shows.{Shows}
 
@@ -42,6 +45,7 @@ KeepsCommands (events.Plug device kind) old new = waiting_in new ≡ waiting_in 
 KeepsCommands (events.Attach device mode ats) old new = waiting_in new ≡ waiting_in old
 KeepsCommands (events.Grant device page frame rights) old new = waiting_in new ≡ waiting_in old
 KeepsCommands events.Poll old new = waiting_in new ≡ waiting_in old
+KeepsCommands events.Faults old new = waiting_in new ≡ waiting_in old
 KeepsCommands (events.Read device address len) old new = waiting_in new ≡ waiting_in old
 KeepsCommands (events.Write device address bytes) old new = waiting_in new ≡ waiting_in old
 KeepsCommands (events.Commit device) old new = waiting_in new ≡ waiting_in old
@@ -49,12 +53,30 @@ KeepsCommands (events.Poke address bytes) old new = waiting_in new ≡ waiting_i
 KeepsCommands (events.Peek address len) old new = waiting_in new ≡ waiting_in old
 KeepsCommands (events.Free frame) old new = waiting_in new ≡ waiting_in old
 
+-- a request is translated by a guest's own tables only where the device may read them
+abbrev pub ReadsGuestTablesFor : Event → Parts → History → Type 0
+ReadsGuestTablesFor (events.Read id address len) old history = ReadsGuestTables old history id (read_of address len)
+ReadsGuestTablesFor (events.Write id address bytes) old history = ReadsGuestTables old history id (write_of address bytes)
+ReadsGuestTablesFor (events.Plug id kind) old history = ⊤
+ReadsGuestTablesFor (events.Attach id mode ats) old history = ⊤
+ReadsGuestTablesFor (events.Detach id) old history = ⊤
+ReadsGuestTablesFor (events.Grant id page frame rights) old history = ⊤
+ReadsGuestTablesFor (events.Release id page) old history = ⊤
+ReadsGuestTablesFor events.Fetch old history = ⊤
+ReadsGuestTablesFor events.Poll old history = ⊤
+ReadsGuestTablesFor events.Faults old history = ⊤
+ReadsGuestTablesFor (events.Commit id) old history = ⊤
+ReadsGuestTablesFor (events.Poke address bytes) old history = ⊤
+ReadsGuestTablesFor (events.Peek address len) old history = ⊤
+ReadsGuestTablesFor (events.Free frame) old history = ⊤
+
 -- An event that is answered so. It is a lawful step of the ledger machine, from every state that the world shows, to one that it shows then. It does to
--- memory, IOMMU, driver and devices what the call behind it says; commands that wait change by a release, a detach and a fetch alone. A refusal changes nothing. And
--- the event is counted.
+-- memory, IOMMU, driver and devices what the call behind it says; commands that wait change by a release, a detach and a fetch alone. A guest's own tables
+-- are read from frames that the device may read. A refusal changes nothing. And the event is counted.
 pub record Happens (old : World) (event : Event) (told : Outcome) (new : World) : Type 0 where
   pub step : (state : State) → Shows old state → (next : State) × Step state event told next × Shows new next
   pub does : Does (parts_of old) event told (parts_of new)
   pub commands : KeepsCommands event (parts_of old) (parts_of new)
+  pub guest : (state : State) → Shows old state → ReadsGuestTablesFor event (parts_of old) state.history
   pub refused : SameIfRefused told (parts_of old) (parts_of new)
   pub events : new.events ≡ old.events + 1

@@ -2,6 +2,7 @@
 -- For the facts that a world carries alone; no public contract cites these.
 use Rattle.std.specs.Prelude.{◌≡◌, ℕ, zero, suc, ◌+◌, List, [], ◌∷◌, length, Option, Some, None, Contains, ⊤}
 use Rattle.std.specs.Option.{option_map_or}
+use Rattle.iom_command_queue.specs.declared.command.Command.{Command as Commanded}
 use Rattle.iom_command_queue.specs.declared.command.Command.TheVariants.{IotinvalVma, IotinvalGvma, IofenceC, IodirInvalDdt, AtsInval}
 use Rattle.iom_command_queue.specs.declared.entry.QueueEntry.{QueueEntry}
 use Rattle.iom_command_queue.specs.declared.entry.QueueEntry.TheVariants.{Command, Illegal, Outside}
@@ -10,36 +11,51 @@ use Rattle.iom_copies.specs.Scene.{PendingTicket}
 use Rattle.iom_driver.specs.Appends.{fence}
 use Rattle.iom_driver.specs.Layout.{completion_address}
 use Rattle.iom_phys_mem.specs.Words.{word_at}
+use Rattle.iom_tlb.specs.declared.space.Space.{Space}
+use Rattle.iom_tlb.specs.declared.space.Space.TheVariants as space
 
 -- the number that the last fence that was done stored
 abbrev pub completed_in : List (List ℕ) → ℕ
 completed_in memory = option_map_or (λ word. word) (word_at 4 memory (completion_address (length memory))) 0
 
--- which pages an invalidation is about: the one that it names, or all
-abbrev pub IsOfExtent : Extent → Option ℕ → Type 0
-IsOfExtent (OnePage own) page = page ≡ Some own
-IsOfExtent WholeSpace page = page ≡ None
+-- the invalidation with which the driver drops translations of an address space: of a page, or all
+abbrev pub invalidation_in : Space → Option ℕ → Commanded
+invalidation_in (space.First pscid) page = IotinvalVma None (Some pscid) page
+invalidation_in (space.Second gscid) page = IotinvalGvma (Some gscid) page
+invalidation_in (space.Both gscid pscid) page = IotinvalGvma (Some gscid) page
 
--- an invalidation of translations is one of the device's: it names the number that the device's address space has
-pub record IsInvalidation (number_of : ℕ → Option ℕ) (device : ℕ) (extent : Extent) (gscid pscid page : Option ℕ) : Type 0 where
-  pub number : ℕ
-  pub own : number_of device ≡ Some number
-  pub host : gscid ≡ None
-  pub space : pscid ≡ Some number
-  pub extent_of : IsOfExtent extent page
+-- the page that is named, or all
+abbrev pub extent_of : Option ℕ → Extent
+extent_of None = WholeSpace
+extent_of (Some page) = OnePage page
 
--- what stands in the ring is this command of the driver's, whose fences store their numbers at this address, where devices have these numbers
-abbrev pub IsQueuedAs : ℕ → (ℕ → Option ℕ) → QueueEntry → QueuedCommand → Type 0
-IsQueuedAs address number_of (Command (IotinvalVma gscid pscid page)) (DropTranslations device extent) = IsInvalidation number_of device extent gscid pscid page
-IsQueuedAs address number_of (Command (IofenceC store wsi pr pw)) (Fence number) = IofenceC store wsi pr pw ≡ fence address number
-IsQueuedAs address number_of (Command (IodirInvalDdt (Some id))) (DropContext device) = id ≡ device
-IsQueuedAs address number_of _ _ = ⊥
+-- which pages of the address space it is about. In both stages the page that it names is a guest physical one, and all go
+abbrev pub extent_in : Space → Option ℕ → Extent
+extent_in (space.First pscid) page = extent_of page
+extent_in (space.Second gscid) page = extent_of page
+extent_in (space.Both gscid pscid) page = WholeSpace
+
+-- an invalidation of translations is one of the device's: it is about the device's address space
+pub record IsInvalidation (space_of : ℕ → Option Space) (device : ℕ) (extent : Extent) (command : Commanded) : Type 0 where
+  pub space : Space
+  pub page : Option ℕ
+  pub own : space_of device ≡ Some space
+  pub named : command ≡ invalidation_in space page
+  pub about : extent ≡ extent_in space page
+
+-- what stands in the ring is this command of the driver's, whose fences store their numbers at this address, where devices have these address spaces
+abbrev pub IsQueuedAs : ℕ → (ℕ → Option Space) → QueueEntry → QueuedCommand → Type 0
+IsQueuedAs address space_of (Command (IotinvalVma gscid pscid page)) (DropTranslations device extent) = IsInvalidation space_of device extent (IotinvalVma gscid pscid page)
+IsQueuedAs address space_of (Command (IotinvalGvma gscid page)) (DropTranslations device extent) = IsInvalidation space_of device extent (IotinvalGvma gscid page)
+IsQueuedAs address space_of (Command (IofenceC store wsi pr pw)) (Fence number) = IofenceC store wsi pr pw ≡ fence address number
+IsQueuedAs address space_of (Command (IodirInvalDdt (Some id))) (DropContext device) = id ≡ device
+IsQueuedAs address space_of _ _ = ⊥
 
 -- what stands in the ring are these, one by one
-abbrev pub AreQueuedAs : ℕ → (ℕ → Option ℕ) → List QueueEntry → List QueuedCommand → Type 0
-AreQueuedAs address number_of [] [] = ⊤
-AreQueuedAs address number_of (entry ∷ entries) (queued ∷ later) = IsQueuedAs address number_of entry queued × AreQueuedAs address number_of entries later
-AreQueuedAs address number_of _ _ = ⊥
+abbrev pub AreQueuedAs : ℕ → (ℕ → Option Space) → List QueueEntry → List QueuedCommand → Type 0
+AreQueuedAs address space_of [] [] = ⊤
+AreQueuedAs address space_of (entry ∷ entries) (queued ∷ later) = IsQueuedAs address space_of entry queued × AreQueuedAs address space_of entries later
+AreQueuedAs address space_of _ _ = ⊥
 
 -- what is queued to drop the device's translations stands in front of the fence of this number
 abbrev pub ComeBefore : ℕ → ℕ → List QueuedCommand → Type 0

@@ -1,14 +1,18 @@
 -- The values that lie between the grants and memory, read off the parts of a world.
 -- For the facts that a world carries alone; no public contract cites these.
 use Rattle.std.specs.Prelude.{ℕ, List, [], ◌∷◌, ◌++◌, length, map, Option, option_map, is_some}
+use Rattle.iom_base.specs.declared.mode.Mode.{Mode}
+use Rattle.iom_base.specs.declared.mode.Mode.TheVariants.{First, Second, Both}
 use Rattle.iom_command_queue.specs.Waiting.{commands_in}
 use Rattle.iom_copies.specs.Scene.{AccessInFlight}
 use Rattle.iom_driver.specs.declared.device.Device.{Device}
-use Rattle.iom_driver.specs.declared.device.FirstStage.{FirstStage}
-use Rattle.iom_driver.specs.Devices.{attachment_of, owned_stage_of, is_plugged}
+use Rattle.iom_driver.specs.declared.device.Stages.{Stages}
+use Rattle.iom_driver.specs.Devices.{attachment_of, owned_stages_of, is_plugged}
 use Rattle.iom_driver.specs.Layout.{completion_address}
 use Rattle.iom_inflight.specs.Flights.{NumberedAccess, FlightRow}
 use Rattle.iom_iommu.specs.Parts.{registers_of, contexts_of, translations_of, flights_of, stock_of}
+use Rattle.iom_tlb.specs.declared.space.Space.{Space}
+use Rattle.iom_tlb.specs.declared.space.Space.TheVariants as space
 use Rattle.iom_world.specs.Devices.{shown_attachment}
 use Rattle.iom_world.specs.Parts.{Parts}
 use Rattle.iom_world.specs.Queued.{completed_in}
@@ -23,9 +27,15 @@ abbrev pub accesses_of : List FlightRow → List AccessInFlight
 accesses_of [] = []
 accesses_of (row ∷ rows) = map (access_of row.device) row.waiting ++ accesses_of rows
 
--- the number of the address space of a device that is attached or leaving
-abbrev pub number_in : List Device → ℕ → Option ℕ
-number_in devices id = option_map (λ (stage : FirstStage). stage.number) (owned_stage_of devices id)
+-- the address space of a device that is attached in the mode, with this number
+abbrev pub space_in : Mode → ℕ → Space
+space_in First number = space.First number
+space_in Second number = space.Second number
+space_in Both number = space.Both number number
+
+-- that of a device that is attached or leaving
+abbrev pub space_at : List Device → ℕ → Option Space
+space_at devices id = option_map (λ (stage : Stages). space_in stage.mode stage.number) (owned_stages_of devices id)
 
 abbrev pub values_of : Parts → Values
 values_of parts = record {
@@ -40,7 +50,7 @@ values_of parts = record {
   is_plugged = is_plugged parts.driver.devices;
   attachment_of = λ id. shown_attachment (attachment_of parts.driver.devices id);
   is_cached = λ id. is_some (contexts_of parts.iommu id);
-  number_of = number_in parts.driver.devices;
+  space_of = space_at parts.driver.devices;
   translations = translations_of parts.iommu;
   stock = stock_of parts.iommu;
 }

@@ -9,7 +9,7 @@ use Rattle.iom_ledger.specs.declared.ledger.Ledger.{Ledger}
 use Rattle.iom_ledger.specs.Shown.{Agrees}
 use Rattle.iom_machine.specs.declared.state.Attachment.{Attachment}
 use Rattle.iom_machine.specs.declared.state.Attachment.TheVariants.{Detached, Attached, Quarantined, Leaving}
-use Rattle.iom_tlb.specs.declared.space.Space.TheVariants.{First}
+use Rattle.iom_tlb.specs.declared.space.Space.{Space}
 use Rattle.iom_tlb.specs.declared.trans_cache.Translation.{Translation}
 use Rattle.iom_tlb.specs.Content.{Key, Content as Translations}
 use Rattle.iom_world.specs.Queued.{AreQueuedAs, ComeBefore, pending_after}
@@ -33,8 +33,8 @@ pub record Values : Type 0 where
   pub is_plugged : ℕ → Bool
   pub attachment_of : ℕ → Attachment
   pub is_cached : ℕ → Bool
-  -- the number of the address space of a device that has one
-  pub number_of : ℕ → Option ℕ
+  -- the address space of a device that has one
+  pub space_of : ℕ → Option Space
   -- the translations that are cached
   pub translations : Translations
   -- how many accesses were accepted when the fence at the head was first fetched, if it was
@@ -45,11 +45,9 @@ abbrev pub copy_of : ℕ → ℕ → Translation → Copy
 copy_of device page translation = record { device = device; page = page; pair = (translation.frame, translation.rights) }
 
 -- a cached translation is of the address space of a device, and among what the scene has of cached translations
-pub record IsSomebodys (number_of : ℕ → Option ℕ) (translations : List Copy) (key : Key) (translation : Translation) : Type 0 where
+pub record IsSomebodys (space_of : ℕ → Option Space) (translations : List Copy) (key : Key) (translation : Translation) : Type 0 where
   pub device : ℕ
-  pub number : ℕ
-  pub own : number_of device ≡ Some number
-  pub space : key.0 ≡ First number
+  pub own : space_of device ≡ Some key.0
   pub there : Contains translations (copy_of device key.1 translation)
 
 -- the fence at the head has taken stock, if it was fetched
@@ -76,7 +74,7 @@ pub record HasNoMessages (scene : Scene) : Type 0 where
 -- the scene is made of these values: of what is cached it may have more
 pub record IsSceneOf (values : Values) (scene : Scene) : Type 0 where
   pub ledger : Agrees values.ledger scene.history
-  pub waiting : AreQueuedAs values.address values.number_of values.waiting scene.waiting
+  pub waiting : AreQueuedAs values.address values.space_of values.waiting scene.waiting
   pub completed : scene.completed ≡ values.completed
   pub last_fence : scene.last_fence ≡ values.given
   pub pending : scene.pending ≡ pending_after values.confirmed (values.given - values.confirmed)
@@ -88,7 +86,7 @@ pub record IsSceneOf (values : Values) (scene : Scene) : Type 0 where
   pub attachments : (id : ℕ) → scene.attachment_of id ≡ values.attachment_of id
   pub contexts : (id : ℕ) → values.is_cached id ≡ true → Contains scene.contexts id
   pub translations : (key : Key) (translation : Translation) → values.translations key ≡ Some translation
-      → IsSomebodys values.number_of scene.translations key translation
+      → IsSomebodys values.space_of scene.translations key translation
   pub stock : IsStockOf values.stock scene.stock
   pub leaving : (id : ℕ) → GoesInOrder id (values.attachment_of id) scene.waiting
   pub alone : HasNoMessages scene

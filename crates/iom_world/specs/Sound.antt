@@ -5,7 +5,7 @@ use Rattle.std.specs.Option.{option_map}
 use Rattle.iom_device_dir.specs.declared.context.Context.{Context}
 use Rattle.iom_driver.specs.declared.device.Device as driver
 use Rattle.iom_driver.specs.declared.driver.Driver.{Driver}
-use Rattle.iom_driver.specs.Devices.{owned_stage_of}
+use Rattle.iom_driver.specs.Devices.{owned_stages_of}
 use Rattle.iom_driver.specs.Directory.{context_for}
 use Rattle.iom_driver.specs.Ready.{IsReady}
 use Rattle.iom_driver.specs.Seen.{state_of}
@@ -43,7 +43,7 @@ pub record AreKnown (parts : Parts) : Type 0 where
 -- a context that is cached is that of an attached device, or of one that is leaving, with its root and its number
 abbrev pub ContextsAreTrue : Parts → Type 0
 ContextsAreTrue parts = (id : ℕ) (context : Context) → contexts_of parts.iommu id ≡ Some context
-    → option_map context_for (owned_stage_of parts.driver.devices id) ≡ Some context
+    → option_map context_for (owned_stages_of parts.driver.devices id) ≡ Some context
 
 -- The driver is started and ready; the IOMMU takes commands, and was built for this memory; they know the devices; no ticket is confirmed whose fence isn't
 -- done; no more accesses were accepted than events came; cached contexts are true; and no copy outlives what it copies.

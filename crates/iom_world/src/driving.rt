@@ -1,14 +1,16 @@
 // What the driver is asked to do.
 ghost use Rattle.std.specs.Prelude.{◌≡◌, ◌+◌, ◌≤◌, ◌^◌};
-ghost use Rattle.iom_world.specs.Does.{told_of, polled_told_of, ticket_told_of, AttachesDevice, GrantsPage, ReleasesPage, DetachesDevice, PollsTickets};
+ghost use Rattle.iom_world.specs.Does.{told_of, polled_told_of, report_told_of, ticket_told_of, AttachesDevice, GrantsPage, ReleasesPage, DetachesDevice, PollsTickets, TakesReport};
 ghost use Rattle.iom_world.specs.Seen.{parts_of};
 ghost use Rattle.iom_world.specs.Told.{outcome_of};
 
 use crate::told::Told;
 use crate::world::World;
-use iom_base::{DeviceId, GrantRights};
+use iom_base::{DeviceId, GrantRights, Mode};
 use iom_driver::{Polled, Ticket};
+use iom_fault_queue::Record;
 use iom_ledger::Refusal;
+use iom_machine::FaultRecord;
 
 impl Told {
     /// What an answer of the driver that gives nothing is told as.
@@ -44,15 +46,28 @@ impl Told {
             last: polled.first + (polled.count - 1),
         }
     }
+
+    /// What is told of a fault record that is taken, or that there is none.
+    fn of_report(answer: Result<Option<Record>, Refusal>) -> Told
+        ensures { outcome_of result ≡ report_told_of answer }
+    {
+        match answer {
+            Ok(Some(record)) => Told::Record(FaultRecord {
+                words: record.words(),
+            }),
+            Ok(None) => Told::NoRecord,
+            Err(why) => Told::Refused(why),
+        }
+    }
 }
 
 impl World {
-    /// A device is attached in its first stage, without ATS.
-    pub(crate) fn attach(&mut self, id: DeviceId) -> Told
-        ensures does { AttachesDevice (parts_of self.old) id (outcome_of result) (parts_of self.new) }
+    /// A device is attached in the mode, without ATS.
+    pub(crate) fn attach(&mut self, id: DeviceId, mode: Mode) -> Told
+        ensures does { AttachesDevice (parts_of self.old) id mode (outcome_of result) (parts_of self.new) }
         ensures events { self.new.events ≡ self.old.events }
     {
-        Told::of(self.driver.attach(&mut self.memory, id))
+        Told::of(self.driver.attach(&mut self.memory, id, mode))
     }
 
     /// A device gets a frame at a page.
@@ -92,5 +107,14 @@ impl World {
             Ok(polled) => Told::of_poll(polled),
             Err(why) => Told::Refused(why),
         }
+    }
+
+    /// The driver takes the oldest fault record of the queue; where it finds none, records are written again
+    /// that were dropped before.
+    pub(crate) fn faults(&mut self) -> Told
+        ensures does { TakesReport (parts_of self.old) (outcome_of result) (parts_of self.new) }
+        ensures events { self.new.events ≡ self.old.events }
+    {
+        Told::of_report(self.driver.faults(&self.memory, &mut self.iommu))
     }
 }

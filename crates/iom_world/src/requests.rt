@@ -30,7 +30,7 @@ impl Told {
 impl World {
     /// A device asks for a read of so many bytes at the address. `Accepted`, with the access's number
     /// among the device's, where it is in flight now; else nothing is: `Refused(NoSuchDevice)`,
-    /// `BadSpan`, `Busy`, or `Fault` with its cause.
+    /// `BadSpan`, `Busy`, or `Fault` with its cause, whose record goes into the fault queue.
     pub(crate) fn read(&mut self, id: DeviceId, address: u64, len: u64) -> Told
         requires below { (flights_of self.old.iommu).so_far < self.old.events }
         requires count { (flights_of self.old.iommu).so_far + 1 < 2 ^ 64 }
@@ -44,7 +44,7 @@ impl World {
         }
         Told::of_reply(
             self.iommu
-                .request(&self.memory, id, address, len, AccessKind::Read, &[]),
+                .request(&mut self.memory, id, address, len, AccessKind::Read, &[]),
         )
     }
 
@@ -62,8 +62,7 @@ impl World {
         }
         let len = bytes.len() as u64;
         Told::of_reply(
-            self.iommu
-                .request(&self.memory, id, address, len, AccessKind::Write, bytes),
+            self.iommu.request(&mut self.memory, id, address, len, AccessKind::Write, bytes),
         )
     }
 }

@@ -26,8 +26,8 @@ impl World {
         self.events += 1;
         let answer = match event {
             Event::Plug { device, kind } => self.plug(*device, *kind),
-            // No other mode can come yet, and no ATS.
-            Event::Attach { device, .. } => self.attach(*device),
+            // No ATS can come yet.
+            Event::Attach { device, mode, .. } => self.attach(*device, *mode),
             Event::Grant {
                 device,
                 page,
@@ -38,6 +38,7 @@ impl World {
             Event::Detach { device } => self.detach(*device),
             Event::Fetch => self.fetch(),
             Event::Poll => self.poll(),
+            Event::Faults => self.faults(),
             Event::Read {
                 device,
                 address,
@@ -67,8 +68,8 @@ impl World {
     }
 
     /// One event, and what comes of it: a lawful step of the ledger machine from every state that the
-    /// world shows. It does to memory, IOMMU, driver and devices what the call behind it says; a request is
-    /// accepted only to a page that is held; a refusal changes nothing. Each event is counted, whatever
+    /// world shows. It does to memory, IOMMU, driver and devices what the call behind it says; a guest's
+    /// own tables are read from frames that the device may read; a refusal changes nothing. Each event is counted, whatever
     /// comes of it.
     pub fn step(&mut self, event: &Event) -> Outcome
         requires event { IsEvent event.now }

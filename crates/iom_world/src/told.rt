@@ -6,7 +6,7 @@ ghost use Rattle.iom_world.specs.Told.{outcome_of, TellsBytes, TellsShown};
 use arrayvec::ArrayVec;
 use iom_base::Cause;
 use iom_ledger::Refusal;
-use iom_machine::{Fetched, Outcome};
+use iom_machine::{FaultRecord, Fetched, Outcome};
 
 /// What comes of an event, but for bytes that are read. An outcome is as large as a page, since those
 /// stand in it; this is small, and is handed from call to call.
@@ -17,6 +17,8 @@ pub(crate) enum Told {
     Ticket(u32),
     Confirmed { first: u32, last: u32 },
     NoneConfirmed,
+    Record(FaultRecord),
+    NoRecord,
     Fetched(Fetched),
     Accepted(u64),
     Busy,
@@ -38,6 +40,8 @@ impl Told {
             Told::Ticket(ticket) => Outcome::Ticket(ticket),
             Told::Confirmed { first, last } => Outcome::Confirmed { first, last },
             Told::NoneConfirmed => Outcome::NoneConfirmed,
+            Told::Record(record) => Outcome::Record(record),
+            Told::NoRecord => Outcome::NoRecord,
             Told::Fetched(fetched) => Outcome::Fetched(fetched),
             Told::Accepted(number) => Outcome::Accepted(number),
             Told::Busy => Outcome::Busy,
@@ -57,6 +61,7 @@ impl Told {
         match (self, &mut *place) {
             (Told::Done, Outcome::Done)
             | (Told::NoneConfirmed, Outcome::NoneConfirmed)
+            | (Told::NoRecord, Outcome::NoRecord)
             | (Told::Busy, Outcome::Busy)
             | (Told::BadSpan, Outcome::BadSpan)
             | (Told::NothingInFlight, Outcome::NothingInFlight) => {}
@@ -72,6 +77,7 @@ impl Told {
                 *held_first = first;
                 *held_last = last;
             }
+            (Told::Record(record), Outcome::Record(held)) => *held = record,
             (Told::Fetched(fetched), Outcome::Fetched(held)) => *held = fetched,
             (Told::Accepted(number), Outcome::Accepted(held)) => *held = number,
             (Told::Fault(cause), Outcome::Fault(held)) => *held = cause,

@@ -3,7 +3,7 @@ ghost use Rattle.std.specs.Prelude.{◌≡◌, ◌↔◌, ◌^◌, ◌≤◌, �
 ghost use Rattle.iom_machine.specs.declared.state.State.{State};
 ghost use Rattle.iom_machine.specs.Frames.{IsFree};
 ghost use Rattle.iom_machine.specs.Refusals.{MayRefusePlug, MayRefuseAttach, MayRefuseGrant, MayFindNoPlace};
-ghost use Rattle.iom_machine.specs.Machine.{Plugs, Attaches, Detaches, Grants, Releases, Fetches};
+ghost use Rattle.iom_machine.specs.Machine.{Plugs, Attaches, Detaches, Grants, Releases, Fetches, TakesRecord};
 
 use crate::decide::devices::{place_of, set_attachment, start_leaving};
 use crate::decide::frames::{are_fewer_free, are_fewer_runs_free, are_free_besides, reserve};
@@ -11,8 +11,8 @@ use crate::decide::reasons::{
     attach_refusal, detach_refusal, grant_refusal, plug_refusal, refuses, release_refusal,
 };
 use crate::outcome::Outcome;
-use crate::state::{Attachment, Device, DeviceKind, Mode, State};
-use iom_base::{DeviceId, GrantRights, Owner, Sequence};
+use crate::state::{Attachment, Device, DeviceKind, State};
+use iom_base::{DeviceId, GrantRights, Mode, Owner, Sequence};
 use iom_ledger::{HistoryEntry, Refusal};
 use std::alloc::{AllocError, Global};
 
@@ -261,6 +261,17 @@ pub(crate) fn judge_fetch(state: State, outcome: &Outcome) -> Option<State>
 {
     match outcome {
         Outcome::Fetched(_) => Some(state),
+        _ => None,
+    }
+}
+
+/// The state after the driver asked for a fault record, where it may come so.
+pub(crate) fn judge_faults(state: State, outcome: &Outcome) -> Option<State>
+    ensures { (new : State) → (result ≡ Some new) ↔ TakesRecord state outcome.now new }
+{
+    match outcome {
+        Outcome::Record(_) => Some(state),
+        Outcome::NoRecord => Some(state),
         _ => None,
     }
 }

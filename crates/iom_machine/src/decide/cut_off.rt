@@ -5,8 +5,8 @@ ghost use Rattle.iom_machine.specs.Requests.{MayAcceptFormerly, MayAcceptCutOff,
 use crate::decide::history::{is_confirmed, lingers_somewhere};
 use crate::decide::reasons::too_wide;
 use crate::decide::requests::{is_same_cause, lingers};
-use crate::state::{Mode, State};
-use iom_base::{Access, AccessKind, Cause, DeviceId};
+use crate::state::State;
+use iom_base::{Access, AccessKind, Cause, DeviceId, Mode};
 use iom_ledger::HistoryEntry;
 
 /// The cause where no context of the device is found.

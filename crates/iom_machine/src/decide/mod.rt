@@ -19,7 +19,7 @@ pub(crate) mod requests;
 
 use crate::choice::Choice;
 use crate::decide::calls::{
-    judge_attach, judge_detach, judge_fetch, judge_grant, judge_plug, judge_release,
+    judge_attach, judge_detach, judge_faults, judge_fetch, judge_grant, judge_plug, judge_release,
 };
 use crate::decide::commits::judge_commit;
 use crate::decide::polls::judge_poll;
@@ -86,6 +86,7 @@ fn decide(
         Event::Release { device, page } => judge_release(state, *device, *page, outcome),
         Event::Fetch => Ok(judge_fetch(state, outcome)),
         Event::Poll => judge_poll(alloc, state, outcome),
+        Event::Faults => Ok(judge_faults(state, outcome)),
         Event::Read {
             device,
             address,

@@ -16,8 +16,8 @@ use crate::decide::cut_off::{
 use crate::decide::devices::{accept, place_of};
 use crate::decide::history::{is_held_for, lingers_in, may, pair_held};
 use crate::outcome::Outcome;
-use crate::state::{Attachment, Device, Mode, State};
-use iom_base::{Access, Cause, DeviceId, MAX_IN_FLIGHT, PAGE_SIZE, Span};
+use crate::state::{Attachment, Device, State};
+use iom_base::{Access, Cause, DeviceId, MAX_IN_FLIGHT, Mode, PAGE_SIZE, Span};
 use iom_ledger::{HistoryEntry, Refusal};
 use std::alloc::AllocError;
 

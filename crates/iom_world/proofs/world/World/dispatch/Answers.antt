@@ -2,7 +2,7 @@ use Rattle.std.proofs.Common.{rules, ◌+◌, ◌<◌, arith}
 use Rattle.iom_world.specs.Seen.{parts_of}
 use Rattle.iom_world.proofs.RunLemmas.{sound_counted, below_counted}
 use Rattle.iom_world.proofs.world.World.dispatch.Goals as goal
-use Rattle.iom_world.proofs.world.World.dispatch.Goals.{in-Plug, in-Attach, in-Grant, in-Release, in-Detach, in-Fetch, in-Poll, in-Read, in-Write, in-Poke, in-Free}
+use Rattle.iom_world.proofs.world.World.dispatch.Goals.{in-Plug, in-Attach, in-Grant, in-Release, in-Detach, in-Fetch, in-Poll, in-Faults, in-Read, in-Write, in-Poke, in-Free}
 
 pub invariant_of-self : goal.invariant_of-self
 invariant_of-self c = let world = c.args.self.now in record { sound = sound_counted (parts_of world) world.events world.sound }
@@ -28,6 +28,7 @@ returns-clause-does c = elim c.match-event.branch [
   | in-Detach w ↦ search rules
   | in-Fetch w ↦ search rules
   | in-Poll w ↦ search rules
+  | in-Faults w ↦ search rules
   | in-Read w ↦ search rules
   | in-Write w ↦ search rules
   | in-Poke w ↦ search rules

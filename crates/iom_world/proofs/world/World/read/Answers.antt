@@ -18,12 +18,12 @@ request-requires-clause-added c =
 pub invariant_of-self : goal.invariant_of-self
 invariant_of-self c =
     let world = c.args.self.now in
-    let new : Parts = record { memory = world.memory; iommu = c.request.new.self; driver = state_of world.driver; devices = world.devices.items } in
+    let new : Parts = record { memory = c.request.new.memory; iommu = c.request.new.self; driver = state_of world.driver; devices = world.devices.items } in
     record {
       sound = keeps_asked_counted c.laws_below.ensures world.driver (parts_of world) new world.events c.args.id (read_of c.args.address c.args.len) (reply_told_of c.request.result) world.sound (sound_driver world.driver) refl c.requires.below c.ranges.address.fits
-          (inr record { present = c.is_plugged.ensures.0 c.if-not-is_plugged.false; reply = c.request.result; told_so = refl; call = c.request.ensures; memory = refl; driver = refl; devices = refl });
+          (inr record { present = c.is_plugged.ensures.0 c.if-not-is_plugged.false; reply = c.request.result; told_so = refl; call = c.request.ensures.answered; driver = refl; devices = refl });
     }
 
 pub returns-clause-does : goal.returns-clause-does
 returns-clause-does c =
-    inr record { present = c.is_plugged.ensures.0 c.if-not-is_plugged.false; reply = c.request.result; told_so = c.of_reply.ensures; call = c.request.ensures; memory = refl; driver = refl; devices = refl }
+    inr record { present = c.is_plugged.ensures.0 c.if-not-is_plugged.false; reply = c.request.result; told_so = c.of_reply.ensures; call = c.request.ensures.answered; driver = refl; devices = refl }

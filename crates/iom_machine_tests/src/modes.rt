@@ -1,0 +1,247 @@
+use crate::lines::{Comes, Does, first_unlawful, first_unlawful_of};
+use iom_base::{Cause, GrantRights, Mode};
+use iom_ledger::Refusal;
+use std::alloc::Global;
+use std::test::Fail;
+
+/// The row `second-stage`.
+const SECOND_STAGE: [(Does, Comes); 10] = [
+    (Does::Plug(1), Comes::Done),
+    (
+        Does::AttachIn(1, Mode::Second, &[56, 57, 58, 59]),
+        Comes::Done,
+    ),
+    (
+        Does::Grant(1, 3, 5, GrantRights::ReadWrite, &[55, 54]),
+        Comes::Done,
+    ),
+    (
+        Does::Peek(0x3c028, 8),
+        Comes::Bytes(&[0x38, 0, 0, 0, 0, 0x10, 0, 0x80]),
+    ),
+    (
+        Does::Peek(0x36018, 8),
+        Comes::Bytes(&[0xd7, 0x14, 0, 0, 0, 0, 0, 0]),
+    ),
+    (Does::Read(1, 0x3000, 1), Comes::Accepted(1, 5)),
+    (
+        Does::Read(1, 0x20000000000, 1),
+        Comes::Fault(Cause::ReadGuestPageFault),
+    ),
+    (
+        Does::Write(1, 0x4000, &[0]),
+        Comes::Fault(Cause::WriteGuestPageFault),
+    ),
+    (
+        Does::Faults,
+        Comes::Record([0x0000010800000015, 0, 0x20000000000, 0x20000000000]),
+    ),
+    (
+        Does::Faults,
+        Comes::Record([0x0000010c00000017, 0, 0x4000, 0x4000]),
+    ),
+];
+
+/// A line of that run, and what it is changed to, which may not come there.
+const CHANGED_IN_SECOND: [(usize, Does, Comes); 7] = [
+    // a held page faults
+    (
+        5,
+        Does::Read(1, 0x3000, 1),
+        Comes::Fault(Cause::ReadGuestPageFault),
+    ),
+    // another frame than the page has
+    (5, Does::Read(1, 0x3000, 1), Comes::Accepted(1, 6)),
+    // the fault of the first stage
+    (
+        6,
+        Does::Read(1, 0x20000000000, 1),
+        Comes::Fault(Cause::ReadPageFault),
+    ),
+    // the fault of a read
+    (
+        7,
+        Does::Write(1, 0x4000, &[0]),
+        Comes::Fault(Cause::ReadGuestPageFault),
+    ),
+    // nothing else comes of it
+    (8, Does::Faults, Comes::NoneConfirmed),
+    (8, Does::Faults, Comes::Done),
+    (8, Does::Poll, Comes::NoRecord),
+];
+
+/// The row `guest-tables`.
+const GUEST_TABLES: [(Does, Comes); 9] = [
+    (Does::Plug(1), Comes::Done),
+    (
+        Does::AttachIn(1, Mode::Both, &[56, 57, 58, 59]),
+        Comes::Done,
+    ),
+    (
+        Does::Grant(1, 0, 5, GrantRights::ReadWrite, &[55, 54]),
+        Comes::Done,
+    ),
+    (
+        Does::Poke(0x5000, &[1, 0, 0, 0, 0, 0, 0, 0, 1, 0x1c, 0, 0, 0, 0, 0, 0]),
+        Comes::Done,
+    ),
+    (
+        Does::Poke(0x5018, &[0x53, 0x24, 0, 0, 0, 0, 0, 0]),
+        Comes::Done,
+    ),
+    (
+        Does::Read(1, 0x3010, 4),
+        Comes::Fault(Cause::ReadGuestPageFault),
+    ),
+    (
+        Does::Read(1, 0x40000000, 4),
+        Comes::Fault(Cause::ReadGuestPageFault),
+    ),
+    (
+        Does::Faults,
+        Comes::Record([0x0000010800000015, 0, 0x3010, 0x9010]),
+    ),
+    (
+        Does::Faults,
+        Comes::Record([0x0000010800000015, 0, 0x40000000, 0x7001]),
+    ),
+];
+
+/// A device in both stages that holds frame 5, and frame 6 to read.
+const BOTH: [(Does, Comes); 19] = [
+    (Does::Plug(1), Comes::Done),
+    (
+        Does::AttachIn(1, Mode::Both, &[56, 57, 58, 59]),
+        Comes::Done,
+    ),
+    (
+        Does::Grant(1, 0, 5, GrantRights::ReadWrite, &[55, 54]),
+        Comes::Done,
+    ),
+    (
+        Does::Grant(1, 9, 6, GrantRights::ReadOnly, &[]),
+        Comes::Done,
+    ),
+    (Does::Read(1, 0x3010, 4), Comes::Accepted(1, 5)),
+    (Does::Read(1, 0x3010, 4), Comes::Accepted(2, 6)),
+    (Does::Write(1, 0x3010, &[7]), Comes::Accepted(3, 5)),
+    (Does::Read(1, 0x3010, 4), Comes::Fault(Cause::ReadPageFault)),
+    (
+        Does::Read(1, 0x3010, 4),
+        Comes::Fault(Cause::ReadGuestPageFault),
+    ),
+    (Does::Commit(1), Comes::Read(&[0, 0, 0, 0])),
+    (Does::Release(1, 9), Comes::Ticket(1)),
+    // what lingers may be reached
+    (Does::Read(1, 0x3010, 1), Comes::Accepted(4, 6)),
+    (Does::Commit(1), Comes::Read(&[0, 0, 0, 0])),
+    (Does::Commit(1), Comes::Wrote(1)),
+    (Does::Commit(1), Comes::Read(&[0])),
+    (Does::Poll, Comes::Confirmed(1, 1)),
+    (Does::Peek(0x5010, 1), Comes::Bytes(&[7])),
+    (Does::Faults, Comes::NoRecord),
+    (Does::Faults, Comes::Record([1, 2, 3, 4])),
+];
+
+/// A line of that run, and what it is changed to, which may not come there.
+const CHANGED_IN_BOTH: [(usize, Does, Comes); 11] = [
+    // plenty of free runs
+    (
+        1,
+        Does::AttachIn(1, Mode::Both, &[]),
+        Comes::Refused(Refusal::NoFrames),
+    ),
+    // a root in a reserved frame
+    (
+        1,
+        Does::AttachIn(1, Mode::Both, &[57, 58, 59, 60]),
+        Comes::Done,
+    ),
+    // a frame that the device doesn't reach
+    (4, Does::Read(1, 0x3010, 4), Comes::Accepted(1, 7)),
+    // a frame that it may only read
+    (6, Does::Write(1, 0x3010, &[7]), Comes::Accepted(3, 6)),
+    // the fault of a write
+    (
+        7,
+        Does::Read(1, 0x3010, 4),
+        Comes::Fault(Cause::WriteGuestPageFault),
+    ),
+    // it has a context
+    (
+        7,
+        Does::Read(1, 0x3010, 4),
+        Comes::Fault(Cause::DirectoryEntryNotValid),
+    ),
+    // the write went to the other frame
+    (16, Does::Peek(0x6010, 1), Comes::Bytes(&[7])),
+    // an access is in flight on the frame that lingers
+    (14, Does::Poll, Comes::Confirmed(1, 1)),
+    // it lingers no more
+    (16, Does::Read(1, 0x3010, 1), Comes::Accepted(5, 6)),
+    // nothing else comes of it
+    (17, Does::Faults, Comes::Nothing),
+    (17, Does::Fetch, Comes::NoRecord),
+];
+
+#[test]
+fn rows_of_the_second_stage_are_lawful(rt: HostRuntime) -> Result<(), Fail> {
+    assert_eq!(rt; first_unlawful(rt.alloc(), &SECOND_STAGE)?, None);
+    assert_eq!(rt; first_unlawful(rt.alloc(), &GUEST_TABLES)?, None);
+    assert_eq!(rt; first_unlawful(rt.alloc(), &BOTH)?, None);
+    Ok(())
+}
+
+#[test]
+fn changed_lines_of_the_second_stage_are_refused(rt: HostRuntime) -> Result<(), Fail> {
+    for (place, does, comes) in CHANGED_IN_SECOND {
+        assert_eq!(rt;
+            first_unlawful_of(rt.alloc(), &SECOND_STAGE, place, does, comes)?,
+            Some(place)
+        );
+    }
+    for (place, does, comes) in CHANGED_IN_BOTH {
+        assert_eq!(rt;
+            first_unlawful_of(rt.alloc(), &BOTH, place, does, comes)?,
+            Some(place)
+        );
+    }
+    Ok(())
+}
+
+/// The first line that may not come where device 2 holds a frame of each of the lowest so many runs, its tables lie in the
+/// highest of the fifteen, and then device 1 is refused an attach in the mode for want of frames.
+fn refused_beside(alloc: Global, runs: u64, mode: Mode) -> Result<Option<usize>, Fail> {
+    let mut lines: Vec<(Does, Comes)> = Vec::new(alloc);
+    lines.push((Does::Plug(1), Comes::Done))?;
+    lines.push((Does::Plug(2), Comes::Done))?;
+    lines.push((Does::Attach(2, &[59]), Comes::Done))?;
+    lines.push((
+        Does::Grant(2, 100, 56, GrantRights::ReadOnly, &[58, 57]),
+        Comes::Done,
+    ))?;
+    for run in 0..runs {
+        let frame = run.wrapping_mul(4);
+        lines.push((
+            Does::Grant(2, run, frame, GrantRights::ReadOnly, &[]),
+            Comes::Done,
+        ))?;
+    }
+    lines.push((
+        Does::AttachIn(1, mode, &[]),
+        Comes::Refused(Refusal::NoFrames),
+    ))?;
+    first_unlawful(alloc, &lines)
+}
+
+#[test]
+fn a_root_of_four_frames_may_be_wanting(rt: HostRuntime) -> Result<(), Fail> {
+    // three runs are free, of which the directory may break two
+    assert_eq!(rt; refused_beside(rt.alloc(), 11, Mode::Second)?, Some(15));
+    assert_eq!(rt; refused_beside(rt.alloc(), 11, Mode::Both)?, Some(15));
+    // two runs, and the other frames of the others
+    assert_eq!(rt; refused_beside(rt.alloc(), 12, Mode::Second)?, None);
+    assert_eq!(rt; refused_beside(rt.alloc(), 12, Mode::Both)?, None);
+    assert_eq!(rt; refused_beside(rt.alloc(), 12, Mode::First)?, Some(16));
+    Ok(())
+}

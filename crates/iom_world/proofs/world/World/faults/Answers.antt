@@ -1,0 +1,17 @@
+use Rattle.std.proofs.Common.{refl}
+use Rattle.iom_world.specs.Does.{report_told_of}
+use Rattle.iom_driver.specs.Seen.{state_of}
+use Rattle.iom_world.specs.Parts.{Parts}
+use Rattle.iom_world.specs.Seen.{parts_of}
+use Rattle.iom_world.proofs.ReportKeeps.{keeps_taken}
+use Rattle.iom_world.proofs.DriverLemmas.{sound_driver}
+use Rattle.iom_world.proofs.world.World.faults.Goals as goal
+
+pub invariant_of-self : goal.invariant_of-self
+invariant_of-self c =
+    let world = c.args.self.now in
+    let new : Parts = record { memory = world.memory; iommu = c.faults.new.io; driver = state_of world.driver; devices = world.devices.items } in
+    record {
+      sound = keeps_taken (parts_of world) new world.events (report_told_of c.faults.result) world.sound (sound_driver world.driver) c.faults.ensures.ready
+          record { answer = c.faults.result; told_so = refl; call = c.faults.ensures.effect; driver = refl; memory = refl; devices = refl };
+    }
