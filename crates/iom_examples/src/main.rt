@@ -9,7 +9,7 @@ use std::alloc::Global;
 use std::fs;
 
 /// The examples, in the order in which they are best read.
-const NAMES: [&str; 8] = [
+const NAMES: [&str; 9] = [
     "first-path",
     "stale-read",
     "draining",
@@ -18,6 +18,7 @@ const NAMES: [&str; 8] = [
     "busy",
     "double-grant",
     "no-frames",
+    "guest-tables",
 ];
 
 /// The number of the first line that differs, counted from 1; None where the texts are the same.

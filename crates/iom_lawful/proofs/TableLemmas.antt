@@ -1,10 +1,10 @@
--- The highest free frames: a search from the limit down, and one frame after another.
-use Rattle.std.proofs.Common.{◌≡◌, ◌+◌, ◌-◌, ◌<◌, ◌≤◌, ℕ, suc, inl, inr, List, [], ◌∷◌, ◌++◌, Option, refl, sym, subst, arith, append-nil}
+-- The highest free frames: a search from the limit down, and one frame after another; and the highest run of four.
+use Rattle.std.proofs.Common.{◌≡◌, ◌+◌, ◌-◌, ◌*◌, ◌/◌, ◌<◌, ◌≤◌, length, ℕ, suc, inl, inr, List, [], ◌∷◌, ◌++◌, Option, refl, sym, subst, arith, append-nil}
 use Rattle.std.proofs.lemmas.Bool.{cases_lt}
 use Rattle.std.proofs.lemmas.List.{append_assoc}
 use Rattle.iom_machine.specs.declared.state.State.{State}
 use Rattle.iom_lawful.specs.declared.reaches.Reach.{Reach}
-use Rattle.iom_lawful.specs.Tables.{MayBecomeTable, NoneMayBecomeTable, IsHighestForTable, AreHighestForTables}
+use Rattle.iom_lawful.specs.Tables.{MayBecomeTable, NoneMayBecomeTable, IsHighestForTable, AreHighestForTables, AreFourForRoot, NoFourForRoot, IsHighestForRoot}
 
 module _ (state : State) (reaches : List Reach) (named : Option ℕ) where
   -- nothing stands from the limit on and below it
@@ -61,3 +61,26 @@ module _ (state : State) (reaches : List Reach) (named : Option ℕ) where
       let none_more : 0 ≡ count - counted = omega (arith, done) in
       subst (λ xs. AreHighestForTables state reaches named start count xs) (append-nil taken)
       (leads [] (subst (λ n. AreHighestForTables state reaches named limit n []) none_more refl))
+
+module _ (state : State) (reaches : List Reach) (pages : List ℕ) where
+  -- no run stands above the last whole one
+  pub no_run_yet : (runs : ℕ) → runs ≡ length state.frames / 4 → NoFourForRoot state reaches pages (runs - 0)
+  no_run_yet runs whole run above are =
+      let within : 4 * run + 3 < length state.frames = are.3.0.0 in absurd (omega (arith, whole, above, within))
+
+  -- one run more of which not all four are free
+  pub no_run_with_one_more : (runs above : ℕ) → above < runs → NoFourForRoot state reaches pages (runs - above)
+      → (AreFourForRoot state reaches pages (runs - 1 - above) → ⊥) → NoFourForRoot state reaches pages (runs - (above + 1))
+  no_run_with_one_more runs above within none not_here run first are =
+      elim (cases_lt run (runs - above)) [
+        | inl lower ↦ let here : run ≡ runs - 1 - above = omega (arith, lower, first, within) in
+            not_here (subst (λ r. AreFourForRoot state reaches pages r) here are)
+        | inr higher ↦ none run higher are
+      ]
+
+  -- the first that is found free, from the last one down, is the highest
+  pub highest_run_here : (runs above : ℕ) → above < runs → NoFourForRoot state reaches pages (runs - above)
+      → AreFourForRoot state reaches pages (runs - 1 - above) → IsHighestForRoot state reaches pages (runs - 1 - above)
+  highest_run_here runs above within none are =
+      let next : runs - above ≡ suc (runs - 1 - above) = omega (arith, within) in
+      (are, subst (λ n. NoFourForRoot state reaches pages n) next none)

@@ -1,16 +1,18 @@
-// What the lines don't show, by the rule of the driver: what an attach or a grant takes are the highest free frames.
+// What the lines don't show, by the rule of the driver: what an attach or a grant takes are the highest free frames, and
+// the root of a second stage the highest four that stand side by side.
 
-ghost use Rattle.std.specs.Prelude.{◌≡◌, ◌↔◌, ◌^◌, ◌-◌, ◌<◌, ◌≤◌, List, length, take, drop, IsTrue, IfOk, MatchOption};
+ghost use Rattle.std.specs.Prelude.{◌≡◌, ◌↔◌, ◌^◌, ◌-◌, ◌+◌, ◌*◌, ◌<◌, ◌≤◌, List, length, take, drop, IsTrue, IfOk, MatchOption};
 ghost use Rattle.iom_lawful.specs.declared.reaches.Reach.{Reach};
 ghost use Rattle.iom_lawful.specs.Tables.{is_reached_by, MayBecomeTable, NoneMayBecomeTable, IsHighestForTable, AreHighestForTables, named_by, WantsFrames, TakesHighest};
+ghost use Rattle.iom_lawful.specs.Tables.{is_among, MayBecomeRoot, AreFourForRoot, NoFourForRoot, IsHighestForRoot, TakesRoot, takes_root};
 
-use crate::reaches::{Reach, frame_at, reaches_of};
-use iom_base::{DeviceId, Sequence};
+use crate::reaches::{Reach, frame_at};
+use iom_base::{DeviceId, Mode, PAGE_SIZE, Sequence};
 use iom_machine::{Choice, Event, Outcome, State};
 use std::alloc::{AllocError, Global};
 
-/// A table of a device below its root, in the three levels of Sv39 (Privileged Architecture, chapter "Supervisor-Level
-/// ISA", "Sv39"): that of the pages with the same number but for its low bits, 18 or 9 of them.
+/// A table of a device below its root, in the three levels of Sv39 or of Sv39x4 (Privileged Architecture, "Sv39" and
+/// "Guest Physical Address Translation"): that of the pages with the same number but for its low bits, 18 or 9 of them.
 #[derive(Clone, Copy, PartialEq, Eq, Debug)]
 struct Table {
     device: DeviceId,
@@ -90,6 +92,70 @@ fn highest_frees(
     Ok(taken)
 }
 
+/// Whether the number is one of these.
+fn is_among(numbers: &[u32], number: u32) -> bool
+    ensures { result ≡ is_among numbers.now number }
+{
+    numbers.iter().any(|other| *other == number)
+}
+
+/// Whether the frame may be one of a root, beside these pages of the directory.
+fn is_free_for_root(state: &State, reaches: &[Reach], pages: &[u32], number: u32) -> bool
+    ensures { IsTrue result ↔ MayBecomeRoot state.now reaches.now pages.now number }
+{
+    if is_among(pages, number) {
+        return false;
+    }
+    is_free_for_table(state, reaches, None, number)
+}
+
+/// Whether the four frames of the run with this number may become a root.
+fn are_four_free(state: &State, reaches: &[Reach], pages: &[u32], run: u32) -> bool
+    requires { 4 * run + 4 ≤ 2 ^ 32 }
+    ensures { IsTrue result ↔ AreFourForRoot state.now reaches.now pages.now run }
+{
+    is_free_for_root(state, reaches, pages, 4 * run)
+        && is_free_for_root(state, reaches, pages, 4 * run + 1)
+        && is_free_for_root(state, reaches, pages, 4 * run + 2)
+        && is_free_for_root(state, reaches, pages, 4 * run + 3)
+}
+
+/// The number of the highest run of four frames that may become a root.
+fn highest_run(state: &State, reaches: &[Reach], pages: &[u32]) -> Option<u32>
+    requires { length state.now.frames ≤ 2 ^ 32 }
+    ensures { MatchOption result (NoFourForRoot state.now reaches.now pages.now 0) (IsHighestForRoot state.now reaches.now pages.now) }
+{
+    let runs = state.frames.as_slice().len() / 4;
+    for above in 0..runs {
+        let run = (runs - 1 - above) as u32;
+        if are_four_free(state, reaches, pages, run) {
+            return Some(run);
+        }
+    }
+    None
+}
+
+/// The frames of the highest run that may become a root; none where there is no such run.
+fn root_of(
+    alloc: Global,
+    state: &State,
+    reaches: &[Reach],
+    pages: &[u32],
+) -> Result<Sequence<u32>, AllocError>
+    requires { length state.now.frames ≤ 2 ^ 32 }
+    ensures { IfOk result (TakesRoot state.now reaches.now pages.now) }
+{
+    let mut taken = Sequence::new(alloc);
+    let Some(run) = highest_run(state, reaches, pages) else {
+        return Ok(taken);
+    };
+    taken.push(4 * run)?;
+    taken.push(4 * run + 1)?;
+    taken.push(4 * run + 2)?;
+    taken.push(4 * run + 3)?;
+    Ok(taken)
+}
+
 /// The first so many of the numbers, or all, and those behind them.
 fn split(
     alloc: Global,
@@ -119,12 +185,31 @@ struct Leaving {
     ticket: u32,
 }
 
-/// What an event takes: so many pages of the device directory, and so many tables. The named frame is passed over.
+/// What an event takes: so many pages of the device directory, and so many tables or the root of a second stage. The
+/// named frame is passed over.
 #[derive(Clone, Copy, PartialEq, Eq, Debug)]
 struct Needs {
     pages: usize,
     tables: usize,
+    root: bool,
     named: Option<u64>,
+}
+
+/// The frame of the page that a request names, if the event is one.
+fn frame_of_page(reaches: &[Reach], event: &Event) -> Option<u32> {
+    match event {
+        Event::Read {
+            device,
+            address,
+            ..
+        } => frame_at(reaches, *device, *address / PAGE_SIZE),
+        Event::Write {
+            device,
+            address,
+            ..
+        } => frame_at(reaches, *device, *address / PAGE_SIZE),
+        _ => None,
+    }
 }
 
 /// The driver, as far as a run shows it: which tables each device has, which pages the device directory has, and which
@@ -190,17 +275,22 @@ impl Driver {
     /// What it takes that this comes of the event.
     fn needs(&mut self, levels: u8, event: &Event, outcome: &Outcome) -> Result<Needs, AllocError>
         ensures count { IfOk result (λ needs. WantsFrames levels event.now outcome.now needs.pages needs.tables) }
+        ensures root { IfOk result (λ needs. needs.root ≡ takes_root event.now outcome.now) }
         ensures named { IfOk result (λ needs. needs.named ≡ named_by event.now outcome.now) }
     {
         let mut needs = Needs {
             pages: 0,
             tables: 0,
+            root: false,
             named: None,
         };
         match (event, outcome) {
-            (Event::Attach { device, .. }, Outcome::Done) => {
+            (Event::Attach { device, mode, .. }, Outcome::Done) => {
                 needs.pages = self.add_pages(*device, levels)?;
-                needs.tables = 1;
+                match mode {
+                    Mode::First => needs.tables = 1,
+                    Mode::Second | Mode::Both => needs.root = true,
+                }
             }
             (
                 Event::Grant {
@@ -246,41 +336,35 @@ impl Driver {
     }
 
     /// What the driver and the IOMMU choose where this comes of the event. The pages of the device directory come
-    /// before the tables.
+    /// before the tables. A request is on the frame that was guessed, or, where none was, on that of its page.
     pub(crate) fn choose(
         &mut self,
         alloc: Global,
         state: &State,
+        reaches: &[Reach],
         event: &Event,
         outcome: &Outcome,
+        guessed: Option<u32>,
     ) -> Result<Choice, AllocError>
         requires { length state.now.frames ≤ 2 ^ 32 }
-        ensures taken { IfOk result (λ choice. (reaches : List Reach) × TakesHighest state.now reaches event.now outcome.now choice.directory choice.taken) }
+        ensures taken { IfOk result (λ choice. TakesHighest state.now reaches.now event.now outcome.now choice.directory choice.taken) }
     {
-        let reaches = reaches_of(alloc, state.history.as_slice())?;
         let needs = self.needs(state.levels, event, outcome)?;
         let frames = highest_frees(
             alloc,
             state,
-            &reaches,
+            reaches,
             needs.named,
             needs.pages + needs.tables,
         )?;
-        let (directory, taken) = split(alloc, frames.as_slice(), needs.pages)?;
-        self.note(event, outcome)?;
-        let frame = match event {
-            Event::Read {
-                device,
-                address,
-                ..
-            } => frame_at(&reaches, *device, *address / 4096),
-            Event::Write {
-                device,
-                address,
-                ..
-            } => frame_at(&reaches, *device, *address / 4096),
-            _ => None,
+        let (directory, tables) = split(alloc, frames.as_slice(), needs.pages)?;
+        let taken = if needs.root {
+            root_of(alloc, state, reaches, directory.as_slice())?
+        } else {
+            tables
         };
+        self.note(event, outcome)?;
+        let frame = guessed.or(frame_of_page(reaches, event));
         Ok(Choice {
             directory,
             taken,

@@ -3,8 +3,11 @@ ghost use Rattle.iom_machine.specs.PowerOn.{opening};
 ghost use Rattle.iom_script.specs.Grammar.{IsWorldSize};
 ghost use Rattle.iom_lawful.specs.Outputs.{IsRunFrom, IsOutputOf};
 
+use crate::accounts::{Guess, make_guess};
 use crate::driver::Driver;
 use crate::outcomes::{read_outcomes, without_prefix};
+use crate::reaches::reaches_of;
+use iom_base::Mode;
 use iom_machine::{Event, Outcome, State, judge, power_on};
 use iom_script::{LineBuffer, Script, WorldSize};
 use std::alloc::{AllocError, Global};
@@ -19,13 +22,15 @@ pub(crate) enum Found {
     Unlawful { line: u64 },
     /// Those before this line are; it tells no outcome, or there are fewer lines than events, or more.
     Unread { line: u64 },
+    /// In no way that was followed this line may come, and not each way was: they were too many.
+    Undecided { line: u64 },
 }
 
 impl Found {
     /// The line at which the output is refused, if it is.
     pub(crate) fn refused_line(&self) -> Option<u64> {
         match *self {
-            Found::Lawful => None,
+            Found::Lawful | Found::Undecided { .. } => None,
             Found::Unlawful { line } | Found::Unread { line } => Some(line),
         }
     }
@@ -37,6 +42,7 @@ impl fmt::Display for Found {
             Found::Lawful => f.write_str("lawful"),
             Found::Unlawful { line } => write!(f, "unlawful at line {line}"),
             Found::Unread { line } => write!(f, "not read at line {line}"),
+            Found::Undecided { line } => write!(f, "not decided at line {line}"),
         }
     }
 }
@@ -57,6 +63,7 @@ fn judge_lines(
     state: State,
     events: &[Event],
     outcomes: &[Outcome],
+    guess: &Guess,
     line: u64,
 ) -> Result<Found, AllocError>
     requires size { length state.frames ≤ 2 ^ 32 }
@@ -70,7 +77,9 @@ fn judge_lines(
         let Some(outcome) = outcomes.get(number) else {
             return Ok(Found::Unread { line });
         };
-        let choice = driver.choose(alloc, &reached, event, outcome)?;
+        let reaches = reaches_of(alloc, reached.history.as_slice())?;
+        let guessed = guess.frame(number);
+        let choice = driver.choose(alloc, &reached, &reaches, event, outcome, guessed)?;
         match judge(alloc, reached, event, outcome, &choice)? {
             None => return Ok(Found::Unlawful { line }),
             Some(next) => reached = next,
@@ -81,6 +90,30 @@ fn judge_lines(
         return Ok(Found::Unread { line });
     }
     Ok(Found::Lawful)
+}
+
+/// Whether an event is to attach a device in both stages.
+fn attaches_in_both(events: &[Event]) -> bool {
+    events.iter().any(|event| match event {
+        Event::Attach { mode, .. } => *mode == Mode::Both,
+        _ => false,
+    })
+}
+
+/// What is guessed where these outcomes come of the events from power-on.
+fn guess_of(
+    alloc: Global,
+    size: WorldSize,
+    events: &[Event],
+    outcomes: &[Outcome],
+) -> Result<Guess, AllocError>
+    requires { IsWorldSize size }
+{
+    if !attaches_in_both(events) {
+        return Ok(Guess::nothing(alloc));
+    }
+    let opening = opening_of(alloc, size)?;
+    make_guess(alloc, opening, events, outcomes)
 }
 
 /// What the judge finds where these outcomes come of the events from power-on. The first is that of line 2.
@@ -95,7 +128,12 @@ fn judge_outcomes(
 {
     let opening = opening_of(alloc, size)?;
     let mut driver = Driver::new(alloc);
-    judge_lines(alloc, &mut driver, opening, events, outcomes, 2)
+    let guess = guess_of(alloc, size, events, outcomes)?;
+    let found = judge_lines(alloc, &mut driver, opening, events, outcomes, &guess, 2)?;
+    match found {
+        Found::Unlawful { line } if !guess.is_complete => Ok(Found::Undecided { line }),
+        found => Ok(found),
+    }
 }
 
 /// What the judge finds of an output of the script.

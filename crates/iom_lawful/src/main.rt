@@ -8,11 +8,13 @@
 //! tells no outcome yet, as `miss`, is refused as one that isn't read.
 #![tactic(auto)]
 
+mod accounts;
 mod driver;
 mod index;
 mod judging;
 mod outcomes;
 mod reaches;
+mod states;
 #[cfg(test)]
 mod tests;
 
@@ -29,12 +31,14 @@ struct Tally {
     lawful: u32,
     unlawful: u32,
     earlier: u32,
+    undecided: u32,
     differed: u32,
 }
 
 impl Tally {
     fn count(&mut self, wanted: Wanted, found: Found) {
         let counter = match (wanted, found.refused_line()) {
+            (_, None) if found != Found::Lawful => &mut self.undecided,
             (Wanted::Lawful, None) => &mut self.lawful,
             (Wanted::Unlawful { line, .. }, Some(at)) if at == line => &mut self.unlawful,
             (Wanted::Unlawful { line, changed }, Some(at)) if changed <= at && at < line => {
@@ -65,6 +69,7 @@ fn main(rt: HostRuntime) -> anyhow::Result<()> {
         lawful: 0,
         unlawful: 0,
         earlier: 0,
+        undecided: 0,
         differed: 0,
     };
     for line in index.as_str().lines().skip(1) {
@@ -74,8 +79,8 @@ fn main(rt: HostRuntime) -> anyhow::Result<()> {
         tally.count(row.wanted, found);
     }
     println!(rt;
-        "{} lawful, {} unlawful at the checker's line, {} at an earlier one, {} differ",
-        tally.lawful, tally.unlawful, tally.earlier, tally.differed
+        "{} lawful, {} unlawful at the checker's line, {} at an earlier one, {} not decided, {} differ",
+        tally.lawful, tally.unlawful, tally.earlier, tally.undecided, tally.differed
     )?;
     Ok(())
 }

@@ -4,7 +4,7 @@ ghost use Rattle.iom_script.specs.Lines.{lines_of};
 use arrayvec::ArrayVec;
 use iom_base::Cause;
 use iom_ledger::Refusal;
-use iom_machine::{CommandName, Fetched, Outcome};
+use iom_machine::{CommandName, FaultRecord, Fetched, Outcome};
 use iom_script::LineBuffer;
 use std::alloc::{AllocError, Global};
 
@@ -82,6 +82,23 @@ fn confirmed_of(text: &str) -> Option<Outcome> {
     })
 }
 
+/// The number that `0x` and hexadecimal digits say.
+fn word_of(text: &str) -> Option<u64> {
+    u64::from_str_radix(text.strip_prefix("0x")?, 16).ok()
+}
+
+/// The record of which these are the four words.
+fn record_of(text: &str) -> Option<FaultRecord> {
+    let mut words = text.split(' ');
+    let words = [
+        word_of(words.next()?)?,
+        word_of(words.next()?)?,
+        word_of(words.next()?)?,
+        word_of(words.next()?)?,
+    ];
+    Some(FaultRecord { words })
+}
+
 fn command_of(text: &str) -> Option<CommandName> {
     match text {
         "iotinval.vma" => Some(CommandName::IotinvalVma),
@@ -120,6 +137,8 @@ fn outcome_of(line: &str) -> Option<Outcome> {
         "refused" => refusal_of(rest).map(Outcome::Refused),
         "ticket" => rest.parse().ok().map(Outcome::Ticket),
         "confirmed" => confirmed_of(rest),
+        "record" => record_of(rest).map(Outcome::Record),
+        "no" => Some(Outcome::NoRecord),
         "did" => command_of(rest).map(|name| Outcome::Fetched(Fetched::Did(name))),
         "waiting" => Some(Outcome::Fetched(Fetched::Waiting)),
         "empty" => Some(Outcome::Fetched(Fetched::Empty)),

@@ -1,5 +1,5 @@
 // What the devices reach by a history: the frames that are held, or linger.
-use iom_base::DeviceId;
+use iom_base::{AccessKind, DeviceId, Rights};
 use iom_ledger::HistoryEntry;
 use std::alloc::{AllocError, Global};
 
@@ -9,6 +9,7 @@ pub(crate) struct Reach {
     pub(crate) device: DeviceId,
     pub(crate) page: u64,
     pub(crate) frame: u32,
+    pub(crate) rights: Rights,
     pub(crate) ticket: Option<u32>,
 }
 
@@ -29,11 +30,12 @@ fn enter(reaches: &mut Vec<Reach>, entry: &HistoryEntry) -> Result<(), AllocErro
             device,
             page,
             frame,
-            ..
+            rights,
         } => reaches.push(Reach {
             device,
             page,
             frame,
+            rights,
             ticket: None,
         })?,
         HistoryEntry::Released {
@@ -68,4 +70,48 @@ pub(crate) fn frame_at(reaches: &[Reach], device: DeviceId, page: u64) -> Option
         .find(|reach| reach.ticket.is_none());
     let lingering = reaches.iter().find(at_page);
     held.or(lingering).map(|reach| reach.frame)
+}
+
+impl Reach {
+    /// Whether the device reaches the frame by it, with a right that allows the kind.
+    fn leads(&self, device: DeviceId, frame: u32, kind: AccessKind) -> bool {
+        self.device == device && self.frame == frame && self.rights.allows(kind)
+    }
+
+    /// Whether one of these tickets ends it.
+    fn ends(&self, first: u32, last: u32) -> bool {
+        match self.ticket {
+            None => false,
+            Some(ticket) => first <= ticket && ticket <= last,
+        }
+    }
+}
+
+/// Whether the device reaches the frame with a right that allows the kind, once these tickets are confirmed.
+pub(crate) fn reaches_after(
+    reaches: &[Reach],
+    first: u32,
+    last: u32,
+    device: DeviceId,
+    frame: u32,
+    kind: AccessKind,
+) -> bool {
+    reaches.iter().any(|reach| reach.leads(device, frame, kind) && !reach.ends(first, last))
+}
+
+/// The frames that the device reaches with a right that allows the kind, each once.
+pub(crate) fn frames_of(
+    alloc: Global,
+    reaches: &[Reach],
+    device: DeviceId,
+    kind: AccessKind,
+) -> Result<Vec<u32>, AllocError> {
+    let mut frames = Vec::new(alloc);
+    for reach in reaches {
+        let is_new = !frames.as_slice().contains(&reach.frame);
+        if is_new && reach.leads(device, reach.frame, kind) {
+            frames.push(reach.frame)?;
+        }
+    }
+    Ok(frames)
 }

@@ -41,6 +41,8 @@ const LINES: &str = "\
     ticket 4294967295\n\
     confirmed 1-256\n\
     confirmed -\n\
+    record 0x0000010800000015 0x0000000000000000 0x00000000000030f0 0xffffffffffffffff\n\
+    no record\n\
     did iotinval.vma\n\
     did iotinval.gvma\n\
     did iofence.c\n\
@@ -61,7 +63,7 @@ const LINES: &str = "\
     free no\n";
 
 /// Lines that tell no outcome.
-const NO_LINES: [&str; 22] = [
+const NO_LINES: [&str; 27] = [
     "",
     "Ok",
     "ok ",
@@ -76,6 +78,11 @@ const NO_LINES: [&str; 22] = [
     "confirmed 1",
     "confirmed 1-",
     "did nothing",
+    "record",
+    "record 0x0000010800000015 0x0000000000000000 0x0000000000003010",
+    "record 0x10800000015 0x0000000000000000 0x0000000000003010 0x0000000000000000",
+    "record 0x0000010800000015 0x0000000000000000 0x0000000000003010 0x0000000000000000 ",
+    "no",
     "fault 14",
     "fault  13",
     "read 0",
@@ -88,7 +95,7 @@ const NO_LINES: [&str; 22] = [
 
 #[test]
 fn each_form_of_a_line_is_read_and_no_other(rt: HostRuntime) -> Result<(), Fail> {
-    assert_eq!(rt; lines_read(rt.alloc(), LINES)?, 23);
+    assert_eq!(rt; lines_read(rt.alloc(), LINES)?, 25);
     for line in NO_LINES {
         let output = format!(in rt.alloc(); "ok\n{line}\n")?;
         assert_eq!(rt; lines_read(rt.alloc(), output.as_str())?, 0, "at {line}");
@@ -143,6 +150,100 @@ const DETACHES: [(&str, Found); 3] = [
         Found::Unlawful { line: 13 },
     ),
 ];
+
+/// A device in both stages, whose first read and whose write may be on frame 5 or 6.
+const BOTH: &[u8] =
+    b"world 64 1\ndevice 000001 raw\nattach 000001 both\ngrant 000001 0 5 rw\ngrant 000001 9 6 rw\npoke 0x6010 07\n\
+    read 000001 0x3010 1\nread 000001 0x3010 1\nwrite 000001 0x3020 09\ncommit 000001\nrelease 000001 9\npoll\n\
+    commit 000001\ncommit 000001\npeek 0x5020 1\npeek 0x6020 1\n";
+
+/// What its lines from the first commit on may print, each with what is found of it.
+const BOTHS: [(&str, Found); 8] = [
+    (
+        "read 07\nticket 1\nconfirmed -\nread 00\nwrote 1\nbytes 00\nbytes 09\n",
+        Found::Lawful,
+    ),
+    (
+        "read 00\nticket 1\nconfirmed -\nread 07\nwrote 1\nbytes 09\nbytes 00\n",
+        Found::Lawful,
+    ),
+    // neither frame has this byte
+    (
+        "read 08\nticket 1\nconfirmed -\nread 00\nwrote 1\nbytes 00\nbytes 09\n",
+        Found::Unlawful { line: 10 },
+    ),
+    // the write is on neither frame, or on both
+    (
+        "read 07\nticket 1\nconfirmed -\nread 00\nwrote 1\nbytes 00\nbytes 00\n",
+        Found::Unlawful { line: 16 },
+    ),
+    (
+        "read 07\nticket 1\nconfirmed -\nread 00\nwrote 1\nbytes 09\nbytes 09\n",
+        Found::Unlawful { line: 16 },
+    ),
+    // once frame 6 is reached no more, all that is in flight is on frame 5
+    (
+        "read 07\nticket 1\nconfirmed 1-1\nread 00\nwrote 1\nbytes 09\nbytes 00\n",
+        Found::Lawful,
+    ),
+    (
+        "read 07\nticket 1\nconfirmed 1-1\nread 07\nwrote 1\nbytes 09\nbytes 00\n",
+        Found::Unlawful { line: 13 },
+    ),
+    (
+        "read 07\nticket 1\nconfirmed 1-1\nread 00\nwrote 1\nbytes 00\nbytes 09\n",
+        Found::Unlawful { line: 15 },
+    ),
+];
+
+#[test]
+fn accesses_in_both_stages_are_followed(rt: HostRuntime) -> Result<(), Fail> {
+    let script = iom_script::parse(rt.alloc(), BOTH)?;
+    let mut printed = LineBuffer::new(rt.alloc())?;
+    for (later, found) in BOTHS {
+        let output = format!(in rt.alloc();
+            "ok\nok\nok\nok\nok\nok\naccepted 1\naccepted 2\naccepted 3\n{later}"
+        )?;
+        assert_eq!(rt;
+            judge_output(rt.alloc(), &mut printed, &script, output.as_str())?,
+            found,
+            "at {later}"
+        );
+    }
+    Ok(())
+}
+
+/// Three writes, each of which may be on four frames: 64 ways, of which 32 are followed.
+const WRITES: &[u8] =
+    b"world 64 1\ndevice 000001 raw\nattach 000001 both\ngrant 000001 0 5 rw\ngrant 000001 1 6 rw\n\
+    grant 000001 2 7 rw\ngrant 000001 3 8 rw\nwrite 000001 0x10 01\nwrite 000001 0x11 02\nwrite 000001 0x12 03\n\
+    commit 000001\ncommit 000001\ncommit 000001\npeek 0x5010 1\npeek 0x8010 1\n";
+
+/// What its last two lines may print, each with what is found of it.
+const WRITTEN: [(&str, Found); 3] = [
+    ("bytes 01\nbytes 00\n", Found::Lawful),
+    // none of those that are followed; one of the others
+    ("bytes 00\nbytes 01\n", Found::Undecided { line: 15 }),
+    // none at all
+    ("bytes 02\nbytes 00\n", Found::Undecided { line: 14 }),
+];
+
+#[test]
+fn too_many_ways_are_not_decided(rt: HostRuntime) -> Result<(), Fail> {
+    let script = iom_script::parse(rt.alloc(), WRITES)?;
+    let mut printed = LineBuffer::new(rt.alloc())?;
+    for (later, found) in WRITTEN {
+        let output = format!(in rt.alloc();
+            "ok\nok\nok\nok\nok\nok\nok\naccepted 1\naccepted 2\naccepted 3\nwrote 1\nwrote 1\nwrote 1\n{later}"
+        )?;
+        assert_eq!(rt;
+            judge_output(rt.alloc(), &mut printed, &script, output.as_str())?,
+            found,
+            "at {later}"
+        );
+    }
+    Ok(())
+}
 
 #[test]
 fn outputs_of_a_detach_are_judged(rt: HostRuntime) -> Result<(), Fail> {

@@ -9,7 +9,7 @@
 use std::alloc::Global;
 use std::fs;
 
-const ROWS: [&str; 16] = [
+const ROWS: [&str; 21] = [
     "empty-script",
     "first-path",
     "grant-boundaries",
@@ -26,6 +26,11 @@ const ROWS: [&str; 16] = [
     "detach",
     "stale-but-lawful",
     "fence-waits-for-first-alone",
+    "second-stage",
+    "guest-tables",
+    "drain-then-record",
+    "fault-queue-overflow",
+    "guest-table-changes",
 ];
 
 /// The number of the first line that differs, counted from 1.

@@ -3,8 +3,8 @@
 ghost use Rattle.std.specs.Prelude.{◌<◌, IfOk};
 ghost use Rattle.iom_machine.specs.Machine.{IsEvent};
 
-use iom_base::{DeviceId, GrantRights, Sequence};
-use iom_machine::{Choice, DeviceKind, Event, Mode, Outcome, judge, power_on};
+use iom_base::{DeviceId, GrantRights, Mode, Sequence};
+use iom_machine::{Choice, DeviceKind, Event, Outcome, judge, power_on};
 use iom_world::World;
 use std::alloc::{AllocError, Global};
 use std::test::Fail;

@@ -1,8 +1,8 @@
 ghost use Rattle.std.specs.Prelude.{◌≡◌, ◌+◌, IfOk, length};
 ghost use Rattle.iom_machine.specs.Machine.{IsEvent};
 
-use iom_base::{Cause, DeviceId, GrantRights};
-use iom_machine::{CommandName, DeviceKind, Event, Fetched, Mode, Outcome, Sink};
+use iom_base::{Cause, DeviceId, GrantRights, Mode};
+use iom_machine::{CommandName, DeviceKind, Event, Fetched, Outcome, Sink};
 use iom_world::World;
 use std::alloc::Global;
 use std::test::Fail;
