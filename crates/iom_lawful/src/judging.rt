@@ -15,7 +15,7 @@ use std::fmt;
 
 /// What the judge finds of an output, whose lines count from 1.
 #[derive(Clone, Copy, PartialEq, Eq, Debug)]
-pub(crate) enum Found {
+pub enum Found {
     /// The lines are those of a run.
     Lawful,
     /// Those before this line are, after which it may not come.
@@ -28,7 +28,7 @@ pub(crate) enum Found {
 
 impl Found {
     /// The line at which the output is refused, if it is.
-    pub(crate) fn refused_line(&self) -> Option<u64> {
+    pub fn refused_line(&self) -> Option<u64> {
         match *self {
             Found::Lawful | Found::Undecided { .. } => None,
             Found::Unlawful { line } | Found::Unread { line } => Some(line),
@@ -137,7 +137,7 @@ fn judge_outcomes(
 }
 
 /// What the judge finds of an output of the script.
-pub(crate) fn judge_output(
+pub fn judge_output(
     alloc: Global,
     printed: &mut LineBuffer,
     script: &Script,

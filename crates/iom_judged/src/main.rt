@@ -1,5 +1,5 @@
-//! Holds the judge of the ledger machine against runs that another checker judged, one that shares no code with
-//! this repository, and prints what the judge finds of each.
+//! Holds `judge_output` of `iom_lawful` against runs that another checker judged, one that shares no code with this
+//! repository, and prints what it finds of each.
 //!
 //! `data/index.tsv` has an output a line: its file, the script that it came of, `lawful` or `unlawful at line N`,
 //! and the line that was changed to make it unlawful, if one was. Its first line names the columns. Lines of an
@@ -8,19 +8,13 @@
 //! tells no outcome yet, as `miss`, is refused as one that isn't read.
 #![tactic(auto)]
 
-mod accounts;
-mod driver;
 mod index;
-mod judging;
-mod outcomes;
-mod reaches;
-mod states;
 #[cfg(test)]
 mod tests;
 
 use crate::index::{Row, Wanted};
-use crate::judging::{Found, judge_output};
 use anyhow::Context;
+use iom_lawful::{Found, judge_output};
 use iom_script::LineBuffer;
 use std::fs;
 use std::rt::Files;

@@ -1,66 +1,35 @@
-use super::*;
-use crate::outcomes::read_outcomes;
-use std::alloc::Global;
+use iom_lawful::{Found, judge_output};
+use iom_script::LineBuffer;
 use std::test::Fail;
 
-#[test]
-fn rows_of_the_index_are_read(rt: HostRuntime) -> Result<(), Fail> {
-    match Row::parse("b.out\ta.script\tunlawful at line 12\t9") {
-        Some(row) => {
-            assert!(rt; row.output == "b.out" && row.script == "a.script");
-            assert_eq!(rt;
-                row.wanted,
-                Wanted::Unlawful {
-                    line: 12,
-                    changed: 9
-                }
-            );
-        }
-        None => return Err(Fail::new("not read")),
-    }
-    assert!(rt; Row::parse("b.out\ta.script\tlawful\t-").is_some());
-    assert!(rt; Row::parse("b.out\ta.script\tlawful\t9").is_none());
-    assert!(rt; Row::parse("b.out\ta.script\tunlawful\t9").is_none());
-    assert!(rt; Row::parse("b.out\ta.script").is_none());
-    Ok(())
-}
-
-/// How many lines of the output are read, its first one not counted.
-fn lines_read(alloc: Global, output: &str) -> Result<usize, Fail> {
-    let mut printed = LineBuffer::new(alloc)?;
-    let text = output.strip_prefix("ok\n").unwrap_or(output);
-    let (outcomes, _rest) = read_outcomes(alloc, &mut printed, output, text.as_bytes())?;
-    Ok(outcomes.len())
-}
-
 /// Each form of a line.
-const LINES: &str = "\
-    ok\n\
-    ok\n\
-    refused 12 TooManyPending\n\
-    ticket 4294967295\n\
-    confirmed 1-256\n\
-    confirmed -\n\
-    record 0x0000010800000015 0x0000000000000000 0x00000000000030f0 0xffffffffffffffff\n\
-    no record\n\
-    did iotinval.vma\n\
-    did iotinval.gvma\n\
-    did iofence.c\n\
-    did iodir.inval_ddt\n\
-    did ats.inval\n\
-    waiting\n\
-    empty\n\
-    stopped\n\
-    accepted 18446744073709551615\n\
-    busy\n\
-    badspan\n\
-    fault 260\n\
-    read 00af\n\
-    wrote 4096\n\
-    none\n\
-    bytes 00af\n\
-    free yes\n\
-    free no\n";
+const LINES: [&str; 25] = [
+    "ok",
+    "refused 12 TooManyPending",
+    "ticket 4294967295",
+    "confirmed 1-256",
+    "confirmed -",
+    "record 0x0000010800000015 0x0000000000000000 0x00000000000030f0 0xffffffffffffffff",
+    "no record",
+    "did iotinval.vma",
+    "did iotinval.gvma",
+    "did iofence.c",
+    "did iodir.inval_ddt",
+    "did ats.inval",
+    "waiting",
+    "empty",
+    "stopped",
+    "accepted 18446744073709551615",
+    "busy",
+    "badspan",
+    "fault 260",
+    "read 00af",
+    "wrote 4096",
+    "none",
+    "bytes 00af",
+    "free yes",
+    "free no",
+];
 
 /// Lines that tell no outcome.
 const NO_LINES: [&str; 27] = [
@@ -93,15 +62,23 @@ const NO_LINES: [&str; 27] = [
     "free maybe",
 ];
 
+/// A script of one event, of which each line of an outcome is read, though most aren't lawful.
+const POLL: &[u8] = b"world 64 1\npoll\n";
+
 #[test]
 fn each_form_of_a_line_is_read_and_no_other(rt: HostRuntime) -> Result<(), Fail> {
-    assert_eq!(rt; lines_read(rt.alloc(), LINES)?, 25);
+    let script = iom_script::parse(rt.alloc(), POLL)?;
+    let mut printed = LineBuffer::new(rt.alloc())?;
+    for line in LINES {
+        let output = format!(in rt.alloc(); "ok\n{line}\n")?;
+        let found = judge_output(rt.alloc(), &mut printed, &script, output.as_str())?;
+        assert!(rt; found != Found::Unread { line: 2 }, "at {line}");
+    }
     for line in NO_LINES {
         let output = format!(in rt.alloc(); "ok\n{line}\n")?;
-        assert_eq!(rt; lines_read(rt.alloc(), output.as_str())?, 0, "at {line}");
+        let found = judge_output(rt.alloc(), &mut printed, &script, output.as_str())?;
+        assert!(rt; found == Found::Unread { line: 2 }, "at {line}");
     }
-    // the last line has no line feed
-    assert_eq!(rt; lines_read(rt.alloc(), "ok\nok\nbusy")?, 1);
     Ok(())
 }
 
@@ -109,7 +86,7 @@ const SCRIPT: &[u8] =
     b"world 64 1\ndevice 000001 raw\nattach 000001 first\ngrant 000001 3 5 rw\nread 000001 0x3ffc 4\n";
 
 /// Outputs of that script, each with what is found of it.
-const OUTPUTS: [(&str, Found); 7] = [
+const OUTPUTS: [(&str, Found); 8] = [
     ("ok\nok\nok\nok\naccepted 1\n", Found::Lawful),
     (
         "busy\nok\nok\nok\naccepted 1\n",
@@ -122,6 +99,8 @@ const OUTPUTS: [(&str, Found); 7] = [
     ),
     ("ok\nok\nok\nOK\naccepted 1\n", Found::Unread { line: 4 }),
     ("ok\nok\nok\nok\n", Found::Unread { line: 5 }),
+    // the last line has no line feed
+    ("ok\nok\nok\nok\naccepted 1", Found::Unread { line: 5 }),
     (
         "ok\nok\nok\nok\naccepted 1\nok\n",
         Found::Unread { line: 6 },
