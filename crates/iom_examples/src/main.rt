@@ -9,16 +9,20 @@ use std::alloc::Global;
 use std::fs;
 
 /// The examples, in the order in which they are best read.
-const NAMES: [&str; 9] = [
+const NAMES: [&str; 13] = [
     "first-path",
     "stale-read",
     "draining",
+    "later-access",
     "commands-in-memory",
     "too-early",
     "busy",
     "double-grant",
     "no-frames",
+    "detach-lingering",
     "guest-tables",
+    "guest-rewrites",
+    "fault-storm",
 ];
 
 /// The number of the first line that differs, counted from 1; None where the texts are the same.
