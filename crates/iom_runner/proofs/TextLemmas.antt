@@ -4,7 +4,6 @@ use Rattle.std.proofs.KnownBytes.{Keeps-refl}
 use Rattle.std.proofs.lemmas.Option.{IfSome_then}
 use Rattle.std.specs.Io.KnownBytes.{Keeps}
 use Rattle.iom_machine.specs.declared.event.Event.{Event}
-use Rattle.iom_machine.specs.declared.state.State.{State}
 use Rattle.iom_script.specs.declared.script.Script.{Script}
 use Rattle.iom_script.specs.declared.script.WorldSize.{WorldSize}
 use Rattle.iom_script.specs.Grammar.{IsScript, IsFirstBadLine}
@@ -13,7 +12,7 @@ use Rattle.iom_script.proofs.MeaningLemmas.{one_script, one_fault, script_or_fau
 use Rattle.iom_runner.specs.declared.faults.RunFault.{RunFault}
 use Rattle.iom_runner.specs.declared.faults.RunFault.TheVariants as faults
 use Rattle.iom_runner.specs.Bytes.{ExplainsUnparsed}
-use Rattle.iom_runner.specs.Text.{power_on, TellsRun, IsTextOf, WritesText, BeginsText}
+use Rattle.iom_runner.specs.Text.{TellsRun, IsTextOf, WritesText, BeginsText}
 use Rattle.iom_runner.specs.Writing.{AppendsFront}
 use Rattle.iom_runner.proofs.RunLemmas.{tells_none}
 use Rattle.iom_runner.proofs.WritingLemmas.{front-none}
@@ -22,17 +21,17 @@ use Rattle.iom_runner.proofs.WritingLemmas.{front-none}
 pub begins_none : (script : Script) (known : Option (List ℕ)) → BeginsText script known known
 begins_none script known = by script.world
   where
-    by : (world : Option WorldSize) → (text : List ℕ) × MatchOption world (text ≡ []) (λ size. TellsRun (power_on size) script.events text) × AppendsFront known known text
+    by : (world : Option WorldSize) → (text : List ℕ) × MatchOption world (text ≡ []) (λ size. TellsRun size script.events text) × AppendsFront known known text
     by None = ([], refl, front-none known [])
-    by (Some size) = tells_none size.frames size.levels script.events known known (front-none known [])
+    by (Some size) = tells_none size script.events known known (front-none known [])
 
 -- what tells a run from power-on tells a script with a world of that size
-pub of_script : (Tells : State → List Event → List ℕ → Type 0) (Grows : List ℕ → Type 0) (script : Script) (size : WorldSize) (events : List Event)
-    → script.world ≡ Some size → events ≡ script.events → (text : List ℕ) × Tells (power_on size) events text × Grows text
+pub of_script : (Tells : WorldSize → List Event → List ℕ → Type 0) (Grows : List ℕ → Type 0) (script : Script) (size : WorldSize) (events : List Event)
+    → script.world ≡ Some size → events ≡ script.events → (text : List ℕ) × Tells size events text × Grows text
     → (text : List ℕ) × IsTextOf Tells script text × Grows text
 of_script Tells Grows script size events is same (text, tells, grows) = (
   text,
-  subst (λ world. MatchOption world (text ≡ []) (λ s. Tells (power_on s) script.events text)) (sym is) (subst (λ (es : List Event). Tells (power_on size) es text) same tells),
+  subst (λ world. MatchOption world (text ≡ []) (λ s. Tells s script.events text)) (sym is) (subst (λ (es : List Event). Tells size es text) same tells),
   grows,
 )
 

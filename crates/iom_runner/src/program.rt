@@ -4,7 +4,7 @@ ghost use Rattle.std.specs.Io.KnownBytes.{Keeps};
 ghost use Rattle.iom_script.specs.declared.script.Script.{Script};
 ghost use Rattle.iom_script.specs.Grammar.{IsScript, IsFirstBadLine};
 ghost use Rattle.iom_runner.specs.CommandLine.{is_command_line};
-ghost use Rattle.iom_runner.specs.Text.{WritesText, BeginsText};
+ghost use Rattle.iom_runner.specs.Text.{WritesText, BeginsText, BeginsTextSoFar};
 
 use crate::arguments::read_words;
 use crate::faults::{ArgsFault, ProgramFault, RunFault};
@@ -42,6 +42,9 @@ pub fn run_words<F: Files, R: Read, W: Write>(
     ensures unlawful { is_command_line (map (λ word. word.now) words.entry.now) ≢ true
         → (result ≡ Err (ProgramFault.Args ArgsFault.Bad)) × Keeps (W.contents output.old) (W.contents output.new) }
 
+    // A lawful one never is.
+    ensures lawful { is_command_line (map (λ word. word.now) words.entry.now) ≡ true → result ≢ Err (ProgramFault.Args ArgsFault.Bad) }
+
     // Where the words name a file, or are no command line, nothing is read from the input.
     ensures unread { words.entry.now ≢ [] → Keeps (R.remaining input.old) (R.remaining input.new) }
 
@@ -52,6 +55,14 @@ pub fn run_words<F: Files, R: Read, W: Write>(
     // Where it fails, what was written is a beginning of that.
     ensures front { words.entry.now ≡ [] → OnErr result (IfSome (R.remaining input.old) (λ bytes. (script : Script) → IsScript bytes script
         → BeginsText script (W.contents output.old) (W.contents output.new))) }
+
+    // Where writing fails, it is one of the text of some first events, told of a run that a world goes through, and not all of that text.
+    ensures so_far { words.entry.now ≡ [] → result ≡ Err (ProgramFault.Run RunFault.Writing) → IfSome (R.remaining input.old) (λ bytes. (script : Script)
+        → IsScript bytes script → BeginsTextSoFar script (W.contents output.old) (W.contents output.new)) }
+
+    // Where reading fails, or memory, nothing is written, be the script in a file or on the input.
+    ensures reading { result ≡ Err (ProgramFault.Run RunFault.Reading) → Keeps (W.contents output.old) (W.contents output.new) }
+    ensures memory { result ≡ Err (ProgramFault.Run RunFault.Memory) → Keeps (W.contents output.old) (W.contents output.new) }
 
     // A line of the input that is named is the first bad one, and nothing is written.
     ensures named { words.entry.now ≡ [] → (number : ℕ) → result ≡ Err (ProgramFault.Run (RunFault.Script number))

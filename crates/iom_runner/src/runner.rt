@@ -2,14 +2,13 @@
 ghost use Rattle.std.specs.Prelude.{◌≡◌, ◌⊎◌, ◌+◌, ◌<◌, ◌^◌, [], ℕ, length, All, OnOk, OnErr, IfOk, IfErr, IfSome, Ok, Err, None};
 ghost use Rattle.std.specs.Io.KnownBytes.{Keeps};
 ghost use Rattle.iom_machine.specs.Machine.{IsEvent};
-ghost use Rattle.iom_machine.specs.PowerOn.{opening};
 ghost use Rattle.iom_script.specs.declared.script.Script.{Script};
+ghost use Rattle.iom_script.specs.declared.script.WorldSize.{WorldSize};
 ghost use Rattle.iom_script.specs.Grammar.{IsScript, IsFirstBadLine, IsWorldSize};
-ghost use Rattle.iom_world.specs.Seen.{commands_of};
-ghost use Rattle.iom_world.specs.Shows.{Shows};
+ghost use Rattle.iom_world.specs.PowerOn.{BeginsAt};
 ghost use Rattle.iom_runner.specs.Bytes.{ExplainsUnparsed};
 ghost use Rattle.iom_runner.specs.Reading.{ConsumesAtMost};
-ghost use Rattle.iom_runner.specs.Text.{power_on, WritesRun, BeginsRun, BeginsRunSoFar, WritesText, BeginsText, BeginsTextSoFar};
+ghost use Rattle.iom_runner.specs.Text.{WritesRun, BeginsRun, BeginsRunSoFar, WritesText, BeginsText, BeginsTextSoFar};
 ghost use Rattle.iom_runner.specs.Writing.{KeepsWriter};
 
 use crate::faults::RunFault;
@@ -34,9 +33,7 @@ fn script_of(alloc: Global, bytes: &[u8]) -> Result<Script, RunFault>
 /// The world at power-on, of that size.
 fn world_of(alloc: Global, size: WorldSize) -> Result<World, RunFault>
     requires { IsWorldSize size }
-    ensures opening { IfOk result (λ world. Shows world (power_on size)) }
-    ensures count { IfOk result (λ world. world.events ≡ 0) }
-    ensures commands { IfOk result (λ world. commands_of world ≡ []) }
+    ensures begins { IfOk result (BeginsAt size.frames size.levels) }
     ensures fault { IfErr result (λ fault. fault ≡ RunFault.Memory) }
 {
     World::new(alloc, size.frames as u32, size.levels as u8).map_err(|_| RunFault::Memory)
@@ -50,15 +47,14 @@ fn tell_events<W: Write>(
 ) -> Result<(), WriteFault>
     requires events { All IsEvent events.now }
     requires count { world.old.events + length events.now < 2 ^ 64 }
-    requires commands { commands_of world.old ≡ [] }
     requires empty { lines.old.buffer ≡ [] }
-    ensures same_writer { (frames levels : ℕ) → Shows world.old (opening frames levels) → KeepsWriter lines.old lines.new }
-    ensures told { (frames levels : ℕ) → Shows world.old (opening frames levels)
-        → OnOk result (WritesRun (opening frames levels) events.now (W.contents lines.old.writer.now) (W.contents lines.new.writer.now)) }
-    ensures front { (frames levels : ℕ) → Shows world.old (opening frames levels)
-        → OnErr result (BeginsRun (opening frames levels) events.now (W.contents lines.old.writer.now) (W.contents lines.new.writer.now)) }
-    ensures so_far { (frames levels : ℕ) → Shows world.old (opening frames levels)
-        → OnErr result (BeginsRunSoFar (opening frames levels) events.now (W.contents lines.old.writer.now) (W.contents lines.new.writer.now)) }
+    ensures same_writer { (size : WorldSize) → BeginsAt size.frames size.levels world.old → KeepsWriter lines.old lines.new }
+    ensures told { (size : WorldSize) → BeginsAt size.frames size.levels world.old
+        → OnOk result (WritesRun size events.now (W.contents lines.old.writer.now) (W.contents lines.new.writer.now)) }
+    ensures front { (size : WorldSize) → BeginsAt size.frames size.levels world.old
+        → OnErr result (BeginsRun size events.now (W.contents lines.old.writer.now) (W.contents lines.new.writer.now)) }
+    ensures so_far { (size : WorldSize) → BeginsAt size.frames size.levels world.old
+        → OnErr result (BeginsRunSoFar size events.now (W.contents lines.old.writer.now) (W.contents lines.new.writer.now)) }
 {
     lines.put(&Outcome::Done)?;
     world.run(events, lines)?;
@@ -74,14 +70,13 @@ fn tell_run<W: Write>(
 ) -> Result<(), RunFault>
     requires events { All IsEvent events.now }
     requires count { world.old.events + length events.now < 2 ^ 64 }
-    requires commands { commands_of world.old ≡ [] }
     requires empty { buffer ≡ [] }
-    ensures told { (frames levels : ℕ) → Shows world.old (opening frames levels)
-        → OnOk result (WritesRun (opening frames levels) events.now (W.contents writer.old) (W.contents writer.new)) }
-    ensures front { (frames levels : ℕ) → Shows world.old (opening frames levels)
-        → OnErr result (BeginsRun (opening frames levels) events.now (W.contents writer.old) (W.contents writer.new)) }
-    ensures so_far { (frames levels : ℕ) → Shows world.old (opening frames levels)
-        → OnErr result (BeginsRunSoFar (opening frames levels) events.now (W.contents writer.old) (W.contents writer.new)) }
+    ensures told { (size : WorldSize) → BeginsAt size.frames size.levels world.old
+        → OnOk result (WritesRun size events.now (W.contents writer.old) (W.contents writer.new)) }
+    ensures front { (size : WorldSize) → BeginsAt size.frames size.levels world.old
+        → OnErr result (BeginsRun size events.now (W.contents writer.old) (W.contents writer.new)) }
+    ensures so_far { (size : WorldSize) → BeginsAt size.frames size.levels world.old
+        → OnErr result (BeginsRunSoFar size events.now (W.contents writer.old) (W.contents writer.new)) }
     ensures fault { IfErr result (λ fault. fault ≡ RunFault.Writing) }
 {
     let mut lines = LineWriter::new(buffer, writer);

@@ -10,7 +10,7 @@ use Rattle.iom_base.specs.declared.owner.Owner.TheVariants.{System}
 use Rattle.iom_device_dir.specs.declared.context.Context.{Context}
 use Rattle.iom_copies.specs.Laws.{scene_at_power_on}
 use Rattle.iom_copies.proofs.OccurrenceLemmas.{faithful_at_power_on}
-use Rattle.iom_driver.specs.Calls.{IsOpening, Starts}
+use Rattle.iom_driver.specs.Calls.{IsOpening, Starts, turned_on}
 use Rattle.iom_driver.specs.Devices.{attachment_of}
 use Rattle.iom_driver.specs.Layout.{completion_address, directory_frame, ddtp_of, cqb_of, fqb_of}
 use Rattle.iom_driver.specs.Ready.{IsReady}
@@ -35,6 +35,7 @@ use Rattle.iom_world.specs.declared.device.Device.{Device}
 use Rattle.iom_world.specs.Queued.{completed_in, AreQueuedAs, pending_after}
 use Rattle.iom_world.specs.Devices.{shown_attachment}
 use Rattle.iom_world.specs.Parts.{Parts}
+use Rattle.iom_world.specs.PowerOn.{IsStartedIommu}
 use Rattle.iom_world.specs.Read.{space_at, values_of, accesses_of}
 use Rattle.iom_world.specs.Scenes.{IsSceneOf}
 use Rattle.iom_world.specs.Frames.{ShowsFrames}
@@ -278,6 +279,17 @@ module _ (n levels : ℕ) (first next : DriverState) (before memory : List (List
     contexts = λ id context cached. absurd (no_context id context cached);
     copies = ∣ (scene_at_power_on, scene_shows, faithful_at_power_on) ∣₁;
   }
+
+  -- the IOMMU was at power-on, and was started since
+  pub iommu_started : IsStartedIommu n levels iommu
+  iommu_started =
+      (
+        power,
+        started.power_on,
+        started.starts.registers
+        ∙ ap (λ k. turned_on mmio k (mmio.after power Ddtp (ddtp_of k first.levels))) long
+        ∙ ap (λ (d : DriverState). turned_on mmio n (mmio.after power Ddtp (ddtp_of n d.levels))) started.opening_driver.rest,
+      )
 
   pub shows_started : PartsShow parts (opening n levels)
   shows_started = record {

@@ -5,6 +5,7 @@ pub mod OwnIommu
 pub mod Parts
 pub mod Seen
 pub mod Shows
+pub mod PowerOn
 pub mod Places
 pub mod Queued
 pub mod Scenes

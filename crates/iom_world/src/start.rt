@@ -1,13 +1,10 @@
 // A world at power-on.
-ghost use Rattle.std.specs.Prelude.{◌≡◌, ◌↔◌, [], length, replicate, IfOk, IsErrOf};
-ghost use Rattle.iom_machine.specs.PowerOn.{opening};
+ghost use Rattle.std.specs.Prelude.{◌↔◌, IfOk, IsErrOf};
 ghost use Rattle.iom_phys_mem.specs.Sizes.{IsMemorySize};
-ghost use Rattle.iom_phys_mem.specs.Words.{zeroed};
 ghost use Rattle.iom_phys_mem.specs.declared.memory.MemError.TheVariants.{BadSize};
 ghost use Rattle.iom_driver.specs.Layout.{IsLevels};
 ghost use Rattle.iom_iommu.specs.Parts.{IsAtPowerOn};
-ghost use Rattle.iom_world.specs.Seen.{commands_of};
-ghost use Rattle.iom_world.specs.Shows.{Shows};
+ghost use Rattle.iom_world.specs.PowerOn.{BeginsAt};
 
 use crate::world::World;
 use iom_base::MAX_DEVICES;
@@ -31,10 +28,7 @@ impl World {
     /// aren't 64 to 4,096 or the levels aren't 1 to 3 (IOMMU specification, section 2.1,
     /// "Device-Directory-Table (DDT)"); else `OutOfMemory` where an allocation is refused.
     pub fn new(alloc: Global, frames: u32, levels: u8) -> Result<World, MemError>
-        ensures opening { IfOk result (λ world. Shows world (opening frames levels)) }
-        ensures memory { IfOk result (λ world. world.memory ≡ replicate frames zeroed) }
-        ensures count { IfOk result (λ world. world.events ≡ 0) }
-        ensures commands { IfOk result (λ world. commands_of world ≡ []) }
+        ensures begins { IfOk result (BeginsAt frames levels) }
         ensures size { IfOk result (λ world. IsMemorySize frames × IsLevels levels) }
         ensures bad_size { (IsErrOf result BadSize) ↔ ¬ (IsMemorySize frames × IsLevels levels) }
     {

@@ -23,17 +23,17 @@ returns-in_err-buffer-clause-front g c = at_err c.from_residual.result (begins_n
 pub returns-clause-told : goal.returns-clause-told
 returns-clause-told g c =
     on_ok_weaker c.tell_run.result (of_script TellsWorld (Appends _ _) c.args.script.now c.in-Some.size _ c.in-Some.is c.as_slice.ensures)
-    (c.tell_run.ensures.told c.in-Some.size.frames c.in-Some.size.levels c.in_ok-world.ensures.opening)
+    (c.tell_run.ensures.told c.in-Some.size c.in_ok-world.ensures.begins)
 
 pub returns-clause-front : goal.returns-clause-front
 returns-clause-front g c =
     on_err_weaker c.tell_run.result (of_script TellsRun (AppendsFront _ _) c.args.script.now c.in-Some.size _ c.in-Some.is c.as_slice.ensures)
-    (c.tell_run.ensures.front c.in-Some.size.frames c.in-Some.size.levels c.in_ok-world.ensures.opening)
+    (c.tell_run.ensures.front c.in-Some.size c.in_ok-world.ensures.begins)
 
 pub returns-clause-so_far : goal.returns-clause-so_far
 returns-clause-so_far g c = λ failed.
     of_script TellsSoFar (AppendsPart _ _) c.args.script.now c.in-Some.size _ c.in-Some.is c.as_slice.ensures
-    (at_fault c.tell_run.result _ failed (c.tell_run.ensures.so_far c.in-Some.size.frames c.in-Some.size.levels c.in_ok-world.ensures.opening))
+    (at_fault c.tell_run.result _ failed (c.tell_run.ensures.so_far c.in-Some.size c.in_ok-world.ensures.begins))
 
 pub returns-clause-fault : goal.returns-clause-fault
 returns-clause-fault g c = writing_fault c.tell_run.result c.tell_run.ensures.fault

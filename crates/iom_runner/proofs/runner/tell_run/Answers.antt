@@ -1,23 +1,22 @@
 use Rattle.std.proofs.Common.{rules, ◌∙◌}
-use Rattle.iom_machine.specs.PowerOn.{opening}
 use Rattle.iom_runner.specs.Text.{WritesRun, BeginsRun, BeginsRunSoFar}
 use Rattle.iom_runner.proofs.TextLemmas.{told_by}
 use Rattle.iom_runner.proofs.runner.tell_run.Goals as goal
 
 pub returns-in-Ok-clause-told : goal.returns-in-Ok-clause-told
-returns-in-Ok-clause-told g c = λ frames levels shows.
-    let name = c.tell_events-told.ensures.same_writer frames levels shows ∙ c.new-lines.ensures.same_writer in
-    told_by g.W.Write.contents (λ old new. WritesRun (opening frames levels) c.args.events.now old new)
-    c.args.writer.now c.new-lines.result.writer.now c.tell_events-told.new.lines.writer.now _ c.new-lines.ensures.contents (search rules) (c.in-Ok.ensures.told frames levels shows)
+returns-in-Ok-clause-told g c = λ size begins.
+    let name = c.tell_events-told.ensures.same_writer size begins ∙ c.new-lines.ensures.same_writer in
+    told_by g.W.Write.contents (λ old new. WritesRun size c.args.events.now old new)
+    c.args.writer.now c.new-lines.result.writer.now c.tell_events-told.new.lines.writer.now _ c.new-lines.ensures.contents (search rules) (c.in-Ok.ensures.told size begins)
 
 pub returns-in-Err-clause-front : goal.returns-in-Err-clause-front
-returns-in-Err-clause-front g c = λ frames levels shows.
-    let name = c.tell_events-told.ensures.same_writer frames levels shows ∙ c.new-lines.ensures.same_writer in
-    told_by g.W.Write.contents (λ old new. BeginsRun (opening frames levels) c.args.events.now old new)
-    c.args.writer.now c.new-lines.result.writer.now c.tell_events-told.new.lines.writer.now _ c.new-lines.ensures.contents (search rules) (c.in-Err.ensures.front frames levels shows)
+returns-in-Err-clause-front g c = λ size begins.
+    let name = c.tell_events-told.ensures.same_writer size begins ∙ c.new-lines.ensures.same_writer in
+    told_by g.W.Write.contents (λ old new. BeginsRun size c.args.events.now old new)
+    c.args.writer.now c.new-lines.result.writer.now c.tell_events-told.new.lines.writer.now _ c.new-lines.ensures.contents (search rules) (c.in-Err.ensures.front size begins)
 
 pub returns-in-Err-clause-so_far : goal.returns-in-Err-clause-so_far
-returns-in-Err-clause-so_far g c = λ frames levels shows.
-    let name = c.tell_events-told.ensures.same_writer frames levels shows ∙ c.new-lines.ensures.same_writer in
-    told_by g.W.Write.contents (λ old new. BeginsRunSoFar (opening frames levels) c.args.events.now old new)
-    c.args.writer.now c.new-lines.result.writer.now c.tell_events-told.new.lines.writer.now _ c.new-lines.ensures.contents (search rules) (c.in-Err.ensures.so_far frames levels shows)
+returns-in-Err-clause-so_far g c = λ size begins.
+    let name = c.tell_events-told.ensures.same_writer size begins ∙ c.new-lines.ensures.same_writer in
+    told_by g.W.Write.contents (λ old new. BeginsRunSoFar size c.args.events.now old new)
+    c.args.writer.now c.new-lines.result.writer.now c.tell_events-told.new.lines.writer.now _ c.new-lines.ensures.contents (search rules) (c.in-Err.ensures.so_far size begins)

@@ -1,5 +1,6 @@
+use Rattle.std.proofs.Common.{refl}
 use Rattle.iom_driver.specs.Seen.{state_of}
-use Rattle.iom_world.proofs.StartLemmas.{IsStarted, sound_started, shows_started, memory_is}
+use Rattle.iom_world.proofs.StartLemmas.{IsStarted, sound_started, shows_started, memory_is, iommu_started}
 use Rattle.iom_world.proofs.world.World.new.Goals as goal
 
 pub invariant_of-result : goal.invariant_of-result
@@ -15,8 +16,8 @@ invariant_of-result c =
     } in
     record { sound = sound_started _ _ _ _ _ _ _ _ _ started }
 
-pub returns-clause-opening : goal.returns-clause-opening
-returns-clause-opening c =
+pub returns-clause-begins : goal.returns-clause-begins
+returns-clause-begins c =
     let started : IsStarted c.args.frames c.args.levels (state_of c.in_ok-driver.driver) (state_of c.start.new.self) c.in_ok-memory.memory c.start.new.memory c.in-Ok-iommu_at_power_on.iommu c.start.new.io c.in-Ok.devices.items = record {
       size = c.in_ok-memory.ensures.size;
       opening_driver = c.in_ok-driver.ensures.opening;
@@ -26,17 +27,10 @@ returns-clause-opening c =
       ready = c.start.ensures.ready;
       unplugged = c.in-Ok.ensures.items;
     } in
-    shows_started _ _ _ _ _ _ _ _ _ started
-
-pub returns-clause-memory : goal.returns-clause-memory
-returns-clause-memory c =
-    let started : IsStarted c.args.frames c.args.levels (state_of c.in_ok-driver.driver) (state_of c.start.new.self) c.in_ok-memory.memory c.start.new.memory c.in-Ok-iommu_at_power_on.iommu c.start.new.io c.in-Ok.devices.items = record {
-      size = c.in_ok-memory.ensures.size;
-      opening_driver = c.in_ok-driver.ensures.opening;
-      zeros = c.in_ok-memory.ensures.zero;
-      power_on = c.in-Ok-iommu_at_power_on.ensures;
-      starts = c.start.ensures.effect;
-      ready = c.start.ensures.ready;
-      unplugged = c.in-Ok.ensures.items;
-    } in
-    memory_is _ _ _ _ _ _ _ _ _ started
+    record {
+      shows = shows_started _ _ _ _ _ _ _ _ _ started;
+      memory = memory_is _ _ _ _ _ _ _ _ _ started;
+      iommu = iommu_started _ _ _ _ _ _ _ _ _ started;
+      commands = c.start.ensures.effect.empty;
+      events = refl;
+    }
