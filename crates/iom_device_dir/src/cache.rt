@@ -1,3 +1,5 @@
+ghost use Rattle.std.specs.Prelude.{◌≡◌};
+
 use crate::context::Context;
 use iom_base::DeviceId;
 use lru::LruCache;
@@ -15,10 +17,11 @@ const CACHED_CONTEXTS: usize = 16;
 #[derive(Drop)]
 pub struct DirCache {
     contexts: LruCache<DeviceId, Context>,
+    ghost room: { contexts.cap ≡ 16 },
 }
 
 impl DirCache {
-    ghost use Rattle.std.specs.Prelude.{◌==◌, ◌≡◌, true, Some, IfOk, IfSome};
+    ghost use Rattle.std.specs.Prelude.{◌==◌, true, Some, IfOk, IfSome};
     ghost use Rattle.iom_device_dir.specs.Contents.{IsEmptyContent, LooksUp, KeepsOne, DropsCovered};
     ghost use Rattle.iom_device_dir.specs.Cached.{cached_contexts};
 
@@ -61,7 +64,6 @@ impl DirCache {
 
     /// Caches the context for the device. At most one other goes. Where none is cached for it yet, and there is
     /// no memory for it, nothing changes and nobody is told: the next look finds none.
-    #[tactic(auto, using(crate::proofs::CachedIds::kept), unfolding(crate::specs::Cached::cached_contexts))]
     pub fn keep(&mut self, id: DeviceId, context: Context)
         ensures { KeepsOne (cached_contexts self.old) id context (cached_contexts self.new) }
     {
