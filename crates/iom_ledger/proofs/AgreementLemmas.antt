@@ -8,8 +8,8 @@ use Rattle.iom_base.specs.declared.access.AccessKind.{AccessKind}
 use Rattle.iom_base.specs.declared.access.AccessKind.TheVariants.{Read}
 use Rattle.iom_base.specs.declared.rights.Rights.{Rights}
 use Rattle.iom_base.specs.Rights.{allows}
-use Rattle.iom_ledger.specs.declared.row.Row.{Row}
-use Rattle.iom_ledger.specs.declared.row.Pending.{Pending}
+use Rattle.iom_ledger.specs.declared.page_row.PageRow.{PageRow}
+use Rattle.iom_ledger.specs.declared.page_row.Pending.{Pending}
 use Rattle.iom_ledger.specs.declared.entry.HistoryEntry.TheVariants.{Confirmed}
 use Rattle.iom_ledger.specs.declared.ledger.Ledger.{Ledger}
 use Rattle.iom_ledger.specs.History.{History, Pair, confirms, released_at, Holds, Lingers, May}
@@ -31,23 +31,23 @@ allows-granted rights granted = by (rights.0 == 1) (rights.0 == 3) refl refl gra
     by false false e f either = absurd (false≢true either)
 
 -- the row of a pair that is held
-row_of_held : (row : Option Row) (pair : Pair) → held_of row ≡ Some pair → (r : Row) × (row ≡ Some r) × (pair_of r ≡ pair)
+row_of_held : (row : Option PageRow) (pair : Pair) → held_of row ≡ Some pair → (r : PageRow) × (row ≡ Some r) × (pair_of r ≡ pair)
 row_of_held None pair held = cc
 row_of_held (Some row) pair held = by row.ticket row.frame row.rights held
   where
     by : (t : Option ℕ) (frame : ℕ) (rights : Rights) → unless_released t (frame, rights) ≡ Some pair
-        → (r : Row) × (◌≡◌ {A = Option Row} (Some (record { frame = frame; rights = rights; ticket = t })) (Some r)) × (pair_of r ≡ pair)
+        → (r : PageRow) × (◌≡◌ {A = Option PageRow} (Some (record { frame = frame; rights = rights; ticket = t })) (Some r)) × (pair_of r ≡ pair)
     by None frame rights held = (record { frame = frame; rights = rights; ticket = None }, refl, cc)
     by (Some t) frame rights held = cc
 
 -- the row of a pair that lingers
-row_of_lingering : (row : Option Row) (ticket : ℕ) (pair : Pair) → Contains (option_to_list (released_of row)) (ticket, pair)
-    → (r : Row) × (row ≡ Some r) × (pair_of r ≡ pair) × (is_some r.ticket ≡ true)
+row_of_lingering : (row : Option PageRow) (ticket : ℕ) (pair : Pair) → Contains (option_to_list (released_of row)) (ticket, pair)
+    → (r : PageRow) × (row ≡ Some r) × (pair_of r ≡ pair) × (is_some r.ticket ≡ true)
 row_of_lingering None ticket pair (k, below, at) = absurd (omega arith)
 row_of_lingering (Some row) ticket pair lingers = by row.ticket row.frame row.rights lingers
   where
     by : (t : Option ℕ) (frame : ℕ) (rights : Rights) → Contains (option_to_list (if_released t (frame, rights))) (ticket, pair)
-        → (r : Row) × (◌≡◌ {A = Option Row} (Some (record { frame = frame; rights = rights; ticket = t })) (Some r)) × (pair_of r ≡ pair) × (is_some r.ticket ≡ true)
+        → (r : PageRow) × (◌≡◌ {A = Option PageRow} (Some (record { frame = frame; rights = rights; ticket = t })) (Some r)) × (pair_of r ≡ pair) × (is_some r.ticket ≡ true)
     by None frame rights (k, below, at) = absurd (omega arith)
     by (Some t) frame rights lingers =
         elim (Contains-push_cases [] (t, (frame, rights)) (ticket, pair) lingers) [
@@ -56,7 +56,7 @@ row_of_lingering (Some row) ticket pair lingers = by row.ticket row.frame row.ri
         ]
 
 -- a row's pair is held or lingers
-reached_from_row : (h : History) (device page : ℕ) (row : Row) → AgreesAt (held_of (Some row)) (released_of (Some row)) h device page
+reached_from_row : (h : History) (device page : ℕ) (row : PageRow) → AgreesAt (held_of (Some row)) (released_of (Some row)) h device page
     → Holds h device page (pair_of row) ⊎ ((is_some row.ticket ≡ true) × Lingers h device page (pair_of row))
 reached_from_row h device page row shows = by row.ticket row.frame row.rights shows
   where
@@ -69,7 +69,7 @@ reached_from_row h device page row shows = by row.ticket row.frame row.rights sh
 -- some device has a row that names the frame
 abbrev pub SomeRowNames : Devices → ℕ → Type 0
 SomeRowNames devices frame =
-    (device page : ℕ) × (row : Row) × (row_at devices device page ≡ Some row) × (row.frame ≡ frame)
+    (device page : ℕ) × (row : PageRow) × (row_at devices device page ≡ Some row) × (row.frame ≡ frame)
 
 -- a device that may reach a frame has a row that names it
 pub some_row_from_May : (ledger : Ledger) (h : History) → Agrees ledger h → (device frame : ℕ) (kind : AccessKind) → May h device frame kind → SomeRowNames ledger.devices frame
@@ -102,7 +102,7 @@ May_from_some_row ledger h agrees granted frame (device, page, row, at, same) =
     )
 
 -- a released row lingers, and what lingers has a released row
-pub lingers_from_row : (ledger : Ledger) (h : History) → Agrees ledger h → (device page : ℕ) (row : Row) → row_at ledger.devices device page ≡ Some row → is_some row.ticket ≡ true
+pub lingers_from_row : (ledger : Ledger) (h : History) → Agrees ledger h → (device page : ℕ) (row : PageRow) → row_at ledger.devices device page ≡ Some row → is_some row.ticket ≡ true
     → Lingers h device page (pair_of row)
 unfolding held_in released_in
 lingers_from_row ledger h agrees device page row at released =
@@ -115,19 +115,19 @@ lingers_from_row ledger h agrees device page row at released =
         (t, subst (λ l. Contains l (t, (frame, rights))) (sym shows.lingers) (Contains-push [] (t, (frame, rights))))
 
 pub row_from_lingers : (ledger : Ledger) (h : History) → Agrees ledger h → (device page : ℕ) (pair : Pair) → Lingers h device page pair
-    → (r : Row) × (row_at ledger.devices device page ≡ Some r) × (is_some r.ticket ≡ true)
+    → (r : PageRow) × (row_at ledger.devices device page ≡ Some r) × (is_some r.ticket ≡ true)
 unfolding held_in released_in
 row_from_lingers ledger h agrees device page pair lingers =
     let (r, at, same, released) = row_of_lingering (row_at ledger.devices device page) lingers.0 pair (subst (λ l. Contains l (lingers.0, pair)) (agrees.pages device page).lingers lingers.1) in
     (r, at, released)
 
 -- the row of a pair that a ledger shows as lingering
-row_of_released : (row : Option Row) (pair : Pair) → option_map (λ released. released.1) (released_of row) ≡ Some pair → (r : Row) × (row ≡ Some r) × (pair_of r ≡ pair)
+row_of_released : (row : Option PageRow) (pair : Pair) → option_map (λ released. released.1) (released_of row) ≡ Some pair → (r : PageRow) × (row ≡ Some r) × (pair_of r ≡ pair)
 row_of_released None pair lingers = cc
 row_of_released (Some row) pair lingers = by row.ticket row.frame row.rights lingers
   where
     by : (t : Option ℕ) (frame : ℕ) (rights : Rights) → option_map (λ released. released.1) (if_released t (frame, rights)) ≡ Some pair
-        → (r : Row) × (◌≡◌ {A = Option Row} (Some (record { frame = frame; rights = rights; ticket = t })) (Some r)) × (pair_of r ≡ pair)
+        → (r : PageRow) × (◌≡◌ {A = Option PageRow} (Some (record { frame = frame; rights = rights; ticket = t })) (Some r)) × (pair_of r ≡ pair)
     by None frame rights lingers = cc
     by (Some t) frame rights lingers = (record { frame = frame; rights = rights; ticket = Some t }, refl, cc)
 
@@ -194,7 +194,7 @@ Agrees-confirmed old new ticket confirmed h agrees = record {
 }
 
 -- what a row shows once the ticket is confirmed
-pub held_of-unless_waiting : (row : Option Row) (ticket : ℕ) → held_of (unless_waiting row ticket) ≡ held_of row
+pub held_of-unless_waiting : (row : Option PageRow) (ticket : ℕ) → held_of (unless_waiting row ticket) ≡ held_of row
 held_of-unless_waiting None ticket = refl
 held_of-unless_waiting (Some row) ticket = by row.ticket row.frame row.rights
   where
@@ -207,7 +207,7 @@ held_of-unless_waiting (Some row) ticket = by row.ticket row.frame row.rights
     by None frame rights = refl
     by (Some t) frame rights = waits t frame rights (ticket == t)
 
-pub released_of-unless_waiting : (row : Option Row) (ticket : ℕ) → released_of (unless_waiting row ticket) ≡ unless_under ticket (released_of row)
+pub released_of-unless_waiting : (row : Option PageRow) (ticket : ℕ) → released_of (unless_waiting row ticket) ≡ unless_under ticket (released_of row)
 released_of-unless_waiting None ticket = refl
 released_of-unless_waiting (Some row) ticket = by row.ticket row.frame row.rights
   where
@@ -222,7 +222,7 @@ released_of-unless_waiting (Some row) ticket = by row.ticket row.frame row.right
     by None frame rights = refl
     by (Some t) frame rights = waits t frame rights (ticket == t)
 
-has_granted_right-unless_waiting : (row : Option Row) (ticket : ℕ) → has_granted_right row ≡ true → has_granted_right (unless_waiting row ticket) ≡ true
+has_granted_right-unless_waiting : (row : Option PageRow) (ticket : ℕ) → has_granted_right row ≡ true → has_granted_right (unless_waiting row ticket) ≡ true
 has_granted_right-unless_waiting None ticket granted = refl
 has_granted_right-unless_waiting (Some row) ticket granted = by (waits_for row.ticket ticket)
   where

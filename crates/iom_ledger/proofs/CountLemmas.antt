@@ -1,15 +1,17 @@
--- How the number of rows that name a frame changes.
-use Rattle.std.proofs.Common.{◌≡◌, ◌+◌, ◌-◌, ◌^◌, ◌<◌, ℕ, suc, zero, Bool, true, false, ◌==◌, ◌&&◌, ◌||◌, List, [], ◌∷◌, length, replicate, Option, None, Some, if◌then◌else◌, refl, sym, ap, ◌∙◌, arith}
+-- How the rows of frames count the rows of pages, as these come, are released and go.
+use Rattle.std.proofs.Common.{◌≡◌, ◌+◌, ◌-◌, ◌^◌, ◌<◌, ℕ, suc, zero, Bool, true, false, ◌==◌, ◌&&◌, ◌||◌, List, [], ◌∷◌, length, replicate, Option, None, Some, is_none, is_some, if◌then◌else◌, refl, sym, ap, subst, ◌∙◌, arith}
+use Rattle.std.proofs.Math.Bridge.{le_prop}
 use Rattle.std.proofs.Math.Logic.{∥∥₁_map, ∥∥₁_elim}
-use Rattle.std.specs.Option.{option_map}
 use Rattle.std.specs.Set.{remove_key}
 use Rattle.std.proofs.lemmas.Bool.{eqb-true, eq-eqb, and_parts, and_from, or_left, false≢true}
 use Rattle.std.proofs.lemmas.Map.Made.{length-remove_key}
 use Rattle.iom_base.specs.declared.rights.Rights.{Rights}
+use Rattle.iom_ledger.specs.declared.page_row.PageRow.{PageRow}
 use Rattle.iom_ledger.specs.declared.row.Row.{Row}
-use Rattle.iom_ledger.specs.Rows.{Devices, row_at, held_of, released_of, unless_released, if_released}
-use Rattle.iom_ledger.specs.RowChanges.{released_row_if_any, SetsRow}
-use Rattle.iom_ledger.specs.Counts.{names_frame, has_page, AreOnceEach, AreNumbered, ArePages, IsCountOf, count_of, AreCounted, KeepsCounts, RaisesCount, LowersCount}
+use Rattle.iom_ledger.specs.FrameRows.{IsFreeRow}
+use Rattle.iom_ledger.specs.Rows.{Devices, row_at, waits_for}
+use Rattle.iom_ledger.specs.RowChanges.{released_row, released_row_if_any, ticket_after, held_frame, KeepsRows, SetsRow, ReleasesRow}
+use Rattle.iom_ledger.specs.Counts.{holds_frame, lingers_on, has_page, AreOnceEach, AreNumbered, ArePages, IsCountOf, CountsRows, row_of, AreCounted, KeepsCounts, ChangesRow, granted, released, confirmed}
 use Rattle.iom_ledger.proofs.AgreementLemmas.{SomeRowNames}
 
 -- the pages but this one
@@ -68,12 +70,12 @@ numbered-without d a (p ∷ pages) numbered = by ((p.0 == d) && (p.1 == a)) refl
     by false later rest = rw later (numbered.0, numbered.1, rest)
 
 -- the same pages pass another test
-pub count_same : (test now : ℕ → ℕ → Bool) (n m : ℕ) → ((e b : ℕ) → now e b ≡ test e b) → m ≡ n → IsCountOf test n → IsCountOf now m
+count_same : (test now : ℕ → ℕ → Bool) (n m : ℕ) → ((e b : ℕ) → now e b ≡ test e b) → m ≡ n → IsCountOf test n → IsCountOf now m
 count_same test now n m same number count =
     ∥∥₁_map count (λ (pages, are, long). (pages, record { once = are.once; numbered = are.numbered; all = λ e b. are.all e b ∙ sym (same e b) }, long ∙ sym number))
 
 -- one page more passes
-pub count_added : (test now : ℕ → ℕ → Bool) (d a n m : ℕ) → d < 2 ^ 32 → a < 2 ^ 64 → test d a ≡ false → ((e b : ℕ) → now e b ≡ (if (d == e) && (a == b) then true else test e b)) → m ≡ n + 1
+count_added : (test now : ℕ → ℕ → Bool) (d a n m : ℕ) → d < 2 ^ 32 → a < 2 ^ 64 → test d a ≡ false → ((e b : ℕ) → now e b ≡ (if (d == e) && (a == b) then true else test e b)) → m ≡ n + 1
     → IsCountOf test n → IsCountOf now m
 count_added test now d a n m device page new more number count = ∥∥₁_map count one_more
   where
@@ -89,7 +91,7 @@ count_added test now d a n m device page new more number count = ∥∥₁_map c
     )
 
 -- one page less passes
-pub count_dropped : (test now : ℕ → ℕ → Bool) (d a n m : ℕ) → test d a ≡ true → ((e b : ℕ) → now e b ≡ (if (d == e) && (a == b) then false else test e b)) → m ≡ n - 1
+count_dropped : (test now : ℕ → ℕ → Bool) (d a n m : ℕ) → test d a ≡ true → ((e b : ℕ) → now e b ≡ (if (d == e) && (a == b) then false else test e b)) → m ≡ n - 1
     → IsCountOf test n → IsCountOf now m
 count_dropped test now d a n m old less number count = ∥∥₁_map count one_less
   where
@@ -106,7 +108,7 @@ count_dropped test now d a n m old less number count = ∥∥₁_map count one_l
         )
 
 -- where a page passes, the count isn't 0
-pub count_positive : (test : ℕ → ℕ → Bool) (d a n : ℕ) → test d a ≡ true → IsCountOf test n → 0 < n
+count_positive : (test : ℕ → ℕ → Bool) (d a n : ℕ) → test d a ≡ true → IsCountOf test n → 0 < n
 count_positive test d a zero passes count = absurd (∥∥₁_elim count (λ x y. absurd x) (λ (pages, are, long). none pages long (are.all d a ∙ passes)))
   where
     none : (pages : List (ℕ × ℕ)) → length pages ≡ 0 → has_page pages d a ≡ true → ⊥
@@ -115,7 +117,7 @@ count_positive test d a zero passes count = absurd (∥∥₁_elim count (λ x y
 count_positive test d a (suc n) passes count = omega arith
 
 -- where none passes, the count is 0
-pub count_none : (test : ℕ → ℕ → Bool) (n : ℕ) → ((d a : ℕ) → test d a ≡ true → ⊥) → IsCountOf test n → n ≡ 0
+count_none : (test : ℕ → ℕ → Bool) (n : ℕ) → ((d a : ℕ) → test d a ≡ true → ⊥) → IsCountOf test n → n ≡ 0
 count_none test zero none count = refl
 count_none test (suc n) none count = absurd (∥∥₁_elim count (λ x y. absurd x) (λ (pages, are, long). some pages are long))
   where
@@ -126,108 +128,260 @@ count_none test (suc n) none count = absurd (∥∥₁_elim count (λ x y. absur
         here : (d a : ℕ) → ((d == d) && (a == a) || has_page pages d a) ≡ true
         here d a = or_left _ _ (and_from (d == d) (a == a) (eq-eqb d d refl) (eq-eqb a a refl))
 
--- the test by which the rows of a frame are counted
-abbrev pub naming : Devices → ℕ → ℕ → ℕ → Bool
-naming devices frame d a = names_frame (row_at devices d a) frame
-
--- each row keeps its frame, and each count stays
-pub AreCounted-kept : (old new : Devices) (c e : List ℕ) → ((d a f : ℕ) → names_frame (row_at new d a) f ≡ names_frame (row_at old d a) f) → KeepsCounts c e
-    → AreCounted old c → AreCounted new e
-AreCounted-kept old new c e same counts counted f =
-    count_same (naming old f) (naming new f) (count_of c f) (count_of e f) (λ d a. same d a f) (counts f) (counted f)
-
--- a release keeps the frame of a row
-pub names-released : (t : Bool) (row : Option Row) (ticket f : ℕ) → names_frame (if t then released_row_if_any row ticket else row) f ≡ names_frame row f
-names-released true None ticket f = refl
-names-released true (Some row) ticket f = refl
-names-released false row ticket f = refl
-
--- a new row of another frame counts for nothing here
-names-other : (t : Bool) (row : Row) (was : Option Row) (f : ℕ) → (row.frame == f) ≡ false → (t ≡ true → names_frame was f ≡ false)
-    → names_frame (if t then Some row else was) f ≡ names_frame was f
-names-other true row was f other none = other ∙ sym (none refl)
-names-other false row was f other none = refl
-
--- a row of another frame that goes counts for nothing here
-names-gone : (t : Bool) (was : Option Row) (f : ℕ) → (t ≡ true → names_frame was f ≡ false) → names_frame (if t then None else was) f ≡ names_frame was f
-names-gone true was f none = sym (none refl)
-names-gone false was f none = refl
-
--- what a page shows, the page being the one that is tested for
-at_page : (devices : Devices) (d a x b f : ℕ) (v : Bool) → names_frame (row_at devices d a) f ≡ v → ((d == x) && (a == b)) ≡ true → names_frame (row_at devices x b) f ≡ v
-at_page devices d a x b f v is same =
-    let parts = and_parts (d == x) (a == b) same in
-    ap (λ y. names_frame (row_at devices y b) f) (sym (eqb-true d x parts.0)) ∙ ap (λ y. names_frame (row_at devices d y) f) (sym (eqb-true a b parts.1)) ∙ is
-
--- a page that had no row has one, and its frame's count is one higher
-pub AreCounted-granted : (old new : Devices) (c e : List ℕ) (d a : ℕ) (row : Row) → d < 2 ^ 32 → a < 2 ^ 64 → row_at old d a ≡ None → SetsRow old new d a row → RaisesCount c e row.frame
-    → AreCounted old c → AreCounted new e
-AreCounted-granted old new c e d a row device page absent sets raises counted f = by (row.frame == f) refl (raises f)
+-- a page that passes as it did changes no other
+stays : (test : ℕ → ℕ → Bool) (d a e b : ℕ) (v : Bool) → test d a ≡ v → (if (d == e) && (a == b) then v else test e b) ≡ test e b
+stays test d a e b v before = by ((d == e) && (a == b)) refl
   where
-    named : (t : Bool) (was : Option Row) → (row.frame == f) ≡ true → names_frame (if t then Some row else was) f ≡ (if t then true else names_frame was f)
-    named true was own = own
-    named false was own = refl
+    by : (t : Bool) → ((d == e) && (a == b)) ≡ t → (if t then v else test e b) ≡ test e b
+    by true same =
+        let parts = and_parts (d == e) (a == b) same in
+        sym before ∙ ap (λ x. test x a) (eqb-true d e parts.0) ∙ ap (λ x. test e x) (eqb-true a b parts.1)
+    by false other = refl
 
-    by : (own : Bool) → (row.frame == f) ≡ own → count_of e f ≡ (if own then count_of c f + 1 else count_of c f) → IsCountOf (naming new f) (count_of e f)
-    by true own number =
-        count_added (naming old f) (naming new f) d a (count_of c f) (count_of e f) device page (ap (λ r. names_frame r f) absent)
-        (λ x b. ap (λ r. names_frame r f) (sets x b) ∙ named ((d == x) && (a == b)) (row_at old x b) own) number (counted f)
-    by false other number =
-        count_same (naming old f) (naming new f) (count_of c f) (count_of e f)
-        (λ x b. ap (λ r. names_frame r f) (sets x b) ∙ names-other ((d == x) && (a == b)) row (row_at old x b) f other (at_page old d a x b f false (ap (λ r. names_frame r f) absent)))
-        number (counted f)
+-- the count of the pages that pass, once one of them may pass another way
+abbrev moved : Bool → Bool → ℕ → ℕ
+moved false false n = n
+moved false true n = n + 1
+moved true false n = n - 1
+moved true true n = n
 
--- a page that had a row has none, and its frame's count is one lower
-pub AreCounted-dropped : (old new : Devices) (c e : List ℕ) (d a : ℕ) (row : Row) → row_at old d a ≡ Some row
-    → ((x b : ℕ) → row_at new x b ≡ (if (d == x) && (a == b) then None else row_at old x b)) → LowersCount c e row.frame → AreCounted old c → AreCounted new e
-AreCounted-dropped old new c e d a row had drops lowers counted f = by (row.frame == f) refl (lowers f)
+-- a page passes that didn't, or the other way round
+count_moved : (test now : ℕ → ℕ → Bool) (d a n m : ℕ) (was is : Bool) → (was ≡ false → is ≡ true → (d < 2 ^ 32) × (a < 2 ^ 64)) → test d a ≡ was
+    → ((e b : ℕ) → now e b ≡ (if (d == e) && (a == b) then is else test e b)) → m ≡ moved was is n → IsCountOf test n → IsCountOf now m
+count_moved test now d a n m false true numbered before after number count =
+    let (device, page) = numbered refl refl in
+    count_added test now d a n m device page before after number count
+count_moved test now d a n m true false numbered before after number count = count_dropped test now d a n m before after number count
+count_moved test now d a n m false false numbered before after number count =
+    count_same test now n m (λ e b. after e b ∙ stays test d a e b false before) number count
+count_moved test now d a n m true true numbered before after number count =
+    count_same test now n m (λ e b. after e b ∙ stays test d a e b true before) number count
+
+-- a page of a row has a number of 32 bits for its device, and one of 64 bits itself
+numbers_among : (pages : List (ℕ × ℕ)) (d a : ℕ) → AreNumbered pages → has_page pages d a ≡ true → (d < 2 ^ 32) × (a < 2 ^ 64)
+numbers_among [] d a numbered among = absurd (false≢true among)
+numbers_among (p ∷ pages) d a numbered among = by ((p.0 == d) && (p.1 == a)) refl among (numbers_among pages d a numbered.2)
   where
-    gone : (t : Bool) (was : Option Row) → names_frame (if t then None else was) f ≡ (if t then false else names_frame was f)
-    gone true was = refl
-    gone false was = refl
+    by : (b : Bool) → ((p.0 == d) && (p.1 == a)) ≡ b → (b || has_page pages d a) ≡ true → (has_page pages d a ≡ true → (d < 2 ^ 32) × (a < 2 ^ 64)) → (d < 2 ^ 32) × (a < 2 ^ 64)
+    by true same among rest =
+        let parts = and_parts (p.0 == d) (p.1 == a) same in
+        (subst (λ x. x < 2 ^ 32) (eqb-true p.0 d parts.0) numbered.0, subst (λ x. x < 2 ^ 64) (eqb-true p.1 a parts.1) numbered.1)
+    by false other among rest = rest among
 
-    by : (own : Bool) → (row.frame == f) ≡ own → count_of e f ≡ (if own then count_of c f - 1 else count_of c f) → IsCountOf (naming new f) (count_of e f)
-    by true own number =
-        count_dropped (naming old f) (naming new f) d a (count_of c f) (count_of e f) (ap (λ r. names_frame r f) had ∙ own)
-        (λ x b. ap (λ r. names_frame r f) (drops x b) ∙ gone ((d == x) && (a == b)) (row_at old x b)) number (counted f)
-    by false other number =
-        count_same (naming old f) (naming new f) (count_of c f) (count_of e f)
-        (λ x b. ap (λ r. names_frame r f) (drops x b) ∙ names-gone ((d == x) && (a == b)) (row_at old x b) f (at_page old d a x b f false (ap (λ r. names_frame r f) had ∙ other)))
-        number (counted f)
+count_numbered : (test : ℕ → ℕ → Bool) (d a n : ℕ) → test d a ≡ true → IsCountOf test n → (d < 2 ^ 32) × (a < 2 ^ 64)
+count_numbered test d a n passes count =
+    ∥∥₁_elim count (hlevel le_prop) (λ (pages, are, long). numbers_among pages d a are.numbered (are.all d a ∙ passes))
 
--- the frame of a row has a count above 0
-pub count_of_row : (devices : Devices) (c : List ℕ) (d a : ℕ) (row : Row) → row_at devices d a ≡ Some row → AreCounted devices c → 0 < count_of c row.frame
-count_of_row devices c d a row at counted =
-    count_positive (naming devices row.frame) d a (count_of c row.frame) (ap (λ r. names_frame r row.frame) at ∙ eq-eqb row.frame row.frame refl) (counted row.frame)
-
--- where a count is 0 no row names the frame, and the other way round
-pub no_row_from_count : (devices : Devices) (c : List ℕ) (f : ℕ) → AreCounted devices c → count_of c f ≡ 0 → SomeRowNames devices f → ⊥
-no_row_from_count devices c f counted none (d, a, row, at, same) =
-    let above = count_positive (naming devices f) d a (count_of c f) (ap (λ r. names_frame r f) at ∙ eq-eqb row.frame f same) (counted f) in
-    omega arith
-
-pub count_from_no_row : (devices : Devices) (c : List ℕ) (f : ℕ) → AreCounted devices c → (SomeRowNames devices f → ⊥) → count_of c f ≡ 0
-count_from_no_row devices c f counted none = count_none (naming devices f) (count_of c f) (λ d a. by d a (row_at devices d a) refl) (counted f)
+-- one page's row is another, or comes, or goes: the count of each frame goes along
+CountsRows-set : (test : Option PageRow → ℕ → Bool) (old new : Devices) (before after : ℕ → ℕ) (d a : ℕ) (row : Option PageRow)
+    → ((f : ℕ) → test (row_at old d a) f ≡ false → test row f ≡ true → (d < 2 ^ 32) × (a < 2 ^ 64))
+    → ((x b : ℕ) → row_at new x b ≡ (if (d == x) && (a == b) then row else row_at old x b))
+    → ((f : ℕ) → after f ≡ moved (test (row_at old d a) f) (test row f) (before f)) → CountsRows test old before → CountsRows test new after
+CountsRows-set test old new before after d a row numbered sets number counts f =
+    count_moved (λ x b. test (row_at old x b) f) (λ x b. test (row_at new x b) f) d a (before f) (after f) (test (row_at old d a) f) (test row f) (numbered f) refl
+    (λ x b. ap (λ r. test r f) (sets x b) ∙ passes ((d == x) && (a == b)) (row_at old x b)) (number f) (counts f)
   where
-    by : (d a : ℕ) (row : Option Row) → row_at devices d a ≡ row → names_frame row f ≡ true → ⊥
-    by d a None at named = false≢true named
-    by d a (Some row) at named = none (d, a, row, at, eqb-true row.frame f named)
+    passes : (t : Bool) (was : Option PageRow) → test (if t then row else was) f ≡ (if t then test row f else test was f)
+    passes true was = refl
+    passes false was = refl
 
--- no rows and counts of 0
-pub AreCounted-none : (devices : Devices) (c : List ℕ) → ((d a : ℕ) → row_at devices d a ≡ None) → ((f : ℕ) → count_of c f ≡ 0) → AreCounted devices c
-AreCounted-none devices c rows counts f = ∣ ([], record { once = tt; numbered = tt; all = λ d a. sym (ap (λ r. names_frame r f) (rows d a)) }, sym (counts f)) ∣₁
+CountsRows-kept : (test : Option PageRow → ℕ → Bool) (old new : Devices) (before after : ℕ → ℕ)
+    → ((d a f : ℕ) → test (row_at new d a) f ≡ test (row_at old d a) f) → ((f : ℕ) → after f ≡ before f) → CountsRows test old before → CountsRows test new after
+CountsRows-kept test old new before after same number counts f =
+    count_same (λ d a. test (row_at old d a) f) (λ d a. test (row_at new d a) f) (before f) (after f) (λ d a. same d a f) (number f) (counts f)
 
-pub count_of-replicate : (n f : ℕ) → count_of (replicate n 0) f ≡ 0
-count_of-replicate zero f = refl
-count_of-replicate (suc n) zero = refl
-count_of-replicate (suc n) (suc f) = count_of-replicate n f
+-- each row stays
+pub AreCounted-kept : (old new : Devices) (c e : List Row) → KeepsRows old new → KeepsCounts c e → AreCounted old c → AreCounted new e
+AreCounted-kept old new c e same counts counted = record {
+  grants = CountsRows-kept holds_frame old new _ _ (λ d a f. ap (λ row. holds_frame row f) (same d a)) (λ f. ap (λ r. r.grants) (counts f)) counted.grants;
+  pending = CountsRows-kept lingers_on old new _ _ (λ d a f. ap (λ row. lingers_on row f) (same d a)) (λ f. ap (λ r. r.pending) (counts f)) counted.pending;
+}
 
--- a page that shows neither a pair that is held nor one that lingers has no row
-pub absent_row : (row : Option Row) → held_of row ≡ None → option_map (λ released. released.1) (released_of row) ≡ None → row ≡ None
-absent_row None held lingers = refl
-absent_row (Some row) held lingers = by row.ticket row.frame row.rights held lingers
+-- a row of a page that is held counts among the grants of its frame, and one that is released among the releases
+grants_positive : (devices : Devices) (c : List Row) (d a : ℕ) (row : PageRow) → row_at devices d a ≡ Some row → row.ticket ≡ None → AreCounted devices c
+    → 0 < (row_of c row.frame).grants
+grants_positive devices c d a row at held counted =
+    count_positive (λ x b. holds_frame (row_at devices x b) row.frame) d a (row_of c row.frame).grants
+    (ap (λ r. holds_frame r row.frame) at ∙ and_from (is_none row.ticket) (row.frame == row.frame) (ap is_none held) (eq-eqb row.frame row.frame refl)) (counted.grants row.frame)
+
+pub pending_positive : (devices : Devices) (c : List Row) (d a : ℕ) (row : PageRow) → row_at devices d a ≡ Some row → is_some row.ticket ≡ true → AreCounted devices c
+    → 0 < (row_of c row.frame).pending
+pending_positive devices c d a row at released counted =
+    count_positive (λ x b. lingers_on (row_at devices x b) row.frame) d a (row_of c row.frame).pending
+    (ap (λ r. lingers_on r row.frame) at ∙ and_from (is_some row.ticket) (row.frame == row.frame) released (eq-eqb row.frame row.frame refl)) (counted.pending row.frame)
+
+-- the row of a frame, where it or another's is changed
+grants_changed : (own : Bool) (change : Row → Row) (row : Row) → (if own then change row else row).grants ≡ (if own then (change row).grants else row.grants)
+grants_changed true change row = refl
+grants_changed false change row = refl
+
+pending_changed : (own : Bool) (change : Row → Row) (row : Row) → (if own then change row else row).pending ≡ (if own then (change row).pending else row.pending)
+pending_changed true change row = refl
+pending_changed false change row = refl
+
+-- how the counts go along with a row that comes, is released, or goes
+moved_up : (own : Bool) (n : ℕ) → (if own then n + 1 else n) ≡ moved false own n
+moved_up true n = refl
+moved_up false n = refl
+
+moved_down : (own : Bool) (n : ℕ) → (if own then n - 1 else n) ≡ moved own false n
+moved_down true n = refl
+moved_down false n = refl
+
+moved_nowhere : (own : Bool) (n : ℕ) → (if own then n else n) ≡ n
+moved_nowhere true n = refl
+moved_nowhere false n = refl
+
+-- a page that had no row has one that isn't released, and its frame has one grant more
+pub AreCounted-granted : (old new : Devices) (c e : List Row) (d a : ℕ) (row : PageRow) → d < 2 ^ 32 → a < 2 ^ 64 → row_at old d a ≡ None → row.ticket ≡ None
+    → SetsRow old new d a row → ChangesRow granted c e row.frame → AreCounted old c → AreCounted new e
+AreCounted-granted old new c e d a row device page absent held sets changes counted = record {
+  grants =
+      CountsRows-set holds_frame old new _ _ d a (Some row) (λ f was is. (device, page)) sets
+      (λ f. ap (λ r. r.grants) (changes f) ∙ grants_changed (row.frame == f) granted (row_of c f) ∙ moved_up (row.frame == f) (row_of c f).grants
+      ∙ ap (λ r. moved (holds_frame r f) (row.frame == f) (row_of c f).grants) (sym absent)
+      ∙ ap (λ t. moved (holds_frame (row_at old d a) f) (is_none t && (row.frame == f)) (row_of c f).grants) (sym held)) counted.grants;
+  pending =
+      CountsRows-set lingers_on old new _ _ d a (Some row) (λ f was is. (device, page)) sets
+      (λ f. ap (λ r. r.pending) (changes f) ∙ pending_changed (row.frame == f) granted (row_of c f) ∙ moved_nowhere (row.frame == f) (row_of c f).pending
+      ∙ ap (λ r. moved (lingers_on r f) false (row_of c f).pending) (sym absent)
+      ∙ ap (λ t. moved (lingers_on (row_at old d a) f) (is_some t && (row.frame == f)) (row_of c f).pending) (sym held)) counted.pending;
+}
+
+-- a page that had a row that wasn't released has it released, and one of its frame's grants is
+AreCounted-released : (old new : Devices) (c e : List Row) (d a ticket : ℕ) (row : PageRow) → row_at old d a ≡ Some row → row.ticket ≡ None
+    → ReleasesRow old new d a ticket → ChangesRow released c e row.frame → AreCounted old c → AreCounted new e
+AreCounted-released old new c e d a ticket row had held releases changes counted = record {
+  grants =
+      CountsRows-set holds_frame old new _ _ d a (Some now) (λ f was is. numbers) sets
+      (λ f. ap (λ r. r.grants) (changes f) ∙ grants_changed (row.frame == f) released (row_of c f) ∙ moved_down (row.frame == f) (row_of c f).grants
+      ∙ ap (λ t. moved (is_none t && (row.frame == f)) (is_none (ticket_after t ticket) && (row.frame == f)) (row_of c f).grants) (sym held)
+      ∙ ap (λ r. moved (holds_frame r f) (holds_frame (Some now) f) (row_of c f).grants) (sym had)) counted.grants;
+  pending =
+      CountsRows-set lingers_on old new _ _ d a (Some now) (λ f was is. numbers) sets
+      (λ f. ap (λ r. r.pending) (changes f) ∙ pending_changed (row.frame == f) released (row_of c f) ∙ moved_up (row.frame == f) (row_of c f).pending
+      ∙ ap (λ t. moved (is_some t && (row.frame == f)) (is_some (ticket_after t ticket) && (row.frame == f)) (row_of c f).pending) (sym held)
+      ∙ ap (λ r. moved (lingers_on r f) (lingers_on (Some now) f) (row_of c f).pending) (sym had)) counted.pending;
+}
   where
-    by : (t : Option ℕ) (frame : ℕ) (rights : Rights) → unless_released t (frame, rights) ≡ None → option_map (λ released. released.1) (if_released t (frame, rights)) ≡ None
-        → ◌≡◌ {A = Option Row} (Some (record { frame = frame; rights = rights; ticket = t })) None
-    by None frame rights held lingers = cc
-    by (Some t) frame rights held lingers = cc
+    now : PageRow
+    now = released_row row ticket
+
+    numbers : (d < 2 ^ 32) × (a < 2 ^ 64)
+    numbers =
+        count_numbered (λ x b. holds_frame (row_at old x b) row.frame) d a (row_of c row.frame).grants
+        (ap (λ r. holds_frame r row.frame) had ∙ and_from (is_none row.ticket) (row.frame == row.frame) (ap is_none held) (eq-eqb row.frame row.frame refl)) (counted.grants row.frame)
+
+    sets : (x b : ℕ) → row_at new x b ≡ (if (d == x) && (a == b) then Some now else row_at old x b)
+    sets x b = releases x b ∙ by ((d == x) && (a == b)) refl
+      where
+        by : (t : Bool) → ((d == x) && (a == b)) ≡ t → (if t then released_row_if_any (row_at old x b) ticket else row_at old x b) ≡ (if t then Some now else row_at old x b)
+        by true same =
+            let parts = and_parts (d == x) (a == b) same in
+            ap (λ r. released_row_if_any r ticket)
+            (ap (λ y. row_at old y b) (sym (eqb-true d x parts.0)) ∙ ap (λ y. row_at old d y) (sym (eqb-true a b parts.1)) ∙ had)
+        by false other = refl
+
+-- the same of the frame of the row at the page, where it wasn't released
+held_row : (row : Option PageRow) (frame : ℕ) → Some frame ≡ held_frame row → (r : PageRow) × (row ≡ Some r) × (r.ticket ≡ None) × (r.frame ≡ frame)
+held_row None frame is = cc
+held_row (Some row) frame is = by row.ticket row.frame row.rights is
+  where
+    by : (t : Option ℕ) (own : ℕ) (rights : Rights) → Some frame ≡ (if is_none t then Some own else None)
+        → (r : PageRow) × (◌≡◌ {A = Option PageRow} (Some (record { frame = own; rights = rights; ticket = t })) (Some r)) × (r.ticket ≡ None) × (r.frame ≡ frame)
+    by None own rights is = (record { frame = own; rights = rights; ticket = None }, refl, refl, cc)
+    by (Some t) own rights is = cc
+
+pub held_positive : (devices : Devices) (c : List Row) (d a frame : ℕ) → Some frame ≡ held_frame (row_at devices d a) → AreCounted devices c → 0 < (row_of c frame).grants
+held_positive devices c d a frame is counted =
+    let (row, had, held, same) = held_row (row_at devices d a) frame is in
+    subst (λ f. 0 < (row_of c f).grants) same (grants_positive devices c d a row had held counted)
+
+pub AreCounted-held : (old new : Devices) (c e : List Row) (d a ticket frame : ℕ) → Some frame ≡ held_frame (row_at old d a)
+    → ReleasesRow old new d a ticket → ChangesRow released c e frame → AreCounted old c → AreCounted new e
+AreCounted-held old new c e d a ticket frame is releases changes counted =
+    let (row, had, held, same) = held_row (row_at old d a) frame is in
+    AreCounted-released old new c e d a ticket row had held releases (subst (λ f. ChangesRow released c e f) (sym same) changes) counted
+
+-- a page that has no row, or one that was released, keeps it
+kept_row : (row : Option PageRow) (ticket : ℕ) → None ≡ held_frame row → released_row_if_any row ticket ≡ row
+kept_row None ticket none = refl
+kept_row (Some row) ticket none = by row.ticket row.frame row.rights none
+  where
+    by : (t : Option ℕ) (frame : ℕ) (rights : Rights) → None ≡ (if is_none t then Some frame else None)
+        → ◌≡◌ {A = Option PageRow} (Some (record { frame = frame; rights = rights; ticket = ticket_after t ticket })) (Some (record { frame = frame; rights = rights; ticket = t }))
+    by None frame rights none = cc
+    by (Some own) frame rights none = refl
+
+pub KeepsRows-released : (old new : Devices) (d a ticket : ℕ) → None ≡ held_frame (row_at old d a) → ReleasesRow old new d a ticket → KeepsRows old new
+KeepsRows-released old new d a ticket none releases x b = releases x b ∙ by ((d == x) && (a == b)) refl
+  where
+    by : (t : Bool) → ((d == x) && (a == b)) ≡ t → (if t then released_row_if_any (row_at old x b) ticket else row_at old x b) ≡ row_at old x b
+    by true same =
+        let parts = and_parts (d == x) (a == b) same in
+        let here : row_at old d a ≡ row_at old x b = ap (λ y. row_at old y a) (eqb-true d x parts.0) ∙ ap (λ y. row_at old x y) (eqb-true a b parts.1) in
+        kept_row (row_at old x b) ticket (none ∙ ap held_frame here)
+    by false other = refl
+
+-- a page that had a row that was released has none, and one of its frame's releases is confirmed
+pub AreCounted-dropped : (old new : Devices) (c e : List Row) (d a : ℕ) (row : PageRow) → row_at old d a ≡ Some row → is_some row.ticket ≡ true
+    → ((x b : ℕ) → row_at new x b ≡ (if (d == x) && (a == b) then None else row_at old x b)) → ChangesRow confirmed c e row.frame → AreCounted old c → AreCounted new e
+AreCounted-dropped old new c e d a row had waits drops changes counted = record {
+  grants =
+      CountsRows-set holds_frame old new _ _ d a None (λ f was is. absurd (false≢true is)) drops
+      (λ f. ap (λ r. r.grants) (changes f) ∙ grants_changed (row.frame == f) confirmed (row_of c f) ∙ moved_nowhere (row.frame == f) (row_of c f).grants
+      ∙ ap (λ t. moved (t && (row.frame == f)) false (row_of c f).grants) (sym (not_held row.ticket waits))
+      ∙ ap (λ r. moved (holds_frame r f) false (row_of c f).grants) (sym had)) counted.grants;
+  pending =
+      CountsRows-set lingers_on old new _ _ d a None (λ f was is. absurd (false≢true is)) drops
+      (λ f. ap (λ r. r.pending) (changes f) ∙ pending_changed (row.frame == f) confirmed (row_of c f) ∙ moved_down (row.frame == f) (row_of c f).pending
+      ∙ ap (λ t. moved (t && (row.frame == f)) false (row_of c f).pending) (sym waits)
+      ∙ ap (λ r. moved (lingers_on r f) false (row_of c f).pending) (sym had)) counted.pending;
+}
+  where
+    not_held : (t : Option ℕ) → is_some t ≡ true → is_none t ≡ false
+    not_held None waits = absurd (false≢true waits)
+    not_held (Some own) waits = refl
+
+-- a row that waits for a ticket is released
+pub released_from_waits : (row : PageRow) (ticket : ℕ) → waits_for row.ticket ticket ≡ true → is_some row.ticket ≡ true
+released_from_waits row ticket waits = by row.ticket waits
+  where
+    by : (t : Option ℕ) → waits_for t ticket ≡ true → is_some t ≡ true
+    by None waits = absurd (false≢true waits)
+    by (Some own) waits = refl
+
+-- where a frame's row is free no page's row names the frame, and the other way round
+pub no_row_from_free : (devices : Devices) (c : List Row) (f : ℕ) → AreCounted devices c → IsFreeRow (row_of c f) → SomeRowNames devices f → ⊥
+no_row_from_free devices c f counted free (d, a, row, at, same) = by row.ticket refl
+  where
+    by : (t : Option ℕ) → row.ticket ≡ t → ⊥
+    by None held = let above = grants_positive devices c d a row at held counted in omega (arith, above, free.0, ap (λ x. (row_of c x).grants) same)
+    by (Some own) released =
+        let above = pending_positive devices c d a row at (ap is_some released) counted in omega (arith, above, free.1, ap (λ x. (row_of c x).pending) same)
+
+pub free_from_no_row : (devices : Devices) (c : List Row) (f : ℕ) → AreCounted devices c → (SomeRowNames devices f → ⊥) → IsFreeRow (row_of c f)
+free_from_no_row devices c f counted none = (
+  count_none (λ d a. holds_frame (row_at devices d a) f) (row_of c f).grants (λ d a. held d a (row_at devices d a) refl) (counted.grants f),
+  count_none (λ d a. lingers_on (row_at devices d a) f) (row_of c f).pending (λ d a. lingers d a (row_at devices d a) refl) (counted.pending f),
+)
+  where
+    held : (d a : ℕ) (row : Option PageRow) → row_at devices d a ≡ row → holds_frame row f ≡ true → ⊥
+    held d a None at named = false≢true named
+    held d a (Some row) at named = none (d, a, row, at, eqb-true row.frame f (and_parts (is_none row.ticket) (row.frame == f) named).1)
+
+    lingers : (d a : ℕ) (row : Option PageRow) → row_at devices d a ≡ row → lingers_on row f ≡ true → ⊥
+    lingers d a None at named = false≢true named
+    lingers d a (Some row) at named = none (d, a, row, at, eqb-true row.frame f (and_parts (is_some row.ticket) (row.frame == f) named).1)
+
+-- no rows of pages, and rows of frames with counts of 0
+pub AreCounted-none : (devices : Devices) (c : List Row) → ((d a : ℕ) → row_at devices d a ≡ None) → ((f : ℕ) → IsFreeRow (row_of c f)) → AreCounted devices c
+AreCounted-none devices c rows free = record {
+  grants = λ f. ∣ ([], record { once = tt; numbered = tt; all = λ d a. sym (ap (λ r. holds_frame r f) (rows d a)) }, sym (free f).0) ∣₁;
+  pending = λ f. ∣ ([], record { once = tt; numbered = tt; all = λ d a. sym (ap (λ r. lingers_on r f) (rows d a)) }, sym (free f).1) ∣₁;
+}
+
+pub row_of-replicate : (n f : ℕ) → row_of (replicate n (record { grants = 0; pending = 0 })) f ≡ record { grants = 0; pending = 0 }
+row_of-replicate zero f = refl
+row_of-replicate (suc n) zero = refl
+row_of-replicate (suc n) (suc f) = row_of-replicate n f

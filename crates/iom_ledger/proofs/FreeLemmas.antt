@@ -1,24 +1,26 @@
--- The frames that a ledger shows as free, by their counts.
-use Rattle.std.proofs.Common.{◌≡◌, ◌↔◌, ℕ, true, ◌==◌, sym, ◌∙◌}
-use Rattle.std.proofs.lemmas.Bool.{eqb-true, eq-eqb}
-use Rattle.iom_frame_set.specs.Sets.{has}
+-- The frames that a ledger shows as free, by their rows.
+use Rattle.std.proofs.Common.{◌↔◌, ℕ}
+use Rattle.iom_base.specs.declared.access.AccessKind.TheVariants.{Read}
 use Rattle.iom_ledger.specs.declared.ledger.Ledger.{Ledger}
-use Rattle.iom_ledger.specs.Counts.{count_of}
-use Rattle.iom_ledger.specs.Shown.{IsFreeIn}
-use Rattle.iom_ledger.proofs.AgreementLemmas.{SomeRowNames, IsFreeIn-from_rows, not_free_from_row}
-use Rattle.iom_ledger.proofs.CountLemmas.{no_row_from_count, count_from_no_row}
+use Rattle.iom_ledger.specs.History.{History, NoneMayReach}
+use Rattle.iom_ledger.specs.FrameRows.{IsFreeRow}
+use Rattle.iom_ledger.specs.Counts.{row_of}
+use Rattle.iom_ledger.specs.Shown.{Agrees, IsFreeIn}
+use Rattle.iom_ledger.proofs.AgreementLemmas.{IsFreeIn-from_rows, not_free_from_row, some_row_from_May, May_from_some_row}
+use Rattle.iom_ledger.proofs.CountLemmas.{no_row_from_free, free_from_no_row}
 
--- the count is 0 exactly where no row names the frame
-pub counts_none : (ledger : Ledger) (frame count : ℕ) → count ≡ count_of ledger.counts.counts.items frame → ((count == 0) ≡ true) ↔ (SomeRowNames ledger.devices frame → ⊥)
-counts_none ledger frame count is = (
-  (λ zero. no_row_from_count ledger.devices ledger.counts.counts.items frame ledger.counted (sym is ∙ eqb-true count 0 zero)),
-  (λ none. eq-eqb count 0 (is ∙ count_from_no_row ledger.devices ledger.counts.counts.items frame ledger.counted none)),
+-- a frame's row is free exactly where the ledger shows the frame as free
+pub row_free : (ledger : Ledger) (frame : ℕ) → IsFreeRow (row_of ledger.frames.rows.items frame) ↔ IsFreeIn ledger frame
+row_free ledger frame = (
+  (λ free. IsFreeIn-from_rows ledger frame (no_row_from_free ledger.devices ledger.frames.rows.items frame ledger.counted free)),
+  (λ free. free_from_no_row ledger.devices ledger.frames.rows.items frame ledger.counted (λ some. not_free_from_row ledger frame some free)),
 )
 
--- and so exactly where the ledger shows the frame as free
-pub counts_free : (ledger : Ledger) (frame count : ℕ) → count ≡ count_of ledger.counts.counts.items frame → ((count == 0) ≡ true) ↔ IsFreeIn ledger frame
-counts_free ledger frame count is =
-    let none = counts_none ledger frame count is in (
-      (λ zero. IsFreeIn-from_rows ledger frame (none.0 zero)),
-      (λ free. none.1 (λ some. not_free_from_row ledger frame some free)),
-    )
+-- and exactly where no device may reach it, by each history that the ledger agrees with
+pub row_unreached : (ledger : Ledger) (h : History) → Agrees ledger h → (frame : ℕ) → IsFreeRow (row_of ledger.frames.rows.items frame) ↔ NoneMayReach h frame
+row_unreached ledger h agrees frame = (
+  (λ free device kind may. no_row_from_free ledger.devices ledger.frames.rows.items frame ledger.counted free (some_row_from_May ledger h agrees device frame kind may)),
+  (λ none.
+      free_from_no_row ledger.devices ledger.frames.rows.items frame ledger.counted (λ some.
+      let may = May_from_some_row ledger h agrees ledger.granted frame some in none may.0 Read may.1)),
+)

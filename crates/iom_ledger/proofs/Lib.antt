@@ -1,8 +1,10 @@
 pub mod RowLemmas
+pub mod ReleaseLemmas
 pub mod PendingLemmas
 pub mod RingLemmas
 pub mod CountLemmas
 pub mod AgreementLemmas
 pub mod FreeLemmas
+pub mod FrameRowLemmas
 pub mod PageNumbers
 pub mod UnknownTickets

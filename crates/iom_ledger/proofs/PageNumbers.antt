@@ -1,15 +1,14 @@
 -- How many pages all devices have at most: a page of a device is a number of 96 bits.
-use Rattle.std.proofs.Common.{◌≡◌, ◌⊎◌, inl, inr, ℕ, ◌+◌, ◌*◌, ◌^◌, ◌<◌, ◌≤◌, Bool, true, false, ◌==◌, ◌&&◌, ◌||◌, List, [], ◌∷◌, length, map, refl, sym, ap, ◌∙◌, arith}
+use Rattle.std.proofs.Common.{◌≡◌, ◌⊎◌, inl, inr, ℕ, ◌+◌, ◌*◌, ◌^◌, ◌<◌, ◌≤◌, Bool, true, false, ◌==◌, ◌&&◌, ◌||◌, List, [], ◌∷◌, length, map, refl, sym, ◌∙◌, arith}
 use Rattle.std.proofs.Math.Logic.{∥∥₁_elim}
 use Rattle.std.proofs.Math.Dec.{eqb}
 use Rattle.std.specs.List.{list_any, IsDistinct, AllByRecursion}
-use Rattle.std.proofs.lemmas.Bool.{cases_lt, cases_eq, eqb-true, eq-eqb, ne_eqb, and_from, or_parts, or_left, or_right, false≢true}
+use Rattle.std.proofs.lemmas.Bool.{cases_lt, eqb-true, eq-eqb, ne_eqb, and_from, or_parts, false≢true}
 use Rattle.std.proofs.lemmas.List.{length-map}
-use Rattle.std.proofs.lemmas.Map.Keys.{IsDistinct-cons}
 use Rattle.std.proofs.lemmas.Map.Steps.{length-le_from_distinct_below}
+use Rattle.iom_ledger.specs.declared.row.Row.{Row}
 use Rattle.iom_ledger.specs.Rows.{Devices, row_at}
-use Rattle.iom_ledger.specs.Counts.{names_frame, has_page, AreOnceEach, AreNumbered, ArePages, IsCountOf, count_of, AreCounted}
-use Rattle.iom_ledger.proofs.CountLemmas.{naming}
+use Rattle.iom_ledger.specs.Counts.{holds_frame, lingers_on, has_page, AreOnceEach, AreNumbered, IsCountOf, row_of, AreCounted}
 
 -- the number of a page of a device
 abbrev number_of : ℕ × ℕ → ℕ
@@ -63,5 +62,8 @@ count_few test n count = by (cases_lt (2 ^ 96) n)
     by (inr few) = few
 
 -- and no count is higher
-pub count_fits : (devices : Devices) (counts : List ℕ) (frame : ℕ) → AreCounted devices counts → count_of counts frame ≤ 2 ^ 96
-count_fits devices counts frame counted = count_few (naming devices frame) (count_of counts frame) (counted frame)
+pub grants_fit : (devices : Devices) (rows : List Row) (frame : ℕ) → AreCounted devices rows → (row_of rows frame).grants ≤ 2 ^ 96
+grants_fit devices rows frame counted = count_few (λ d a. holds_frame (row_at devices d a) frame) (row_of rows frame).grants (counted.grants frame)
+
+pub pending_fits : (devices : Devices) (rows : List Row) (frame : ℕ) → AreCounted devices rows → (row_of rows frame).pending ≤ 2 ^ 96
+pending_fits devices rows frame counted = count_few (λ d a. lingers_on (row_at devices d a) frame) (row_of rows frame).pending (counted.pending frame)

@@ -1,20 +1,19 @@
 -- What is left of the rows once some of the releases under a ticket are confirmed.
 use Rattle.std.proofs.Common.{◌≡◌, ◌+◌, ◌<◌, ℕ, Bool, true, false, not, ◌==◌, ◌||◌, ◌++◌, List, [], ◌∷◌, length, take, drop, get_or, filter, Option, None, Some, if◌then◌else◌, refl, sym, ap, ◌∙◌, subst, append_assoc, drop-cons, add-one}
-use Rattle.std.specs.List.{list_any}
 use Rattle.std.proofs.lemmas.Bool.{eqb-true, and_parts, or_left, or_right, false≢true}
 use Rattle.std.proofs.lemmas.List.{take_more}
 use Rattle.std.proofs.lemmas.List.Elements.{filter-append}
 use Rattle.std.proofs.lemmas.List.Folds.{list_any_more, list_any-append}
 use Rattle.std.proofs.lemmas.Map.Views.{any-filter_same}
 use Rattle.iom_base.specs.declared.rights.Rights.{Rights}
-use Rattle.iom_ledger.specs.declared.row.Row.{Row}
-use Rattle.iom_ledger.specs.declared.row.Pending.{Pending}
+use Rattle.iom_ledger.specs.declared.page_row.PageRow.{PageRow}
+use Rattle.iom_ledger.specs.declared.page_row.Pending.{Pending}
 use Rattle.iom_ledger.specs.Rows.{Devices, row_at, waits_for, names, ticket_of, is_named, AllNamed}
 use Rattle.iom_ledger.specs.RowChanges.{unless_waiting, released_row_if_any, ticket_after, DropsRows}
 use Rattle.iom_ledger.specs.Ring.{is_other, any_names, dropped}
 
 -- a row that was dropped, or wasn't, is dropped no further
-unless_waiting-twice : (row : Option Row) (ticket : ℕ) → unless_waiting (unless_waiting row ticket) ticket ≡ unless_waiting row ticket
+unless_waiting-twice : (row : Option PageRow) (ticket : ℕ) → unless_waiting (unless_waiting row ticket) ticket ≡ unless_waiting row ticket
 unless_waiting-twice None ticket = refl
 unless_waiting-twice (Some row) ticket = by (waits_for row.ticket ticket) refl
   where
@@ -23,14 +22,14 @@ unless_waiting-twice (Some row) ticket = by (waits_for row.ticket ticket) refl
     by false e = rw e refl
 
 -- one more release is confirmed
-pub dropped_more : (before named : Bool) (old now new : Option Row) (ticket : ℕ)
+pub dropped_more : (before named : Bool) (old now new : Option PageRow) (ticket : ℕ)
     → now ≡ dropped before old ticket → new ≡ (if named then unless_waiting now ticket else now) → new ≡ dropped (before || named) old ticket
 dropped_more true true old now new ticket was is = is ∙ ap (λ row. unless_waiting row ticket) was ∙ unless_waiting-twice old ticket
 dropped_more true false old now new ticket was is = is ∙ was
 dropped_more false true old now new ticket was is = is ∙ ap (λ row. unless_waiting row ticket) was
 dropped_more false false old now new ticket was is = is ∙ was
 
-pub rows_more : (s : List Pending) (n : ℕ) (release : Pending) (d a ticket : ℕ) (old now new : Option Row) → n < length s
+pub rows_more : (s : List Pending) (n : ℕ) (release : Pending) (d a ticket : ℕ) (old now new : Option PageRow) → n < length s
     → now ≡ dropped (any_names (take n s) d a ticket) old ticket
     → new ≡ (if names (get_or s n release) d a ticket then unless_waiting now ticket else now)
     → new ≡ dropped (any_names (take (n + 1) s) d a ticket) old ticket
@@ -51,7 +50,7 @@ items_more ticket n s release lt =
     rw (take_more s n release lt, filter-append (is_other ticket) (take n s) (get_or s n release ∷ [])) (append_assoc (drop (n + 1) s) (filter (is_other ticket) (take n s)) (filter (is_other ticket) (get_or s n release ∷ [])))
 
 -- once all releases were looked at, no row waits for the ticket, since each that did was named
-pub all_dropped : (s : List Pending) (d a ticket : ℕ) (row : Option Row) → is_named s d a (ticket_of row) ≡ true
+pub all_dropped : (s : List Pending) (d a ticket : ℕ) (row : Option PageRow) → is_named s d a (ticket_of row) ≡ true
     → dropped (any_names s d a ticket) row ticket ≡ unless_waiting row ticket
 all_dropped s d a ticket None named = by (any_names s d a ticket)
   where
@@ -69,7 +68,7 @@ all_dropped s d a ticket (Some row) named = own row.ticket row.frame row.rights 
     waits t frame rights false false e any named = rw e refl
 
     held : (b : Bool) (frame : ℕ) (rights : Rights)
-        → ◌≡◌ {A = Option Row} (if b then Some (record { frame = frame; rights = rights; ticket = None }) else Some (record { frame = frame; rights = rights; ticket = None })) (Some (record { frame = frame; rights = rights; ticket = None }))
+        → ◌≡◌ {A = Option PageRow} (if b then Some (record { frame = frame; rights = rights; ticket = None }) else Some (record { frame = frame; rights = rights; ticket = None })) (Some (record { frame = frame; rights = rights; ticket = None }))
     held true frame rights = refl
     held false frame rights = refl
 
@@ -80,7 +79,7 @@ all_dropped s d a ticket (Some row) named = own row.ticket row.frame row.rights 
     own (Some t) frame rights named = waits t frame rights (ticket == t) (any_names s d a ticket) refl refl named
 
 -- each row that still waits is named by a release that stays
-stays_named : (s : List Pending) (d a ticket : ℕ) (row : Option Row) → is_named s d a (ticket_of row) ≡ true
+stays_named : (s : List Pending) (d a ticket : ℕ) (row : Option PageRow) → is_named s d a (ticket_of row) ≡ true
     → is_named (filter (is_other ticket) s) d a (ticket_of (unless_waiting row ticket)) ≡ true
 stays_named s d a ticket None named = refl
 stays_named s d a ticket (Some row) named = own row.ticket row.frame row.rights named
@@ -109,7 +108,7 @@ named_more s p d a None named = refl
 named_more s p d a (Some t) named = list_any-append (λ release. names release d a t) s (p ∷ []) ∙ or_left _ _ named
 
 -- a release names what it releases
-pub named_released : (s : List Pending) (p : Pending) (d a : ℕ) (b : Bool) (row : Option Row) → (b ≡ true → names p d a p.ticket ≡ true)
+pub named_released : (s : List Pending) (p : Pending) (d a : ℕ) (b : Bool) (row : Option PageRow) → (b ≡ true → names p d a p.ticket ≡ true)
     → is_named s d a (ticket_of row) ≡ true → is_named (s ++ p ∷ []) d a (ticket_of (if b then released_row_if_any row p.ticket else row)) ≡ true
 named_released s p d a false row own named = named_more s p d a (ticket_of row) named
 named_released s p d a true None own named = refl

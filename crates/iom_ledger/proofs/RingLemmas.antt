@@ -1,18 +1,16 @@
 -- The ring of the releases: tickets that ascend, and what confirming a ticket leaves.
-use Rattle.std.proofs.Common.{◌≡◌, ◌+◌, ◌-◌, ◌<◌, ◌≤◌, ℕ, suc, zero, Bool, true, false, not, ◌==◌, ◌&&◌, ◌||◌, ◌++◌, List, [], ◌∷◌, length, take, drop, get_or, filter, nat_eq, nat_le, slice_get, Option, None, Some, refl, sym, ap, ◌∙◌, subst, drop-cons, add-one, arith}
-use Rattle.std.specs.List.{list_any}
+use Rattle.std.proofs.Common.{◌≡◌, ◌+◌, ◌-◌, ◌<◌, ◌≤◌, ℕ, suc, zero, Bool, true, false, ◌==◌, ◌||◌, ◌++◌, List, [], ◌∷◌, length, take, drop, get_or, filter, nat_le, slice_get, Option, None, Some, refl, sym, ap, ◌∙◌, subst, drop-cons, add-one, arith}
 use Rattle.circular_buffer.specs.Buffer.{last_item}
-use Rattle.std.proofs.lemmas.Bool.{leb-true, le-leb, ne_eqb, eqb-true, eq-eqb, and_parts, and_from, false≢true}
+use Rattle.std.proofs.lemmas.Bool.{leb-true, le-leb, ne_eqb, and_parts, and_from, false≢true}
 use Rattle.std.proofs.lemmas.List.{take_more, take-append-drop}
 use Rattle.std.proofs.lemmas.List.Elements.{filter-append}
 use Rattle.std.proofs.lemmas.List.Folds.{list_any-append}
-use Rattle.iom_ledger.specs.declared.row.Row.{Row}
-use Rattle.iom_ledger.specs.declared.row.Pending.{Pending}
+use Rattle.iom_ledger.specs.declared.page_row.Pending.{Pending}
 use Rattle.iom_ledger.specs.Rows.{Devices, row_at, names, AllNamed}
-use Rattle.iom_ledger.specs.RowChanges.{unless_waiting, DropsRows, DropsNamed}
+use Rattle.iom_ledger.specs.RowChanges.{DropsRows, DropsNamed}
 use Rattle.iom_ledger.specs.Ring.{tickets, is_among, all_from, is_ascending, is_other, any_names, dropped, DropsNamedBy, TakesFirst}
-use Rattle.iom_ledger.proofs.PendingLemmas.{dropped_more, rows_more, split_at, all_dropped}
-use Rattle.iom_ledger.proofs.UnknownTickets.{filter_absent, among_from_names}
+use Rattle.iom_ledger.proofs.PendingLemmas.{dropped_more, rows_more, all_dropped}
+use Rattle.iom_ledger.proofs.UnknownTickets.{among_from_names}
 
 -- one more release, from a ticket on
 all_from-push : (ticket : ℕ) (s : List Pending) (p : Pending) → all_from ticket s ≡ true → ticket ≤ p.ticket → all_from ticket (s ++ p ∷ []) ≡ true

@@ -9,12 +9,12 @@ use Rattle.std.proofs.lemmas.List.Folds.{Any-from_list_any}
 use Rattle.std.proofs.lemmas.Map.Entries.{lookup_from_place}
 use Rattle.std.proofs.lemmas.Option.{slice_get_read}
 use Rattle.indexmap.specs.IndexMap.{get}
-use Rattle.iom_ledger.specs.declared.row.Row.{Row}
+use Rattle.iom_ledger.specs.declared.page_row.PageRow.{PageRow}
 use Rattle.iom_ledger.specs.Rows.{Devices, Pages, row_at, entries_of, waits_for, NoneWaitsFrom}
 use Rattle.iom_ledger.specs.RowChanges.{unless_waiting, DropsSome}
 
 -- where no entry waits for the ticket, no row does
-unless_waiting-entry : (es : List (ℕ × Row)) (ticket page : ℕ) → ((k : ℕ) (e : ℕ × Row) → slice_get es k ≡ Some e → waits_for e.1.ticket ticket ≡ false)
+unless_waiting-entry : (es : List (ℕ × PageRow)) (ticket page : ℕ) → ((k : ℕ) (e : ℕ × PageRow) → slice_get es k ≡ Some e → waits_for e.1.ticket ticket ≡ false)
     → unless_waiting (lookup (nat_eq page) es) ticket ≡ lookup (nat_eq page) es
 unless_waiting-entry [] ticket page none = refl
 unless_waiting-entry (e ∷ es) ticket page none = by (nat_eq page e.0) (unless_waiting-entry es ticket page (λ k d at. none (suc k) d at))
@@ -46,7 +46,7 @@ all_dropped_of old now device ticket some none d a = by (device == d) refl (some
     by false e same = same
 
 -- a row that the pages have is among the entries
-pub list_any-lookup : (test : Row → Bool) (page : ℕ) (es : List (ℕ × Row)) (row : Row) → lookup (nat_eq page) es ≡ Some row → test row ≡ true → list_any (λ e. test e.1) es ≡ true
+pub list_any-lookup : (test : PageRow → Bool) (page : ℕ) (es : List (ℕ × PageRow)) (row : PageRow) → lookup (nat_eq page) es ≡ Some row → test row ≡ true → list_any (λ e. test e.1) es ≡ true
 list_any-lookup test page [] row at passes = cc
 list_any-lookup test page (e ∷ es) row at passes = by (nat_eq page e.0) at (list_any-lookup test page es row)
   where
@@ -56,8 +56,8 @@ list_any-lookup test page (e ∷ es) row at passes = by (nat_eq page e.0) at (li
     by false there rest = or_right _ _ (rest there passes)
 
 -- a row among the entries is at some page
-pub found_row : (test : Row → Bool) (es : List (ℕ × Row)) → IsDistinct nat_eq (keys_of es) → list_any (λ e. test e.1) es ≡ true
-    → (page : ℕ) × (row : Row) × (lookup (nat_eq page) es ≡ Some row) × (test row ≡ true)
+pub found_row : (test : PageRow → Bool) (es : List (ℕ × PageRow)) → IsDistinct nat_eq (keys_of es) → list_any (λ e. test e.1) es ≡ true
+    → (page : ℕ) × (row : PageRow) × (lookup (nat_eq page) es ≡ Some row) × (test row ≡ true)
 found_row test es pages any =
     let (k, e, below, at, passes) = Any-from_list_any (λ e. test e.1) es any in
     (e.0, e.1, lookup_from_place nat_eq_equiv es k e.0 e.1 pages (slice_get_read es (length es) k e refl below (sym at)), passes)

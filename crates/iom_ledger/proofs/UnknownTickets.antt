@@ -1,11 +1,10 @@
 -- A confirmation of a ticket that isn't pending changes nothing.
-use Rattle.std.proofs.Common.{◌≡◌, ℕ, Bool, true, false, ◌==◌, ◌||◌, List, [], ◌∷◌, filter, map, Contains, nat_eq, Option, None, Some, if◌then◌else◌, refl, sym, ap, ◌∙◌, subst}
-use Rattle.std.specs.List.{list_any}
+use Rattle.std.proofs.Common.{◌≡◌, ℕ, Bool, true, false, ◌==◌, ◌||◌, List, [], ◌∷◌, filter, Contains, nat_eq, Option, None, Some, if◌then◌else◌, refl, sym, ap, ◌∙◌, subst}
 use Rattle.std.proofs.lemmas.Bool.{eqb-true, eq-eqb, and_parts, or_parts, or_left, or_right, false≢true}
 use Rattle.indexmap.proofs.CallerLemmas.{Contains-list_any}
 use Rattle.iom_base.specs.declared.rights.Rights.{Rights}
-use Rattle.iom_ledger.specs.declared.row.Row.{Row}
-use Rattle.iom_ledger.specs.declared.row.Pending.{Pending}
+use Rattle.iom_ledger.specs.declared.page_row.PageRow.{PageRow}
+use Rattle.iom_ledger.specs.declared.page_row.Pending.{Pending}
 use Rattle.iom_ledger.specs.declared.ledger.Ledger.{Ledger}
 use Rattle.iom_ledger.specs.Rows.{row_at, held_of, released_of, names, ticket_of, is_named, AllNamed}
 use Rattle.iom_ledger.specs.RowChanges.{unless_waiting, DropsRows}
@@ -39,20 +38,20 @@ among_from_names (p ∷ s) d a ticket named = by (names p d a ticket) refl named
     by false this either later = or_right _ _ (later either)
 
 -- so no row waits for it
-unless_waiting-absent : (s : List Pending) (d a ticket : ℕ) (row : Option Row) → is_among ticket (tickets s) ≡ false → is_named s d a (ticket_of row) ≡ true
+unless_waiting-absent : (s : List Pending) (d a ticket : ℕ) (row : Option PageRow) → is_among ticket (tickets s) ≡ false → is_named s d a (ticket_of row) ≡ true
     → unless_waiting row ticket ≡ row
 unless_waiting-absent s d a ticket None absent named = refl
 unless_waiting-absent s d a ticket (Some row) absent named = own row.ticket row.frame row.rights named
   where
     waits : (t frame : ℕ) (rights : Rights) (b : Bool) → (ticket == t) ≡ b → any_names s d a t ≡ true
-        → ◌≡◌ {A = Option Row} (if b then None else Some (record { frame = frame; rights = rights; ticket = Some t })) (Some (record { frame = frame; rights = rights; ticket = Some t }))
+        → ◌≡◌ {A = Option PageRow} (if b then None else Some (record { frame = frame; rights = rights; ticket = Some t })) (Some (record { frame = frame; rights = rights; ticket = Some t }))
     waits t frame rights true e named =
         let same = eqb-true ticket t e in
         absurd (false≢true (sym absent ∙ among_from_names s d a ticket (subst (λ x. any_names s d a x ≡ true) (sym same) named)))
     waits t frame rights false e named = refl
 
     own : (t : Option ℕ) (frame : ℕ) (rights : Rights) → is_named s d a t ≡ true
-        → ◌≡◌ {A = Option Row} (unless_waiting (Some (record { frame = frame; rights = rights; ticket = t })) ticket)
+        → ◌≡◌ {A = Option PageRow} (unless_waiting (Some (record { frame = frame; rights = rights; ticket = t })) ticket)
         (Some (record { frame = frame; rights = rights; ticket = t }))
     own None frame rights named = refl
     own (Some t) frame rights named = waits t frame rights (ticket == t) refl named

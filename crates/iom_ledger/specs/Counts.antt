@@ -1,15 +1,22 @@
--- How many rows name each frame.
+-- What the row of each frame counts, by the rows of the pages.
 -- For the facts that a ledger carries, and the calls inside this crate; no public contract cites these.
-use Rattle.std.specs.Prelude.{◌≡◌, ℕ, ◌-◌, ◌+◌, ◌^◌, ◌<◌, ◌≤◌, Bool, true, false, ◌==◌, ◌&&◌, List, [], ◌∷◌, length, ⊤, Option, None, Some, slice_index, if◌then◌else◌}
+use Rattle.std.specs.Prelude.{◌≡◌, ◌↔◌, ℕ, ◌-◌, ◌+◌, ◌^◌, ◌<◌, ◌≤◌, Bool, false, ◌==◌, ◌&&◌, List, [], ◌∷◌, length, ⊤, Option, None, Some, IsTrue, is_none, is_some, slice_index_or, if◌then◌else◌}
 use Rattle.std.specs.List.{list_any}
 use Rattle.iom_frame_set.specs.Sets.{Words, has, room}
+use Rattle.iom_ledger.specs.declared.page_row.PageRow.{PageRow}
 use Rattle.iom_ledger.specs.declared.row.Row.{Row}
+use Rattle.iom_ledger.specs.FrameRows.{IsFreeRow}
 use Rattle.iom_ledger.specs.Rows.{Devices, row_at}
 
--- whether the row, if there is one, names the frame
-abbrev pub names_frame : Option Row → ℕ → Bool
-names_frame None frame = false
-names_frame (Some row) frame = row.frame == frame
+-- whether the row of a page, if there is one, holds the frame
+abbrev pub holds_frame : Option PageRow → ℕ → Bool
+holds_frame None frame = false
+holds_frame (Some row) frame = is_none row.ticket && (row.frame == frame)
+
+-- whether the row of a page, if there is one, lingers on the frame
+abbrev pub lingers_on : Option PageRow → ℕ → Bool
+lingers_on None frame = false
+lingers_on (Some row) frame = is_some row.ticket && (row.frame == frame)
 
 -- whether the page of the device is among these
 abbrev pub has_page : List (ℕ × ℕ) → ℕ → ℕ → Bool
@@ -35,28 +42,42 @@ pub record ArePages (test : ℕ → ℕ → Bool) (pages : List (ℕ × ℕ)) : 
 abbrev pub IsCountOf : (ℕ → ℕ → Bool) → ℕ → Type 0
 IsCountOf test count = ∥ ((pages : List (ℕ × ℕ)) × ArePages test pages × (length pages ≡ count)) ∥₁
 
--- the count of a frame, which is 0 beyond the last that is counted
-abbrev pub count_of : List ℕ → ℕ → ℕ
-count_of counts frame = slice_index counts frame
+-- each count is the number of pages of devices whose rows pass the test with the frame
+abbrev pub CountsRows : (Option PageRow → ℕ → Bool) → Devices → (ℕ → ℕ) → Type 0
+CountsRows test devices counts =
+    (frame : ℕ) → IsCountOf (λ device page. test (row_at devices device page) frame) (counts frame)
 
--- the count of each frame is the number of rows that name it
-abbrev pub AreCounted : Devices → List ℕ → Type 0
-AreCounted devices counts =
-    (frame : ℕ) → IsCountOf (λ device page. names_frame (row_at devices device page) frame) (count_of counts frame)
+-- the row of a frame; beyond the last frame that has one, a row of two zeros
+abbrev pub row_of : List Row → ℕ → Row
+row_of rows frame = slice_index_or rows frame (record { grants = 0; pending = 0 })
 
--- each count stays
-abbrev pub KeepsCounts : List ℕ → List ℕ → Type 0
-KeepsCounts old new = (f : ℕ) → count_of new f ≡ count_of old f
+-- each frame's row counts the pages at which it is held, and those at which it lingers
+pub record AreCounted (devices : Devices) (rows : List Row) : Type 0 where
+  pub grants : CountsRows holds_frame devices (λ frame. (row_of rows frame).grants)
+  pub pending : CountsRows lingers_on devices (λ frame. (row_of rows frame).pending)
 
--- the count of the frame is one higher, and each other stays
-abbrev pub RaisesCount : List ℕ → List ℕ → ℕ → Type 0
-RaisesCount old new frame = (f : ℕ) → count_of new f ≡ (if frame == f then count_of old f + 1 else count_of old f)
+-- each frame's row stays
+abbrev pub KeepsCounts : List Row → List Row → Type 0
+KeepsCounts old new = (f : ℕ) → row_of new f ≡ row_of old f
 
--- the count of the frame is one lower, and each other stays
-abbrev pub LowersCount : List ℕ → List ℕ → ℕ → Type 0
-LowersCount old new frame = (f : ℕ) → count_of new f ≡ (if frame == f then count_of old f - 1 else count_of old f)
+-- the frame's row is changed so, and each other stays
+abbrev pub ChangesRow : (Row → Row) → List Row → List Row → ℕ → Type 0
+ChangesRow change old new frame =
+    (f : ℕ) → row_of new f ≡ (if frame == f then change (row_of old f) else row_of old f)
 
--- the set has the frames whose counts are 0, and room for each frame that is counted
-pub record IsFreeSet (counts : List ℕ) (free : Words) : Type 0 where
-  pub has_free : (f : ℕ) → has free f ≡ (count_of counts f == 0)
-  pub roomy : length counts ≤ room free
+-- the row with one grant more
+abbrev pub granted : Row → Row
+granted row = record { grants = row.grants + 1; pending = row.pending }
+
+-- the row, where one of its grants is released
+abbrev pub released : Row → Row
+released row = record { grants = row.grants - 1; pending = row.pending + 1 }
+
+-- the row, where one of its releases is confirmed
+abbrev pub confirmed : Row → Row
+confirmed row = record { grants = row.grants; pending = row.pending - 1 }
+
+-- the set has the frames whose rows are free, and room for each frame that has a row
+pub record IsFreeSet (rows : List Row) (free : Words) : Type 0 where
+  pub has_free : (f : ℕ) → IsTrue (has free f) ↔ IsFreeRow (row_of rows f)
+  pub roomy : length rows ≤ room free

@@ -4,6 +4,7 @@ pub mod Pending
 pub mod Rows
 pub mod RowChanges
 pub mod Ring
+pub mod FrameRows
 pub mod Counts
 pub mod Shown
 pub mod Changes

@@ -2,8 +2,8 @@
 -- this crate say to one another. No public contract cites it.
 use Rattle.std.specs.Prelude.{◌≡◌, ℕ, Bool, true, not, ◌==◌, ◌&&◌, List, [], ◌∷◌, filter, map, drop, take, nat_eq, nat_le, Option, if◌then◌else◌}
 use Rattle.std.specs.List.{list_any}
-use Rattle.iom_ledger.specs.declared.row.Row.{Row}
-use Rattle.iom_ledger.specs.declared.row.Pending.{Pending}
+use Rattle.iom_ledger.specs.declared.page_row.PageRow.{PageRow}
+use Rattle.iom_ledger.specs.declared.page_row.Pending.{Pending}
 use Rattle.iom_ledger.specs.Rows.{Devices, row_at, names}
 use Rattle.iom_ledger.specs.RowChanges.{unless_waiting}
 
@@ -34,7 +34,7 @@ abbrev pub any_names : List Pending → ℕ → ℕ → ℕ → Bool
 any_names releases device page ticket = list_any (λ release. names release device page ticket) releases
 
 -- what is left of a row, where it is named by a release that is confirmed
-abbrev pub dropped : Bool → Option Row → ℕ → Option Row
+abbrev pub dropped : Bool → Option PageRow → ℕ → Option PageRow
 dropped named row ticket = if named then unless_waiting row ticket else row
 
 -- of the rows that wait for the ticket those go that one of the releases names under it, and each other stays

@@ -1,29 +1,29 @@
 -- What a ledger keeps: for each device its pages, each with a row, and the releases that aren't confirmed.
-use Rattle.std.specs.Prelude.{◌≡◌, ◌≤◌, ℕ, Bool, true, false, ◌==◌, ◌&&◌, ◌||◌, List, [], Option, None, Some, nat_eq, slice_get}
+use Rattle.std.specs.Prelude.{◌≡◌, ◌≤◌, ℕ, Bool, true, false, ◌==◌, ◌&&◌, ◌||◌, List, [], Option, None, Some, map, nat_eq, slice_get}
 use Rattle.std.specs.List.{list_any}
 use Rattle.std.specs.Option.{option_and_then, option_map_or}
 use Rattle.std.specs.declared.hash.FoldHasher.{FoldHasher}
 use Rattle.std.specs.declared.hash.BuildHasherDefault.{BuildHasherDefault}
 use Rattle.indexmap.specs.IndexMap.{IndexMap, get}
 use Rattle.iom_base.specs.declared.rights.Rights.{Rights}
-use Rattle.iom_ledger.specs.declared.row.Row.{Row}
-use Rattle.iom_ledger.specs.declared.row.Pending.{Pending}
+use Rattle.iom_ledger.specs.declared.page_row.PageRow.{PageRow}
+use Rattle.iom_ledger.specs.declared.page_row.Pending.{Pending}
 use Rattle.iom_ledger.specs.History.{Pair}
 
 -- the pages of a device, each with its row
 abbrev pub Pages : Type 0
-Pages = IndexMap ℕ Row (BuildHasherDefault FoldHasher)
+Pages = IndexMap ℕ PageRow (BuildHasherDefault FoldHasher)
 
 -- the devices, each with its pages
 abbrev pub Devices : Type 0
 Devices = IndexMap ℕ Pages (BuildHasherDefault FoldHasher)
 
 -- the row of a page of a device
-abbrev pub row_at : Devices → ℕ → ℕ → Option Row
+abbrev pub row_at : Devices → ℕ → ℕ → Option PageRow
 row_at devices device page = option_and_then (λ pages. get nat_eq pages page) (get nat_eq devices device)
 
 -- the frame of a row, with the right to it
-abbrev pub pair_of : Row → Pair
+abbrev pub pair_of : PageRow → Pair
 pair_of row = (row.frame, row.rights)
 
 -- the pair, where no ticket released it
@@ -37,12 +37,12 @@ if_released None pair = None
 if_released (Some ticket) pair = Some (ticket, pair)
 
 -- the pair that a row shows as held
-abbrev pub held_of : Option Row → Option Pair
+abbrev pub held_of : Option PageRow → Option Pair
 held_of None = None
 held_of (Some row) = unless_released row.ticket (pair_of row)
 
 -- the pair that a row shows as released, with the ticket
-abbrev pub released_of : Option Row → Option (ℕ × Pair)
+abbrev pub released_of : Option PageRow → Option (ℕ × Pair)
 released_of None = None
 released_of (Some row) = if_released row.ticket (pair_of row)
 
@@ -52,13 +52,17 @@ waits_for None ticket = false
 waits_for (Some own) ticket = ticket == own
 
 -- the rows of a device, each with its page, in the order in which they are kept
-abbrev pub entries_of : Devices → ℕ → List (ℕ × Row)
+abbrev pub entries_of : Devices → ℕ → List (ℕ × PageRow)
 entries_of devices device = option_map_or (λ pages. pages.entries) (get nat_eq devices device) []
 
+-- the pages of a device that have a row, in that order
+abbrev pub pages_of : Devices → ℕ → List ℕ
+pages_of devices device = map (λ entry. entry.0) (entries_of devices device)
+
 -- from this index on no row waits for the ticket
-abbrev pub NoneWaitsFrom : List (ℕ × Row) → ℕ → ℕ → Type 0
+abbrev pub NoneWaitsFrom : List (ℕ × PageRow) → ℕ → ℕ → Type 0
 NoneWaitsFrom entries first ticket =
-    (k : ℕ) (entry : ℕ × Row) → first ≤ k → slice_get entries k ≡ Some entry → waits_for entry.1.ticket ticket ≡ false
+    (k : ℕ) (entry : ℕ × PageRow) → first ≤ k → slice_get entries k ≡ Some entry → waits_for entry.1.ticket ticket ≡ false
 
 -- whether the release is of this page: the one that it names, or any where it names none
 abbrev pub is_of_page : Option ℕ → ℕ → Bool
@@ -71,7 +75,7 @@ names release device page ticket =
     (release.ticket == ticket) && ((release.device == device) && is_of_page release.page page)
 
 -- the ticket of a row that is released
-abbrev pub ticket_of : Option Row → Option ℕ
+abbrev pub ticket_of : Option PageRow → Option ℕ
 ticket_of None = None
 ticket_of (Some row) = row.ticket
 
@@ -89,7 +93,7 @@ abbrev pub is_granted : Rights → Bool
 is_granted rights = (rights.0 == 1) || (rights.0 == 3)
 
 -- whether the row has such a right, if there is one
-abbrev pub has_granted_right : Option Row → Bool
+abbrev pub has_granted_right : Option PageRow → Bool
 has_granted_right None = true
 has_granted_right (Some row) = is_granted row.rights
 

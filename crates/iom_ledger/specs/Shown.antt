@@ -1,5 +1,5 @@
 -- What a ledger shows, and when that is what a history says.
-use Rattle.std.specs.Prelude.{◌≡◌, ◌≢◌, ℕ, List, Option, Some, map}
+use Rattle.std.specs.Prelude.{◌≡◌, ◌≢◌, ℕ, List, Option, Some, length, map}
 use Rattle.std.specs.Option.{option_map, option_to_list}
 use Rattle.iom_base.specs.declared.rights.Rights.{Rights}
 use Rattle.iom_ledger.specs.declared.ledger.Ledger.{Ledger}
@@ -22,6 +22,10 @@ lingering_in ledger device page = option_map (λ released. released.1) (released
 -- the tickets under which something was released and that aren't confirmed, the oldest first
 unfoldable pub pending_in : Ledger → List ℕ
 pending_in ledger = map (λ release. release.ticket) ledger.pending.items
+
+-- so many frames, from 0 on, have a row
+unfoldable pub frames_in : Ledger → ℕ
+frames_in ledger = length ledger.frames.rows.items
 
 -- at the page this pair is held, or this one lingers with its ticket, and the history says so
 pub record AgreesAt (held : Option Pair) (released : Option (ℕ × Pair)) (history : History) (device page : ℕ) : Type 0 where

@@ -1,46 +1,60 @@
-//! The rows of all devices.
-ghost use Rattle.std.specs.Prelude.{◌≡◌, ◌+◌, ℕ, None, true, ◌==◌, ◌&&◌, nat_eq, OnOk, OnErr, IfSome, IfNone, if◌then◌else◌};
-ghost use Rattle.indexmap.specs.IndexMap.{get};
+//! The rows of the pages of all devices.
+ghost use Rattle.std.specs.Prelude.{◌≡◌, ◌+◌, ℕ, None, ◌==◌, ◌&&◌, nat_eq, length, max, slice_get, OnOk, OnErr, IfSome, IfNone, if◌then◌else◌};
+ghost use Rattle.indexmap.specs.IndexMap.{get, keys};
 ghost use Rattle.iom_ledger.specs.Counts.{AreCounted};
-ghost use Rattle.iom_ledger.specs.Rows.{row_at, entries_of, NoneWaitsFrom};
+ghost use Rattle.iom_ledger.specs.Rows.{row_at, entries_of, pages_of, NoneWaitsFrom};
 ghost use Rattle.iom_ledger.specs.RowChanges.{SetsRow, ReleasesRow, ReleasesRows, KeepsRows, TakesRow, TakesRowOf, DropsSome, DropsNamed};
-ghost use Rattle.iom_ledger.specs.RowChanges.{released_row, released_row_if_any, unless_waiting};
+ghost use Rattle.iom_ledger.specs.RowChanges.{released_row_if_any, held_frame, unless_waiting};
 
-use crate::counts::RowCounts;
-use crate::row::{Pending, Row};
+use crate::frame_rows::FrameRows;
+use crate::page_row::{PageRow, Pending};
 use indexmap::IndexMap;
 use iom_base::DeviceId;
 use std::alloc::AllocError;
 
 /// The rows of one device, by page.
-pub(crate) type Pages = IndexMap<u64, Row>;
+pub(crate) type Pages = IndexMap<u64, PageRow>;
 
 /// The rows of each device.
 pub(crate) type Devices = IndexMap<DeviceId, Pages>;
 
 /// The row of a page of a device.
-pub(crate) fn row_in(devices: &Devices, device: DeviceId, page: u64) -> Option<Row>
+pub(crate) fn row_in(devices: &Devices, device: DeviceId, page: u64) -> Option<PageRow>
     ensures { result ≡ row_at devices.now device page }
 {
     devices.get(&device)?.get(&page).copied()
 }
 
-/// Releases each row.
-fn release_rows(pages: &mut Pages, ticket: u32)
-    ensures { (page : ℕ) → get nat_eq pages.new page ≡ released_row_if_any (get nat_eq pages.old page) ticket }
+/// How many pages of the device have a row.
+fn row_count(devices: &Devices, device: DeviceId) -> usize
+    ensures { result ≡ length (entries_of devices.now device) }
 {
-    pages.retain(
-        |_page: &u64, row: &mut Row| -> bool
-            ensures { (result ≡ true) × (row.new ≡ released_row row.old ticket) }
-        {
-            row.release(ticket);
-            true
-        },
-    );
+    match devices.get(&device) {
+        None => 0,
+        Some(pages) => pages.len(),
+    }
+}
+
+/// The page at the index, of those of the device that have a row.
+fn page_at(devices: &Devices, device: DeviceId, index: usize) -> Option<u64>
+    ensures { result ≡ slice_get (pages_of devices.now device) index }
+{
+    let (page, _row) = devices.get(&device)?.get_index(index)?;
+    Some(*page)
+}
+
+/// Releases the row of the page, unless it is released already. Its frame, where it wasn't.
+fn release_row(pages: &mut Pages, page: u64, ticket: u32) -> Option<u32>
+    ensures rows { (a : ℕ) → get nat_eq pages.new a
+        ≡ (if page == a then released_row_if_any (get nat_eq pages.old a) ticket else get nat_eq pages.old a) }
+    ensures frame { result ≡ held_frame (get nat_eq pages.old page) }
+    ensures order { keys pages.new ≡ keys pages.old }
+{
+    pages.get_mut(&page)?.release(ticket)
 }
 
 /// Drops the row at the index of the pages, if it waits for the ticket. The last row takes its place.
-fn take_waiting_row(pages: &mut Pages, index: usize, ticket: u32) -> Option<(u64, Row)>
+fn take_waiting_row(pages: &mut Pages, index: usize, ticket: u32) -> Option<(u64, PageRow)>
     ensures taken { IfSome result (λ entry. TakesRow pages.old pages.new entry.0 entry.1 ticket) }
     ensures kept { IfNone result ((page : ℕ) → get nat_eq pages.new page ≡ get nat_eq pages.old page) }
     ensures looked { NoneWaitsFrom pages.old.entries (index + 1) ticket → NoneWaitsFrom pages.new.entries index ticket }
@@ -54,7 +68,7 @@ fn take_waiting_row(pages: &mut Pages, index: usize, ticket: u32) -> Option<(u64
 }
 
 /// Drops the row of the page, if it waits for the ticket.
-fn take_waiting_row_at(pages: &mut Pages, page: u64, ticket: u32) -> Option<Row>
+fn take_waiting_row_at(pages: &mut Pages, page: u64, ticket: u32) -> Option<PageRow>
     ensures taken { IfSome result (λ row. TakesRow pages.old pages.new page row ticket) }
     ensures kept { IfNone result ((a : ℕ) → get nat_eq pages.new a ≡ get nat_eq pages.old a) }
     ensures stays { IfNone result (unless_waiting (get nat_eq pages.old page) ticket ≡ get nat_eq pages.old page) }
@@ -72,7 +86,7 @@ fn set_row_in(
     devices: &mut Devices,
     device: DeviceId,
     page: u64,
-    row: Row,
+    row: PageRow,
 ) -> Result<(), AllocError>
     ensures ok { OnOk result (SetsRow devices.old devices.new device page row) }
     ensures err { OnErr result (KeepsRows devices.old devices.new) }
@@ -90,49 +104,85 @@ fn set_row_in(
     Ok(())
 }
 
-/// Gives the page of the device its first row, and counts it. Only new memory can be refused, and it is
-/// asked for before anything changes.
+/// Gives the page of the device its first row, which isn't released, and counts it as a grant of its frame.
+/// Only new memory can be refused, and it is asked for before anything changes.
 pub(crate) fn grant_in(
     devices: &mut Devices,
-    counts: &mut RowCounts,
+    frames: &mut FrameRows,
     device: DeviceId,
     page: u64,
-    row: Row,
+    row: PageRow,
 ) -> Result<(), AllocError>
     requires absent { row_at devices.old device page ≡ None }
-    requires counted { AreCounted devices.old counts.old.counts.items }
-    ensures counted { AreCounted devices.new counts.new.counts.items }
+    requires held { row.ticket ≡ None }
+    requires counted { AreCounted devices.old frames.old.rows.items }
+    ensures counted { AreCounted devices.new frames.new.rows.items }
     ensures ok { OnOk result (SetsRow devices.old devices.new device page row) }
+    ensures ok_frames { OnOk result
+        (length frames.new.rows.items ≡ max (length frames.old.rows.items) (row.frame + 1)) }
     ensures err { OnErr result (KeepsRows devices.old devices.new) }
+    ensures err_frames { OnErr result (length frames.new.rows.items ≡ length frames.old.rows.items) }
 {
-    counts.make_room(row.frame)?;
+    frames.make_room(row.frame)?;
     set_row_in(devices, device, page, row)?;
-    counts.raise(row.frame);
+    frames.grant(row.frame);
     Ok(())
 }
 
-/// Releases the row of a page.
-pub(crate) fn release_in(devices: &mut Devices, device: DeviceId, page: u64, ticket: u32)
-    ensures { ReleasesRow devices.old devices.new device page ticket }
+/// Releases the row of the page of the device, unless it is released already. Its frame, where it wasn't.
+fn release_row_in(devices: &mut Devices, device: DeviceId, page: u64, ticket: u32) -> Option<u32>
+    ensures rows { ReleasesRow devices.old devices.new device page ticket }
+    ensures frame { result ≡ held_frame (row_at devices.old device page) }
+    ensures order { pages_of devices.new device ≡ pages_of devices.old device }
 {
-    if let Some(pages) = devices.get_mut(&device) {
-        if let Some(row) = pages.get_mut(&page) {
-            row.release(ticket);
+    release_row(devices.get_mut(&device)?, page, ticket)
+}
+
+/// Releases the row of the page of the device, unless it is released already, and counts it as released.
+pub(crate) fn release_in(
+    devices: &mut Devices,
+    frames: &mut FrameRows,
+    device: DeviceId,
+    page: u64,
+    ticket: u32,
+)
+    requires { AreCounted devices.old frames.old.rows.items }
+    ensures counted { AreCounted devices.new frames.new.rows.items }
+    ensures frames { length frames.new.rows.items ≡ length frames.old.rows.items }
+    ensures rows { ReleasesRow devices.old devices.new device page ticket }
+    ensures order { pages_of devices.new device ≡ pages_of devices.old device }
+{
+    if let Some(frame) = release_row_in(devices, device, page, ticket) {
+        frames.release(frame);
+    }
+}
+
+/// Releases each row of the device that isn't released already, and counts it as released.
+pub(crate) fn release_all_in(
+    devices: &mut Devices,
+    frames: &mut FrameRows,
+    device: DeviceId,
+    ticket: u32,
+)
+    requires { AreCounted devices.old frames.old.rows.items }
+    ensures counted { AreCounted devices.new frames.new.rows.items }
+    ensures frames { length frames.new.rows.items ≡ length frames.old.rows.items }
+    ensures rows { ReleasesRows devices.old devices.new device ticket }
+{
+    for index in 0..row_count(devices, device) {
+        if let Some(page) = page_at(devices, device, index) {
+            release_in(devices, frames, device, page, ticket);
         }
     }
 }
 
-/// Releases each row of the device.
-pub(crate) fn release_all_in(devices: &mut Devices, device: DeviceId, ticket: u32)
-    ensures { ReleasesRows devices.old devices.new device ticket }
-{
-    if let Some(pages) = devices.get_mut(&device) {
-        release_rows(pages, ticket);
-    }
-}
-
 /// Drops the row at the index of the device's pages, if it waits for the ticket.
-fn take_in(devices: &mut Devices, device: DeviceId, index: usize, ticket: u32) -> Option<(u64, Row)>
+fn take_in(
+    devices: &mut Devices,
+    device: DeviceId,
+    index: usize,
+    ticket: u32,
+) -> Option<(u64, PageRow)>
     ensures taken { IfSome result (λ entry. TakesRowOf devices.old devices.new device entry.0 entry.1 ticket) }
     ensures kept { IfNone result (KeepsRows devices.old devices.new) }
     ensures looked { NoneWaitsFrom (entries_of devices.old device) (index + 1) ticket → NoneWaitsFrom (entries_of devices.new device) index ticket }
@@ -142,7 +192,7 @@ fn take_in(devices: &mut Devices, device: DeviceId, index: usize, ticket: u32) -
 }
 
 /// Drops the row of the page of the device, if it waits for the ticket.
-fn take_at_in(devices: &mut Devices, device: DeviceId, page: u64, ticket: u32) -> Option<Row>
+fn take_at_in(devices: &mut Devices, device: DeviceId, page: u64, ticket: u32) -> Option<PageRow>
     ensures taken { IfSome result (λ row. TakesRowOf devices.old devices.new device page row ticket) }
     ensures kept { IfNone result (KeepsRows devices.old devices.new) }
     ensures stays { IfNone result (unless_waiting (row_at devices.old device page) ticket ≡ row_at devices.old device page) }
@@ -154,62 +204,62 @@ fn take_at_in(devices: &mut Devices, device: DeviceId, page: u64, ticket: u32) -
 /// Drops the row at the index of the device's pages, if it waits for the ticket.
 fn drop_waiting_row(
     devices: &mut Devices,
-    counts: &mut RowCounts,
+    frames: &mut FrameRows,
     device: DeviceId,
     index: usize,
     ticket: u32,
 )
-    requires { AreCounted devices.old counts.old.counts.items }
-    ensures counted { AreCounted devices.new counts.new.counts.items }
+    requires { AreCounted devices.old frames.old.rows.items }
+    ensures counted { AreCounted devices.new frames.new.rows.items }
+    ensures frames { length frames.new.rows.items ≡ length frames.old.rows.items }
     ensures rows { DropsSome devices.old devices.new device ticket }
     ensures looked { NoneWaitsFrom (entries_of devices.old device) (index + 1) ticket → NoneWaitsFrom (entries_of devices.new device) index ticket }
 {
     if let Some((_page, row)) = take_in(devices, device, index, ticket) {
-        counts.lower(row.frame);
+        frames.confirm(row.frame);
     }
 }
 
 /// Drops each row of the device that waits for the ticket.
-fn drop_waiting(devices: &mut Devices, counts: &mut RowCounts, device: DeviceId, ticket: u32)
-    requires { AreCounted devices.old counts.old.counts.items }
-    ensures counted { AreCounted devices.new counts.new.counts.items }
+fn drop_waiting(devices: &mut Devices, frames: &mut FrameRows, device: DeviceId, ticket: u32)
+    requires { AreCounted devices.old frames.old.rows.items }
+    ensures counted { AreCounted devices.new frames.new.rows.items }
+    ensures frames { length frames.new.rows.items ≡ length frames.old.rows.items }
     ensures rows { (d a : ℕ) → row_at devices.new d a ≡ (if device == d then unless_waiting (row_at devices.old d a) ticket else row_at devices.old d a) }
 {
-    let rows = match devices.get(&device) {
-        None => 0,
-        Some(pages) => pages.len(),
-    };
-    for index in (0..rows).rev() {
-        drop_waiting_row(devices, counts, device, index, ticket);
+    for index in (0..row_count(devices, device)).rev() {
+        drop_waiting_row(devices, frames, device, index, ticket);
     }
 }
 
 /// Drops the row of the page of the device, if it waits for the ticket.
 fn drop_waiting_at(
     devices: &mut Devices,
-    counts: &mut RowCounts,
+    frames: &mut FrameRows,
     device: DeviceId,
     page: u64,
     ticket: u32,
 )
-    requires { AreCounted devices.old counts.old.counts.items }
-    ensures counted { AreCounted devices.new counts.new.counts.items }
+    requires { AreCounted devices.old frames.old.rows.items }
+    ensures counted { AreCounted devices.new frames.new.rows.items }
+    ensures frames { length frames.new.rows.items ≡ length frames.old.rows.items }
     ensures rows { (d a : ℕ)
         → row_at devices.new d a ≡ (if (device == d) && (page == a) then unless_waiting (row_at devices.old d a) ticket else row_at devices.old d a) }
 {
     if let Some(row) = take_at_in(devices, device, page, ticket) {
-        counts.lower(row.frame);
+        frames.confirm(row.frame);
     }
 }
 
 /// Drops the rows that the release names and that wait for its ticket.
-pub(crate) fn drop_named_in(devices: &mut Devices, counts: &mut RowCounts, release: Pending)
-    requires { AreCounted devices.old counts.old.counts.items }
-    ensures counted { AreCounted devices.new counts.new.counts.items }
+pub(crate) fn drop_named_in(devices: &mut Devices, frames: &mut FrameRows, release: Pending)
+    requires { AreCounted devices.old frames.old.rows.items }
+    ensures counted { AreCounted devices.new frames.new.rows.items }
+    ensures frames { length frames.new.rows.items ≡ length frames.old.rows.items }
     ensures rows { DropsNamed devices.old devices.new release release.ticket }
 {
     match release.page {
-        None => drop_waiting(devices, counts, release.device, release.ticket),
-        Some(page) => drop_waiting_at(devices, counts, release.device, page, release.ticket),
+        None => drop_waiting(devices, frames, release.device, release.ticket),
+        Some(page) => drop_waiting_at(devices, frames, release.device, page, release.ticket),
     }
 }

@@ -1,4 +1,4 @@
-#![tactic(auto, unfolding(crate::specs::Shown::held_in, crate::specs::Shown::released_in, crate::specs::Shown::pending_in))]
+#![tactic(auto, unfolding(crate::specs::Shown::held_in, crate::specs::Shown::released_in, crate::specs::Shown::pending_in, crate::specs::Shown::frames_in))]
 
 ghost use Rattle.std.specs.Prelude.{◌≡◌, true};
 ghost use Rattle.iom_ledger.specs.Counts.{AreCounted};
@@ -6,11 +6,12 @@ ghost use Rattle.iom_ledger.specs.Pending.{pending_limit};
 ghost use Rattle.iom_ledger.specs.Ring.{is_ascending};
 ghost use Rattle.iom_ledger.specs.Rows.{AllGranted, AllNamed};
 
-use crate::counts::RowCounts;
 use crate::devices::{Devices, grant_in, release_all_in, release_in, row_in};
+use crate::frame_rows::FrameRows;
 use crate::lookups::{holds_anything_in, lingers_anything_in};
+use crate::page_row::{PageRow, Pending};
 use crate::ring::{Ring, confirm_in, note, still_ascend};
-use crate::row::{Pending, Row};
+use crate::row::Row;
 use circular_buffer::HeapCircularBuffer;
 use indexmap::IndexMap;
 use iom_base::{DeviceId, Rights};
@@ -26,37 +27,39 @@ pub const MAX_PENDING: usize = 256;
 #[derive(Drop)]
 pub struct Ledger {
     devices: Devices,
-    counts: RowCounts,
+    frames: FrameRows,
     pending: Ring,
     /// Whether no ticket of the ring is below an earlier one.
     ascending: bool,
     ghost granted: { AllGranted devices },
     ghost named: { AllNamed devices pending.items },
-    ghost counted: { AreCounted devices counts.counts.items },
+    ghost counted: { AreCounted devices frames.rows.items },
     ghost ordered: { ascending ≡ true → is_ascending pending.items ≡ true },
     ghost room: { pending.capacity ≡ pending_limit },
 }
 
 impl Ledger {
-    ghost use Rattle.std.specs.Prelude.{◌↔◌, ◌<◌, ◌≤◌, ℕ, List, [], ◌∷◌, Contains, length, false, not};
-    ghost use Rattle.std.specs.Prelude.{IsTrue, IsSome, IfOk, OnOk, OnErr, Some, None};
+    ghost use Rattle.std.specs.Prelude.{◌↔◌, ◌+◌, ◌<◌, ◌≤◌, ℕ, List, [], ◌∷◌, Contains, length, max, false, not};
+    ghost use Rattle.std.specs.Prelude.{IsTrue, IsNone, IsSome, IfOk, IfSome, OnOk, OnErr, Some, None};
     ghost use Rattle.iom_ledger.specs.declared.entry.HistoryEntry.TheVariants.{Granted, Released, AllReleased, Confirmed};
     ghost use Rattle.iom_ledger.specs.History.{History, Pair, confirms, held_at, lingering_at, Holds, Lingers, NoneMayReach};
     ghost use Rattle.iom_ledger.specs.Pending.{pending_of, pending_limit};
     ghost use Rattle.iom_ledger.specs.Shown.{Agrees, IsFreeIn};
+    ghost use Rattle.iom_ledger.specs.FrameRows.{IsRowOf, IsFreeRow};
     ghost use Rattle.iom_base.specs.Rights.{IsGrantable};
     ghost use Rattle.iom_frame_set.specs.Sets.{has};
-    ghost use Rattle.iom_ledger.specs.Shown.{held_in, released_in, lingering_in, pending_in};
+    ghost use Rattle.iom_ledger.specs.Shown.{held_in, released_in, lingering_in, pending_in, frames_in};
     ghost use Rattle.iom_ledger.specs.Changes.{IsUnchanged, ShowsGrant, ShowsRelease, ShowsReleaseOfAll, ShowsConfirmation};
 
     /// A ledger of no grants. Makes the room of [`MAX_PENDING`] tickets, so that no release takes memory, and
-    /// of a count for each of so many frames. A grant of a frame beyond makes more.
+    /// of a row for each of so many frames. A grant of a frame beyond makes more.
     pub fn new(alloc: Global, frames: u32) -> Result<Ledger, AllocError>
-        ensures { IfOk result (λ ledger. Agrees ledger []) }
+        ensures agrees { IfOk result (λ ledger. Agrees ledger []) }
+        ensures frames { IfOk result (λ ledger. frames_in ledger ≡ frames) }
     {
         Ok(Ledger {
             devices: IndexMap::new(alloc),
-            counts: RowCounts::new(alloc, frames)?,
+            frames: FrameRows::new(alloc, frames)?,
             pending: HeapCircularBuffer::with_capacity(alloc, MAX_PENDING)?,
             ascending: true,
         })
@@ -96,20 +99,37 @@ impl Ledger {
         row_in(&self.devices, device, page).is_none()
     }
 
-    /// Whether no device holds or lingers on the frame, so that none may reach it. Looks at one count.
+    /// The row of the frame: how many grants name it, and how many releases that aren't confirmed. None for
+    /// a frame outside, which nothing names: it is neither below the number that the ledger was made for, nor
+    /// was it or a higher one ever granted.
+    pub fn row(&self, frame: u32) -> Option<&Row>
+        ensures outside { IsNone result ↔ (frames_in self.now ≤ frame) }
+        ensures counted { (h : History) → Agrees self.now h → IfSome result (λ row. IsRowOf h frame row.now) }
+        ensures shown { IfSome result (λ row. IsFreeRow row.now ↔ IsFreeIn self.now frame) }
+        ensures free { (h : History) → Agrees self.now h
+            → IfSome result (λ row. IsFreeRow row.now ↔ NoneMayReach h frame) }
+        ensures unnamed { IsNone result → IsFreeIn self.now frame }
+    {
+        self.frames.row(frame)
+    }
+
+    /// Whether no device holds or lingers on the frame, so that none may reach it. Looks at its row alone.
     pub fn is_free(&self, frame: u32) -> bool
         ensures shown { IsTrue result ↔ IsFreeIn self.now frame }
         ensures free { (h : History) → Agrees self.now h → IsTrue result ↔ NoneMayReach h frame }
     {
-        self.counts.count(frame) == 0
+        match self.row(frame) {
+            None => true,
+            Some(row) => row.is_free(),
+        }
     }
 
     /// The frames that no device holds or lingers on, of all there may be: the ledger knows neither how
-    /// large memory is nor which of its frames are reserved. Looks at no row and no count.
+    /// large memory is nor which of its frames are reserved. Looks at no row.
     pub fn free_frames(&self) -> &FrameSet
         ensures { (frame : ℕ) → IsTrue (has result.now frame) ↔ IsFreeIn self.now frame }
     {
-        self.counts.free_frames()
+        self.frames.free_frames()
     }
 
     /// Whether the device holds some page.
@@ -152,15 +172,17 @@ impl Ledger {
         requires right { IsGrantable rights }
         ensures agrees { OnOk result ((h : History) → Agrees self.old h → Agrees self.new (Granted device page frame rights ∷ h)) }
         ensures granted { OnOk result (ShowsGrant self.old self.new device page (frame, rights)) }
+        ensures frames { OnOk result (frames_in self.new ≡ max (frames_in self.old) (frame + 1)) }
         ensures refused { OnErr result (IsUnchanged self.old self.new) }
+        ensures refused_frames { OnErr result (frames_in self.new ≡ frames_in self.old) }
         ensures refused_agrees { OnErr result ((h : History) → Agrees self.old h → Agrees self.new h) }
     {
-        let row = Row {
+        let row = PageRow {
             frame,
             rights,
             ticket: None,
         };
-        grant_in(&mut self.devices, &mut self.counts, device, page, row)
+        grant_in(&mut self.devices, &mut self.frames, device, page, row)
     }
 
     /// Releases what the device holds at the page, under a ticket that isn't confirmed yet. Takes no
@@ -170,8 +192,9 @@ impl Ledger {
         requires room { length (pending_in self.old) < pending_limit }
         ensures agrees { (h : History) → Agrees self.old h → confirms h ticket ≡ false → Agrees self.new (Released device page ticket ∷ h) }
         ensures released { ShowsRelease self.old self.new device page ticket }
+        ensures frames { frames_in self.new ≡ frames_in self.old }
     {
-        release_in(&mut self.devices, device, page, ticket);
+        release_in(&mut self.devices, &mut self.frames, device, page, ticket);
         let release = Pending {
             ticket,
             device,
@@ -187,8 +210,9 @@ impl Ledger {
         requires { length (pending_in self.old) < pending_limit }
         ensures agrees { (h : History) → Agrees self.old h → confirms h ticket ≡ false → Agrees self.new (AllReleased device ticket ∷ h) }
         ensures released { ShowsReleaseOfAll self.old self.new device ticket }
+        ensures frames { frames_in self.new ≡ frames_in self.old }
     {
-        release_all_in(&mut self.devices, device, ticket);
+        release_all_in(&mut self.devices, &mut self.frames, device, ticket);
         let release = Pending {
             ticket,
             device,
@@ -203,11 +227,12 @@ impl Ledger {
     pub fn confirm(&mut self, ticket: u32)
         ensures agrees { (h : History) → Agrees self.old h → Agrees self.new (Confirmed ticket ∷ h) }
         ensures confirmed { ShowsConfirmation self.old self.new ticket }
+        ensures frames { frames_in self.new ≡ frames_in self.old }
         ensures unknown { ¬ Contains (pending_in self.old) ticket → IsUnchanged self.old self.new }
     {
         confirm_in(
             &mut self.devices,
-            &mut self.counts,
+            &mut self.frames,
             &mut self.pending,
             self.ascending,
             ticket,

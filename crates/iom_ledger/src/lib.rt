@@ -9,16 +9,19 @@
 //! with the call's entry, and on each look-up answering what every such history says
 //! (`specs/Shown.antt`).
 //!
-//! Beside the rows it counts how many of them name each frame, so that whether a frame is free is one
-//! look at a count. Of the frames that no row names it keeps a set (`Ledger::free_frames`), in which whoever
-//! knows what else is taken looks for one. That the set is right is a fact that each ledger carries.
+//! Beside what each page holds it keeps a row of each frame (`Ledger::row`), with the count of the grants
+//! that name it and of the releases that aren't confirmed yet: `specs/FrameRows.antt` says both by a
+//! history. So whether a frame is free is one look at its row. Of the frames whose rows are free it keeps a
+//! set (`Ledger::free_frames`), in which whoever knows what else is taken looks for one. That the counts and
+//! the set are right are facts that each ledger carries.
 #![tactic(auto)]
 
-mod counts;
 mod devices;
 mod entry;
+mod frame_rows;
 mod ledger;
 mod lookups;
+mod page_row;
 mod refusal;
 mod ring;
 mod row;
@@ -26,3 +29,4 @@ mod row;
 pub use entry::HistoryEntry;
 pub use ledger::{Ledger, MAX_PENDING};
 pub use refusal::Refusal;
+pub use row::Row;

@@ -2,7 +2,7 @@
 ghost use Rattle.std.specs.Prelude.{◌≡◌, ◌↔◌, ℕ, true, Some, nat_eq, IsTrue, is_none, is_some};
 ghost use Rattle.std.specs.List.{list_any};
 ghost use Rattle.indexmap.specs.IndexMap.{IsUnique, get};
-ghost use Rattle.iom_ledger.specs.declared.row.Row.{Row};
+ghost use Rattle.iom_ledger.specs.declared.page_row.PageRow.{PageRow};
 ghost use Rattle.iom_ledger.specs.Rows.{row_at};
 
 use crate::devices::{Devices, Pages};
@@ -26,7 +26,7 @@ fn some_lingers(pages: &Pages) -> bool
 
 /// Whether a row of the device isn't released.
 pub(crate) fn holds_anything_in(devices: &Devices, device: DeviceId) -> bool
-    ensures { IsTrue result ↔ ((page : ℕ) × (row : Row) × (row_at devices.now device page ≡ Some row) × (is_none row.ticket ≡ true)) }
+    ensures { IsTrue result ↔ ((page : ℕ) × (row : PageRow) × (row_at devices.now device page ≡ Some row) × (is_none row.ticket ≡ true)) }
 {
     match devices.get(&device) {
         None => false,
@@ -36,7 +36,7 @@ pub(crate) fn holds_anything_in(devices: &Devices, device: DeviceId) -> bool
 
 /// Whether a row of the device is released.
 pub(crate) fn lingers_anything_in(devices: &Devices, device: DeviceId) -> bool
-    ensures { IsTrue result ↔ ((page : ℕ) × (row : Row) × (row_at devices.now device page ≡ Some row) × (is_some row.ticket ≡ true)) }
+    ensures { IsTrue result ↔ ((page : ℕ) × (row : PageRow) × (row_at devices.now device page ≡ Some row) × (is_some row.ticket ≡ true)) }
 {
     match devices.get(&device) {
         None => false,

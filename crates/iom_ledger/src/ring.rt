@@ -1,14 +1,14 @@
 //! The releases that aren't confirmed, the oldest first, in a ring that is made once.
 ghost use Rattle.std.specs.Prelude.{◌≡◌, ◌<◌, ◌≤◌, ◌==◌, ℕ, List, true, false, not, [], ◌∷◌, ◌++◌, length, filter};
-ghost use Rattle.iom_ledger.specs.declared.row.Pending.{Pending};
+ghost use Rattle.iom_ledger.specs.declared.page_row.Pending.{Pending};
 ghost use Rattle.iom_ledger.specs.Counts.{AreCounted};
 ghost use Rattle.iom_ledger.specs.Ring.{tickets, is_among, is_ascending, is_other, DropsNamedBy, TakesFirst};
 ghost use Rattle.iom_ledger.specs.Rows.{AllNamed};
 ghost use Rattle.iom_ledger.specs.RowChanges.{DropsRows, DropsNamed};
 
-use crate::counts::RowCounts;
 use crate::devices::{Devices, drop_named_in};
-use crate::row::Pending;
+use crate::frame_rows::FrameRows;
+use crate::page_row::Pending;
 use circular_buffer::HeapCircularBuffer;
 
 /// The releases that aren't confirmed, the oldest first.
@@ -34,9 +34,10 @@ pub(crate) fn note(pending: &mut Ring, release: Pending)
 }
 
 /// Takes the releases at the front that are under the ticket, and drops the rows that wait for them.
-fn confirm_front(devices: &mut Devices, counts: &mut RowCounts, pending: &mut Ring, ticket: u32)
-    requires { AreCounted devices.old counts.old.counts.items }
-    ensures counted { AreCounted devices.new counts.new.counts.items }
+fn confirm_front(devices: &mut Devices, frames: &mut FrameRows, pending: &mut Ring, ticket: u32)
+    requires { AreCounted devices.old frames.old.rows.items }
+    ensures counted { AreCounted devices.new frames.new.rows.items }
+    ensures frames { length frames.new.rows.items ≡ length frames.old.rows.items }
     ensures taken { (n : ℕ) × TakesFirst devices.old devices.new pending.old.items pending.new.items n ticket }
     ensures capacity { pending.new.capacity ≡ pending.old.capacity }
 {
@@ -44,7 +45,7 @@ fn confirm_front(devices: &mut Devices, counts: &mut RowCounts, pending: &mut Ri
         match pending.front().copied() {
             Some(oldest) if ticket == oldest.ticket => {
                 pending.pop_front();
-                drop_named_in(devices, counts, oldest);
+                drop_named_in(devices, frames, oldest);
             }
             _ => return,
         }
@@ -64,10 +65,11 @@ fn is_past(pending: &Ring, ascending: bool, ticket: u32) -> bool
 
 /// Takes the oldest release: where it is under the ticket, the rows that wait for it are dropped, and
 /// else it goes to the end.
-fn turn(devices: &mut Devices, counts: &mut RowCounts, pending: &mut Ring, ticket: u32)
-    requires counted { AreCounted devices.old counts.old.counts.items }
+fn turn(devices: &mut Devices, frames: &mut FrameRows, pending: &mut Ring, ticket: u32)
+    requires counted { AreCounted devices.old frames.old.rows.items }
     requires room { length pending.old.items ≤ pending.old.capacity }
-    ensures counted { AreCounted devices.new counts.new.counts.items }
+    ensures counted { AreCounted devices.new frames.new.rows.items }
+    ensures frames { length frames.new.rows.items ≡ length frames.old.rows.items }
     ensures rows { (release : Pending) (rest : List Pending) → pending.old.items ≡ release ∷ rest → DropsNamed devices.old devices.new release ticket }
     ensures items { (release : Pending) (rest : List Pending) → pending.old.items ≡ release ∷ rest
         → pending.new.items ≡ rest ++ filter (is_other ticket) (release ∷ []) }
@@ -76,7 +78,7 @@ fn turn(devices: &mut Devices, counts: &mut RowCounts, pending: &mut Ring, ticke
 {
     if let Some(release) = pending.pop_front() {
         if ticket == release.ticket {
-            drop_named_in(devices, counts, release);
+            drop_named_in(devices, frames, release);
         } else {
             pending.push_back(release);
         }
@@ -84,15 +86,16 @@ fn turn(devices: &mut Devices, counts: &mut RowCounts, pending: &mut Ring, ticke
 }
 
 /// Drops each release under the ticket, with the rows that wait for it. The ring is turned once.
-fn confirm_each(devices: &mut Devices, counts: &mut RowCounts, pending: &mut Ring, ticket: u32)
-    requires { AreCounted devices.old counts.old.counts.items }
-    ensures counted { AreCounted devices.new counts.new.counts.items }
+fn confirm_each(devices: &mut Devices, frames: &mut FrameRows, pending: &mut Ring, ticket: u32)
+    requires { AreCounted devices.old frames.old.rows.items }
+    ensures counted { AreCounted devices.new frames.new.rows.items }
+    ensures frames { length frames.new.rows.items ≡ length frames.old.rows.items }
     ensures rows { DropsNamedBy devices.old devices.new pending.old.items ticket }
     ensures items { pending.new.items ≡ filter (is_other ticket) pending.old.items }
     ensures capacity { pending.new.capacity ≡ pending.old.capacity }
 {
     for n in 0..pending.len() {
-        turn(devices, counts, pending, ticket);
+        turn(devices, frames, pending, ticket);
     }
 }
 
@@ -101,21 +104,22 @@ fn confirm_each(devices: &mut Devices, counts: &mut RowCounts, pending: &mut Rin
 /// other releases are above.
 pub(crate) fn confirm_in(
     devices: &mut Devices,
-    counts: &mut RowCounts,
+    frames: &mut FrameRows,
     pending: &mut Ring,
     ascending: bool,
     ticket: u32,
 )
-    requires counted { AreCounted devices.old counts.old.counts.items }
+    requires counted { AreCounted devices.old frames.old.rows.items }
     requires named { AllNamed devices.old pending.old.items }
     requires ordered { ascending ≡ true → is_ascending pending.old.items ≡ true }
-    ensures counted { AreCounted devices.new counts.new.counts.items }
+    ensures counted { AreCounted devices.new frames.new.rows.items }
+    ensures frames { length frames.new.rows.items ≡ length frames.old.rows.items }
     ensures rows { DropsRows devices.old devices.new ticket }
     ensures items { pending.new.items ≡ filter (is_other ticket) pending.old.items }
     ensures capacity { pending.new.capacity ≡ pending.old.capacity }
 {
-    confirm_front(devices, counts, pending, ticket);
+    confirm_front(devices, frames, pending, ticket);
     if !is_past(pending, ascending, ticket) {
-        confirm_each(devices, counts, pending, ticket);
+        confirm_each(devices, frames, pending, ticket);
     }
 }

@@ -1,44 +1,23 @@
-//! A row of the ledger, and what is kept beside the rows of each ticket that isn't confirmed.
-ghost use Rattle.std.specs.Prelude.{◌≡◌, ◌==◌};
-ghost use Rattle.iom_ledger.specs.Rows.{waits_for};
-ghost use Rattle.iom_ledger.specs.RowChanges.{released_row};
-
-use iom_base::{DeviceId, Rights};
-
-/// A frame and the right to it, and the ticket under which it was released, if it was.
-#[derive(Clone, Copy)]
-pub(crate) struct Row {
-    pub(crate) frame: u32,
-    pub(crate) rights: Rights,
-    pub(crate) ticket: Option<u32>,
-}
-
-/// A release whose ticket isn't confirmed: of one page, or where no page is named of all that the
-/// device held.
-#[derive(Clone, Copy)]
-pub(crate) struct Pending {
-    pub(crate) ticket: u32,
-    pub(crate) device: DeviceId,
-    pub(crate) page: Option<u64>,
+/// The row of a frame: how many grants and how many unconfirmed releases name it.
+///
+/// Each page of a device counts for itself, and at most once: in `grants` while the device holds the frame
+/// there, and in `pending` from the release on until its ticket is confirmed.
+#[derive(Clone, Copy, PartialEq, Eq, Debug)]
+pub struct Row {
+    /// The pages at which a device holds the frame.
+    pub grants: u128,
+    /// The pages at which a device has released the frame, under a ticket that isn't confirmed.
+    pub pending: u128,
 }
 
 impl Row {
-    /// Releases the row under the ticket, unless it is released already.
-    pub(crate) fn release(&mut self, ticket: u32)
-        ensures { self.new ≡ released_row self.old ticket }
-    {
-        if self.ticket.is_none() {
-            self.ticket = Some(ticket);
-        }
-    }
+    ghost use Rattle.std.specs.Prelude.{◌↔◌, IsTrue};
+    ghost use Rattle.iom_ledger.specs.FrameRows.{IsFreeRow};
 
-    /// Whether the row was released under the ticket.
-    pub(crate) fn waits_for(&self, ticket: u32) -> bool
-        ensures { result ≡ waits_for self.now.ticket ticket }
+    /// Whether both counts are 0. Of a row that a ledger lends this is whether no device may reach the frame.
+    pub fn is_free(&self) -> bool
+        ensures { IsTrue result ↔ IsFreeRow self.now }
     {
-        match self.ticket {
-            None => false,
-            Some(own) => ticket == own,
-        }
+        self.grants == 0 && self.pending == 0
     }
 }

@@ -1,5 +1,5 @@
 use Rattle.std.proofs.Common.{◌+◌, ◌<◌, ◌++◌, ◌∙◌, length, take, drop, get_or, filter, None, arith}
-use Rattle.iom_ledger.specs.declared.row.Pending.{Pending}
+use Rattle.iom_ledger.specs.declared.page_row.Pending.{Pending}
 use Rattle.iom_ledger.specs.Ring.{is_other}
 use Rattle.iom_ledger.proofs.PendingLemmas.{split_at, rows_more, items_more}
 use Rattle.iom_ledger.proofs.ring.confirm_each.Goals as goal
@@ -17,5 +17,6 @@ loop-n-preserved c =
       items = c.turn.ensures.items (get_or s n none) rest oldest ∙ items_more c.args.ticket n s none within;
       capacity = c.turn.ensures.capacity ∙ c.loop-n.invariant.capacity;
       counted = c.turn.ensures.counted;
+      framed = c.turn.ensures.frames ∙ c.loop-n.invariant.framed;
       room = c.turn.ensures.room;
     }

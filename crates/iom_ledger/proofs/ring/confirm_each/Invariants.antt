@@ -10,6 +10,7 @@ invariant-loop-n l =
       rows : DropsNamedBy l.fn.devices l.devices (take l.n l.fn.pending.items) l.ticket;
       items : l.pending.items ≡ drop l.n l.fn.pending.items ++ filter (is_other l.ticket) (take l.n l.fn.pending.items);
       capacity : l.pending.capacity ≡ l.fn.pending.capacity;
-      counted : AreCounted l.devices l.counts.counts.items;
+      counted : AreCounted l.devices l.frames.rows.items;
+      framed : length l.frames.rows.items ≡ length l.fn.frames.rows.items;
       room : length l.pending.items ≤ l.pending.capacity;
     }

@@ -5,7 +5,7 @@ use Rattle.iom_ledger.proofs.RingLemmas.{TakesFirst-none, TakesFirst-more}
 use Rattle.iom_ledger.proofs.ring.confirm_front.Goals as goal
 
 pub loop-n-init : goal.loop-n-init
-loop-n-init c = record { taken = TakesFirst-none c.args.devices.now c.args.pending.now.items c.args.ticket; capacity = refl; counted = c.requires }
+loop-n-init c = record { taken = TakesFirst-none c.args.devices.now c.args.pending.now.items c.args.ticket; capacity = refl; counted = c.requires; framed = refl }
 
 pub loop-n-preserved : goal.loop-n-preserved
 loop-n-preserved c =
@@ -20,4 +20,5 @@ loop-n-preserved c =
           (subst (λ (t : ℕ). DropsNamed c.loop-n.devices c.drop_named_in.new.devices oldest t) (sym c.if-ticket-oldest.true) c.drop_named_in.ensures.rows) c.loop-n.invariant.taken;
       capacity = ap (λ b. b.capacity) c.pop_front.ensures.items ∙ c.loop-n.invariant.capacity;
       counted = c.drop_named_in.ensures.counted;
+      framed = c.drop_named_in.ensures.frames ∙ c.loop-n.invariant.framed;
     }

@@ -1,4 +1,4 @@
-use Rattle.std.proofs.Common.{◌≡◌}
+use Rattle.std.proofs.Common.{◌≡◌, length}
 use Rattle.iom_ledger.specs.Counts.{AreCounted}
 use Rattle.iom_ledger.specs.Ring.{TakesFirst}
 use Rattle.iom_ledger.proofs.ring.confirm_front.Given as goal
@@ -9,5 +9,6 @@ invariant-loop-n l =
     record {
       taken : TakesFirst l.fn.devices l.devices l.fn.pending.items l.pending.items l.n l.ticket;
       capacity : l.pending.capacity ≡ l.fn.pending.capacity;
-      counted : AreCounted l.devices l.counts.counts.items;
+      counted : AreCounted l.devices l.frames.rows.items;
+      framed : length l.frames.rows.items ≡ length l.fn.frames.rows.items;
     }

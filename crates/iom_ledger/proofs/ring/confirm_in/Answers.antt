@@ -1,5 +1,5 @@
-use Rattle.std.proofs.Common.{◌≡◌, ◌∙◌, true, sym, ap}
-use Rattle.iom_ledger.specs.Ring.{is_among, is_ascending, tickets}
+use Rattle.std.proofs.Common.{◌∙◌, sym, ap}
+use Rattle.iom_ledger.specs.Ring.{is_ascending}
 use Rattle.iom_ledger.proofs.RingLemmas.{is_ascending-drop, none_dropped, rows_of_both, items_of_both}
 use Rattle.iom_ledger.proofs.UnknownTickets.{filter_absent}
 use Rattle.iom_ledger.proofs.ring.confirm_in.Goals as goal

@@ -1,14 +1,23 @@
-use Rattle.iom_base.specs.declared.access.AccessKind.TheVariants.{Read}
-use Rattle.iom_ledger.proofs.AgreementLemmas.{some_row_from_May, May_from_some_row}
-use Rattle.iom_ledger.proofs.FreeLemmas.{counts_none, counts_free}
+use Rattle.std.proofs.Common.{refl}
+use Rattle.iom_ledger.proofs.FreeLemmas.{row_free, row_unreached}
 use Rattle.iom_ledger.proofs.ledger.Ledger.is_free.Goals as goal
 
-pub returns-clause-shown : goal.returns-clause-shown
-returns-clause-shown c = counts_free c.args.self.now c.args.frame c.count.result c.count.ensures
+pub returns-in-None-clause-shown : goal.returns-in-None-clause-shown
+returns-in-None-clause-shown c = ((λ yes. c.in-None.ensures.unnamed refl), (λ free. refl))
 
-pub returns-clause-free : goal.returns-clause-free
-returns-clause-free c h agrees =
-    let none = counts_none c.args.self.now c.args.frame c.count.result c.count.ensures in (
-      (λ free device kind may. none.0 free (some_row_from_May c.args.self.now h agrees device c.args.frame kind may)),
-      (λ free. none.1 (λ some. let may = May_from_some_row c.args.self.now h agrees c.args.self.now.granted c.args.frame some in free may.0 Read may.1)),
-    )
+pub returns-in-None-clause-free : goal.returns-in-None-clause-free
+returns-in-None-clause-free c h agrees =
+    let ledger = c.args.self.now in
+    ((λ yes. (row_unreached ledger h agrees c.args.frame).0 ((row_free ledger c.args.frame).1 (c.in-None.ensures.unnamed refl))), (λ free. refl))
+
+pub returns-in-Some-clause-shown : goal.returns-in-Some-clause-shown
+returns-in-Some-clause-shown c = (
+  (λ yes. c.in-Some.ensures.shown.0 (c.is_free.ensures.0 yes)),
+  (λ free. c.is_free.ensures.1 (c.in-Some.ensures.shown.1 free)),
+)
+
+pub returns-in-Some-clause-free : goal.returns-in-Some-clause-free
+returns-in-Some-clause-free c h agrees = (
+  (λ yes. (c.in-Some.ensures.free h agrees).0 (c.is_free.ensures.0 yes)),
+  (λ free. c.is_free.ensures.1 ((c.in-Some.ensures.free h agrees).1 free)),
+)
