@@ -41,7 +41,7 @@ fn each_refusal_is_told_by_number_and_name(rt: HostRuntime) -> Result<(), Fail> 
 }
 
 /// Brings an entry about by the ledger's calls.
-fn bring_about(ledger: &mut Ledger, entry: HistoryEntry) -> Result<(), Fail> {
+pub(crate) fn bring_about(ledger: &mut Ledger, entry: HistoryEntry) -> Result<(), Fail> {
     match entry {
         HistoryEntry::Granted {
             device,
@@ -126,7 +126,7 @@ fn answers(alloc: Global, ledger: &Ledger) -> Result<String, AllocError> {
     format!(in alloc; "{pages} free{free} {devices} pending {pending}")
 }
 
-fn granted(device: DeviceId, page: u64, frame: u32, rights: Rights) -> HistoryEntry {
+pub(crate) fn granted(device: DeviceId, page: u64, frame: u32, rights: Rights) -> HistoryEntry {
     HistoryEntry::Granted {
         device,
         page,
@@ -135,7 +135,7 @@ fn granted(device: DeviceId, page: u64, frame: u32, rights: Rights) -> HistoryEn
     }
 }
 
-fn released(device: DeviceId, page: u64, ticket: u32) -> HistoryEntry {
+pub(crate) fn released(device: DeviceId, page: u64, ticket: u32) -> HistoryEntry {
     HistoryEntry::Released {
         device,
         page,
@@ -143,11 +143,11 @@ fn released(device: DeviceId, page: u64, ticket: u32) -> HistoryEntry {
     }
 }
 
-fn all_released(device: DeviceId, ticket: u32) -> HistoryEntry {
+pub(crate) fn all_released(device: DeviceId, ticket: u32) -> HistoryEntry {
     HistoryEntry::AllReleased { device, ticket }
 }
 
-fn confirmed(ticket: u32) -> HistoryEntry {
+pub(crate) fn confirmed(ticket: u32) -> HistoryEntry {
     HistoryEntry::Confirmed { ticket }
 }
 
@@ -280,7 +280,9 @@ fn a_refused_call_changes_nothing_and_succeeds_at_once_when_repeated(
     for device in 1..4 {
         for page in 0..20 {
             if ledger.holds(device, page).is_none() && ledger.lingers(device, page).is_none() {
+                let before = ledger.row(5).copied();
                 if ledger.grant(device, page, 5, Rights::R).is_err() {
+                    assert_eq!(rt; ledger.row(5).copied(), before);
                     assert_eq!(rt; ledger.holds(device, page), None);
                     assert_eq!(rt; ledger.lingers(device, page), None);
                     assert_eq!(rt; ledger.holds_anything(device), page > 0);
