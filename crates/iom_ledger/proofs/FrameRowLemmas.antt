@@ -42,7 +42,8 @@ AllPairs-once (p ∷ pages) once =
     (AllPairs-once pages once.1)
 
 -- the count of the pages that pass is the number of those of which the fact is true that the test decides
-IsNumberOf-count : (test : ℕ → ℕ → Bool) (Fact : ℕ → ℕ → Type 0) (n : ℕ) → ((d a : ℕ) → (test d a ≡ true) ↔ Fact d a) → IsCountOf test n → IsNumberOf Fact n
+IsNumberOf-count : (test : ℕ → ℕ → Bool) (Fact : ℕ → ℕ → Type 0) (n : ℕ)
+    → ((d a : ℕ) → (test d a ≡ true) ↔ Fact d a) → IsCountOf test n → IsNumberOf Fact n
 IsNumberOf-count test Fact n decides count =
     ∥∥₁_map count (λ (pages, are, long). (
       pages,
@@ -57,11 +58,13 @@ IsNumberOf-count test Fact n decides count =
     ))
 
 -- the row of a page holds the frame exactly where the pair that it shows as held is on it
-holds_frame-held : (row : Option PageRow) (f : ℕ) → (holds_frame row f ≡ true) ↔ ((rights : Rights) × (held_of row ≡ Some (f, rights)))
+holds_frame-held : (row : Option PageRow) (f : ℕ)
+    → (holds_frame row f ≡ true) ↔ ((rights : Rights) × (held_of row ≡ Some (f, rights)))
 holds_frame-held None f = ((λ named. absurd (false≢true named)), (λ (rights, held). cc))
 holds_frame-held (Some row) f = by row.ticket row.frame row.rights
   where
-    by : (t : Option ℕ) (frame : ℕ) (own : Rights) → ((is_none t && (frame == f)) ≡ true) ↔ ((rights : Rights) × (unless_released t (frame, own) ≡ Some (f, rights)))
+    by : (t : Option ℕ) (frame : ℕ) (own : Rights)
+        → ((is_none t && (frame == f)) ≡ true) ↔ ((rights : Rights) × (unless_released t (frame, own) ≡ Some (f, rights)))
     by None frame own = (
       (λ named. (own, ap (λ x. Some (x, own)) (eqb-true frame f named))),
       (λ (rights, held). let same : ◌≡◌ {A = Pair} (frame, own) (f, rights) = cc in eq-eqb frame f (ap (λ (p : Pair). p.0) same)),
@@ -89,11 +92,16 @@ lingers_on-released (Some row) f = by row.ticket row.frame row.rights
     )
 
 -- so the row of a frame counts what each history says that the ledger agrees with
-pub IsRowOf-counted : (ledger : Ledger) (h : History) → Agrees ledger h → (frame : ℕ) → IsRowOf h frame (row_of ledger.frames.rows.items frame)
+pub IsRowOf-counted : (ledger : Ledger) (h : History) → Agrees ledger h → (frame : ℕ)
+    → IsRowOf h frame (row_of ledger.frames.rows.items frame)
 unfolding held_in released_in
 IsRowOf-counted ledger h agrees frame = record {
-  grants = IsNumberOf-count (λ d a. holds_frame (row_at ledger.devices d a) frame) (HoldsFrame h frame) (row_of ledger.frames.rows.items frame).grants holds (ledger.counted.grants frame);
-  pending = IsNumberOf-count (λ d a. lingers_on (row_at ledger.devices d a) frame) (LingersOnFrame h frame) (row_of ledger.frames.rows.items frame).pending lingers (ledger.counted.pending frame);
+  grants =
+      IsNumberOf-count (λ d a. holds_frame (row_at ledger.devices d a) frame) (HoldsFrame h frame)
+      (row_of ledger.frames.rows.items frame).grants holds (ledger.counted.grants frame);
+  pending =
+      IsNumberOf-count (λ d a. lingers_on (row_at ledger.devices d a) frame) (LingersOnFrame h frame)
+      (row_of ledger.frames.rows.items frame).pending lingers (ledger.counted.pending frame);
 }
   where
     holds : (d a : ℕ) → (holds_frame (row_at ledger.devices d a) frame ≡ true) ↔ HoldsFrame h frame d a
@@ -115,7 +123,8 @@ IsRowOf-counted ledger h agrees frame = record {
         )
 
 -- a row that is lent is the frame's
-pub lent_row : (result : Option (Bor Row)) (rows : List Row) (frame : ℕ) (P : Row → Type 0) → option_copied result ≡ slice_get rows frame → P (row_of rows frame)
+pub lent_row : (result : Option (Bor Row)) (rows : List Row) (frame : ℕ) (P : Row → Type 0)
+    → option_copied result ≡ slice_get rows frame → P (row_of rows frame)
     → IfSome result (λ row. P row.now)
 lent_row None rows frame P is holds = tt
 lent_row (Some row) rows frame P is holds = subst P (get_or_from_slice_get rows frame row.now (record { grants = 0; pending = 0 }) (sym is)) holds
@@ -126,6 +135,7 @@ free_outside [] frame none = (refl, refl)
 free_outside (row ∷ rows) zero none = cc
 free_outside (row ∷ rows) (suc frame) none = free_outside rows frame none
 
-pub unlent_row : (result : Option (Bor Row)) (rows : List Row) (frame : ℕ) → option_copied result ≡ slice_get rows frame → IsNone result → IsFreeRow (row_of rows frame)
+pub unlent_row : (result : Option (Bor Row)) (rows : List Row) (frame : ℕ)
+    → option_copied result ≡ slice_get rows frame → IsNone result → IsFreeRow (row_of rows frame)
 unlent_row None rows frame is none = free_outside rows frame (sym is)
 unlent_row (Some row) rows frame is none = absurd (true≢false none)

@@ -13,7 +13,8 @@ use Rattle.iom_ledger.specs.Rows.{Devices, Pages, row_at, pages_of}
 use Rattle.iom_ledger.specs.RowChanges.{released_row_if_any, ticket_after, ReleasesRow, ReleasesRows, ReleasesRowsAt}
 
 -- a row that was released is released no further
-released_row-twice : (row : Option PageRow) (ticket : ℕ) → released_row_if_any (released_row_if_any row ticket) ticket ≡ released_row_if_any row ticket
+released_row-twice : (row : Option PageRow) (ticket : ℕ)
+    → released_row_if_any (released_row_if_any row ticket) ticket ≡ released_row_if_any row ticket
 released_row-twice None ticket = refl
 released_row-twice (Some row) ticket = by row.ticket row.frame row.rights
   where
@@ -23,16 +24,20 @@ released_row-twice (Some row) ticket = by row.ticket row.frame row.rights
     by (Some own) frame rights = refl
 
 -- one row more is released
-released_more : (here among named : Bool) (old now new : Option PageRow) (ticket : ℕ) → now ≡ (if here && among then released_row_if_any old ticket else old)
-    → new ≡ (if here && named then released_row_if_any now ticket else now) → new ≡ (if here && (among || named) then released_row_if_any old ticket else old)
+released_more : (here among named : Bool) (old now new : Option PageRow) (ticket : ℕ)
+    → now ≡ (if here && among then released_row_if_any old ticket else old)
+    → new ≡ (if here && named then released_row_if_any now ticket else now)
+    → new ≡ (if here && (among || named) then released_row_if_any old ticket else old)
 released_more false among named old now new ticket was is = is ∙ was
 released_more true true true old now new ticket was is = is ∙ ap (λ row. released_row_if_any row ticket) was ∙ released_row-twice old ticket
 released_more true true false old now new ticket was is = is ∙ was
 released_more true false true old now new ticket was is = is ∙ ap (λ row. released_row_if_any row ticket) was
 released_more true false false old now new ticket was is = is ∙ was
 
-pub ReleasesRowsAt-more : (old now new : Devices) (device ticket n page : ℕ) (pages : List ℕ) → slice_get pages n ≡ Some page
-    → ReleasesRowsAt old now device (take n pages) ticket → ReleasesRow now new device page ticket → ReleasesRowsAt old new device (take (n + 1) pages) ticket
+pub ReleasesRowsAt-more : (old now new : Devices) (device ticket n page : ℕ) (pages : List ℕ)
+    → slice_get pages n ≡ Some page
+    → ReleasesRowsAt old now device (take n pages) ticket → ReleasesRow now new device page ticket
+    → ReleasesRowsAt old new device (take (n + 1) pages) ticket
 ReleasesRowsAt-more old now new device ticket n page pages at some one d a =
     released_more (device == d) (list_any (nat_eq a) (take n pages)) (page == a) (row_at old d a) (row_at now d a) (row_at new d a) ticket (some d a) (one d a)
     ∙ ap (λ b. if (device == d) && b then released_row_if_any (row_at old d a) ticket else row_at old d a)
@@ -47,22 +52,26 @@ pub page_within : (pages : List ℕ) (n : ℕ) → n < length pages → None ≡
 page_within pages n below none = let some : slice_get pages n ≡ Some (get_or pages n 0) = slice_get-get_or pages n 0 below in cc
 
 -- a page that isn't among those of the device has no row
-lookup-absent : (es : List (ℕ × PageRow)) (page : ℕ) → list_any (nat_eq page) (map (λ entry. entry.0) es) ≡ false → lookup (nat_eq page) es ≡ None
+lookup-absent : (es : List (ℕ × PageRow)) (page : ℕ)
+    → list_any (nat_eq page) (map (λ entry. entry.0) es) ≡ false → lookup (nat_eq page) es ≡ None
 lookup-absent [] page absent = refl
 lookup-absent (e ∷ es) page absent =
     let parts = or_parts (nat_eq page e.0) (list_any (nat_eq page) (map (λ entry. entry.0) es)) absent in
     rw parts.0 (lookup-absent es page parts.1)
 
-row_at-absent : (devices : Devices) (device page : ℕ) → list_any (nat_eq page) (pages_of devices device) ≡ false → row_at devices device page ≡ None
+row_at-absent : (devices : Devices) (device page : ℕ)
+    → list_any (nat_eq page) (pages_of devices device) ≡ false → row_at devices device page ≡ None
 row_at-absent devices device page absent = by (get nat_eq devices device) absent
   where
-    by : (found : Option Pages) → list_any (nat_eq page) (map (λ entry. entry.0) (option_map_or (λ pages. pages.entries) found [])) ≡ false
+    by : (found : Option Pages)
+        → list_any (nat_eq page) (map (λ entry. entry.0) (option_map_or (λ pages. pages.entries) found [])) ≡ false
         → option_and_then (λ pages. get nat_eq pages page) found ≡ None
     by None absent = refl
     by (Some pages) absent = lookup-absent pages.entries page absent
 
 -- once those at all pages of the device are released, all of the device are
-pub ReleasesRows-all : (old new : Devices) (device ticket : ℕ) → ReleasesRowsAt old new device (pages_of old device) ticket → ReleasesRows old new device ticket
+pub ReleasesRows-all : (old new : Devices) (device ticket : ℕ)
+    → ReleasesRowsAt old new device (pages_of old device) ticket → ReleasesRows old new device ticket
 ReleasesRows-all old new device ticket all d a = all d a ∙ by (device == d) refl (list_any (nat_eq a) (pages_of old device)) refl
   where
     by : (b : Bool) → (device == d) ≡ b → (among : Bool) → list_any (nat_eq a) (pages_of old device) ≡ among
