@@ -9,7 +9,7 @@ use Rattle.iom_tlb.specs.declared.space.Space.TheVariants.{First, Second, Both}
 use Rattle.iom_tlb.specs.Content.{Key}
 use Rattle.iom_tlb.specs.Entries.{is_key}
 
-both : (x y : Bool) → x && y ≡ true → (x ≡ true) × (y ≡ true)
+pub both : (x y : Bool) → x && y ≡ true → (x ≡ true) × (y ≡ true)
 both true y e = (refl, e)
 both false y e = absurd (cc)
 
@@ -44,3 +44,11 @@ unequal a b false e = inr (λ same. let P : Key → Bool = is_key a in let itsel
 -- two keys are one, or aren't
 pub one_or_other : (a b : Key) → (a ≡ b) ⊎ (a ≢ b)
 one_or_other a b = unequal a b (is_key a b) refl
+
+tests_apart : (a b : Key) → a ≢ b → (t : Bool) → is_key a b ≡ t → is_key a b ≡ false
+tests_apart a b apart true e = absurd (apart (one_key a b e))
+tests_apart a b apart false e = e
+
+-- keys that aren't one don't pass for one
+pub apart_keys : (a b : Key) → a ≢ b → is_key a b ≡ false
+apart_keys a b apart = tests_apart a b apart (is_key a b) refl

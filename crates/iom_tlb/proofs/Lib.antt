@@ -3,3 +3,9 @@ pub mod KeyLemmas
 pub mod PlainLemmas
 pub mod ContentLemmas
 pub mod LawLemmas
+pub mod MaskLemmas
+pub mod WordLemmas
+pub mod WayLemmas
+pub mod SetLemmas
+pub mod EmptyLemmas
+pub mod CacheLemmas

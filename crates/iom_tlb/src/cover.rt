@@ -1,5 +1,7 @@
-ghost use Rattle.std.specs.Prelude.{◌≡◌};
+ghost use Rattle.std.specs.Prelude.{◌≡◌, ◌≢◌, IfSome, false};
+ghost use Rattle.iom_tlb.specs.Content.{Key};
 ghost use Rattle.iom_tlb.specs.Covers.{covers};
+ghost use Rattle.iom_tlb.specs.Entries.{is_key};
 
 use crate::space::Space;
 
@@ -46,6 +48,38 @@ impl Cover {
                     && page.is_none_or(|asked| asked == number)
             }
             (Cover::First { .. } | Cover::Second { .. } | Cover::Both { .. }, _) => false,
+        }
+    }
+
+    /// The one key that is covered, where the cover leaves nothing of it open.
+    pub(crate) fn only_key(&self) -> Option<(Space, u64)>
+        ensures { IfSome result (λ key. (other : Key) → covers self.now other ≡ is_key key other) }
+    {
+        match *self {
+            Cover::First {
+                pscid: Some(pscid),
+                page: Some(page),
+            } => Some((Space::First { pscid }, page)),
+            Cover::Second {
+                gscid: Some(gscid),
+                page: Some(page),
+            } => Some((Space::Second { gscid }, page)),
+            Cover::Both {
+                gscid: Some(gscid),
+                pscid: Some(pscid),
+                page: Some(page),
+            } => Some((Space::Both { gscid, pscid }, page)),
+            Cover::First { .. } | Cover::Second { .. } | Cover::Both { .. } => None,
+        }
+    }
+
+    /// The one page of which translations are covered, where the cover names it.
+    pub(crate) fn only_page(&self) -> Option<u64>
+        ensures { IfSome result (λ page. (key : Key) → key.1 ≢ page → covers self.now key ≡ false) }
+    {
+        match *self {
+            Cover::First { page, .. } | Cover::Second { page, .. } | Cover::Both { page, .. } =>
+                page,
         }
     }
 }

@@ -1,7 +1,6 @@
-ghost use Rattle.std.specs.Prelude.{◌≡◌, IfSome, IfOk, false};
-ghost use Rattle.iom_tlb.specs.Covers.{covers};
-ghost use Rattle.iom_tlb.specs.Content.{Key, HasNothing};
-ghost use Rattle.iom_tlb.specs.Entries.{is_key, content_of};
+ghost use Rattle.std.specs.Prelude.{IfOk, false};
+ghost use Rattle.iom_tlb.specs.Content.{HasNothing};
+ghost use Rattle.iom_tlb.specs.Entries.{content_of};
 
 use crate::cover::Cover;
 use crate::entries;
@@ -46,28 +45,6 @@ impl PlainCache {
     }
 }
 
-// The one key that is covered, where the cover leaves nothing of it open.
-fn only_key(cover: &Cover) -> Option<(Space, u64)>
-    ensures { IfSome result (λ key. (other : Key) → covers cover.now other ≡ is_key key other) }
-{
-    match *cover {
-        Cover::First {
-            pscid: Some(pscid),
-            page: Some(page),
-        } => Some((Space::First { pscid }, page)),
-        Cover::Second {
-            gscid: Some(gscid),
-            page: Some(page),
-        } => Some((Space::Second { gscid }, page)),
-        Cover::Both {
-            gscid: Some(gscid),
-            pscid: Some(pscid),
-            page: Some(page),
-        } => Some((Space::Both { gscid, pscid }, page)),
-        Cover::First { .. } | Cover::Second { .. } | Cover::Both { .. } => None,
-    }
-}
-
 impl TransCache for PlainCache {
     const SURE: bool = false;
 
@@ -84,7 +61,7 @@ impl TransCache for PlainCache {
     }
 
     fn drop_where(&mut self, cover: &Cover) {
-        match only_key(cover) {
+        match cover.only_key() {
             Some(key) => entries::remove(&mut self.entries, key),
             None => entries::remove_covered(&mut self.entries, cover),
         }

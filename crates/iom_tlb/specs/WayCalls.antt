@@ -1,0 +1,52 @@
+-- What the calls of a set do to its ways, and what holds of them whatever calls were made.
+use Rattle.std.specs.Prelude.{◌≡◌, ◌≢◌, ◌⊎◌, ℕ, ◌+◌, ◌%◌, ◌<◌, Bool, true, List, length, get_or, set, if◌then◌else◌}
+use Rattle.iom_tlb.specs.declared.space.Space.{Space}
+use Rattle.iom_tlb.specs.declared.trans_cache.Translation.{Translation}
+use Rattle.iom_tlb.specs.Content.{Key}
+use Rattle.iom_tlb.specs.Ways.{Ways, no_ways, is_space, word_of}
+
+-- THE INVARIANT of a set: of its eight ways each is empty or has the word of an address space, and no two have one key
+pub record AreWays (ways : Ways) : Type 0 where
+  pub eight_spaces : length ways.spaces ≡ 8
+  pub eight_pages : length ways.pages ≡ 8
+  pub eight_translations : length ways.translations ≡ 8
+  pub counter : ways.next < 8
+  pub words : (way : ℕ) → get_or ways.spaces way 0 ≢ 0 → (space : Space) × (is_space space ≡ true) × (word_of space ≡ get_or ways.spaces way 0)
+  pub once : (a b : ℕ) → get_or ways.spaces a 0 ≢ 0 → get_or ways.spaces a 0 ≡ get_or ways.spaces b 0 → get_or ways.pages a 0 ≡ get_or ways.pages b 0 → a ≡ b
+
+-- each way that isn't empty has a page of the set of this number
+abbrev pub AreAtHome : ℕ → Ways → Type 0
+AreAtHome number ways = (way : ℕ) → get_or ways.spaces way 0 ≢ 0 → get_or ways.pages way 0 % 64 ≡ number
+
+-- THE INVARIANT of the cache: 64 sets, and each way's page is at home
+abbrev pub AreSets : List Ways → Type 0
+AreSets sets = (length sets ≡ 64) × ((number : ℕ) → AreAtHome number (get_or sets number no_ways))
+
+-- THE WAY that a new key takes: the lowest that is empty. Or none is, and it is the one at the counter, which goes on by one modulo 8
+abbrev pub TakesWay : List ℕ → ℕ → ℕ → ℕ → Type 0
+TakesWay spaces counter way next =
+    ((way < 8) × (get_or spaces way 0 ≡ 0) × ((lower : ℕ) → lower < way → get_or spaces lower 0 ≢ 0) × (next ≡ counter))
+    ⊎ (((other : ℕ) → other < 8 → get_or spaces other 0 ≢ 0) × (way ≡ counter) × (next ≡ (counter + 1) % 8))
+
+-- a way has the word and the page
+abbrev pub HasKey : Ways → ℕ → ℕ → ℕ → Type 0
+HasKey ways word page way = (get_or ways.spaces way 0 ≡ word) × (get_or ways.pages way 0 ≡ page)
+
+-- a way has the word, the page and the translation now
+abbrev pub with_way : Ways → ℕ → ℕ → ℕ → Translation → ℕ → Ways
+with_way ways way word page translation next =
+    record { spaces = set ways.spaces way word; pages = set ways.pages way page; translations = set ways.translations way translation; next = next }
+
+-- THE RELATION of a keep: the way that has the key takes the translation, and the counter stays. Or none has it, and it takes a way
+abbrev pub PutsWay : Ways → ℕ → ℕ → Translation → Ways → Type 0
+PutsWay old word page translation new =
+    (way : ℕ) × (next : ℕ)
+    × (((way < 8) × HasKey old word page way × (next ≡ old.next)) ⊎ (((other : ℕ) → HasKey old word page other → ⊥) × TakesWay old.spaces old.next way next))
+    × (new ≡ with_way old way word page translation next)
+
+-- ways are empty now: each whose key passes the test, and no other that had one
+pub record Empties (is_out : Key → Bool) (pages old new : List ℕ) : Type 0 where
+  pub as_many : length new ≡ length old
+  pub empty_or_same : (way : ℕ) → (get_or new way 0 ≡ 0) ⊎ (get_or new way 0 ≡ get_or old way 0)
+  pub tested : (way : ℕ) (space : Space) → is_space space ≡ true → get_or old way 0 ≡ word_of space
+      → get_or new way 0 ≡ (if is_out (space, get_or pages way 0) then 0 else word_of space)

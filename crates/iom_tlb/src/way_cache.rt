@@ -1,0 +1,129 @@
+ghost use Rattle.std.specs.Prelude.{◌≡◌, ◌<◌, ◌%◌, ℕ, true, IfOk, length, get_or};
+ghost use Rattle.iom_tlb.specs.Content.{Drops, HasNothing};
+ghost use Rattle.iom_tlb.specs.Covers.{covers};
+ghost use Rattle.iom_tlb.specs.Ways.{in_set, no_ways, content_of_sets};
+ghost use Rattle.iom_tlb.specs.WayCalls.{AreAtHome};
+
+use crate::cover::Cover;
+use crate::space::Space;
+use crate::trans_cache::{TransCache, Translation};
+use crate::way_set::WaySet;
+use std::alloc::{AllocError, Global};
+use std::marker::Model;
+
+/// Sets of a cache.
+const SETS: usize = 64;
+
+/// A cache of 64 sets of eight ways, seen as the list of its sets. A page is in the set of its number modulo 64.
+/// A new page takes the lowest empty way of its set. Where none is empty it takes the way at the counter of the
+/// set, which begins at 0 and then goes on by one modulo 8. Drops don't touch the counters.
+///
+/// It takes all its memory when it is made, so each keep keeps.
+#[derive(Drop)]
+pub struct WayCache {
+    sets: Vec<WaySet>,
+}
+
+impl Model for WayCache {
+    ghost use Rattle.std.specs.Prelude.{List};
+    ghost use Rattle.iom_tlb.specs.Ways.{Ways};
+    ghost use Rattle.iom_tlb.specs.WayCalls.{AreSets};
+
+    ghost Value = { List Ways };
+
+    ghost view = { λ cache. cache.sets.items };
+
+    ghost invariant = { λ cache. AreSets cache.sets.items };
+}
+
+/// The number of the set of a page.
+fn set_of(page: u64) -> usize
+    ensures { result ≡ page % 64 }
+{
+    (page % SETS as u64) as usize
+}
+
+/// Sets without translations, the counters at 0.
+fn new_sets(alloc: Global) -> Result<Vec<WaySet>, AllocError>
+    ensures as_many { IfOk result (λ sets. length sets.items ≡ 64) }
+    ensures nothing { IfOk result (λ sets. (number : ℕ)
+        → HasNothing (in_set (get_or sets.items number no_ways))) }
+    ensures home { IfOk result (λ sets. (number : ℕ)
+        → AreAtHome number (get_or sets.items number no_ways)) }
+    ensures counters { IfOk result (λ sets. (number : ℕ)
+        → (get_or sets.items number no_ways).next ≡ 0) }
+{
+    let mut sets = Vec::with_capacity(alloc, SETS)?;
+    for made in 0..SETS {
+        sets.push(WaySet::new())?;
+    }
+    Ok(sets)
+}
+
+/// Empties each way whose key is covered, in every set.
+fn drop_in_all(sets: &mut [WaySet], cover: &Cover)
+    ensures dropped { (number : ℕ) → number < length sets.old → Drops (covers cover.now)
+        (in_set (get_or sets.old number no_ways)) (in_set (get_or sets.new number no_ways)) }
+    ensures home { (number : ℕ) → AreAtHome number (get_or sets.old number no_ways)
+        → AreAtHome number (get_or sets.new number no_ways) }
+{
+    for number in 0..sets.len() {
+        let set = &mut sets[number];
+        set.drop_where(cover);
+    }
+}
+
+/// Empties all ways of all sets.
+fn empty_all(sets: &mut [WaySet])
+    ensures nothing { (number : ℕ) → HasNothing (in_set (get_or sets.new number no_ways)) }
+    ensures home { (number : ℕ) → AreAtHome number (get_or sets.new number no_ways) }
+{
+    for number in 0..sets.len() {
+        let set = &mut sets[number];
+        set.drop_all();
+    }
+}
+
+impl WayCache {
+    /// A cache that has nothing, with all the memory that it ever takes.
+    pub fn new(alloc: Global) -> Result<WayCache, AllocError>
+        ensures { IfOk result (λ cache. HasNothing (content_of_sets cache)) }
+    {
+        let sets = new_sets(alloc)?;
+        Ok(WayCache { sets })
+    }
+}
+
+impl TransCache for WayCache {
+    const SURE: bool = true;
+
+    ghost SURE = { true };
+
+    ghost content = { content_of_sets };
+
+    fn look(&mut self, space: Space, page: u64) -> Option<Translation> {
+        let set = &self.sets[set_of(page)];
+        set.look(space, page)
+    }
+
+    fn keep(&mut self, space: Space, page: u64, translation: Translation) {
+        let set = &mut self.sets[set_of(page)];
+        set.keep(space, page, translation);
+    }
+
+    fn drop_where(&mut self, cover: &Cover) {
+        if let Some((space, page)) = cover.only_key() {
+            let set = &mut self.sets[set_of(page)];
+            set.drop_key(space, page);
+        } else if let Some(page) = cover.only_page() {
+            let set = &mut self.sets[set_of(page)];
+            set.drop_where(cover);
+        } else {
+            drop_in_all(&mut self.sets, cover);
+        }
+    }
+
+    fn drop_all(&mut self) {
+        empty_all(&mut self.sets);
+    }
+}

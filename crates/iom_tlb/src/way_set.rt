@@ -1,0 +1,164 @@
+// A set of the cache: eight ways, side by side.
+ghost use Rattle.std.specs.Prelude.{◌≡◌, ◌<◌, ◌%◌, ℕ, true, false};
+ghost use Rattle.iom_tlb.specs.Content.{Sets, Drops, HasNothing};
+ghost use Rattle.iom_tlb.specs.Covers.{covers};
+ghost use Rattle.iom_tlb.specs.Entries.{is_key};
+ghost use Rattle.iom_tlb.specs.Ways.{is_space, word_of, in_set};
+ghost use Rattle.iom_tlb.specs.WayCalls.{AreAtHome, TakesWay, PutsWay, Empties};
+ghost use Rattle.iom_tlb.specs.declared.space.Space.{Space};
+
+use crate::cover::Cover;
+use crate::lanes::find_way;
+use crate::space::Space;
+use crate::trans_cache::Translation;
+use crate::words::{space_of, word_of};
+use iom_base::Rights;
+use std::marker::Model;
+
+/// Ways of a set.
+const WAYS: usize = 8;
+
+/// What stands in an empty way. Nothing reads it.
+const NO_TRANSLATION: Translation = Translation {
+    frame: 0,
+    rights: Rights::R,
+};
+
+/// Eight ways, each with a translation or empty. No two have the same page of the same address space.
+#[derive(Drop)]
+pub(crate) struct WaySet {
+    /// The words of the address spaces; 0 is an empty way.
+    spaces: [u64; WAYS],
+    pages: [u64; WAYS],
+    translations: [Translation; WAYS],
+    /// The way that a new key takes where none is empty.
+    next: usize,
+}
+
+impl Model for WaySet {
+    ghost use Rattle.iom_tlb.specs.Ways.{Ways};
+
+    ghost Value = { Ways };
+
+    ghost use Rattle.iom_tlb.specs.WayCalls.{AreWays};
+
+    ghost view = { λ s. record {
+      spaces = s.spaces;
+      pages = s.pages;
+      translations = s.translations;
+      next = s.next;
+    } };
+
+    ghost invariant = { λ s. AreWays (record {
+      spaces = s.spaces;
+      pages = s.pages;
+      translations = s.translations;
+      next = s.next;
+    }) };
+}
+
+/// The way that a new key takes: the lowest that is empty, else the one at the counter, which then goes on.
+fn take_way(spaces: &[u64; WAYS], next: &mut usize) -> usize
+    requires { next.old < 8 }
+    ensures { TakesWay spaces.now next.old result next.new }
+{
+    // An empty way is one whose word is 0.
+    if let Some(way) = find_way(spaces, spaces, 0, 0) {
+        return way;
+    }
+    let way = *next;
+    *next = (way + 1) % WAYS;
+    way
+}
+
+/// Whether the page of the address space with this word is covered. An empty way's isn't.
+fn is_covered(cover: &Cover, word: u64, page: u64) -> bool
+    ensures covered { (space : Space) → is_space space ≡ true → word_of space ≡ word
+        → result ≡ covers cover.now (space, page) }
+    ensures empty { word ≡ 0 → result ≡ false }
+{
+    match space_of(word) {
+        Some(space) => cover.covers(space, page),
+        None => false,
+    }
+}
+
+/// Empties each way whose key is covered.
+fn empty_covered(spaces: &mut [u64; WAYS], pages: &[u64; WAYS], cover: &Cover)
+    ensures { Empties (covers cover.now) pages.now spaces.old spaces.new }
+{
+    for way in 0..WAYS {
+        if is_covered(cover, spaces[way], pages[way]) {
+            spaces[way] = 0;
+        }
+    }
+}
+
+impl WaySet {
+    /// Eight empty ways, the lowest at the counter.
+    pub(crate) fn new() -> WaySet
+        ensures nothing { HasNothing (in_set result) }
+        ensures home { (number : ℕ) → AreAtHome number result }
+        ensures counter { result.next ≡ 0 }
+    {
+        WaySet {
+            spaces: [0; WAYS],
+            pages: [0; WAYS],
+            translations: [NO_TRANSLATION; WAYS],
+            next: 0,
+        }
+    }
+
+    /// The translation of a page of an address space, if a way has it.
+    pub(crate) fn look(&self, space: Space, page: u64) -> Option<Translation>
+        ensures { result ≡ in_set self.now (space, page) }
+    {
+        let way = find_way(&self.spaces, &self.pages, word_of(space), page)?;
+        Some(self.translations[way])
+    }
+
+    /// Keeps a translation in the way that has its page, or takes a way for it.
+    pub(crate) fn keep(&mut self, space: Space, page: u64, translation: Translation)
+        ensures kept { Sets (in_set self.old) (space, page) translation (in_set self.new) }
+        ensures put { PutsWay self.old (word_of space) page translation self.new }
+        ensures home { AreAtHome (page % 64) self.old → AreAtHome (page % 64) self.new }
+    {
+        let word = word_of(space);
+        let way = match find_way(&self.spaces, &self.pages, word, page) {
+            Some(way) => way,
+            None => take_way(&self.spaces, &mut self.next),
+        };
+        self.spaces[way] = word;
+        self.pages[way] = page;
+        self.translations[way] = translation;
+    }
+
+    /// Empties the way that has the page of the address space.
+    pub(crate) fn drop_key(&mut self, space: Space, page: u64)
+        ensures dropped { Drops (is_key (space, page)) (in_set self.old) (in_set self.new) }
+        ensures home { (number : ℕ) → AreAtHome number self.old → AreAtHome number self.new }
+        ensures counter { self.new.next ≡ self.old.next }
+    {
+        if let Some(way) = find_way(&self.spaces, &self.pages, word_of(space), page) {
+            self.spaces[way] = 0;
+        }
+    }
+
+    /// Empties each way whose key is covered.
+    pub(crate) fn drop_where(&mut self, cover: &Cover)
+        ensures dropped { Drops (covers cover.now) (in_set self.old) (in_set self.new) }
+        ensures home { (number : ℕ) → AreAtHome number self.old → AreAtHome number self.new }
+        ensures counter { self.new.next ≡ self.old.next }
+    {
+        empty_covered(&mut self.spaces, &self.pages, cover);
+    }
+
+    /// Empties all ways. The counter stays.
+    pub(crate) fn drop_all(&mut self)
+        ensures nothing { HasNothing (in_set self.new) }
+        ensures home { (number : ℕ) → AreAtHome number self.new }
+        ensures counter { self.new.next ≡ self.old.next }
+    {
+        self.spaces = [0; WAYS];
+    }
+}
