@@ -1,7 +1,7 @@
-use crate::caches::{keep, new_cache};
+use crate::caches::{keep, new_plain, new_ways};
 use iom_base::Rights;
 use iom_command_queue::{AtsRange, Command, DeviceNumber, PageNumber, Pscid};
-use iom_tlb::{Cover, PlainCache, Space, TransCache, Translation, invalidate};
+use iom_tlb::{Cover, Space, TransCache, Translation, invalidate};
 use std::alloc::Global;
 use std::process::Abort;
 
@@ -21,18 +21,16 @@ const TRANSLATION: Translation = Translation {
     rights: Rights::RW,
 };
 
-// A cache of pages 3 and 4 of each of the address spaces.
-fn filled(rt: &impl Abort, alloc: Global) -> PlainCache {
-    let mut cache = new_cache(rt, alloc);
+// Pages 3 and 4 of each of the address spaces.
+fn fill<C: TransCache>(cache: &mut C) {
     for space in SPACES {
-        keep(&mut cache, space, 3, TRANSLATION);
-        keep(&mut cache, space, 4, TRANSLATION);
+        keep(cache, space, 3, TRANSLATION);
+        keep(cache, space, 4, TRANSLATION);
     }
-    cache
 }
 
 // Which of the address spaces have the page: 1 for each that has.
-fn has(rt: &impl Abort, cache: &mut PlainCache, page: u64, want: [u8; 7]) {
+fn has<C: TransCache>(rt: &impl Abort, cache: &mut C, page: u64, want: [u8; 7]) {
     for at in 0..7 {
         let found = cache.look(SPACES[at], page);
         let stays = want[at] == 1;
@@ -44,12 +42,26 @@ fn has(rt: &impl Abort, cache: &mut PlainCache, page: u64, want: [u8; 7]) {
     }
 }
 
-// What a command leaves of pages 3 and 4.
+// What a command leaves of pages 3 and 4 in a cache that was empty.
+fn leaves_in<C: TransCache>(
+    rt: &impl Abort,
+    cache: &mut C,
+    command: &Command,
+    page_3: [u8; 7],
+    page_4: [u8; 7],
+) {
+    fill(cache);
+    invalidate(cache, command);
+    has(rt, cache, 3, page_3);
+    has(rt, cache, 4, page_4);
+}
+
+// The same in either cache.
 fn leaves(rt: &impl Abort, alloc: Global, command: Command, page_3: [u8; 7], page_4: [u8; 7]) {
-    let mut cache = filled(rt, alloc);
-    invalidate(&mut cache, &command);
-    has(rt, &mut cache, 3, page_3);
-    has(rt, &mut cache, 4, page_4);
+    let mut plain = new_plain(rt, alloc);
+    leaves_in(rt, &mut plain, &command, page_3, page_4);
+    let mut ways = new_ways(rt, alloc);
+    leaves_in(rt, &mut ways, &command, page_3, page_4);
 }
 
 fn vma(gscid: Option<u16>, pscid: Option<u32>, page: Option<u64>) -> Command {
@@ -124,16 +136,23 @@ fn other_commands_take_out_nothing(rt: HostRuntime) {
     }
 }
 
-// A cover of a space's kind, with nothing named, takes out that kind.
-#[test]
-fn a_cover_is_of_one_kind(rt: HostRuntime) {
-    let mut cache = filled(&rt, rt.alloc());
+fn takes_out_one_kind<C: TransCache>(rt: &impl Abort, cache: &mut C) {
+    fill(cache);
     let second = Cover::Second {
         gscid: None,
         page: None,
     };
     assert!(rt; second.covers(Space::Second { gscid: 9 }, 9));
     cache.drop_where(&second);
-    has(&rt, &mut cache, 3, [1, 1, 0, 0, 1, 1, 1]);
-    has(&rt, &mut cache, 4, [1, 1, 0, 0, 1, 1, 1]);
+    has(rt, cache, 3, [1, 1, 0, 0, 1, 1, 1]);
+    has(rt, cache, 4, [1, 1, 0, 0, 1, 1, 1]);
+}
+
+// A cover of a space's kind, with nothing named, takes out that kind.
+#[test]
+fn a_cover_is_of_one_kind(rt: HostRuntime) {
+    let mut plain = new_plain(&rt, rt.alloc());
+    takes_out_one_kind(&rt, &mut plain);
+    let mut ways = new_ways(&rt, rt.alloc());
+    takes_out_one_kind(&rt, &mut ways);
 }

@@ -1,4 +1,4 @@
-use crate::caches::{keep, new_cache};
+use crate::caches::{keep, new_plain, new_ways};
 use crate::one_translation::OneTranslation;
 use iom_base::Rights;
 use iom_tlb::{PlainCache, Space, TransCache, Translation};
@@ -33,7 +33,7 @@ fn finds_nothing<C: TransCache>(rt: &impl Abort, cache: &mut C, page: u32) {
 
 // A cache of the pages 0 to 63, kept in this order.
 fn full_cache(rt: &impl Abort, alloc: Global) -> PlainCache {
-    let mut cache = new_cache(rt, alloc);
+    let mut cache = new_plain(rt, alloc);
     for page in 0..64 {
         keep_page(&mut cache, page);
     }
@@ -99,8 +99,10 @@ fn keeps_and_drops<C: TransCache>(rt: &impl Abort, cache: &mut C) {
 
 #[test]
 fn each_cache_keeps_and_drops(rt: HostRuntime) {
-    let mut plain = new_cache(&rt, rt.alloc());
+    let mut plain = new_plain(&rt, rt.alloc());
     keeps_and_drops(&rt, &mut plain);
+    let mut ways = new_ways(&rt, rt.alloc());
+    keeps_and_drops(&rt, &mut ways);
     let mut one = OneTranslation::new();
     keeps_and_drops(&rt, &mut one);
 }
