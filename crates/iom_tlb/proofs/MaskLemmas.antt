@@ -10,6 +10,7 @@ use Rattle.std.proofs.lemmas.Simd.{get_or-zip2, trailing_mask_l, length-zip2, bi
 use Rattle.std.proofs.lemmas.List.Sums.{prefix_len_passes, prefix_len_stops}
 use lib.Count.{count_trailing_zeros}
 use Rattle.std.proofs.Math.Nat.{zero-div}
+use Rattle.iom_tlb.proofs.KeyLemmas.{both}
 
 step : (a b x y : ℕ) → x < 2 → y < 2 → bit_and (x + 2 * a) (y + 2 * b) ≡ bit_and x y + 2 * bit_and a b
 step a b x y lx ly =
@@ -50,10 +51,6 @@ some_set [] h = absurd (omega (arith, h))
 some_set (true ∷ ms) h = omega arith
 some_set (false ∷ ms) h = omega (arith, some_set ms (omega (arith, h)))
 
-both_true : (x y : Bool) → x && y ≡ true → (x ≡ true) × (y ≡ true)
-both_true true y e = (refl, e)
-both_true false y e = absurd (cc)
-
 both_same : (s p : ℕ) → (s == s) && (p == p) ≡ true
 both_same s p = rw (eq-eqb s s refl, eq-eqb p p refl) refl
 
@@ -86,7 +83,7 @@ lowest_way ss ps s p m ls lp e pos =
     let w : count_trailing_zeros 64 m ≡ prefix_len (λ b. not b) ms = rw is (lowest_set ms (omega (arith, lm)) some) in
     let within : prefix_len (λ b. not b) ms < 8 = omega (arith, lm, some_set ms some) in
     let at = prefix_len_stops (λ b. not b) ms false (some_set ms some) in
-    let set = both_true _ _ (sym (lane ss ps s p (prefix_len (λ b. not b) ms) ls lp within) ∙ not_false _ at) in
+    let set = both _ _ (sym (lane ss ps s p (prefix_len (λ b. not b) ms) ls lp within) ∙ not_false _ at) in
     rw w (
       (within, eqb-true _ _ set.0, eqb-true _ _ set.1),
       (λ k lt a b. let h = prefix_len_passes (λ b. not b) ms k false lt in
