@@ -5,7 +5,7 @@ use Rattle.std.proofs.lemmas.List.{get_or-set_other, get_or_past, length-set}
 use Rattle.std.proofs.lemmas.Grind.{get_or-set_at}
 use Rattle.iom_tlb.specs.declared.space.Space.{Space}
 use Rattle.iom_tlb.specs.Content.{Key}
-use Rattle.iom_tlb.specs.Ways.{is_space, word_of}
+use Rattle.iom_tlb.specs.Ways.{is_space, space_word}
 use Rattle.iom_tlb.specs.WayCalls.{Empties}
 use Rattle.iom_tlb.proofs.WordLemmas.{no_word}
 
@@ -14,8 +14,8 @@ pub record EmptiesBelow (n : ℕ) (is_out : Key → Bool) (pages old new : List 
   pub as_many : length new ≡ length old
   pub rest : (way : ℕ) → n ≤ way → get_or new way 0 ≡ get_or old way 0
   pub empty_or_same : (way : ℕ) → (get_or new way 0 ≡ 0) ⊎ (get_or new way 0 ≡ get_or old way 0)
-  pub tested : (way : ℕ) (space : Space) → way < n → is_space space ≡ true → get_or old way 0 ≡ word_of space
-      → get_or new way 0 ≡ cond (is_out (space, get_or pages way 0)) 0 (word_of space)
+  pub tested : (way : ℕ) (space : Space) → way < n → is_space space ≡ true → get_or old way 0 ≡ space_word space
+      → get_or new way 0 ≡ cond (is_out (space, get_or pages way 0)) 0 (space_word space)
 
 module _ (is_out : Key → Bool) (pages old : List ℕ) where
   pub none_yet : EmptiesBelow 0 is_out pages old old
@@ -27,12 +27,12 @@ module _ (is_out : Key → Bool) (pages old : List ℕ) where
     empty_or_same = so_far.empty_or_same;
     tested = λ way space own e. so_far.tested way space (within way space e) own e;
   } where
-    within : (way : ℕ) (space : Space) → get_or old way 0 ≡ word_of space → way < length old
+    within : (way : ℕ) (space : Space) → get_or old way 0 ≡ space_word space → way < length old
     within way space e = omega (arith, λ (out : length old ≤ way). no_word space (sym e ∙ get_or_past old way 0 out))
 
   module _ (n : ℕ) (new : List ℕ) (so_far : EmptiesBelow n is_out pages old new) where
     -- a way that passes is emptied
-    pub one_out : n < length old → ((space : Space) → is_space space ≡ true → word_of space ≡ get_or new n 0 → is_out (space, get_or pages n 0) ≡ true)
+    pub one_out : n < length old → ((space : Space) → is_space space ≡ true → space_word space ≡ get_or new n 0 → is_out (space, get_or pages n 0) ≡ true)
         → EmptiesBelow (n + 1) is_out pages old (set new n 0)
     one_out lt out = record {
       as_many = length-set new n 0 ∙ so_far.as_many;
@@ -45,31 +45,31 @@ module _ (is_out : Key → Bool) (pages old : List ℕ) where
         ]
       ];
       tested = λ way space less own e. elim (eqb_tells way n) [
-        | inl same ↦ there way same.1 ∙ sym (ap (λ b. cond b 0 (word_of space)) (passes way space same.1 own e))
+        | inl same ↦ there way same.1 ∙ sym (ap (λ b. cond b 0 (space_word space)) (passes way space same.1 own e))
         | inr ne ↦ get_or-set_other new n way 0 0 ne.1 ∙ so_far.tested way space (omega (arith, ne.1)) own e
       ];
     } where
       there : (way : ℕ) → way ≡ n → get_or (set new n 0) way 0 ≡ 0
       there way e = let many = so_far.as_many in get_or-set_at new n way 0 0 e (omega arith)
 
-      passes : (way : ℕ) (space : Space) → way ≡ n → is_space space ≡ true → get_or old way 0 ≡ word_of space → is_out (space, get_or pages way 0) ≡ true
+      passes : (way : ℕ) (space : Space) → way ≡ n → is_space space ≡ true → get_or old way 0 ≡ space_word space → is_out (space, get_or pages way 0) ≡ true
       passes way space same own e =
           ap (λ k. is_out (space, get_or pages k 0)) same
           ∙ out space own (sym e ∙ ap (λ k. get_or old k 0) same ∙ sym (so_far.rest n (omega arith)))
 
     -- a way that doesn't stays
-    pub one_in : ((space : Space) → is_space space ≡ true → word_of space ≡ get_or new n 0 → is_out (space, get_or pages n 0) ≡ false)
+    pub one_in : ((space : Space) → is_space space ≡ true → space_word space ≡ get_or new n 0 → is_out (space, get_or pages n 0) ≡ false)
         → EmptiesBelow (n + 1) is_out pages old new
     one_in stays = record {
       as_many = so_far.as_many;
       rest = λ way le. so_far.rest way (omega arith);
       empty_or_same = so_far.empty_or_same;
       tested = λ way space less own e. elim (eqb_tells way n) [
-        | inl same ↦ so_far.rest way (omega (arith, same.1)) ∙ e ∙ sym (ap (λ b. cond b 0 (word_of space)) (fails way space same.1 own e))
+        | inl same ↦ so_far.rest way (omega (arith, same.1)) ∙ e ∙ sym (ap (λ b. cond b 0 (space_word space)) (fails way space same.1 own e))
         | inr ne ↦ so_far.tested way space (omega (arith, ne.1)) own e
       ];
     } where
-      fails : (way : ℕ) (space : Space) → way ≡ n → is_space space ≡ true → get_or old way 0 ≡ word_of space → is_out (space, get_or pages way 0) ≡ false
+      fails : (way : ℕ) (space : Space) → way ≡ n → is_space space ≡ true → get_or old way 0 ≡ space_word space → is_out (space, get_or pages way 0) ≡ false
       fails way space same own e =
           ap (λ k. is_out (space, get_or pages k 0)) same
           ∙ stays space own (sym e ∙ ap (λ k. get_or old k 0) same ∙ sym (so_far.rest n (omega arith)))

@@ -7,7 +7,7 @@ use Rattle.iom_tlb.specs.declared.space.Space.{Space}
 use Rattle.iom_tlb.specs.declared.trans_cache.Translation.{Translation}
 use Rattle.iom_tlb.specs.Content.{Key, Sets, Drops}
 use Rattle.iom_tlb.specs.Entries.{is_key}
-use Rattle.iom_tlb.specs.Ways.{Ways, is_space, word_of, in_ways, in_set}
+use Rattle.iom_tlb.specs.Ways.{Ways, is_space, space_word, in_ways, in_set}
 use Rattle.iom_tlb.specs.WayCalls.{AreWays, AreAtHome, HasKey, with_way, PutsWay, Empties}
 use Rattle.iom_tlb.proofs.KeyLemmas.{key_laws, one_key, apart_keys}
 use Rattle.iom_tlb.proofs.WordLemmas.{no_word, one_word}
@@ -42,96 +42,96 @@ has_or_not ways word page way = elim (eqb_tells (get_or ways.spaces way 0) word)
 
 module _ (ways : Ways) (facts : AreWays ways) where
   -- the lowest way that has the key answers
-  pub looked : (key : Key) (way : ℕ) (d : Translation) → is_space key.0 ≡ true → way < 8 → HasKey ways (word_of key.0) key.1 way
-      → ((k : ℕ) → k < way → get_or ways.spaces k 0 ≡ word_of key.0 → get_or ways.pages k 0 ≢ key.1)
+  pub looked : (key : Key) (way : ℕ) (d : Translation) → is_space key.0 ≡ true → way < 8 → HasKey ways (space_word key.0) key.1 way
+      → ((k : ℕ) → k < way → get_or ways.spaces k 0 ≡ space_word key.0 → get_or ways.pages k 0 ≢ key.1)
       → in_set ways key ≡ Some (get_or ways.translations way d)
   looked key way d fits lt has low =
       let eight = facts.eight_spaces in
       let pages = facts.eight_pages in
       let translations = facts.eight_translations in
-      ap (λ b. cond b (in_ways ways.spaces ways.pages ways.translations (word_of key.0) key.1) None) fits
-      ∙ found_at (word_of key.0) key.1 ways.spaces ways.pages ways.translations way d (omega arith) (omega arith) (omega arith) has.0 has.1 low
+      ap (λ b. cond b (in_ways ways.spaces ways.pages ways.translations (space_word key.0) key.1) None) fits
+      ∙ found_at (space_word key.0) key.1 ways.spaces ways.pages ways.translations way d (omega arith) (omega arith) (omega arith) has.0 has.1 low
 
   -- a way that has a key is one of the eight
-  within : (space : Space) (k : ℕ) → get_or ways.spaces k 0 ≡ word_of space → ((k < 8) → ⊥) → ⊥
+  within : (space : Space) (k : ℕ) → get_or ways.spaces k 0 ≡ space_word space → ((k < 8) → ⊥) → ⊥
   within space k e out = let eight = facts.eight_spaces in no_word space (sym e ∙ get_or_past ways.spaces k 0 (omega (arith, out)))
 
-  pub none_has : (key : Key) → ((k : ℕ) → k < 8 → get_or ways.spaces k 0 ≡ word_of key.0 → get_or ways.pages k 0 ≢ key.1)
-      → (k : ℕ) → get_or ways.spaces k 0 ≡ word_of key.0 → get_or ways.pages k 0 ≢ key.1
+  pub none_has : (key : Key) → ((k : ℕ) → k < 8 → get_or ways.spaces k 0 ≡ space_word key.0 → get_or ways.pages k 0 ≢ key.1)
+      → (k : ℕ) → get_or ways.spaces k 0 ≡ space_word key.0 → get_or ways.pages k 0 ≢ key.1
   none_has key none k e = λ f. within key.0 k e (λ lt. none k lt e f)
 
   -- where no way has it there is nothing
-  pub missed : (key : Key) → ((k : ℕ) → k < 8 → get_or ways.spaces k 0 ≡ word_of key.0 → get_or ways.pages k 0 ≢ key.1) → in_set ways key ≡ None
+  pub missed : (key : Key) → ((k : ℕ) → k < 8 → get_or ways.spaces k 0 ≡ space_word key.0 → get_or ways.pages k 0 ≢ key.1) → in_set ways key ≡ None
   missed key none =
-      guarded (is_space key.0) _ (λ own. none_at (word_of key.0) key.1 ways.spaces ways.pages ways.translations (none_has key none))
+      guarded (is_space key.0) _ (λ own. none_at (space_word key.0) key.1 ways.spaces ways.pages ways.translations (none_has key none))
 
   -- no other way has it
-  pub only_this : (key : Key) (way : ℕ) → HasKey ways (word_of key.0) key.1 way → (k : ℕ) → HasKey ways (word_of key.0) key.1 k → k ≡ way
+  pub only_this : (key : Key) (way : ℕ) → HasKey ways (space_word key.0) key.1 way → (k : ℕ) → HasKey ways (space_word key.0) key.1 k → k ≡ way
   only_this key way has k other = facts.once k way (λ z. no_word key.0 (sym other.0 ∙ z)) (other.0 ∙ sym has.0) (other.1 ∙ sym has.1)
 
-  module _ (at : Key) (fits : is_space at.0 ≡ true) (way : ℕ) (lt : way < 8) (t : Translation) (next : ℕ) (only : (k : ℕ) → HasKey ways (word_of at.0) at.1 k → k ≡ way) where
-    space_there : (k : ℕ) → k ≡ way → get_or (set ways.spaces way (word_of at.0)) k 0 ≡ word_of at.0
-    space_there k e = let eight = facts.eight_spaces in get_or-set_at ways.spaces way k (word_of at.0) 0 e (omega arith)
+  module _ (at : Key) (fits : is_space at.0 ≡ true) (way : ℕ) (lt : way < 8) (t : Translation) (next : ℕ) (only : (k : ℕ) → HasKey ways (space_word at.0) at.1 k → k ≡ way) where
+    space_there : (k : ℕ) → k ≡ way → get_or (set ways.spaces way (space_word at.0)) k 0 ≡ space_word at.0
+    space_there k e = let eight = facts.eight_spaces in get_or-set_at ways.spaces way k (space_word at.0) 0 e (omega arith)
 
     page_there : (k : ℕ) → k ≡ way → get_or (set ways.pages way at.1) k 0 ≡ at.1
     page_there k e = let eight = facts.eight_pages in get_or-set_at ways.pages way k at.1 0 e (omega arith)
 
-    space_else : (k : ℕ) → k ≢ way → get_or (set ways.spaces way (word_of at.0)) k 0 ≡ get_or ways.spaces k 0
-    space_else k ne = get_or-set_other ways.spaces way k (word_of at.0) 0 ne
+    space_else : (k : ℕ) → k ≢ way → get_or (set ways.spaces way (space_word at.0)) k 0 ≡ get_or ways.spaces k 0
+    space_else k ne = get_or-set_other ways.spaces way k (space_word at.0) 0 ne
 
     page_else : (k : ℕ) → k ≢ way → get_or (set ways.pages way at.1) k 0 ≡ get_or ways.pages k 0
     page_else k ne = get_or-set_other ways.pages way k at.1 0 ne
 
-    not_below : (k : ℕ) → k < way → get_or (set ways.spaces way (word_of at.0)) k 0 ≡ word_of at.0 → get_or (set ways.pages way at.1) k 0 ≢ at.1
+    not_below : (k : ℕ) → k < way → get_or (set ways.spaces way (space_word at.0)) k 0 ≡ space_word at.0 → get_or (set ways.pages way at.1) k 0 ≢ at.1
     not_below k less e = λ f.
         let ne : k ≢ way = omega arith in
         ne (only k (sym (space_else k ne) ∙ e, sym (page_else k ne) ∙ f))
 
-    kept : in_set (with_way ways way (word_of at.0) at.1 t next) at ≡ Some t
+    kept : in_set (with_way ways way (space_word at.0) at.1 t next) at ≡ Some t
     kept =
         let eight = facts.eight_spaces in
         let pages = facts.eight_pages in
         let translations = facts.eight_translations in
-        let a = length-set ways.spaces way (word_of at.0) in
+        let a = length-set ways.spaces way (space_word at.0) in
         let b = length-set ways.pages way at.1 in
         let c = length-set ways.translations way t in
-        ap (λ b. cond b (in_ways (set ways.spaces way (word_of at.0)) (set ways.pages way at.1) (set ways.translations way t) (word_of at.0) at.1) None) fits
-        ∙ found_at (word_of at.0) at.1 (set ways.spaces way (word_of at.0)) (set ways.pages way at.1) (set ways.translations way t) way t
+        ap (λ b. cond b (in_ways (set ways.spaces way (space_word at.0)) (set ways.pages way at.1) (set ways.translations way t) (space_word at.0) at.1) None) fits
+        ∙ found_at (space_word at.0) at.1 (set ways.spaces way (space_word at.0)) (set ways.pages way at.1) (set ways.translations way t) way t
         (omega arith) (omega arith) (omega arith) (space_there way refl) (page_there way refl) not_below
         ∙ ap Some (get_or-set_at ways.translations way way t t refl (omega arith))
 
     -- another key, whose old way it is
     module _ (key : Key) (apart : key ≢ at) where
-      differs : is_space key.0 ≡ true → word_of at.0 ≡ word_of key.0 → at.1 ≢ key.1
+      differs : is_space key.0 ≡ true → space_word at.0 ≡ space_word key.0 → at.1 ≢ key.1
       differs own e = λ f. apart (same_key key at (one_word key.0 at.0 own fits (sym e)) (sym f))
 
-      gone_at : is_space key.0 ≡ true → HasKey ways (word_of key.0) key.1 way
-          → (k : ℕ) → get_or (set ways.spaces way (word_of at.0)) k 0 ≡ word_of key.0 → get_or (set ways.pages way at.1) k 0 ≢ key.1
+      gone_at : is_space key.0 ≡ true → HasKey ways (space_word key.0) key.1 way
+          → (k : ℕ) → get_or (set ways.spaces way (space_word at.0)) k 0 ≡ space_word key.0 → get_or (set ways.pages way at.1) k 0 ≢ key.1
       gone_at own has k e = λ f. elim (eqb_tells k way) [
         | inl same ↦ differs own (sym (space_there k same.1) ∙ e) (sym (page_there k same.1) ∙ f)
         | inr ne ↦ ne.1 (only_this key way has k (sym (space_else k ne.1) ∙ e, sym (page_else k ne.1) ∙ f))
       ]
 
-      stays : (is_space key.0 ≡ true → get_or ways.spaces way 0 ≡ word_of key.0 → get_or ways.pages way 0 ≢ key.1)
-          → in_set (with_way ways way (word_of at.0) at.1 t next) key ≡ in_set ways key
+      stays : (is_space key.0 ≡ true → get_or ways.spaces way 0 ≡ space_word key.0 → get_or ways.pages way 0 ≢ key.1)
+          → in_set (with_way ways way (space_word at.0) at.1 t next) key ≡ in_set ways key
       stays hasnt = guarded_same (is_space key.0) _ _ (λ own.
-          put_other (word_of key.0) key.1 ways.spaces ways.pages ways.translations way (word_of at.0) at.1 t (differs own) (hasnt own))
+          put_other (space_word key.0) key.1 ways.spaces ways.pages ways.translations way (space_word at.0) at.1 t (differs own) (hasnt own))
 
-      gone : is_space key.0 ≡ true → HasKey ways (word_of key.0) key.1 way → in_set (with_way ways way (word_of at.0) at.1 t next) key ≡ None
-      gone own has = guarded (is_space key.0) _ (λ own. none_at (word_of key.0) key.1 (set ways.spaces way (word_of at.0)) (set ways.pages way at.1) (set ways.translations way t) (gone_at own has))
+      gone : is_space key.0 ≡ true → HasKey ways (space_word key.0) key.1 way → in_set (with_way ways way (space_word at.0) at.1 t next) key ≡ None
+      gone own has = guarded (is_space key.0) _ (λ own. none_at (space_word key.0) key.1 (set ways.spaces way (space_word at.0)) (set ways.pages way at.1) (set ways.translations way t) (gone_at own has))
 
-      either : (out : Key) → (is_space key.0 ≡ true → HasKey ways (word_of key.0) key.1 way → key ≡ out) → (b : Bool) → is_space key.0 ≡ b
-          → (in_set (with_way ways way (word_of at.0) at.1 t next) key ≡ in_set ways key)
-          ⊎ ((key ≡ out) × (in_set (with_way ways way (word_of at.0) at.1 t next) key ≡ None))
-      either out is_out true own = elim (has_or_not ways (word_of key.0) key.1 way) [
+      either : (out : Key) → (is_space key.0 ≡ true → HasKey ways (space_word key.0) key.1 way → key ≡ out) → (b : Bool) → is_space key.0 ≡ b
+          → (in_set (with_way ways way (space_word at.0) at.1 t next) key ≡ in_set ways key)
+          ⊎ ((key ≡ out) × (in_set (with_way ways way (space_word at.0) at.1 t next) key ≡ None))
+      either out is_out true own = elim (has_or_not ways (space_word key.0) key.1 way) [
         | inl has ↦ inr (is_out own has, gone own has)
         | inr hasnt ↦ inl (stays (λ own. hasnt))
       ]
       either out is_out false own = inl (stays (λ true_too. absurd (cc)))
 
     Others : Key → Type 0
-    Others out = (key : Key) → key ≢ at → (in_set (with_way ways way (word_of at.0) at.1 t next) key ≡ in_set ways key)
-        ⊎ ((key ≡ out) × (in_set (with_way ways way (word_of at.0) at.1 t next) key ≡ None))
+    Others out = (key : Key) → key ≢ at → (in_set (with_way ways way (space_word at.0) at.1 t next) key ≡ in_set ways key)
+        ⊎ ((key ≡ out) × (in_set (with_way ways way (space_word at.0) at.1 t next) key ≡ None))
 
     others : (out : Key) × Others out
     unfolding Others
@@ -146,12 +146,12 @@ module _ (ways : Ways) (facts : AreWays ways) where
     ]
 
     -- what a keep does to the content
-    pub sets : Sets (in_set ways) at t (in_set (with_way ways way (word_of at.0) at.1 t next))
+    pub sets : Sets (in_set ways) at t (in_set (with_way ways way (space_word at.0) at.1 t next))
     unfolding Others
     sets = record { kept = kept; others = others }
 
-    once_still : (a b : ℕ) → get_or (set ways.spaces way (word_of at.0)) a 0 ≢ 0
-        → get_or (set ways.spaces way (word_of at.0)) a 0 ≡ get_or (set ways.spaces way (word_of at.0)) b 0
+    once_still : (a b : ℕ) → get_or (set ways.spaces way (space_word at.0)) a 0 ≢ 0
+        → get_or (set ways.spaces way (space_word at.0)) a 0 ≡ get_or (set ways.spaces way (space_word at.0)) b 0
         → get_or (set ways.pages way at.1) a 0 ≡ get_or (set ways.pages way at.1) b 0 → a ≡ b
     once_still a b there e f = elim (eqb_tells a way) [
       | inl x ↦ elim (eqb_tells b way) [
@@ -164,17 +164,17 @@ module _ (ways : Ways) (facts : AreWays ways) where
       ]
     ]
 
-    words_still : (k : ℕ) → get_or (set ways.spaces way (word_of at.0)) k 0 ≢ 0
-        → (space : Space) × (is_space space ≡ true) × (word_of space ≡ get_or (set ways.spaces way (word_of at.0)) k 0)
+    words_still : (k : ℕ) → get_or (set ways.spaces way (space_word at.0)) k 0 ≢ 0
+        → (space : Space) × (is_space space ≡ true) × (space_word space ≡ get_or (set ways.spaces way (space_word at.0)) k 0)
     words_still k there = elim (eqb_tells k way) [
       | inl same ↦ (at.0, fits, sym (space_there k same.1))
       | inr ne ↦ let word = facts.words k (λ z. there (space_else k ne.1 ∙ z)) in (word.0, word.1, word.2 ∙ sym (space_else k ne.1))
     ]
 
     -- and the invariant stays true
-    pub are_ways : next < 8 → AreWays (with_way ways way (word_of at.0) at.1 t next)
+    pub are_ways : next < 8 → AreWays (with_way ways way (space_word at.0) at.1 t next)
     are_ways counter = record {
-      eight_spaces = length-set ways.spaces way (word_of at.0) ∙ facts.eight_spaces;
+      eight_spaces = length-set ways.spaces way (space_word at.0) ∙ facts.eight_spaces;
       eight_pages = length-set ways.pages way at.1 ∙ facts.eight_pages;
       eight_translations = length-set ways.translations way t ∙ facts.eight_translations;
       counter = counter;
@@ -183,7 +183,7 @@ module _ (ways : Ways) (facts : AreWays ways) where
     }
 
   -- the way of one key, emptied
-  pub empties_one : (at : Key) (way : ℕ) → is_space at.0 ≡ true → way < 8 → HasKey ways (word_of at.0) at.1 way
+  pub empties_one : (at : Key) (way : ℕ) → is_space at.0 ≡ true → way < 8 → HasKey ways (space_word at.0) at.1 way
       → Empties (is_key at) ways.pages ways.spaces (set ways.spaces way 0)
   empties_one at way fits lt has = record {
     as_many = length-set ways.spaces way 0;
@@ -192,46 +192,46 @@ module _ (ways : Ways) (facts : AreWays ways) where
       | inr ne ↦ inr (get_or-set_other ways.spaces way k 0 0 ne.1)
     ];
     tested = λ k space own e. elim (eqb_tells k way) [
-      | inl same ↦ there k same.1 ∙ sym (ap (λ b. cond b 0 (word_of space)) (is_it k space own e same.1))
-      | inr ne ↦ get_or-set_other ways.spaces way k 0 0 ne.1 ∙ e ∙ sym (ap (λ b. cond b 0 (word_of space)) (is_not k space e ne.1))
+      | inl same ↦ there k same.1 ∙ sym (ap (λ b. cond b 0 (space_word space)) (is_it k space own e same.1))
+      | inr ne ↦ get_or-set_other ways.spaces way k 0 0 ne.1 ∙ e ∙ sym (ap (λ b. cond b 0 (space_word space)) (is_not k space e ne.1))
     ];
   } where
     there : (k : ℕ) → k ≡ way → get_or (set ways.spaces way 0) k 0 ≡ 0
     there k e = let eight = facts.eight_spaces in get_or-set_at ways.spaces way k 0 0 e (omega arith)
 
-    is_it : (k : ℕ) (space : Space) → is_space space ≡ true → get_or ways.spaces k 0 ≡ word_of space → k ≡ way → is_key at (space, get_or ways.pages k 0) ≡ true
+    is_it : (k : ℕ) (space : Space) → is_space space ≡ true → get_or ways.spaces k 0 ≡ space_word space → k ≡ way → is_key at (space, get_or ways.pages k 0) ≡ true
     is_it k space own e same =
         let one = same_key at (space, get_or ways.pages k 0) (one_word at.0 space fits own (sym has.0 ∙ ap (λ j. get_or ways.spaces j 0) (sym same) ∙ e)) (sym has.1 ∙ ap (λ j. get_or ways.pages j 0) (sym same)) in
         ap (is_key at) (sym one) ∙ key_laws.refl at
 
-    is_not : (k : ℕ) (space : Space) → get_or ways.spaces k 0 ≡ word_of space → k ≢ way → is_key at (space, get_or ways.pages k 0) ≡ false
+    is_not : (k : ℕ) (space : Space) → get_or ways.spaces k 0 ≡ space_word space → k ≢ way → is_key at (space, get_or ways.pages k 0) ≡ false
     is_not k space e ne = apart_keys at (space, get_or ways.pages k 0) (λ same.
-        ne (only_this at way has k (e ∙ ap (λ (x : Key). word_of x.0) (sym same), ap (λ (x : Key). x.1) (sym same))))
+        ne (only_this at way has k (e ∙ ap (λ (x : Key). space_word x.0) (sym same), ap (λ (x : Key). x.1) (sym same))))
 
 module _ (ways : Ways) (facts : AreWays ways) (is_out : Key → Bool) (new : List ℕ) (empties : Empties is_out ways.pages ways.spaces new) where
   same_test : (key : Key) (k : ℕ) → get_or ways.pages k 0 ≡ key.1 → is_out (key.0, get_or ways.pages k 0) ≡ is_out key
   same_test key k f = ap (λ n. is_out (key.0, n)) f
 
-  none_left : (key : Key) → is_space key.0 ≡ true → is_out key ≡ true → (k : ℕ) → get_or new k 0 ≡ word_of key.0 → get_or ways.pages k 0 ≢ key.1
+  none_left : (key : Key) → is_space key.0 ≡ true → is_out key ≡ true → (k : ℕ) → get_or new k 0 ≡ space_word key.0 → get_or ways.pages k 0 ≢ key.1
   none_left key own out k e = λ f. elim (empties.empty_or_same k) [
     | inl z ↦ no_word key.0 (sym e ∙ z)
-    | inr s ↦ no_word key.0 (sym e ∙ empties.tested k key.0 own (sym s ∙ e) ∙ ap (λ b. cond b 0 (word_of key.0)) (same_test key k f ∙ out))
+    | inr s ↦ no_word key.0 (sym e ∙ empties.tested k key.0 own (sym s ∙ e) ∙ ap (λ b. cond b 0 (space_word key.0)) (same_test key k f ∙ out))
   ]
 
   all_left : (key : Key) → is_space key.0 ≡ true → is_out key ≡ false
-      → in_ways new ways.pages ways.translations (word_of key.0) key.1 ≡ in_ways ways.spaces ways.pages ways.translations (word_of key.0) key.1
-  all_left key own out = same_ways (word_of key.0) key.1 new ways.spaces ways.pages ways.translations empties.as_many (λ k f. (
+      → in_ways new ways.pages ways.translations (space_word key.0) key.1 ≡ in_ways ways.spaces ways.pages ways.translations (space_word key.0) key.1
+  all_left key own out = same_ways (space_word key.0) key.1 new ways.spaces ways.pages ways.translations empties.as_many (λ k f. (
     (λ e. elim (empties.empty_or_same k) [
       | inl z ↦ absurd (no_word key.0 (sym e ∙ z))
       | inr s ↦ sym s ∙ e
     ]),
-    (λ e. empties.tested k key.0 own e ∙ ap (λ b. cond b 0 (word_of key.0)) (same_test key k f ∙ out)),
+    (λ e. empties.tested k key.0 own e ∙ ap (λ b. cond b 0 (space_word key.0)) (same_test key k f ∙ out)),
   ))
 
   -- what that does to the content
   pub drops : Drops is_out (in_set ways) (in_set (record { spaces = new; pages = ways.pages; translations = ways.translations; next = ways.next }))
   drops key = chosen (is_out key) _ _
-      (λ out. guarded (is_space key.0) _ (λ own. none_at (word_of key.0) key.1 new ways.pages ways.translations (none_left key own out)))
+      (λ out. guarded (is_space key.0) _ (λ own. none_at (space_word key.0) key.1 new ways.pages ways.translations (none_left key own out)))
       (λ out. guarded_same (is_space key.0) _ _ (λ own. all_left key own out))
 
   same_word : (k : ℕ) → get_or new k 0 ≢ 0 → get_or new k 0 ≡ get_or ways.spaces k 0
@@ -263,12 +263,12 @@ module _ (ways : Ways) (facts : AreWays ways) (is_out : Key → Bool) (new : Lis
 
 module _ (ways : Ways) (facts : AreWays ways) (at : Key) where
   -- where no way has the key there is nothing to take out
-  pub drops_nothing : ((k : ℕ) → k < 8 → get_or ways.spaces k 0 ≡ word_of at.0 → get_or ways.pages k 0 ≢ at.1) → Drops (is_key at) (in_set ways) (in_set ways)
+  pub drops_nothing : ((k : ℕ) → k < 8 → get_or ways.spaces k 0 ≡ space_word at.0 → get_or ways.pages k 0 ≢ at.1) → Drops (is_key at) (in_set ways) (in_set ways)
   drops_nothing none key = chosen (is_key at key) _ _ (λ yes. ap (in_set ways) (sym (one_key at key yes)) ∙ missed ways facts at none) (λ not_it. refl)
 
-  module _ (fits : is_space at.0 ≡ true) (t : Translation) (new : Ways) (puts : PutsWay ways (word_of at.0) at.1 t new) where
+  module _ (fits : is_space at.0 ≡ true) (t : Translation) (new : Ways) (puts : PutsWay ways (space_word at.0) at.1 t new) where
     Bounds : Type 0
-    Bounds = (puts.0 < 8) × (puts.1 < 8) × ((k : ℕ) → HasKey ways (word_of at.0) at.1 k → k ≡ puts.0)
+    Bounds = (puts.0 < 8) × (puts.1 < 8) × ((k : ℕ) → HasKey ways (space_word at.0) at.1 k → k ≡ puts.0)
 
     bounds : Bounds
     unfolding Bounds

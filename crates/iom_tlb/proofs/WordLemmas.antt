@@ -3,15 +3,15 @@ use Rattle.std.proofs.Common.{◌≡◌, ◌≢◌, ◌^◌, true, nat_lt, ap, �
 use Rattle.std.proofs.lemmas.Bool.{ltb-true}
 use Rattle.iom_tlb.specs.declared.space.Space.{Space}
 use Rattle.iom_tlb.specs.declared.space.Space.TheVariants.{First, Second, Both}
-use Rattle.iom_tlb.specs.Ways.{is_space, word_of}
+use Rattle.iom_tlb.specs.Ways.{is_space, space_word}
 use Rattle.iom_tlb.proofs.KeyLemmas.{both}
 
-pub no_word : (s : Space) → word_of s ≢ 0
+pub no_word : (s : Space) → space_word s ≢ 0
 no_word (First p) = λ e. omega arith
 no_word (Second g) = λ e. omega arith
 no_word (Both g p) = λ e. omega arith
 
-pub one_word : (a b : Space) → is_space a ≡ true → is_space b ≡ true → word_of a ≡ word_of b → a ≡ b
+pub one_word : (a b : Space) → is_space a ≡ true → is_space b ≡ true → space_word a ≡ space_word b → a ≡ b
 one_word (First p) (First q) f h e = ap First (omega arith)
 one_word (First p) (Second g) f h e = let lt = ltb-true p (2 ^ 32) f in absurd (omega arith)
 one_word (First p) (Both g q) f h e = let lt = ltb-true p (2 ^ 32) f in absurd (omega arith)

@@ -3,7 +3,7 @@ use Rattle.std.specs.Prelude.{◌≡◌, ◌≢◌, ◌⊎◌, ℕ, ◌+◌, ◌
 use Rattle.iom_tlb.specs.declared.space.Space.{Space}
 use Rattle.iom_tlb.specs.declared.trans_cache.Translation.{Translation}
 use Rattle.iom_tlb.specs.Content.{Key}
-use Rattle.iom_tlb.specs.Ways.{Ways, no_ways, is_space, word_of}
+use Rattle.iom_tlb.specs.Ways.{Ways, no_ways, is_space, space_word}
 
 -- THE INVARIANT of a set: of its eight ways each is empty or has the word of an address space, and no two have one key
 pub record AreWays (ways : Ways) : Type 0 where
@@ -11,7 +11,7 @@ pub record AreWays (ways : Ways) : Type 0 where
   pub eight_pages : length ways.pages ≡ 8
   pub eight_translations : length ways.translations ≡ 8
   pub counter : ways.next < 8
-  pub words : (way : ℕ) → get_or ways.spaces way 0 ≢ 0 → (space : Space) × (is_space space ≡ true) × (word_of space ≡ get_or ways.spaces way 0)
+  pub words : (way : ℕ) → get_or ways.spaces way 0 ≢ 0 → (space : Space) × (is_space space ≡ true) × (space_word space ≡ get_or ways.spaces way 0)
   pub once : (a b : ℕ) → get_or ways.spaces a 0 ≢ 0 → get_or ways.spaces a 0 ≡ get_or ways.spaces b 0 → get_or ways.pages a 0 ≡ get_or ways.pages b 0 → a ≡ b
 
 -- each way that isn't empty has a page of the set of this number
@@ -48,5 +48,5 @@ PutsWay old word page translation new =
 pub record Empties (is_out : Key → Bool) (pages old new : List ℕ) : Type 0 where
   pub as_many : length new ≡ length old
   pub empty_or_same : (way : ℕ) → (get_or new way 0 ≡ 0) ⊎ (get_or new way 0 ≡ get_or old way 0)
-  pub tested : (way : ℕ) (space : Space) → is_space space ≡ true → get_or old way 0 ≡ word_of space
-      → get_or new way 0 ≡ (if is_out (space, get_or pages way 0) then 0 else word_of space)
+  pub tested : (way : ℕ) (space : Space) → is_space space ≡ true → get_or old way 0 ≡ space_word space
+      → get_or new way 0 ≡ (if is_out (space, get_or pages way 0) then 0 else space_word space)

@@ -12,10 +12,10 @@ is_space (Second gscid) = nat_lt gscid (2 ^ 16)
 is_space (Both gscid pscid) = nat_lt gscid (2 ^ 16) && nat_lt pscid (2 ^ 32)
 
 -- the word of an address space: its kind, GSCID and PSCID. Of none it is 0, that of an empty way
-abbrev pub word_of : Space → ℕ
-word_of (First pscid) = 2 ^ 48 + pscid
-word_of (Second gscid) = 2 * 2 ^ 48 + gscid * 2 ^ 32
-word_of (Both gscid pscid) = 3 * 2 ^ 48 + gscid * 2 ^ 32 + pscid
+abbrev pub space_word : Space → ℕ
+space_word (First pscid) = 2 ^ 48 + pscid
+space_word (Second gscid) = 2 * 2 ^ 48 + gscid * 2 ^ 32
+space_word (Both gscid pscid) = 3 * 2 ^ 48 + gscid * 2 ^ 32 + pscid
 
 -- a set: the space words, the pages and the translations of its ways, and the way at its counter
 pub record Ways : Type 0 where
@@ -32,7 +32,7 @@ in_ways _ _ _ word number = None
 
 -- what a set has for each page of each address space
 abbrev pub in_set : Ways → Content
-in_set ways key = if is_space key.0 then in_ways ways.spaces ways.pages ways.translations (word_of key.0) key.1 else None
+in_set ways key = if is_space key.0 then in_ways ways.spaces ways.pages ways.translations (space_word key.0) key.1 else None
 
 -- a set without ways
 abbrev pub no_ways : Ways

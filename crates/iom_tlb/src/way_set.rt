@@ -3,7 +3,7 @@ ghost use Rattle.std.specs.Prelude.{◌≡◌, ◌<◌, ◌%◌, ℕ, true, fals
 ghost use Rattle.iom_tlb.specs.Content.{Sets, Drops, HasNothing};
 ghost use Rattle.iom_tlb.specs.Covers.{covers};
 ghost use Rattle.iom_tlb.specs.Entries.{is_key};
-ghost use Rattle.iom_tlb.specs.Ways.{is_space, word_of, in_set};
+ghost use Rattle.iom_tlb.specs.Ways.{is_space, space_word, in_set};
 ghost use Rattle.iom_tlb.specs.WayCalls.{AreAtHome, TakesWay, PutsWay, Empties};
 ghost use Rattle.iom_tlb.specs.declared.space.Space.{Space};
 
@@ -11,7 +11,7 @@ use crate::cover::Cover;
 use crate::lanes::find_way;
 use crate::space::Space;
 use crate::trans_cache::Translation;
-use crate::words::{space_of, word_of};
+use crate::words::{space_of, space_word};
 use iom_base::Rights;
 use std::marker::Model;
 
@@ -73,7 +73,7 @@ fn take_way(spaces: &[u64; WAYS], next: &mut usize) -> usize
 
 /// Whether the page of the address space with this word is covered. An empty way's isn't.
 fn is_covered(cover: &Cover, word: u64, page: u64) -> bool
-    ensures covered { (space : Space) → is_space space ≡ true → word_of space ≡ word
+    ensures covered { (space : Space) → is_space space ≡ true → space_word space ≡ word
         → result ≡ covers cover.now (space, page) }
     ensures empty { word ≡ 0 → result ≡ false }
 {
@@ -113,17 +113,17 @@ impl WaySet {
     pub(crate) fn look(&self, space: Space, page: u64) -> Option<Translation>
         ensures { result ≡ in_set self.now (space, page) }
     {
-        let way = find_way(&self.spaces, &self.pages, word_of(space), page)?;
+        let way = find_way(&self.spaces, &self.pages, space_word(space), page)?;
         Some(self.translations[way])
     }
 
     /// Keeps a translation in the way that has its page, or takes a way for it.
     pub(crate) fn keep(&mut self, space: Space, page: u64, translation: Translation)
         ensures kept { Sets (in_set self.old) (space, page) translation (in_set self.new) }
-        ensures put { PutsWay self.old (word_of space) page translation self.new }
+        ensures put { PutsWay self.old (space_word space) page translation self.new }
         ensures home { AreAtHome (page % 64) self.old → AreAtHome (page % 64) self.new }
     {
-        let word = word_of(space);
+        let word = space_word(space);
         let way = match find_way(&self.spaces, &self.pages, word, page) {
             Some(way) => way,
             None => take_way(&self.spaces, &mut self.next),
@@ -139,7 +139,7 @@ impl WaySet {
         ensures home { (number : ℕ) → AreAtHome number self.old → AreAtHome number self.new }
         ensures counter { self.new.next ≡ self.old.next }
     {
-        if let Some(way) = find_way(&self.spaces, &self.pages, word_of(space), page) {
+        if let Some(way) = find_way(&self.spaces, &self.pages, space_word(space), page) {
             self.spaces[way] = 0;
         }
     }

@@ -1,7 +1,7 @@
 // Address spaces as words of 64 bits: the kind from bit 48 on, then 16 bits of GSCID and 32 of PSCID.
 ghost use Rattle.std.specs.Prelude.{◌≡◌, true, Some, None};
 ghost use Rattle.iom_tlb.specs.declared.space.Space.{Space};
-ghost use Rattle.iom_tlb.specs.Ways.{is_space, word_of};
+ghost use Rattle.iom_tlb.specs.Ways.{is_space, space_word};
 
 use crate::space::Space;
 
@@ -10,8 +10,8 @@ const ONE_KIND: u64 = 1 << 48;
 const ONE_GSCID: u64 = 1 << 32;
 
 /// The word of an address space. No two have the same, and none has 0.
-pub(crate) fn word_of(space: Space) -> u64
-    ensures word { result ≡ word_of space }
+pub(crate) fn space_word(space: Space) -> u64
+    ensures word { result ≡ space_word space }
     ensures fits { is_space space ≡ true }
 {
     match space {
@@ -25,7 +25,7 @@ pub(crate) fn word_of(space: Space) -> u64
 
 /// The address space whose word it is; None of 0.
 pub(crate) fn space_of(word: u64) -> Option<Space>
-    ensures space { (space : Space) → is_space space ≡ true → word_of space ≡ word
+    ensures space { (space : Space) → is_space space ≡ true → space_word space ≡ word
         → result ≡ Some space }
     ensures empty { word ≡ 0 → result ≡ None }
 {
