@@ -1,29 +1,17 @@
--- What the invalidation commands take out of the cache (IOMMU specification, section 3.1.1: the table of the operands of IOTINVAL.VMA, and
--- that of IOTINVAL.GVMA). A field is there where its valid bit is 1: GSCID by GV, PSCID by PSCV, the page of ADDR by AV.
+-- What the invalidation commands take out of the cache (IOMMU specification, section 3.1.1: the operands of IOTINVAL.VMA, and those of
+-- IOTINVAL.GVMA). A field is there where its valid bit is 1: GSCID by GV, PSCID by PSCV, the page of ADDR by AV.
 use Rattle.std.specs.Prelude.{ℕ, List, [], ◌∷◌, Option, Some, None}
 use Rattle.iom_command_queue.specs.declared.command.Command.{Command}
 use Rattle.iom_command_queue.specs.declared.command.Command.TheVariants.{IotinvalVma, IotinvalGvma, IofenceC, IodirInvalDdt, AtsInval}
 use Rattle.iom_tlb.specs.declared.cover.Cover.{Cover}
 use Rattle.iom_tlb.specs.declared.cover.Cover.TheVariants.{First, Second, Both}
 
--- IOTINVAL.VMA, by its GSCID, PSCID and page
+-- IOTINVAL.VMA, by its GSCID, PSCID and page. It is about first-stage leaves: a field that is absent stands for each PSCID, or for each page
 abbrev pub vma_covers : Option ℕ → Option ℕ → Option ℕ → List Cover
--- GV 0, AV 0, PSCV 0: all, of all host address spaces
-vma_covers None None None = First None None ∷ []
--- GV 0, AV 0, PSCV 1: all, of the host address space PSCID
-vma_covers None (Some pscid) None = First (Some pscid) None ∷ []
--- GV 0, AV 1, PSCV 0: those of the page, of all host address spaces
-vma_covers None None (Some page) = First None (Some page) ∷ []
--- GV 0, AV 1, PSCV 1: that of the page, of the host address space PSCID
-vma_covers None (Some pscid) (Some page) = First (Some pscid) (Some page) ∷ []
--- GV 1, AV 0, PSCV 0: all, of all address spaces of the VM with GSCID
-vma_covers (Some gscid) None None = Both (Some gscid) None None ∷ Second (Some gscid) None ∷ []
--- GV 1, AV 0, PSCV 1: all, of the address space with PSCID and GSCID
-vma_covers (Some gscid) (Some pscid) None = Both (Some gscid) (Some pscid) None ∷ []
--- GV 1, AV 1, PSCV 0: those made from first-stage leaves of the page, of all address spaces of the VM with GSCID
-vma_covers (Some gscid) None (Some page) = Both (Some gscid) None (Some page) ∷ []
--- GV 1, AV 1, PSCV 1: that made from the first-stage leaf of the page, of the address space with PSCID and GSCID
-vma_covers (Some gscid) (Some pscid) (Some page) = Both (Some gscid) (Some pscid) (Some page) ∷ []
+-- GV 0: of host address spaces
+vma_covers None pscid page = First pscid page ∷ []
+-- GV 1: of address spaces within the VM with GSCID, whose first stage is the guest's
+vma_covers (Some gscid) pscid page = Both (Some gscid) pscid page ∷ []
 
 -- IOTINVAL.GVMA, by its GSCID and page, which is one of guest physical addresses. A translation through both stages doesn't tell which guest
 -- physical pages it was made from: all of the VM's go, whichever page is named

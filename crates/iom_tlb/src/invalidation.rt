@@ -37,12 +37,8 @@ fn invalidate_first_stage<C: TransCache>(
 {
     if gscid.is_none() {
         cache.drop_where(&Cover::First { pscid, page });
-        return;
-    }
-    cache.drop_where(&Cover::Both { gscid, pscid, page });
-    // All address spaces of the VM: those of its second stage alone are among them.
-    if pscid.is_none() && page.is_none() {
-        cache.drop_where(&Cover::Second { gscid, page });
+    } else {
+        cache.drop_where(&Cover::Both { gscid, pscid, page });
     }
 }
 

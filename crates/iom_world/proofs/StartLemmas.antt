@@ -282,14 +282,13 @@ module _ (n levels : ℕ) (first next : DriverState) (before memory : List (List
 
   -- the IOMMU was at power-on, and was started since
   pub iommu_started : IsStartedIommu n levels iommu
-  iommu_started =
-      (
-        power,
-        started.power_on,
-        started.starts.registers
+  iommu_started = (
+    power,
+    started.power_on,
+    started.starts.registers
         ∙ ap (λ k. turned_on mmio k (mmio.after power Ddtp (ddtp_of k first.levels))) long
         ∙ ap (λ (d : DriverState). turned_on mmio n (mmio.after power Ddtp (ddtp_of n d.levels))) started.opening_driver.rest,
-      )
+  )
 
   pub shows_started : PartsShow parts (opening n levels)
   shows_started = record {
