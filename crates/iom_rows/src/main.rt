@@ -9,7 +9,7 @@
 use std::alloc::Global;
 use std::fs;
 
-const ROWS: [&str; 21] = [
+const ROWS: [&str; 22] = [
     "empty-script",
     "first-path",
     "grant-boundaries",
@@ -31,6 +31,7 @@ const ROWS: [&str; 21] = [
     "drain-then-record",
     "fault-queue-overflow",
     "guest-table-changes",
+    "frame-granted-twice",
 ];
 
 /// The number of the first line that differs, counted from 1.
