@@ -3,9 +3,10 @@ ghost use Rattle.std.specs.Prelude.{◌≡◌, ◌+◌, ◌<◌, ◌≤◌, leng
 ghost use Rattle.iom_base.specs.Sizes.{page_size};
 ghost use Rattle.iom_world.specs.Commits.{CommitsAccess, TellsRead};
 ghost use Rattle.iom_world.specs.Seen.{parts_of};
+ghost use Rattle.iom_world.specs.Told.{meant};
 
 use crate::below::laws_below;
-use crate::told::{Told, tell_read};
+use crate::told::{Answer, BytePlaces, Told, tell_read};
 use crate::world::World;
 use iom_base::{AccessKind, DeviceId};
 use iom_inflight::MadeAt;
@@ -25,23 +26,26 @@ fn tell_made(memory: &Memory, made: MadeAt, told: &mut Outcome)
 }
 
 impl World {
-    /// The oldest access of a device in flight is made, on the frame that it was translated to. What comes
-    /// of it is told in the place: `Read`, with the bytes, or `Wrote`, with how many were stored. Nothing
-    /// changes where nothing of the device is in flight, or no device has the id.
-    pub(crate) fn commit(&mut self, id: DeviceId, told: &mut Outcome)
-        ensures does { CommitsAccess (parts_of self.old) id told.new (parts_of self.new) }
+    /// The oldest access of a device in flight is made, on the frame that it was translated to: `Read`, with
+    /// its bytes in their place, or `Wrote`, with how many were stored. Nothing changes where nothing of the
+    /// device is in flight, or no device has the id.
+    pub(crate) fn commit(&mut self, id: DeviceId, places: &mut BytePlaces) -> Answer
+        ensures does { CommitsAccess (parts_of self.old) id (meant result places.new) (parts_of self.new) }
         ensures events { self.new.events ≡ self.old.events }
     {
         laws_below();
         if !self.is_plugged(id) {
-            return Told::Refused(Refusal::NoSuchDevice).tell(told);
+            return Answer::Told(Told::Refused(Refusal::NoSuchDevice));
         }
         let Some(made) = self.iommu.commit(&mut self.memory, id) else {
-            return Told::NothingInFlight.tell(told);
+            return Answer::Told(Told::NothingInFlight);
         };
         match made.kind {
-            AccessKind::Read => tell_made(&self.memory, made, told),
-            AccessKind::Write => Told::Wrote(u64::from(made.len)).tell(told),
+            AccessKind::Read => {
+                tell_made(&self.memory, made, &mut places.made);
+                Answer::Made
+            }
+            AccessKind::Write => Answer::Told(Told::Wrote(u64::from(made.len))),
         }
     }
 }

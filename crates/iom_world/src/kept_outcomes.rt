@@ -1,49 +1,87 @@
 //! Where the outcomes of a run are told.
-use iom_machine::{Event, Outcome};
+ghost use Rattle.std.specs.Prelude.{◌≡◌};
+ghost use Rattle.iom_world.specs.Told.{meant};
 
-/// A place for the outcome of each kind of event, so that what a place held before is most often of the
-/// same kind as what is told there next.
+use crate::told::{Answer, BytePlaces, Told};
+use iom_machine::Outcome;
+
+/// A place for each kind of outcome, so that what a place held before is of the same kind as what is
+/// told there next, and only what differs is written.
 #[derive(Drop)]
 pub(crate) struct KeptOutcomes {
-    driver: Outcome,
-    released: Outcome,
+    pub(crate) bytes: BytePlaces,
+    done: Outcome,
+    refused: Outcome,
+    ticket: Outcome,
+    confirmed: Outcome,
+    none_confirmed: Outcome,
+    record: Outcome,
+    no_record: Outcome,
     fetched: Outcome,
-    polled: Outcome,
-    reported: Outcome,
-    requested: Outcome,
-    made: Outcome,
-    shown: Outcome,
-    asked: Outcome,
+    accepted: Outcome,
+    busy: Outcome,
+    bad_span: Outcome,
+    fault: Outcome,
+    wrote: Outcome,
+    nothing_in_flight: Outcome,
+    free: Outcome,
 }
 
 impl KeptOutcomes {
     pub(crate) fn new() -> KeptOutcomes {
         KeptOutcomes {
-            driver: Outcome::Done,
-            released: Outcome::Done,
+            bytes: BytePlaces::new(),
+            done: Outcome::Done,
+            refused: Outcome::Done,
+            ticket: Outcome::Done,
+            confirmed: Outcome::Done,
+            none_confirmed: Outcome::NoneConfirmed,
+            record: Outcome::Done,
+            no_record: Outcome::NoRecord,
             fetched: Outcome::Done,
-            polled: Outcome::Done,
-            reported: Outcome::Done,
-            requested: Outcome::Done,
-            made: Outcome::Done,
-            shown: Outcome::Done,
-            asked: Outcome::Done,
+            accepted: Outcome::Done,
+            busy: Outcome::Busy,
+            bad_span: Outcome::BadSpan,
+            fault: Outcome::Done,
+            wrote: Outcome::Done,
+            nothing_in_flight: Outcome::NothingInFlight,
+            free: Outcome::Done,
         }
     }
 
-    /// The place for the outcome of the event.
-    pub(crate) fn place_for(&mut self, event: &Event) -> &mut Outcome {
-        match event {
-            Event::Plug { .. } | Event::Attach { .. } | Event::Grant { .. } => &mut self.driver,
-            Event::Poke { .. } => &mut self.driver,
-            Event::Release { .. } | Event::Detach { .. } => &mut self.released,
-            Event::Fetch => &mut self.fetched,
-            Event::Poll => &mut self.polled,
-            Event::Faults => &mut self.reported,
-            Event::Read { .. } | Event::Write { .. } => &mut self.requested,
-            Event::Commit { .. } => &mut self.made,
-            Event::Peek { .. } => &mut self.shown,
-            Event::Free { .. } => &mut self.asked,
+    /// The place for what is told.
+    fn place_for(&mut self, told: &Told) -> &mut Outcome {
+        match told {
+            Told::Done => &mut self.done,
+            Told::Refused(_) => &mut self.refused,
+            Told::Ticket(_) => &mut self.ticket,
+            Told::Confirmed { .. } => &mut self.confirmed,
+            Told::NoneConfirmed => &mut self.none_confirmed,
+            Told::Record(_) => &mut self.record,
+            Told::NoRecord => &mut self.no_record,
+            Told::Fetched(_) => &mut self.fetched,
+            Told::Accepted(_) => &mut self.accepted,
+            Told::Busy => &mut self.busy,
+            Told::BadSpan => &mut self.bad_span,
+            Told::Fault(_) => &mut self.fault,
+            Told::Wrote(_) => &mut self.wrote,
+            Told::NothingInFlight => &mut self.nothing_in_flight,
+            Told::Free(_) => &mut self.free,
+        }
+    }
+
+    /// The outcome that the answer means, told in its place.
+    pub(crate) fn tell(&mut self, answer: Answer) -> &Outcome
+        ensures { result.now ≡ meant answer self.old.bytes }
+    {
+        match answer {
+            Answer::Told(told) => {
+                let place = self.place_for(&told);
+                told.tell(place);
+                place
+            }
+            Answer::Made => &self.bytes.made,
+            Answer::Shown => &self.bytes.shown,
         }
     }
 }

@@ -3,14 +3,13 @@ ghost use Rattle.std.specs.Prelude.{◌≡◌, ◌+◌, ◌≤◌, length};
 ghost use Rattle.iom_base.specs.Bytes.{with_bytes};
 ghost use Rattle.iom_world.specs.Seen.{parts_of};
 ghost use Rattle.iom_world.specs.Processor.{PokesBytes, PeeksBytes, AsksFree};
-ghost use Rattle.iom_world.specs.Told.{outcome_of};
+ghost use Rattle.iom_world.specs.Told.{outcome_of, meant};
 
 use crate::below::laws_below;
-use crate::told::{Told, tell_shown};
+use crate::told::{Answer, BytePlaces, Told, tell_shown};
 use crate::world::World;
 use iom_base::{PAGE_SIZE, Span};
 use iom_ledger::Refusal;
-use iom_machine::Outcome;
 use iom_phys_mem::Bytes;
 
 /// Stores the bytes in the frame, from the offset on.
@@ -45,21 +44,22 @@ impl World {
         Told::Done
     }
 
-    /// The processor reads so many bytes at the physical address, within one frame: they are told in the
-    /// place, or `BadSpan`, or `FrameOutOfRange`. Nothing changes.
-    pub(crate) fn peek(&self, address: u64, len: u64, told: &mut Outcome)
-        ensures { PeeksBytes (parts_of self.now) address len told.new }
+    /// The processor reads so many bytes at the physical address, within one frame: they stand in their
+    /// place then; or `BadSpan`, or `FrameOutOfRange`. Nothing changes.
+    pub(crate) fn peek(&self, address: u64, len: u64, places: &mut BytePlaces) -> Answer
+        ensures { PeeksBytes (parts_of self.now) address len (meant result places.new) }
     {
         if Span::new(address, len).is_none() {
-            return Told::BadSpan.tell(told);
+            return Answer::Told(Told::BadSpan);
         }
         let number = address / PAGE_SIZE;
         if number >= u64::from(self.memory.frames()) {
-            return Told::Refused(Refusal::FrameOutOfRange).tell(told);
+            return Answer::Told(Told::Refused(Refusal::FrameOutOfRange));
         }
         let frame = self.memory.frame(number as u32).unwrap();
         let offset = (address % PAGE_SIZE) as usize;
-        tell_shown(&frame[offset..offset + len as usize], told);
+        tell_shown(&frame[offset..offset + len as usize], &mut places.shown);
+        Answer::Shown
     }
 
     /// Whether the frame is free: no device holds it or may still reach it, and it isn't reserved.

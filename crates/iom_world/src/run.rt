@@ -8,23 +8,25 @@ ghost use Rattle.iom_world.specs.Happens.{Happens};
 ghost use Rattle.iom_world.specs.Runs.{RunsTo, FailsAfter};
 ghost use Rattle.iom_world.specs.Seen.{parts_of};
 ghost use Rattle.iom_world.specs.Shows.{Shows};
+ghost use Rattle.iom_world.specs.Told.{meant};
 
 use crate::below::laws_below;
 use crate::kept_outcomes::KeptOutcomes;
+use crate::told::{Answer, BytePlaces};
 use crate::world::World;
 use iom_machine::{Event, Outcome, Sink};
 
 impl World {
-    /// The event is counted, and goes to whom it is for: what comes of it is told in the place.
-    fn dispatch(&mut self, event: &Event, told: &mut Outcome)
+    /// The event is counted, and goes to whom it is for.
+    fn dispatch(&mut self, event: &Event, places: &mut BytePlaces) -> Answer
         requires event { IsEvent event.now }
         requires count { self.old.events + 1 < 2 ^ 64 }
-        ensures does { Does (parts_of self.old) event.now told.new (parts_of self.new) }
+        ensures does { Does (parts_of self.old) event.now (meant result places.new) (parts_of self.new) }
         ensures fits { AddressFits event.now }
         ensures counted { self.new.events ≡ self.old.events + 1 }
     {
         self.events += 1;
-        let answer = match event {
+        let told = match event {
             Event::Plug { device, kind } => self.plug(*device, *kind),
             // No ATS can come yet.
             Event::Attach { device, mode, .. } => self.attach(*device, *mode),
@@ -49,22 +51,22 @@ impl World {
                 address,
                 bytes,
             } => self.write(*device, *address, bytes.as_slice()),
-            Event::Commit { device } => return self.commit(*device, told),
+            Event::Commit { device } => return self.commit(*device, places),
             Event::Poke { address, bytes } => self.poke(*address, bytes.as_slice()),
-            Event::Peek { address, len } => return self.peek(*address, *len, told),
+            Event::Peek { address, len } => return self.peek(*address, *len, places),
             Event::Free { frame } => self.free(*frame),
         };
-        answer.tell(told)
+        Answer::Told(told)
     }
 
-    /// One event, as [`World::step`] says: what comes of it is told in the place.
-    fn take(&mut self, event: &Event, told: &mut Outcome)
+    /// One event, as [`World::step`] says.
+    fn take(&mut self, event: &Event, places: &mut BytePlaces) -> Answer
         requires event { IsEvent event.now }
         requires count { self.old.events + 1 < 2 ^ 64 }
-        ensures { Happens self.old event.now told.new self.new }
+        ensures { Happens self.old event.now (meant result places.new) self.new }
     {
         laws_below();
-        self.dispatch(event, told);
+        self.dispatch(event, places)
     }
 
     /// One event, and what comes of it: a lawful step of the ledger machine from every state that the
@@ -76,9 +78,9 @@ impl World {
         requires count { self.old.events + 1 < 2 ^ 64 }
         ensures { Happens self.old event.now result self.new }
     {
-        let mut told = Outcome::Done;
-        self.take(event, &mut told);
-        told
+        let mut places = BytePlaces::new();
+        let answer = self.take(event, &mut places);
+        answer.outcome(places)
     }
 
     /// The events, one after another: the sink takes the outcome of each, and the run stops at the first
@@ -98,9 +100,8 @@ impl World {
     {
         let mut kept = KeptOutcomes::new();
         for event in events {
-            let told = kept.place_for(event);
-            self.take(event, told);
-            sink.put(told)?;
+            let answer = self.take(event, &mut kept.bytes);
+            sink.put(kept.tell(answer))?;
         }
         Ok(())
     }
