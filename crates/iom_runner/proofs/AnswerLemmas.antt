@@ -1,7 +1,7 @@
 -- Every event has an answer, in every state that is reached: so each run goes on to the end of the events.
-use Rattle.std.proofs.Common.{◌≡◌, ◌≢◌, ◌+◌, ◌%◌, ◌≤◌, ◌++◌, ◌∙◌, ℕ, inl, inr, Bool, true, false, List, [], ◌∷◌, length, All, Option, Some, None, MatchOption, unwrap_or, if◌then◌else◌, refl, sym, ap, subst, arith}
+use Rattle.std.proofs.Common.{◌≡◌, ◌≢◌, ◌+◌, ◌%◌, ◌≤◌, ◌++◌, ◌∙◌, ℕ, inl, inr, Bool, true, false, List, [], ◌∷◌, length, Option, Some, None, MatchOption, unwrap_or, refl, sym, ap, subst, arith}
 use Rattle.std.proofs.lemmas.Bool.{cases_lt}
-use Rattle.std.proofs.lemmas.List.Elements.{All-nil, All-tail, All-head}
+use Rattle.std.proofs.lemmas.List.Elements.{All-nil}
 use Rattle.iom_base.specs.Causes.{page_fault_of, guest_page_fault_of}
 use Rattle.iom_base.specs.Rights.{allows}
 use Rattle.iom_base.specs.declared.grant_rights.GrantRights.{GrantRights}
@@ -31,7 +31,7 @@ use Rattle.iom_machine.specs.Machine.{Step, Requests, Run, plugged_device}
 use Rattle.iom_machine.specs.PowerOn.{opening}
 use Rattle.iom_machine.specs.declared.state.DeviceKind.{DeviceKind}
 use Rattle.iom_ledger.specs.Refusals.{first_that_applies, IsRefusedBy}
-use Rattle.iom_machine.specs.Refusals.{MayRefusePlug, MayRefuseAttach, MayRefuseGrant, MayFindNoPlace, plug_reasons, attach_reasons, detach_reasons, grant_reasons, release_reasons, is_too_wide}
+use Rattle.iom_machine.specs.Refusals.{MayRefusePlug, MayRefuseAttach, MayRefuseGrant, MayFindNoPlace, plug_reasons, attach_reasons, detach_reasons, grant_reasons, release_reasons}
 use Rattle.iom_base.specs.Accesses.{read_of, write_of, page_of}
 use Rattle.iom_machine.specs.Requests.{cause_without_context, HoldsFor, HoldsNoneFor, MayAccept, MayFault, MayAnswer, IsForwarded, state_after}
 use Rattle.iom_machine.proofs.HeadlineLemmas.{commits_are_answered}

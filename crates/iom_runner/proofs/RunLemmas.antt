@@ -1,5 +1,5 @@
 -- Runs from power-on, and the texts that tell them.
-use Rattle.std.proofs.Common.{◌≡◌, ◌+◌, ◌++◌, ◌∙◌, ℕ, List, [], ◌∷◌, length, take, drop, All, Option, refl, sym, ap, subst, append_assoc, arith}
+use Rattle.std.proofs.Common.{◌≡◌, ◌+◌, ◌++◌, ◌∙◌, ℕ, List, [], ◌∷◌, length, take, drop, Option, refl, sym, ap, subst, append_assoc, arith}
 use Rattle.std.specs.Io.KnownBytes.{Appends}
 use Rattle.std.proofs.lemmas.List.{take_all, take-append-drop}
 use Rattle.std.proofs.lemmas.List.Concat.{flat_map-append}
@@ -40,12 +40,6 @@ tells_more size events count outcomes last old new ran front =
       (outcomes ++ rest.0, rest.1, whole, reclaims (power_on size) events (outcomes ++ rest.0) rest.1 (power_on_is_reached size) whole, refl),
       subst (AppendsFront old new) (sym lines) (front-longer old new (line_of Done ++ lines_of outcomes) (lines_of rest.0) front),
     )
-
--- nothing of a run is told
-pub tells_none : (size : WorldSize) (events : List Event) (old new : Option (List ℕ)) → AppendsFront old new []
-    → BeginsRun size events old new
-tells_none size events old new front =
-    tells_more size events 0 [] (power_on size) old new refl (front-longer old new [] (line_of Done ++ []) front)
 
 -- a part of a text of the first events is a beginning of a text of all
 pub begins_whole : (size : WorldSize) (events : List Event) (old new : Option (List ℕ))

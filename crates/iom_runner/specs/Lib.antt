@@ -4,3 +4,4 @@ pub mod Writing
 pub mod Text
 pub mod Bytes
 pub mod CommandLine
+pub mod Runs

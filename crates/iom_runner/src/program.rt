@@ -1,10 +1,8 @@
 // The program `iommu-run`, from its command line to its exit status.
-ghost use Rattle.std.specs.Prelude.{◌≡◌, ◌≢◌, ◌⊎◌, ℕ, [], true, map, Err, OnOk, OnErr, IfSome};
+ghost use Rattle.std.specs.Prelude.{◌≡◌, ◌≢◌, ℕ, List, [], true, map, Err};
 ghost use Rattle.std.specs.Io.KnownBytes.{Keeps};
-ghost use Rattle.iom_script.specs.declared.script.Script.{Script};
-ghost use Rattle.iom_script.specs.Grammar.{IsScript, IsFirstBadLine};
 ghost use Rattle.iom_runner.specs.CommandLine.{is_command_line};
-ghost use Rattle.iom_runner.specs.Text.{WritesText, BeginsText, BeginsTextSoFar};
+ghost use Rattle.iom_runner.specs.Runs.{RunsProgram, AreLeft};
 
 use crate::arguments::read_words;
 use crate::faults::{ArgsFault, ProgramFault, RunFault};
@@ -42,31 +40,13 @@ pub fn run_words<F: Files, R: Read, W: Write>(
     ensures unlawful { is_command_line (map (λ word. word.now) words.entry.now) ≢ true
         → (result ≡ Err (ProgramFault.Args ArgsFault.Bad)) × Keeps (W.contents output.old) (W.contents output.new) }
 
-    // A lawful one never is.
-    ensures lawful { is_command_line (map (λ word. word.now) words.entry.now) ≡ true → result ≢ Err (ProgramFault.Args ArgsFault.Bad) }
+    // A lawful one is run: without a word the input is the script, and else a file is, of some bytes.
+    ensures ran { is_command_line (map (λ word. word.now) words.entry.now) ≡ true → (bytes : List ℕ)
+        × (words.entry.now ≡ [] → AreLeft bytes (R.remaining input.old))
+        × RunsProgram bytes result (W.contents output.old) (W.contents output.new) }
 
     // Where the words name a file, or are no command line, nothing is read from the input.
     ensures unread { words.entry.now ≢ [] → Keeps (R.remaining input.old) (R.remaining input.new) }
-
-    // Without a word the input is the script: what is written is its text, told of a run that a world goes through.
-    ensures ran { words.entry.now ≡ [] → OnOk result (IfSome (R.remaining input.old) (λ bytes. (script : Script) × IsScript bytes script
-        × WritesText script (W.contents output.old) (W.contents output.new))) }
-
-    // Where it fails, what was written is a beginning of that.
-    ensures front { words.entry.now ≡ [] → OnErr result (IfSome (R.remaining input.old) (λ bytes. (script : Script) → IsScript bytes script
-        → BeginsText script (W.contents output.old) (W.contents output.new))) }
-
-    // Where writing fails, it is one of the text of some first events, told of a run that a world goes through, and not all of that text.
-    ensures so_far { words.entry.now ≡ [] → result ≡ Err (ProgramFault.Run RunFault.Writing) → IfSome (R.remaining input.old) (λ bytes. (script : Script)
-        → IsScript bytes script → BeginsTextSoFar script (W.contents output.old) (W.contents output.new)) }
-
-    // Where reading fails, or memory, nothing is written, be the script in a file or on the input.
-    ensures reading { result ≡ Err (ProgramFault.Run RunFault.Reading) → Keeps (W.contents output.old) (W.contents output.new) }
-    ensures memory { result ≡ Err (ProgramFault.Run RunFault.Memory) → Keeps (W.contents output.old) (W.contents output.new) }
-
-    // A line of the input that is named is the first bad one, and nothing is written.
-    ensures named { words.entry.now ≡ [] → (number : ℕ) → result ≡ Err (ProgramFault.Run (RunFault.Script number))
-        → IfSome (R.remaining input.old) (λ bytes. IsFirstBadLine bytes number) × Keeps (W.contents output.old) (W.contents output.new) }
 {
     let args = read_words(alloc, words)?;
     match args.file {

@@ -1,14 +1,13 @@
 // A script, from its bytes to the bytes of its lines.
-ghost use Rattle.std.specs.Prelude.{◌≡◌, ◌⊎◌, ◌+◌, ◌<◌, ◌^◌, [], ℕ, length, All, OnOk, OnErr, IfOk, IfErr, IfSome, Ok, Err, None};
-ghost use Rattle.std.specs.Io.KnownBytes.{Keeps};
+ghost use Rattle.std.specs.Prelude.{◌≡◌, ◌+◌, ◌<◌, ◌^◌, List, [], ℕ, length, All, OnOk, OnErr, IfOk, IfErr, IfSome};
 ghost use Rattle.iom_machine.specs.Machine.{IsEvent};
-ghost use Rattle.iom_script.specs.declared.script.Script.{Script};
 ghost use Rattle.iom_script.specs.declared.script.WorldSize.{WorldSize};
-ghost use Rattle.iom_script.specs.Grammar.{IsScript, IsFirstBadLine, IsWorldSize};
+ghost use Rattle.iom_script.specs.Grammar.{IsScript, IsWorldSize};
 ghost use Rattle.iom_world.specs.PowerOn.{BeginsAt};
 ghost use Rattle.iom_runner.specs.Bytes.{ExplainsUnparsed};
 ghost use Rattle.iom_runner.specs.Reading.{ConsumesAtMost};
-ghost use Rattle.iom_runner.specs.Text.{WritesRun, BeginsRun, BeginsRunSoFar, WritesText, BeginsText, BeginsTextSoFar};
+ghost use Rattle.iom_runner.specs.Runs.{TellsScript, RunsBytes, AreLeft};
+ghost use Rattle.iom_runner.specs.Text.{WritesRun, BeginsRun, BeginsRunSoFar};
 ghost use Rattle.iom_runner.specs.Writing.{KeepsWriter};
 
 use crate::faults::RunFault;
@@ -102,12 +101,7 @@ fn empty_buffer(alloc: Global) -> Result<LineBuffer, RunFault>
 fn tell<W: Write>(alloc: Global, script: &Script, writer: &mut W) -> Result<(), RunFault>
     requires events { All IsEvent script.now.events }
     requires world { IfSome script.now.world IsWorldSize }
-    ensures silent { script.now.world ≡ None → Keeps (W.contents writer.old) (W.contents writer.new) × (result ≡ Ok tt) }
-    ensures memory { result ≡ Err RunFault.Memory → Keeps (W.contents writer.old) (W.contents writer.new) }
-    ensures told { OnOk result (WritesText script.now (W.contents writer.old) (W.contents writer.new)) }
-    ensures front { OnErr result (BeginsText script.now (W.contents writer.old) (W.contents writer.new)) }
-    ensures so_far { result ≡ Err RunFault.Writing → BeginsTextSoFar script.now (W.contents writer.old) (W.contents writer.new) }
-    ensures fault { IfErr result (λ fault. (fault ≡ RunFault.Writing) ⊎ (fault ≡ RunFault.Memory)) }
+    ensures { TellsScript script.now result (W.contents writer.old) (W.contents writer.new) }
 {
     let Some(size) = script.world else {
         return Ok(());
@@ -118,39 +112,16 @@ fn tell<W: Write>(alloc: Global, script: &Script, writer: &mut W) -> Result<(), 
 }
 
 /// Reads a script, runs its events in a world at power-on, and writes a line for the world and one for
-/// each event.
+/// each event. Of bytes that aren't a script it writes nothing, and names their first bad line. Where
+/// writing fails, what was written is a beginning of the text; where reading fails, or memory, nothing is
+/// written.
 pub fn run<R: Read, W: Write>(alloc: Global, reader: &mut R, writer: &mut W) -> Result<(), RunFault>
-    // What is read is a script, and what is written its text, told of a run that a world goes through.
-    ensures ran { OnOk result (IfSome (R.remaining reader.old) (λ input. (script : Script) × IsScript input script
-        × WritesText script (W.contents writer.old) (W.contents writer.new))) }
-
-    // Of bytes that aren't a script nothing is written, and their first bad line is named, or reading or memory failed.
-    ensures refused { IfSome (R.remaining reader.old) (λ input. (number : ℕ) → IsFirstBadLine input number
-        → Keeps (W.contents writer.old) (W.contents writer.new)
-        × ((result ≡ Err (RunFault.Script number)) ⊎ (result ≡ Err RunFault.Reading) ⊎ (result ≡ Err RunFault.Memory))) }
-
-    // A line that is named is the first bad one, and nothing is written.
-    ensures named { (number : ℕ) → result ≡ Err (RunFault.Script number)
-        → IfSome (R.remaining reader.old) (λ input. IsFirstBadLine input number) × Keeps (W.contents writer.old) (W.contents writer.new) }
+    // Of a reader whose bytes aren't known, it is so of some bytes.
+    ensures ran { (input : List ℕ) × AreLeft input (R.remaining reader.old)
+        × RunsBytes input result (W.contents writer.old) (W.contents writer.new) }
 
     // Of the reader at most one byte more is taken than a script may have.
     ensures consumed { ConsumesAtMost 1048577 (R.remaining reader.old) (R.remaining reader.new) }
-
-    // For a script that says nothing nothing is written, and only reading and memory may fail.
-    ensures silent { IfSome (R.remaining reader.old) (λ input. (script : Script) → IsScript input script → script.world ≡ None
-        → Keeps (W.contents writer.old) (W.contents writer.new) × ((result ≡ Ok tt) ⊎ (result ≡ Err RunFault.Reading) ⊎ (result ≡ Err RunFault.Memory))) }
-
-    // Where reading fails, or memory, nothing is written.
-    ensures reading { result ≡ Err RunFault.Reading → Keeps (W.contents writer.old) (W.contents writer.new) }
-    ensures memory { result ≡ Err RunFault.Memory → Keeps (W.contents writer.old) (W.contents writer.new) }
-
-    // Where it fails, what was written is a beginning of the script's text.
-    ensures front { OnErr result (IfSome (R.remaining reader.old) (λ input. (script : Script) → IsScript input script
-        → BeginsText script (W.contents writer.old) (W.contents writer.new))) }
-
-    // Where writing fails, it is one of the text of some first events, told of a run that a world goes through, and not all of that text.
-    ensures so_far { result ≡ Err RunFault.Writing → IfSome (R.remaining reader.old) (λ input. (script : Script) → IsScript input script
-        → BeginsTextSoFar script (W.contents writer.old) (W.contents writer.new)) }
 {
     let bytes = read_script(alloc, reader)?;
     let script = script_of(alloc, &bytes)?;

@@ -1,45 +1,31 @@
-use Rattle.std.proofs.Common.{◌≡◌, Err}
+use Rattle.std.proofs.Common.{◌∙◌, [], Err, ap}
+use Rattle.std.proofs.KnownBytes.{Keeps-refl}
 use Rattle.std.proofs.lemmas.Result.{err_from_is_err_and}
-use Rattle.iom_runner.specs.declared.faults.RunFault.TheVariants.{Reading, Writing, Memory, Script}
-use Rattle.iom_runner.proofs.TextLemmas.{begins_each}
-use Rattle.iom_runner.proofs.WritingLemmas.{at_err}
+use Rattle.iom_runner.proofs.TextLemmas.{input_of, input_is_left, program_ran, program_failed, words_unread}
 use Rattle.iom_runner.proofs.program.run_words.Goals as goal
 
-pub returns-in_err-args-clause-front : goal.returns-in_err-args-clause-front
-returns-in_err-args-clause-front g c = λ none. at_err c.from_residual.result (begins_each (g.R.Read.remaining c.args.input.now) _)
+pub returns-in_err-args-clause-ran : goal.returns-in_err-args-clause-ran
+returns-in_err-args-clause-ran g c = λ lawful.
+    let known = g.R.Read.remaining c.args.input.now in
+    let told = err_from_is_err_and c.from_residual.result c.from_residual.ensures.1 in (
+      input_of known [],
+      (λ none. input_is_left known []),
+      words_unread (input_of known []) c.from_residual.result c.in_err-args.field-0.0 _ (told.1 ∙ ap (λ f. Err f) told.2)
+          (λ bad. c.read_words.ensures.lawful lawful (c.in_err-args.was ∙ ap (λ f. Err f) bad)),
+    )
 
-pub returns-in_err-run-in-None-clause-so_far : goal.returns-in_err-run-in-None-clause-so_far
-returns-in_err-run-in-None-clause-so_far g c = λ none is.
-    let told = err_from_is_err_and c.from_residual-in_err-run-in-None.result c.from_residual-in_err-run-in-None.ensures.1 in
-    let given = told.1 in
-    let of = told.2 in
-    let was = c.in_err-run-in-None.was in
-    let failed : c.run.result ≡ Err Writing = cc in
-    c.run.ensures.so_far failed
+pub returns-in-Err-clause-ran : goal.returns-in-Err-clause-ran
+returns-in-Err-clause-ran g c = λ lawful.
+    let known = g.R.Read.remaining c.args.input.now in
+    (input_of known [], (λ none. input_is_left known []), Keeps-refl _)
 
-pub returns-in_err-run-in-None-clause-reading : goal.returns-in_err-run-in-None-clause-reading
-returns-in_err-run-in-None-clause-reading g c = λ is.
+pub returns-in_err-run-in-None-clause-ran : goal.returns-in_err-run-in-None-clause-ran
+returns-in_err-run-in-None-clause-ran g c = λ lawful.
     let told = err_from_is_err_and c.from_residual-in_err-run-in-None.result c.from_residual-in_err-run-in-None.ensures.1 in
-    let given = told.1 in
-    let of = told.2 in
-    let was = c.in_err-run-in-None.was in
-    let failed : c.run.result ≡ Err Reading = cc in
-    c.run.ensures.reading failed
+    let ran = c.run.ensures.ran in
+    (ran.0, (λ none. ran.1), program_failed ran.0 c.run.result c.from_residual-in_err-run-in-None.result c.in_err-run-in-None.field-0.0 _ _ c.in_err-run-in-None.was (told.1 ∙ ap (λ f. Err f) told.2) ran.2)
 
-pub returns-in_err-run-in-None-clause-memory : goal.returns-in_err-run-in-None-clause-memory
-returns-in_err-run-in-None-clause-memory g c = λ is.
-    let told = err_from_is_err_and c.from_residual-in_err-run-in-None.result c.from_residual-in_err-run-in-None.ensures.1 in
-    let given = told.1 in
-    let of = told.2 in
-    let was = c.in_err-run-in-None.was in
-    let failed : c.run.result ≡ Err Memory = cc in
-    c.run.ensures.memory failed
-
-pub returns-in_err-run-in-None-clause-named : goal.returns-in_err-run-in-None-clause-named
-returns-in_err-run-in-None-clause-named g c = λ none number is.
-    let told = err_from_is_err_and c.from_residual-in_err-run-in-None.result c.from_residual-in_err-run-in-None.ensures.1 in
-    let given = told.1 in
-    let of = told.2 in
-    let was = c.in_err-run-in-None.was in
-    let script : c.run.result ≡ Err (Script number) = cc in
-    c.run.ensures.named number script
+pub returns-in_ok-run-in-None-clause-ran : goal.returns-in_ok-run-in-None-clause-ran
+returns-in_ok-run-in-None-clause-ran g c = λ lawful.
+    let ran = c.run.ensures.ran in
+    (ran.0, (λ none. ran.1), program_ran ran.0 c.run.result _ _ _ c.in_ok-run-in-None.was ran.2)

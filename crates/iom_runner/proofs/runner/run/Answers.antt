@@ -1,70 +1,29 @@
-use Rattle.std.proofs.Common.{◌∙◌, ap, lit<, Err}
+use Rattle.std.proofs.Common.{◌∙◌, [], ap, lit<, Err, subst, sym}
 use Rattle.std.proofs.lemmas.Option.{IfSome_then}
-use Rattle.std.proofs.lemmas.Result.{err_from_is_err_and, on_ok_weaker, on_err_weaker}
-use Rattle.iom_script.specs.declared.script.Script.{Script}
-use Rattle.iom_runner.specs.Text.{BeginsText, BeginsTextSoFar}
-use Rattle.iom_runner.proofs.TextLemmas.{whole_script, refused_as, named_as, no_bad_line, begins_each, of_each, writes_that, silent_unparsed, silent_told}
-use Rattle.iom_runner.proofs.WritingLemmas.{at_err}
+use Rattle.std.proofs.lemmas.Result.{err_from_is_err_and}
+use Rattle.iom_runner.specs.Reading.{IsReadFault}
+use Rattle.iom_runner.proofs.TextLemmas.{input_of, input_is_left, whole_script, unread, unparsed, runs_script}
 use Rattle.iom_runner.proofs.runner.run.Goals as goal
 
-pub returns-in_err-bytes-clause-front : goal.returns-in_err-bytes-clause-front
-returns-in_err-bytes-clause-front g c = at_err c.from_residual.result (begins_each (g.R.Read.remaining c.args.reader.now) _)
-
-pub returns-in_err-script-clause-refused : goal.returns-in_err-script-clause-refused
-returns-in_err-script-clause-refused g c =
+pub returns-in_err-bytes-clause-ran : goal.returns-in_err-bytes-clause-ran
+returns-in_err-bytes-clause-ran g c =
     let known = g.R.Read.remaining c.args.reader.now in
+    let fault = err_from_is_err_and c.from_residual.result c.from_residual.ensures.1 in
+    (input_of known [], input_is_left known [], unread (input_of known []) _ c.from_residual.result fault.0 fault.1 (subst IsReadFault (sym fault.2) c.in_err-bytes.ensures.fault))
+
+pub returns-in_err-script-clause-ran : goal.returns-in_err-script-clause-ran
+returns-in_err-script-clause-ran g c =
+    let known = g.R.Read.remaining c.args.reader.now in
+    let bytes = c.deref.result.now in
     let read = IfSome_then known c.in_ok-bytes.ensures.bytes (λ input is. c.deref.ensures.value ∙ is) in
     let fault = err_from_is_err_and c.from_residual-in_err-script.result c.from_residual-in_err-script.ensures.1 in
-    refused_as known _ c.deref.result.now 1048577 c.from_residual-in_err-script.result c.in_err-script.field-0.0 (lit< tt) read c.in_err-script.ensures.fault (fault.1 ∙ ap (λ f. Err f) fault.2)
-
-pub returns-in_err-script-clause-named : goal.returns-in_err-script-clause-named
-returns-in_err-script-clause-named g c =
-    let known = g.R.Read.remaining c.args.reader.now in
-    let read = IfSome_then known c.in_ok-bytes.ensures.bytes (λ input is. c.deref.ensures.value ∙ is) in
-    let fault = err_from_is_err_and c.from_residual-in_err-script.result c.from_residual-in_err-script.ensures.1 in
-    named_as known _ c.deref.result.now 1048577 c.from_residual-in_err-script.result c.in_err-script.field-0.0 (lit< tt) read c.in_err-script.ensures.fault (fault.1 ∙ ap (λ f. Err f) fault.2)
-
-pub returns-in_err-script-clause-front : goal.returns-in_err-script-clause-front
-returns-in_err-script-clause-front g c = at_err c.from_residual-in_err-script.result (begins_each (g.R.Read.remaining c.args.reader.now) _)
+    (input_of known bytes, input_is_left known bytes, unparsed known bytes 1048577 _ c.from_residual-in_err-script.result c.in_err-script.field-0.0 (lit< tt) read c.in_err-script.ensures.fault (fault.1 ∙ ap (λ f. Err f) fault.2))
 
 pub returns-clause-ran : goal.returns-clause-ran
 returns-clause-ran g c =
     let known = g.R.Read.remaining c.args.reader.now in
+    let bytes = c.deref.result.now in
+    let script = c.in_ok-script.script in
     let read = IfSome_then known c.in_ok-bytes.ensures.bytes (λ input is. c.deref.ensures.value ∙ is) in
-    let is = whole_script known c.deref.result.now 1048577 c.in_ok-script.script (lit< tt) read c.in_ok-script.ensures.script in
-    on_ok_weaker c.tell.result (writes_that known _ _ c.in_ok-script.script is) c.tell.ensures.told
-
-pub returns-clause-refused : goal.returns-clause-refused
-returns-clause-refused g c =
-    let known = g.R.Read.remaining c.args.reader.now in
-    let read = IfSome_then known c.in_ok-bytes.ensures.bytes (λ input is. c.deref.ensures.value ∙ is) in
-    let is = whole_script known c.deref.result.now 1048577 c.in_ok-script.script (lit< tt) read c.in_ok-script.ensures.script in
-    no_bad_line _ known c.in_ok-script.script is
-
-pub returns-clause-front : goal.returns-clause-front
-returns-clause-front g c =
-    let known = g.R.Read.remaining c.args.reader.now in
-    let read = IfSome_then known c.in_ok-bytes.ensures.bytes (λ input is. c.deref.ensures.value ∙ is) in
-    let is = whole_script known c.deref.result.now 1048577 c.in_ok-script.script (lit< tt) read c.in_ok-script.ensures.script in
-    on_err_weaker c.tell.result (of_each (λ (script : Script). BeginsText script _ _) known c.in_ok-script.script is) c.tell.ensures.front
-
-pub returns-clause-so_far : goal.returns-clause-so_far
-returns-clause-so_far g c = λ failed.
-    let known = g.R.Read.remaining c.args.reader.now in
-    let read = IfSome_then known c.in_ok-bytes.ensures.bytes (λ input is. c.deref.ensures.value ∙ is) in
-    let is = whole_script known c.deref.result.now 1048577 c.in_ok-script.script (lit< tt) read c.in_ok-script.ensures.script in
-    of_each (λ (script : Script). BeginsTextSoFar script _ _) known c.in_ok-script.script is (c.tell.ensures.so_far failed)
-
-pub returns-in_err-script-clause-silent : goal.returns-in_err-script-clause-silent
-returns-in_err-script-clause-silent g c =
-    let known = g.R.Read.remaining c.args.reader.now in
-    let read = IfSome_then known c.in_ok-bytes.ensures.bytes (λ input is. c.deref.ensures.value ∙ is) in
-    let fault = err_from_is_err_and c.from_residual-in_err-script.result c.from_residual-in_err-script.ensures.1 in
-    silent_unparsed known _ c.deref.result.now 1048577 c.from_residual-in_err-script.result c.in_err-script.field-0.0 (lit< tt) read c.in_err-script.ensures.fault (fault.1 ∙ ap (λ f. Err f) fault.2)
-
-pub returns-clause-silent : goal.returns-clause-silent
-returns-clause-silent g c =
-    let known = g.R.Read.remaining c.args.reader.now in
-    let read = IfSome_then known c.in_ok-bytes.ensures.bytes (λ input is. c.deref.ensures.value ∙ is) in
-    let is = whole_script known c.deref.result.now 1048577 c.in_ok-script.script (lit< tt) read c.in_ok-script.ensures.script in
-    silent_told known _ _ c.tell.result c.in_ok-script.script is c.tell.ensures.silent
+    let is = whole_script known bytes 1048577 script (lit< tt) read c.in_ok-script.ensures.script in
+    (input_of known bytes, input_is_left known bytes, runs_script (input_of known bytes) script c.tell.result _ _ is c.tell.ensures)

@@ -1,39 +1,21 @@
-use Rattle.std.proofs.Common.{◌≡◌, ◌⊎◌, inl, Result, Ok, Err, IfErr}
-use Rattle.std.proofs.lemmas.Result.{on_ok_weaker, on_err_weaker}
-use Rattle.std.specs.Io.KnownBytes.{Appends}
-use Rattle.iom_runner.specs.declared.faults.RunFault.{RunFault}
-use Rattle.iom_runner.specs.declared.faults.RunFault.TheVariants.{Writing, Memory}
-use Rattle.iom_runner.specs.Text.{TellsRun, TellsWorld, TellsSoFar}
-use Rattle.iom_runner.specs.Writing.{AppendsFront, AppendsPart}
-use Rattle.iom_runner.proofs.TextLemmas.{begins_none, of_script}
-use Rattle.iom_runner.proofs.WritingLemmas.{at_err, at_fault}
+use Rattle.std.proofs.Common.{◌∙◌}
+use Rattle.std.proofs.lemmas.Result.{err_from_is_err_and}
+use Rattle.iom_runner.proofs.TextLemmas.{untold, told_script}
 use Rattle.iom_runner.proofs.runner.tell.Goals as goal
 
--- a fault of writing is one of those that can be
-writing_fault : {T : Type 0} (result : Result T RunFault) → IfErr result (λ fault. fault ≡ Writing) → IfErr result (λ fault. (fault ≡ Writing) ⊎ (fault ≡ Memory))
-writing_fault (Ok x) is = tt
-writing_fault (Err e) is = inl is
+pub returns-in_err-buffer : goal.returns-in_err-buffer
+returns-in_err-buffer g c =
+    let fault = err_from_is_err_and c.from_residual.result c.from_residual.ensures.1 in
+    untold c.args.script.now c.in-Some.size _ c.from_residual.result fault.0 c.in-Some.is fault.1 (fault.2 ∙ c.in_err-buffer.ensures.fault)
 
-pub returns-in_err-world-clause-front : goal.returns-in_err-world-clause-front
-returns-in_err-world-clause-front g c = at_err c.from_residual-in_err-world.result (begins_none c.args.script.now _)
+pub returns-in_err-world : goal.returns-in_err-world
+returns-in_err-world g c =
+    let fault = err_from_is_err_and c.from_residual-in_err-world.result c.from_residual-in_err-world.ensures.1 in
+    untold c.args.script.now c.in-Some.size _ c.from_residual-in_err-world.result fault.0 c.in-Some.is fault.1 (fault.2 ∙ c.in_err-world.ensures.fault)
 
-pub returns-in_err-buffer-clause-front : goal.returns-in_err-buffer-clause-front
-returns-in_err-buffer-clause-front g c = at_err c.from_residual.result (begins_none c.args.script.now _)
-
-pub returns-clause-told : goal.returns-clause-told
-returns-clause-told g c =
-    on_ok_weaker c.tell_run.result (of_script TellsWorld (Appends _ _) c.args.script.now c.in-Some.size _ c.in-Some.is c.as_slice.ensures)
-    (c.tell_run.ensures.told c.in-Some.size c.in_ok-world.ensures.begins)
-
-pub returns-clause-front : goal.returns-clause-front
-returns-clause-front g c =
-    on_err_weaker c.tell_run.result (of_script TellsRun (AppendsFront _ _) c.args.script.now c.in-Some.size _ c.in-Some.is c.as_slice.ensures)
-    (c.tell_run.ensures.front c.in-Some.size c.in_ok-world.ensures.begins)
-
-pub returns-clause-so_far : goal.returns-clause-so_far
-returns-clause-so_far g c = λ failed.
-    of_script TellsSoFar (AppendsPart _ _) c.args.script.now c.in-Some.size _ c.in-Some.is c.as_slice.ensures
-    (at_fault c.tell_run.result _ failed (c.tell_run.ensures.so_far c.in-Some.size c.in_ok-world.ensures.begins))
-
-pub returns-clause-fault : goal.returns-clause-fault
-returns-clause-fault g c = writing_fault c.tell_run.result c.tell_run.ensures.fault
+pub returns : goal.returns
+returns g c =
+    let begins = c.in_ok-world.ensures.begins in
+    let told = c.tell_run.ensures in
+    let size = c.in-Some.size in
+    told_script c.args.script.now size _ c.tell_run.result _ _ c.in-Some.is c.as_slice.ensures (told.told size begins) (told.front size begins) (told.so_far size begins) told.fault
