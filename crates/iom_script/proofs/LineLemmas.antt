@@ -34,24 +34,24 @@ found_line starts start line event one reads =
     reads_some (IsLineOf starts line) event (subst (Contains starts) (sym (only_start start (start_of event) q.0)) one, q.1) (λ other r. event_same line event other q.1 r.1)
 
 -- each line begins in one of the ways that there are
-begins_somehow : (line : List ℕ) (event : Event) → IsEventLine line event → IsLineOf (device_starts ++ ((driver_starts ++ single_starts) ++ processor_starts)) line event
-begins_somehow line (events.Read device address len) q = ((0, omega arith, refl), q)
-begins_somehow line (events.Commit device) q = ((1, omega arith, refl), q)
-begins_somehow line (events.Write device address bytes) q = ((2, omega arith, refl), q)
-begins_somehow line (events.Grant device page frame rights) q = ((3, omega arith, refl), q)
-begins_somehow line (events.Release device page) q = ((4, omega arith, refl), q)
-begins_somehow line (events.Plug device kind) q = ((5, omega arith, refl), q)
-begins_somehow line (events.Attach device mode ats) q = ((6, omega arith, refl), q)
-begins_somehow line (events.Detach device) q = ((7, omega arith, refl), q)
-begins_somehow line (events.Free frame) q = ((8, omega arith, refl), q)
-begins_somehow line events.Faults q = ((9, omega arith, refl), q)
-begins_somehow line events.Poll q = ((10, omega arith, refl), q)
-begins_somehow line events.Fetch q = ((11, omega arith, refl), q)
+begins_somehow : (line : List ℕ) (event : Event) → IsEventLine line event → IsLineOf (single_starts ++ (device_starts ++ (driver_starts ++ processor_starts))) line event
+begins_somehow line events.Poll q = ((0, omega arith, refl), q)
+begins_somehow line events.Fetch q = ((1, omega arith, refl), q)
+begins_somehow line events.Faults q = ((2, omega arith, refl), q)
+begins_somehow line (events.Read device address len) q = ((3, omega arith, refl), q)
+begins_somehow line (events.Commit device) q = ((4, omega arith, refl), q)
+begins_somehow line (events.Write device address bytes) q = ((5, omega arith, refl), q)
+begins_somehow line (events.Grant device page frame rights) q = ((6, omega arith, refl), q)
+begins_somehow line (events.Release device page) q = ((7, omega arith, refl), q)
+begins_somehow line (events.Plug device kind) q = ((8, omega arith, refl), q)
+begins_somehow line (events.Attach device mode ats) q = ((9, omega arith, refl), q)
+begins_somehow line (events.Detach device) q = ((10, omega arith, refl), q)
+begins_somehow line (events.Free frame) q = ((11, omega arith, refl), q)
 begins_somehow line (events.Peek address len) q = ((12, omega arith, refl), q)
 begins_somehow line (events.Poke address bytes) q = ((13, omega arith, refl), q)
 
 -- so what is read of a line that begins in any of them is read of the line
-pub any_line : (line : List ℕ) (result : Option Event) → Reads result (IsLineOf (device_starts ++ ((driver_starts ++ single_starts) ++ processor_starts)) line) → Reads result (IsEventLine line)
+pub any_line : (line : List ℕ) (result : Option Event) → Reads result (IsLineOf (single_starts ++ (device_starts ++ (driver_starts ++ processor_starts))) line) → Reads result (IsEventLine line)
 any_line line result reads = λ event. (λ e. ((reads event).0 e).1, λ q. (reads event).1 (begins_somehow line event q))
 
 -- what stands behind the first word of the line that says how large the world is

@@ -1,12 +1,12 @@
 -- A line taken apart from the left: what the private functions between the words and the events return. No public contract cites it.
-use Rattle.std.specs.Prelude.{◌≡◌, ◌≢◌, ℕ, ◌^◌, ◌<◌, ◌≤◌, List, [], ◌∷◌, ◌++◌, codes, length, take, slice_index, Contains, Option, option_map}
+use Rattle.std.specs.Prelude.{◌≡◌, ◌≢◌, ℕ, ◌-◌, ◌*◌, ◌^◌, ◌<◌, ◌≤◌, ◌&&◌, if◌then◌else◌, nat_le, All, List, [], ◌∷◌, ◌++◌, codes, length, take, slice_index, Contains, Option, option_map}
 use Rattle.std.specs.Borrow.{Bor}
 use Rattle.std.specs.Int.{IsInRange}
 use Rattle.std.specs.Str.Parse.{AllDigits, digits_value}
 use Rattle.iom_machine.specs.declared.event.Event.{Event}
 use Rattle.iom_machine.specs.declared.event.Event.TheVariants.{Plug, Attach, Detach, Grant, Release, Fetch, Poll, Faults, Read, Write, Commit, Poke, Peek, Free}
 use Rattle.iom_script.specs.Words.{◌␣◌, IsWithout, IsNumber}
-use Rattle.iom_script.specs.Digits.{hex_digit, hex_digits}
+use Rattle.iom_script.specs.Digits.{hex_digit, hex_digits, hex_of}
 use Rattle.iom_script.specs.Grammar.{IsEventLine}
 
 -- what a pair of slices shows
@@ -87,8 +87,21 @@ processor_starts = codes "peek " ∷ codes "poke " ∷ []
 -- how the lines begin that say what the driver is asked
 abbrev pub driver_starts : List (List ℕ)
 driver_starts =
-    codes "grant " ∷ codes "release " ∷ codes "device " ∷ codes "attach " ∷ codes "detach " ∷ codes "free " ∷ codes "faults" ∷ []
+    codes "grant " ∷ codes "release " ∷ codes "device " ∷ codes "attach " ∷ codes "detach " ∷ codes "free " ∷ []
 
--- the lines of what comes next: a step of the IOMMU, or a look of the driver
+-- the lines of a single word: a step of the IOMMU, or a look of the driver
 abbrev pub single_starts : List (List ℕ)
-single_starts = codes "poll" ∷ codes "fetch" ∷ []
+single_starts = codes "poll" ∷ codes "fetch" ∷ codes "faults" ∷ []
+
+-- the value of a byte as a lower-case hexadecimal digit, or 255
+abbrev pub value_of : ℕ → ℕ
+value_of byte = if nat_le 48 byte && nat_le byte 57 then byte - 48 else (if nat_le 97 byte && nat_le byte 102 then byte - 87 else 255)
+
+-- the digits say the bytes
+abbrev pub IsHexOf : List ℕ → List ℕ → Type 0
+IsHexOf digits bytes = All (λ byte. byte < 256) bytes × (digits ≡ hex_of bytes)
+
+-- so many bytes are what the first digits of the text say, two for each
+pub record SaysFirst (text : List ℕ) (count : ℕ) (bytes : List ℕ) : Type 0 where
+  pub many : length bytes ≡ count
+  pub said : IsHexOf (take (2 * count) text) bytes

@@ -155,17 +155,6 @@ fn free(line: &[u8]) -> Option<Event>
     Some(Event::Free { frame })
 }
 
-/// `faults`
-fn faults(line: &[u8]) -> Option<Event>
-    ensures { Reads result (IsLineWith (codes "faults") line.now) }
-{
-    if line == b"faults".as_slice() {
-        Some(Event::Faults)
-    } else {
-        None
-    }
-}
-
 /// A line on what the driver is asked, the commonest first.
 fn call_of_driver(line: &[u8]) -> Option<Event>
     ensures { Reads result (IsLineOf driver_starts line.now) }
@@ -176,8 +165,7 @@ fn call_of_driver(line: &[u8]) -> Option<Event>
         plug(line),
         attach(line),
         detach(line),
-        free(line),
-        faults(line)
+        free(line)
     )
 }
 
@@ -217,26 +205,30 @@ fn act_of_processor(alloc: Global, line: &[u8]) -> Result<Option<Event>, AllocEr
     }
 }
 
-/// `poll` or `fetch`
+/// `poll`, `fetch` or `faults`
 fn single(line: &[u8]) -> Option<Event>
     ensures { Reads result (IsLineOf single_starts line.now) }
 {
     match line {
         b"poll" => Some(Event::Poll),
         b"fetch" => Some(Event::Fetch),
+        b"faults" => Some(Event::Faults),
         _ => None,
     }
 }
 
-/// The event that a line says. Only the bytes of a write or a poke take memory.
+/// The event that a line says; the shortest lines are tried first. Only the bytes of a write or a
+/// poke take memory.
 pub(crate) fn event_of(alloc: Global, line: &[u8]) -> Result<Option<Event>, AllocError>
     ensures { IfOk result (λ event. Reads event (IsEventLine line.now)) }
 {
+    if let Some(event) = single(line) {
+        return Ok(Some(event));
+    }
     if let Some(event) = act_of_device(alloc, line)? {
         return Ok(Some(event));
     }
-    let first = first_of!(call_of_driver(line), single(line));
-    match first {
+    match call_of_driver(line) {
         Some(event) => Ok(Some(event)),
         None => act_of_processor(alloc, line),
     }

@@ -1,9 +1,10 @@
-ghost use Rattle.std.specs.Prelude.{◌≡◌, ◌/◌, ◌%◌, ◌^◌, ◌<◌, ◌≤◌, ◌++◌, length, IfOk};
+ghost use Rattle.std.specs.Prelude.{◌≡◌, ◌/◌, ◌%◌, ◌^◌, ◌*◌, ◌<◌, ◌≤◌, ◌++◌, length, IfOk, MatchOption, None};
 ghost use Rattle.memchr.specs.Find.{IsFirstByte, is_byte};
 ghost use Rattle.iom_script.specs.Digits.{hex_digit, hex_digits};
 ghost use Rattle.iom_script.specs.Words.{Reads, IsDevice, IsNumber, IsAddress, IsRight, IsMode, IsHex};
-ghost use Rattle.iom_script.specs.Cuts.{shown, shown_rest, with_rest, IsCut, Begins, LeadsWithHex, LeadsWithDecimal, LeadsWithNumber};
+ghost use Rattle.iom_script.specs.Cuts.{shown, shown_rest, with_rest, IsCut, Begins, LeadsWithHex, LeadsWithDecimal, LeadsWithNumber, SaysFirst};
 
+use crate::lanes::eight_bytes;
 use iom_base::{DeviceId, GrantRights, Mode, Sequence};
 use memchr::memchr_iter;
 use std::alloc::{AllocError, Global};
@@ -180,6 +181,20 @@ fn byte_of(high: u8, low: u8) -> Option<u8>
     Some(high * 16 + low)
 }
 
+/// The bytes that whole groups of sixteen digits say, with room for all of the text's.
+fn first_bytes(alloc: Global, text: &[u8]) -> Result<Option<Vec<u8>>, AllocError>
+    ensures { IfOk result (λ read. MatchOption read (Reads None (IsHex text.now)) (λ bytes. SaysFirst text.now (8 * (length text.now / 16)) bytes.items)) }
+{
+    let mut bytes = Vec::with_capacity(alloc, text.len() / 2)?;
+    for group in 0..text.len() / 16 {
+        match eight_bytes(&text[16 * group..16 * group + 16]) {
+            Some(eight) => bytes.extend_from_slice(&eight)?,
+            None => return Ok(None),
+        }
+    }
+    Ok(Some(bytes))
+}
+
 /// The bytes that the word says. They take memory once, as much as they need.
 pub(crate) fn bytes_of(alloc: Global, text: &[u8]) -> Result<Option<Sequence<u8>>, AllocError>
     ensures { IfOk result (λ bytes. Reads bytes (IsHex text.now)) }
@@ -187,15 +202,16 @@ pub(crate) fn bytes_of(alloc: Global, text: &[u8]) -> Result<Option<Sequence<u8>
     if text.len() < 2 || text.len() > 8192 || text.len() % 2 != 0 {
         return Ok(None);
     }
-    let count = text.len() / 2;
-    let mut bytes = Sequence::with_capacity(alloc, count)?;
-    for i in 0..count {
+    let Some(mut bytes) = first_bytes(alloc, text)? else {
+        return Ok(None);
+    };
+    for i in bytes.len()..text.len() / 2 {
         match byte_of(text[2 * i], text[2 * i + 1]) {
             Some(byte) => bytes.push(byte)?,
             None => return Ok(None),
         }
     }
-    Ok(Some(bytes))
+    Ok(Some(Sequence::from_vec(bytes)))
 }
 
 /// The device that the first word names, and what follows it.

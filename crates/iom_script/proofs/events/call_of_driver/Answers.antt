@@ -18,26 +18,19 @@ returns-in-Some-attach c = found_line driver_starts (codes "attach ") c.args.lin
 pub returns-in-Some-detach : goal.returns-in-Some-detach
 returns-in-Some-detach c = found_line driver_starts (codes "detach ") c.args.line.now c.in-Some-detach.event (4, omega arith, refl) c.in-Some-detach.ensures
 
-pub returns-in-Some-free : goal.returns-in-Some-free
-returns-in-Some-free c = found_line driver_starts (codes "free ") c.args.line.now c.in-Some-free.event (5, omega arith, refl) c.in-Some-free.ensures
-
 -- the beginnings of which each is tried where none before it is the line's
-abbrev from_free : List (List ℕ)
-from_free = codes "free " ∷ codes "faults" ∷ []
-
 abbrev from_attach : List (List ℕ)
-from_attach = codes "attach " ∷ codes "detach " ∷ from_free
+from_attach = codes "attach " ∷ codes "detach " ∷ codes "free " ∷ []
 
 abbrev from_release : List (List ℕ)
 from_release = codes "release " ∷ codes "device " ∷ from_attach
 
-pub returns-in-None-free : goal.returns-in-None-free
-returns-in-None-free c =
+pub returns-in-None-detach : goal.returns-in-None-detach
+returns-in-None-detach c =
     let line = c.args.line.now in
-    let event = c.faults.result in
-    let free = either_line line (codes "free " ∷ []) (codes "faults" ∷ []) None event c.in-None-free.ensures c.faults.ensures in
-    let detach = either_line line (codes "detach " ∷ []) from_free None event c.in-None-detach.ensures free in
-    let attach = either_line line (codes "attach " ∷ []) (codes "detach " ∷ from_free) None event c.in-None-attach.ensures detach in
+    let event = c.free.result in
+    let detach = either_line line (codes "detach " ∷ []) (codes "free " ∷ []) None event c.in-None-detach.ensures c.free.ensures in
+    let attach = either_line line (codes "attach " ∷ []) (codes "detach " ∷ codes "free " ∷ []) None event c.in-None-attach.ensures detach in
     let plug = either_line line (codes "device " ∷ []) from_attach None event c.in-None-plug.ensures attach in
     let release = either_line line (codes "release " ∷ []) (codes "device " ∷ from_attach) None event c.in-None-release.ensures plug in
     either_line line (codes "grant " ∷ []) from_release None event c.in-None.ensures release

@@ -1,0 +1,50 @@
+//! Sixteen hexadecimal digits at once.
+ghost use Rattle.std.specs.Prelude.{◌≡◌, ◌<◌, ◌↔◌, length, map, IsTrue};
+ghost use Rattle.std.specs.List.{AllByRecursion};
+ghost use Rattle.iom_script.specs.Digits.{hex_digit};
+ghost use Rattle.iom_script.specs.Words.{Reads};
+ghost use Rattle.iom_script.specs.Cuts.{value_of, IsHexOf};
+
+use std::simd::prelude::*;
+
+/// The value of each byte as a lower-case hexadecimal digit, or 255.
+fn values_of(text: u8x16) -> u8x16
+    ensures { result ≡ map value_of text }
+{
+    let decimal = text - u8x16::splat(b'0');
+    let letter = text - u8x16::splat(b'a');
+    let is_letter = letter.simd_lt(u8x16::splat(6));
+    let other = is_letter.select(letter + u8x16::splat(10), u8x16::splat(255));
+    decimal.simd_lt(u8x16::splat(10)).select(decimal, other)
+}
+
+/// Whether all of them are below 16.
+fn are_values(values: u8x16) -> bool
+    ensures { IsTrue result ↔ AllByRecursion (λ value. value < 16) values }
+{
+    values.simd_lt(u8x16::splat(16)).to_bitmask() == 0xffff
+}
+
+/// The bytes that have two of these values each, the higher half first.
+fn joined(values: u8x16) -> [u8; 8]
+    requires { AllByRecursion (λ value. value < 16) values }
+    ensures { IsHexOf (map hex_digit values) result }
+{
+    // The first of two values is in the lower byte of its lane.
+    let pairs = u16x8::from_le_bytes(values);
+    let bytes = pairs % u16x8::splat(256) * u16x8::splat(16) + pairs / u16x8::splat(256);
+    bytes.cast::<u8>().to_array()
+}
+
+/// The eight bytes that sixteen hexadecimal digits say.
+pub(crate) fn eight_bytes(digits: &[u8]) -> Option<[u8; 8]>
+    requires { length digits.now ≡ 16 }
+    ensures { Reads result (IsHexOf digits.now) }
+{
+    let values = values_of(u8x16::from_slice(digits));
+    if are_values(values) {
+        Some(joined(values))
+    } else {
+        None
+    }
+}
