@@ -1,4 +1,5 @@
-/// Why 16 bytes are no command: the first of these that applies.
+/// Why 16 bytes are no command: the first of these that applies. When each does is `IsIllegal` in
+/// `specs/Decoded.antt`.
 #[derive(Clone, Copy, PartialEq, Eq, Debug)]
 pub enum Illegal {
     /// No command has this opcode.
@@ -7,6 +8,7 @@ pub enum Illegal {
     Func,
     /// A reserved bit is set.
     Reserved,
-    /// The command may not have these of its bits set.
+    /// A bit of a field is set that the command doesn't allow: PSCV of IOTINVAL.GVMA (section
+    /// 3.1.1), G of ATS.INVAL (section 3.1.4).
     Combination,
 }

@@ -19,7 +19,7 @@ pub record IsNonLeafEntry (word : ℕ) (entry : NonLeafEntry) : Type 0 where
   pub next : entry.next.number ≡ bits 53 10 word
   pub clear_above : bits 63 54 word ≡ 0
 
--- the cause with which a word is no entry: it isn't valid; or it is, and a reserved bit is set
+-- the cause with which a word is no entry: it isn't valid (cause 258); or it is, and a reserved bit is set (259)
 abbrev pub IsNonLeafEntryRefused : ℕ → Cause → Type 0
 IsNonLeafEntryRefused word cause =
     ((bits 0 0 word ≡ 0) × (cause ≡ DirectoryEntryNotValid))
@@ -31,7 +31,7 @@ IsFirstStage mode ppn first.Bare = mode ≡ 0
 IsFirstStage mode ppn (first.Sv39 root) = (mode ≡ 8) × (root.number ≡ ppn)
 
 -- MODE and PPN of iohgatp (section 2.1.3.2): 0 Bare, whatever PPN is; 8 Sv39x4, whose root is 16 KiB and aligned to that, so PPN is a multiple
--- of 4. No other mode is offered
+-- of 4, as the number of each `GuestRoot` is (src/values.rt). No other mode is offered
 abbrev pub IsSecondStage : ℕ → ℕ → SecondStage → Type 0
 IsSecondStage mode ppn second.Bare = mode ≡ 0
 IsSecondStage mode ppn (second.Sv39x4 root) = (mode ≡ 8) × (root.number ≡ ppn)
@@ -69,7 +69,7 @@ IsContextMisconfigured w =
     ⊎ (((stage : FirstStage) → ¬ IsFirstStage (bits 63 60 w.fsc) (bits 43 0 w.fsc) stage)
     ⊎ ((stage : SecondStage) → ¬ IsSecondStage (bits 63 60 w.iohgatp) (bits 43 0 w.iohgatp) stage))
 
--- the cause with which words are no context: they aren't valid; or they are, and are misconfigured
+-- the cause with which words are no context: they aren't valid (cause 258); or they are, and are misconfigured (259)
 abbrev pub IsContextRefused : ContextWords → Cause → Type 0
 IsContextRefused w cause =
     ((bits 0 0 w.tc ≡ 0) × (cause ≡ DirectoryEntryNotValid))

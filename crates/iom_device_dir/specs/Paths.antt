@@ -91,7 +91,7 @@ ids_below (suc (suc level)) = 2 ^ 24
 abbrev pub FindsFromLevel : ℕ → List (List ℕ) → ℕ → ℕ → Context → Type 0
 FindsFromLevel level memory root id context = (id < ids_below level) × LeadsToContext memory level root id context
 
--- it stops: the id is too wide for the levels that there are, or its indices lead to an entry or a load with this cause
+-- it stops: the id is too wide for the levels that there are (cause 260), or its indices lead to an entry or a load with this cause
 abbrev pub StopsFromLevel : ℕ → List (List ℕ) → ℕ → ℕ → Cause → Type 0
 StopsFromLevel level memory root id cause =
     ((ids_below level ≤ id) × (cause ≡ TransactionTypeDisallowed)) ⊎ ((id < ids_below level) × StopsBeforeContext memory level root id cause)
@@ -107,7 +107,7 @@ FindsByMode ThreeLevels memory root id context = FindsFromLevel 2 memory root id
 abbrev pub FindsContext : List (List ℕ) → DirectoryPointer → ℕ → Context → Type 0
 FindsContext memory ddtp id context = FindsByMode ddtp.mode memory ddtp.ppn id context
 
--- the id's path stops with this cause: where the mode is Off, no transaction is allowed. Where it is Bare nobody looks for a context
+-- the id's path stops with this cause: where the mode is Off, no transaction is allowed (cause 256). Where it is Bare nobody looks for a context
 abbrev pub StopsByMode : DirectoryMode → List (List ℕ) → ℕ → ℕ → Cause → Type 0
 StopsByMode Off memory root id cause = cause ≡ AllInboundDisallowed
 StopsByMode Bare memory root id cause = ⊥

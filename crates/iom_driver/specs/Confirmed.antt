@@ -1,4 +1,5 @@
--- What becomes of leaving devices, and of their frames, once their tickets are confirmed.
+-- What becomes of leaving devices, and of their frames, once their tickets are confirmed. Which tickets a poll confirms is said by
+-- `ConfirmsDone` in Polling.antt.
 use Rattle.std.specs.Prelude.{◌≡◌, ℕ, nat_le, Bool, true, false, List, length, Option, None, Some, slice_get, if◌then◌else◌}
 use Rattle.iom_base.specs.declared.owner.Owner.{Owner}
 use Rattle.iom_base.specs.declared.owner.Owner.TheVariants.{System, OneDevice}

@@ -11,12 +11,15 @@
 //! physical pages. In both stages the first one's tables are the guest's own business, with their root in its
 //! page 0.
 //!
-//! The layers above may rely on this. The whole effect of each call is one relation, over the driver, memory
-//! and whatever has registers, by the answer (`specs/Calls.antt`, and `Attaching`, `Leaving`, `Polling` and
-//! `Reports` beside it); a refusal is the first that applies, and changes nothing. What ties a driver to memory
-//! and registers between its calls is `IsReady` (`specs/Ready.antt`): each call asks it and gives it back, and
-//! [`laws`] says what others may change meanwhile. The directory has a context for each attached device and for
-//! no other. A device that was detached keeps its frames and its number until a poll confirms its ticket.
+//! The layers above may rely on this. The whole effect of each call is one relation, over the
+//! driver, memory and whatever has registers, by the answer (`specs/Calls.antt`, and `Attaching`,
+//! `Leaving`, `Polling` and `Reports` beside it); a refusal is the first that applies, in the order
+//! of `specs/Reasons.antt`, and changes nothing. What ties a driver to memory and registers between
+//! its calls is `IsReady` (`specs/Ready.antt`): each call asks it and gives it back, and [`laws`]
+//! says what others may change meanwhile. The directory has a context for each attached device and
+//! for no other. A poll confirms the tickets that wait and aren't above the completion word, from
+//! the oldest on (`ConfirmsDone` in `specs/Polling.antt`). A device that was detached keeps its
+//! frames and its number until a poll confirms its ticket.
 //!
 //! [`Mode`]: iom_base::Mode
 #![tactic(auto)]

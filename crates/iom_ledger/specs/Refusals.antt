@@ -1,4 +1,5 @@
--- The numbers and names of refusals, the line that tells one, and which of several reasons is told.
+-- The numbers and names of refusals, the line that tells one, and which of several reasons is told. The reasons of each call, in their
+-- order, are not the ledger's: `specs/Refusals.antt` of iom_machine has them.
 use Rattle.std.specs.Prelude.{◌≡◌, ℕ, Bool, List, [], ◌∷◌, ◌++◌, Option, Some, None, MatchOption, codes, if◌then◌else◌}
 use Rattle.std.specs.Fmt.{decimal}
 use Rattle.iom_ledger.specs.declared.refusal.Refusal.{Refusal}

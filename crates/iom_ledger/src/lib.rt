@@ -1,5 +1,6 @@
 //! The ledger of grants: which device holds which frame at which page with which right, and what it
-//! has released and may still reach until the release's ticket is confirmed.
+//! has released and may still reach until the release's ticket is confirmed: until then it
+//! *lingers*.
 //!
 //! The RISC-V IOMMU Architecture Specification 1.0 has no such table: an IOMMU follows the bytes that
 //! software puts into memory, and which device is to reach what is for software to know.

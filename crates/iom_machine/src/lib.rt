@@ -2,8 +2,11 @@
 //!
 //! It has no tables, directory, caches, commands or messages: a state is a history of grants, the
 //! frames with their owners and bytes, and the devices with their accesses in flight. `specs/` says
-//! which steps are lawful; the layers above are proved to take lawful steps alone, and the laws of
-//! this crate say what every run of lawful steps has.
+//! which steps are lawful: `Machine.antt` has one relation for each event, and so says when the
+//! frames of a device that leaves come back; `Refusals.antt` has the reasons of each refusal, in
+//! their order; `Requests.antt` what a request may be answered, of a page that lingers too. The
+//! layers above are proved to take lawful steps alone, and the laws of this crate say what every
+//! run of lawful steps has.
 #![tactic(auto)]
 
 mod choice;

@@ -43,9 +43,12 @@ value_of r Ipsr = ipsr_value r.ipsr
 abbrev pub index_at_switch : Bool → Bool → ℕ → ℕ
 index_at_switch was_on is_on index = if not was_on && is_on then 0 else index
 
+-- what a write of cqcsr leaves: turning cqen from 0 to 1 sets cqh to 0, and clears cqmf, cmd_to, cmd_ill and fence_w_ip
+-- (`cqcsr_written` in Fields.antt)
 abbrev pub with_cqcsr : Registers → CommandStatus → Registers
 with_cqcsr r bits = record r { cqh = index_at_switch r.cqcsr.cqen bits.cqen r.cqh; cqcsr = cqcsr_written r.cqcsr bits }
 
+-- the same of fqcsr: turning fqen from 0 to 1 sets fqt to 0, and clears fqmf and fqof (`fqcsr_written` there)
 abbrev pub with_fqcsr : Registers → FaultStatus → Registers
 with_fqcsr r bits = record r { fqt = index_at_switch r.fqcsr.fqen bits.fqen r.fqt; fqcsr = fqcsr_written r.fqcsr bits }
 

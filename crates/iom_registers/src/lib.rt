@@ -2,10 +2,12 @@
 //! leaves, and what the hardware itself changes.
 //!
 //! The registers are those of the RISC-V IOMMU Architecture Specification 1.0, chapter 5
-//! ("Memory-mapped register interface"): `specs/Table.antt` is its table, register by register, to be read
-//! beside it. A driver reaches them through [`Mmio`], and may be proved over any value that meets it; the
-//! queues reach [`Registers`] by its methods, each of which says the whole value that it leaves. The layers
-//! above speak of the registers by the words of `specs/Queues.antt`, and never by fields.
+//! ("Memory-mapped register interface"): `specs/Table.antt` is its table, register by register, to
+//! be read beside it; the bits of each register, and which of them a write clears, are
+//! `specs/Fields.antt`. A driver reaches them through [`Mmio`], and may be proved over any value
+//! that meets it; the queues reach [`Registers`] by its methods, each of which says the whole value
+//! that it leaves. The layers above speak of the registers by the words of `specs/Queues.antt`, and
+//! never by fields.
 //!
 //! Where the specification leaves a choice: a register is accessed at its own offset and with its own
 //! width; writes take effect at once, so that `busy` reads 0 and `cqon` and `fqon` are `cqen` and `fqen`; a
