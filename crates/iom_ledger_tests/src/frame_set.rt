@@ -1,9 +1,23 @@
+use crate::expect::{expect, expect_eq};
 use iom_frame_set::FrameSet;
 use std::alloc::{AllocError, Global};
+use std::process::Abort;
 use std::test::Fail;
 
-/// A set of these frames, with room for each below 6,000.
-fn set_of(alloc: Global, frames: &[u32]) -> Result<FrameSet, AllocError> {
+// The sets of a test are boxed: of what a test owns in place each later proof would carry every part.
+
+/// A set of all frames.
+fn full(alloc: Global) -> Result<Box<FrameSet>, Fail> {
+    Ok(Box::new(alloc, FrameSet::full(alloc))?)
+}
+
+/// A set of these frames.
+fn set_of(alloc: Global, frames: &[u32]) -> Result<Box<FrameSet>, Fail> {
+    Ok(Box::new(alloc, with_frames(alloc, frames)?)?)
+}
+
+/// The same in place, with room for each frame below 6,000.
+fn with_frames(alloc: Global, frames: &[u32]) -> Result<FrameSet, AllocError> {
     let mut set = FrameSet::empty(alloc);
     set.make_room(5999)?;
     for frame in frames {
@@ -14,48 +28,73 @@ fn set_of(alloc: Global, frames: &[u32]) -> Result<FrameSet, AllocError> {
     Ok(set)
 }
 
+/// A limit, the named frame, and the highest frame below the limit that is in both sets and isn't named.
+type Case = (u32, Option<u32>, Option<u32>);
+
+const WITH_ALL: [Case; 11] = [
+    (u32::MAX, None, Some(5000)),
+    (u32::MAX, Some(5000), Some(130)),
+    (5000, None, Some(130)),
+    (5000, Some(64), Some(130)),
+    (130, None, Some(64)),
+    (130, Some(64), Some(63)),
+    (64, Some(63), Some(3)),
+    (63, None, Some(3)),
+    (4, Some(3), None),
+    (3, None, None),
+    (0, None, None),
+];
+
+const WITH_OTHER: [Case; 4] = [
+    (u32::MAX, None, Some(64)),
+    (64, None, Some(3)),
+    (5000, Some(64), Some(3)),
+    (3, None, None),
+];
+
+/// Asked of either set, each case is answered so.
+fn are_found(rt: &impl Abort, set: &FrameSet, with: &FrameSet, cases: &[Case]) {
+    for (limit, named, highest) in cases {
+        expect_eq(rt, &set.highest_in_both(with, *limit, *named), highest);
+        expect_eq(rt, &with.highest_in_both(set, *limit, *named), highest);
+    }
+}
+
 #[test]
 fn the_highest_frame_in_both_is_found(rt: HostRuntime) -> Result<(), Fail> {
-    let all = FrameSet::full(rt.alloc());
+    let all = full(rt.alloc())?;
     let set = set_of(rt.alloc(), &[3, 63, 64, 130, 5000])?;
     let other = set_of(rt.alloc(), &[2, 3, 62, 65, 64, 131, 4096, 5001])?;
-    let cases = [
-        (&all, u32::MAX, None, Some(5000)),
-        (&all, u32::MAX, Some(5000), Some(130)),
-        (&all, 5000, None, Some(130)),
-        (&all, 5000, Some(64), Some(130)),
-        (&all, 130, None, Some(64)),
-        (&all, 130, Some(64), Some(63)),
-        (&all, 64, Some(63), Some(3)),
-        (&all, 63, None, Some(3)),
-        (&all, 4, Some(3), None),
-        (&all, 3, None, None),
-        (&all, 0, None, None),
-        (&other, u32::MAX, None, Some(64)),
-        (&other, 64, None, Some(3)),
-        (&other, 5000, Some(64), Some(3)),
-        (&other, 3, None, None),
-    ];
-    for (with, limit, named, highest) in cases {
-        assert_eq!(rt; set.highest_in_both(with, limit, named), highest);
-        assert_eq!(rt; with.highest_in_both(&set, limit, named), highest);
+    are_found(&rt, &set, &all, &WITH_ALL);
+    are_found(&rt, &set, &other, &WITH_OTHER);
+    Ok(())
+}
+
+/// The highest frame of both below 4,096, besides the named one, is this.
+fn is_highest(rt: &impl Abort, set: &FrameSet, all: &FrameSet, named: Option<u32>, highest: u32) {
+    let found = set.highest_in_both(all, 4096, named);
+    expect_eq(rt, &found, &Some(highest));
+}
+
+/// All frames but 8 are taken out, one by one.
+fn take_out(set: &mut FrameSet) -> Result<(), AllocError> {
+    set.make_room(4095)?;
+    for frame in (8..4096u32).rev() {
+        set.remove(frame);
     }
     Ok(())
 }
 
-/// From the largest memory all frames but 7 are taken out, one by one.
+/// From the largest memory all frames but 8 are taken out, one by one.
 #[test]
 fn a_frame_that_is_taken_out_is_found_no_more(rt: HostRuntime) -> Result<(), Fail> {
-    let mut set = FrameSet::full(rt.alloc());
-    let all = FrameSet::full(rt.alloc());
-    set.make_room(4095)?;
-    assert_eq!(rt; set.highest_in_both(&all, 4096, None), Some(4095));
-    for frame in (8..4096u32).rev() {
-        set.remove(frame);
-    }
-    assert!(rt; !set.contains(4095));
-    assert!(rt; set.contains(4096));
-    assert_eq!(rt; set.highest_in_both(&all, 4096, None), Some(7));
-    assert_eq!(rt; set.highest_in_both(&all, 4096, Some(7)), Some(6));
+    let mut set = full(rt.alloc())?;
+    let all = full(rt.alloc())?;
+    is_highest(&rt, &set, &all, None, 4095);
+    take_out(&mut set)?;
+    expect(&rt, !set.contains(4095));
+    expect(&rt, set.contains(4096));
+    is_highest(&rt, &set, &all, None, 7);
+    is_highest(&rt, &set, &all, Some(7), 6);
     Ok(())
 }

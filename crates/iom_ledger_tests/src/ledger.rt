@@ -1,5 +1,6 @@
+use crate::expect::{expect, expect_eq};
 use iom_base::{DeviceId, Rights};
-use iom_ledger::{HistoryEntry, Ledger, MAX_PENDING, Refusal};
+use iom_ledger::{HistoryEntry, Ledger, MAX_PENDING, Refusal, Row};
 use std::alloc::{AllocError, Global};
 use std::process::Abort;
 use std::test::Fail;
@@ -31,13 +32,28 @@ const REFUSALS: [(Refusal, &str); 23] = [
     (Refusal::BadQueue, "refused 23 BadQueue"),
 ];
 
+fn is_told(
+    rt: &(impl Abort + AllocGlobal),
+    refusal: Refusal,
+    line: &str,
+) -> Result<(), AllocError> {
+    let text = format!(in rt.alloc(); "{refusal}")?;
+    expect_eq(rt, &text.as_str(), &line);
+    Ok(())
+}
+
 #[test]
 fn each_refusal_is_told_by_number_and_name(rt: HostRuntime) -> Result<(), Fail> {
     for (refusal, line) in REFUSALS {
-        let text = format!(in rt.alloc(); "{refusal}")?;
-        assert_eq!(rt; text.as_str(), line);
+        is_told(&rt, refusal, line)?;
     }
     Ok(())
+}
+
+/// A ledger of no grants, boxed: of what a test owns in place each later proof would carry every part.
+pub(crate) fn ledger_of(alloc: Global, frames: u32) -> Result<Box<Ledger>, AllocError> {
+    let ledger = Ledger::new(alloc, frames)?;
+    Ok(Box::new(alloc, ledger)?)
 }
 
 /// Brings an entry about by the ledger's calls.
@@ -210,6 +226,17 @@ fn later_entries<'a>() -> [(HistoryEntry, &'a str); 7] {
     ]
 }
 
+/// Each page, frame and device looks so, and so many tickets are pending.
+fn looks(
+    rt: &(impl Abort + AllocGlobal),
+    ledger: &Ledger,
+    expected: &str,
+) -> Result<(), AllocError> {
+    let line = answers(rt.alloc(), ledger)?;
+    expect_eq(rt, &line.as_str(), &expected);
+    Ok(())
+}
+
 /// Brings the entries about, and looks everything up after each.
 fn follow(
     rt: &(impl Abort + AllocGlobal),
@@ -218,19 +245,14 @@ fn follow(
 ) -> Result<(), Fail> {
     for (entry, expected) in entries {
         bring_about(ledger, *entry)?;
-        let line = answers(rt.alloc(), ledger)?;
-        assert_eq!(rt; line.as_str(), *expected);
+        looks(rt, ledger, expected)?;
     }
     Ok(())
 }
 
-/// Two devices hold the frame, one of them at two pages: it is free once the last ticket is confirmed.
-#[test]
-fn a_frame_of_two_devices_is_free_after_the_last_confirmation(rt: HostRuntime) -> Result<(), Fail> {
-    // The counts grow beyond the four frames.
-    let mut ledger = Ledger::new(rt.alloc(), 4)?;
-    assert!(rt; ledger.is_free(5));
-    let walk = [
+/// Entries that name frame 5, each with whether the frame is free then.
+fn entries_of_two_devices() -> [(HistoryEntry, bool); 18] {
+    [
         (granted(1, 3, 5, Rights::RW), false),
         (granted(1, 4, 5, Rights::R), false),
         (released(1, 3, 1), false),
@@ -249,48 +271,87 @@ fn a_frame_of_two_devices_is_free_after_the_last_confirmation(rt: HostRuntime) -
         (confirmed(6), false),
         (confirmed(5), false),
         (confirmed(4), true),
-    ];
-    for (entry, is_free) in walk {
-        bring_about(&mut ledger, entry)?;
-        assert_eq!(rt; ledger.is_free(5), is_free);
+    ]
+}
+
+/// Brings the entries about, and looks after each whether frame 5 is free.
+fn follow_free(
+    rt: &impl Abort,
+    ledger: &mut Ledger,
+    entries: &[(HistoryEntry, bool)],
+) -> Result<(), Fail> {
+    for (entry, is_free) in entries {
+        bring_about(ledger, *entry)?;
+        expect_eq(rt, &ledger.is_free(5), is_free);
     }
-    assert!(rt; ledger.is_free(6));
-    assert!(rt; ledger.is_free(u32::MAX));
+    Ok(())
+}
+
+/// Two devices hold the frame, one of them at two pages: it is free once the last ticket is confirmed.
+#[test]
+fn a_frame_of_two_devices_is_free_after_the_last_confirmation(rt: HostRuntime) -> Result<(), Fail> {
+    // The counts grow beyond the four frames.
+    let mut ledger = ledger_of(rt.alloc(), 4)?;
+    expect(&rt, ledger.is_free(5));
+    follow_free(&rt, &mut ledger, &entries_of_two_devices())?;
+    expect(&rt, ledger.is_free(6));
+    expect(&rt, ledger.is_free(u32::MAX));
     Ok(())
 }
 
 #[test]
 fn each_lookup_answers_what_the_history_says(rt: HostRuntime) -> Result<(), Fail> {
-    let mut ledger = Ledger::new(rt.alloc(), 8)?;
-    let first = answers(rt.alloc(), &ledger)?;
-    assert_eq!(rt; first.as_str(), "- - - free 5 6 7 holds lingers pending 0");
+    let mut ledger = ledger_of(rt.alloc(), 8)?;
+    looks(&rt, &ledger, "- - - free 5 6 7 holds lingers pending 0")?;
     follow(&rt, &mut ledger, &first_entries())?;
     follow(&rt, &mut ledger, &later_entries())
+}
+
+/// The grant of frame 5 at the page was refused, and the row was this: nothing has changed.
+fn is_unchanged(
+    rt: &impl Abort,
+    ledger: &Ledger,
+    device: DeviceId,
+    page: u64,
+    before: &Option<Row>,
+) {
+    expect_eq(rt, &ledger.row(5).copied(), before);
+    expect_eq(rt, &ledger.holds(device, page), &None);
+    expect_eq(rt, &ledger.lingers(device, page), &None);
+    expect_eq(rt, &ledger.holds_anything(device), &(page > 0));
+}
+
+/// The device is granted frame 5 at the page, which is vacant, at the second call where it is refused at the
+/// first.
+fn grant_again(
+    rt: &impl Abort,
+    ledger: &mut Ledger,
+    device: DeviceId,
+    page: u64,
+) -> Result<(), Fail> {
+    if ledger.holds(device, page).is_none() && ledger.lingers(device, page).is_none() {
+        let before = ledger.row(5).copied();
+        if ledger.grant(device, page, 5, Rights::R).is_err() {
+            is_unchanged(rt, ledger, device, page, &before);
+            ledger.grant(device, page, 5, Rights::R)?;
+        }
+        expect_eq(rt, &ledger.holds(device, page), &Some((5, Rights::R)));
+        expect(rt, !ledger.is_vacant(device, page));
+    }
+    Ok(())
 }
 
 #[test]
 fn a_refused_call_changes_nothing_and_succeeds_at_once_when_repeated(
     rt: HostRuntime,
 ) -> Result<(), Fail> {
-    let made = Ledger::new(rt.alloc(), 2);
-    let mut ledger = match made {
+    let mut ledger = match ledger_of(rt.alloc(), 2) {
         Ok(ledger) => ledger,
-        Err(_) => Ledger::new(rt.alloc(), 2)?,
+        Err(_) => ledger_of(rt.alloc(), 2)?,
     };
     for device in 1..4 {
         for page in 0..20 {
-            if ledger.holds(device, page).is_none() && ledger.lingers(device, page).is_none() {
-                let before = ledger.row(5).copied();
-                if ledger.grant(device, page, 5, Rights::R).is_err() {
-                    assert_eq!(rt; ledger.row(5).copied(), before);
-                    assert_eq!(rt; ledger.holds(device, page), None);
-                    assert_eq!(rt; ledger.lingers(device, page), None);
-                    assert_eq!(rt; ledger.holds_anything(device), page > 0);
-                    ledger.grant(device, page, 5, Rights::R)?;
-                }
-                assert_eq!(rt; ledger.holds(device, page), Some((5, Rights::R)));
-                assert!(rt; !ledger.is_vacant(device, page));
-            }
+            grant_again(&rt, &mut ledger, device, page)?;
         }
     }
     Ok(())
@@ -302,14 +363,9 @@ fn highest_free(ledger: &Ledger, limit: u32, named: Option<u32>) -> Option<u32> 
     free.highest_in_both(free, limit, named)
 }
 
-/// Of six frames 4 and 2 are granted, and 5 and one beyond memory after them: the free ones come and go with
-/// the rows, and those beyond memory are free too.
-#[test]
-fn the_free_frames_are_those_of_no_row(rt: HostRuntime) -> Result<(), Fail> {
-    let mut ledger = Ledger::new(rt.alloc(), 6)?;
-    assert!(rt; ledger.free_frames().contains(u32::MAX));
-    assert_eq!(rt; highest_free(&ledger, u32::MAX, None), Some(u32::MAX - 1));
-    let walk = [
+/// Entries, each with the highest free frame of six then.
+fn entries_of_six_frames() -> [(HistoryEntry, Option<u32>); 11] {
+    [
         (granted(1, 3, 4, Rights::RW), Some(5)),
         (granted(2, 3, 4, Rights::R), Some(5)),
         (granted(1, 4, 2, Rights::R), Some(5)),
@@ -321,14 +377,34 @@ fn the_free_frames_are_those_of_no_row(rt: HostRuntime) -> Result<(), Fail> {
         (confirmed(2), Some(4)),
         (all_released(1, 3), Some(4)),
         (confirmed(3), Some(5)),
-    ];
-    for (entry, highest) in walk {
-        bring_about(&mut ledger, entry)?;
-        assert_eq!(rt; highest_free(&ledger, 6, None), highest);
-        assert!(rt; ledger.free_frames().contains(3));
+    ]
+}
+
+/// Brings the entries about, and looks for the highest free frame of six after each. Frame 3 stays free.
+fn follow_highest(
+    rt: &impl Abort,
+    ledger: &mut Ledger,
+    entries: &[(HistoryEntry, Option<u32>)],
+) -> Result<(), Fail> {
+    for (entry, highest) in entries {
+        bring_about(ledger, *entry)?;
+        expect_eq(rt, &highest_free(ledger, 6, None), highest);
+        expect(rt, ledger.free_frames().contains(3));
     }
-    assert_eq!(rt; highest_free(&ledger, 4, Some(3)), Some(2));
-    assert_eq!(rt; highest_free(&ledger, 1, Some(0)), None);
-    assert!(rt; ledger.free_frames().contains(900));
+    Ok(())
+}
+
+/// Of six frames 4 and 2 are granted, and 5 and one beyond memory after them: the free ones come and go with
+/// the rows, and those beyond memory are free too.
+#[test]
+fn the_free_frames_are_those_of_no_row(rt: HostRuntime) -> Result<(), Fail> {
+    let mut ledger = ledger_of(rt.alloc(), 6)?;
+    expect(&rt, ledger.free_frames().contains(u32::MAX));
+    let last = highest_free(&ledger, u32::MAX, None);
+    expect_eq(&rt, &last, &Some(u32::MAX - 1));
+    follow_highest(&rt, &mut ledger, &entries_of_six_frames())?;
+    expect_eq(&rt, &highest_free(&ledger, 4, Some(3)), &Some(2));
+    expect_eq(&rt, &highest_free(&ledger, 1, Some(0)), &None);
+    expect(&rt, ledger.free_frames().contains(900));
     Ok(())
 }

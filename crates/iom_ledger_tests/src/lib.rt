@@ -5,6 +5,8 @@
 #![tactic(auto)]
 
 #[cfg(test)]
+mod expect;
+#[cfg(test)]
 mod frame_rows;
 #[cfg(test)]
 mod frame_set;

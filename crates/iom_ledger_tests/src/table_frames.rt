@@ -1,79 +1,206 @@
+ghost use Rattle.std.specs.Prelude.{◌≡◌, length};
+
 use iom_base::{Owner, Rights};
 use iom_ledger::Ledger;
 use iom_phys_mem::{Bytes, Memory};
 use iom_table_frames::TableFrames;
+use std::alloc::Global;
+use std::process::Abort;
 use std::test::Fail;
+
+/// How many frames a bench has.
+const FRAMES: u32 = 64;
+
+const ONE: Owner = Owner::OneDevice(1);
+
+const TWO: Owner = Owner::OneDevice(2);
+
+/// A memory with no table in it yet, and the ledger of its frames.
+#[derive(Drop)]
+struct Bench {
+    memory: Memory,
+    ledger: Ledger,
+    tables: TableFrames,
+    ghost marked: { length tables ≡ length memory },
+}
+
+/// A call, or a look at a word of memory.
+#[derive(Clone, Copy, Debug)]
+enum Step {
+    /// The frame is granted to device 1.
+    Grant(u32),
+    IsReserved(u32),
+    HighestFree(u32, Option<u32>),
+    HasFree(u32, Option<u32>),
+    Take(Owner, Option<u32>),
+    TakeFour(Owner),
+    GiveBack(Owner),
+    /// The first word of the frame.
+    Load(u64),
+    Store(u64, u64),
+}
+
+/// What it answers.
+#[derive(Clone, Copy, PartialEq, Eq, Debug)]
+enum Answer {
+    Nothing,
+    Is(bool),
+    Frame(Option<u32>),
+    Word(Option<u64>),
+}
+
+impl Bench {
+    fn new(alloc: Global) -> Result<Bench, Fail> {
+        Ok(Bench {
+            memory: Memory::new(alloc, FRAMES)?,
+            tables: TableFrames::new(alloc, FRAMES)?,
+            ledger: Ledger::new(alloc, FRAMES)?,
+        })
+    }
+
+    /// Boxed: of what a test owns in place each later proof would carry every part.
+    fn boxed(alloc: Global) -> Result<Box<Bench>, Fail> {
+        let bench = Bench::new(alloc)?;
+        Ok(Box::new(alloc, bench)?)
+    }
+
+    fn grant(&mut self, frame: u32) -> Result<(), Fail> {
+        if self.ledger.is_vacant(1, 3) {
+            self.ledger.grant(1, 3, frame, Rights::R)?;
+        }
+        Ok(())
+    }
+
+    fn highest_free(&self, limit: u32, named: Option<u32>) -> Option<u32> {
+        if limit > self.memory.frames() {
+            return None;
+        }
+        self.tables.highest_free(&self.ledger, limit, named)
+    }
+
+    fn has_free(&self, count: u32, named: Option<u32>) -> bool {
+        let _frames = self.memory.frames();
+        self.tables.has_free(&self.ledger, count, named)
+    }
+
+    fn take(&mut self, owner: Owner, named: Option<u32>) -> Option<u32> {
+        self.tables
+            .take(&mut self.memory, &self.ledger, owner, named)
+    }
+
+    fn take_four(&mut self, owner: Owner) -> Option<u32> {
+        self.tables.take_four(&mut self.memory, &self.ledger, owner)
+    }
+
+    fn load(&self, frame: u64) -> Option<u64> {
+        self.memory.load_u64(frame.checked_mul(4096)?)
+    }
+
+    fn store(&mut self, frame: u64, value: u64) -> Option<()> {
+        self.memory.store_u64(frame.checked_mul(4096)?, value)
+    }
+
+    fn answer(&mut self, step: Step) -> Result<Answer, Fail> {
+        Ok(match step {
+            Step::Grant(frame) => {
+                self.grant(frame)?;
+                Answer::Nothing
+            }
+            Step::IsReserved(frame) => Answer::Is(self.tables.is_reserved(frame)),
+            Step::HighestFree(limit, named) => Answer::Frame(self.highest_free(limit, named)),
+            Step::HasFree(count, named) => Answer::Is(self.has_free(count, named)),
+            Step::Take(owner, named) => Answer::Frame(self.take(owner, named)),
+            Step::TakeFour(owner) => Answer::Frame(self.take_four(owner)),
+            Step::GiveBack(owner) => {
+                self.tables.give_back(&mut self.memory, owner);
+                Answer::Nothing
+            }
+            Step::Load(frame) => Answer::Word(self.load(frame)),
+            Step::Store(frame, value) => {
+                self.store(frame, value).ok_or("in memory")?;
+                Answer::Nothing
+            }
+        })
+    }
+
+    /// Takes the steps one after another.
+    fn follow(&mut self, rt: &impl Abort, steps: &[(Step, Answer)]) -> Result<(), Fail> {
+        for (step, expected) in steps {
+            let answer = self.answer(*step)?;
+            assert_eq!(rt; answer, *expected, "{step:?}");
+        }
+        Ok(())
+    }
+}
+
+const HIGHEST: [(Step, Answer); 17] = [
+    (Step::IsReserved(59), Answer::Is(false)),
+    (Step::IsReserved(60), Answer::Is(true)),
+    (Step::IsReserved(63), Answer::Is(true)),
+    (Step::IsReserved(64), Answer::Is(false)),
+    (Step::Grant(59), Answer::Nothing),
+    (Step::HighestFree(64, None), Answer::Frame(Some(58))),
+    (Step::HighestFree(1, Some(0)), Answer::Frame(None)),
+    (Step::Store(58, 7), Answer::Nothing),
+    (Step::Take(ONE, Some(58)), Answer::Frame(Some(57))),
+    (Step::Take(TWO, None), Answer::Frame(Some(58))),
+    (Step::Load(58), Answer::Word(Some(0))),
+    (Step::Store(57, 7), Answer::Nothing),
+    (Step::GiveBack(ONE), Answer::Nothing),
+    (Step::Load(57), Answer::Word(Some(0))),
+    (Step::IsReserved(58), Answer::Is(true)),
+    (Step::IsReserved(57), Answer::Is(false)),
+    (Step::Take(ONE, None), Answer::Frame(Some(57))),
+];
 
 /// With 64 frames and one grant of frame 59, tables come from 58 down, and never lie on a fixed frame. Each is
 /// zero when it is taken, and what its owner gives back is taken again.
 #[test]
 fn the_highest_free_frame_is_taken(rt: HostRuntime) -> Result<(), Fail> {
-    let mut memory = Memory::new(rt.alloc(), 64)?;
-    let mut ledger = Ledger::new(rt.alloc(), 64)?;
-    let mut tables = TableFrames::new(rt.alloc(), 64)?;
-    assert!(rt; !tables.is_reserved(59));
-    assert!(rt; tables.is_reserved(60));
-    assert!(rt; tables.is_reserved(63));
-    assert!(rt; !tables.is_reserved(64));
-    if ledger.is_vacant(1, 3) {
-        ledger.grant(1, 3, 59, Rights::R)?;
-    }
-    assert_eq!(rt; tables.highest_free(&ledger, 64, None), Some(58));
-    assert_eq!(rt; tables.highest_free(&ledger, 1, Some(0)), None);
-    let _ = memory.store_u64(58 * 4096, 7);
-    let one = Owner::OneDevice(1);
-    assert_eq!(rt; tables.take(&mut memory, &ledger, one, Some(58)), Some(57));
-    let other = tables.take(&mut memory, &ledger, Owner::OneDevice(2), None);
-    assert_eq!(rt; other, Some(58));
-    assert_eq!(rt; memory.load_u64(58 * 4096), Some(0));
-    let _ = memory.store_u64(57 * 4096, 7);
-    tables.give_back(&mut memory, one);
-    assert_eq!(rt; memory.load_u64(57 * 4096), Some(0));
-    assert!(rt; tables.is_reserved(58));
-    assert!(rt; !tables.is_reserved(57));
-    assert_eq!(rt; tables.take(&mut memory, &ledger, one, None), Some(57));
-    Ok(())
+    let mut bench = Bench::boxed(rt.alloc())?;
+    bench.follow(&rt, &HIGHEST)
 }
 
 /// Of 64 frames 4 are fixed, so 60 can be taken, and one less where one of them is named.
 #[test]
 fn no_frame_is_taken_where_none_is_free(rt: HostRuntime) -> Result<(), Fail> {
-    let mut memory = Memory::new(rt.alloc(), 64)?;
-    let ledger = Ledger::new(rt.alloc(), 64)?;
-    let mut tables = TableFrames::new(rt.alloc(), 64)?;
+    let mut bench = Bench::boxed(rt.alloc())?;
     for left in (1..61u32).rev() {
-        assert!(rt; tables.has_free(&ledger, left, None));
-        assert!(rt; !tables.has_free(&ledger, left + 1, None));
-        assert!(rt; !tables.has_free(&ledger, left, Some(0)));
-        let frame = tables.take(&mut memory, &ledger, Owner::System, None);
-        assert_eq!(rt; frame, Some(left - 1));
+        bench.follow(
+            &rt,
+            &[
+                (Step::HasFree(left, None), Answer::Is(true)),
+                (Step::HasFree(left + 1, None), Answer::Is(false)),
+                (Step::HasFree(left, Some(0)), Answer::Is(false)),
+                (
+                    Step::Take(Owner::System, None),
+                    Answer::Frame(Some(left - 1)),
+                ),
+            ],
+        )?;
     }
-    assert_eq!(rt;
-        tables.take(&mut memory, &ledger, Owner::System, None),
-        None
-    );
-    Ok(())
+    let last = (Step::Take(Owner::System, None), Answer::Frame(None));
+    bench.follow(&rt, &[last])
 }
+
+const FOUR: [(Step, Answer); 11] = [
+    (Step::Grant(58), Answer::Nothing),
+    (Step::Store(55, 7), Answer::Nothing),
+    (Step::TakeFour(ONE), Answer::Frame(Some(52))),
+    (Step::Load(55), Answer::Word(Some(0))),
+    (Step::IsReserved(52), Answer::Is(true)),
+    (Step::IsReserved(53), Answer::Is(true)),
+    (Step::IsReserved(54), Answer::Is(true)),
+    (Step::IsReserved(55), Answer::Is(true)),
+    (Step::IsReserved(51), Answer::Is(false)),
+    (Step::IsReserved(56), Answer::Is(false)),
+    (Step::TakeFour(ONE), Answer::Frame(Some(48))),
+];
 
 /// Of 64 frames 60 to 63 are fixed, and device 1 holds 58: the highest four that are free are 52 to 55. They are
 /// zero when they are taken.
 #[test]
 fn the_highest_four_free_frames_are_taken(rt: HostRuntime) -> Result<(), Fail> {
-    let mut memory = Memory::new(rt.alloc(), 64)?;
-    let mut ledger = Ledger::new(rt.alloc(), 64)?;
-    let mut tables = TableFrames::new(rt.alloc(), 64)?;
-    if ledger.is_vacant(1, 3) {
-        ledger.grant(1, 3, 58, Rights::R)?;
-    }
-    let _ = memory.store_u64(55 * 4096, 7);
-    let one = Owner::OneDevice(1);
-    assert_eq!(rt; tables.take_four(&mut memory, &ledger, one), Some(52));
-    assert_eq!(rt; memory.load_u64(55 * 4096), Some(0));
-    for frame in 52..56 {
-        assert!(rt; tables.is_reserved(frame));
-    }
-    assert!(rt; !tables.is_reserved(51));
-    assert!(rt; !tables.is_reserved(56));
-    assert_eq!(rt; tables.take_four(&mut memory, &ledger, one), Some(48));
-    Ok(())
+    let mut bench = Bench::boxed(rt.alloc())?;
+    bench.follow(&rt, &FOUR)
 }

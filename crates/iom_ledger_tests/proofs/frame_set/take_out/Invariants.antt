@@ -1,7 +1,7 @@
 use Rattle.std.proofs.Common.{◌<◌}
 use Rattle.iom_frame_set.specs.Sets.{room}
-use Rattle.iom_ledger_tests.proofs.frame_set.a_frame_that_is_taken_out_is_found_no_more.Given as goal
+use Rattle.iom_ledger_tests.proofs.frame_set.take_out.Given as goal
 
 -- there is room for each frame of the largest memory
 abbrev pub invariant-loop-frame : goal.invariant-loop-frame
-invariant-loop-frame g l = 4095 < room l.set
+invariant-loop-frame l = 4095 < room l.set
