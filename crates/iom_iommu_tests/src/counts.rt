@@ -1,11 +1,8 @@
 // Which accesses a fence waits for.
-use crate::setup::{
-    BASE_VALUE, CQCSR, CQT, DDTP, DEVICE, ask, commit, fetch, put, put_in_flight, turned_on, write,
-};
+use crate::bench::Bench;
+use crate::setup::{BASE_VALUE, CQCSR, CQT, DDTP, DEVICE};
 use iom_command_queue::Command;
-use iom_iommu::{Fetched, Iommu, Reply};
-use iom_phys_mem::Memory;
-use iom_tlb::Ioatc;
+use iom_iommu::{Fetched, Reply};
 use std::alloc::Global;
 use std::process::Abort;
 use std::test::Fail;
@@ -26,45 +23,42 @@ fn did(pr: bool, pw: bool) -> Fetched {
     })
 }
 
-/// An IOMMU at whose head two fences with PR stand, the first of which waits for a read. A second read was accepted
+/// A bench at whose head two fences with PR stand, the first of which waits for a read. A second read was accepted
 /// since.
-fn waiting(rt: &impl Abort, alloc: Global, memory: &mut Memory) -> Result<Iommu<Ioatc>, Fail> {
-    let mut iommu = turned_on(rt, alloc, BASE_VALUE)?;
-    put(rt, memory, 0, WITH_PR, 0);
-    put(rt, memory, 1, WITH_PR, 0);
-    write(rt, &mut iommu, CQT, 2);
-    put_in_flight(rt, &mut iommu, memory);
-    assert_eq!(rt; fetch(rt, &mut iommu, memory), Fetched::Waiting);
-    let second = ask(rt, &mut iommu, memory, DEVICE, 0x3000, b"");
-    assert_eq!(rt; second, Reply::Accepted(2));
-    Ok(iommu)
+fn waiting(rt: &impl Abort, alloc: Global) -> Result<Box<Bench>, Fail> {
+    let mut bench = Bench::turned_on(rt, alloc, BASE_VALUE)?;
+    bench.put(rt, 0, WITH_PR, 0);
+    bench.put(rt, 1, WITH_PR, 0);
+    bench.write(rt, CQT, 2);
+    bench.put_in_flight(rt);
+    bench.expect_fetch(rt, Fetched::Waiting);
+    bench.expect_reply(rt, DEVICE, 0x3000, b"", Reply::Accepted(2));
+    Ok(bench)
 }
 
 // A fence doesn't wait for what was accepted after its first fetch. The next one counts anew.
 #[test]
 fn later_accesses_are_not_waited_for(rt: HostRuntime) -> Result<(), Fail> {
-    let mut memory = Memory::new(rt.alloc(), 64)?;
-    let mut iommu = waiting(&rt, rt.alloc(), &mut memory)?;
-    assert_eq!(rt; fetch(&rt, &mut iommu, &mut memory), Fetched::Waiting);
-    commit(&rt, &mut iommu, &mut memory);
-    assert_eq!(rt; fetch(&rt, &mut iommu, &mut memory), did(true, false));
-    assert_eq!(rt; fetch(&rt, &mut iommu, &mut memory), Fetched::Waiting);
-    commit(&rt, &mut iommu, &mut memory);
-    assert_eq!(rt; fetch(&rt, &mut iommu, &mut memory), did(true, false));
+    let mut bench = waiting(&rt, rt.alloc())?;
+    bench.expect_fetch(&rt, Fetched::Waiting);
+    bench.commit(&rt);
+    bench.expect_fetch(&rt, did(true, false));
+    bench.expect_fetch(&rt, Fetched::Waiting);
+    bench.commit(&rt);
+    bench.expect_fetch(&rt, did(true, false));
     Ok(())
 }
 
 // Turned off and on, the queue begins at its first entry, and the fence there counts anew.
 #[test]
 fn the_count_is_given_up(rt: HostRuntime) -> Result<(), Fail> {
-    let mut memory = Memory::new(rt.alloc(), 64)?;
-    let mut iommu = waiting(&rt, rt.alloc(), &mut memory)?;
-    write(&rt, &mut iommu, CQCSR, 2);
-    write(&rt, &mut iommu, CQCSR, 3);
-    commit(&rt, &mut iommu, &mut memory);
-    assert_eq!(rt; fetch(&rt, &mut iommu, &mut memory), Fetched::Waiting);
-    commit(&rt, &mut iommu, &mut memory);
-    assert_eq!(rt; fetch(&rt, &mut iommu, &mut memory), did(true, false));
+    let mut bench = waiting(&rt, rt.alloc())?;
+    bench.write(&rt, CQCSR, 2);
+    bench.write(&rt, CQCSR, 3);
+    bench.commit(&rt);
+    bench.expect_fetch(&rt, Fetched::Waiting);
+    bench.commit(&rt);
+    bench.expect_fetch(&rt, did(true, false));
     Ok(())
 }
 
@@ -76,14 +70,12 @@ fn answers(
     bytes: &[u8],
     wanted: Fetched,
 ) -> Result<(), Fail> {
-    let mut memory = Memory::new(alloc, 64)?;
-    let mut iommu = turned_on(rt, alloc, BASE_VALUE)?;
-    put(rt, &mut memory, 0, word, 0);
-    write(rt, &mut iommu, CQT, 1);
-    write(rt, &mut iommu, DDTP, 1);
-    let reply = ask(rt, &mut iommu, &mut memory, DEVICE, 0x3000, bytes);
-    assert_eq!(rt; reply, Reply::Accepted(1));
-    assert_eq!(rt; fetch(rt, &mut iommu, &mut memory), wanted);
+    let mut bench = Bench::turned_on(rt, alloc, BASE_VALUE)?;
+    bench.put(rt, 0, word, 0);
+    bench.write(rt, CQT, 1);
+    bench.write(rt, DDTP, 1);
+    bench.expect_reply(rt, DEVICE, 0x3000, bytes, Reply::Accepted(1));
+    bench.expect_fetch(rt, wanted);
     Ok(())
 }
 

@@ -1,7 +1,4 @@
-use crate::setup::{BASE_VALUE, DDTP, FRAMES, turned_on, write};
-use iom_iommu::Iommu;
-use iom_phys_mem::{Bytes, Memory};
-use iom_tlb::Ioatc;
+use crate::bench::Bench;
 use std::alloc::Global;
 use std::process::Abort;
 use std::test::Fail;
@@ -32,27 +29,7 @@ const WORDS: [(u64, u64); 9] = [
     (0x34000, 0x4001),
 ];
 
-/// A memory with these words at these addresses.
-pub(crate) fn memory_with(alloc: Global, words: &[(u64, u64)]) -> Result<Memory, Fail> {
-    let mut memory = Memory::new(alloc, FRAMES)?;
-    for (address, word) in words.iter() {
-        memory.store_u64(*address, *word).ok_or("in memory")?;
-    }
-    Ok(memory)
-}
-
-/// A memory with the directories.
-pub(crate) fn directories(alloc: Global) -> Result<Memory, Fail> {
-    memory_with(alloc, &WORDS)
-}
-
-/// An IOMMU whose command queue is on and whose `ddtp` is written.
-pub(crate) fn with_directory(
-    rt: &impl Abort,
-    alloc: Global,
-    ddtp: u64,
-) -> Result<Iommu<Ioatc>, Fail> {
-    let mut iommu = turned_on(rt, alloc, BASE_VALUE)?;
-    write(rt, &mut iommu, DDTP, ddtp);
-    Ok(iommu)
+/// A bench with the directories, whose command queue is on and whose `ddtp` is written.
+pub(crate) fn directories(rt: &impl Abort, alloc: Global, ddtp: u64) -> Result<Box<Bench>, Fail> {
+    Bench::with_directory(rt, alloc, &WORDS, ddtp)
 }

@@ -7,9 +7,13 @@
 #![tactic(auto)]
 
 #[cfg(test)]
+mod bench;
+#[cfg(test)]
 mod counts;
 #[cfg(test)]
 mod directories;
+#[cfg(test)]
+mod expect;
 #[cfg(test)]
 mod fences;
 #[cfg(test)]

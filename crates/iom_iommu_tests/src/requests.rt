@@ -1,33 +1,23 @@
-use crate::directories::{CONTEXT, ONE_LEVEL, THREE_LEVELS, directories, with_directory};
-use crate::setup::{CQT, DEVICE, ask, commit, fetch, put, write};
+use crate::bench::Bench;
+use crate::directories::{CONTEXT, ONE_LEVEL, THREE_LEVELS, directories};
+use crate::expect::{expect, expect_eq};
+use crate::setup::{CQT, DEVICE};
 use iom_base::{AccessKind, Cause};
 use iom_iommu::Reply;
-use iom_phys_mem::Bytes;
 use std::alloc::Global;
 use std::process::Abort;
 use std::test::Fail;
 
 /// A read and a write are accepted and made: the bytes of the write are stored when it is made, and not before.
 fn serves(rt: &impl Abort, alloc: Global, ddtp: u64) -> Result<(), Fail> {
-    let mut memory = directories(alloc)?;
-    let mut iommu = with_directory(rt, alloc, ddtp)?;
-    let read = ask(rt, &mut iommu, &mut memory, DEVICE, 0x3010, b"");
-    assert_eq!(rt; read, Reply::Accepted(1));
-    let written = ask(rt, &mut iommu, &mut memory, DEVICE, 0x3018, b"\xaa\xbb");
-    assert_eq!(rt; written, Reply::Accepted(2));
-    let made = commit(rt, &mut iommu, &mut memory).ok_or("a read")?;
-    assert_eq!(rt;
-        (made.frame, made.offset, made.kind),
-        (32, 16, AccessKind::Read)
-    );
-    assert_eq!(rt; memory.load_u64(0x20018), Some(0));
-    let made = commit(rt, &mut iommu, &mut memory).ok_or("a write")?;
-    assert_eq!(rt;
-        (made.frame, made.offset, made.kind),
-        (32, 24, AccessKind::Write)
-    );
-    assert_eq!(rt; memory.load_u64(0x20018), Some(0xbbaa));
-    assert!(rt; commit(rt, &mut iommu, &mut memory).is_none());
+    let mut bench = directories(rt, alloc, ddtp)?;
+    bench.expect_reply(rt, DEVICE, 0x3010, b"", Reply::Accepted(1));
+    bench.expect_reply(rt, DEVICE, 0x3018, b"\xaa\xbb", Reply::Accepted(2));
+    bench.expect_made(rt, (32, 16, AccessKind::Read));
+    bench.expect_word(rt, 0x20018, 0);
+    bench.expect_made(rt, (32, 24, AccessKind::Write));
+    bench.expect_word(rt, 0x20018, 0xbbaa);
+    expect(rt, bench.commit(rt).is_none());
     Ok(())
 }
 
@@ -46,10 +36,9 @@ fn answer(
     address: u64,
     word: u64,
 ) -> Result<Reply, Fail> {
-    let mut memory = directories(alloc)?;
-    memory.store_u64(address, word).ok_or("in memory")?;
-    let mut iommu = with_directory(rt, alloc, ddtp)?;
-    Ok(ask(rt, &mut iommu, &mut memory, DEVICE, 0x3010, b""))
+    let mut bench = directories(rt, alloc, ddtp)?;
+    bench.store(rt, address, word);
+    Ok(bench.ask(rt, DEVICE, 0x3010, b""))
 }
 
 /// It is refused with this cause.
@@ -62,7 +51,14 @@ fn refuses(
     cause: Cause,
 ) -> Result<(), Fail> {
     let reply = answer(rt, alloc, ddtp, address, word)?;
-    assert_eq!(rt; reply, Reply::Fault(cause));
+    expect_eq(rt, &reply, &Reply::Fault(cause));
+    Ok(())
+}
+
+/// It is accepted where that word is 0.
+fn accepts(rt: &impl Abort, alloc: Global, ddtp: u64, address: u64) -> Result<(), Fail> {
+    let reply = answer(rt, alloc, ddtp, address, 0)?;
+    expect_eq(rt, &reply, &Reply::Accepted(1));
     Ok(())
 }
 
@@ -103,38 +99,45 @@ fn causes(rt: HostRuntime) -> Result<(), Fail> {
         1,
         Cause::DirectoryLoadFault,
     )?;
-    assert_eq!(rt; answer(&rt, rt.alloc(), 1, CONTEXT, 0)?, Reply::Accepted(1));
-    assert_eq!(rt;
-        answer(&rt, rt.alloc(), ONE_LEVEL, CONTEXT + 24, 0)?,
-        Reply::Accepted(1)
-    );
-    Ok(())
+    accepts(&rt, rt.alloc(), 1, CONTEXT)?;
+    accepts(&rt, rt.alloc(), ONE_LEVEL, CONTEXT + 24)
 }
 
 // Without translation the address is that of memory, of which there are 64 frames.
 #[test]
 fn edges(rt: HostRuntime) -> Result<(), Fail> {
-    let mut memory = directories(rt.alloc())?;
-    let mut iommu = with_directory(&rt, rt.alloc(), 1)?;
-    let last = ask(&rt, &mut iommu, &mut memory, DEVICE, 0x3_ffff, b"");
-    assert_eq!(rt; last, Reply::Accepted(1));
-    let read = ask(&rt, &mut iommu, &mut memory, DEVICE, 0x4_0000, b"");
-    assert_eq!(rt; read, Reply::Fault(Cause::ReadAccessFault));
-    let written = ask(&rt, &mut iommu, &mut memory, DEVICE, 0x4_0000, b"\xaa");
-    assert_eq!(rt; written, Reply::Fault(Cause::WriteAccessFault));
-    let leaves = ask(&rt, &mut iommu, &mut memory, DEVICE, 0x3fff, b"\xaa\xbb");
-    assert_eq!(rt; leaves, Reply::BadSpan);
+    let mut bench = directories(&rt, rt.alloc(), 1)?;
+    bench.expect_reply(&rt, DEVICE, 0x3_ffff, b"", Reply::Accepted(1));
+    bench.expect_reply(
+        &rt,
+        DEVICE,
+        0x4_0000,
+        b"",
+        Reply::Fault(Cause::ReadAccessFault),
+    );
+    bench.expect_reply(
+        &rt,
+        DEVICE,
+        0x4_0000,
+        b"\xaa",
+        Reply::Fault(Cause::WriteAccessFault),
+    );
+    bench.expect_reply(&rt, DEVICE, 0x3fff, b"\xaa\xbb", Reply::BadSpan);
     Ok(())
 }
 
 // An id of 8 bits is too wide for a directory of one level.
 #[test]
 fn a_wide_id(rt: HostRuntime) -> Result<(), Fail> {
-    let mut memory = directories(rt.alloc())?;
-    let mut iommu = with_directory(&rt, rt.alloc(), ONE_LEVEL)?;
-    assert!(rt; iommu.add(128));
-    let wide = ask(&rt, &mut iommu, &mut memory, 128, 0x3010, b"");
-    assert_eq!(rt; wide, Reply::Fault(Cause::TransactionTypeDisallowed));
+    let mut bench = directories(&rt, rt.alloc(), ONE_LEVEL)?;
+    expect(&rt, bench.add(128));
+    bench.expect_reply(
+        &rt,
+        128,
+        0x3010,
+        b"",
+        Reply::Fault(Cause::TransactionTypeDisallowed),
+    );
     Ok(())
 }
 
@@ -146,21 +149,22 @@ fn invalidate(device: u8) -> u64 {
 // A context stays cached when memory changes, and when another device's is dropped, until its own is.
 #[test]
 fn a_context_is_cached(rt: HostRuntime) -> Result<(), Fail> {
-    let mut memory = directories(rt.alloc())?;
-    let mut iommu = with_directory(&rt, rt.alloc(), ONE_LEVEL)?;
-    put(&rt, &mut memory, 0, invalidate(4), 0);
-    put(&rt, &mut memory, 1, invalidate(5), 0);
-    write(&rt, &mut iommu, CQT, 2);
-    let first = ask(&rt, &mut iommu, &mut memory, DEVICE, 0x3010, b"");
-    assert_eq!(rt; first, Reply::Accepted(1));
-    memory.store_u64(CONTEXT, 0).ok_or("in memory")?;
-    let cached = ask(&rt, &mut iommu, &mut memory, DEVICE, 0x3010, b"");
-    assert_eq!(rt; cached, Reply::Accepted(2));
-    fetch(&rt, &mut iommu, &mut memory);
-    let still = ask(&rt, &mut iommu, &mut memory, DEVICE, 0x3010, b"");
-    assert_eq!(rt; still, Reply::Accepted(3));
-    fetch(&rt, &mut iommu, &mut memory);
-    let dropped = ask(&rt, &mut iommu, &mut memory, DEVICE, 0x3010, b"");
-    assert_eq!(rt; dropped, Reply::Fault(Cause::DirectoryEntryNotValid));
+    let mut bench = directories(&rt, rt.alloc(), ONE_LEVEL)?;
+    bench.put(&rt, 0, invalidate(4), 0);
+    bench.put(&rt, 1, invalidate(5), 0);
+    bench.write(&rt, CQT, 2);
+    bench.expect_reply(&rt, DEVICE, 0x3010, b"", Reply::Accepted(1));
+    bench.store(&rt, CONTEXT, 0);
+    bench.expect_reply(&rt, DEVICE, 0x3010, b"", Reply::Accepted(2));
+    bench.fetch(&rt);
+    bench.expect_reply(&rt, DEVICE, 0x3010, b"", Reply::Accepted(3));
+    bench.fetch(&rt);
+    bench.expect_reply(
+        &rt,
+        DEVICE,
+        0x3010,
+        b"",
+        Reply::Fault(Cause::DirectoryEntryNotValid),
+    );
     Ok(())
 }

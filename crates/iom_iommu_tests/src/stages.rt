@@ -1,10 +1,9 @@
 // Requests of devices with a second stage, alone and below a first: by tables, and by what is cached of them.
-use crate::directories::{CONTEXT, ONE_LEVEL, memory_with, with_directory};
-use crate::setup::{CQT, DEVICE, ask, commit, fetch, put, write};
+use crate::bench::Bench;
+use crate::directories::{CONTEXT, ONE_LEVEL};
+use crate::setup::{CQT, DEVICE};
 use iom_base::Cause;
-use iom_iommu::{Iommu, Reply};
-use iom_phys_mem::{Bytes, Memory};
-use iom_tlb::Ioatc;
+use iom_iommu::Reply;
 use std::alloc::Global;
 use std::process::Abort;
 use std::test::Fail;
@@ -36,43 +35,31 @@ const WORDS: [(u64, u64); 12] = [
     (0x26018, 0x24d7),
 ];
 
-/// A memory with the tables, and with this word as fsc.
-fn tables(alloc: Global, fsc: u64) -> Result<Memory, Fail> {
-    let mut memory = memory_with(alloc, &WORDS)?;
-    memory.store_u64(CONTEXT + 24, fsc).ok_or("in memory")?;
-    Ok(memory)
+/// A bench with the tables, and with this word as fsc.
+fn tables(rt: &impl Abort, alloc: Global, fsc: u64) -> Result<Box<Bench>, Fail> {
+    let mut bench = Bench::with_directory(rt, alloc, &WORDS, ONE_LEVEL)?;
+    bench.store(rt, CONTEXT + 24, fsc);
+    Ok(bench)
 }
 
-/// The frame of a read at the address, which is accepted and made.
-fn frame(
-    rt: &impl Abort,
-    iommu: &mut Iommu<Ioatc>,
-    memory: &mut Memory,
-    address: u64,
-) -> Result<u32, Fail> {
-    let reply = ask(rt, iommu, memory, DEVICE, address, b"");
-    assert!(rt; matches!(&reply, Reply::Accepted(_)), "{reply:?}");
-    let made = commit(rt, iommu, memory).ok_or("in flight")?;
-    Ok(made.frame)
+/// A read at the address is accepted on the frame 32, or refused with this cause.
+fn is_answered(rt: &impl Abort, bench: &mut Bench, address: u64, refused: Option<Cause>) {
+    match refused {
+        None => bench.goes_to(rt, address, b"", 32),
+        Some(cause) => bench.expect_reply(rt, DEVICE, address, b"", Reply::Fault(cause)),
+    }
 }
 
-/// Reads at these addresses are accepted on the frame 32, or refused with these causes.
+/// Reads at these addresses are so.
 fn answers(
     rt: &impl Abort,
     alloc: Global,
     fsc: u64,
     wanted: &[(u64, Option<Cause>)],
 ) -> Result<(), Fail> {
-    let mut memory = tables(alloc, fsc)?;
-    let mut iommu = with_directory(rt, alloc, ONE_LEVEL)?;
+    let mut bench = tables(rt, alloc, fsc)?;
     for (address, refused) in wanted {
-        match refused {
-            None => assert_eq!(rt; frame(rt, &mut iommu, &mut memory, *address)?, 32),
-            Some(cause) => {
-                let reply = ask(rt, &mut iommu, &mut memory, DEVICE, *address, b"");
-                assert_eq!(rt; reply, Reply::Fault(*cause));
-            }
-        }
+        is_answered(rt, &mut bench, *address, *refused);
     }
     Ok(())
 }
@@ -103,24 +90,44 @@ fn both_stages_serve(rt: HostRuntime) -> Result<(), Fail> {
     answers(&rt, rt.alloc(), GUEST_TABLES + 3, &[(0x3010, third)])
 }
 
-/// The frame of a read at the address after a command, where the second stage's leaf of the page that is cached was
-/// changed in memory before it.
-fn frame_after(
+/// A read at the address goes to this frame after a command, where the second stage's leaf of the page that is cached
+/// was changed in memory before it.
+fn goes_after(rt: &impl Abort, bench: &mut Bench, address: u64, command: (u64, u64), frame: u32) {
+    bench.goes_to(rt, address, b"", 32);
+    bench.store(rt, LEAF, MOVED);
+    bench.goes_to(rt, address, b"", 32);
+    bench.put(rt, 0, command.0, command.1);
+    bench.write(rt, CQT, 1);
+    bench.fetch(rt);
+    bench.goes_to(rt, address, b"", frame);
+}
+
+/// The same, of the page 9 of a second stage alone, after each of these commands.
+fn page_goes_after(
     rt: &impl Abort,
     alloc: Global,
-    fsc: u64,
-    address: u64,
-    command: (u64, u64),
-) -> Result<u32, Fail> {
-    let mut memory = tables(alloc, fsc)?;
-    let mut iommu = with_directory(rt, alloc, ONE_LEVEL)?;
-    assert_eq!(rt; frame(rt, &mut iommu, &mut memory, address)?, 32);
-    memory.store_u64(LEAF, MOVED).ok_or("in memory")?;
-    assert_eq!(rt; frame(rt, &mut iommu, &mut memory, address)?, 32);
-    put(rt, &mut memory, 0, command.0, command.1);
-    write(rt, &mut iommu, CQT, 1);
-    fetch(rt, &mut iommu, &mut memory);
-    frame(rt, &mut iommu, &mut memory, address)
+    commands: &[(u64, u64)],
+    frame: u32,
+) -> Result<(), Fail> {
+    for command in commands {
+        let mut bench = tables(rt, alloc, 0)?;
+        goes_after(rt, &mut bench, 0x9010, *command, frame);
+    }
+    Ok(())
+}
+
+/// The same, of the page 3 of a guest in both stages.
+fn guest_page_goes_after(
+    rt: &impl Abort,
+    alloc: Global,
+    commands: &[(u64, u64)],
+    frame: u32,
+) -> Result<(), Fail> {
+    for command in commands {
+        let mut bench = tables(rt, alloc, GUEST_TABLES)?;
+        goes_after(rt, &mut bench, 0x3010, *command, frame);
+    }
+    Ok(())
 }
 
 /// Commands with a VM and a page, as their two words.
@@ -152,13 +159,10 @@ const VMA_HOST: (u64, u64) = (1, 0);
 // nothing, also where it is of a whole VM.
 #[test]
 fn a_guest_page_is_cached(rt: HostRuntime) -> Result<(), Fail> {
-    for command in [GVMA_PAGE_9, GVMA_VM, GVMA_ALL] {
-        assert_eq!(rt; frame_after(&rt, rt.alloc(), 0, 0x9010, command)?, 33);
-    }
-    for command in [GVMA_PAGE_8, GVMA_OTHER_VM, VMA_VM, VMA_VM_PSCID_1, VMA_HOST] {
-        assert_eq!(rt; frame_after(&rt, rt.alloc(), 0, 0x9010, command)?, 32);
-    }
-    Ok(())
+    let covering = [GVMA_PAGE_9, GVMA_VM, GVMA_ALL];
+    page_goes_after(&rt, rt.alloc(), &covering, 33)?;
+    let others = [GVMA_PAGE_8, GVMA_OTHER_VM, VMA_VM, VMA_VM_PSCID_1, VMA_HOST];
+    page_goes_after(&rt, rt.alloc(), &others, 32)
 }
 
 // Of both stages IOTINVAL.GVMA takes out all of its VM, whatever page it names: that is a guest physical page, and
@@ -174,12 +178,7 @@ fn a_page_of_both_stages_is_cached(rt: HostRuntime) -> Result<(), Fail> {
         VMA_VM_PAGE_3,
         VMA_VM_PSCID_1,
     ];
-    for command in covering {
-        assert_eq!(rt;
-            frame_after(&rt, rt.alloc(), GUEST_TABLES, 0x3010, command)?,
-            33
-        );
-    }
+    guest_page_goes_after(&rt, rt.alloc(), &covering, 33)?;
     let others = [
         GVMA_OTHER_VM,
         VMA_VM_PAGE_4,
@@ -187,11 +186,5 @@ fn a_page_of_both_stages_is_cached(rt: HostRuntime) -> Result<(), Fail> {
         VMA_OTHER_VM,
         VMA_HOST,
     ];
-    for command in others {
-        assert_eq!(rt;
-            frame_after(&rt, rt.alloc(), GUEST_TABLES, 0x3010, command)?,
-            32
-        );
-    }
-    Ok(())
+    guest_page_goes_after(&rt, rt.alloc(), &others, 32)
 }

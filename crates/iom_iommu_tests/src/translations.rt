@@ -1,10 +1,9 @@
 // Translations that are cached: until a command covers them, whatever becomes of the tables.
-use crate::directories::{LEAF, ONE_LEVEL, directories, with_directory};
-use crate::setup::{CQT, DEVICE, ask, commit, fetch, put, write};
+use crate::bench::Bench;
+use crate::directories::{LEAF, ONE_LEVEL, directories};
+use crate::setup::{CQT, DEVICE};
 use iom_base::Cause;
-use iom_iommu::{Iommu, Reply};
-use iom_phys_mem::{Bytes, Memory};
-use iom_tlb::Ioatc;
+use iom_iommu::Reply;
 use std::alloc::Global;
 use std::process::Abort;
 use std::test::Fail;
@@ -21,30 +20,23 @@ const READ_ONLY: u64 = 0x8053;
 /// The leaf of the frame 32, to be read and written, with D clear: it is to be set before a write.
 const CLEAN: u64 = 0x8057;
 
-/// The frame of a read of the page 3, or of a write of these bytes, which is accepted and made.
-fn frame(
+/// The page goes to this frame after a command, where the leaf of a page that is cached was changed in memory before
+/// it.
+fn goes_after(
     rt: &impl Abort,
-    iommu: &mut Iommu<Ioatc>,
-    memory: &mut Memory,
-    bytes: &[u8],
-) -> Result<u32, Fail> {
-    let reply = ask(rt, iommu, memory, DEVICE, 0x3010, bytes);
-    assert!(rt; matches!(&reply, Reply::Accepted(_)), "{reply:?}");
-    let made = commit(rt, iommu, memory).ok_or("in flight")?;
-    Ok(made.frame)
-}
-
-/// The frame of the page after a command, where the leaf of a page that is cached was changed in memory before it.
-fn frame_after(rt: &impl Abort, alloc: Global, first: u64, second: u64) -> Result<u32, Fail> {
-    let mut memory = directories(alloc)?;
-    let mut iommu = with_directory(rt, alloc, ONE_LEVEL)?;
-    assert_eq!(rt; frame(rt, &mut iommu, &mut memory, b"")?, 32);
-    memory.store_u64(LEAF, MOVED).ok_or("in memory")?;
-    assert_eq!(rt; frame(rt, &mut iommu, &mut memory, b"")?, 32);
-    put(rt, &mut memory, 0, first, second);
-    write(rt, &mut iommu, CQT, 1);
-    fetch(rt, &mut iommu, &mut memory);
-    frame(rt, &mut iommu, &mut memory, b"")
+    alloc: Global,
+    command: &(u64, u64),
+    frame: u32,
+) -> Result<(), Fail> {
+    let mut bench = directories(rt, alloc, ONE_LEVEL)?;
+    bench.goes_to(rt, 0x3010, b"", 32);
+    bench.store(rt, LEAF, MOVED);
+    bench.goes_to(rt, 0x3010, b"", 32);
+    bench.put(rt, 0, command.0, command.1);
+    bench.write(rt, CQT, 1);
+    bench.fetch(rt);
+    bench.goes_to(rt, 0x3010, b"", frame);
+    Ok(())
 }
 
 /// Commands after which the page is translated by the cached leaf.
@@ -63,8 +55,8 @@ const LEAVE: [(u64, u64); 6] = [
 // They cover other pages, or other address spaces, or no translation.
 #[test]
 fn a_translation_is_cached(rt: HostRuntime) -> Result<(), Fail> {
-    for (first, second) in LEAVE.iter() {
-        assert_eq!(rt; frame_after(&rt, rt.alloc(), *first, *second)?, 32);
+    for command in &LEAVE {
+        goes_after(&rt, rt.alloc(), command, 32)?;
     }
     Ok(())
 }
@@ -80,10 +72,22 @@ const TAKE_OUT: [(u64, u64); 4] = [
 
 #[test]
 fn a_translation_is_taken_out(rt: HostRuntime) -> Result<(), Fail> {
-    for (first, second) in TAKE_OUT.iter() {
-        assert_eq!(rt; frame_after(&rt, rt.alloc(), *first, *second)?, 33);
+    for command in &TAKE_OUT {
+        goes_after(&rt, rt.alloc(), command, 33)?;
     }
     Ok(())
+}
+
+/// A cached translation that may only be read, by this leaf, serves no write.
+fn needs_its_right(rt: &impl Abort, bench: &mut Bench, leaf: u64) {
+    bench.store(rt, LEAF, leaf);
+    bench.goes_to(rt, 0x3010, b"", 32);
+    let refused = Reply::Fault(Cause::WritePageFault);
+    bench.expect_reply(rt, DEVICE, 0x3010, b"\xaa", refused);
+    bench.store(rt, LEAF, MOVED);
+    bench.goes_to(rt, 0x3010, b"", 32);
+    bench.goes_to(rt, 0x3010, b"\xaa", 33);
+    bench.goes_to(rt, 0x3010, b"", 33);
 }
 
 // A cached translation that may only be read serves no write: the write walks, and is refused while the leaf in
@@ -91,16 +95,8 @@ fn a_translation_is_taken_out(rt: HostRuntime) -> Result<(), Fail> {
 #[test]
 fn a_write_needs_its_right(rt: HostRuntime) -> Result<(), Fail> {
     for leaf in [READ_ONLY, CLEAN] {
-        let mut memory = directories(rt.alloc())?;
-        memory.store_u64(LEAF, leaf).ok_or("in memory")?;
-        let mut iommu = with_directory(&rt, rt.alloc(), ONE_LEVEL)?;
-        assert_eq!(rt; frame(&rt, &mut iommu, &mut memory, b"")?, 32);
-        let refused = ask(&rt, &mut iommu, &mut memory, DEVICE, 0x3010, b"\xaa");
-        assert_eq!(rt; refused, Reply::Fault(Cause::WritePageFault));
-        memory.store_u64(LEAF, MOVED).ok_or("in memory")?;
-        assert_eq!(rt; frame(&rt, &mut iommu, &mut memory, b"")?, 32);
-        assert_eq!(rt; frame(&rt, &mut iommu, &mut memory, b"\xaa")?, 33);
-        assert_eq!(rt; frame(&rt, &mut iommu, &mut memory, b"")?, 33);
+        let mut bench = directories(&rt, rt.alloc(), ONE_LEVEL)?;
+        needs_its_right(&rt, &mut bench, leaf);
     }
     Ok(())
 }
@@ -108,12 +104,11 @@ fn a_write_needs_its_right(rt: HostRuntime) -> Result<(), Fail> {
 // A walk that was refused keeps nothing: the next one finds the leaf that is there now.
 #[test]
 fn a_fault_is_not_cached(rt: HostRuntime) -> Result<(), Fail> {
-    let mut memory = directories(rt.alloc())?;
-    memory.store_u64(LEAF, 0).ok_or("in memory")?;
-    let mut iommu = with_directory(&rt, rt.alloc(), ONE_LEVEL)?;
-    let refused = ask(&rt, &mut iommu, &mut memory, DEVICE, 0x3010, b"");
-    assert_eq!(rt; refused, Reply::Fault(Cause::ReadPageFault));
-    memory.store_u64(LEAF, WRITABLE).ok_or("in memory")?;
-    assert_eq!(rt; frame(&rt, &mut iommu, &mut memory, b"")?, 32);
+    let mut bench = directories(&rt, rt.alloc(), ONE_LEVEL)?;
+    bench.store(&rt, LEAF, 0);
+    let refused = Reply::Fault(Cause::ReadPageFault);
+    bench.expect_reply(&rt, DEVICE, 0x3010, b"", refused);
+    bench.store(&rt, LEAF, WRITABLE);
+    bench.goes_to(&rt, 0x3010, b"", 32);
     Ok(())
 }
