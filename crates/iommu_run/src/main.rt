@@ -3,8 +3,8 @@
 //!
 //! What goes wrong is told on standard error, as `iommu-run: TEXT`. The exit status is then 1 where
 //! reading, writing or memory failed, 2 where the script isn't in the grammar, and 3 where the command
-//! line isn't lawful. The gate runs it on a script on standard input; `iommu_run_bad_script`,
-//! `iommu_run_no_file` and `iommu_run_bad_command_line` are the same program, run otherwise.
+//! line isn't lawful. The gate runs it on a script on standard input; `iommu_run_bad_script` is the same
+//! program, run on a file with a bad script.
 #![tactic(auto)]
 
 use std::process::ExitCode;
