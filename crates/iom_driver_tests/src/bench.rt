@@ -9,6 +9,8 @@ use iom_phys_mem::{Bytes, MemError, Memory};
 use iom_registers::Register;
 use std::alloc::Global;
 use std::marker::Model;
+use std::process::Abort;
+use std::test::Fail;
 
 /// How many frames the memory of a bench has.
 const FRAMES: u32 = 64;
@@ -33,9 +35,15 @@ impl Model for Bench {
     ghost invariant = { λ bench. IsReady (state_of bench.driver) bench.memory bench.io.registers };
 }
 
+// A test owns its bench in a box: of what it owns in place each later proof would carry every part.
 impl Bench {
     /// At power-on.
-    pub(crate) fn off(alloc: Global) -> Result<Bench, MemError> {
+    pub(crate) fn off(alloc: Global) -> Result<Box<Bench>, Fail> {
+        let bench = Bench::off_in_place(alloc)?;
+        Ok(Box::new(alloc, bench)?)
+    }
+
+    fn off_in_place(alloc: Global) -> Result<Bench, MemError> {
         let memory = Memory::new(alloc, FRAMES)?;
         let driver = Driver::new(alloc, FRAMES, 1)?;
         let io = Recording::new();
@@ -43,7 +51,12 @@ impl Bench {
     }
 
     /// Started, with so many frames and levels of the directory.
-    pub(crate) fn of_size(alloc: Global, frames: u32, levels: u8) -> Result<Bench, MemError> {
+    pub(crate) fn of_size(alloc: Global, frames: u32, levels: u8) -> Result<Box<Bench>, Fail> {
+        let bench = Bench::started_in_place(alloc, frames, levels)?;
+        Ok(Box::new(alloc, bench)?)
+    }
+
+    fn started_in_place(alloc: Global, frames: u32, levels: u8) -> Result<Bench, MemError> {
         let mut memory = Memory::new(alloc, frames)?;
         let mut driver = Driver::new(alloc, frames, levels)?;
         let mut io = Recording::new();
@@ -52,12 +65,12 @@ impl Bench {
     }
 
     /// Started, with 64 frames and a directory of one level.
-    pub(crate) fn new(alloc: Global) -> Result<Bench, MemError> {
+    pub(crate) fn new(alloc: Global) -> Result<Box<Bench>, Fail> {
         Bench::of_size(alloc, FRAMES, 1)
     }
 
     /// Started so, and the device is attached in the first stage.
-    pub(crate) fn with_device(alloc: Global, id: DeviceId) -> Result<Bench, MemError> {
+    pub(crate) fn with_device(alloc: Global, id: DeviceId) -> Result<Box<Bench>, Fail> {
         Bench::with_device_in(alloc, id, Mode::First)
     }
 
@@ -66,7 +79,7 @@ impl Bench {
         alloc: Global,
         id: DeviceId,
         mode: Mode,
-    ) -> Result<Bench, MemError> {
+    ) -> Result<Box<Bench>, Fail> {
         let mut bench = Bench::new(alloc)?;
         let _ = bench.plug(id);
         let _ = bench.attach_in(id, mode);
@@ -123,6 +136,10 @@ impl Bench {
     /// The eight bytes at the address.
     pub(crate) fn word(&self, address: u64) -> Option<u64> {
         self.memory.load_u64(address)
+    }
+
+    pub(crate) fn expect_word(&self, rt: &impl Abort, address: u64, expected: u64) {
+        assert_eq!(rt; self.word(address), Some(expected), "at {address}");
     }
 
     pub(crate) fn register(&self, register: Register) -> u64 {

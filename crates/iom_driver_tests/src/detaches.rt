@@ -1,5 +1,5 @@
 use crate::bench::Bench;
-use crate::expect::expect;
+use crate::expect::{expect, expect_eq};
 use iom_driver::Ticket;
 use iom_ledger::Refusal;
 use std::test::Fail;
@@ -9,15 +9,15 @@ use std::test::Fail;
 #[test]
 fn a_detach_writes_three_commands(rt: HostRuntime) -> Result<(), Fail> {
     let mut bench = Bench::with_device(rt.alloc(), 2)?;
-    expect(&rt, bench.word(0x3c040) == Some(1));
-    expect(&rt, bench.detach(2) == Ok(Ticket(1)));
-    expect(&rt, bench.word(0x3c040) == Some(0));
-    expect(&rt, bench.word(0x3f000) == Some(0x0000_0202_0000_0003));
-    expect(&rt, bench.word(0x3f008) == Some(0));
-    expect(&rt, bench.word(0x3f010) == Some(0x0000_0001_0000_1001));
-    expect(&rt, bench.word(0x3f018) == Some(0));
-    expect(&rt, bench.word(0x3f020) == Some(0x0000_0001_0000_3402));
-    expect(&rt, bench.pending() == 1);
+    bench.expect_word(&rt, 0x3c040, 1);
+    expect_eq(&rt, &bench.detach(2), &Ok(Ticket(1)));
+    bench.expect_word(&rt, 0x3c040, 0);
+    bench.expect_word(&rt, 0x3f000, 0x0000_0202_0000_0003);
+    bench.expect_word(&rt, 0x3f008, 0);
+    bench.expect_word(&rt, 0x3f010, 0x0000_0001_0000_1001);
+    bench.expect_word(&rt, 0x3f018, 0);
+    bench.expect_word(&rt, 0x3f020, 0x0000_0001_0000_3402);
+    expect_eq(&rt, &bench.pending(), &1);
     Ok(())
 }
 
@@ -25,13 +25,13 @@ fn a_detach_writes_three_commands(rt: HostRuntime) -> Result<(), Fail> {
 #[test]
 fn a_device_with_grants_stays(rt: HostRuntime) -> Result<(), Fail> {
     let mut bench = Bench::with_device(rt.alloc(), 1)?;
-    expect(&rt, bench.grant(1, 3, 5) == Ok(()));
-    expect(&rt, bench.detach(1) == Err(Refusal::StillGranted));
-    expect(&rt, bench.release(1, 3) == Ok(Ticket(1)));
-    expect(&rt, bench.detach(1) == Err(Refusal::StillGranted));
+    expect_eq(&rt, &bench.grant(1, 3, 5), &Ok(()));
+    expect_eq(&rt, &bench.detach(1), &Err(Refusal::StillGranted));
+    expect_eq(&rt, &bench.release(1, 3), &Ok(Ticket(1)));
+    expect_eq(&rt, &bench.detach(1), &Err(Refusal::StillGranted));
     bench.complete(1);
     expect(&rt, bench.poll().is_ok());
-    expect(&rt, bench.detach(1) == Ok(Ticket(2)));
+    expect_eq(&rt, &bench.detach(1), &Ok(Ticket(2)));
     Ok(())
 }
 
@@ -39,16 +39,16 @@ fn a_device_with_grants_stays(rt: HostRuntime) -> Result<(), Fail> {
 #[test]
 fn a_device_leaves_until_a_poll(rt: HostRuntime) -> Result<(), Fail> {
     let mut bench = Bench::with_device(rt.alloc(), 1)?;
-    expect(&rt, bench.detach(1) == Ok(Ticket(1)));
-    expect(&rt, bench.attach(1) == Err(Refusal::AlreadyAttached));
-    expect(&rt, bench.grant(1, 3, 5) == Err(Refusal::NotAttached));
-    expect(&rt, bench.detach(1) == Err(Refusal::NotAttached));
+    expect_eq(&rt, &bench.detach(1), &Ok(Ticket(1)));
+    expect_eq(&rt, &bench.attach(1), &Err(Refusal::AlreadyAttached));
+    expect_eq(&rt, &bench.grant(1, 3, 5), &Err(Refusal::NotAttached));
+    expect_eq(&rt, &bench.detach(1), &Err(Refusal::NotAttached));
     expect(&rt, bench.poll().is_ok());
     expect(&rt, bench.is_reserved(59));
     bench.complete(1);
     expect(&rt, bench.poll().is_ok());
     expect(&rt, bench.is_free(59));
-    expect(&rt, bench.attach(1) == Ok(()));
+    expect_eq(&rt, &bench.attach(1), &Ok(()));
     Ok(())
 }
 
@@ -56,14 +56,14 @@ fn a_device_leaves_until_a_poll(rt: HostRuntime) -> Result<(), Fail> {
 #[test]
 fn a_number_is_given_back(rt: HostRuntime) -> Result<(), Fail> {
     let mut bench = Bench::with_device(rt.alloc(), 1)?;
-    expect(&rt, bench.plug(2) == Ok(()));
-    expect(&rt, bench.plug(3) == Ok(()));
-    expect(&rt, bench.detach(1) == Ok(Ticket(1)));
-    expect(&rt, bench.attach(2) == Ok(()));
+    expect_eq(&rt, &bench.plug(2), &Ok(()));
+    expect_eq(&rt, &bench.plug(3), &Ok(()));
+    expect_eq(&rt, &bench.detach(1), &Ok(Ticket(1)));
+    expect_eq(&rt, &bench.attach(2), &Ok(()));
     bench.complete(1);
     expect(&rt, bench.poll().is_ok());
-    expect(&rt, bench.attach(3) == Ok(()));
-    expect(&rt, bench.word(0x3c050) == Some(0x2000));
-    expect(&rt, bench.word(0x3c070) == Some(0x1000));
+    expect_eq(&rt, &bench.attach(3), &Ok(()));
+    bench.expect_word(&rt, 0x3c050, 0x2000);
+    bench.expect_word(&rt, 0x3c070, 0x1000);
     Ok(())
 }

@@ -1,5 +1,5 @@
 use crate::bench::Bench;
-use crate::expect::expect;
+use crate::expect::{expect, expect_eq};
 use iom_driver::Ticket;
 use std::test::Fail;
 
@@ -8,9 +8,9 @@ use std::test::Fail;
 fn a_frame_is_free_once_its_release_is_confirmed(rt: HostRuntime) -> Result<(), Fail> {
     let mut bench = Bench::with_device(rt.alloc(), 1)?;
     expect(&rt, bench.is_free(5));
-    expect(&rt, bench.grant(1, 3, 5) == Ok(()));
+    expect_eq(&rt, &bench.grant(1, 3, 5), &Ok(()));
     expect(&rt, !bench.is_free(5));
-    expect(&rt, bench.release(1, 3) == Ok(Ticket(1)));
+    expect_eq(&rt, &bench.release(1, 3), &Ok(Ticket(1)));
     expect(&rt, !bench.is_free(5));
     bench.complete(1);
     expect(&rt, !bench.is_free(5));
@@ -24,8 +24,8 @@ fn a_frame_is_free_once_its_release_is_confirmed(rt: HostRuntime) -> Result<(), 
 fn reserved_frames_are_not_free(rt: HostRuntime) -> Result<(), Fail> {
     let mut bench = Bench::new(rt.alloc())?;
     expect(&rt, bench.is_free(59));
-    expect(&rt, bench.plug(1) == Ok(()));
-    expect(&rt, bench.attach(1) == Ok(()));
+    expect_eq(&rt, &bench.plug(1), &Ok(()));
+    expect_eq(&rt, &bench.attach(1), &Ok(()));
     expect(&rt, bench.is_reserved(59));
     expect(&rt, !bench.is_free(59));
     expect(&rt, bench.is_reserved(60));
@@ -40,7 +40,7 @@ fn reserved_frames_are_not_free(rt: HostRuntime) -> Result<(), Fail> {
 #[test]
 fn the_granted_frame_is_passed_over(rt: HostRuntime) -> Result<(), Fail> {
     let mut bench = Bench::with_device(rt.alloc(), 1)?;
-    expect(&rt, bench.grant(1, 3, 58) == Ok(()));
+    expect_eq(&rt, &bench.grant(1, 3, 58), &Ok(()));
     expect(&rt, !bench.is_reserved(58));
     expect(&rt, bench.is_reserved(57));
     expect(&rt, bench.is_reserved(56));

@@ -1,5 +1,5 @@
 use crate::bench::Bench;
-use crate::expect::expect;
+use crate::expect::{expect, expect_eq};
 use iom_driver::Ticket;
 use iom_ledger::Refusal;
 use std::test::Fail;
@@ -8,13 +8,13 @@ use std::test::Fail;
 #[test]
 fn before_the_start(rt: HostRuntime) -> Result<(), Fail> {
     let mut bench = Bench::off(rt.alloc())?;
-    expect(&rt, bench.attach(1) == Err(Refusal::NotStarted));
-    expect(&rt, bench.plug(1) == Ok(()));
-    expect(&rt, bench.attach(1) == Err(Refusal::NotStarted));
-    expect(&rt, bench.grant(1, 3, 5) == Err(Refusal::NotStarted));
-    expect(&rt, bench.release(1, 3) == Err(Refusal::NotStarted));
-    expect(&rt, bench.detach(1) == Err(Refusal::NotStarted));
-    expect(&rt, bench.poll() == Err(Refusal::NotStarted));
+    expect_eq(&rt, &bench.attach(1), &Err(Refusal::NotStarted));
+    expect_eq(&rt, &bench.plug(1), &Ok(()));
+    expect_eq(&rt, &bench.attach(1), &Err(Refusal::NotStarted));
+    expect_eq(&rt, &bench.grant(1, 3, 5), &Err(Refusal::NotStarted));
+    expect_eq(&rt, &bench.release(1, 3), &Err(Refusal::NotStarted));
+    expect_eq(&rt, &bench.detach(1), &Err(Refusal::NotStarted));
+    expect_eq(&rt, &bench.poll(), &Err(Refusal::NotStarted));
     Ok(())
 }
 
@@ -23,10 +23,10 @@ fn before_the_start(rt: HostRuntime) -> Result<(), Fail> {
 fn of_a_plug(rt: HostRuntime) -> Result<(), Fail> {
     let mut bench = Bench::new(rt.alloc())?;
     for id in 0..16 {
-        expect(&rt, bench.plug(id) == Ok(()));
+        expect_eq(&rt, &bench.plug(id), &Ok(()));
     }
-    expect(&rt, bench.plug(15) == Err(Refusal::AlreadyPlugged));
-    expect(&rt, bench.plug(16) == Err(Refusal::TooManyDevices));
+    expect_eq(&rt, &bench.plug(15), &Err(Refusal::AlreadyPlugged));
+    expect_eq(&rt, &bench.plug(16), &Err(Refusal::TooManyDevices));
     Ok(())
 }
 
@@ -34,12 +34,12 @@ fn of_a_plug(rt: HostRuntime) -> Result<(), Fail> {
 #[test]
 fn of_an_attach(rt: HostRuntime) -> Result<(), Fail> {
     let mut bench = Bench::new(rt.alloc())?;
-    expect(&rt, bench.attach(128) == Err(Refusal::NoSuchDevice));
-    expect(&rt, bench.plug(128) == Ok(()));
-    expect(&rt, bench.attach(128) == Err(Refusal::IdTooWide));
-    expect(&rt, bench.plug(127) == Ok(()));
-    expect(&rt, bench.attach(127) == Ok(()));
-    expect(&rt, bench.attach(127) == Err(Refusal::AlreadyAttached));
+    expect_eq(&rt, &bench.attach(128), &Err(Refusal::NoSuchDevice));
+    expect_eq(&rt, &bench.plug(128), &Ok(()));
+    expect_eq(&rt, &bench.attach(128), &Err(Refusal::IdTooWide));
+    expect_eq(&rt, &bench.plug(127), &Ok(()));
+    expect_eq(&rt, &bench.attach(127), &Ok(()));
+    expect_eq(&rt, &bench.attach(127), &Err(Refusal::AlreadyAttached));
     Ok(())
 }
 
@@ -48,20 +48,21 @@ fn of_an_attach(rt: HostRuntime) -> Result<(), Fail> {
 fn of_a_grant(rt: HostRuntime) -> Result<(), Fail> {
     let mut bench = Bench::new(rt.alloc())?;
     let far = 1 << 26;
-    expect(&rt, bench.grant(1, far, 64) == Err(Refusal::NoSuchDevice));
-    expect(&rt, bench.plug(1) == Ok(()));
-    expect(&rt, bench.grant(1, far, 64) == Err(Refusal::NotAttached));
-    expect(&rt, bench.attach(1) == Ok(()));
-    expect(
+    expect_eq(&rt, &bench.grant(1, far, 64), &Err(Refusal::NoSuchDevice));
+    expect_eq(&rt, &bench.plug(1), &Ok(()));
+    expect_eq(&rt, &bench.grant(1, far, 64), &Err(Refusal::NotAttached));
+    expect_eq(&rt, &bench.attach(1), &Ok(()));
+    expect_eq(
         &rt,
-        bench.grant(1, far, 64) == Err(Refusal::FrameOutOfRange),
+        &bench.grant(1, far, 64),
+        &Err(Refusal::FrameOutOfRange),
     );
-    expect(&rt, bench.grant(1, far, 60) == Err(Refusal::FrameReserved));
-    expect(&rt, bench.grant(1, far, 5) == Err(Refusal::IovaOutOfRange));
-    expect(&rt, bench.grant(1, far - 1, 5) == Ok(()));
-    expect(&rt, bench.grant(1, far - 1, 6) == Err(Refusal::IovaBusy));
-    expect(&rt, bench.release(1, far - 1) == Ok(Ticket(1)));
-    expect(&rt, bench.grant(1, far - 1, 6) == Err(Refusal::IovaBusy));
+    expect_eq(&rt, &bench.grant(1, far, 60), &Err(Refusal::FrameReserved));
+    expect_eq(&rt, &bench.grant(1, far, 5), &Err(Refusal::IovaOutOfRange));
+    expect_eq(&rt, &bench.grant(1, far - 1, 5), &Ok(()));
+    expect_eq(&rt, &bench.grant(1, far - 1, 6), &Err(Refusal::IovaBusy));
+    expect_eq(&rt, &bench.release(1, far - 1), &Ok(Ticket(1)));
+    expect_eq(&rt, &bench.grant(1, far - 1, 6), &Err(Refusal::IovaBusy));
     Ok(())
 }
 
@@ -70,12 +71,12 @@ fn of_a_grant(rt: HostRuntime) -> Result<(), Fail> {
 fn of_a_grant_without_frames(rt: HostRuntime) -> Result<(), Fail> {
     let mut bench = Bench::with_device(rt.alloc(), 1)?;
     for page in 0..54 {
-        expect(&rt, bench.grant(1, page, page) == Ok(()));
+        expect_eq(&rt, &bench.grant(1, page, page), &Ok(()));
     }
     expect(&rt, bench.is_free(56));
-    expect(&rt, bench.grant(1, 54, 54) == Ok(()));
-    expect(&rt, bench.grant(1, 1 << 18, 55) == Err(Refusal::NoFrames));
-    expect(&rt, bench.grant(1, 512, 55) == Ok(()));
+    expect_eq(&rt, &bench.grant(1, 54, 54), &Ok(()));
+    expect_eq(&rt, &bench.grant(1, 1 << 18, 55), &Err(Refusal::NoFrames));
+    expect_eq(&rt, &bench.grant(1, 512, 55), &Ok(()));
     expect(&rt, bench.is_reserved(56));
     Ok(())
 }
@@ -83,10 +84,10 @@ fn of_a_grant_without_frames(rt: HostRuntime) -> Result<(), Fail> {
 #[test]
 fn of_a_release(rt: HostRuntime) -> Result<(), Fail> {
     let mut bench = Bench::new(rt.alloc())?;
-    expect(&rt, bench.release(1, 3) == Err(Refusal::NoSuchDevice));
-    expect(&rt, bench.plug(1) == Ok(()));
-    expect(&rt, bench.release(1, 3) == Err(Refusal::NotAttached));
-    expect(&rt, bench.attach(1) == Ok(()));
-    expect(&rt, bench.release(1, 3) == Err(Refusal::NotGranted));
+    expect_eq(&rt, &bench.release(1, 3), &Err(Refusal::NoSuchDevice));
+    expect_eq(&rt, &bench.plug(1), &Ok(()));
+    expect_eq(&rt, &bench.release(1, 3), &Err(Refusal::NotAttached));
+    expect_eq(&rt, &bench.attach(1), &Ok(()));
+    expect_eq(&rt, &bench.release(1, 3), &Err(Refusal::NotGranted));
     Ok(())
 }

@@ -1,5 +1,5 @@
 use crate::bench::Bench;
-use crate::expect::expect;
+use crate::expect::{expect, expect_eq};
 use iom_driver::Ticket;
 use iom_ledger::Refusal;
 use iom_registers::Register;
@@ -11,10 +11,10 @@ use std::test::Fail;
 fn a_grant_writes_tables(rt: HostRuntime) -> Result<(), Fail> {
     let mut bench = Bench::with_device(rt.alloc(), 1)?;
     expect(&rt, bench.is_reserved(59));
-    expect(&rt, bench.grant(1, 3, 5) == Ok(()));
-    expect(&rt, bench.word(0x3b000) == Some(58 << 10 | 1));
-    expect(&rt, bench.word(0x3a000) == Some(57 << 10 | 1));
-    expect(&rt, bench.word(0x39018) == Some(0x14d7));
+    expect_eq(&rt, &bench.grant(1, 3, 5), &Ok(()));
+    bench.expect_word(&rt, 0x3b000, 58 << 10 | 1);
+    bench.expect_word(&rt, 0x3a000, 57 << 10 | 1);
+    bench.expect_word(&rt, 0x39018, 0x14d7);
     Ok(())
 }
 
@@ -23,19 +23,19 @@ fn a_grant_writes_tables(rt: HostRuntime) -> Result<(), Fail> {
 #[test]
 fn a_release_writes_two_commands(rt: HostRuntime) -> Result<(), Fail> {
     let mut bench = Bench::with_device(rt.alloc(), 1)?;
-    expect(&rt, bench.grant(1, 3, 5) == Ok(()));
-    expect(&rt, bench.release(1, 3) == Ok(Ticket(1)));
-    expect(&rt, bench.word(0x3f000) == Some(0x0000_0001_0000_1401));
-    expect(&rt, bench.word(0x3f008) == Some(0x0000_0000_0000_0c00));
-    expect(&rt, bench.word(0x3f010) == Some(0x0000_0001_0000_3402));
-    expect(&rt, bench.word(0x3f018) == Some(0x0000_0000_0000_f400));
-    expect(&rt, bench.word(0x39018) == Some(0));
+    expect_eq(&rt, &bench.grant(1, 3, 5), &Ok(()));
+    expect_eq(&rt, &bench.release(1, 3), &Ok(Ticket(1)));
+    bench.expect_word(&rt, 0x3f000, 0x0000_0001_0000_1401);
+    bench.expect_word(&rt, 0x3f008, 0x0000_0000_0000_0c00);
+    bench.expect_word(&rt, 0x3f010, 0x0000_0001_0000_3402);
+    bench.expect_word(&rt, 0x3f018, 0x0000_0000_0000_f400);
+    bench.expect_word(&rt, 0x39018, 0);
     let [.., before, first, second] = bench.writes();
-    expect(&rt, before == Some(Register::Fqcsr));
-    expect(&rt, first == Some(Register::Cqt));
-    expect(&rt, second == Some(Register::Cqt));
-    expect(&rt, bench.register(Register::Cqt) == 2);
-    expect(&rt, bench.pending() == 1);
+    expect_eq(&rt, &before, &Some(Register::Fqcsr));
+    expect_eq(&rt, &first, &Some(Register::Cqt));
+    expect_eq(&rt, &second, &Some(Register::Cqt));
+    expect_eq(&rt, &bench.register(Register::Cqt), &2);
+    expect_eq(&rt, &bench.pending(), &1);
     Ok(())
 }
 
@@ -43,13 +43,13 @@ fn a_release_writes_two_commands(rt: HostRuntime) -> Result<(), Fail> {
 #[test]
 fn each_device_has_its_own_number(rt: HostRuntime) -> Result<(), Fail> {
     let mut bench = Bench::new(rt.alloc())?;
-    expect(&rt, bench.plug(9) == Ok(()));
-    expect(&rt, bench.plug(4) == Ok(()));
-    expect(&rt, bench.attach(9) == Ok(()));
-    expect(&rt, bench.attach(4) == Ok(()));
-    expect(&rt, bench.grant(4, 3, 5) == Ok(()));
-    expect(&rt, bench.release(4, 3) == Ok(Ticket(1)));
-    expect(&rt, bench.word(0x3f000) == Some(0x0000_0001_0000_2401));
+    expect_eq(&rt, &bench.plug(9), &Ok(()));
+    expect_eq(&rt, &bench.plug(4), &Ok(()));
+    expect_eq(&rt, &bench.attach(9), &Ok(()));
+    expect_eq(&rt, &bench.attach(4), &Ok(()));
+    expect_eq(&rt, &bench.grant(4, 3, 5), &Ok(()));
+    expect_eq(&rt, &bench.release(4, 3), &Ok(Ticket(1)));
+    bench.expect_word(&rt, 0x3f000, 0x0000_0001_0000_2401);
     Ok(())
 }
 
@@ -58,15 +58,16 @@ fn each_device_has_its_own_number(rt: HostRuntime) -> Result<(), Fail> {
 fn a_full_ring_refuses_a_release(rt: HostRuntime) -> Result<(), Fail> {
     let mut bench = Bench::with_device(rt.alloc(), 1)?;
     for page in 0..127u32 {
-        expect(&rt, bench.grant(1, u64::from(page), 5) == Ok(()));
-        expect(
+        expect_eq(&rt, &bench.grant(1, u64::from(page), 5), &Ok(()));
+        expect_eq(
             &rt,
-            bench.release(1, u64::from(page)) == Ok(Ticket(page + 1)),
+            &bench.release(1, u64::from(page)),
+            &Ok(Ticket(page + 1)),
         );
     }
-    expect(&rt, bench.grant(1, 127, 5) == Ok(()));
-    expect(&rt, bench.release(1, 127) == Err(Refusal::QueueFull));
-    expect(&rt, bench.register(Register::Cqt) == 254);
-    expect(&rt, bench.pending() == 127);
+    expect_eq(&rt, &bench.grant(1, 127, 5), &Ok(()));
+    expect_eq(&rt, &bench.release(1, 127), &Err(Refusal::QueueFull));
+    expect_eq(&rt, &bench.register(Register::Cqt), &254);
+    expect_eq(&rt, &bench.pending(), &127);
     Ok(())
 }

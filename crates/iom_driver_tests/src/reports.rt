@@ -1,5 +1,5 @@
 use crate::bench::Bench;
-use crate::expect::expect;
+use crate::expect::expect_eq;
 use iom_base::Cause;
 use iom_driver::Driver;
 use iom_driver::laws::ready_after_record;
@@ -33,7 +33,12 @@ impl Model for Desk {
 }
 
 impl Desk {
-    fn new(alloc: Global) -> Result<Desk, MemError> {
+    fn new(alloc: Global) -> Result<Box<Desk>, Fail> {
+        let desk = Desk::in_place(alloc)?;
+        Ok(Box::new(alloc, desk)?)
+    }
+
+    fn in_place(alloc: Global) -> Result<Desk, MemError> {
         let mut memory = Memory::new(alloc, 64)?;
         let mut registers = Registers::new();
         let mut driver = Driver::new(alloc, 64, 1)?;
@@ -62,11 +67,11 @@ impl Desk {
     // So many faults fit into the queue and come out in their order, and one more is lost.
     fn overflows(&mut self, rt: &impl Abort, room: u64) {
         for at in 0..room {
-            expect(rt, self.report(fault_at(at)) == Put::Written);
+            expect_eq(rt, &self.report(fault_at(at)), &Put::Written);
         }
-        expect(rt, self.report(fault_at(room)) == Put::Overflow);
+        expect_eq(rt, &self.report(fault_at(room)), &Put::Overflow);
         for at in 0..room {
-            expect(rt, self.faults() == Ok(Some(fault_at(at))));
+            expect_eq(rt, &self.faults(), &Ok(Some(fault_at(at))));
         }
     }
 }
@@ -89,7 +94,7 @@ fn fault_at(address: u64) -> Record {
 #[test]
 fn before_the_start_there_are_none(rt: HostRuntime) -> Result<(), Fail> {
     let mut bench = Bench::off(rt.alloc())?;
-    expect(&rt, bench.faults() == Err(Refusal::NotStarted));
+    expect_eq(&rt, &bench.faults(), &Err(Refusal::NotStarted));
     Ok(())
 }
 
@@ -97,12 +102,12 @@ fn before_the_start_there_are_none(rt: HostRuntime) -> Result<(), Fail> {
 #[test]
 fn a_fault_is_told_once(rt: HostRuntime) -> Result<(), Fail> {
     let mut desk = Desk::new(rt.alloc())?;
-    expect(&rt, desk.faults() == Ok(None));
-    expect(&rt, desk.report(fault_at(0x4000)) == Put::Written);
-    expect(&rt, desk.faults() == Ok(Some(fault_at(0x4000))));
-    expect(&rt, desk.register(Register::Fqh) == 1);
-    expect(&rt, desk.faults() == Ok(None));
-    expect(&rt, desk.register(Register::Fqh) == 1);
+    expect_eq(&rt, &desk.faults(), &Ok(None));
+    expect_eq(&rt, &desk.report(fault_at(0x4000)), &Put::Written);
+    expect_eq(&rt, &desk.faults(), &Ok(Some(fault_at(0x4000))));
+    expect_eq(&rt, &desk.register(Register::Fqh), &1);
+    expect_eq(&rt, &desk.faults(), &Ok(None));
+    expect_eq(&rt, &desk.register(Register::Fqh), &1);
     Ok(())
 }
 
@@ -113,10 +118,10 @@ fn an_empty_queue_is_open_again(rt: HostRuntime) -> Result<(), Fail> {
     let mut desk = Desk::new(rt.alloc())?;
     for round in 0..3 {
         desk.overflows(&rt, 127);
-        expect(&rt, desk.register(Register::Fqcsr) == 0x1_0201);
-        expect(&rt, desk.report(fault_at(0)) == Put::Overflow);
-        expect(&rt, desk.faults() == Ok(None));
-        expect(&rt, desk.register(Register::Fqcsr) == 0x1_0001);
+        expect_eq(&rt, &desk.register(Register::Fqcsr), &0x1_0201);
+        expect_eq(&rt, &desk.report(fault_at(0)), &Put::Overflow);
+        expect_eq(&rt, &desk.faults(), &Ok(None));
+        expect_eq(&rt, &desk.register(Register::Fqcsr), &0x1_0001);
     }
     Ok(())
 }

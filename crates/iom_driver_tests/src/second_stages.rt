@@ -1,5 +1,5 @@
 use crate::bench::Bench;
-use crate::expect::expect;
+use crate::expect::{expect, expect_eq};
 use iom_base::Mode;
 use iom_driver::Ticket;
 use iom_ledger::Refusal;
@@ -11,10 +11,10 @@ use std::test::Fail;
 #[test]
 fn a_root_of_four_frames(rt: HostRuntime) -> Result<(), Fail> {
     let bench = Bench::with_device_in(rt.alloc(), 1, Mode::Second)?;
-    expect(&rt, bench.word(0x3c020) == Some(1));
-    expect(&rt, bench.word(0x3c028) == Some(0x8000_1000_0000_0038));
-    expect(&rt, bench.word(0x3c030) == Some(0));
-    expect(&rt, bench.word(0x3c038) == Some(0));
+    bench.expect_word(&rt, 0x3c020, 1);
+    bench.expect_word(&rt, 0x3c028, 0x8000_1000_0000_0038);
+    bench.expect_word(&rt, 0x3c030, 0);
+    bench.expect_word(&rt, 0x3c038, 0);
     expect(&rt, bench.is_free(55));
     for frame in 56..60 {
         expect(&rt, bench.is_reserved(frame));
@@ -26,10 +26,10 @@ fn a_root_of_four_frames(rt: HostRuntime) -> Result<(), Fail> {
 #[test]
 fn a_guest_root_at_page_0(rt: HostRuntime) -> Result<(), Fail> {
     let bench = Bench::with_device_in(rt.alloc(), 1, Mode::Both)?;
-    expect(&rt, bench.word(0x3c020) == Some(1));
-    expect(&rt, bench.word(0x3c028) == Some(0x8000_1000_0000_0038));
-    expect(&rt, bench.word(0x3c030) == Some(0x1000));
-    expect(&rt, bench.word(0x3c038) == Some(8 << 60));
+    bench.expect_word(&rt, 0x3c020, 1);
+    bench.expect_word(&rt, 0x3c028, 0x8000_1000_0000_0038);
+    bench.expect_word(&rt, 0x3c030, 0x1000);
+    bench.expect_word(&rt, 0x3c038, 8 << 60);
     Ok(())
 }
 
@@ -37,35 +37,36 @@ fn a_guest_root_at_page_0(rt: HostRuntime) -> Result<(), Fail> {
 #[test]
 fn a_grant_of_a_guest_page(rt: HostRuntime) -> Result<(), Fail> {
     let mut bench = Bench::with_device_in(rt.alloc(), 1, Mode::Second)?;
-    expect(&rt, bench.grant(1, 3, 5) == Ok(()));
-    expect(&rt, bench.word(0x38000) == Some(55 << 10 | 1));
-    expect(&rt, bench.word(0x37000) == Some(54 << 10 | 1));
-    expect(&rt, bench.word(0x36018) == Some(0x14d7));
-    expect(&rt, bench.grant(1, (1 << 26) - 1, 6) == Ok(()));
-    expect(&rt, bench.word(0x387f8) == Some(53 << 10 | 1));
+    expect_eq(&rt, &bench.grant(1, 3, 5), &Ok(()));
+    bench.expect_word(&rt, 0x38000, 55 << 10 | 1);
+    bench.expect_word(&rt, 0x37000, 54 << 10 | 1);
+    bench.expect_word(&rt, 0x36018, 0x14d7);
+    expect_eq(&rt, &bench.grant(1, (1 << 26) - 1, 6), &Ok(()));
+    bench.expect_word(&rt, 0x387f8, 53 << 10 | 1);
     Ok(())
 }
 
 // A release is of GSCID 1 and guest page 3: IOTINVAL.GVMA; a detach of the whole guest.
-fn invalidates_the_guest(rt: &impl Abort, mut bench: Bench) {
-    expect(rt, bench.grant(2, 3, 5) == Ok(()));
-    expect(rt, bench.release(2, 3) == Ok(Ticket(1)));
-    expect(rt, bench.word(0x3f000) == Some(0x0000_1002_0000_0481));
-    expect(rt, bench.word(0x3f008) == Some(0x0000_0000_0000_0c00));
-    expect(rt, bench.word(0x3f010) == Some(0x0000_0001_0000_3402));
+fn invalidates_the_guest(rt: &impl Abort, bench: &mut Bench) {
+    expect_eq(rt, &bench.grant(2, 3, 5), &Ok(()));
+    expect_eq(rt, &bench.release(2, 3), &Ok(Ticket(1)));
+    bench.expect_word(rt, 0x3f000, 0x0000_1002_0000_0481);
+    bench.expect_word(rt, 0x3f008, 0x0000_0000_0000_0c00);
+    bench.expect_word(rt, 0x3f010, 0x0000_0001_0000_3402);
     bench.complete(1);
     expect(rt, bench.poll().is_ok());
-    expect(rt, bench.detach(2) == Ok(Ticket(2)));
-    expect(rt, bench.word(0x3f020) == Some(0x0000_0202_0000_0003));
-    expect(rt, bench.word(0x3f030) == Some(0x0000_1002_0000_0081));
-    expect(rt, bench.word(0x3f038) == Some(0));
-    expect(rt, bench.word(0x3f040) == Some(0x0000_0002_0000_3402));
+    expect_eq(rt, &bench.detach(2), &Ok(Ticket(2)));
+    bench.expect_word(rt, 0x3f020, 0x0000_0202_0000_0003);
+    bench.expect_word(rt, 0x3f030, 0x0000_1002_0000_0081);
+    bench.expect_word(rt, 0x3f038, 0);
+    bench.expect_word(rt, 0x3f040, 0x0000_0002_0000_3402);
 }
 
 #[test]
 fn commands_name_the_guest(rt: HostRuntime) -> Result<(), Fail> {
     for mode in [Mode::Second, Mode::Both] {
-        invalidates_the_guest(&rt, Bench::with_device_in(rt.alloc(), 2, mode)?);
+        let mut bench = Bench::with_device_in(rt.alloc(), 2, mode)?;
+        invalidates_the_guest(&rt, &mut bench);
     }
     Ok(())
 }
@@ -74,7 +75,7 @@ fn commands_name_the_guest(rt: HostRuntime) -> Result<(), Fail> {
 #[test]
 fn a_root_is_given_back_whole(rt: HostRuntime) -> Result<(), Fail> {
     let mut bench = Bench::with_device_in(rt.alloc(), 1, Mode::Second)?;
-    expect(&rt, bench.detach(1) == Ok(Ticket(1)));
+    expect_eq(&rt, &bench.detach(1), &Ok(Ticket(1)));
     expect(&rt, bench.is_reserved(56));
     expect(&rt, bench.is_reserved(59));
     bench.complete(1);
@@ -88,16 +89,17 @@ fn a_root_is_given_back_whole(rt: HostRuntime) -> Result<(), Fail> {
 // A directory of three levels, where device 1 took frames 55 to 59: after these grants frames 48 to 51 are free
 // side by side, and no other four, nor any frame above them.
 fn with_one_run_left(rt: &impl Abort, bench: &mut Bench) {
-    expect(rt, bench.plug(1) == Ok(()));
-    expect(rt, bench.attach(1) == Ok(()));
+    expect_eq(rt, &bench.plug(1), &Ok(()));
+    expect_eq(rt, &bench.attach(1), &Ok(()));
     for page in 0..12u32 {
-        expect(
+        expect_eq(
             rt,
-            bench.grant(1, u64::from(page), u64::from(4 * page)) == Ok(()),
+            &bench.grant(1, u64::from(page), u64::from(4 * page)),
+            &Ok(()),
         );
     }
     for page in 52..55 {
-        expect(rt, bench.grant(1, page, page) == Ok(()));
+        expect_eq(rt, &bench.grant(1, page, page), &Ok(()));
     }
 }
 
@@ -107,14 +109,15 @@ fn with_one_run_left(rt: &impl Abort, bench: &mut Bench) {
 fn pages_are_taken_before_the_root(rt: HostRuntime) -> Result<(), Fail> {
     let mut bench = Bench::of_size(rt.alloc(), 64, 3)?;
     with_one_run_left(&rt, &mut bench);
-    expect(&rt, bench.plug(0x1_0000) == Ok(()));
-    expect(&rt, bench.plug(2) == Ok(()));
-    expect(
+    expect_eq(&rt, &bench.plug(0x1_0000), &Ok(()));
+    expect_eq(&rt, &bench.plug(2), &Ok(()));
+    expect_eq(
         &rt,
-        bench.attach_in(0x1_0000, Mode::Second) == Err(Refusal::NoFrames),
+        &bench.attach_in(0x1_0000, Mode::Second),
+        &Err(Refusal::NoFrames),
     );
     expect(&rt, bench.is_free(51));
-    expect(&rt, bench.attach_in(2, Mode::Both) == Ok(()));
+    expect_eq(&rt, &bench.attach_in(2, Mode::Both), &Ok(()));
     expect(&rt, bench.is_reserved(48));
     expect(&rt, bench.is_reserved(51));
     Ok(())
@@ -126,17 +129,19 @@ fn pages_are_taken_before_the_root(rt: HostRuntime) -> Result<(), Fail> {
 fn of_an_attach_without_a_run(rt: HostRuntime) -> Result<(), Fail> {
     let mut bench = Bench::of_size(rt.alloc(), 64, 3)?;
     with_one_run_left(&rt, &mut bench);
-    expect(&rt, bench.grant(1, 48, 48) == Ok(()));
-    expect(&rt, bench.plug(2) == Ok(()));
-    expect(
+    expect_eq(&rt, &bench.grant(1, 48, 48), &Ok(()));
+    expect_eq(&rt, &bench.plug(2), &Ok(()));
+    expect_eq(
         &rt,
-        bench.attach_in(2, Mode::Second) == Err(Refusal::NoFrames),
+        &bench.attach_in(2, Mode::Second),
+        &Err(Refusal::NoFrames),
     );
-    expect(
+    expect_eq(
         &rt,
-        bench.attach_in(2, Mode::Both) == Err(Refusal::NoFrames),
+        &bench.attach_in(2, Mode::Both),
+        &Err(Refusal::NoFrames),
     );
-    expect(&rt, bench.attach_in(2, Mode::First) == Ok(()));
+    expect_eq(&rt, &bench.attach_in(2, Mode::First), &Ok(()));
     expect(&rt, bench.is_reserved(51));
     Ok(())
 }
