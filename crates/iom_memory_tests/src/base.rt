@@ -1,3 +1,4 @@
+use crate::expect::{expect, expect_eq};
 use bitflags::Flags;
 use iom_base::{AccessKind, Cause, Rights, Sequence, Span};
 use std::alloc::{AllocError, Global};
@@ -7,10 +8,10 @@ use std::test::Fail;
 
 #[test]
 fn rights_allow_what_they_name(rt: HostRuntime) {
-    assert!(rt; Rights::R.allows(AccessKind::Read));
-    assert!(rt; !Rights::R.allows(AccessKind::Write));
-    assert!(rt; Rights::RW.allows(AccessKind::Read));
-    assert!(rt; Rights::RW.allows(AccessKind::Write));
+    expect(&rt, Rights::R.allows(AccessKind::Read));
+    expect(&rt, !Rights::R.allows(AccessKind::Write));
+    expect(&rt, Rights::RW.allows(AccessKind::Read));
+    expect(&rt, Rights::RW.allows(AccessKind::Write));
 }
 
 // Sets of bits that are never granted: no bit, and the write bit alone, since no page is write-only.
@@ -18,8 +19,8 @@ fn rights_allow_what_they_name(rt: HostRuntime) {
 fn other_bits_allow_nothing(rt: HostRuntime) {
     for bits in [0, 2] {
         let rights = Rights::from_bits_retain(bits);
-        assert!(rt; !rights.allows(AccessKind::Read), "bits {bits}");
-        assert!(rt; !rights.allows(AccessKind::Write), "bits {bits}");
+        expect(&rt, !rights.allows(AccessKind::Read));
+        expect(&rt, !rights.allows(AccessKind::Write));
     }
 }
 
@@ -40,19 +41,19 @@ fn causes_have_their_numbers(rt: HostRuntime) {
         (Cause::TransactionTypeDisallowed, 260, "260"),
     ];
     for (cause, code, text) in causes {
-        assert_eq!(rt; cause.code(), code);
+        expect_eq(&rt, &cause.code(), &code);
         prints(&rt, rt.alloc(), &cause, text);
     }
 }
 
 #[test]
 fn faults_go_by_the_kind_of_access(rt: HostRuntime) {
-    assert_eq!(rt; Cause::access_fault(AccessKind::Read).code(), 5);
-    assert_eq!(rt; Cause::access_fault(AccessKind::Write).code(), 7);
-    assert_eq!(rt; Cause::page_fault(AccessKind::Read).code(), 13);
-    assert_eq!(rt; Cause::page_fault(AccessKind::Write).code(), 15);
-    assert_eq!(rt; Cause::guest_page_fault(AccessKind::Read).code(), 21);
-    assert_eq!(rt; Cause::guest_page_fault(AccessKind::Write).code(), 23);
+    expect_eq(&rt, &Cause::access_fault(AccessKind::Read).code(), &5);
+    expect_eq(&rt, &Cause::access_fault(AccessKind::Write).code(), &7);
+    expect_eq(&rt, &Cause::page_fault(AccessKind::Read).code(), &13);
+    expect_eq(&rt, &Cause::page_fault(AccessKind::Write).code(), &15);
+    expect_eq(&rt, &Cause::guest_page_fault(AccessKind::Read).code(), &21);
+    expect_eq(&rt, &Cause::guest_page_fault(AccessKind::Write).code(), &23);
 }
 
 #[test]
@@ -61,11 +62,17 @@ fn rights_print_as_letters(rt: HostRuntime) {
     prints(&rt, rt.alloc(), &Rights::RW, "rw");
 }
 
-#[test]
-fn spans_stay_in_their_page(rt: HostRuntime) {
-    let page = |page: u64, offset: u16, len: u16| Some(Span { page, offset, len });
+fn is_span(rt: &impl Abort, address: u64, len: u64, want: Option<Span>) {
+    assert_eq!(rt; Span::new(address, len), want, "{len} bytes from {address}");
+}
+
+fn page(page: u64, offset: u16, len: u16) -> Option<Span> {
+    Some(Span { page, offset, len })
+}
+
+fn spans() -> [(u64, u64, Option<Span>); 17] {
     let top = u64::MAX / 4096;
-    let spans = [
+    [
         (0, 1, page(0, 0, 1)),
         (0, 4096, page(0, 0, 4096)),
         (4095, 1, page(0, 4095, 1)),
@@ -85,14 +92,18 @@ fn spans_stay_in_their_page(rt: HostRuntime) {
         (u64::MAX - 7, 9, None),
         (u64::MAX, 2, None),
         (u64::MAX, u64::MAX, None),
-    ];
-    for (address, len, want) in spans {
-        assert_eq!(rt; Span::new(address, len), want, "{len} bytes from {address}");
+    ]
+}
+
+#[test]
+fn spans_stay_in_their_page(rt: HostRuntime) {
+    for (address, len, want) in spans() {
+        is_span(&rt, address, len, want);
     }
 }
 
 // The value is written as this text. A refused allocation is passed over, once: the second try has memory.
-fn prints<T: Display>(rt: &impl Abort, alloc: Global, value: &T, want: &str) {
+pub(crate) fn prints<T: Display>(rt: &impl Abort, alloc: Global, value: &T, want: &str) {
     let first = format!(in alloc; "{value}");
     let text = match first {
         Ok(text) => Ok(text),
@@ -102,19 +113,27 @@ fn prints<T: Display>(rt: &impl Abort, alloc: Global, value: &T, want: &str) {
     assert_eq!(rt; text.as_str(), want);
 }
 
-#[test]
-fn a_sequence_keeps_its_order(rt: HostRuntime) -> Result<(), Fail> {
-    let mut values = Sequence::with_capacity(rt.alloc(), 3)?;
+fn holds(rt: &impl Abort, values: &Sequence<u8>, wanted: &[u8]) {
+    expect_eq(rt, &values.as_slice(), &wanted);
+}
+
+fn three_keep_their_order(rt: &impl Abort, alloc: Global) -> Result<(), AllocError> {
+    let mut values = Sequence::with_capacity(alloc, 3)?;
     values.push(5u8)?;
     values.push(6)?;
     values.push_front(4)?;
     *values.item_mut(1) = 9;
-    assert_eq!(rt; values.as_slice(), [4, 9, 6].as_slice());
-    assert_eq!(rt; values.pop_front(), 4);
-    assert_eq!(rt; values.as_slice(), [9, 6].as_slice());
-    let none = Sequence::<u8>::new(rt.alloc());
-    assert!(rt; none.as_slice().is_empty());
+    holds(rt, &values, &[4, 9, 6]);
+    expect_eq(rt, &values.pop_front(), &4);
+    holds(rt, &values, &[9, 6]);
+    Ok(())
+}
+
+#[test]
+fn a_sequence_keeps_its_order(rt: HostRuntime) -> Result<(), Fail> {
+    three_keep_their_order(&rt, rt.alloc())?;
+    holds(&rt, &Sequence::new(rt.alloc()), &[]);
     let two = Sequence::from_vec(vec![in rt.alloc(); 7u8; 2]?);
-    assert_eq!(rt; two.as_slice(), [7, 7].as_slice());
+    holds(&rt, &two, &[7, 7]);
     Ok(())
 }

@@ -9,6 +9,8 @@
 #[cfg(test)]
 mod base;
 #[cfg(test)]
+mod expect;
+#[cfg(test)]
 mod inflight;
 #[cfg(test)]
 mod page_table;

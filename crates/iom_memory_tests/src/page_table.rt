@@ -4,9 +4,10 @@ ghost use Rattle.iom_base.specs.Sizes.{page_limit};
 ghost use Rattle.iom_phys_mem.specs.Words.{zeroed};
 ghost use Rattle.iom_page_table.specs.Sv39.{IsRoot, HasTable};
 
+use crate::expect::{expect, expect_eq, expect_load};
 use iom_base::{AccessKind, Cause, Rights};
 use iom_page_table::{PageLeaf, is_mapped, laws, map, missing, unmap};
-use iom_phys_mem::{Bytes, Memory};
+use iom_phys_mem::Memory;
 use iom_stage_walk::{WalkFault, Walked, walk_first};
 use std::process::Abort;
 
@@ -74,29 +75,35 @@ fn fault(cause: Cause) -> Result<Walked, WalkFault> {
     })
 }
 
+// A read at the address is answered so.
+fn reads(rt: &impl Abort, memory: &Memory, address: u64, wanted: Result<Walked, WalkFault>) {
+    let answer = walk_first(memory, 59, address, AccessKind::Read);
+    assert_eq!(rt; answer, wanted, "at {address}");
+}
+
+// The same of a write.
+fn writes(rt: &impl Abort, memory: &Memory, address: u64, wanted: Result<Walked, WalkFault>) {
+    let answer = walk_first(memory, 59, address, AccessKind::Write);
+    assert_eq!(rt; answer, wanted, "at {address}");
+}
+
 // The dump of memory after `grant 000001 3 5 rw`: the root in frame 59, its tables in 58 and 57, and at
 // 0x39018 the bytes d7 14 00 00 00 00 00 00.
 #[test]
 fn a_page_has_the_bytes_of_a_dump(rt: HostRuntime) {
     let mut memory = empty(&rt);
     let top = map_page(&rt, &mut memory, 59, 3, 5, Rights::RW);
-    assert_eq!(rt; top, 57);
-    assert_eq!(rt; memory.load_u64(0x3_b000), Some(0xe801));
-    assert_eq!(rt; memory.load_u64(0x3_a000), Some(0xe401));
-    assert_eq!(rt; memory.load_u64(0x3_9018), Some(0x14d7));
-    assert_eq!(rt;
-        walk_first(&memory, 59, 0x3ffc, AccessKind::Write),
-        at(5, Rights::RW)
-    );
-    assert!(rt; is_mapped(&memory, ROOT, 3));
+    expect_eq(&rt, &top, &57);
+    expect_load(&rt, &memory, 0x3_b000, Some(0xe801));
+    expect_load(&rt, &memory, 0x3_a000, Some(0xe401));
+    expect_load(&rt, &memory, 0x3_9018, Some(0x14d7));
+    writes(&rt, &memory, 0x3ffc, at(5, Rights::RW));
+    expect(&rt, is_mapped(&memory, ROOT, 3));
     unmap(&mut memory, ROOT, 3);
-    assert_eq!(rt; memory.load_u64(0x3_9018), Some(0));
-    assert_eq!(rt; memory.load_u64(0x3_a000), Some(0xe401));
-    assert!(rt; !is_mapped(&memory, ROOT, 3));
-    assert_eq!(rt;
-        walk_first(&memory, 59, 0x3ffc, AccessKind::Read),
-        fault(Cause::ReadPageFault)
-    );
+    expect_load(&rt, &memory, 0x3_9018, Some(0));
+    expect_load(&rt, &memory, 0x3_a000, Some(0xe401));
+    expect(&rt, !is_mapped(&memory, ROOT, 3));
+    reads(&rt, &memory, 0x3ffc, fault(Cause::ReadPageFault));
 }
 
 // A page that may only be read, in the last entry of its tables: 0x53 below the page number, and of the
@@ -105,10 +112,10 @@ fn a_page_has_the_bytes_of_a_dump(rt: HostRuntime) {
 fn a_page_for_reads_has_its_bytes(rt: HostRuntime) {
     let mut memory = empty(&rt);
     let top = map_page(&rt, &mut memory, 59, 67_108_863, 5, Rights::R);
-    assert_eq!(rt; top, 57);
-    assert_eq!(rt; memory.load_u64(0x3_b7f8), Some(0xe801));
-    assert_eq!(rt; memory.load_u64(0x3_aff8), Some(0xe401));
-    assert_eq!(rt; memory.load_u64(0x3_9ff8), Some(0x1453));
+    expect_eq(&rt, &top, &57);
+    expect_load(&rt, &memory, 0x3_b7f8, Some(0xe801));
+    expect_load(&rt, &memory, 0x3_aff8, Some(0xe401));
+    expect_load(&rt, &memory, 0x3_9ff8, Some(0x1453));
 }
 
 // Pages that share two tables besides the root, one and none.
@@ -117,33 +124,18 @@ fn pages_share_tables(rt: HostRuntime) {
     let mut memory = empty(&rt);
     let top = map_page(&rt, &mut memory, 59, 3, 5, Rights::RW);
     let top = map_page(&rt, &mut memory, top, 4, 6, Rights::R);
-    assert_eq!(rt; top, 57);
+    expect_eq(&rt, &top, &57);
     let top = map_page(&rt, &mut memory, top, 515, 7, Rights::R);
-    assert_eq!(rt; top, 56);
+    expect_eq(&rt, &top, &56);
     let top = map_page(&rt, &mut memory, top, 262_147, 8, Rights::RW);
-    assert_eq!(rt; top, 54);
+    expect_eq(&rt, &top, &54);
     unmap(&mut memory, ROOT, 4);
     unmap(&mut memory, ROOT, 5);
-    assert_eq!(rt;
-        walk_first(&memory, 59, 0x3000, AccessKind::Read),
-        at(5, Rights::RW)
-    );
-    assert_eq!(rt;
-        walk_first(&memory, 59, 0x4000, AccessKind::Read),
-        fault(Cause::ReadPageFault)
-    );
-    assert_eq!(rt;
-        walk_first(&memory, 59, 0x20_3000, AccessKind::Read),
-        at(7, Rights::R)
-    );
-    assert_eq!(rt;
-        walk_first(&memory, 59, 0x20_3000, AccessKind::Write),
-        fault(Cause::WritePageFault)
-    );
-    assert_eq!(rt;
-        walk_first(&memory, 59, 0x4000_3000, AccessKind::Write),
-        at(8, Rights::RW)
-    );
+    reads(&rt, &memory, 0x3000, at(5, Rights::RW));
+    reads(&rt, &memory, 0x4000, fault(Cause::ReadPageFault));
+    reads(&rt, &memory, 0x20_3000, at(7, Rights::R));
+    writes(&rt, &memory, 0x20_3000, fault(Cause::WritePageFault));
+    writes(&rt, &memory, 0x4000_3000, at(8, Rights::RW));
 }
 
 #[test]
@@ -151,26 +143,16 @@ fn the_first_and_the_last_page_are_mapped(rt: HostRuntime) {
     let mut memory = empty(&rt);
     let top = map_page(&rt, &mut memory, 59, 0, 5, Rights::RW);
     let top = map_page(&rt, &mut memory, top, 67_108_863, 5, Rights::R);
-    assert_eq!(rt; top, 55);
-    assert_eq!(rt;
-        walk_first(&memory, 59, 0, AccessKind::Write),
-        at(5, Rights::RW)
-    );
-    assert_eq!(rt;
-        walk_first(&memory, 59, 0x3f_ffff_f000, AccessKind::Read),
-        at(5, Rights::R)
-    );
-    assert_eq!(rt;
-        walk_first(&memory, 59, 0x3f_ffff_f000, AccessKind::Write),
-        fault(Cause::WritePageFault)
-    );
-    assert_eq!(rt;
-        walk_first(&memory, 59, 0x40_0000_0000, AccessKind::Read),
-        fault(Cause::ReadPageFault)
-    );
-    assert_eq!(rt;
-        walk_first(&memory, 59, 0xffff_ffff_ffff_f000, AccessKind::Read),
-        fault(Cause::ReadPageFault)
+    expect_eq(&rt, &top, &55);
+    writes(&rt, &memory, 0, at(5, Rights::RW));
+    reads(&rt, &memory, 0x3f_ffff_f000, at(5, Rights::R));
+    writes(&rt, &memory, 0x3f_ffff_f000, fault(Cause::WritePageFault));
+    reads(&rt, &memory, 0x40_0000_0000, fault(Cause::ReadPageFault));
+    reads(
+        &rt,
+        &memory,
+        0xffff_ffff_ffff_f000,
+        fault(Cause::ReadPageFault),
     );
 }
 

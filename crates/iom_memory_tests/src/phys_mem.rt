@@ -1,3 +1,7 @@
+ghost use Rattle.std.specs.Prelude.{◌≤◌};
+
+use crate::base::prints;
+use crate::expect::{expect, expect_eq, expect_load, expect_short_store, expect_store};
 use iom_base::FRAME_SIZE;
 use iom_phys_mem::{Bytes, MemError, Memory, frames};
 use std::alloc::Global;
@@ -20,44 +24,54 @@ fn built(rt: &impl Abort, alloc: Global, frames: u32) -> Memory {
     memory.expect(rt, "memory for the frames")
 }
 
+fn is_refused(rt: &impl Abort, alloc: Global, frames: u32) {
+    let refused = Memory::new(alloc, frames).err();
+    assert_eq!(rt; refused, Some(MemError::BadSize), "{frames} frames");
+}
+
+fn has_size(rt: &impl Abort, alloc: Global, frames: u32)
+    requires { 64 ≤ frames }
+{
+    let memory = built(rt, alloc, frames);
+    let end = 4096 * frames as u64;
+    expect_eq(rt, &memory.frames(), &frames);
+    expect_load(rt, &memory, end - 8, Some(0));
+    expect_load(rt, &memory, end, None);
+    expect(rt, memory.frame(frames - 1).is_some());
+    expect(rt, memory.frame(frames).is_none());
+}
+
 #[test]
 fn sizes_are_64_to_4096(rt: HostRuntime) {
     for frames in [0, 1, 63, 4097, 65536, u32::MAX] {
-        let refused = Memory::new(rt.alloc(), frames).err();
-        assert_eq!(rt; refused, Some(MemError::BadSize), "{frames} frames");
+        is_refused(&rt, rt.alloc(), frames);
     }
-    for frames in [64, 65, 4096] {
-        let memory = built(&rt, rt.alloc(), frames);
-        let end = 4096 * frames as u64;
-        assert_eq!(rt; memory.frames(), frames);
-        assert_eq!(rt; memory.load_u64(end - 8), Some(0));
-        assert_eq!(rt; memory.load_u64(end), None);
-        assert!(rt; memory.frame(frames - 1).is_some());
-        assert!(rt; memory.frame(frames).is_none());
-    }
+    has_size(&rt, rt.alloc(), 64);
+    has_size(&rt, rt.alloc(), 65);
+    has_size(&rt, rt.alloc(), 4096);
 }
 
 #[test]
 fn words_go_up_to_the_last(rt: HostRuntime) {
     let mut memory = built(&rt, rt.alloc(), 64);
     for address in [0, 8, 4088, 4096, END - 8] {
-        assert_eq!(rt; memory.store_u64(address, DIGITS), Some(()), "at {address}");
-        assert_eq!(rt; memory.load_u64(address), Some(DIGITS), "at {address}");
+        expect_store(&rt, &mut memory, address, DIGITS, true);
+        expect_load(&rt, &memory, address, Some(DIGITS));
     }
-    assert_eq!(rt; memory.store_u32(END - 4, 0xffff_fffe), Some(()));
-    assert_eq!(rt; memory.load_u64(END - 8), Some(0xffff_fffe_0403_0201));
+    expect_short_store(&rt, &mut memory, END - 4, 0xffff_fffe, true);
+    expect_load(&rt, &memory, END - 8, Some(0xffff_fffe_0403_0201));
 }
 
 #[test]
 fn words_outside_are_none(rt: HostRuntime) {
     let mut memory = built(&rt, rt.alloc(), 64);
     for address in [END, END + 8, 4096 * 4096, u64::MAX - 7] {
-        assert_eq!(rt; memory.load_u64(address), None, "at {address}");
-        assert_eq!(rt; memory.store_u64(address, 1), None, "at {address}");
-        assert_eq!(rt; memory.store_u32(address, 1), None, "at {address}");
+        expect_load(&rt, &memory, address, None);
+        expect_store(&rt, &mut memory, address, 1, false);
+        expect_short_store(&rt, &mut memory, address, 1, false);
     }
-    assert_eq!(rt; memory.store_u32(u64::MAX - 3, 1), None);
-    assert_eq!(rt; memory.load_u64(u64::MAX), None);
+    expect_short_store(&rt, &mut memory, u64::MAX - 3, 1, false);
+    expect_load(&rt, &memory, u64::MAX, None);
 }
 
 #[test]
@@ -65,40 +79,56 @@ fn unaligned_words_are_none(rt: HostRuntime) {
     let mut memory = built(&rt, rt.alloc(), 64);
     for by in 1..8 {
         for word in [0, 4096, END - 8] {
-            assert_eq!(rt; memory.load_u64(word + by), None, "{by} past {word}");
-            assert_eq!(rt; memory.store_u64(word + by, 1), None, "{by} past {word}");
-            let halves = memory.store_u32(word + by, 0);
-            assert_eq!(rt; halves.is_some(), by == 4, "{by} past {word}");
+            expect_load(&rt, &memory, word + by, None);
+            expect_store(&rt, &mut memory, word + by, 1, false);
+            expect_short_store(&rt, &mut memory, word + by, 0, by == 4);
         }
     }
 }
+
+fn bytes_are_written(rt: &impl Abort, memory: &mut Memory) -> Result<(), Fail> {
+    memory.frame_mut(1).ok_or("frame 1")?.fill(255);
+    expect_store(rt, memory, 4096 + 8, DIGITS, true);
+    expect_short_store(rt, memory, 4096 + 20, 0x0c0b_0a09, true);
+    let frame = memory.frame(1).ok_or("frame 1")?;
+    expect_eq(rt, &&frame[6..26], &WRITTEN.as_slice());
+    let written = frame.iter().filter(|byte| **byte != 255).count();
+    expect_eq(rt, &written, &12);
+    Ok(())
+}
+
+const WRITTEN: [u8; 20] = [
+    255, 255, 1, 2, 3, 4, 5, 6, 7, 8, 255, 255, 255, 255, 9, 10, 11, 12, 255, 255,
+];
 
 // The bytes of a store, and those beside them, where all were 255.
 #[test]
 fn stores_write_their_bytes(rt: HostRuntime) -> Result<(), Fail> {
     let mut memory = built(&rt, rt.alloc(), 64);
-    memory.frame_mut(1).ok_or("frame 1")?.fill(255);
-    assert_eq!(rt; memory.store_u64(4096 + 8, DIGITS), Some(()));
-    assert_eq!(rt; memory.store_u32(4096 + 20, 0x0c0b_0a09), Some(()));
-    let frame = memory.frame(1).ok_or("frame 1")?;
-    let want = [
-        255, 255, 1, 2, 3, 4, 5, 6, 7, 8, 255, 255, 255, 255, 9, 10, 11, 12, 255, 255,
-    ];
-    assert_eq!(rt; &frame[6..26], want.as_slice());
-    let written = frame.iter().filter(|byte| **byte != 255).count();
-    assert_eq!(rt; written, 12);
-    Ok(())
+    bytes_are_written(&rt, &mut memory)
+}
+
+// The last byte of the frame.
+fn last_byte(memory: &Memory, frame: u32) -> Option<u8> {
+    let bytes = memory.frame(frame)?;
+    Some(bytes[4095])
+}
+
+fn set_last_byte(memory: &mut Memory, frame: u32, byte: u8) -> Option<()> {
+    let bytes = memory.frame_mut(frame)?;
+    bytes[4095] = byte;
+    Some(())
 }
 
 #[test]
 fn lent_frames_are_the_memory(rt: HostRuntime) -> Result<(), Fail> {
     let mut memory = built(&rt, rt.alloc(), 64);
-    memory.frame_mut(63).ok_or("frame 63")?[4095] = 7;
-    assert_eq!(rt; memory.load_u64(END - 8), Some(7 << 56));
-    assert_eq!(rt; memory.frame(63).ok_or("frame 63")?[4095], 7);
-    assert_eq!(rt; memory.frame(62).ok_or("frame 62")?[4095], 0);
-    assert!(rt; memory.frame_mut(64).is_none());
-    assert!(rt; memory.frame_mut(u32::MAX).is_none());
+    expect(&rt, set_last_byte(&mut memory, 63, 7).is_some());
+    expect_load(&rt, &memory, END - 8, Some(7 << 56));
+    expect_eq(&rt, &last_byte(&memory, 63), &Some(7));
+    expect_eq(&rt, &last_byte(&memory, 62), &Some(0));
+    expect(&rt, memory.frame_mut(64).is_none());
+    expect(&rt, memory.frame_mut(u32::MAX).is_none());
     Ok(())
 }
 
@@ -132,20 +162,28 @@ fn move_word<B: Bytes>(bytes: &mut B, from: u64, to: u64) -> Option<()> {
     bytes.store_u64(to, word)
 }
 
+// A word is moved to the last place, and not past the end.
+fn moves<B: Bytes>(rt: &impl Abort, bytes: &mut B, from: u64, end: u64, word: u64)
+    requires { 8 ≤ end }
+{
+    expect_eq(rt, &move_word(bytes, from, end - 8), &Some(()));
+    expect_load(rt, bytes, end - 8, Some(word));
+    expect_eq(rt, &move_word(bytes, from, end), &None);
+}
+
+fn moves_in_two_frames(rt: &impl Abort) {
+    let mut small = TwoFrames([[0; FRAME_SIZE]; 2]);
+    expect_eq(rt, &small.frames(), &2);
+    expect_short_store(rt, &mut small, 4, 0x0807_0605, true);
+    moves(rt, &mut small, 0, 8192, 0x0807_0605_0000_0000);
+}
+
 #[test]
 fn words_move_through_the_bound(rt: HostRuntime) {
     let mut memory = built(&rt, rt.alloc(), 64);
-    assert_eq!(rt; memory.store_u64(8, DIGITS), Some(()));
-    assert_eq!(rt; move_word(&mut memory, 8, END - 8), Some(()));
-    assert_eq!(rt; memory.load_u64(END - 8), Some(DIGITS));
-    assert_eq!(rt; move_word(&mut memory, 8, END), None);
-
-    let mut small = TwoFrames([[0; FRAME_SIZE]; 2]);
-    assert_eq!(rt; small.frames(), 2);
-    assert_eq!(rt; small.store_u32(4, 0x0807_0605), Some(()));
-    assert_eq!(rt; move_word(&mut small, 0, 8184), Some(()));
-    assert_eq!(rt; small.load_u64(8184), Some(0x0807_0605_0000_0000));
-    assert_eq!(rt; move_word(&mut small, 0, 8192), None);
+    expect_store(&rt, &mut memory, 8, DIGITS, true);
+    moves(&rt, &mut memory, 8, END, DIGITS);
+    moves_in_two_frames(&rt);
 }
 
 #[test]
@@ -154,7 +192,6 @@ fn faults_print(rt: HostRuntime) {
         (MemError::BadSize, "a memory has 64 to 4096 frames"),
         (MemError::OutOfMemory, "out of memory"),
     ] {
-        let text = format!(in rt.alloc(); "{fault}").or_else(|_| format!(in rt.alloc(); "{fault}"));
-        assert_eq!(rt; text.expect(&rt, "memory for a text").as_str(), want);
+        prints(&rt, rt.alloc(), &fault, want);
     }
 }
