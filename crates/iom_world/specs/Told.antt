@@ -4,9 +4,6 @@ use Rattle.std.specs.Prelude.{◌≡◌, ℕ, List}
 use Rattle.arrayvec.specs.ArrayVec.{ArrayVec}
 use Rattle.iom_machine.specs.declared.outcome.Outcome.{Outcome}
 use Rattle.iom_machine.specs.declared.outcome.Outcome.TheVariants as outcome
-use Rattle.iom_world.specs.declared.told.Answer.{Answer}
-use Rattle.iom_world.specs.declared.told.Answer.TheVariants as answer
-use Rattle.iom_world.specs.declared.told.BytePlaces.{BytePlaces}
 use Rattle.iom_world.specs.declared.told.Told.{Told}
 use Rattle.iom_world.specs.declared.told.Told.TheVariants.{Done, Refused, Ticket, Confirmed, NoneConfirmed, Record, NoRecord, Fetched, Accepted, Busy, BadSpan, Fault, Wrote, NothingInFlight, Free}
 
@@ -35,9 +32,3 @@ TellsBytes told bytes = (held : ArrayVec ℕ) × (told ≡ outcome.Read held) ×
 -- the processor read these bytes
 abbrev pub TellsShown : Outcome → List ℕ → Type 0
 TellsShown told bytes = (held : ArrayVec ℕ) × (told ≡ outcome.Bytes held) × (held.items ≡ bytes)
-
--- the outcome that an answer means, where bytes stand in these places
-abbrev pub meant : Answer → BytePlaces → Outcome
-meant (answer.Told told) places = outcome_of told
-meant answer.Made places = places.made
-meant answer.Shown places = places.shown

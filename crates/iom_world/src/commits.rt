@@ -3,10 +3,10 @@ ghost use Rattle.std.specs.Prelude.{◌≡◌, ◌+◌, ◌<◌, ◌≤◌, leng
 ghost use Rattle.iom_base.specs.Sizes.{page_size};
 ghost use Rattle.iom_world.specs.Commits.{CommitsAccess, TellsRead};
 ghost use Rattle.iom_world.specs.Seen.{parts_of};
-ghost use Rattle.iom_world.specs.Told.{meant};
 
 use crate::below::laws_below;
-use crate::told::{Answer, BytePlaces, Told, tell_read};
+use crate::kept_outcomes::KeptOutcomes;
+use crate::told::{Told, tell_read};
 use crate::world::World;
 use iom_base::{AccessKind, DeviceId};
 use iom_inflight::MadeAt;
@@ -29,23 +29,23 @@ impl World {
     /// The oldest access of a device in flight is made, on the frame that it was translated to: `Read`, with
     /// its bytes in their place, or `Wrote`, with how many were stored. Nothing changes where nothing of the
     /// device is in flight, or no device has the id.
-    pub(crate) fn commit(&mut self, id: DeviceId, places: &mut BytePlaces) -> Answer
-        ensures does { CommitsAccess (parts_of self.old) id (meant result places.new) (parts_of self.new) }
+    pub(crate) fn commit<'a>(&mut self, id: DeviceId, kept: &'a mut KeptOutcomes) -> &'a mut Outcome
+        ensures does { CommitsAccess (parts_of self.old) id result.now (parts_of self.new) }
         ensures events { self.new.events ≡ self.old.events }
     {
         laws_below();
         if !self.is_plugged(id) {
-            return Answer::Told(Told::Refused(Refusal::NoSuchDevice));
+            return kept.tell(Told::Refused(Refusal::NoSuchDevice));
         }
         let Some(made) = self.iommu.commit(&mut self.memory, id) else {
-            return Answer::Told(Told::NothingInFlight);
+            return kept.tell(Told::NothingInFlight);
         };
         match made.kind {
             AccessKind::Read => {
-                tell_made(&self.memory, made, &mut places.made);
-                Answer::Made
+                tell_made(&self.memory, made, &mut kept.made);
+                &mut kept.made
             }
-            AccessKind::Write => Answer::Told(Told::Wrote(u64::from(made.len))),
+            AccessKind::Write => kept.tell(Told::Wrote(u64::from(made.len))),
         }
     }
 }

@@ -1,15 +1,19 @@
 //! Where the outcomes of a run are told.
 ghost use Rattle.std.specs.Prelude.{◌≡◌};
-ghost use Rattle.iom_world.specs.Told.{meant};
+ghost use Rattle.iom_world.specs.Told.{outcome_of};
 
-use crate::told::{Answer, BytePlaces, Told};
+use crate::told::Told;
+use arrayvec::ArrayVec;
 use iom_machine::Outcome;
 
 /// A place for each kind of outcome, so that what a place held before is of the same kind as what is
 /// told there next, and only what differs is written.
 #[derive(Drop)]
 pub(crate) struct KeptOutcomes {
-    pub(crate) bytes: BytePlaces,
+    /// Of a read that was made, with its bytes.
+    pub(crate) made: Outcome,
+    /// Of a read of the processor, with its bytes.
+    pub(crate) shown: Outcome,
     done: Outcome,
     refused: Outcome,
     ticket: Outcome,
@@ -30,7 +34,8 @@ pub(crate) struct KeptOutcomes {
 impl KeptOutcomes {
     pub(crate) fn new() -> KeptOutcomes {
         KeptOutcomes {
-            bytes: BytePlaces::new(),
+            made: Outcome::Read(ArrayVec::new()),
+            shown: Outcome::Bytes(ArrayVec::new()),
             done: Outcome::Done,
             refused: Outcome::Done,
             ticket: Outcome::Done,
@@ -50,6 +55,7 @@ impl KeptOutcomes {
     }
 
     /// The place for what is told.
+    #[inline(always)]
     fn place_for(&mut self, told: &Told) -> &mut Outcome {
         match told {
             Told::Done => &mut self.done,
@@ -70,18 +76,14 @@ impl KeptOutcomes {
         }
     }
 
-    /// The outcome that the answer means, told in its place.
-    pub(crate) fn tell(&mut self, answer: Answer) -> &Outcome
-        ensures { result.now ≡ meant answer self.old.bytes }
+    /// The outcome that says what is told, in its kind's place.
+    // Who tells knows the kind: written into its caller, this searches for no place.
+    #[inline(always)]
+    pub(crate) fn tell(&mut self, told: Told) -> &mut Outcome
+        ensures { result.now ≡ outcome_of told }
     {
-        match answer {
-            Answer::Told(told) => {
-                let place = self.place_for(&told);
-                told.tell(place);
-                place
-            }
-            Answer::Made => &self.bytes.made,
-            Answer::Shown => &self.bytes.shown,
-        }
+        let place = self.place_for(&told);
+        told.tell(place);
+        place
     }
 }

@@ -3,13 +3,15 @@ ghost use Rattle.std.specs.Prelude.{◌≡◌, ◌+◌, ◌≤◌, length};
 ghost use Rattle.iom_base.specs.Bytes.{with_bytes};
 ghost use Rattle.iom_world.specs.Seen.{parts_of};
 ghost use Rattle.iom_world.specs.Processor.{PokesBytes, PeeksBytes, AsksFree};
-ghost use Rattle.iom_world.specs.Told.{outcome_of, meant};
+ghost use Rattle.iom_world.specs.Told.{outcome_of};
 
 use crate::below::laws_below;
-use crate::told::{Answer, BytePlaces, Told, tell_shown};
+use crate::kept_outcomes::KeptOutcomes;
+use crate::told::{Told, tell_shown};
 use crate::world::World;
 use iom_base::{PAGE_SIZE, Span};
 use iom_ledger::Refusal;
+use iom_machine::Outcome;
 use iom_phys_mem::Bytes;
 
 /// Stores the bytes in the frame, from the offset on.
@@ -46,20 +48,25 @@ impl World {
 
     /// The processor reads so many bytes at the physical address, within one frame: they stand in their
     /// place then; or `BadSpan`, or `FrameOutOfRange`. Nothing changes.
-    pub(crate) fn peek(&self, address: u64, len: u64, places: &mut BytePlaces) -> Answer
-        ensures { PeeksBytes (parts_of self.now) address len (meant result places.new) }
+    pub(crate) fn peek<'a>(
+        &self,
+        address: u64,
+        len: u64,
+        kept: &'a mut KeptOutcomes,
+    ) -> &'a mut Outcome
+        ensures { PeeksBytes (parts_of self.now) address len result.now }
     {
         if Span::new(address, len).is_none() {
-            return Answer::Told(Told::BadSpan);
+            return kept.tell(Told::BadSpan);
         }
         let number = address / PAGE_SIZE;
         if number >= u64::from(self.memory.frames()) {
-            return Answer::Told(Told::Refused(Refusal::FrameOutOfRange));
+            return kept.tell(Told::Refused(Refusal::FrameOutOfRange));
         }
         let frame = self.memory.frame(number as u32).unwrap();
         let offset = (address % PAGE_SIZE) as usize;
-        tell_shown(&frame[offset..offset + len as usize], &mut places.shown);
-        Answer::Shown
+        tell_shown(&frame[offset..offset + len as usize], &mut kept.shown);
+        &mut kept.shown
     }
 
     /// Whether the frame is free: no device holds it or may still reach it, and it isn't reserved.

@@ -8,65 +8,63 @@ ghost use Rattle.iom_world.specs.Happens.{Happens};
 ghost use Rattle.iom_world.specs.Runs.{RunsTo, FailsAfter};
 ghost use Rattle.iom_world.specs.Seen.{parts_of};
 ghost use Rattle.iom_world.specs.Shows.{Shows};
-ghost use Rattle.iom_world.specs.Told.{meant};
 
 use crate::below::laws_below;
 use crate::kept_outcomes::KeptOutcomes;
-use crate::told::{Answer, BytePlaces};
 use crate::world::World;
 use iom_machine::{Event, Outcome, Sink};
+use std::mem;
 
 impl World {
     /// The event is counted, and goes to whom it is for.
-    fn dispatch(&mut self, event: &Event, places: &mut BytePlaces) -> Answer
+    fn dispatch<'a>(&mut self, event: &Event, kept: &'a mut KeptOutcomes) -> &'a mut Outcome
         requires event { IsEvent event.now }
         requires count { self.old.events + 1 < 2 ^ 64 }
-        ensures does { Does (parts_of self.old) event.now (meant result places.new) (parts_of self.new) }
+        ensures does { Does (parts_of self.old) event.now result.now (parts_of self.new) }
         ensures fits { AddressFits event.now }
         ensures counted { self.new.events ≡ self.old.events + 1 }
     {
         self.events += 1;
-        let told = match event {
-            Event::Plug { device, kind } => self.plug(*device, *kind),
+        match event {
+            Event::Plug { device, kind } => kept.tell(self.plug(*device, *kind)),
             // No ATS can come yet.
-            Event::Attach { device, mode, .. } => self.attach(*device, *mode),
+            Event::Attach { device, mode, .. } => kept.tell(self.attach(*device, *mode)),
             Event::Grant {
                 device,
                 page,
                 frame,
                 rights,
-            } => self.grant(*device, *page, *frame, *rights),
-            Event::Release { device, page } => self.release(*device, *page),
-            Event::Detach { device } => self.detach(*device),
-            Event::Fetch => self.fetch(),
-            Event::Poll => self.poll(),
-            Event::Faults => self.faults(),
+            } => kept.tell(self.grant(*device, *page, *frame, *rights)),
+            Event::Release { device, page } => kept.tell(self.release(*device, *page)),
+            Event::Detach { device } => kept.tell(self.detach(*device)),
+            Event::Fetch => kept.tell(self.fetch()),
+            Event::Poll => kept.tell(self.poll()),
+            Event::Faults => kept.tell(self.faults()),
             Event::Read {
                 device,
                 address,
                 len,
-            } => self.read(*device, *address, *len),
+            } => kept.tell(self.read(*device, *address, *len)),
             Event::Write {
                 device,
                 address,
                 bytes,
-            } => self.write(*device, *address, bytes.as_slice()),
-            Event::Commit { device } => return self.commit(*device, places),
-            Event::Poke { address, bytes } => self.poke(*address, bytes.as_slice()),
-            Event::Peek { address, len } => return self.peek(*address, *len, places),
-            Event::Free { frame } => self.free(*frame),
-        };
-        Answer::Told(told)
+            } => kept.tell(self.write(*device, *address, bytes.as_slice())),
+            Event::Commit { device } => self.commit(*device, kept),
+            Event::Poke { address, bytes } => kept.tell(self.poke(*address, bytes.as_slice())),
+            Event::Peek { address, len } => self.peek(*address, *len, kept),
+            Event::Free { frame } => kept.tell(self.free(*frame)),
+        }
     }
 
     /// One event, as [`World::step`] says.
-    fn take(&mut self, event: &Event, places: &mut BytePlaces) -> Answer
+    fn take<'a>(&mut self, event: &Event, kept: &'a mut KeptOutcomes) -> &'a mut Outcome
         requires event { IsEvent event.now }
         requires count { self.old.events + 1 < 2 ^ 64 }
-        ensures { Happens self.old event.now (meant result places.new) self.new }
+        ensures { Happens self.old event.now result.now self.new }
     {
         laws_below();
-        self.dispatch(event, places)
+        self.dispatch(event, kept)
     }
 
     /// One event, and what comes of it: a lawful step of the ledger machine from every state that the
@@ -78,9 +76,8 @@ impl World {
         requires count { self.old.events + 1 < 2 ^ 64 }
         ensures { Happens self.old event.now result self.new }
     {
-        let mut places = BytePlaces::new();
-        let answer = self.take(event, &mut places);
-        answer.outcome(places)
+        let mut kept = KeptOutcomes::new();
+        mem::replace(self.take(event, &mut kept), Outcome::Done)
     }
 
     /// The events, one after another: the sink takes the outcome of each, and the run stops at the first
@@ -100,8 +97,8 @@ impl World {
     {
         let mut kept = KeptOutcomes::new();
         for event in events {
-            let answer = self.take(event, &mut kept.bytes);
-            sink.put(kept.tell(answer))?;
+            let outcome = self.take(event, &mut kept);
+            sink.put(outcome)?;
         }
         Ok(())
     }

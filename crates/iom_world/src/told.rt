@@ -1,7 +1,7 @@
 //! What the world's own calls tell.
 ghost use Rattle.std.specs.Prelude.{◌≡◌, ◌≤◌, length};
 ghost use Rattle.iom_base.specs.Sizes.{page_size};
-ghost use Rattle.iom_world.specs.Told.{outcome_of, meant, TellsBytes, TellsShown};
+ghost use Rattle.iom_world.specs.Told.{outcome_of, TellsBytes, TellsShown};
 
 use arrayvec::ArrayVec;
 use iom_base::Cause;
@@ -55,6 +55,7 @@ impl Told {
 
     /// Makes the outcome in the place say the same. Where it is one of this kind, only what differs is
     /// written: a new one would be a whole page.
+    #[inline(always)]
     pub(crate) fn tell(self, place: &mut Outcome)
         ensures { place.new ≡ outcome_of self }
     {
@@ -84,45 +85,6 @@ impl Told {
             (Told::Wrote(count), Outcome::Wrote(held)) => *held = count,
             (Told::Free(is_free), Outcome::Free(held)) => *held = is_free,
             _ => *place = self.outcome(),
-        }
-    }
-}
-
-/// Where bytes that are read stand, each kind in a place of its own.
-#[derive(Drop)]
-pub(crate) struct BytePlaces {
-    pub(crate) made: Outcome,
-    pub(crate) shown: Outcome,
-}
-
-impl BytePlaces {
-    pub(crate) fn new() -> BytePlaces {
-        BytePlaces {
-            made: Outcome::Read(ArrayVec::new()),
-            shown: Outcome::Bytes(ArrayVec::new()),
-        }
-    }
-}
-
-/// What comes of an event: told here, or in a place for bytes.
-#[derive(Clone, Copy, PartialEq, Eq, Debug)]
-pub(crate) enum Answer {
-    Told(Told),
-    /// A read was made: its bytes stand in their place.
-    Made,
-    /// The processor read bytes: they stand in their place.
-    Shown,
-}
-
-impl Answer {
-    /// The outcome that is meant.
-    pub(crate) fn outcome(self, places: BytePlaces) -> Outcome
-        ensures { result ≡ meant self places }
-    {
-        match self {
-            Answer::Told(told) => told.outcome(),
-            Answer::Made => places.made,
-            Answer::Shown => places.shown,
         }
     }
 }

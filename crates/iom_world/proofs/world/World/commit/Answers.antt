@@ -25,7 +25,7 @@ returns-in_default-clause-does c =
     inr (record {
       present = c.is_plugged.ensures.0 c.if-not-is_plugged.false;
       made = c.commit.result;
-      told_so = subst (λ made. TellsMade world.memory made outcome.NothingInFlight) (sym c.in_default.is) refl;
+      told_so = subst (λ told. TellsMade world.memory c.commit.result told) (sym c.tell-in_default.ensures) (subst (λ made. TellsMade world.memory made outcome.NothingInFlight) (sym c.in_default.is) refl);
       call = c.commit.ensures.effect;
       unreserved = made_unreserved (parts_of world) world.events c.args.id c.commit.result c.commit.new.memory (flights_of c.commit.new.self) world.sound (sound_driver world.driver) c.commit.ensures.effect.makes;
       driver = refl;
@@ -51,7 +51,8 @@ returns-in-Write-clause-does c =
     inr (record {
       present = c.is_plugged.ensures.0 c.if-not-is_plugged.false;
       made = Some c.in-Some.made;
-      told_so = subst (λ kind. TellsKind world.memory c.in-Some.made kind (outcome.Wrote c.from.result)) (sym c.in-Write.is) (ap (λ n. outcome.Wrote n) c.from.ensures);
+      told_so = subst (λ told. TellsKind world.memory c.in-Some.made c.in-Some.made.kind told) (sym c.tell-in-Write.ensures)
+          (subst (λ kind. TellsKind world.memory c.in-Some.made kind (outcome.Wrote c.from.result)) (sym c.in-Write.is) (ap (λ n. outcome.Wrote n) c.from.ensures));
       call = c.in-Some.ensures.effect;
       unreserved = made_unreserved (parts_of world) world.events c.args.id (Some c.in-Some.made) c.commit.new.memory (flights_of c.commit.new.self) world.sound (sound_driver world.driver) c.in-Some.ensures.effect.makes;
       driver = refl;

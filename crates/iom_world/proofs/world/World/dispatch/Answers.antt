@@ -6,14 +6,14 @@ use Rattle.iom_world.proofs.world.World.dispatch.Goals as goal
 pub invariant_of-self : goal.invariant_of-self
 invariant_of-self c = let world = c.args.self.now in record { sound = sound_counted (parts_of world) world.events world.sound }
 
-pub read-told-requires-clause-below : goal.read-told-requires-clause-below
-read-told-requires-clause-below c = let world = c.args.self.now in below_counted (parts_of world) world.events world.sound
+pub read-requires-clause-below : goal.read-requires-clause-below
+read-requires-clause-below c = let world = c.args.self.now in below_counted (parts_of world) world.events world.sound
 
-pub write-told-requires-clause-below : goal.write-told-requires-clause-below
-write-told-requires-clause-below c = let world = c.args.self.now in below_counted (parts_of world) world.events world.sound
+pub write-requires-clause-below : goal.write-requires-clause-below
+write-requires-clause-below c = let world = c.args.self.now in below_counted (parts_of world) world.events world.sound
 
-pub read-told-requires-clause-count : goal.read-told-requires-clause-count
-read-told-requires-clause-count c = let world = c.args.self.now in let below = below_counted (parts_of world) world.events world.sound in let room = c.requires.count in omega (arith, below, room)
+pub read-requires-clause-count : goal.read-requires-clause-count
+read-requires-clause-count c = let world = c.args.self.now in let below = below_counted (parts_of world) world.events world.sound in let room = c.requires.count in omega (arith, below, room)
 
-pub write-told-requires-clause-count : goal.write-told-requires-clause-count
-write-told-requires-clause-count c = let world = c.args.self.now in let below = below_counted (parts_of world) world.events world.sound in let room = c.requires.count in omega (arith, below, room)
+pub write-requires-clause-count : goal.write-requires-clause-count
+write-requires-clause-count c = let world = c.args.self.now in let below = below_counted (parts_of world) world.events world.sound in let room = c.requires.count in omega (arith, below, room)

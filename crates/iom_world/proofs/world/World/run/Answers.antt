@@ -1,6 +1,5 @@
-use Rattle.std.proofs.Common.{[], refl, sym, subst, arith}
+use Rattle.std.proofs.Common.{[], refl, arith}
 use Rattle.std.proofs.lemmas.Result.{err_from_is_err_and}
-use Rattle.iom_world.specs.Happens.{Happens}
 use Rattle.iom_world.proofs.RunLemmas.{are_outcomes, goes_on, ends_at, shown_so_far}
 use Rattle.iom_world.proofs.world.World.run.Goals as goal
 
@@ -14,18 +13,18 @@ pub loop-event-preserved : goal.loop-event-preserved
 loop-event-preserved g c = record {
   ran = λ state shows.
       let so_far = c.loop-event.invariant.ran state shows in
-      let happens = subst (λ told. Happens c.loop-event.self c.event-item.result told c.take-answer.new.self) (sym c.tell.ensures) c.take-answer.ensures in
+      let happens = c.take-outcome.ensures in
       let next = happens.step so_far.1 (shown_so_far g.S.Sink.takes state _ _ _ _ _ so_far) in
-      goes_on g.S.Sink.takes state next.0 c.args.events.now c.loop-event.event-index c.event-item.result c.tell.result.now _ _ _ _ _ _
+      goes_on g.S.Sink.takes state next.0 c.args.events.now c.loop-event.event-index c.event-item.result c.take-outcome.result.now _ _ _ _ _ _
       so_far c.event-item.is c.loop-event-test.true next.1 happens next.2 c.in_ok-put.ensures.taken;
-  counted = omega (arith, c.take-answer.ensures.events, c.loop-event.invariant.counted);
+  counted = omega (arith, c.take-outcome.ensures.events, c.loop-event.invariant.counted);
 }
 
 pub returns-in_err-put-clause-failed : goal.returns-in_err-put-clause-failed
 returns-in_err-put-clause-failed g c = λ state shows.
     let so_far = c.loop-event.invariant.ran state shows in
-    let happens = subst (λ told. Happens c.loop-event.self c.event-item.result told c.take-answer.new.self) (sym c.tell.ensures) c.take-answer.ensures in
+    let happens = c.take-outcome.ensures in
     let next = happens.step so_far.1 (shown_so_far g.S.Sink.takes state _ _ _ _ _ so_far) in
     let fault = err_from_is_err_and c.from_residual.result c.from_residual.ensures.1 in
-    rw fault.1 (ends_at g.S.Sink.takes g.S.Sink.fails state next.0 c.args.events.now c.loop-event.event-index c.event-item.result c.tell.result.now _ _ _ c.args.self.now _ _
-    so_far c.event-item.is c.loop-event-test.true (omega (arith, c.take-answer.ensures.events, c.loop-event.invariant.counted)) next.1 happens next.2 c.in_err-put.ensures.failed)
+    rw fault.1 (ends_at g.S.Sink.takes g.S.Sink.fails state next.0 c.args.events.now c.loop-event.event-index c.event-item.result c.take-outcome.result.now _ _ _ c.args.self.now _ _
+    so_far c.event-item.is c.loop-event-test.true (omega (arith, c.take-outcome.ensures.events, c.loop-event.invariant.counted)) next.1 happens next.2 c.in_err-put.ensures.failed)
