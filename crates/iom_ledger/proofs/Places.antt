@@ -1,9 +1,9 @@
 -- Looking a device up among those that have rows.
-use Rattle.std.proofs.Common.{suc, zero, ◌≡◌, ◌≢◌, ◌==◌, ◌<◌, ◌∙◌, ◌++◌, ℕ, Bool, true, false, List, [], ◌∷◌, length, Option, Some, None, slice_get, slice_set, refl, sym, ap, inl, inr, arith, if◌then◌else◌, nat_eq, cond, ◌&&◌}
+use Rattle.std.proofs.Common.{suc, zero, ◌≡◌, ◌≢◌, ◌==◌, ◌<◌, ◌∙◌, ◌++◌, ℕ, Bool, true, false, List, [], ◌∷◌, length, Option, Some, None, slice_get, refl, sym, ap, inl, inr, arith, if◌then◌else◌, nat_eq, cond, ◌&&◌}
 use Rattle.std.specs.Map.{lookup}
 use Rattle.std.specs.Option.{option_and_then}
 use Rattle.std.proofs.lemmas.Bool.Decides.{eqb_tells}
-use Rattle.std.proofs.lemmas.Bool.{eq-eqb, eqb-true, false≢true}
+use Rattle.std.proofs.lemmas.Bool.{eq-eqb, eqb-true}
 use Rattle.indexmap.specs.IndexMap.{get}
 use Rattle.iom_ledger.specs.declared.page_row.PageRow.{PageRow}
 use Rattle.iom_ledger.specs.declared.device_list.DevicePages.{DevicePages}
