@@ -1,3 +1,4 @@
+pub mod Places
 pub mod RowLemmas
 pub mod ReleaseLemmas
 pub mod PendingLemmas

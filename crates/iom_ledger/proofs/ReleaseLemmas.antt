@@ -9,7 +9,7 @@ use Rattle.std.proofs.lemmas.Option.{get_or_from_slice_get, slice_get_within, sl
 use Rattle.indexmap.specs.IndexMap.{get}
 use Rattle.iom_base.specs.declared.rights.Rights.{Rights}
 use Rattle.iom_ledger.specs.declared.page_row.PageRow.{PageRow}
-use Rattle.iom_ledger.specs.Rows.{Devices, Pages, row_at, pages_of}
+use Rattle.iom_ledger.specs.Rows.{Devices, Pages, row_at, pages_in, pages_of}
 use Rattle.iom_ledger.specs.RowChanges.{released_row_if_any, ticket_after, ReleasesRow, ReleasesRows, ReleasesRowsAt}
 
 -- a row that was released is released no further
@@ -61,7 +61,7 @@ lookup-absent (e ∷ es) page absent =
 
 row_at-absent : (devices : Devices) (device page : ℕ)
     → list_any (nat_eq page) (pages_of devices device) ≡ false → row_at devices device page ≡ None
-row_at-absent devices device page absent = by (get nat_eq devices device) absent
+row_at-absent devices device page absent = by (pages_in devices.list.items device) absent
   where
     by : (found : Option Pages)
         → list_any (nat_eq page) (map (λ entry. entry.0) (option_map_or (λ pages. pages.entries) found [])) ≡ false

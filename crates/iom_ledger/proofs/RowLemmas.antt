@@ -2,7 +2,7 @@
 use Rattle.std.proofs.Common.{◌≡◌, ◌==◌, ℕ, suc, zero, length, slice_get, Bool, true, false, cond, List, [], ◌∷◌, Option, None, Some, nat_eq, refl, sym, ap, ◌∙◌, subst, arith, if◌then◌else◌}
 use Rattle.std.specs.Cmp.{nat_eq_equiv}
 use Rattle.std.specs.List.{list_any, IsDistinct}
-use Rattle.std.specs.Map.{lookup, keys_of}
+use Rattle.std.specs.Map.{lookup, lookup_key, keys_of}
 use Rattle.std.specs.Option.{option_and_then, option_map_or}
 use Rattle.std.proofs.lemmas.Bool.{eqb-true, or_left, or_right}
 use Rattle.std.proofs.lemmas.List.Folds.{Any-from_list_any}
@@ -10,8 +10,8 @@ use Rattle.std.proofs.lemmas.Map.Entries.{lookup_from_place}
 use Rattle.std.proofs.lemmas.Option.{slice_get_read}
 use Rattle.indexmap.specs.IndexMap.{get}
 use Rattle.iom_ledger.specs.declared.page_row.PageRow.{PageRow}
-use Rattle.iom_ledger.specs.Rows.{Devices, Pages, row_at, entries_of, waits_for, NoneWaitsFrom}
-use Rattle.iom_ledger.specs.RowChanges.{unless_waiting, DropsSome}
+use Rattle.iom_ledger.specs.Rows.{Devices, Pages, row_at, pages_in, entries_of, waits_for, NoneWaitsFrom}
+use Rattle.iom_ledger.specs.RowChanges.{unless_waiting, TakesRow, DropsSome}
 
 -- where no entry waits for the ticket, no row does
 unless_waiting-entry : (es : List (ℕ × PageRow)) (ticket page : ℕ) → ((k : ℕ) (e : ℕ × PageRow) → slice_get es k ≡ Some e → waits_for e.1.ticket ticket ≡ false)
@@ -26,7 +26,7 @@ unless_waiting-entry (e ∷ es) ticket page none = by (nat_eq page e.0) (unless_
 
 unless_waiting-row : (devices : Devices) (device page ticket : ℕ) → NoneWaitsFrom (entries_of devices device) 0 ticket
     → unless_waiting (row_at devices device page) ticket ≡ row_at devices device page
-unless_waiting-row devices device page ticket none = by (get nat_eq devices device) none
+unless_waiting-row devices device page ticket none = by (pages_in devices.list.items device) none
   where
     by : (found : Option Pages) → NoneWaitsFrom (option_map_or (λ pages. pages.entries) found []) 0 ticket
         → unless_waiting (option_and_then (λ pages. get nat_eq pages page) found) ticket ≡ option_and_then (λ pages. get nat_eq pages page) found
@@ -61,3 +61,28 @@ pub found_row : (test : PageRow → Bool) (es : List (ℕ × PageRow)) → IsDis
 found_row test es pages any =
     let (k, e, below, at, passes) = Any-from_list_any (λ e. test e.1) es any in
     (e.0, e.1, lookup_from_place nat_eq_equiv es k e.0 e.1 pages (slice_get_read es (length es) k e refl below (sym at)), passes)
+
+-- the page of an entry that is found for a page
+key_is : (es : List (ℕ × PageRow)) (page key : ℕ) → lookup_key (nat_eq page) es ≡ Some key → page ≡ key
+key_is [] page key found = cc
+key_is (e ∷ es) page key found = by (nat_eq page e.0) refl found (key_is es page key)
+  where
+    by : (b : Bool) → nat_eq page e.0 ≡ b → cond b (Some e.0) (lookup_key (nat_eq page) es) ≡ Some key
+        → (lookup_key (nat_eq page) es ≡ Some key → page ≡ key) → page ≡ key
+    by true same here rest = let own : e.0 ≡ key = cc in eqb-true page e.0 same ∙ own
+    by false other there rest = rest there
+
+-- a row that is found for a page and waits for the ticket is taken where it stands
+pub TakesRow-found : (old new : Pages) (page key at_key index ticket : ℕ) (row taken : PageRow)
+    → lookup_key (nat_eq page) old.entries ≡ Some key → get nat_eq old page ≡ Some row → slice_get old.entries index ≡ Some (key, row)
+    → slice_get old.entries index ≡ Some (at_key, taken) → waits_for row.ticket ticket ≡ true
+    → ((a : ℕ) → get nat_eq new a ≡ cond (nat_eq at_key a) None (get nat_eq old a)) → TakesRow old new page taken ticket
+TakesRow-found old new page key at_key index ticket row taken found had there took waits gone =
+    let entry : ◌≡◌ {A = ℕ × PageRow} (key, row) (at_key, taken) = cc in
+    let same : row ≡ taken = ap (λ e. e.1) entry in
+    let own : key ≡ at_key = ap (λ e. e.0) entry in
+    record {
+      had = had ∙ ap Some same;
+      waits = ap (λ r. waits_for r.ticket ticket) (sym same) ∙ waits;
+      pages = subst (λ k. (a : ℕ) → get nat_eq new a ≡ (if k == a then None else get nat_eq old a)) (sym (key_is old.entries page key found ∙ own)) gone;
+    }

@@ -2,6 +2,7 @@ pub mod History
 pub mod Refusals
 pub mod Pending
 pub mod Rows
+pub mod Places
 pub mod RowChanges
 pub mod Ring
 pub mod FrameRows

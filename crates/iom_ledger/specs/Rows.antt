@@ -1,11 +1,13 @@
 -- What a ledger keeps: for each device its pages, each with a row, and the releases that aren't confirmed.
-use Rattle.std.specs.Prelude.{◌≡◌, ◌≤◌, ℕ, Bool, true, false, ◌==◌, ◌&&◌, ◌||◌, List, [], Option, None, Some, map, nat_eq, slice_get}
+use Rattle.std.specs.Prelude.{◌≡◌, ◌≤◌, ℕ, Bool, true, false, ◌==◌, ◌&&◌, ◌||◌, List, [], ◌∷◌, Option, None, Some, map, nat_eq, slice_get, if◌then◌else◌}
 use Rattle.std.specs.List.{list_any}
 use Rattle.std.specs.Option.{option_and_then, option_map_or}
 use Rattle.std.specs.declared.hash.FoldHasher.{FoldHasher}
 use Rattle.std.specs.declared.hash.BuildHasherDefault.{BuildHasherDefault}
 use Rattle.indexmap.specs.IndexMap.{IndexMap, get}
 use Rattle.iom_base.specs.declared.rights.Rights.{Rights}
+use Rattle.iom_ledger.specs.declared.device_list.DevicePages.{DevicePages}
+pub use Rattle.iom_ledger.specs.declared.device_list.Devices.{Devices}
 use Rattle.iom_ledger.specs.declared.page_row.PageRow.{PageRow}
 use Rattle.iom_ledger.specs.declared.page_row.Pending.{Pending}
 use Rattle.iom_ledger.specs.History.{Pair}
@@ -14,13 +16,14 @@ use Rattle.iom_ledger.specs.History.{Pair}
 abbrev pub Pages : Type 0
 Pages = IndexMap ℕ PageRow (BuildHasherDefault FoldHasher)
 
--- the devices, each with its pages
-abbrev pub Devices : Type 0
-Devices = IndexMap ℕ Pages (BuildHasherDefault FoldHasher)
+-- the pages of the device, if it is among these: the first of them that is it
+abbrev pub pages_in : List DevicePages → ℕ → Option Pages
+pages_in [] device = None
+pages_in (first ∷ others) device = if first.device == device then Some first.pages else pages_in others device
 
 -- the row of a page of a device
 abbrev pub row_at : Devices → ℕ → ℕ → Option PageRow
-row_at devices device page = option_and_then (λ pages. get nat_eq pages page) (get nat_eq devices device)
+row_at devices device page = option_and_then (λ pages. get nat_eq pages page) (pages_in devices.list.items device)
 
 -- the frame of a row, with the right to it
 abbrev pub pair_of : PageRow → Pair
@@ -53,7 +56,7 @@ waits_for (Some own) ticket = ticket == own
 
 -- the rows of a device, each with its page, in the order in which they are kept
 abbrev pub entries_of : Devices → ℕ → List (ℕ × PageRow)
-entries_of devices device = option_map_or (λ pages. pages.entries) (get nat_eq devices device) []
+entries_of devices device = option_map_or (λ pages. pages.entries) (pages_in devices.list.items device) []
 
 -- the pages of a device that have a row, in that order
 abbrev pub pages_of : Devices → ℕ → List ℕ

@@ -6,30 +6,25 @@ ghost use Rattle.iom_ledger.specs.Rows.{row_at, entries_of, pages_of, NoneWaitsF
 ghost use Rattle.iom_ledger.specs.RowChanges.{SetsRow, ReleasesRow, ReleasesRows, KeepsRows, TakesRow, TakesRowOf, DropsSome, DropsNamed};
 ghost use Rattle.iom_ledger.specs.RowChanges.{released_row_if_any, held_frame, unless_waiting};
 
+use crate::device_list::{DevicePages, Devices, Pages};
 use crate::frame_rows::FrameRows;
 use crate::page_row::{PageRow, Pending};
 use indexmap::IndexMap;
 use iom_base::DeviceId;
 use std::alloc::AllocError;
 
-/// The rows of one device, by page.
-pub(crate) type Pages = IndexMap<u64, PageRow>;
-
-/// The rows of each device.
-pub(crate) type Devices = IndexMap<DeviceId, Pages>;
-
 /// The row of a page of a device.
 pub(crate) fn row_in(devices: &Devices, device: DeviceId, page: u64) -> Option<PageRow>
     ensures { result ≡ row_at devices.now device page }
 {
-    devices.get(&device)?.get(&page).copied()
+    devices.pages_of(device)?.get(&page).copied()
 }
 
 /// How many pages of the device have a row.
 fn row_count(devices: &Devices, device: DeviceId) -> usize
     ensures { result ≡ length (entries_of devices.now device) }
 {
-    match devices.get(&device) {
+    match devices.pages_of(device) {
         None => 0,
         Some(pages) => pages.len(),
     }
@@ -39,7 +34,7 @@ fn row_count(devices: &Devices, device: DeviceId) -> usize
 fn page_at(devices: &Devices, device: DeviceId, index: usize) -> Option<u64>
     ensures { result ≡ slice_get (pages_of devices.now device) index }
 {
-    let (page, _row) = devices.get(&device)?.get_index(index)?;
+    let (page, _row) = devices.pages_of(device)?.get_index(index)?;
     Some(*page)
 }
 
@@ -73,9 +68,10 @@ fn take_waiting_row_at(pages: &mut Pages, page: u64, ticket: u32) -> Option<Page
     ensures kept { IfNone result ((a : ℕ) → get nat_eq pages.new a ≡ get nat_eq pages.old a) }
     ensures stays { IfNone result (unless_waiting (get nat_eq pages.old page) ticket ≡ get nat_eq pages.old page) }
 {
-    let row = pages.get(&page).copied()?;
+    let (index, _page, row) = pages.get_full(&page)?;
     if row.waits_for(ticket) {
-        pages.swap_remove(&page)
+        let (_page, row) = pages.swap_remove_index(index)?;
+        Some(row)
     } else {
         None
     }
@@ -91,14 +87,14 @@ fn set_row_in(
     ensures ok { OnOk result (SetsRow devices.old devices.new device page row) }
     ensures err { OnErr result (KeepsRows devices.old devices.new) }
 {
-    match devices.get_mut(&device) {
-        Some(pages) => {
-            pages.insert(page, row)?;
+    match devices.place_of(device) {
+        Some(place) => {
+            devices.list[place].pages.insert(page, row)?;
         }
         None => {
-            let mut pages = IndexMap::new(*devices.allocator());
+            let mut pages = IndexMap::new(*devices.list.allocator());
             pages.insert(page, row)?;
-            devices.insert(device, pages)?;
+            devices.list.push(DevicePages { device, pages })?;
         }
     }
     Ok(())
@@ -135,7 +131,8 @@ fn release_row_in(devices: &mut Devices, device: DeviceId, page: u64, ticket: u3
     ensures frame { result ≡ held_frame (row_at devices.old device page) }
     ensures order { pages_of devices.new device ≡ pages_of devices.old device }
 {
-    release_row(devices.get_mut(&device)?, page, ticket)
+    let place = devices.place_of(device)?;
+    release_row(&mut devices.list[place].pages, page, ticket)
 }
 
 /// Releases the row of the page of the device, unless it is released already, and counts it as released.
@@ -187,8 +184,8 @@ fn take_in(
     ensures kept { IfNone result (KeepsRows devices.old devices.new) }
     ensures looked { NoneWaitsFrom (entries_of devices.old device) (index + 1) ticket → NoneWaitsFrom (entries_of devices.new device) index ticket }
 {
-    let pages = devices.get_mut(&device)?;
-    take_waiting_row(pages, index, ticket)
+    let place = devices.place_of(device)?;
+    take_waiting_row(&mut devices.list[place].pages, index, ticket)
 }
 
 /// Drops the row of the page of the device, if it waits for the ticket.
@@ -197,8 +194,8 @@ fn take_at_in(devices: &mut Devices, device: DeviceId, page: u64, ticket: u32) -
     ensures kept { IfNone result (KeepsRows devices.old devices.new) }
     ensures stays { IfNone result (unless_waiting (row_at devices.old device page) ticket ≡ row_at devices.old device page) }
 {
-    let pages = devices.get_mut(&device)?;
-    take_waiting_row_at(pages, page, ticket)
+    let place = devices.place_of(device)?;
+    take_waiting_row_at(&mut devices.list[place].pages, page, ticket)
 }
 
 /// Drops the row at the index of the device's pages, if it waits for the ticket.

@@ -6,14 +6,14 @@ ghost use Rattle.iom_ledger.specs.Pending.{pending_limit};
 ghost use Rattle.iom_ledger.specs.Ring.{is_ascending};
 ghost use Rattle.iom_ledger.specs.Rows.{AllGranted, AllNamed};
 
-use crate::devices::{Devices, grant_in, release_all_in, release_in, row_in};
+use crate::device_list::Devices;
+use crate::devices::{grant_in, release_all_in, release_in, row_in};
 use crate::frame_rows::FrameRows;
 use crate::lookups::{holds_anything_in, lingers_anything_in};
 use crate::page_row::{PageRow, Pending};
 use crate::ring::{Ring, confirm_in, note, still_ascend};
 use crate::row::Row;
 use circular_buffer::HeapCircularBuffer;
-use indexmap::IndexMap;
 use iom_base::{DeviceId, Rights};
 use iom_frame_set::FrameSet;
 use std::alloc::{AllocError, Global};
@@ -58,7 +58,7 @@ impl Ledger {
         ensures frames { IfOk result (λ ledger. frames_in ledger ≡ frames) }
     {
         Ok(Ledger {
-            devices: IndexMap::new(alloc),
+            devices: Devices::new(alloc),
             frames: FrameRows::new(alloc, frames)?,
             pending: HeapCircularBuffer::with_capacity(alloc, MAX_PENDING)?,
             ascending: true,

@@ -17,6 +17,7 @@
 //! the set are right are facts that each ledger carries.
 #![tactic(auto)]
 
+mod device_list;
 mod devices;
 mod entry;
 mod frame_rows;

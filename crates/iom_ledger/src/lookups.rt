@@ -5,7 +5,7 @@ ghost use Rattle.indexmap.specs.IndexMap.{IsUnique, get};
 ghost use Rattle.iom_ledger.specs.declared.page_row.PageRow.{PageRow};
 ghost use Rattle.iom_ledger.specs.Rows.{row_at};
 
-use crate::devices::{Devices, Pages};
+use crate::device_list::{Devices, Pages};
 use iom_base::DeviceId;
 
 /// Whether a row of the device isn't released.
@@ -28,7 +28,7 @@ fn some_lingers(pages: &Pages) -> bool
 pub(crate) fn holds_anything_in(devices: &Devices, device: DeviceId) -> bool
     ensures { IsTrue result ↔ ((page : ℕ) × (row : PageRow) × (row_at devices.now device page ≡ Some row) × (is_none row.ticket ≡ true)) }
 {
-    match devices.get(&device) {
+    match devices.pages_of(device) {
         None => false,
         Some(pages) => some_is_held(pages),
     }
@@ -38,7 +38,7 @@ pub(crate) fn holds_anything_in(devices: &Devices, device: DeviceId) -> bool
 pub(crate) fn lingers_anything_in(devices: &Devices, device: DeviceId) -> bool
     ensures { IsTrue result ↔ ((page : ℕ) × (row : PageRow) × (row_at devices.now device page ≡ Some row) × (is_some row.ticket ≡ true)) }
 {
-    match devices.get(&device) {
+    match devices.pages_of(device) {
         None => false,
         Some(pages) => some_lingers(pages),
     }

@@ -6,7 +6,8 @@ ghost use Rattle.iom_ledger.specs.Ring.{tickets, is_among, is_ascending, is_othe
 ghost use Rattle.iom_ledger.specs.Rows.{AllNamed};
 ghost use Rattle.iom_ledger.specs.RowChanges.{DropsRows, DropsNamed};
 
-use crate::devices::{Devices, drop_named_in};
+use crate::device_list::Devices;
+use crate::devices::drop_named_in;
 use crate::frame_rows::FrameRows;
 use crate::page_row::Pending;
 use circular_buffer::HeapCircularBuffer;

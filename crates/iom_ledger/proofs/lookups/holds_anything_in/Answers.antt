@@ -6,7 +6,7 @@ use Rattle.iom_ledger.proofs.lookups.holds_anything_in.Goals as goal
 
 pub returns-in-Some : goal.returns-in-Some
 returns-in-Some c =
-    let device = c.in-Some.ensures.value in (
+    let device = c.in-Some.ensures in (
       (λ some.
           let (page, row, at, passes) = found_row (λ row. is_none row.ticket) c.in-Some.pages.now.entries c.some_is_held.ensures.unique (sym c.some_is_held.ensures.any ∙ some) in
           (page, row, ap (option_and_then (λ pages. get nat_eq pages page)) (sym device) ∙ at, passes)),
