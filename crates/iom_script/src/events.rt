@@ -209,11 +209,14 @@ fn act_of_processor(alloc: Global, line: &[u8]) -> Result<Option<Event>, AllocEr
 fn single(line: &[u8]) -> Option<Event>
     ensures { Reads result (IsLineOf single_starts line.now) }
 {
-    match line {
-        b"poll" => Some(Event::Poll),
-        b"fetch" => Some(Event::Fetch),
-        b"faults" => Some(Event::Faults),
-        _ => None,
+    if line == b"poll".as_slice() {
+        Some(Event::Poll)
+    } else if line == b"fetch".as_slice() {
+        Some(Event::Fetch)
+    } else if line == b"faults".as_slice() {
+        Some(Event::Faults)
+    } else {
+        None
     }
 }
 
