@@ -3,7 +3,7 @@ use crate::lines::{Change, Comes, Does, are_lawful, are_refused, line_of};
 use iom_base::{Cause, GrantRights};
 use iom_ledger::Refusal;
 use iom_machine::{
-    CommandName, Fetched, grants_are_at_pages, judge, lawful_runs_have_choices, power_on,
+    CommandName, Fetched, Line, grants_are_at_pages, judge, lawful_runs_have_choices, power_on,
     reclaim_theorem,
 };
 use std::alloc::Global;
@@ -497,21 +497,21 @@ fn detach_is_judged(rt: HostRuntime) -> Result<(), Fail> {
     are_refused(&rt, &DETACH, &CHANGED_DETACHES)
 }
 
+/// How many devices there are once the line has come, the first after power-on.
+fn devices_after(alloc: Global, line: &Line) -> Result<usize, Fail> {
+    let opening = power_on(alloc, 64, 1)?;
+    match judge(alloc, opening, &line.event, &line.outcome, &line.choice)? {
+        Some(state) => Ok(state.devices.as_slice().len()),
+        None => Err(Fail::new("an unlawful step")),
+    }
+}
+
 /// The judge of one line, and the laws, which do nothing when they run.
 #[test]
 fn one_step_is_judged(rt: HostRuntime) -> Result<(), Fail> {
     let line = line_of(rt.alloc(), &Does::Plug(1), &Comes::Done)?;
-    let next = judge(
-        rt.alloc(),
-        power_on(rt.alloc(), 64, 1)?,
-        &line.event,
-        &line.outcome,
-        &line.choice,
-    )?;
-    match next {
-        Some(state) => expect_eq(&rt, &state.devices.as_slice().len(), &1),
-        None => return Err(Fail::new("an unlawful step")),
-    }
+    let devices = devices_after(rt.alloc(), &line)?;
+    expect_eq(&rt, &devices, &1);
     grants_are_at_pages();
     reclaim_theorem();
     lawful_runs_have_choices();
