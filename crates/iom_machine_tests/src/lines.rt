@@ -1,4 +1,5 @@
 // Lists of lines, as the tests write them, for the judge.
+use crate::expect::expect_eq;
 use arrayvec::ArrayVec;
 use iom_base::{Cause, DeviceId, GrantRights, Mode, Sequence};
 use iom_ledger::Refusal;
@@ -6,6 +7,7 @@ use iom_machine::{
     Choice, DeviceKind, Event, FaultRecord, Fetched, Line, Outcome, Verdict, judge_run, power_on,
 };
 use std::alloc::Global;
+use std::process::Abort;
 use std::test::Fail;
 
 /// An event as the tests write it, with the frames that the driver takes for its tables.
@@ -77,8 +79,8 @@ fn attach(device: DeviceId, mode: Mode) -> Event {
     }
 }
 
-fn event_of(alloc: Global, does: Does) -> Result<Event, Fail> {
-    Ok(match does {
+fn event_of(alloc: Global, does: &Does) -> Result<Event, Fail> {
+    Ok(match *does {
         Does::Plug(device) => Event::Plug {
             device,
             kind: DeviceKind::Raw,
@@ -126,8 +128,8 @@ fn few(bytes: &[u8]) -> ArrayVec<u8, 4096> {
     made
 }
 
-fn outcome_of(comes: Comes) -> Outcome {
-    match comes {
+fn outcome_of(comes: &Comes) -> Outcome {
+    match *comes {
         Comes::Done => Outcome::Done,
         Comes::Refused(why) => Outcome::Refused(why),
         Comes::Ticket(ticket) => Outcome::Ticket(ticket),
@@ -148,30 +150,45 @@ fn outcome_of(comes: Comes) -> Outcome {
     }
 }
 
-pub(crate) fn line_of(alloc: Global, does: Does, comes: Comes) -> Result<Line, Fail> {
-    let taken: &[u32] = match does {
+/// The frames that become the device's tables.
+fn taken_by<'a>(does: &Does<'a>) -> &'a [u32] {
+    match *does {
         Does::Attach(_, taken) => taken,
         Does::AttachBelow(_, _, taken) => taken,
         Does::AttachIn(_, _, taken) => taken,
         Does::Grant(_, _, _, _, taken) => taken,
         _ => &[],
-    };
-    let directory: &[u32] = match does {
+    }
+}
+
+/// The frames that become pages of the device directory.
+fn directory_of<'a>(does: &Does<'a>) -> &'a [u32] {
+    match *does {
         Does::AttachBelow(_, pages, _) => pages,
         _ => &[],
-    };
-    let frame = match comes {
+    }
+}
+
+fn frame_of(comes: &Comes) -> u32 {
+    match *comes {
         Comes::Accepted(_, frame) => frame,
         _ => 0,
-    };
+    }
+}
+
+fn choice_of(alloc: Global, does: &Does, comes: &Comes) -> Result<Choice, Fail> {
+    Ok(Choice {
+        directory: numbers_of(alloc, directory_of(does))?,
+        taken: numbers_of(alloc, taken_by(does))?,
+        frame: frame_of(comes),
+    })
+}
+
+pub(crate) fn line_of(alloc: Global, does: &Does, comes: &Comes) -> Result<Line, Fail> {
     Ok(Line {
         event: event_of(alloc, does)?,
         outcome: outcome_of(comes),
-        choice: Choice {
-            directory: numbers_of(alloc, directory)?,
-            taken: numbers_of(alloc, taken)?,
-            frame,
-        },
+        choice: choice_of(alloc, does, comes)?,
     })
 }
 
@@ -189,26 +206,46 @@ pub(crate) fn first_unlawful(
 ) -> Result<Option<usize>, Fail> {
     let mut made = Vec::new(alloc);
     for (does, comes) in lines {
-        made.push(line_of(alloc, *does, *comes)?)?;
+        made.push(line_of(alloc, does, comes)?)?;
     }
     judged(alloc, &made)
 }
 
-/// The first line that may not come where this line of the lawful run is changed.
-pub(crate) fn first_unlawful_of(
+/// A line of a lawful run, and what it is changed to, which may not come there.
+pub(crate) type Change<'a> = (usize, Does<'a>, Comes<'a>);
+
+/// The run, one line of it changed.
+fn changed<'a>(
     alloc: Global,
-    base: &[(Does, Comes)],
-    place: usize,
-    does: Does,
-    comes: Comes,
-) -> Result<Option<usize>, Fail> {
-    let mut made = Vec::new(alloc);
-    for (number, (base_does, base_comes)) in base.iter().enumerate() {
-        if number == place {
-            made.push(line_of(alloc, does, comes)?)?;
-        } else {
-            made.push(line_of(alloc, *base_does, *base_comes)?)?;
-        }
+    base: &[(Does<'a>, Comes<'a>)],
+    change: &Change<'a>,
+) -> Result<Vec<(Does<'a>, Comes<'a>)>, Fail> {
+    let mut lines = Vec::from_slice(alloc, base)?;
+    let line = lines.get_mut(change.0).ok_or("a line of the run")?;
+    *line = (change.1, change.2);
+    Ok(lines)
+}
+
+/// Ends the test where one of the lines may not come.
+pub(crate) fn are_lawful(
+    rt: &(impl Abort + AllocGlobal),
+    lines: &[(Does, Comes)],
+) -> Result<(), Fail> {
+    let first = first_unlawful(rt.alloc(), lines)?;
+    expect_eq(rt, &first, &None);
+    Ok(())
+}
+
+/// Ends the test where one of the changes of the lawful run isn't refused at its line.
+pub(crate) fn are_refused<'a>(
+    rt: &(impl Abort + AllocGlobal),
+    base: &[(Does<'a>, Comes<'a>)],
+    changes: &[Change<'a>],
+) -> Result<(), Fail> {
+    for change in changes {
+        let lines = changed(rt.alloc(), base, change)?;
+        let first = first_unlawful(rt.alloc(), &lines)?;
+        expect_eq(rt, &first, &Some(change.0));
     }
-    judged(alloc, &made)
+    Ok(())
 }

@@ -1,15 +1,16 @@
-use crate::lines::{Comes, Does, first_unlawful, first_unlawful_of, line_of};
+use crate::expect::expect_eq;
+use crate::lines::{Change, Comes, Does, are_lawful, are_refused, line_of};
 use iom_base::{Cause, GrantRights};
 use iom_ledger::Refusal;
 use iom_machine::{
-    CommandName, Fetched, grants_are_at_pages, judge, lawful_runs_have_choices, power_on,
+    CommandName, Fetched, Line, grants_are_at_pages, judge, lawful_runs_have_choices, power_on,
     reclaim_theorem,
 };
 use std::alloc::Global;
 use std::test::Fail;
 
 /// The row `first-path`.
-const FIRST_PATH: [(Does, Comes); 11] = [
+static FIRST_PATH: [(Does, Comes); 11] = [
     (Does::Plug(1), Comes::Done),
     (Does::Attach(1, &[59]), Comes::Done),
     (
@@ -33,7 +34,7 @@ const FIRST_PATH: [(Does, Comes); 11] = [
 ];
 
 /// The row `busy`.
-const BUSY: [(Does, Comes); 12] = [
+static BUSY: [(Does, Comes); 12] = [
     (Does::Plug(1), Comes::Done),
     (Does::Attach(1, &[59]), Comes::Done),
     (
@@ -52,7 +53,7 @@ const BUSY: [(Does, Comes); 12] = [
 ];
 
 /// The row `grant-boundaries`.
-const GRANT_BOUNDARIES: [(Does, Comes); 11] = [
+static GRANT_BOUNDARIES: [(Does, Comes); 11] = [
     (Does::Plug(1), Comes::Done),
     (Does::Attach(1, &[59]), Comes::Done),
     (
@@ -92,7 +93,7 @@ const GRANT_BOUNDARIES: [(Does, Comes); 11] = [
 
 /// The requests and commits of the row `stale-but-lawful`; and the same page once more, refused,
 /// which is lawful too.
-const STALE_BUT_LAWFUL: [(Does, Comes); 9] = [
+static STALE_BUT_LAWFUL: [(Does, Comes); 9] = [
     (Does::Plug(1), Comes::Done),
     (Does::Attach(1, &[59]), Comes::Done),
     (
@@ -108,7 +109,7 @@ const STALE_BUT_LAWFUL: [(Does, Comes); 9] = [
 ];
 
 /// The row `drain`, and what is told of the frame before and after.
-const DRAIN: [(Does, Comes); 13] = [
+static DRAIN: [(Does, Comes); 13] = [
     (Does::Plug(1), Comes::Done),
     (Does::Attach(1, &[59]), Comes::Done),
     (
@@ -134,7 +135,7 @@ const DRAIN: [(Does, Comes); 13] = [
 ];
 
 /// What the processor does, at the ends of a frame, of memory and of what is reserved.
-const PROCESSOR: [(Does, Comes); 20] = [
+static PROCESSOR: [(Does, Comes); 20] = [
     (Does::Plug(1), Comes::Done),
     (Does::Attach(1, &[59]), Comes::Done),
     (
@@ -172,20 +173,18 @@ const PROCESSOR: [(Does, Comes); 20] = [
 
 #[test]
 fn the_worked_rows_are_lawful(rt: HostRuntime) -> Result<(), Fail> {
-    let alloc = rt.alloc();
     // `empty-script` and the lawful part of `script-fault` have no event
-    assert_eq!(rt; first_unlawful(alloc, &[])?, None);
-    assert_eq!(rt; first_unlawful(alloc, &FIRST_PATH)?, None);
-    assert_eq!(rt; first_unlawful(alloc, &BUSY)?, None);
-    assert_eq!(rt; first_unlawful(alloc, &GRANT_BOUNDARIES)?, None);
-    assert_eq!(rt; first_unlawful(alloc, &STALE_BUT_LAWFUL)?, None);
-    assert_eq!(rt; first_unlawful(alloc, &DRAIN)?, None);
-    assert_eq!(rt; first_unlawful(alloc, &PROCESSOR)?, None);
-    Ok(())
+    are_lawful(&rt, &[])?;
+    are_lawful(&rt, &FIRST_PATH)?;
+    are_lawful(&rt, &BUSY)?;
+    are_lawful(&rt, &GRANT_BOUNDARIES)?;
+    are_lawful(&rt, &STALE_BUT_LAWFUL)?;
+    are_lawful(&rt, &DRAIN)?;
+    are_lawful(&rt, &PROCESSOR)
 }
 
 /// A lawful run, whose lines are changed below.
-const BASE: [(Does, Comes); 17] = [
+static BASE: [(Does, Comes); 17] = [
     (Does::Plug(1), Comes::Done),
     (Does::Attach(1, &[59]), Comes::Done),
     (
@@ -209,7 +208,7 @@ const BASE: [(Does, Comes); 17] = [
 ];
 
 /// A line of that run, and what it is changed to, which may not come there.
-const CHANGED_CALLS: [(usize, Does, Comes); 20] = [
+static CHANGED_CALLS: [Change; 20] = [
     // refused without a reason
     (0, Does::Plug(1), Comes::Refused(Refusal::TooManyDevices)),
     // plugged in twice
@@ -296,7 +295,7 @@ const CHANGED_CALLS: [(usize, Does, Comes); 20] = [
     (12, Does::Fetch, Comes::NoneConfirmed),
 ];
 
-const CHANGED_REQUESTS: [(usize, Does, Comes); 10] = [
+static CHANGED_REQUESTS: [Change; 10] = [
     // a held page faults
     (
         3,
@@ -339,7 +338,7 @@ const CHANGED_REQUESTS: [(usize, Does, Comes); 10] = [
     ),
 ];
 
-const CHANGED_COMMITS_AND_POLLS: [(usize, Does, Comes); 11] = [
+static CHANGED_COMMITS_AND_POLLS: [Change; 11] = [
     // a byte more
     (5, Does::Commit(1), Comes::Read(&[0, 0, 0, 0, 0])),
     // another byte
@@ -364,7 +363,7 @@ const CHANGED_COMMITS_AND_POLLS: [(usize, Does, Comes); 11] = [
     (13, Does::Poll, Comes::Confirmed(0, 1)),
 ];
 
-const CHANGED_ACTS_OF_PROCESSOR: [(usize, Does, Comes); 12] = [
+static CHANGED_ACTS_OF_PROCESSOR: [Change; 12] = [
     // a table is written
     (3, Does::Poke(0x3b000, &[1]), Comes::Done),
     // the frame isn't reserved
@@ -403,7 +402,7 @@ const CHANGED_ACTS_OF_PROCESSOR: [(usize, Does, Comes); 12] = [
 
 /// A device that is detached. Its frames are given back at the poll, all zero, though one of them
 /// had a byte before; the page of the device directory stays the system's.
-const DETACH: [(Does, Comes); 25] = [
+static DETACH: [(Does, Comes); 25] = [
     (Does::Plug(1), Comes::Done),
     (Does::Detach(1), Comes::Refused(Refusal::NotAttached)),
     (Does::Poke(0x3a000, &[9]), Comes::Done),
@@ -451,7 +450,7 @@ const DETACH: [(Does, Comes); 25] = [
 ];
 
 /// A line of that run, and what it is changed to, which may not come there.
-const CHANGED_DETACHES: [(usize, Does, Comes); 13] = [
+static CHANGED_DETACHES: [Change; 13] = [
     // a device that isn't attached
     (1, Does::Detach(1), Comes::Ticket(1)),
     // a page of the directory in a reserved frame
@@ -485,61 +484,34 @@ const CHANGED_DETACHES: [(usize, Does, Comes); 13] = [
 
 #[test]
 fn changed_lines_are_refused(rt: HostRuntime) -> Result<(), Fail> {
-    assert_eq!(rt; first_unlawful(rt.alloc(), &BASE)?, None);
-    for (place, does, comes) in CHANGED_CALLS {
-        assert_eq!(rt;
-            first_unlawful_of(rt.alloc(), &BASE, place, does, comes)?,
-            Some(place)
-        );
-    }
-    for (place, does, comes) in CHANGED_REQUESTS {
-        assert_eq!(rt;
-            first_unlawful_of(rt.alloc(), &BASE, place, does, comes)?,
-            Some(place)
-        );
-    }
-    for (place, does, comes) in CHANGED_ACTS_OF_PROCESSOR {
-        assert_eq!(rt;
-            first_unlawful_of(rt.alloc(), &BASE, place, does, comes)?,
-            Some(place)
-        );
-    }
-    for (place, does, comes) in CHANGED_COMMITS_AND_POLLS {
-        assert_eq!(rt;
-            first_unlawful_of(rt.alloc(), &BASE, place, does, comes)?,
-            Some(place)
-        );
-    }
-    Ok(())
+    are_lawful(&rt, &BASE)?;
+    are_refused(&rt, &BASE, &CHANGED_CALLS)?;
+    are_refused(&rt, &BASE, &CHANGED_REQUESTS)?;
+    are_refused(&rt, &BASE, &CHANGED_ACTS_OF_PROCESSOR)?;
+    are_refused(&rt, &BASE, &CHANGED_COMMITS_AND_POLLS)
 }
 
 #[test]
 fn detach_is_judged(rt: HostRuntime) -> Result<(), Fail> {
-    assert_eq!(rt; first_unlawful(rt.alloc(), &DETACH)?, None);
-    for (place, does, comes) in CHANGED_DETACHES {
-        assert_eq!(rt;
-            first_unlawful_of(rt.alloc(), &DETACH, place, does, comes)?,
-            Some(place)
-        );
+    are_lawful(&rt, &DETACH)?;
+    are_refused(&rt, &DETACH, &CHANGED_DETACHES)
+}
+
+/// How many devices there are once the line has come, the first after power-on.
+fn devices_after(alloc: Global, line: &Line) -> Result<usize, Fail> {
+    let opening = power_on(alloc, 64, 1)?;
+    match judge(alloc, opening, &line.event, &line.outcome, &line.choice)? {
+        Some(state) => Ok(state.devices.as_slice().len()),
+        None => Err(Fail::new("an unlawful step")),
     }
-    Ok(())
 }
 
 /// The judge of one line, and the laws, which do nothing when they run.
 #[test]
 fn one_step_is_judged(rt: HostRuntime) -> Result<(), Fail> {
-    let line = line_of(rt.alloc(), Does::Plug(1), Comes::Done)?;
-    let next = judge(
-        rt.alloc(),
-        power_on(rt.alloc(), 64, 1)?,
-        &line.event,
-        &line.outcome,
-        &line.choice,
-    )?;
-    match next {
-        Some(state) => assert_eq!(rt; state.devices.as_slice().len(), 1),
-        None => return Err(Fail::new("an unlawful step")),
-    }
+    let line = line_of(rt.alloc(), &Does::Plug(1), &Comes::Done)?;
+    let devices = devices_after(rt.alloc(), &line)?;
+    expect_eq(&rt, &devices, &1);
     grants_are_at_pages();
     reclaim_theorem();
     lawful_runs_have_choices();

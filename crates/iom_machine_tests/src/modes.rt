@@ -1,11 +1,13 @@
-use crate::lines::{Comes, Does, first_unlawful, first_unlawful_of};
+use crate::expect::expect_eq;
+use crate::lines::{Change, Comes, Does, are_lawful, are_refused, first_unlawful};
 use iom_base::{Cause, GrantRights, Mode};
 use iom_ledger::Refusal;
 use std::alloc::Global;
+use std::process::Abort;
 use std::test::Fail;
 
 /// The row `second-stage`.
-const SECOND_STAGE: [(Does, Comes); 10] = [
+static SECOND_STAGE: [(Does, Comes); 10] = [
     (Does::Plug(1), Comes::Done),
     (
         Does::AttachIn(1, Mode::Second, &[56, 57, 58, 59]),
@@ -43,7 +45,7 @@ const SECOND_STAGE: [(Does, Comes); 10] = [
 ];
 
 /// A line of that run, and what it is changed to, which may not come there.
-const CHANGED_IN_SECOND: [(usize, Does, Comes); 7] = [
+static CHANGED_IN_SECOND: [Change; 7] = [
     // a held page faults
     (
         5,
@@ -71,7 +73,7 @@ const CHANGED_IN_SECOND: [(usize, Does, Comes); 7] = [
 ];
 
 /// The row `guest-tables`.
-const GUEST_TABLES: [(Does, Comes); 9] = [
+static GUEST_TABLES: [(Does, Comes); 9] = [
     (Does::Plug(1), Comes::Done),
     (
         Does::AttachIn(1, Mode::Both, &[56, 57, 58, 59]),
@@ -108,7 +110,7 @@ const GUEST_TABLES: [(Does, Comes); 9] = [
 ];
 
 /// A device in both stages that holds frame 5, and frame 6 to read.
-const BOTH: [(Does, Comes); 19] = [
+static BOTH: [(Does, Comes); 19] = [
     (Does::Plug(1), Comes::Done),
     (
         Does::AttachIn(1, Mode::Both, &[56, 57, 58, 59]),
@@ -144,7 +146,7 @@ const BOTH: [(Does, Comes); 19] = [
 ];
 
 /// A line of that run, and what it is changed to, which may not come there.
-const CHANGED_IN_BOTH: [(usize, Does, Comes); 11] = [
+static CHANGED_IN_BOTH: [Change; 11] = [
     // plenty of free runs
     (
         1,
@@ -186,62 +188,75 @@ const CHANGED_IN_BOTH: [(usize, Does, Comes); 11] = [
 
 #[test]
 fn rows_of_the_second_stage_are_lawful(rt: HostRuntime) -> Result<(), Fail> {
-    assert_eq!(rt; first_unlawful(rt.alloc(), &SECOND_STAGE)?, None);
-    assert_eq!(rt; first_unlawful(rt.alloc(), &GUEST_TABLES)?, None);
-    assert_eq!(rt; first_unlawful(rt.alloc(), &BOTH)?, None);
-    Ok(())
+    are_lawful(&rt, &SECOND_STAGE)?;
+    are_lawful(&rt, &GUEST_TABLES)?;
+    are_lawful(&rt, &BOTH)
 }
 
 #[test]
 fn changed_lines_of_the_second_stage_are_refused(rt: HostRuntime) -> Result<(), Fail> {
-    for (place, does, comes) in CHANGED_IN_SECOND {
-        assert_eq!(rt;
-            first_unlawful_of(rt.alloc(), &SECOND_STAGE, place, does, comes)?,
-            Some(place)
-        );
-    }
-    for (place, does, comes) in CHANGED_IN_BOTH {
-        assert_eq!(rt;
-            first_unlawful_of(rt.alloc(), &BOTH, place, does, comes)?,
-            Some(place)
-        );
-    }
-    Ok(())
+    are_refused(&rt, &SECOND_STAGE, &CHANGED_IN_SECOND)?;
+    are_refused(&rt, &BOTH, &CHANGED_IN_BOTH)
+}
+
+/// What comes before the grants of `refused_beside`.
+static BESIDE: [(Does, Comes); 4] = [
+    (Does::Plug(1), Comes::Done),
+    (Does::Plug(2), Comes::Done),
+    (Does::Attach(2, &[59]), Comes::Done),
+    (
+        Does::Grant(2, 100, 56, GrantRights::ReadOnly, &[58, 57]),
+        Comes::Done,
+    ),
+];
+
+/// Device 2 is granted the first frame of the run, at the page with the run's number.
+fn grant_of(run: u64) -> (Does<'static>, Comes<'static>) {
+    let frame = run.wrapping_mul(4);
+    (
+        Does::Grant(2, run, frame, GrantRights::ReadOnly, &[]),
+        Comes::Done,
+    )
+}
+
+/// Device 1 is refused an attach in the mode for want of frames.
+fn want_of_frames(mode: Mode) -> (Does<'static>, Comes<'static>) {
+    (
+        Does::AttachIn(1, mode, &[]),
+        Comes::Refused(Refusal::NoFrames),
+    )
 }
 
 /// The first line that may not come where device 2 holds a frame of each of the lowest so many runs, its tables lie in the
 /// highest of the fifteen, and then device 1 is refused an attach in the mode for want of frames.
 fn refused_beside(alloc: Global, runs: u64, mode: Mode) -> Result<Option<usize>, Fail> {
-    let mut lines: Vec<(Does, Comes)> = Vec::new(alloc);
-    lines.push((Does::Plug(1), Comes::Done))?;
-    lines.push((Does::Plug(2), Comes::Done))?;
-    lines.push((Does::Attach(2, &[59]), Comes::Done))?;
-    lines.push((
-        Does::Grant(2, 100, 56, GrantRights::ReadOnly, &[58, 57]),
-        Comes::Done,
-    ))?;
+    let mut lines = Vec::from_slice(alloc, &BESIDE)?;
     for run in 0..runs {
-        let frame = run.wrapping_mul(4);
-        lines.push((
-            Does::Grant(2, run, frame, GrantRights::ReadOnly, &[]),
-            Comes::Done,
-        ))?;
+        lines.push(grant_of(run))?;
     }
-    lines.push((
-        Does::AttachIn(1, mode, &[]),
-        Comes::Refused(Refusal::NoFrames),
-    ))?;
+    lines.push(want_of_frames(mode))?;
     first_unlawful(alloc, &lines)
+}
+
+/// Ends the test where another line is the first of those that may not come.
+fn is_refused_at(
+    rt: &(impl Abort + AllocGlobal),
+    runs: u64,
+    mode: Mode,
+    expected: Option<usize>,
+) -> Result<(), Fail> {
+    let first = refused_beside(rt.alloc(), runs, mode)?;
+    expect_eq(rt, &first, &expected);
+    Ok(())
 }
 
 #[test]
 fn a_root_of_four_frames_may_be_wanting(rt: HostRuntime) -> Result<(), Fail> {
     // three runs are free, of which the directory may break two
-    assert_eq!(rt; refused_beside(rt.alloc(), 11, Mode::Second)?, Some(15));
-    assert_eq!(rt; refused_beside(rt.alloc(), 11, Mode::Both)?, Some(15));
+    is_refused_at(&rt, 11, Mode::Second, Some(15))?;
+    is_refused_at(&rt, 11, Mode::Both, Some(15))?;
     // two runs, and the other frames of the others
-    assert_eq!(rt; refused_beside(rt.alloc(), 12, Mode::Second)?, None);
-    assert_eq!(rt; refused_beside(rt.alloc(), 12, Mode::Both)?, None);
-    assert_eq!(rt; refused_beside(rt.alloc(), 12, Mode::First)?, Some(16));
-    Ok(())
+    is_refused_at(&rt, 12, Mode::Second, None)?;
+    is_refused_at(&rt, 12, Mode::Both, None)?;
+    is_refused_at(&rt, 12, Mode::First, Some(16))
 }

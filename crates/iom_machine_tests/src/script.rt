@@ -1,8 +1,10 @@
+use crate::expect::{expect, expect_eq};
 use arrayvec::ArrayVec;
 use iom_base::{Cause, GrantRights, Mode};
 use iom_ledger::Refusal;
 use iom_machine::{CommandName, Event, FaultRecord, Fetched, Outcome};
 use iom_script::{LineBuffer, ScriptFault, WorldSize, parse};
+use std::process::Abort;
 use std::test::Fail;
 
 /// The line number at which the bytes are refused, or 0 where they are a script.
@@ -28,17 +30,17 @@ fn many(
     Ok(bytes)
 }
 
-/// Whether this is the line of the outcome.
-fn is_told(out: &mut LineBuffer, outcome: Outcome, line: &[u8]) -> bool {
+/// Ends the test where another line is that of the outcome.
+fn is_told(rt: &impl Abort, out: &mut LineBuffer, outcome: &Outcome, line: &[u8]) {
     out.clear();
-    out.append_line(&outcome);
-    out.as_slice() == line
+    out.append_line(outcome);
+    expect(rt, out.as_slice() == line);
 }
 
 #[test]
 fn lines_tell_what_the_driver_answers(rt: HostRuntime) -> Result<(), Fail> {
     let mut out = LineBuffer::new(rt.alloc())?;
-    assert!(rt; out.has_room());
+    expect(&rt, out.has_room());
     let confirmed = Outcome::Confirmed {
         first: 1,
         last: 256,
@@ -49,17 +51,17 @@ fn lines_tell_what_the_driver_answers(rt: HostRuntime) -> Result<(), Fail> {
     let record_line =
         b"record 0x0000010800000015 0x0000000000000000 0x00000000000030f0 0xffffffffffffffff\n";
     let full = Outcome::Refused(Refusal::TooManyPending);
-    assert!(rt; is_told(&mut out, Outcome::Done, b"ok\n"));
-    assert!(rt; is_told(&mut out, full, b"refused 12 TooManyPending\n"));
-    assert!(rt; is_told(&mut out, Outcome::Ticket(1), b"ticket 1\n"));
-    assert!(rt; is_told(&mut out, confirmed, b"confirmed 1-256\n"));
-    assert!(rt; is_told(&mut out, Outcome::NoneConfirmed, b"confirmed -\n"));
-    assert!(rt; is_told(&mut out, Outcome::Record(record), record_line));
-    assert!(rt; is_told(&mut out, Outcome::NoRecord, b"no record\n"));
-    assert!(rt; is_told(&mut out, Outcome::Free(true), b"free yes\n"));
-    assert!(rt; is_told(&mut out, Outcome::Free(false), b"free no\n"));
+    is_told(&rt, &mut out, &Outcome::Done, b"ok\n");
+    is_told(&rt, &mut out, &full, b"refused 12 TooManyPending\n");
+    is_told(&rt, &mut out, &Outcome::Ticket(1), b"ticket 1\n");
+    is_told(&rt, &mut out, &confirmed, b"confirmed 1-256\n");
+    is_told(&rt, &mut out, &Outcome::NoneConfirmed, b"confirmed -\n");
+    is_told(&rt, &mut out, &Outcome::Record(record), record_line);
+    is_told(&rt, &mut out, &Outcome::NoRecord, b"no record\n");
+    is_told(&rt, &mut out, &Outcome::Free(true), b"free yes\n");
+    is_told(&rt, &mut out, &Outcome::Free(false), b"free no\n");
     out.clear();
-    assert!(rt; out.as_slice().is_empty());
+    expect(&rt, out.as_slice().is_empty());
     Ok(())
 }
 
@@ -74,23 +76,22 @@ fn lines_tell_what_hardware_does(rt: HostRuntime) -> Result<(), Fail> {
     shown.try_push(0xaf)?;
     let vma = Outcome::Fetched(Fetched::Did(CommandName::IotinvalVma));
     let fence = Outcome::Fetched(Fetched::Did(CommandName::IofenceC));
-    assert!(rt; is_told(&mut out, vma, b"did iotinval.vma\n"));
-    assert!(rt; is_told(&mut out, fence, b"did iofence.c\n"));
-    assert!(rt; is_told(&mut out, Outcome::Fetched(Fetched::Empty), b"empty\n"));
-    assert!(rt; is_told(&mut out, Outcome::Accepted(1), b"accepted 1\n"));
-    assert!(rt; is_told(&mut out, Outcome::Busy, b"busy\n"));
-    assert!(rt; is_told(&mut out, Outcome::BadSpan, b"badspan\n"));
-    assert!(rt;
-        is_told(
-            &mut out,
-            Outcome::Fault(Cause::ReadPageFault),
-            b"fault 13\n"
-        )
+    is_told(&rt, &mut out, &vma, b"did iotinval.vma\n");
+    is_told(&rt, &mut out, &fence, b"did iofence.c\n");
+    is_told(&rt, &mut out, &Outcome::Fetched(Fetched::Empty), b"empty\n");
+    is_told(&rt, &mut out, &Outcome::Accepted(1), b"accepted 1\n");
+    is_told(&rt, &mut out, &Outcome::Busy, b"busy\n");
+    is_told(&rt, &mut out, &Outcome::BadSpan, b"badspan\n");
+    is_told(
+        &rt,
+        &mut out,
+        &Outcome::Fault(Cause::ReadPageFault),
+        b"fault 13\n",
     );
-    assert!(rt; is_told(&mut out, Outcome::Read(read), b"read 00af\n"));
-    assert!(rt; is_told(&mut out, Outcome::Wrote(4096), b"wrote 4096\n"));
-    assert!(rt; is_told(&mut out, Outcome::NothingInFlight, b"none\n"));
-    assert!(rt; is_told(&mut out, Outcome::Bytes(shown), b"bytes 00af\n"));
+    is_told(&rt, &mut out, &Outcome::Read(read), b"read 00af\n");
+    is_told(&rt, &mut out, &Outcome::Wrote(4096), b"wrote 4096\n");
+    is_told(&rt, &mut out, &Outcome::NothingInFlight, b"none\n");
+    is_told(&rt, &mut out, &Outcome::Bytes(shown), b"bytes 00af\n");
     Ok(())
 }
 
@@ -105,17 +106,17 @@ fn a_buffer_has_room_until_it_is_nearly_full(rt: HostRuntime) -> Result<(), Fail
         }
     }
     // 30 bytes each: the first line that might not have fitted came after 57,337 bytes.
-    assert_eq!(rt; count, 1912usize);
+    expect_eq(&rt, &count, &1912);
     Ok(())
 }
 
 #[test]
 fn an_empty_script_says_nothing(rt: HostRuntime) -> Result<(), Fail> {
     let script = parse(rt.alloc(), b"")?;
-    assert!(rt; script.world.is_none());
+    expect(&rt, script.world.is_none());
     let script = parse(rt.alloc(), b"\n# world 64 1\0\r\xff\n#\n")?;
-    assert!(rt; script.world.is_none());
-    assert!(rt; script.events.as_slice().is_empty());
+    expect(&rt, script.world.is_none());
+    expect(&rt, script.events.as_slice().is_empty());
     Ok(())
 }
 
@@ -137,7 +138,7 @@ const FIRST_PATH: &[u8] = b"\
 fn the_first_path_is_read(rt: HostRuntime) -> Result<(), Fail> {
     let script = parse(rt.alloc(), FIRST_PATH)?;
     let events = script.events.as_slice();
-    assert_eq!(rt; events.len(), 11usize);
+    expect_eq(&rt, &events.len(), &11);
     match events.get(2) {
         Some(
             Event::Grant {
@@ -146,7 +147,7 @@ fn the_first_path_is_read(rt: HostRuntime) -> Result<(), Fail> {
                 frame: 5,
                 rights,
             },
-        ) => assert!(rt; *rights == GrantRights::ReadWrite),
+        ) => expect(&rt, *rights == GrantRights::ReadWrite),
         _ => return Err(Fail::new("another grant")),
     }
     match events.get(10) {
@@ -163,9 +164,18 @@ fn the_first_path_is_read(rt: HostRuntime) -> Result<(), Fail> {
 
 #[test]
 fn a_world_has_one_to_three_levels(rt: HostRuntime) -> Result<(), Fail> {
-    assert!(rt; is_world(parse(rt.alloc(), b"world 64 1\n")?.world, 64, 1));
-    assert!(rt; is_world(parse(rt.alloc(), b"world 65 2\n")?.world, 65, 2));
-    assert!(rt; is_world(parse(rt.alloc(), b"world 4096 3\n")?.world, 4096, 3));
+    expect(
+        &rt,
+        is_world(parse(rt.alloc(), b"world 64 1\n")?.world, 64, 1),
+    );
+    expect(
+        &rt,
+        is_world(parse(rt.alloc(), b"world 65 2\n")?.world, 65, 2),
+    );
+    expect(
+        &rt,
+        is_world(parse(rt.alloc(), b"world 4096 3\n")?.world, 4096, 3),
+    );
     Ok(())
 }
 
@@ -211,10 +221,10 @@ const MODES: &[u8] = b"\
 fn modes_and_faults_are_read(rt: HostRuntime) -> Result<(), Fail> {
     let script = parse(rt.alloc(), MODES)?;
     let events = script.events.as_slice();
-    assert_eq!(rt; events.len(), 4usize);
-    assert_eq!(rt; attached_in(events.get(0)), Some(Mode::First));
-    assert_eq!(rt; attached_in(events.get(1)), Some(Mode::Second));
-    assert_eq!(rt; attached_in(events.get(2)), Some(Mode::Both));
+    expect_eq(&rt, &events.len(), &4);
+    expect_eq(&rt, &attached_in(events.get(0)), &Some(Mode::First));
+    expect_eq(&rt, &attached_in(events.get(1)), &Some(Mode::Second));
+    expect_eq(&rt, &attached_in(events.get(2)), &Some(Mode::Both));
     match events.get(3) {
         Some(Event::Faults) => Ok(()),
         _ => Err(Fail::new("another event")),
@@ -239,7 +249,7 @@ fn boundaries_are_read(rt: HostRuntime) -> Result<(), Fail> {
                 frame: 0,
                 rights,
             },
-        ) => assert!(rt; *rights == GrantRights::ReadOnly),
+        ) => expect(&rt, *rights == GrantRights::ReadOnly),
         _ => return Err(Fail::new("another grant")),
     }
     match script.events.as_slice().get(1) {
@@ -249,7 +259,7 @@ fn boundaries_are_read(rt: HostRuntime) -> Result<(), Fail> {
                 address: 0x3ffffff000,
                 bytes,
             },
-        ) => assert!(rt; bytes.as_slice() == [0u8, 0xf1].as_slice()),
+        ) => expect(&rt, bytes.as_slice() == [0u8, 0xf1].as_slice()),
         _ => return Err(Fail::new("another write")),
     }
     Ok(())
@@ -270,7 +280,7 @@ fn lines_of_the_processor_are_read(rt: HostRuntime) -> Result<(), Fail> {
                 address: 0x5000,
                 bytes,
             },
-        ) => assert!(rt; bytes.as_slice() == [0u8, 0xf1].as_slice()),
+        ) => expect(&rt, bytes.as_slice() == [0u8, 0xf1].as_slice()),
         _ => return Err(Fail::new("another poke")),
     }
     match script.events.as_slice().get(1) {
@@ -313,7 +323,7 @@ const BAD_FIRST: &[u8] = b"\
 #[test]
 fn bad_first_lines_are_named(rt: HostRuntime) {
     for script in BAD_FIRST.split(|byte| *byte == b'|') {
-        assert_eq!(rt; bad_line(&rt, script), 1u64);
+        expect_eq(&rt, &bad_line(&rt, script), &1);
     }
 }
 
@@ -380,7 +390,7 @@ const BAD_SECOND: &[u8] = b"\
 #[test]
 fn bad_second_lines_are_named(rt: HostRuntime) {
     for script in BAD_SECOND.split(|byte| *byte == b'|') {
-        assert_eq!(rt; bad_line(&rt, script), 2u64);
+        expect_eq(&rt, &bad_line(&rt, script), &2);
     }
 }
 
@@ -388,26 +398,26 @@ fn bad_second_lines_are_named(rt: HostRuntime) {
 fn long_lines_are_judged(rt: HostRuntime) -> Result<(), Fail> {
     let mut bytes = many(rt.alloc(), b"world 64 1\nwrite 000001 0x0 ", b"5a", 4096)?;
     bytes.push(b'\n')?;
-    assert_eq!(rt; bad_line(&rt, &bytes), 0u64);
+    expect_eq(&rt, &bad_line(&rt, &bytes), &0);
     let mut bytes = many(rt.alloc(), b"world 64 1\nwrite 000001 0x0 ", b"5a", 4097)?;
     bytes.push(b'\n')?;
-    assert_eq!(rt; bad_line(&rt, &bytes), 2u64);
+    expect_eq(&rt, &bad_line(&rt, &bytes), &2);
     let mut bytes = many(rt.alloc(), b"#", b"a", 1048574)?;
     bytes.push(b'\n')?;
-    assert_eq!(rt; bad_line(&rt, &bytes), 0u64);
+    expect_eq(&rt, &bad_line(&rt, &bytes), &0);
     bytes.push(b'\n')?;
-    assert_eq!(rt; bad_line(&rt, &bytes), 2u64);
+    expect_eq(&rt, &bad_line(&rt, &bytes), &2);
     let mut bytes = many(rt.alloc(), b"#", b"a", 1048575)?;
     bytes.push(b'\n')?;
-    assert_eq!(rt; bad_line(&rt, &bytes), 1u64);
+    expect_eq(&rt, &bad_line(&rt, &bytes), &1);
     Ok(())
 }
 
 #[test]
 fn a_refused_allocation_is_told(rt: HostRuntime) {
     match parse(rt.alloc(), b"world 64 1\nwrite 000001 0x0 00\nfetch\n") {
-        Ok(script) => assert_eq!(rt; script.events.as_slice().len(), 2usize),
+        Ok(script) => expect_eq(&rt, &script.events.as_slice().len(), &2),
         Err(ScriptFault::Memory) => {}
-        Err(ScriptFault::Line(_)) => assert!(rt; false),
+        Err(ScriptFault::Line(_)) => expect(&rt, false),
     }
 }

@@ -5,6 +5,7 @@ use crate::run::{Run, Step};
 use iom_base::DeviceId;
 use iom_machine::{Event, Outcome, judge, power_on};
 use std::alloc::{AllocError, Global};
+use std::process::Abort;
 use std::test::Fail;
 
 /// How many of the steps the judge finds lawful, up to the first that isn't.
@@ -35,20 +36,32 @@ fn made(steps: &[Step], asked: DeviceId) -> usize {
         .count()
 }
 
+/// Ends the test where the judge finds a step of the run that isn't lawful.
+fn is_lawful(rt: &(impl Abort + AllocGlobal), run: &Run) -> Result<(), Fail> {
+    let count = lawful(rt.alloc(), &run.steps)?;
+    assert_eq!(rt; count, run.steps.len());
+    Ok(())
+}
+
 #[test]
 fn each_drawn_step_in_every_mode_is_lawful(rt: HostRuntime) -> Result<(), Fail> {
     for seed in 0..100 {
         let run = Run::drawn(rt.alloc(), seed, 2000)?;
-        assert_eq!(rt; lawful(rt.alloc(), &run.steps)?, run.steps.len());
+        is_lawful(&rt, &run)?;
     }
     Ok(())
+}
+
+/// Ends the test where too few accesses of a device were made.
+fn have_made(rt: &impl Abort, run: &Run) {
+    for device in 0..3 {
+        assert!(rt; made(&run.steps, device) > 20);
+    }
 }
 
 #[test]
 fn devices_in_every_mode_reach_memory(rt: HostRuntime) -> Result<(), Fail> {
     let run = Run::drawn(rt.alloc(), 1, 2000)?;
-    for device in 0..3 {
-        assert!(rt; made(&run.steps, device) > 20);
-    }
+    have_made(&rt, &run);
     Ok(())
 }

@@ -45,11 +45,12 @@ fn last_word(bytes: &[u8]) -> u64 {
     ])
 }
 
-/// A world, and all that happened to it.
+/// A world, boxed as the run is itself, and all that happened to it: of what a test owns in place each later proof would
+/// carry every part.
 #[derive(Drop)]
 pub(crate) struct Run {
     alloc: Global,
-    world: World,
+    world: Box<World>,
     pub(crate) steps: Vec<Step>,
 }
 
@@ -75,33 +76,48 @@ impl Run {
         self.happen(Event::Attach { device, mode, ats })
     }
 
-    /// Three devices, one in each mode, the pages in which the guest's tables are to stand, and frames that name
-    /// themselves: twice their number, which is an entry that isn't valid.
-    fn new(alloc: Global) -> Result<Run, Fail> {
+    /// A world of 64 frames, to which nothing has happened.
+    fn new(alloc: Global) -> Result<Box<Run>, Fail> {
         let world = World::new(alloc, 64, 1)?;
-        let steps = Vec::new(alloc);
-        let mut run = Run {
+        let run = Run {
             alloc,
-            world,
-            steps,
+            world: Box::new(alloc, world)?,
+            steps: Vec::new(alloc),
         };
-        run.plug_and_attach(0, Mode::First)?;
-        run.plug_and_attach(1, Mode::Second)?;
-        run.plug_and_attach(GUEST, Mode::Both)?;
+        Ok(Box::new(alloc, run)?)
+    }
+
+    fn grant(&mut self, page: u64, frame: u64) -> Result<(), Fail> {
+        self.happen(Event::Grant {
+            device: GUEST,
+            page,
+            frame,
+            rights: GrantRights::ReadWrite,
+        })
+    }
+
+    /// The frame names itself: by twice its number, which is an entry that isn't valid.
+    fn name(&mut self, frame: u64) -> Result<(), Fail>
+        requires { frame < 4096 }
+    {
+        let address = frame * 4096 + NAME_AT;
+        let bytes = bytes_of(self.alloc, &[2 * frame])?;
+        self.happen(Event::Poke { address, bytes })
+    }
+
+    /// Three devices, one in each mode, the pages in which the guest's tables are to stand, and frames that name
+    /// themselves.
+    fn begin(&mut self) -> Result<(), Fail> {
+        self.plug_and_attach(0, Mode::First)?;
+        self.plug_and_attach(1, Mode::Second)?;
+        self.plug_and_attach(GUEST, Mode::Both)?;
         for page in 0..3 {
-            run.happen(Event::Grant {
-                device: GUEST,
-                page,
-                frame: FIRST_FRAME + page,
-                rights: GrantRights::ReadWrite,
-            })?;
+            self.grant(page, FIRST_FRAME + page)?;
         }
         for frame in FIRST_FRAME..FIRST_FRAME + FRAMES {
-            let address = frame * 4096 + NAME_AT;
-            let bytes = bytes_of(alloc, &[2 * frame])?;
-            run.happen(Event::Poke { address, bytes })?;
+            self.name(frame)?;
         }
-        Ok(run)
+        Ok(())
     }
 
     /// The step at which the oldest access of the device was accepted whose frame hasn't shown yet.
@@ -196,27 +212,45 @@ impl Run {
         self.happen(Event::Poke { address, bytes })
     }
 
-    /// A run of so many events drawn from the seed, beside those that show where accesses went; what is in
-    /// flight at its end is made.
-    pub(crate) fn drawn(alloc: Global, seed: u64, count: u64) -> Result<Run, Fail> {
-        let mut run = Run::new(alloc)?;
+    /// A drawn event, other than a poke.
+    fn happen_drawn(&mut self, draw: &mut Draw, own: u64) -> Result<(), Fail> {
+        let event = draw.event(self.alloc, own)?;
+        match event {
+            Event::Commit { device } => self.commit(device),
+            _ => self.happen(event),
+        }
+    }
+
+    /// So many events drawn from the seed, beside those that show where accesses went.
+    fn go_on(&mut self, seed: u64, count: u64) -> Result<(), Fail> {
         let mut draw = Draw::new(seed);
         for number in 0..count {
             if draw.below(6) == 0 {
-                run.poke(&mut draw)?;
-                continue;
-            }
-            let event = draw.event(alloc, number + 1 << 32)?;
-            match event {
-                Event::Commit { device } => run.commit(device)?,
-                _ => run.happen(event)?,
+                self.poke(&mut draw)?;
+            } else {
+                self.happen_drawn(&mut draw, number + 1 << 32)?;
             }
         }
+        Ok(())
+    }
+
+    /// What is in flight is made.
+    fn end(&mut self) -> Result<(), Fail> {
         for device in 0..3 {
             for _made in 0..8 {
-                run.commit(device)?;
+                self.commit(device)?;
             }
         }
+        Ok(())
+    }
+
+    /// A run of so many events drawn from the seed, beside those that show where accesses went; what is in
+    /// flight at its end is made.
+    pub(crate) fn drawn(alloc: Global, seed: u64, count: u64) -> Result<Box<Run>, Fail> {
+        let mut run = Run::new(alloc)?;
+        run.begin()?;
+        run.go_on(seed, count)?;
+        run.end()?;
         Ok(run)
     }
 }
