@@ -8,7 +8,7 @@ use iom_machine::{CommandName, FaultRecord, Fetched, Outcome};
 use iom_script::LineBuffer;
 use std::alloc::{AllocError, Global};
 
-const REFUSALS: [Refusal; 23] = [
+static REFUSALS: [Refusal; 23] = [
     Refusal::NoSuchDevice,
     Refusal::AlreadyAttached,
     Refusal::NotAttached,
@@ -34,7 +34,7 @@ const REFUSALS: [Refusal; 23] = [
     Refusal::BadQueue,
 ];
 
-const CAUSES: [Cause; 11] = [
+static CAUSES: [Cause; 11] = [
     Cause::ReadAccessFault,
     Cause::WriteAccessFault,
     Cause::ReadPageFault,
@@ -51,9 +51,9 @@ const CAUSES: [Cause; 11] = [
 /// The refusal that `N NAME` says.
 fn refusal_of(text: &str) -> Option<Refusal> {
     let (_, name) = text.split_once(' ')?;
-    for refusal in REFUSALS {
+    for refusal in &REFUSALS {
         if refusal.name() == name {
-            return Some(refusal);
+            return Some(*refusal);
         }
     }
     None
@@ -62,9 +62,9 @@ fn refusal_of(text: &str) -> Option<Refusal> {
 /// The cause with the number.
 fn cause_of(text: &str) -> Option<Cause> {
     let code = text.parse::<u16>().ok()?;
-    for cause in CAUSES {
+    for cause in &CAUSES {
         if cause.code() == code {
-            return Some(cause);
+            return Some(*cause);
         }
     }
     None

@@ -3,8 +3,9 @@
 ghost use Rattle.std.specs.Prelude.{◌<◌, IfOk};
 ghost use Rattle.iom_machine.specs.Machine.{IsEvent};
 
+use crate::expect::expect_eq;
 use iom_base::{DeviceId, GrantRights, Mode, Sequence};
-use iom_machine::{Choice, DeviceKind, Event, Outcome, judge, power_on};
+use iom_machine::{Choice, DeviceKind, Event, Outcome, State, judge, power_on};
 use iom_world::World;
 use std::alloc::{AllocError, Global};
 use std::test::Fail;
@@ -198,20 +199,45 @@ impl Known {
     }
 }
 
+/// A world with what happens to it. Boxed: of what a test owns in place each later proof would carry every part.
+#[derive(Drop)]
+struct Play {
+    alloc: Global,
+    world: Box<World>,
+    draw: Draw,
+    known: Known,
+}
+
+impl Play {
+    fn new(alloc: Global, seed: u64) -> Result<Box<Play>, Fail> {
+        let world = World::new(alloc, 64, 1)?;
+        let play = Play {
+            alloc,
+            world: Box::new(alloc, world)?,
+            draw: Draw { state: seed },
+            known: Known::new(alloc),
+        };
+        Ok(Box::new(alloc, play)?)
+    }
+
+    /// The ledger machine's state once the next drawn event has happened; None where that isn't lawful.
+    fn next(&mut self, state: State) -> Result<Option<State>, Fail> {
+        let event = self.draw.event(self.alloc)?;
+        if self.world.events() > 1000000 || state.frames.as_slice().len() > 64 {
+            return Ok(None);
+        }
+        let outcome = self.world.step(&event);
+        let choice = self.known.choice(self.alloc, &event, &outcome)?;
+        Ok(judge(self.alloc, state, &event, &outcome, &choice)?)
+    }
+}
+
 /// How many of the events drawn from this seed the judge finds lawful, up to the first that isn't.
 fn lawful(alloc: Global, seed: u64, count: u32) -> Result<u32, Fail> {
-    let mut world = World::new(alloc, 64, 1)?;
+    let mut play = Play::new(alloc, seed)?;
     let mut state = power_on(alloc, 64, 1)?;
-    let mut draw = Draw { state: seed };
-    let mut known = Known::new(alloc);
     for number in 0..count {
-        let event = draw.event(alloc)?;
-        if world.events() > 1000000 || state.frames.as_slice().len() > 64 {
-            return Ok(number);
-        }
-        let outcome = world.step(&event);
-        let choice = known.choice(alloc, &event, &outcome)?;
-        match judge(alloc, state, &event, &outcome, &choice)? {
+        match play.next(state)? {
             Some(next) => state = next,
             None => return Ok(number),
         }
@@ -222,7 +248,7 @@ fn lawful(alloc: Global, seed: u64, count: u32) -> Result<u32, Fail> {
 #[test]
 fn each_drawn_step_is_lawful(rt: HostRuntime) -> Result<(), Fail> {
     for seed in 0..100 {
-        assert_eq!(rt; lawful(rt.alloc(), seed, 1000)?, 1000);
+        expect_eq(&rt, &lawful(rt.alloc(), seed, 1000)?, &1000);
     }
     Ok(())
 }

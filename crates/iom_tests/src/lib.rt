@@ -9,6 +9,8 @@
 #[cfg(test)]
 mod drawn_worlds;
 #[cfg(test)]
+mod expect;
+#[cfg(test)]
 mod runner;
 #[cfg(test)]
 mod world;

@@ -1,8 +1,10 @@
 ghost use Rattle.std.specs.Prelude.{Some};
 
+use crate::expect::{expect, expect_eq};
 use iom_runner::{ArgsFault, ProgramFault, RunFault, read_words, run, run_words};
 use std::alloc::Global;
 use std::io::{self, ErrorKind, Read, Write};
+use std::process::Abort;
 use std::test::Fail;
 
 /// A reader that gives at most so many bytes a call, is interrupted at every other call, and fails at
@@ -210,27 +212,36 @@ fn a_script_that_says_nothing_prints_nothing(rt: HostRuntime) -> Result<(), Fail
     Ok(())
 }
 
+/// Ends the test where the script isn't refused at the line with this number, or something is written.
+fn is_bad_at(rt: &(impl Abort + AllocGlobal), script: &[u8], number: u64) -> Result<(), Fail> {
+    let mut rest = script;
+    let mut out = Vec::new(rt.alloc());
+    match run(rt.alloc(), &mut rest, &mut out) {
+        Err(RunFault::Script(named)) => expect_eq(rt, &named, &number),
+        _ => return Err(Fail::new("no bad line")),
+    }
+    expect(rt, out.is_empty());
+    Ok(())
+}
+
+/// Scripts, and the lines at which they are refused.
+static BAD: [(&[u8], u64); 7] = [
+    (b"world 64 1\nfetch 1\n", 2),
+    (b"world 64 1\nfetch", 2),
+    (b"world 64 1\r\n", 1),
+    (b"world 64 1\n\nfetch\0\n", 3),
+    (b"world 64 1\nfetch \xff\n", 2),
+    (
+        b"world 64 1\n#\n\ngrant 000001 18446744073709551616 5 rw\n",
+        4,
+    ),
+    (b"fetch\n", 1),
+];
+
 #[test]
 fn a_bad_line_is_named(rt: HostRuntime) -> Result<(), Fail> {
-    let bad: [(&[u8], u64); 7] = [
-        (b"world 64 1\nfetch 1\n", 2),
-        (b"world 64 1\nfetch", 2),
-        (b"world 64 1\r\n", 1),
-        (b"world 64 1\n\nfetch\0\n", 3),
-        (b"world 64 1\nfetch \xff\n", 2),
-        (
-            b"world 64 1\n#\n\ngrant 000001 18446744073709551616 5 rw\n",
-            4,
-        ),
-        (b"fetch\n", 1),
-    ];
-    for (mut script, number) in bad {
-        let mut out = Vec::new(rt.alloc());
-        match run(rt.alloc(), &mut script, &mut out) {
-            Err(RunFault::Script(named)) => assert_eq!(rt; named, number),
-            _ => return Err(Fail::new("no bad line")),
-        }
-        assert!(rt; out.is_empty());
+    for (script, number) in &BAD {
+        is_bad_at(&rt, script, *number)?;
     }
     Ok(())
 }
@@ -270,32 +281,39 @@ fn many_short_writes_are_continued(rt: HostRuntime) -> Result<(), Fail> {
 #[test]
 fn one_line_too_many_is_named(rt: HostRuntime) -> Result<(), Fail> {
     let script = many(rt.alloc(), b"world 64 1\n", b"poll\n", 209714)?;
-    let mut out = Vec::new(rt.alloc());
-    match run(rt.alloc(), &mut script.as_slice(), &mut out) {
-        Err(RunFault::Script(number)) => assert_eq!(rt; number, 209715u64),
-        _ => return Err(Fail::new("no bad line")),
-    }
-    assert!(rt; out.is_empty());
+    is_bad_at(&rt, &script, 209715)
+}
+
+/// Faults with their texts and statuses.
+static FAULTS: [(ProgramFault, &str, u8); 6] = [
+    (ProgramFault::Run(RunFault::Reading), "reading failed", 1),
+    (ProgramFault::Run(RunFault::Writing), "writing failed", 1),
+    (ProgramFault::Run(RunFault::Memory), "out of memory", 1),
+    (
+        ProgramFault::Run(RunFault::Script(18)),
+        "line 18: bad script",
+        2,
+    ),
+    (ProgramFault::Args(ArgsFault::Bad), "bad command line", 3),
+    (ProgramFault::Args(ArgsFault::Memory), "out of memory", 1),
+];
+
+/// Ends the test where the fault has another text or another status.
+fn is_told(
+    rt: &(impl Abort + AllocGlobal),
+    fault: &ProgramFault,
+    text: &str,
+    status: u8,
+) -> Result<(), Fail> {
+    assert_eq!(rt; format!(in rt.alloc(); "{fault}")?.as_str(), text);
+    assert_eq!(rt; fault.status(), status);
     Ok(())
 }
 
 #[test]
 fn faults_have_texts_and_statuses(rt: HostRuntime) -> Result<(), Fail> {
-    let faults = [
-        (ProgramFault::Run(RunFault::Reading), "reading failed", 1u8),
-        (ProgramFault::Run(RunFault::Writing), "writing failed", 1),
-        (ProgramFault::Run(RunFault::Memory), "out of memory", 1),
-        (
-            ProgramFault::Run(RunFault::Script(18)),
-            "line 18: bad script",
-            2,
-        ),
-        (ProgramFault::Args(ArgsFault::Bad), "bad command line", 3),
-        (ProgramFault::Args(ArgsFault::Memory), "out of memory", 1),
-    ];
-    for (fault, text, status) in faults {
-        assert_eq!(rt; format!(in rt.alloc(); "{fault}")?.as_str(), text);
-        assert_eq!(rt; fault.status(), status);
+    for (fault, text, status) in &FAULTS {
+        is_told(&rt, fault, text, *status)?;
     }
     Ok(())
 }
@@ -319,31 +337,42 @@ fn a_file_that_is_absent_is_not_read(rt: HostRuntime) -> Result<(), Fail> {
     Ok(())
 }
 
+/// Ends the test where this one word names another file, or none.
+fn names_file(rt: &(impl Abort + AllocGlobal), file: &str) -> Result<(), Fail> {
+    let words = [file];
+    let read = read_words(rt.alloc(), &words)?;
+    assert_eq!(rt; read.file, Some(file));
+    Ok(())
+}
+
+fn names_none(alloc: Global) -> Result<bool, Fail> {
+    Ok(read_words(alloc, &[])?.file.is_none())
+}
+
+fn is_bad(alloc: Global, words: &[&str]) -> bool {
+    matches!(read_words(alloc, words), Err(ArgsFault::Bad))
+}
+
+static FILES: [&str; 5] = ["a", "a b-c", "/", "\u{e9}=\u{1f600}", "help"];
+
+static BAD_WORDS: [&[&str]; 7] = [
+    &[""],
+    &["-"],
+    &["--"],
+    &["--help"],
+    &["-h"],
+    &["a", "b"],
+    &["--", "a"],
+];
+
 #[test]
 fn command_lines_are_read(rt: HostRuntime) -> Result<(), Fail> {
-    assert!(rt; read_words(rt.alloc(), &[])?.file.is_none());
-    assert_eq!(rt; read_words(rt.alloc(), &["a"])?.file, Some("a"));
-    assert_eq!(rt; read_words(rt.alloc(), &["a b-c"])?.file, Some("a b-c"));
-    assert_eq!(rt; read_words(rt.alloc(), &["/"])?.file, Some("/"));
-    assert_eq!(rt;
-        read_words(rt.alloc(), &["\u{e9}=\u{1f600}"])?.file,
-        Some("\u{e9}=\u{1f600}")
-    );
-    assert_eq!(rt; read_words(rt.alloc(), &["help"])?.file, Some("help"));
-    let bad: [&[&str]; 7] = [
-        &[""],
-        &["-"],
-        &["--"],
-        &["--help"],
-        &["-h"],
-        &["a", "b"],
-        &["--", "a"],
-    ];
-    for words in bad {
-        match read_words(rt.alloc(), words) {
-            Err(ArgsFault::Bad) => {}
-            _ => return Err(Fail::new("not a bad command line")),
-        }
+    expect(&rt, names_none(rt.alloc())?);
+    for file in &FILES {
+        names_file(&rt, file)?;
+    }
+    for words in &BAD_WORDS {
+        expect(&rt, is_bad(rt.alloc(), words));
     }
     Ok(())
 }

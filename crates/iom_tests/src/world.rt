@@ -1,10 +1,12 @@
-ghost use Rattle.std.specs.Prelude.{◌≡◌, ◌+◌, IfOk, length};
+ghost use Rattle.std.specs.Prelude.{◌≡◌, ◌+◌, ◌≤◌, All, length};
 ghost use Rattle.iom_machine.specs.Machine.{IsEvent};
 
+use crate::expect::{expect, expect_eq};
 use iom_base::{Cause, DeviceId, GrantRights, Mode};
 use iom_machine::{CommandName, DeviceKind, Event, Fetched, Outcome, Sink};
 use iom_world::World;
 use std::alloc::Global;
+use std::process::Abort;
 use std::test::Fail;
 
 /// A sink that takes so many outcomes, and fails at the next.
@@ -50,21 +52,83 @@ fn attach(device: DeviceId) -> Event
     }
 }
 
-/// A world in which device 1 holds frame 5 at page 3.
-fn granted(alloc: Global) -> Result<World, Fail>
-    ensures { IfOk result (λ world. world.events ≡ 3) }
+/// A world of 64 frames. Boxed: of what a test owns in place each later proof would carry every part.
+fn opened(alloc: Global) -> Result<Box<World>, Fail> {
+    let world = World::new(alloc, 64, 1)?;
+    Ok(Box::new(alloc, world)?)
+}
+
+/// What comes of the event; None where too many came before it.
+fn step(world: &mut World, event: &Event) -> Option<Outcome>
+    requires { IsEvent event.now }
 {
-    let mut world = World::new(alloc, 64, 1)?;
-    let grant = Event::Grant {
+    if world.events() > 1000000 {
+        return None;
+    }
+    Some(world.step(event))
+}
+
+/// A world in which device 1 holds frame 5 at page 3.
+fn granted(alloc: Global) -> Result<Box<World>, Fail> {
+    let mut world = opened(alloc)?;
+    step(&mut world, &plug(1));
+    step(&mut world, &attach(1));
+    step(&mut world, &grant());
+    Ok(world)
+}
+
+/// Frame 5 to device 1 at page 3.
+fn grant() -> Event
+    ensures { IsEvent result }
+{
+    Event::Grant {
         device: 1,
         page: 3,
         frame: 5,
         rights: GrantRights::ReadWrite,
-    };
-    world.step(&plug(1));
-    world.step(&attach(1));
-    world.step(&grant);
-    Ok(world)
+    }
+}
+
+/// Whether the outcomes are the same. Those that have bytes aren't compared.
+fn is_same(seen: &Outcome, expected: &Outcome) -> bool {
+    match (seen, expected) {
+        (Outcome::Accepted(seen), Outcome::Accepted(number)) => seen == number,
+        (Outcome::BadSpan, Outcome::BadSpan) => true,
+        (Outcome::Ticket(seen), Outcome::Ticket(ticket)) => seen == ticket,
+        (Outcome::Fetched(seen), Outcome::Fetched(fetched)) => seen == fetched,
+        (Outcome::Fault(seen), Outcome::Fault(cause)) => seen == cause,
+        _ => false,
+    }
+}
+
+/// Ends the test where something else comes of the event.
+fn tells(rt: &impl Abort, world: &mut World, event: Event, expected: Outcome)
+    requires { IsEvent event }
+{
+    match step(world, &event) {
+        Some(seen) => expect(rt, is_same(&seen, &expected)),
+        None => expect(rt, false),
+    }
+}
+
+/// Whether the oldest access of device 1 is a read that gives these bytes.
+fn gives(world: &mut World, expected: &[u8]) -> bool {
+    match step(world, &Event::Commit { device: 1 }) {
+        Some(Outcome::Read(bytes)) => bytes.as_slice() == expected,
+        _ => false,
+    }
+}
+
+/// Whether a poll confirms these tickets.
+fn confirms(world: &mut World, wanted: (u32, u32)) -> bool {
+    match step(world, &Event::Poll) {
+        Some(Outcome::Confirmed { first, last }) => (first, last) == wanted,
+        _ => false,
+    }
+}
+
+fn did(name: CommandName) -> Outcome {
+    Outcome::Fetched(Fetched::Did(name))
 }
 
 /// So many bytes from four below the end of page 3.
@@ -82,13 +146,10 @@ fn read_of(len: u64) -> Event
 #[test]
 fn a_granted_page_is_read(rt: HostRuntime) -> Result<(), Fail> {
     let mut world = granted(rt.alloc())?;
-    assert!(rt; matches!(world.step(&read_of(4)), Outcome::Accepted(1)));
-    assert!(rt; matches!(world.step(&read_of(5)), Outcome::BadSpan));
-    match world.step(&Event::Commit { device: 1 }) {
-        Outcome::Read(bytes) => assert_eq!(rt; bytes.as_slice(), [0, 0, 0, 0].as_slice()),
-        _ => assert!(rt; false),
-    }
-    assert_eq!(rt; world.events(), 6);
+    tells(&rt, &mut world, read_of(4), Outcome::Accepted(1));
+    tells(&rt, &mut world, read_of(5), Outcome::BadSpan);
+    expect(&rt, gives(&mut world, &[0, 0, 0, 0]));
+    expect_eq(&rt, &world.events(), &6);
     Ok(())
 }
 
@@ -96,66 +157,57 @@ fn a_granted_page_is_read(rt: HostRuntime) -> Result<(), Fail> {
 #[test]
 fn a_released_page_is_confirmed_and_served_no_more(rt: HostRuntime) -> Result<(), Fail> {
     let mut world = granted(rt.alloc())?;
-    assert!(rt;
-        matches!(
-            world.step(&Event::Release { device: 1, page: 3 }),
-            Outcome::Ticket(1)
-        )
-    );
-    assert!(rt;
-        matches!(
-            world.step(&Event::Fetch),
-            Outcome::Fetched(Fetched::Did(CommandName::IotinvalVma))
-        )
-    );
-    assert!(rt;
-        matches!(
-            world.step(&Event::Fetch),
-            Outcome::Fetched(Fetched::Did(CommandName::IofenceC))
-        )
-    );
-    assert!(rt;
-        matches!(
-            world.step(&Event::Poll),
-            Outcome::Confirmed { first: 1, last: 1 }
-        )
-    );
-    assert!(rt;
-        matches!(
-            world.step(&read_of(4)),
-            Outcome::Fault(Cause::ReadPageFault)
-        )
-    );
+    let release = Event::Release { device: 1, page: 3 };
+    tells(&rt, &mut world, release, Outcome::Ticket(1));
+    tells(&rt, &mut world, Event::Fetch, did(CommandName::IotinvalVma));
+    tells(&rt, &mut world, Event::Fetch, did(CommandName::IofenceC));
+    expect(&rt, confirms(&mut world, (1, 1)));
+    let fault = Outcome::Fault(Cause::ReadPageFault);
+    tells(&rt, &mut world, read_of(4), fault);
     Ok(())
+}
+
+/// What is left of a sink's room once it took the outcomes of the events, and whether it took them all.
+fn left(world: &mut World, events: &[Event], room: u32) -> (u32, bool)
+    requires count { length events.now ≤ 16 }
+    requires events { All IsEvent events.now }
+{
+    let mut sink = Room { left: room };
+    let done = world.events() < 1000000 && world.run(events, &mut sink).is_ok();
+    (sink.left, done)
 }
 
 /// A sink with room for two outcomes fails at the third, and the event after it doesn't happen.
 #[test]
 fn a_run_stops_where_the_sink_fails(rt: HostRuntime) -> Result<(), Fail> {
-    let mut world = World::new(rt.alloc(), 64, 1)?;
+    let mut world = opened(rt.alloc())?;
     let events = [Event::Fetch, Event::Poll, Event::Fetch, Event::Poll];
-    let mut sink = Room { left: 2 };
-    assert!(rt; world.run(&events, &mut sink).is_err());
-    assert_eq!(rt; world.events(), 3);
-    let mut wide = Room { left: 9 };
-    assert!(rt; world.run(&events[..2], &mut wide).is_ok());
-    assert_eq!(rt; wide.left, 7);
-    assert_eq!(rt; world.events(), 5);
+    expect_eq(&rt, &left(&mut world, &events, 2), &(0, false));
+    expect_eq(&rt, &world.events(), &3);
+    expect_eq(&rt, &left(&mut world, &events[..2], 9), &(7, true));
+    expect_eq(&rt, &world.events(), &5);
     Ok(())
+}
+
+/// Frames, levels of the directory, and whether there is a world of this size.
+static SIZES: [(u32, u8, bool); 6] = [
+    (64, 1, true),
+    (4096, 3, true),
+    (63, 1, false),
+    (4097, 1, false),
+    (64, 0, false),
+    (64, 4, false),
+];
+
+fn is_size(alloc: Global, frames: u32, levels: u8) -> bool {
+    World::new(alloc, frames, levels).is_ok()
 }
 
 /// Sizes of memory and levels of the directory that there are not.
 #[test]
 fn a_world_has_64_to_4096_frames_and_1_to_3_levels(rt: HostRuntime) {
-    for (frames, levels, good) in [
-        (64, 1, true),
-        (4096, 3, true),
-        (63, 1, false),
-        (4097, 1, false),
-        (64, 0, false),
-        (64, 4, false),
-    ] {
-        assert_eq!(rt; World::new(rt.alloc(), frames, levels).is_ok(), good);
+    for (frames, levels, good) in &SIZES {
+        expect_eq(&rt, &is_size(rt.alloc(), *frames, *levels), good);
     }
 }
 
@@ -178,19 +230,31 @@ impl Sink for Kept {
     }
 }
 
+/// Which of the events are refused.
+fn refused_of(alloc: Global, world: &mut World, events: &[Event]) -> Result<Vec<bool>, Fail>
+    requires count { length events.now ≤ 16 }
+    requires events { All IsEvent events.now }
+{
+    let mut kept = Kept {
+        refused: Vec::new(alloc),
+    };
+    if world.events() < 1000000 {
+        world.run(events, &mut kept)?;
+    }
+    Ok(kept.refused)
+}
+
 /// A sink over a list takes the outcome of each event, in order.
 #[test]
 fn a_list_takes_each_outcome(rt: HostRuntime) -> Result<(), Fail> {
-    let mut world = World::new(rt.alloc(), 64, 1)?;
+    let mut world = opened(rt.alloc())?;
     let device = 1;
     let events = [attach(device), plug(device), plug(device), attach(device)];
-    let mut kept = Kept {
-        refused: Vec::new(rt.alloc()),
-    };
-    world.run(&events, &mut kept)?;
-    assert_eq!(rt;
-        kept.refused.as_slice(),
-        [true, false, true, false].as_slice()
+    let refused = refused_of(rt.alloc(), &mut world, &events)?;
+    expect_eq(
+        &rt,
+        &refused.as_slice(),
+        &[true, false, true, false].as_slice(),
     );
     Ok(())
 }
