@@ -12,7 +12,9 @@ use Rattle.iom_ledger.specs.RowChanges.{SetsRow}
 use Rattle.iom_ledger.specs.Places.{IsPlaceOf}
 
 -- a device that none of these is
-pub absent : (devices : List DevicePages) (device : ℕ) → ((k : ℕ) (other : DevicePages) → k < length devices → slice_get devices k ≡ Some other → other.device ≢ device) → pages_in devices device ≡ None
+pub absent : (devices : List DevicePages) (device : ℕ)
+    → ((k : ℕ) (other : DevicePages) → k < length devices → slice_get devices k ≡ Some other → other.device ≢ device)
+    → pages_in devices device ≡ None
 absent [] device none = refl
 absent (first ∷ others) device none = elim (eqb_tells first.device device) [
   | inl e ↦ absurd (none 0 first (omega arith) refl e.1)
