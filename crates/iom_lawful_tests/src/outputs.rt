@@ -1,9 +1,47 @@
+ghost use Rattle.std.specs.Prelude.{IfSome};
+ghost use Rattle.iom_script.specs.Grammar.{IsWorldSize};
+
 use iom_lawful::{Found, judge_output};
-use iom_script::LineBuffer;
+use iom_script::{LineBuffer, Script};
+use std::process::Abort;
 use std::test::Fail;
 
+// What a test expects is a call: a comparison in place is a branch that each later proof would carry.
+
+/// Ends the test where the judge finds something else of the output.
+fn is_found(
+    rt: &(impl Abort + AllocGlobal),
+    printed: &mut LineBuffer,
+    script: &Script,
+    output: &str,
+    expected: Found,
+) -> Result<(), Fail>
+    requires { IfSome script.now.world IsWorldSize }
+{
+    let found = judge_output(rt.alloc(), printed, script, output)?;
+    assert_eq!(rt; found, expected, "at {output}");
+    Ok(())
+}
+
+/// Ends the test where the judge finds something else of an output of the script than its row says. All of them begin
+/// with the same lines.
+fn are_found(
+    rt: &(impl Abort + AllocGlobal),
+    script: &[u8],
+    first: &str,
+    rows: &[(&str, Found)],
+) -> Result<(), Fail> {
+    let script = iom_script::parse(rt.alloc(), script)?;
+    let mut printed = LineBuffer::new(rt.alloc())?;
+    for (later, found) in rows {
+        let output = format!(in rt.alloc(); "{first}{later}")?;
+        is_found(rt, &mut printed, &script, output.as_str(), *found)?;
+    }
+    Ok(())
+}
+
 /// Each form of a line.
-const LINES: [&str; 25] = [
+static LINES: [&str; 25] = [
     "ok",
     "refused 12 TooManyPending",
     "ticket 4294967295",
@@ -32,7 +70,7 @@ const LINES: [&str; 25] = [
 ];
 
 /// Lines that tell no outcome.
-const NO_LINES: [&str; 27] = [
+static NO_LINES: [&str; 27] = [
     "",
     "Ok",
     "ok ",
@@ -65,28 +103,43 @@ const NO_LINES: [&str; 27] = [
 /// A script of one event, of which each line of an outcome is read, though most aren't lawful.
 const POLL: &[u8] = b"world 64 1\npoll\n";
 
-#[test]
-fn each_form_of_a_line_is_read_and_no_other(rt: HostRuntime) -> Result<(), Fail> {
+/// Ends the test where the line is read, and should not be, or isn't, and should.
+fn is_read(
+    rt: &(impl Abort + AllocGlobal),
+    printed: &mut LineBuffer,
+    script: &Script,
+    line: &str,
+    expected: bool,
+) -> Result<(), Fail>
+    requires { IfSome script.now.world IsWorldSize }
+{
+    let output = format!(in rt.alloc(); "ok\n{line}\n")?;
+    let found = judge_output(rt.alloc(), printed, script, output.as_str())?;
+    assert_eq!(rt; found != Found::Unread { line: 2 }, expected, "at {line}");
+    Ok(())
+}
+
+/// Ends the test where that is so of one of the lines.
+fn are_read(rt: &(impl Abort + AllocGlobal), lines: &[&str], expected: bool) -> Result<(), Fail> {
     let script = iom_script::parse(rt.alloc(), POLL)?;
     let mut printed = LineBuffer::new(rt.alloc())?;
-    for line in LINES {
-        let output = format!(in rt.alloc(); "ok\n{line}\n")?;
-        let found = judge_output(rt.alloc(), &mut printed, &script, output.as_str())?;
-        assert!(rt; found != Found::Unread { line: 2 }, "at {line}");
-    }
-    for line in NO_LINES {
-        let output = format!(in rt.alloc(); "ok\n{line}\n")?;
-        let found = judge_output(rt.alloc(), &mut printed, &script, output.as_str())?;
-        assert!(rt; found == Found::Unread { line: 2 }, "at {line}");
+    for line in lines {
+        is_read(rt, &mut printed, &script, line, expected)?;
     }
     Ok(())
+}
+
+#[test]
+fn each_form_of_a_line_is_read_and_no_other(rt: HostRuntime) -> Result<(), Fail> {
+    are_read(&rt, &LINES, true)?;
+    are_read(&rt, &NO_LINES, false)
 }
 
 const SCRIPT: &[u8] =
     b"world 64 1\ndevice 000001 raw\nattach 000001 first\ngrant 000001 3 5 rw\nread 000001 0x3ffc 4\n";
 
 /// Outputs of that script, each with what is found of it.
-const OUTPUTS: [(&str, Found); 8] = [
+static OUTPUTS: [(&str, Found); 8] = [
     ("ok\nok\nok\nok\naccepted 1\n", Found::Lawful),
     (
         "busy\nok\nok\nok\naccepted 1\n",
@@ -113,7 +166,7 @@ const DETACHING: &[u8] =
     detach 000001\npoll\nfree 57\nfree 58\nattach 000001 first\nfree 57\nfree 56\n";
 
 /// Outputs of that script, each with what is found of it.
-const DETACHES: [(&str, Found); 3] = [
+static DETACHES: [(&str, Found); 3] = [
     (
         "ok\nok\nok\nfree no\nfree no\nfree yes\nticket 1\nconfirmed 1-1\nfree yes\nfree no\nok\nfree no\nfree yes\n",
         Found::Lawful,
@@ -137,7 +190,7 @@ const BOTH: &[u8] =
     commit 000001\ncommit 000001\npeek 0x5020 1\npeek 0x6020 1\n";
 
 /// What its lines from the first commit on may print, each with what is found of it.
-const BOTHS: [(&str, Found); 8] = [
+static BOTHS: [(&str, Found); 8] = [
     (
         "read 07\nticket 1\nconfirmed -\nread 00\nwrote 1\nbytes 00\nbytes 09\n",
         Found::Lawful,
@@ -175,21 +228,12 @@ const BOTHS: [(&str, Found); 8] = [
     ),
 ];
 
+/// What its lines before that print.
+const BEFORE_BOTHS: &str = "ok\nok\nok\nok\nok\nok\naccepted 1\naccepted 2\naccepted 3\n";
+
 #[test]
 fn accesses_in_both_stages_are_followed(rt: HostRuntime) -> Result<(), Fail> {
-    let script = iom_script::parse(rt.alloc(), BOTH)?;
-    let mut printed = LineBuffer::new(rt.alloc())?;
-    for (later, found) in BOTHS {
-        let output = format!(in rt.alloc();
-            "ok\nok\nok\nok\nok\nok\naccepted 1\naccepted 2\naccepted 3\n{later}"
-        )?;
-        assert_eq!(rt;
-            judge_output(rt.alloc(), &mut printed, &script, output.as_str())?,
-            found,
-            "at {later}"
-        );
-    }
-    Ok(())
+    are_found(&rt, BOTH, BEFORE_BOTHS, &BOTHS)
 }
 
 /// Three writes, each of which may be on four frames: 64 ways, of which 32 are followed.
@@ -199,7 +243,7 @@ const WRITES: &[u8] =
     commit 000001\ncommit 000001\ncommit 000001\npeek 0x5010 1\npeek 0x8010 1\n";
 
 /// What its last two lines may print, each with what is found of it.
-const WRITTEN: [(&str, Found); 3] = [
+static WRITTEN: [(&str, Found); 3] = [
     ("bytes 01\nbytes 00\n", Found::Lawful),
     // none of those that are followed; one of the others
     ("bytes 00\nbytes 01\n", Found::Undecided { line: 15 }),
@@ -207,47 +251,21 @@ const WRITTEN: [(&str, Found); 3] = [
     ("bytes 02\nbytes 00\n", Found::Undecided { line: 14 }),
 ];
 
+/// What its lines before that print.
+const BEFORE_WRITTEN: &str =
+    "ok\nok\nok\nok\nok\nok\nok\naccepted 1\naccepted 2\naccepted 3\nwrote 1\nwrote 1\nwrote 1\n";
+
 #[test]
 fn too_many_ways_are_not_decided(rt: HostRuntime) -> Result<(), Fail> {
-    let script = iom_script::parse(rt.alloc(), WRITES)?;
-    let mut printed = LineBuffer::new(rt.alloc())?;
-    for (later, found) in WRITTEN {
-        let output = format!(in rt.alloc();
-            "ok\nok\nok\nok\nok\nok\nok\naccepted 1\naccepted 2\naccepted 3\nwrote 1\nwrote 1\nwrote 1\n{later}"
-        )?;
-        assert_eq!(rt;
-            judge_output(rt.alloc(), &mut printed, &script, output.as_str())?,
-            found,
-            "at {later}"
-        );
-    }
-    Ok(())
+    are_found(&rt, WRITES, BEFORE_WRITTEN, &WRITTEN)
 }
 
 #[test]
 fn outputs_of_a_detach_are_judged(rt: HostRuntime) -> Result<(), Fail> {
-    let script = iom_script::parse(rt.alloc(), DETACHING)?;
-    let mut printed = LineBuffer::new(rt.alloc())?;
-    for (output, found) in DETACHES {
-        assert_eq!(rt;
-            judge_output(rt.alloc(), &mut printed, &script, output)?,
-            found,
-            "at {output}"
-        );
-    }
-    Ok(())
+    are_found(&rt, DETACHING, "", &DETACHES)
 }
 
 #[test]
 fn outputs_are_judged(rt: HostRuntime) -> Result<(), Fail> {
-    let script = iom_script::parse(rt.alloc(), SCRIPT)?;
-    let mut printed = LineBuffer::new(rt.alloc())?;
-    for (output, found) in OUTPUTS {
-        assert_eq!(rt;
-            judge_output(rt.alloc(), &mut printed, &script, output)?,
-            found,
-            "at {output}"
-        );
-    }
-    Ok(())
+    are_found(&rt, SCRIPT, "", &OUTPUTS)
 }
