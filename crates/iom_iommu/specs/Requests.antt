@@ -18,7 +18,7 @@ use Rattle.iom_iommu.specs.declared.reply.Reply.{Reply}
 use Rattle.iom_iommu.specs.declared.reply.Reply.TheVariants.{Accepted, Busy, Fault, BadSpan}
 use Rattle.iom_stage_walk.specs.declared.walked.WalkFault.{WalkFault}
 use Rattle.iom_tlb.specs.declared.trans_cache.TransCache.{Ghosts as Cache}
-use Rattle.iom_iommu.specs.Parts.{registers_of, contexts_of, translations_of, flights_of, stock_of, frames_of}
+use Rattle.iom_iommu.specs.Parts.{registers_of, contexts_of, translations_of, flights_of, stock_of, slots_of, opened_of, frames_of}
 use Rattle.iom_iommu.specs.Service.{Serves, KeepsContext}
 
 -- the access of so many bytes from an address on, with the bytes of a write
@@ -35,6 +35,8 @@ pub record AcceptsRequest {C : Type 0} {c : Cache C} (memory : List (List ℕ)) 
   pub contexts : KeepsContext memory (registers_of old) (contexts_of old) id (contexts_of new)
   pub registers : registers_of new ≡ registers_of old
   pub stock : stock_of new ≡ stock_of old
+  pub slots : slots_of new ≡ slots_of old
+  pub opened : opened_of new ≡ opened_of old
   pub frames : frames_of new ≡ frames_of old
 
 -- what is recorded of an untranslated request that faults (section 3.2, "Fault/Event-Queue (FQ)"): of its device's number the 24 bits that DID has
@@ -57,6 +59,8 @@ pub record RefusesRequest {C : Type 0} {c : Cache C} (memory : List (List ℕ)) 
   pub recorded : PutsRecord memory (registers_of old) (record_of (request_of id access) (fault_of fault)) answer new_memory (registers_of new)
   pub flights : flights_of new ≡ flights_of old
   pub stock : stock_of new ≡ stock_of old
+  pub slots : slots_of new ≡ slots_of old
+  pub opened : opened_of new ≡ opened_of old
   pub frames : frames_of new ≡ frames_of old
 
 -- A DEVICE ASKS for an access: the first that applies is its answer
@@ -78,4 +82,6 @@ pub record CommitsOldest {C : Type 0} {c : Cache C} (memory : List (List ℕ)) (
   pub translations : new.translations ≡ old.translations
   pub registers : registers_of new ≡ registers_of old
   pub stock : stock_of new ≡ stock_of old
+  pub slots : slots_of new ≡ slots_of old
+  pub opened : opened_of new ≡ opened_of old
   pub frames : frames_of new ≡ frames_of old

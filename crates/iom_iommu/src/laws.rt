@@ -6,8 +6,8 @@ ghost use Rattle.iom_command_queue.specs.declared.command.Command.{Command};
 ghost use Rattle.iom_command_queue.specs.Waiting.{commands_in};
 ghost use Rattle.iom_iommu.specs.declared.fetched.Fetched.{Fetched as Answer};
 ghost use Rattle.iom_iommu.specs.declared.iommu.Iommu.{Iommu};
-ghost use Rattle.iom_iommu.specs.Parts.{registers_of};
-ghost use Rattle.iom_iommu.specs.Fetches.{FetchesCommand, AreAlike, store_of, IsStoredIn, IsOffRing, LeavesFaultQueue};
+ghost use Rattle.iom_iommu.specs.Parts.{registers_of, stock_of};
+ghost use Rattle.iom_iommu.specs.Fetches.{FetchesCommand, AreAlike, after_none, store_of, IsStoredIn, IsOffRing, LeavesFaultQueue};
 
 use crate::fetched::Fetched;
 use iom_command_queue::QueueEntry;
@@ -42,12 +42,12 @@ pub fn finds_empty<C: TransCache>()
 {}
 
 /// `Stopped` comes exactly where commands aren't processed afterwards. Where they weren't before, nothing
-/// changes.
+/// changes, but that this fetch opened no request.
 pub fn stops<C: TransCache>()
     ensures after { (m n : List (List ℕ)) (i j : Iommu C C.TransCache) (answer : Answer) → FetchesCommand m i answer n j
         → (answer ≡ Fetched.Stopped) ↔ (is_processing_commands (registers_of j) ≡ false) }
     ensures stays { (m n : List (List ℕ)) (i j : Iommu C C.TransCache) (answer : Answer) → FetchesCommand m i answer n j
-        → is_processing_commands (registers_of i) ≡ false → (n ≡ m) × (j ≡ i) }
+        → is_processing_commands (registers_of i) ≡ false → (n ≡ m) × (j ≡ after_none i (registers_of i) (stock_of i)) }
 {}
 
 /// Each frame but that of the stored word is as it was, and there are as many.

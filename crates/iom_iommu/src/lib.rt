@@ -20,6 +20,7 @@
 mod building;
 mod fetch;
 mod fetched;
+mod invalidations;
 mod iommu;
 pub mod laws;
 mod reply;
