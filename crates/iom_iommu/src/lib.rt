@@ -18,15 +18,19 @@
 #![tactic(auto)]
 
 mod building;
+mod contexts;
 mod fetch;
 mod fetched;
 mod invalidations;
 mod iommu;
 pub mod laws;
+mod questions;
 mod reply;
 mod reports;
 mod requests;
 mod service;
+mod translated;
+mod translations;
 
 pub use fetched::Fetched;
 pub use iommu::Iommu;
