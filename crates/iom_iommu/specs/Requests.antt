@@ -74,8 +74,8 @@ pub record Refuses {C : Type 0} {c : Cache C} (Served : Result Translation WalkF
   pub frames : frames_of new ≡ frames_of old
 
 -- the first that applies is its answer
-abbrev pub Answers : {C : Type 0} {c : Cache C} → (Result Translation WalkFault → Translations → Type 0) → Transaction → List (List ℕ) → Iommu C c → ℕ → Access → Reply
-    → List (List ℕ) → Iommu C c → Type 0
+abbrev pub Answers : {C : Type 0} {c : Cache C} → (Result Translation WalkFault → Translations → Type 0) → Transaction → List (List ℕ) → Iommu C c → ℕ
+    → Access → Reply → List (List ℕ) → Iommu C c → Type 0
 Answers Served transaction memory old id access BadSpan new_memory new = (¬ IsWithinPage access) × (new ≡ old) × (new_memory ≡ memory)
 Answers Served transaction memory old id access Busy new_memory new =
     IsWithinPage access × IsFull (flights_of old) id × (new ≡ old) × (new_memory ≡ memory)

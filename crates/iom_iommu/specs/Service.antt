@@ -86,12 +86,14 @@ Walks sure Reaches Stops key old (Ok translation) new =
 Walks sure Reaches Stops key old (Err fault) new = Stops fault × Stays old new
 
 -- by a cached translation, if there is one; else by the walk
-abbrev pub LooksOrWalks : Bool → Option Translation → (Walked → Type 0) → (WalkFault → Type 0) → Key → Translations → Result Translation WalkFault → Translations → Type 0
+abbrev pub LooksOrWalks : Bool → Option Translation → (Walked → Type 0) → (WalkFault → Type 0) → Key → Translations → Result Translation WalkFault
+    → Translations → Type 0
 LooksOrWalks sure (Some cached) Reaches Stops key old answer new = (answer ≡ Ok cached) × Stays old new
 LooksOrWalks sure None Reaches Stops key old answer new = Walks sure Reaches Stops key old answer new
 
 -- by the stages of a context: where both are Bare, the address is that of memory, and nothing is cached
-abbrev pub Translates : Bool → FirstStage → SecondStage → Context → List (List ℕ) → ℕ → AccessKind → Translations → Result Translation WalkFault → Translations → Type 0
+abbrev pub Translates : Bool → FirstStage → SecondStage → Context → List (List ℕ) → ℕ → AccessKind → Translations → Result Translation WalkFault
+    → Translations → Type 0
 Translates sure Bare second.Bare context memory address kind old answer new = (answer ≡ own_page memory address kind) × Stays old new
 Translates sure (Sv39 root) second.Bare context memory address kind old answer new =
     LooksOrWalks sure (cached_for (old (first_key context address)) kind)
@@ -114,7 +116,8 @@ ServesBy sure (Ok context) memory address kind old answer new =
 ServesBy sure (Err cause) memory address kind old answer new = (answer ≡ Err (plain cause)) × Stays old new
 
 -- by ddtp's mode: no transaction is allowed, or none is translated, or each by its context
-abbrev pub ServesIn : Bool → DirectoryMode → Result Context Cause → List (List ℕ) → ℕ → AccessKind → Translations → Result Translation WalkFault → Translations → Type 0
+abbrev pub ServesIn : Bool → DirectoryMode → Result Context Cause → List (List ℕ) → ℕ → AccessKind → Translations → Result Translation WalkFault
+    → Translations → Type 0
 ServesIn sure mode.Off found memory address kind old answer new = (answer ≡ Err (plain AllInboundDisallowed)) × Stays old new
 ServesIn sure mode.Bare found memory address kind old answer new = (answer ≡ own_page memory address kind) × Stays old new
 ServesIn sure mode.OneLevel found memory address kind old answer new = ServesBy sure found memory address kind old answer new
@@ -123,7 +126,8 @@ ServesIn sure mode.ThreeLevels found memory address kind old answer new = Serves
 
 -- THE ANSWER to an access of a device, with the translations that are cached before and after: its translation, or the fault for which it has
 -- none. Whether the cache is sure says whether a keep may be refused
-abbrev pub Serves : Bool → List (List ℕ) → Registers → Content ℕ Context → ℕ → ℕ → AccessKind → Translations → Result Translation WalkFault → Translations → Type 0
+abbrev pub Serves : Bool → List (List ℕ) → Registers → Content ℕ Context → ℕ → ℕ → AccessKind → Translations → Result Translation WalkFault
+    → Translations → Type 0
 Serves sure memory r contexts id address kind old answer new =
     ServesIn sure (directory_mode r) (context_for memory r contexts id) memory address kind old answer new
 
