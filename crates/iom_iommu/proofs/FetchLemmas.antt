@@ -1,5 +1,5 @@
 -- What a fetch does to the list of the commands that wait and to the frames of memory, and that it can answer in one way alone
-use Rattle.std.proofs.Common.{◌≡◌, ◌≢◌, ◌/◌, ◌%◌, ◌<◌, ◌∙◌, ℕ, Bool, true, false, List, [], ◌∷◌, length, slice_get, Option, Some, None, refl, sym, ap, subst, if◌then◌else◌}
+use Rattle.std.proofs.Common.{arith, ◌≡◌, ◌≢◌, ◌+◌, ◌/◌, ◌%◌, ◌<◌, ◌≤◌, ◌∙◌, ℕ, Bool, true, false, List, [], ◌∷◌, length, slice_get, Option, Some, None, refl, sym, ap, subst, if◌then◌else◌}
 use Rattle.std.specs.Prelude.{slice_set}
 use Rattle.std.specs.Option.{option_map_or}
 use Rattle.std.proofs.lemmas.List.{length-set}
@@ -10,17 +10,19 @@ use Rattle.iom_phys_mem.proofs.Stores.{frame_elsewhere}
 use Rattle.iom_registers.specs.declared.registers.Registers.{Registers}
 use Rattle.iom_registers.specs.Queues.{command_entries, command_head, command_tail, is_processing_commands, with_command_done, with_fence_w_ip, with_cqmf, with_cmd_ill}
 use Rattle.iom_command_queue.specs.declared.command.Command.{Command}
+use Rattle.iom_command_queue.specs.declared.command.Command.TheVariants.{IotinvalVma, IotinvalGvma, IofenceC, IodirInvalDdt, AtsInval}
 use Rattle.iom_command_queue.specs.declared.command.FenceStore.{FenceStore}
 use Rattle.iom_command_queue.specs.declared.entry.QueueEntry.{QueueEntry}
 use Rattle.iom_command_queue.specs.declared.entry.QueueEntry.TheVariants as stands
+use Rattle.iom_command_queue.specs.OpenSlots.{OpenSlots}
 use Rattle.iom_command_queue.specs.Waiting.{commands_in, first_entry, place_of}
 use Rattle.iom_command_queue.proofs.Waits.{first_is, none_is, drops, stays_by_frames, same_ring}
 use Rattle.iom_iommu.specs.declared.iommu.Iommu.{Iommu}
 use Rattle.iom_iommu.specs.declared.fetched.Fetched.{Fetched}
 use Rattle.iom_iommu.specs.declared.fetched.Fetched.TheVariants.{Did, Waiting, Empty, Stopped}
 use Rattle.iom_tlb.specs.declared.trans_cache.TransCache.{Ghosts as Cache}
-use Rattle.iom_iommu.specs.Parts.{registers_of, stock_of}
-use Rattle.iom_iommu.specs.Fetches.{after_none, stock_at, IsLeft, store_of, asks_for_interrupt, with_store, IsStoredIn, IsOffRing, head_entry, WaitsAt, StopsAtEntry, StopsFetching, FetchesCommand, LeavesFaultQueue}
+use Rattle.iom_iommu.specs.Parts.{registers_of, stock_of, slots_of}
+use Rattle.iom_iommu.specs.Fetches.{counted_in, slots_by, after_none, stock_at, IsLeft, store_of, asks_for_interrupt, with_store, IsStoredIn, IsOffRing, head_entry, WaitsAt, StopsAtEntry, StopsFetching, FetchesCommand, LeavesFaultQueue}
 
 -- something stands at the head, so head and tail aren't the same
 pub apart : (m : List (List ℕ)) (r : Registers) (entry : QueueEntry) → head_entry m r ≡ Some entry → command_head r ≢ command_tail r
@@ -208,3 +210,31 @@ module _ {C : Type 0} {c : Cache C} (i : Iommu C c) where
     )
     by Empty f = f
     by Stopped f = (stops_for m (is_processing_commands (registers_of i)) j f.0, f.1)
+
+-- ONE NUMBER at most is given to an invalidation request
+last_by : (command : Command) (slots : OpenSlots) → (slots_by command slots).last ≤ slots.last + 1
+last_by (IotinvalVma gscid pscid page) slots = omega arith
+last_by (IotinvalGvma gscid page) slots = omega arith
+last_by (IofenceC store wsi pr pw) slots = omega arith
+last_by (IodirInvalDdt device) slots = omega arith
+last_by (AtsInval device range) slots = omega arith
+
+module _ {C : Type 0} {c : Cache C} (m : List (List ℕ)) (i j : Iommu C c) where
+  same_last : (r : Registers) (stock : Option ℕ) → j ≡ after_none i r stock → (slots_of j).last ≤ (slots_of i).last + 1
+  same_last r stock left = subst (λ x. (slots_of x).last ≤ (slots_of i).last + 1) (sym left) (omega arith)
+
+  stops_at_last : (entry : Option QueueEntry) → StopsAtEntry m entry i j → (slots_of j).last ≤ (slots_of i).last + 1
+  stops_at_last None s = absurd s
+  stops_at_last (Some stands.Outside) s = same_last (with_cqmf (registers_of i)) (stock_of i) s
+  stops_at_last (Some (stands.Illegal reason)) s = same_last (with_cmd_ill (registers_of i)) (stock_of i) s
+  stops_at_last (Some (stands.Command command)) s = same_last (with_cqmf (registers_of i)) (Some (counted_in i)) s.2
+
+  stops_last : (on : Bool) → StopsFetching on m i j → (slots_of j).last ≤ (slots_of i).last + 1
+  stops_last true s = stops_at_last (head_entry m (registers_of i)) s
+  stops_last false s = same_last (registers_of i) (stock_of i) s
+
+  pub opens_one : (n : List (List ℕ)) (answer : Fetched) → FetchesCommand m i answer n j → (slots_of j).last ≤ (slots_of i).last + 1
+  opens_one n (Did command) f = subst (λ x. x.last ≤ (slots_of i).last + 1) (sym f.5.slots) (last_by command (slots_of i))
+  opens_one n Waiting f = same_last (registers_of i) (stock_at (head_entry m (registers_of i)) i) f.3
+  opens_one n Empty f = same_last (registers_of i) (stock_of i) f.3
+  opens_one n Stopped f = stops_last (is_processing_commands (registers_of i)) f.0
