@@ -9,7 +9,7 @@ ghost use Rattle.iom_iommu.specs.Questions.{AnswersQuestion, RecordsUnless, is_p
 
 use crate::contexts::find_ats_context;
 use crate::iommu::Iommu;
-use crate::reports::report;
+use crate::reports::{faulted, report};
 use crate::translations::translate_by;
 use iom_base::{AccessKind, Cause, DeviceId, PAGE_SIZE};
 use iom_fabric::{PageNumber, Translation};
@@ -51,14 +51,8 @@ fn report_question(
     ensures frames { length memory.new ≡ length memory.old }
 {
     if !is_page_fault(fault.cause) {
-        report(
-            memory,
-            registers,
-            device,
-            Transaction::AtsRequest,
-            address,
-            fault,
-        );
+        let request = faulted(device, Transaction::AtsRequest, address);
+        report(memory, registers, request, fault);
     }
 }
 

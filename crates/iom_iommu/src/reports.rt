@@ -1,5 +1,5 @@
 // Faults are reported to software (IOMMU specification, section 3.2, "Fault/Event-Queue (FQ)").
-ghost use Rattle.std.specs.Prelude.{◌≡◌, length};
+ghost use Rattle.std.specs.Prelude.{◌≡◌, ◌<◌, ◌^◌, length};
 ghost use Rattle.iom_fault_queue.specs.Calls.{PutsRecord};
 ghost use Rattle.iom_fault_queue.specs.Records.{record_of};
 ghost use Rattle.iom_iommu.specs.Requests.{faulted_of, fault_of};
@@ -13,24 +13,30 @@ use iom_stage_walk::WalkFault;
 /// How many device numbers a record can tell: DID has 24 bits.
 const DEVICE_IDS: DeviceId = 1 << 24;
 
-/// Puts the record of a transaction's fault into the fault queue.
-pub(crate) fn report(
-    memory: &mut Memory,
-    registers: &mut Registers,
-    device: DeviceId,
-    transaction: Transaction,
-    address: u64,
-    fault: WalkFault,
-) -> Put
-    ensures recorded { PutsRecord memory.old registers.old
-        (record_of (faulted_of device transaction address) (fault_of fault)) result memory.new registers.new }
-    ensures frames { length memory.new ≡ length memory.old }
+/// What is recorded of a transaction that faults.
+pub(crate) fn faulted(device: DeviceId, transaction: Transaction, address: u64) -> FaultedRequest
+    ensures value { result ≡ faulted_of device transaction address }
+    ensures fits { result.device < 2 ^ 24 }
 {
-    let request = FaultedRequest {
+    FaultedRequest {
         device: device % DEVICE_IDS,
         transaction,
         address,
-    };
+    }
+}
+
+/// Puts the record of its fault into the fault queue.
+pub(crate) fn report(
+    memory: &mut Memory,
+    registers: &mut Registers,
+    request: FaultedRequest,
+    fault: WalkFault,
+) -> Put
+    requires { request.device < 2 ^ 24 }
+    ensures recorded { PutsRecord memory.old registers.old
+        (record_of request (fault_of fault)) result memory.new registers.new }
+    ensures frames { length memory.new ≡ length memory.old }
+{
     let fault = Fault {
         cause: fault.cause,
         guest_address: fault.gpa,

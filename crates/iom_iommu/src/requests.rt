@@ -11,7 +11,7 @@ ghost use Rattle.iom_iommu.specs.Requests.{access_of, AnswersRequest, CommitsOld
 
 use crate::iommu::Iommu;
 use crate::reply::Reply;
-use crate::reports::report;
+use crate::reports::{faulted, report};
 use crate::service::serve;
 use iom_base::{AccessKind, DeviceId, Span};
 use iom_fault_queue::Transaction;
@@ -95,15 +95,8 @@ impl<C: TransCache> Iommu<C> {
                 translation.frame,
             )),
             Err(fault) => {
-                let transaction = Transaction::untranslated(kind);
-                report(
-                    memory,
-                    &mut self.registers,
-                    device,
-                    transaction,
-                    address,
-                    fault,
-                );
+                let request = faulted(device, Transaction::untranslated(kind), address);
+                report(memory, &mut self.registers, request, fault);
                 Reply::Fault(fault.cause)
             }
         }

@@ -11,7 +11,7 @@ ghost use Rattle.iom_iommu.specs.Translated.{AnswersTranslated, physical_page};
 use crate::contexts::find_ats_context;
 use crate::iommu::Iommu;
 use crate::reply::Reply;
-use crate::reports::report;
+use crate::reports::{faulted, report};
 use crate::requests::accept;
 use crate::translations::{own_page, plain};
 use iom_base::{AccessKind, DeviceId, Span};
@@ -88,15 +88,8 @@ impl<C: TransCache> Iommu<C> {
                 translation.frame,
             )),
             Err(fault) => {
-                let transaction = Transaction::translated(kind);
-                report(
-                    memory,
-                    &mut self.registers,
-                    device,
-                    transaction,
-                    address,
-                    fault,
-                );
+                let request = faulted(device, Transaction::translated(kind), address);
+                report(memory, &mut self.registers, request, fault);
                 Reply::Fault(fault.cause)
             }
         }
