@@ -1,4 +1,4 @@
--- The frames of all cached translations stay among those of memory, over each call of the cache and over a request that is served
+-- The frames of all cached translations stay among those of memory, over each call of the cache and over a request or a question that is served
 use Rattle.std.proofs.Common.{◌≡◌, ◌<◌, inl, inr, ℕ, Bool, List, Option, Some, Result, Ok, Err, IfOk, None, sym, subst}
 use Rattle.iom_base.specs.declared.access.AccessKind.{AccessKind}
 use Rattle.iom_base.specs.declared.cause.Cause.{Cause}
@@ -21,7 +21,7 @@ use Rattle.iom_tlb.specs.declared.trans_cache.Translation.{Translation}
 use Rattle.iom_tlb.specs.Content.{Key, Content, HasNothing, Stays, Keeps, Drops}
 use Rattle.iom_tlb.proofs.ContentLemmas.{found_before_look, found_by_keep, found_before_drop}
 use Rattle.iom_iommu.specs.Cached.{AreTranslationsIn}
-use Rattle.iom_iommu.specs.Service.{Walks, LooksOrWalks, Translates, ServesBy, ServesIn, Serves, cached_frame, first_key, second_key, both_key, context_for}
+use Rattle.iom_iommu.specs.Service.{Walks, LooksOrWalks, Translates, ServesBy, ServesIn, Serves, cached_for, translation_of, first_key, second_key, both_key, context_for}
 
 pub none_outside : (frames : ℕ) (content : Content) → HasNothing content → AreTranslationsIn frames content
 none_outside frames content empty key t found = absurd (let e : content key ≡ None = empty key in cc)
@@ -40,46 +40,47 @@ module _ (frames : ℕ) (old new : Content) (inside : AreTranslationsIn frames o
   drop_inside is_out drops key t found = inside key t (found_before_drop old new key t found is_out drops).1
 
   module _ (sure : Bool) (Reaches : Walked → Type 0) (Stops : WalkFault → Type 0) (key : Key) where
-    walk_inside : (answer : Result ℕ WalkFault) → IfOk answer (λ frame. frame < frames) → Walks sure Reaches Stops key old answer new → AreTranslationsIn frames new
-    walk_inside (Ok frame) lt w = keep_inside sure key (record { frame = w.0.frame; rights = w.0.rights }) (subst (λ n. n < frames) w.2 lt) w.3
+    walk_inside : (answer : Result Translation WalkFault) → IfOk answer (λ translation. translation.frame < frames) → Walks sure Reaches Stops key old answer new → AreTranslationsIn frames new
+    walk_inside (Ok translation) lt w = keep_inside sure key (translation_of w.0) (subst (λ (t : Translation). t.frame < frames) w.2 lt) w.3
     walk_inside (Err fault) lt w = look_inside w.1
 
-    by_cached : (cached : Option ℕ) (answer : Result ℕ WalkFault) → IfOk answer (λ frame. frame < frames)
+    by_cached : (cached : Option Translation) (answer : Result Translation WalkFault) → IfOk answer (λ translation. translation.frame < frames)
         → LooksOrWalks sure cached Reaches Stops key old answer new → AreTranslationsIn frames new
     by_cached None answer lt w = walk_inside answer lt w
-    by_cached (Some frame) answer lt w = look_inside w.1
+    by_cached (Some translation) answer lt w = look_inside w.1
 
   module _ (sure : Bool) (memory : List (List ℕ)) (address : ℕ) (kind : AccessKind) where
-    by_stages : (first_stage : FirstStage) (second_stage : SecondStage) (context : Context) (answer : Result ℕ WalkFault) → IfOk answer (λ frame. frame < frames)
+    by_stages : (first_stage : FirstStage) (second_stage : SecondStage) (context : Context) (answer : Result Translation WalkFault) → IfOk answer (λ translation. translation.frame < frames)
         → Translates sure first_stage second_stage context memory address kind old answer new → AreTranslationsIn frames new
     by_stages Bare second.Bare context answer lt t = look_inside t.1
     by_stages (Sv39 root) second.Bare context answer lt t =
         by_cached sure (ReachesFirst first_levels memory root.number address kind) (StopsFirst first_levels memory root.number address kind) (first_key context address)
-        (cached_frame (old (first_key context address)) kind) answer lt t
+        (cached_for (old (first_key context address)) kind) answer lt t
     by_stages Bare (second.Sv39x4 root) context answer lt t =
         by_cached sure (ReachesSecond second_levels memory root.number address kind) (StopsSecond second_levels memory root.number address kind) (second_key context address)
-        (cached_frame (old (second_key context address)) kind) answer lt t
+        (cached_for (old (second_key context address)) kind) answer lt t
     by_stages (Sv39 first) (second.Sv39x4 second) context answer lt t =
         by_cached sure (ReachesBoth first_levels second_levels memory first.number second.number address kind)
         (StopsBoth first_levels second_levels memory first.number second.number address kind) (both_key context address)
-        (cached_frame (old (both_key context address)) kind) answer lt t
+        (cached_for (old (both_key context address)) kind) answer lt t
 
-    by_context : (found : Result Context Cause) (answer : Result ℕ WalkFault) → IfOk answer (λ frame. frame < frames)
+    -- a question that is served keeps it too
+    pub served_by_inside : (found : Result Context Cause) (answer : Result Translation WalkFault) → IfOk answer (λ translation. translation.frame < frames)
         → ServesBy sure found memory address kind old answer new → AreTranslationsIn frames new
-    by_context (Ok context) answer lt s = by_stages context.first_stage context.second_stage context answer lt s
-    by_context (Err cause) answer lt s = look_inside s.1
+    served_by_inside (Ok context) answer lt s = by_stages context.first_stage context.second_stage context answer lt s
+    served_by_inside (Err cause) answer lt s = look_inside s.1
 
-    by_mode : (m : DirectoryMode) (found : Result Context Cause) (answer : Result ℕ WalkFault) → IfOk answer (λ frame. frame < frames)
+    by_mode : (m : DirectoryMode) (found : Result Context Cause) (answer : Result Translation WalkFault) → IfOk answer (λ translation. translation.frame < frames)
         → ServesIn sure m found memory address kind old answer new → AreTranslationsIn frames new
     by_mode mode.Off found answer lt s = look_inside s.1
     by_mode mode.Bare found answer lt s = look_inside s.1
-    by_mode mode.OneLevel found answer lt s = by_context found answer lt s
-    by_mode mode.TwoLevels found answer lt s = by_context found answer lt s
-    by_mode mode.ThreeLevels found answer lt s = by_context found answer lt s
+    by_mode mode.OneLevel found answer lt s = served_by_inside found answer lt s
+    by_mode mode.TwoLevels found answer lt s = served_by_inside found answer lt s
+    by_mode mode.ThreeLevels found answer lt s = served_by_inside found answer lt s
 
 -- A REQUEST that is served keeps it, where its own frame is one of memory
 pub serve_inside : (frames : ℕ) (sure : Bool) (memory : List (List ℕ)) (r : Registers) (contexts : Contexts ℕ Context) (id address : ℕ) (kind : AccessKind) (old : Content)
-    (answer : Result ℕ WalkFault) (new : Content) → AreTranslationsIn frames old → IfOk answer (λ frame. frame < frames) → Serves sure memory r contexts id address kind old answer new
+    (answer : Result Translation WalkFault) (new : Content) → AreTranslationsIn frames old → IfOk answer (λ translation. translation.frame < frames) → Serves sure memory r contexts id address kind old answer new
     → AreTranslationsIn frames new
 serve_inside frames sure memory r contexts id address kind old answer new inside lt s =
     by_mode frames old new inside sure memory address kind (directory_mode r) (context_for memory r contexts id) answer lt s

@@ -1,5 +1,5 @@
 -- What a fetch does to the list of the commands that wait and to the frames of memory, and that it can answer in one way alone
-use Rattle.std.proofs.Common.{◌≡◌, ◌≢◌, ◌/◌, ◌%◌, ◌<◌, ◌∙◌, ℕ, Bool, true, false, List, [], ◌∷◌, length, slice_get, Option, Some, None, refl, sym, ap, subst, if◌then◌else◌}
+use Rattle.std.proofs.Common.{arith, ◌≡◌, ◌≢◌, ◌+◌, ◌/◌, ◌%◌, ◌<◌, ◌≤◌, ◌∙◌, ℕ, Bool, true, false, List, [], ◌∷◌, length, slice_get, Option, Some, None, refl, sym, ap, subst, if◌then◌else◌}
 use Rattle.std.specs.Prelude.{slice_set}
 use Rattle.std.specs.Option.{option_map_or}
 use Rattle.std.proofs.lemmas.List.{length-set}
@@ -10,18 +10,19 @@ use Rattle.iom_phys_mem.proofs.Stores.{frame_elsewhere}
 use Rattle.iom_registers.specs.declared.registers.Registers.{Registers}
 use Rattle.iom_registers.specs.Queues.{command_entries, command_head, command_tail, is_processing_commands, with_command_done, with_fence_w_ip, with_cqmf, with_cmd_ill}
 use Rattle.iom_command_queue.specs.declared.command.Command.{Command}
+use Rattle.iom_command_queue.specs.declared.command.Command.TheVariants.{IotinvalVma, IotinvalGvma, IofenceC, IodirInvalDdt, AtsInval}
 use Rattle.iom_command_queue.specs.declared.command.FenceStore.{FenceStore}
 use Rattle.iom_command_queue.specs.declared.entry.QueueEntry.{QueueEntry}
 use Rattle.iom_command_queue.specs.declared.entry.QueueEntry.TheVariants as stands
+use Rattle.iom_command_queue.specs.OpenSlots.{OpenSlots}
 use Rattle.iom_command_queue.specs.Waiting.{commands_in, first_entry, place_of}
 use Rattle.iom_command_queue.proofs.Waits.{first_is, none_is, drops, stays_by_frames, same_ring}
 use Rattle.iom_iommu.specs.declared.iommu.Iommu.{Iommu}
 use Rattle.iom_iommu.specs.declared.fetched.Fetched.{Fetched}
 use Rattle.iom_iommu.specs.declared.fetched.Fetched.TheVariants.{Did, Waiting, Empty, Stopped}
-use Rattle.iom_inflight.specs.Flights.{Flights}
 use Rattle.iom_tlb.specs.declared.trans_cache.TransCache.{Ghosts as Cache}
-use Rattle.iom_iommu.specs.Parts.{registers_of, flights_of}
-use Rattle.iom_iommu.specs.Fetches.{counted_in, store_of, asks_for_interrupt, with_store, IsStoredIn, IsOffRing, head_entry, WaitsAt, StopsAtEntry, StopsFetching, FetchesCommand, LeavesFaultQueue}
+use Rattle.iom_iommu.specs.Parts.{registers_of, stock_of, slots_of}
+use Rattle.iom_iommu.specs.Fetches.{counted_in, slots_by, after_none, stock_at, IsLeft, store_of, asks_for_interrupt, with_store, IsStoredIn, IsOffRing, head_entry, WaitsAt, StopsAtEntry, StopsFetching, FetchesCommand, LeavesFaultQueue}
 
 -- something stands at the head, so head and tail aren't the same
 pub apart : (m : List (List ℕ)) (r : Registers) (entry : QueueEntry) → head_entry m r ≡ Some entry → command_head r ≢ command_tail r
@@ -112,8 +113,8 @@ none_first [] e = refl
 none_first (x ∷ xs) e = cc
 
 -- nothing that stands at the head makes a command wait, or stops, where nothing stands there
-none_waits : (m : List (List ℕ)) (r : Registers) (flights : Flights) (before : ℕ) → head_entry m r ≡ None → ¬ WaitsAt (head_entry m r) flights before
-none_waits m r flights before none w = subst (λ entry. WaitsAt entry flights before) none w
+none_waits : {C : Type 0} {c : Cache C} (m : List (List ℕ)) (i : Iommu C c) → head_entry m (registers_of i) ≡ None → ¬ WaitsAt (head_entry m (registers_of i)) i
+none_waits m i none w = subst (λ entry. WaitsAt entry i) none w
 
 none_stops : {C : Type 0} {c : Cache C} (m : List (List ℕ)) (on : Bool) (i j : Iommu C c) → on ≡ true → head_entry m (registers_of i) ≡ None → ¬ StopsFetching on m i j
 none_stops m on i j is_on none s = subst (λ entry. StopsAtEntry m entry i j) none (subst (λ b. StopsFetching b m i j) is_on s)
@@ -129,7 +130,7 @@ empty_then m n i j Stopped f e = cc
 pub empty_where : {C : Type 0} {c : Cache C} (m n : List (List ℕ)) (i j : Iommu C c) (answer : Fetched) → FetchesCommand m i answer n j
     → (is_processing_commands (registers_of i) ≡ true) × (commands_in m (registers_of i) ≡ []) → answer ≡ Empty
 empty_where m n i j (Did command) f p = let e = sym (ap (λ xs. slice_get xs 0) p.1) ∙ f.1 in cc
-empty_where m n i j Waiting f p = absurd (none_waits m (registers_of i) (flights_of i) (counted_in i) (ap (λ xs. slice_get xs 0) p.1) f.1)
+empty_where m n i j Waiting f p = absurd (none_waits m i (ap (λ xs. slice_get xs 0) p.1) f.1)
 empty_where m n i j Empty f p = refl
 empty_where m n i j Stopped f p =
     absurd (none_stops m (is_processing_commands (registers_of i)) i j p.0 (ap (λ xs. slice_get xs 0) p.1) f.0)
@@ -157,3 +158,83 @@ leaves_fault_queue m n i j (Did command) f =
 leaves_fault_queue m n i j Waiting f = subst (λ x. LeavesFaultQueue (registers_of i) (registers_of x)) (sym f.3) (refl, refl, refl, refl)
 leaves_fault_queue m n i j Empty f = subst (λ x. LeavesFaultQueue (registers_of i) (registers_of x)) (sym f.3) (refl, refl, refl, refl)
 leaves_fault_queue m n i j Stopped f = stop_leaves (is_processing_commands (registers_of i)) m i j f.0
+
+-- A FETCH begins with no request opened by it: what it answers and leaves is the same, whether the one before opened one
+module _ {C : Type 0} {c : Cache C} (i : Iommu C c) where
+  abbrev begun : Iommu C c
+  begun = after_none i (registers_of i) (stock_of i)
+
+  waits_for : (entry : Option QueueEntry) → WaitsAt entry begun → WaitsAt entry i
+  waits_for None w = w
+  waits_for (Some stands.Outside) w = w
+  waits_for (Some (stands.Illegal reason)) w = w
+  waits_for (Some (stands.Command command)) w = w
+
+  counts_for : (entry : Option QueueEntry) → stock_at entry begun ≡ stock_at entry i
+  counts_for None = refl
+  counts_for (Some stands.Outside) = refl
+  counts_for (Some (stands.Illegal reason)) = refl
+  counts_for (Some (stands.Command command)) = refl
+
+  stops_at_for : (m : List (List ℕ)) (entry : Option QueueEntry) (j : Iommu C c) → StopsAtEntry m entry begun j → StopsAtEntry m entry i j
+  stops_at_for m None j s = s
+  stops_at_for m (Some stands.Outside) j s = s
+  stops_at_for m (Some (stands.Illegal reason)) j s = s
+  stops_at_for m (Some (stands.Command command)) j s = s
+
+  stops_for : (m : List (List ℕ)) (on : Bool) (j : Iommu C c) → StopsFetching on m begun j → StopsFetching on m i j
+  stops_for m true j s = stops_at_for m (head_entry m (registers_of i)) j s
+  stops_for m false j s = s
+
+  left_for : (command : Command) (j : Iommu C c) → IsLeft command begun j → IsLeft command i j
+  left_for command j l = record {
+    registers = l.registers;
+    contexts = l.contexts;
+    translations = l.translations;
+    stock = l.stock;
+    slots = l.slots;
+    opened = l.opened;
+    flights = l.flights;
+    frames = l.frames;
+  }
+
+  pub fetches_for : (m n : List (List ℕ)) (old j : Iommu C c) (answer : Fetched) → old ≡ begun → FetchesCommand m old answer n j → FetchesCommand m i answer n j
+  fetches_for m n old j answer is f = by answer (subst (λ x. FetchesCommand m x answer n j) is f) where
+    by : (a : Fetched) → FetchesCommand m begun a n j → FetchesCommand m i a n j
+    by (Did command) f = (f.0, f.1, f.2, f.3, f.4, left_for command j f.5)
+    by Waiting f = (
+      f.0,
+      waits_for (head_entry m (registers_of i)) f.1,
+      f.2,
+      f.3 ∙ ap (λ stock. after_none i (registers_of i) stock) (counts_for (head_entry m (registers_of i))),
+    )
+    by Empty f = f
+    by Stopped f = (stops_for m (is_processing_commands (registers_of i)) j f.0, f.1)
+
+-- ONE NUMBER at most is given to an invalidation request
+last_by : (command : Command) (slots : OpenSlots) → (slots_by command slots).last ≤ slots.last + 1
+last_by (IotinvalVma gscid pscid page) slots = omega arith
+last_by (IotinvalGvma gscid page) slots = omega arith
+last_by (IofenceC store wsi pr pw) slots = omega arith
+last_by (IodirInvalDdt device) slots = omega arith
+last_by (AtsInval device range) slots = omega arith
+
+module _ {C : Type 0} {c : Cache C} (m : List (List ℕ)) (i j : Iommu C c) where
+  same_last : (r : Registers) (stock : Option ℕ) → j ≡ after_none i r stock → (slots_of j).last ≤ (slots_of i).last + 1
+  same_last r stock left = subst (λ x. (slots_of x).last ≤ (slots_of i).last + 1) (sym left) (omega arith)
+
+  stops_at_last : (entry : Option QueueEntry) → StopsAtEntry m entry i j → (slots_of j).last ≤ (slots_of i).last + 1
+  stops_at_last None s = absurd s
+  stops_at_last (Some stands.Outside) s = same_last (with_cqmf (registers_of i)) (stock_of i) s
+  stops_at_last (Some (stands.Illegal reason)) s = same_last (with_cmd_ill (registers_of i)) (stock_of i) s
+  stops_at_last (Some (stands.Command command)) s = same_last (with_cqmf (registers_of i)) (Some (counted_in i)) s.2
+
+  stops_last : (on : Bool) → StopsFetching on m i j → (slots_of j).last ≤ (slots_of i).last + 1
+  stops_last true s = stops_at_last (head_entry m (registers_of i)) s
+  stops_last false s = same_last (registers_of i) (stock_of i) s
+
+  pub opens_one : (n : List (List ℕ)) (answer : Fetched) → FetchesCommand m i answer n j → (slots_of j).last ≤ (slots_of i).last + 1
+  opens_one n (Did command) f = subst (λ x. x.last ≤ (slots_of i).last + 1) (sym f.5.slots) (last_by command (slots_of i))
+  opens_one n Waiting f = same_last (registers_of i) (stock_at (head_entry m (registers_of i)) i) f.3
+  opens_one n Empty f = same_last (registers_of i) (stock_of i) f.3
+  opens_one n Stopped f = stops_last (is_processing_commands (registers_of i)) f.0

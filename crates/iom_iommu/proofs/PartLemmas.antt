@@ -1,5 +1,5 @@
--- An IOMMU whose registers changed, and what the fence at its head counted: the facts that it carries have one proof each, so its parts say which it is
-use Rattle.std.proofs.Common.{◌≡◌, ℕ, Option, None, Some, Bool, true, false, List, Result, Ok, if◌then◌else◌, refl, sym, ap, subst, ◌∙◌}
+-- An IOMMU whose registers changed, what the fence at its head counted, and which requests are open: the facts that it carries have one proof each, so its parts say which it is
+use Rattle.std.proofs.Common.{◌≡◌, ℕ, Option, None, Some, Bool, true, false, ◌||◌, List, [], Result, Ok, if◌then◌else◌, refl, sym, ap, subst, ◌∙◌}
 use Rattle.iom_registers.specs.declared.register.Register.{Register}
 use Rattle.iom_registers.specs.declared.register.RegFault.{RegFault}
 use Rattle.iom_registers.specs.declared.registers.Registers.{Registers}
@@ -7,6 +7,8 @@ use Rattle.iom_registers.specs.Places.{changed_by}
 use Rattle.iom_registers.specs.Table.{written}
 use Rattle.iom_registers.specs.Queues.{is_command_queue_on, is_processing_commands}
 use Rattle.iom_command_queue.specs.declared.command.Command.{Command}
+use Rattle.iom_command_queue.specs.declared.slot.Slot.{Slot}
+use Rattle.iom_command_queue.specs.OpenSlots.{OpenSlots}
 use Rattle.iom_command_queue.specs.declared.entry.QueueEntry.{QueueEntry}
 use Rattle.iom_command_queue.specs.declared.entry.QueueEntry.TheVariants as stands
 use Rattle.iom_inflight.specs.Sound.{AreRowsIn}
@@ -14,63 +16,106 @@ use Rattle.iom_inflight.specs.IsFact.{rows_in_prop}
 use Rattle.iom_tlb.specs.declared.trans_cache.TransCache.{Ghosts as Cache}
 use Rattle.iom_iommu.specs.declared.iommu.Iommu.{Iommu}
 use Rattle.iom_iommu.specs.Cached.{AreTranslationsIn, translations_in_prop}
-use Rattle.iom_iommu.specs.Parts.{registers_of, flights_of, with_registers, stock_after, after_write}
-use Rattle.iom_iommu.specs.Fetches.{counted_in, must_wait, head_entry, WaitsAt, StopsAtEntry, StopsFetching}
+use Rattle.iom_iommu.specs.Parts.{registers_of, flights_of, slots_of, stock_of, stock_after, slots_after, after_write}
+use Rattle.iom_iommu.specs.Fetches.{counted_in, waits_for_accesses, waits_for_slots, is_held, stock_at, after_none, head_entry, WaitsAt, StopsAtEntry, StopsFetching}
 
 module _ {C : Type 0} {c : Cache C} (i : Iommu C c) where
-  -- the IOMMU with these registers and this count, whatever proofs of its facts it carries
-  abbrev made_of : Registers → Option ℕ → AreRowsIn i.frames i.in_flight.rows → AreTranslationsIn i.frames (c.content i.translations) → Iommu C c
-  made_of r stock inside cached = record {
+  -- the IOMMU with these parts, whatever proofs of its facts it carries
+  abbrev made_of : Registers → Option ℕ → OpenSlots → Option Slot → AreRowsIn i.frames i.in_flight.rows → AreTranslationsIn i.frames (c.content i.translations) → Iommu C c
+  made_of r stock slots opened inside cached = record {
     registers = r;
     contexts = i.contexts;
     translations = i.translations;
     in_flight = i.in_flight;
     stock = stock;
+    slots = slots;
+    opened = opened;
     frames = i.frames;
     inside = inside;
     cached = cached;
   }
 
-  pub same : (r other : Registers) (stock counted : Option ℕ) (inside : AreRowsIn i.frames i.in_flight.rows) (cached : AreTranslationsIn i.frames (c.content i.translations))
-      → r ≡ other → stock ≡ counted → made_of r stock inside cached ≡ with_registers i other counted
-  same r other stock counted inside cached one two =
-      ap (λ x. made_of x stock inside cached) one
-      ∙ ap (λ x. made_of other x inside cached) two
-      ∙ ap (λ x. made_of other counted x cached) (rows_in_prop i.frames i.in_flight.rows inside i.inside)
-      ∙ ap (λ x. made_of other counted i.inside x) (translations_in_prop i.frames (c.content i.translations) cached i.cached)
+  same_parts : (r other : Registers) (stock counted : Option ℕ) (slots requests : OpenSlots) (opened latest : Option Slot) (inside : AreRowsIn i.frames i.in_flight.rows)
+      (cached : AreTranslationsIn i.frames (c.content i.translations)) → r ≡ other → stock ≡ counted → slots ≡ requests → opened ≡ latest
+      → made_of r stock slots opened inside cached ≡ made_of other counted requests latest i.inside i.cached
+  same_parts r other stock counted slots requests opened latest inside cached one two three four =
+      ap (λ x. made_of x stock slots opened inside cached) one
+      ∙ ap (λ x. made_of other x slots opened inside cached) two
+      ∙ ap (λ x. made_of other counted x opened inside cached) three
+      ∙ ap (λ x. made_of other counted requests x inside cached) four
+      ∙ ap (λ x. made_of other counted requests latest x cached) (rows_in_prop i.frames i.in_flight.rows inside i.inside)
+      ∙ ap (λ x. made_of other counted requests latest i.inside x) (translations_in_prop i.frames (c.content i.translations) cached i.cached)
 
-  count_off : (on : Bool) → on ≡ false → ◌≡◌ {A = Option ℕ} None (if on then i.stock else None)
-  count_off true e = absurd (cc)
-  count_off false e = refl
+  -- A FETCH that did no command leaves this
+  pub same : (r other : Registers) (stock counted : Option ℕ) (opened : Option Slot) (inside : AreRowsIn i.frames i.in_flight.rows)
+      (cached : AreTranslationsIn i.frames (c.content i.translations)) → r ≡ other → stock ≡ counted → opened ≡ None
+      → made_of r stock i.slots opened inside cached ≡ after_none i other counted
+  same r other stock counted opened inside cached one two three = same_parts r other stock counted i.slots i.slots opened None inside cached one two refl three
 
-  count_on : (on : Bool) → on ≡ true → i.stock ≡ (if on then i.stock else None)
-  count_on true e = refl
-  count_on false e = absurd (cc)
+  -- a request is completed
+  pub completed : (slots requests : OpenSlots) (inside : AreRowsIn i.frames i.in_flight.rows) (cached : AreTranslationsIn i.frames (c.content i.translations))
+      → slots ≡ requests → made_of i.registers i.stock slots i.opened inside cached ≡ record i { slots = requests }
+  completed slots requests inside cached left = same_parts i.registers i.registers i.stock i.stock slots requests i.opened i.opened inside cached refl refl left refl
 
-  wrote : (register : Register) (value : ℕ) (answer : Result Register RegFault) (r : Registers) (stock : Option ℕ) (inside : AreRowsIn i.frames i.in_flight.rows)
-      (cached : AreTranslationsIn i.frames (c.content i.translations)) → answer ≡ Ok register → r ≡ written i.registers register value → stock ≡ stock_after r i.stock
-      → made_of r stock inside cached ≡ changed_by (after_write i) i value answer
-  wrote register value answer r stock inside cached ok is counted =
-      subst (λ a. made_of r stock inside cached ≡ changed_by (after_write i) i value a) (sym ok)
-      (same r (written i.registers register value) stock (stock_after (written i.registers register value) i.stock) inside cached is (counted ∙ ap (λ x. stock_after x i.stock) is))
+  abbrev Wrote : Register → ℕ → Registers → Option ℕ → OpenSlots → Type 0
+  Wrote register value r stock slots = (r ≡ written i.registers register value) × (stock ≡ stock_after r i.stock) × (slots ≡ slots_after r i.slots)
+
+  wrote : (register : Register) (value : ℕ) (answer : Result Register RegFault) (r : Registers) (stock : Option ℕ) (slots : OpenSlots) (inside : AreRowsIn i.frames i.in_flight.rows)
+      (cached : AreTranslationsIn i.frames (c.content i.translations)) → answer ≡ Ok register → Wrote register value r stock slots
+      → made_of r stock slots i.opened inside cached ≡ changed_by (after_write i) i value answer
+  wrote register value answer r stock slots inside cached ok is =
+      let now = written i.registers register value in
+      subst (λ a. made_of r stock slots i.opened inside cached ≡ changed_by (after_write i) i value a) (sym ok)
+      (same_parts r now stock (stock_after now i.stock) slots (slots_after now i.slots) i.opened i.opened inside cached is.0 (is.1 ∙ ap (λ x. stock_after x i.stock) is.0)
+      (is.2 ∙ ap (λ x. slots_after x i.slots) is.0) refl)
+
+  off : {A : Type 0} (on : Bool) (one other : A) → on ≡ false → other ≡ (if on then one else other)
+  off true one other e = absurd (cc)
+  off false one other e = refl
+
+  on : {A : Type 0} (on : Bool) (one other : A) → on ≡ true → one ≡ (if on then one else other)
+  on true one other e = refl
+  on false one other e = absurd (cc)
 
   -- A WRITE of software, by whether the queue is on after it
-  pub wrote_off : (register : Register) (value : ℕ) (answer : Result Register RegFault) (r : Registers) (inside : AreRowsIn i.frames i.in_flight.rows)
+  pub wrote_off : (register : Register) (value : ℕ) (answer : Result Register RegFault) (r : Registers) (slots : OpenSlots) (inside : AreRowsIn i.frames i.in_flight.rows)
       (cached : AreTranslationsIn i.frames (c.content i.translations)) → answer ≡ Ok register → r ≡ written i.registers register value → is_command_queue_on r ≡ false
-      → made_of r None inside cached ≡ changed_by (after_write i) i value answer
-  wrote_off register value answer r inside cached ok is off = wrote register value answer r None inside cached ok is (count_off (is_command_queue_on r) off)
+      → slots ≡ record (slots_of i) { open_slots = [] } → made_of r None slots i.opened inside cached ≡ changed_by (after_write i) i value answer
+  wrote_off register value answer r slots inside cached ok is is_off closed =
+      wrote register value answer r None slots inside cached ok
+      (is, off (is_command_queue_on r) i.stock None is_off, closed ∙ off (is_command_queue_on r) i.slots (record (slots_of i) { open_slots = [] }) is_off)
 
   pub wrote_on : (register : Register) (value : ℕ) (answer : Result Register RegFault) (r : Registers) (inside : AreRowsIn i.frames i.in_flight.rows)
       (cached : AreTranslationsIn i.frames (c.content i.translations)) → answer ≡ Ok register → r ≡ written i.registers register value → is_command_queue_on r ≡ true
-      → made_of r i.stock inside cached ≡ changed_by (after_write i) i value answer
-  wrote_on register value answer r inside cached ok is on = wrote register value answer r i.stock inside cached ok is (count_on (is_command_queue_on r) on)
+      → made_of r i.stock i.slots i.opened inside cached ≡ changed_by (after_write i) i value answer
+  wrote_on register value answer r inside cached ok is is_on =
+      wrote register value answer r i.stock i.slots inside cached ok
+      (is, on (is_command_queue_on r) i.stock None is_on, on (is_command_queue_on r) i.slots (record (slots_of i) { open_slots = [] }) is_on)
 
-  -- A COMMAND at the head waits, or stops the processing
-  pub waits : (m : List (List ℕ)) (command : Command) (before : ℕ) (result : Bool) → head_entry m (registers_of i) ≡ Some (stands.Command command) → before ≡ counted_in i
-      → result ≡ must_wait command (flights_of i) before → result ≡ true → WaitsAt (head_entry m (registers_of i)) (flights_of i) (counted_in i)
-  waits m command before result found counted is so =
-      subst (λ entry. WaitsAt entry (flights_of i) (counted_in i)) (sym found) (subst (λ n. must_wait command (flights_of i) n ≡ true) counted (sym is ∙ so))
+  -- A COMMAND at the head waits: for open requests, or for accesses
+  pub held_by_slots : (command : Command) → waits_for_slots command (slots_of i) ≡ true → is_held command i ≡ true
+  held_by_slots command so = ap (λ b. b || waits_for_accesses command (flights_of i) (counted_in i)) so
 
+  pub held_by_accesses : (command : Command) (before : ℕ) (result : Bool) → waits_for_slots command (slots_of i) ≡ false → before ≡ counted_in i
+      → waits_for_accesses command (flights_of i) before ≡ result → is_held command i ≡ result
+  held_by_accesses command before result none counted so =
+      ap (λ b. b || waits_for_accesses command (flights_of i) (counted_in i)) none ∙ sym (ap (λ n. waits_for_accesses command (flights_of i) n) counted) ∙ so
+
+  pub waits : (m : List (List ℕ)) (command : Command) → head_entry m (registers_of i) ≡ Some (stands.Command command) → is_held command i ≡ true
+      → WaitsAt (head_entry m (registers_of i)) i
+  waits m command found held = subst (λ entry. WaitsAt entry i) (sym found) held
+
+  -- what it counted
+  pub stock_then : (m : List (List ℕ)) (command : Command) (for_slots : Bool) → head_entry m (registers_of i) ≡ Some (stands.Command command)
+      → waits_for_slots command (slots_of i) ≡ for_slots → (if for_slots then stock_of i else Some (counted_in i)) ≡ stock_at (head_entry m (registers_of i)) i
+  stock_then m command for_slots found so =
+      ap (λ b. if b then stock_of i else Some (counted_in i)) (sym so) ∙ ap (λ entry. stock_at entry i) (sym found)
+
+  pub stays_stopped : (m : List (List ℕ)) (new : Iommu C c) → is_processing_commands (registers_of i) ≡ false → new ≡ after_none i (registers_of i) (stock_of i)
+      → StopsFetching (is_processing_commands (registers_of i)) m i new
+  stays_stopped m new off left = subst (λ b. StopsFetching b m i new) (sym off) left
+
+  -- or it stops the processing
   pub stops : (m : List (List ℕ)) (entry : QueueEntry) (new : Iommu C c) → is_processing_commands (registers_of i) ≡ true → head_entry m (registers_of i) ≡ Some entry
       → StopsAtEntry m (Some entry) i new → StopsFetching (is_processing_commands (registers_of i)) m i new
   stops m entry new on found s = subst (λ b. StopsFetching b m i new) (sym on) (subst (λ e. StopsAtEntry m e i new) (sym found) s)

@@ -15,9 +15,10 @@ use Rattle.iom_device_dir.specs.declared.stages.SecondStage.{SecondStage}
 use Rattle.iom_device_dir.specs.declared.stages.SecondStage.TheVariants as second
 use Rattle.iom_device_dir.specs.declared.values.GuestRoot.{GuestRoot}
 use Rattle.iom_tlb.specs.declared.space.Space.{Space}
+use Rattle.iom_tlb.specs.declared.trans_cache.Translation.{Translation}
 use Rattle.iom_tlb.specs.declared.space.Space.TheVariants as space
 use Rattle.iom_tlb.specs.Content.{Key, Content, Stays}
-use Rattle.iom_iommu.specs.Service.{own_page, cached_frame, Walks, LooksOrWalks, Translates}
+use Rattle.iom_iommu.specs.Service.{own_page, cached_for, Walks, LooksOrWalks, Translates}
 use Rattle.iom_iommu.specs.Stages.{space_through, ReachesThrough, StopsThrough}
 
 -- what a walk reaches lies in memory
@@ -65,27 +66,27 @@ module _ (memory : List (List ℕ)) (address : ℕ) (kind : AccessKind) (first_s
       rw (one, two) (subst (λ n. IfOk result (ReachesBoth first_levels second_levels memory first.number n address kind) × IfErr result (StopsBoth first_levels second_levels memory first.number n address kind)) rooted
       (ok_of (ReachesBoth first_levels second_levels memory first.number number address kind) result reached, err_of (StopsBoth first_levels second_levels memory first.number number address kind) result stopped))
 
-module _ (sure : Bool) (Reaches : Walked → Type 0) (Stops : WalkFault → Type 0) (kind : AccessKind) (key : Key) (old : Content) (found : Option ℕ) (is : found ≡ cached_frame (old key) kind) where
-  -- by the frame that was found
-  pub looked : (frame : ℕ) (new : Content) → found ≡ Some frame → Stays old new → LooksOrWalks sure (cached_frame (old key) kind) Reaches Stops key old (Ok frame) new
-  looked frame new some stays =
-      subst (λ (o : Option ℕ). LooksOrWalks sure o Reaches Stops key old (Ok frame) new) (sym some ∙ is) (refl, stays)
+module _ (sure : Bool) (Reaches : Walked → Type 0) (Stops : WalkFault → Type 0) (kind : AccessKind) (key : Key) (old : Content) (found : Option Translation) (is : found ≡ cached_for (old key) kind) where
+  -- by the translation that was found
+  pub looked : (cached : Translation) (new : Content) → found ≡ Some cached → Stays old new → LooksOrWalks sure (cached_for (old key) kind) Reaches Stops key old (Ok cached) new
+  looked cached new some stays =
+      subst (λ (o : Option Translation). LooksOrWalks sure o Reaches Stops key old (Ok cached) new) (sym some ∙ is) (refl, stays)
 
   -- by a walk, where none was: the look before it changes nothing of what a keep leaves
-  pub walked : (between new : Content) (answer : Result ℕ WalkFault) → found ≡ None → Stays old between → Walks sure Reaches Stops key between answer new
-      → LooksOrWalks sure (cached_frame (old key) kind) Reaches Stops key old answer new
+  pub walked : (between new : Content) (answer : Result Translation WalkFault) → found ≡ None → Stays old between → Walks sure Reaches Stops key between answer new
+      → LooksOrWalks sure (cached_for (old key) kind) Reaches Stops key old answer new
   walked between new answer none stays walks =
       let unchanged : between ≡ old = λ i k. stays k i in
-      subst (λ (o : Option ℕ). LooksOrWalks sure o Reaches Stops key old answer new) (sym none ∙ is)
+      subst (λ (o : Option Translation). LooksOrWalks sure o Reaches Stops key old answer new) (sym none ∙ is)
       (subst (λ (content : Content). Walks sure Reaches Stops key content answer new) unchanged walks)
 
 -- BY THE STAGES of a context: in the address space that they translate, or where both are Bare in none
-module _ (sure : Bool) (context : Context) (memory : List (List ℕ)) (address : ℕ) (kind : AccessKind) (old : Content) (answer : Result ℕ WalkFault) (new : Content) where
+module _ (sure : Bool) (context : Context) (memory : List (List ℕ)) (address : ℕ) (kind : AccessKind) (old : Content) (answer : Result Translation WalkFault) (new : Content) where
   abbrev LooksOrWalksIn : (Walked → Type 0) → (WalkFault → Type 0) → Space → Type 0
-  LooksOrWalksIn Reaches Stops at = LooksOrWalks sure (cached_frame (old (at, address / 4096)) kind) Reaches Stops (at, address / 4096) old answer new
+  LooksOrWalksIn Reaches Stops at = LooksOrWalks sure (cached_for (old (at, address / 4096)) kind) Reaches Stops (at, address / 4096) old answer new
 
   pub through : (first_stage : FirstStage) (second_stage : SecondStage) (at : Space) → space_through first_stage second_stage context ≡ Some at
-      → LooksOrWalks sure (cached_frame (old (at, address / 4096)) kind) (ReachesThrough first_stage second_stage memory address kind)
+      → LooksOrWalks sure (cached_for (old (at, address / 4096)) kind) (ReachesThrough first_stage second_stage memory address kind)
       (StopsThrough first_stage second_stage memory address kind) (at, address / 4096) old answer new
       → Translates sure first_stage second_stage context memory address kind old answer new
   through Bare second.Bare at is l = absurd (cc)

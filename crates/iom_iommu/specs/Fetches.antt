@@ -1,5 +1,5 @@
 -- What a fetch answers, and what it leaves (IOMMU specification, section 3.1, "Command-Queue (CQ)").
-use Rattle.std.specs.Prelude.{◌≡◌, ℕ, ◌/◌, ◌<◌, ◌==◌, Bool, true, false, not, ◌&&◌, ◌||◌, List, Option, Some, None, slice_get, if◌then◌else◌}
+use Rattle.std.specs.Prelude.{◌≡◌, ℕ, ◌+◌, ◌/◌, ◌<◌, ◌==◌, Bool, true, false, not, ◌&&◌, ◌||◌, List, length, Option, Some, None, slice_get, if◌then◌else◌}
 use Rattle.iom_base.specs.declared.access.AccessKind.{AccessKind}
 use Rattle.iom_base.specs.declared.access.AccessKind.TheVariants.{Read, Write}
 use Rattle.iom_base.specs.Sizes.{page_size}
@@ -11,6 +11,8 @@ use Rattle.iom_command_queue.specs.declared.command.Command.TheVariants.{Iotinva
 use Rattle.iom_command_queue.specs.declared.command.FenceStore.{FenceStore}
 use Rattle.iom_command_queue.specs.declared.entry.QueueEntry.{QueueEntry}
 use Rattle.iom_command_queue.specs.declared.entry.QueueEntry.TheVariants as stands
+use Rattle.iom_command_queue.specs.declared.slot.Slot.{Slot}
+use Rattle.iom_command_queue.specs.OpenSlots.{OpenSlots, with_next}
 use Rattle.iom_command_queue.specs.Waiting.{commands_in, place_of}
 use Rattle.iom_iommu.specs.declared.iommu.Iommu.{Iommu}
 use Rattle.iom_iommu.specs.declared.fetched.Fetched.{Fetched}
@@ -22,12 +24,12 @@ use Rattle.iom_tlb.specs.declared.trans_cache.TransCache.{Ghosts as Cache}
 use Rattle.iom_tlb.specs.Content.{Content as Translations, Stays, Drops}
 use Rattle.iom_tlb.specs.Covers.{are_covering}
 use Rattle.iom_tlb.specs.Invalidations.{covers_of}
-use Rattle.iom_iommu.specs.Parts.{registers_of, contexts_of, translations_of, flights_of, stock_of, frames_of, with_registers}
+use Rattle.iom_iommu.specs.Parts.{registers_of, contexts_of, translations_of, flights_of, stock_of, slots_of, opened_of, frames_of}
 
--- The fence rule (section 3.1.2, "IOMMU Command-queue Fence commands"): a fence with PR or PW waits until the accesses of that kind are made
--- that were accepted before it was first fetched.
+-- The fence rule (section 3.1.2, "IOMMU Command-queue Fence commands"): a fence waits until no invalidation request is open; then, with PR or PW,
+-- until the accesses of that kind are made that were accepted before its first fetch that found none open.
 
--- how many accesses were accepted before: the fence counted them when it was first fetched, or it counts them now
+-- how many accesses were accepted before: the fence counted them at that fetch, or it counts them now
 abbrev pub accepted_before : Option ℕ → ℕ → ℕ
 accepted_before None so_far = so_far
 accepted_before (Some counted) so_far = counted
@@ -40,13 +42,29 @@ counted_in iommu = accepted_before (stock_of iommu) (flights_of iommu).so_far
 abbrev pub are_waited_for : Flights → ℕ → AccessKind → Bool
 are_waited_for flights before kind = not (are_drained flights before kind)
 
--- whether the command has to wait, where so many accesses were accepted before it
-abbrev pub must_wait : Command → Flights → ℕ → Bool
-must_wait (IotinvalVma gscid pscid page) flights before = false
-must_wait (IotinvalGvma gscid page) flights before = false
-must_wait (IofenceC store wsi pr pw) flights before = (pr && are_waited_for flights before Read) || (pw && are_waited_for flights before Write)
-must_wait (IodirInvalDdt device) flights before = false
-must_wait (AtsInval device range) flights before = false
+-- whether the command has to wait for accesses, where so many were accepted before it
+abbrev pub waits_for_accesses : Command → Flights → ℕ → Bool
+waits_for_accesses (IotinvalVma gscid pscid page) flights before = false
+waits_for_accesses (IotinvalGvma gscid page) flights before = false
+waits_for_accesses (IofenceC store wsi pr pw) flights before = (pr && are_waited_for flights before Read) || (pw && are_waited_for flights before Write)
+waits_for_accesses (IodirInvalDdt device) flights before = false
+waits_for_accesses (AtsInval device range) flights before = false
+
+-- whether it has to wait for invalidation requests: a fence for each that is open, ATS.INVAL for one of 32
+abbrev pub waits_for_slots : Command → OpenSlots → Bool
+waits_for_slots (IotinvalVma gscid pscid page) slots = false
+waits_for_slots (IotinvalGvma gscid page) slots = false
+waits_for_slots (IofenceC store wsi pr pw) slots = not (length slots.open_slots == 0)
+waits_for_slots (IodirInvalDdt device) slots = false
+waits_for_slots (AtsInval device range) slots = length slots.open_slots == 32
+
+-- whether it has to wait
+abbrev pub must_wait : Command → Flights → ℕ → OpenSlots → Bool
+must_wait command flights before slots = waits_for_slots command slots || waits_for_accesses command flights before
+
+-- the same of a command at the head
+abbrev pub is_held : {C : Type 0} {c : Cache C} → Command → Iommu C c → Bool
+is_held command iommu = must_wait command (flights_of iommu) (counted_in iommu) (slots_of iommu)
 
 -- the word that a command stores: that of a fence with AV
 abbrev pub store_of : Command → Option FenceStore
@@ -96,22 +114,33 @@ IsOffRing r store = (j : ℕ) → j < command_entries r → ¬ IsStoredIn store 
 abbrev pub head_entry : List (List ℕ) → Registers → Option QueueEntry
 head_entry memory r = slice_get (commands_in memory r) 0
 
+-- the IOMMU after a fetch that did no command: with these registers, and with this count of the fence at the head
+abbrev pub after_none : {C : Type 0} {c : Cache C} → Iommu C c → Registers → Option ℕ → Iommu C c
+after_none iommu registers stock = record iommu { registers = registers; stock = stock; opened = None }
+
 -- a command stands at the head that has to wait
-abbrev pub WaitsAt : Option QueueEntry → Flights → ℕ → Type 0
-WaitsAt None flights before = ⊥
-WaitsAt (Some stands.Outside) flights before = ⊥
-WaitsAt (Some (stands.Illegal reason)) flights before = ⊥
-WaitsAt (Some (stands.Command command)) flights before = must_wait command flights before ≡ true
+abbrev pub WaitsAt : {C : Type 0} {c : Cache C} → Option QueueEntry → Iommu C c → Type 0
+WaitsAt None iommu = ⊥
+WaitsAt (Some stands.Outside) iommu = ⊥
+WaitsAt (Some (stands.Illegal reason)) iommu = ⊥
+WaitsAt (Some (stands.Command command)) iommu = is_held command iommu ≡ true
+
+-- what it counted once it waits: nothing yet where it waits for invalidation requests
+abbrev pub stock_at : {C : Type 0} {c : Cache C} → Option QueueEntry → Iommu C c → Option ℕ
+stock_at None iommu = stock_of iommu
+stock_at (Some stands.Outside) iommu = stock_of iommu
+stock_at (Some (stands.Illegal reason)) iommu = stock_of iommu
+stock_at (Some (stands.Command command)) iommu = if waits_for_slots command (slots_of iommu) then stock_of iommu else Some (counted_in iommu)
 
 -- what stands at the head stops processing, and which bit says why: cqmf where it can't be loaded or its word not be stored,
 -- cmd_ill where it is no command. A fence whose word can't be stored has been fetched
 abbrev pub StopsAtEntry : {C : Type 0} {c : Cache C} → List (List ℕ) → Option QueueEntry → Iommu C c → Iommu C c → Type 0
 StopsAtEntry memory None old new = ⊥
-StopsAtEntry memory (Some stands.Outside) old new = new ≡ with_registers old (with_cqmf (registers_of old)) (stock_of old)
-StopsAtEntry memory (Some (stands.Illegal reason)) old new = new ≡ with_registers old (with_cmd_ill (registers_of old)) (stock_of old)
+StopsAtEntry memory (Some stands.Outside) old new = new ≡ after_none old (with_cqmf (registers_of old)) (stock_of old)
+StopsAtEntry memory (Some (stands.Illegal reason)) old new = new ≡ after_none old (with_cmd_ill (registers_of old)) (stock_of old)
 StopsAtEntry memory (Some (stands.Command command)) old new =
-    (must_wait command (flights_of old) (counted_in old) ≡ false) × (¬ IsStorable memory (store_of command))
-    × (new ≡ with_registers old (with_cqmf (registers_of old)) (Some (counted_in old)))
+    (is_held command old ≡ false) × (¬ IsStorable memory (store_of command))
+    × (new ≡ after_none old (with_cqmf (registers_of old)) (Some (counted_in old)))
 
 -- which contexts go: that of the device, or all of them (section 3.1.3, IODIR.INVAL_DDT with and without DV)
 abbrev pub covers_device : Option ℕ → ℕ → Bool
@@ -130,18 +159,36 @@ DropsContexts (AtsInval device range) old new = IsSameContent old new
 abbrev pub DropsTranslations : Command → Translations → Translations → Type 0
 DropsTranslations command old new = Drops (are_covering (covers_of command)) old new
 
--- what is left once the command at the head is done: registers, caches, and all else as it was. The next command counts anew
+-- the invalidation request that the command is, if it is one: with the number after the last
+abbrev pub request_by : Command → OpenSlots → Option Slot
+request_by (IotinvalVma gscid pscid page) slots = None
+request_by (IotinvalGvma gscid page) slots = None
+request_by (IofenceC store wsi pr pw) slots = None
+request_by (IodirInvalDdt device) slots = None
+request_by (AtsInval device range) slots = Some (record { serial = slots.last + 1; device = device })
+
+-- the open requests with it (section 3.1.4, ATS.INVAL)
+abbrev pub slots_by : Command → OpenSlots → OpenSlots
+slots_by (IotinvalVma gscid pscid page) slots = slots
+slots_by (IotinvalGvma gscid page) slots = slots
+slots_by (IofenceC store wsi pr pw) slots = slots
+slots_by (IodirInvalDdt device) slots = slots
+slots_by (AtsInval device range) slots = with_next slots device
+
+-- what is left once the command at the head is done: registers, caches, open requests, and all else as it was. The next command counts anew
 pub record IsLeft {C : Type 0} {c : Cache C} (command : Command) (old new : Iommu C c) : Type 0 where
   pub registers : registers_of new ≡ with_done (registers_of old) command
   pub contexts : DropsContexts command (contexts_of old) (contexts_of new)
   pub translations : DropsTranslations command (translations_of old) (translations_of new)
   pub stock : stock_of new ≡ None
+  pub slots : slots_of new ≡ slots_by command (slots_of old)
+  pub opened : opened_of new ≡ request_by command (slots_of old)
   pub flights : flights_of new ≡ flights_of old
   pub frames : frames_of new ≡ frames_of old
 
--- processing had stopped before and nothing changes, or it stops at what stands at the head
+-- processing had stopped before and stays so, or it stops at what stands at the head
 abbrev pub StopsFetching : {C : Type 0} {c : Cache C} → Bool → List (List ℕ) → Iommu C c → Iommu C c → Type 0
-StopsFetching false memory old new = new ≡ old
+StopsFetching false memory old new = new ≡ after_none old (registers_of old) (stock_of old)
 StopsFetching true memory old new = StopsAtEntry memory (head_entry memory (registers_of old)) old new
 
 -- THE RELATION of a fetch, by its answer: memory and IOMMU before, the answer, memory and IOMMU after
@@ -149,29 +196,32 @@ abbrev pub FetchesCommand : {C : Type 0} {c : Cache C} → List (List ℕ) → I
 FetchesCommand memory iommu (Did command) new_memory new_iommu =
     (is_processing_commands (registers_of iommu) ≡ true)
     × (head_entry memory (registers_of iommu) ≡ Some (stands.Command command))
-    × (must_wait command (flights_of iommu) (counted_in iommu) ≡ false)
+    × (is_held command iommu ≡ false)
     × IsStorable memory (store_of command)
     × (new_memory ≡ with_store memory (store_of command))
     × IsLeft command iommu new_iommu
 FetchesCommand memory iommu Waiting new_memory new_iommu =
     (is_processing_commands (registers_of iommu) ≡ true)
-    × WaitsAt (head_entry memory (registers_of iommu)) (flights_of iommu) (counted_in iommu)
-    × (new_memory ≡ memory) × (new_iommu ≡ with_registers iommu (registers_of iommu) (Some (counted_in iommu)))
+    × WaitsAt (head_entry memory (registers_of iommu)) iommu
+    × (new_memory ≡ memory)
+    × (new_iommu ≡ after_none iommu (registers_of iommu) (stock_at (head_entry memory (registers_of iommu)) iommu))
 FetchesCommand memory iommu Empty new_memory new_iommu =
     (is_processing_commands (registers_of iommu) ≡ true)
     × (head_entry memory (registers_of iommu) ≡ None)
-    × (new_memory ≡ memory) × (new_iommu ≡ iommu)
+    × (new_memory ≡ memory) × (new_iommu ≡ after_none iommu (registers_of iommu) (stock_of iommu))
 FetchesCommand memory iommu Stopped new_memory new_iommu =
     StopsFetching (is_processing_commands (registers_of iommu)) memory iommu new_iommu
     × (new_memory ≡ memory)
 
 -- two that have the same registers, the same contexts and translations cached, the same accesses in flight, of which the fence at the head
--- counted as many, and as many frames
+-- counted as many, the same open requests, of which the last fetch opened the same, and as many frames
 pub record AreAlike {C : Type 0} {c : Cache C} (one other : Iommu C c) : Type 0 where
   pub registers : registers_of one ≡ registers_of other
   pub contexts : IsSameContent (contexts_of one) (contexts_of other)
   pub translations : Stays (translations_of one) (translations_of other)
   pub stock : stock_of one ≡ stock_of other
+  pub slots : slots_of one ≡ slots_of other
+  pub opened : opened_of one ≡ opened_of other
   pub flights : flights_of one ≡ flights_of other
   pub frames : frames_of one ≡ frames_of other
 

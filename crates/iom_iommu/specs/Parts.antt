@@ -1,10 +1,12 @@
 -- The parts of the IOMMU, and what a write of software to its registers leaves of it (IOMMU specification, chapter 5).
-use Rattle.std.specs.Prelude.{◌≡◌, ℕ, Bool, Option, None, if◌then◌else◌}
+use Rattle.std.specs.Prelude.{◌≡◌, ℕ, Bool, Option, None, [], if◌then◌else◌}
 use Rattle.iom_registers.specs.declared.register.Register.{Register}
 use Rattle.iom_registers.specs.declared.registers.Registers.{Registers}
 use Rattle.iom_registers.specs.declared.mmio.Mmio.{Ghosts}
 use Rattle.iom_registers.specs.Table.{written, at_power_on}
 use Rattle.iom_registers.specs.Queues.{is_command_queue_on}
+use Rattle.iom_command_queue.specs.declared.slot.Slot.{Slot}
+use Rattle.iom_command_queue.specs.OpenSlots.{OpenSlots, no_slots}
 use Rattle.iom_device_dir.specs.declared.context.Context.{Context}
 use Rattle.iom_device_dir.specs.Cached.{cached_contexts}
 use Rattle.iom_device_dir.specs.Contents.{Content, IsEmptyContent}
@@ -29,9 +31,17 @@ translations_of {c = c} iommu = c.content iommu.translations
 abbrev pub flights_of : {C : Type 0} {c : Cache C} → Iommu C c → Flights
 flights_of iommu = iommu.in_flight
 
--- how many accesses were accepted when the fence at the head was first fetched, if it was
+-- how many accesses were accepted when the fence at the head was first fetched with no slot open, if it was
 abbrev pub stock_of : {C : Type 0} {c : Cache C} → Iommu C c → Option ℕ
 stock_of iommu = iommu.stock
+
+-- the invalidation requests that devices have still to complete, and the last number that one was given
+abbrev pub slots_of : {C : Type 0} {c : Cache C} → Iommu C c → OpenSlots
+slots_of iommu = iommu.slots
+
+-- the request that the last fetch opened, if it did
+abbrev pub opened_of : {C : Type 0} {c : Cache C} → Iommu C c → Option Slot
+opened_of iommu = iommu.opened
 
 -- how many frames the memory has that its calls are lent
 abbrev pub frames_of : {C : Type 0} {c : Cache C} → Iommu C c → ℕ
@@ -41,10 +51,6 @@ frames_of iommu = iommu.frames
 abbrev pub IsAdded : {C : Type 0} {c : Cache C} → Iommu C c → ℕ → Type 0
 IsAdded iommu id = IsAddedTo (flights_of iommu) id
 
--- the IOMMU with other registers, where the fence at the head counted so many accesses
-abbrev pub with_registers : {C : Type 0} {c : Cache C} → Iommu C c → Registers → Option ℕ → Iommu C c
-with_registers iommu registers stock = record iommu { registers = registers; stock = stock }
-
 -- at power-on, beside a memory of so many frames
 pub record IsAtPowerOn {C : Type 0} {c : Cache C} (count : ℕ) (iommu : Iommu C c) : Type 0 where
   pub registers : registers_of iommu ≡ at_power_on
@@ -52,6 +58,8 @@ pub record IsAtPowerOn {C : Type 0} {c : Cache C} (count : ℕ) (iommu : Iommu C
   pub translations : HasNothing (translations_of iommu)
   pub flights : flights_of iommu ≡ no_flights
   pub stock : stock_of iommu ≡ None
+  pub slots : slots_of iommu ≡ no_slots
+  pub opened : opened_of iommu ≡ None
   pub frames : frames_of iommu ≡ count
 
 -- a device is added, unless it is there or 16 are
@@ -61,16 +69,23 @@ pub record AddsDevice {C : Type 0} {c : Cache C} (old : Iommu C c) (id : ℕ) (a
   pub contexts : new.contexts ≡ old.contexts
   pub translations : new.translations ≡ old.translations
   pub stock : stock_of new ≡ stock_of old
+  pub slots : slots_of new ≡ slots_of old
+  pub opened : opened_of new ≡ opened_of old
   pub frames : frames_of new ≡ frames_of old
 
 -- what the fence at the head counted is given up where the command queue is off
 abbrev pub stock_after : Registers → Option ℕ → Option ℕ
 stock_after registers stock = if is_command_queue_on registers then stock else None
 
+-- and no request is open any more; the numbers go on
+abbrev pub slots_after : Registers → OpenSlots → OpenSlots
+slots_after registers slots = if is_command_queue_on registers then slots else record slots { open_slots = [] }
+
 -- the whole of it after a write of a register
 abbrev pub after_write : {C : Type 0} {c : Cache C} → Iommu C c → Register → ℕ → Iommu C c
 after_write iommu register value =
-    let registers = written iommu.registers register value in with_registers iommu registers (stock_after registers iommu.stock)
+    let registers = written iommu.registers register value in
+    record iommu { registers = registers; stock = stock_after registers iommu.stock; slots = slots_after registers iommu.slots }
 
 -- the IOMMU as what has registers: what `impl Mmio for Iommu` says
 abbrev pub mmio : {C : Type 0} {c : Cache C} → Ghosts (Iommu C c)

@@ -2,11 +2,11 @@
 -- 2.8, "Caching in-memory data structures").
 use Rattle.std.specs.Prelude.{◌≡◌, ℕ, ◌/◌, nat_lt, Bool, List, length, Option, None, Some, Result, Ok, Err, if◌then◌else◌}
 use Rattle.iom_base.specs.Causes.{access_fault_of}
-use Rattle.iom_base.specs.Rights.{allows}
+use Rattle.iom_base.specs.Rights.{allows, rw}
 use Rattle.iom_base.specs.Sizes.{page_size}
 use Rattle.iom_base.specs.declared.access.AccessKind.{AccessKind}
 use Rattle.iom_base.specs.declared.cause.Cause.{Cause}
-use Rattle.iom_base.specs.declared.cause.Cause.TheVariants.{AllInboundDisallowed}
+use Rattle.iom_base.specs.declared.cause.Cause.TheVariants.{AllInboundDisallowed, TransactionTypeDisallowed}
 use Rattle.iom_registers.specs.declared.directory.DirectoryMode.{DirectoryMode}
 use Rattle.iom_registers.specs.declared.directory.DirectoryMode.TheVariants as mode
 use Rattle.iom_registers.specs.declared.registers.Registers.{Registers}
@@ -36,10 +36,27 @@ found_context (Some cached) located = Ok cached
 abbrev pub context_for : List (List ℕ) → Registers → Content ℕ Context → ℕ → Result Context Cause
 context_for memory r content id = found_context (content id) (located_context memory r.ddtp id)
 
--- the frame of the address itself, if there is one
-abbrev pub own_page : List (List ℕ) → ℕ → AccessKind → Result ℕ WalkFault
+-- the same where the transaction is of ATS, a question or a translated request: none is let through in the modes Off and Bare, nor by a context that
+-- has EN_ATS clear
+abbrev pub letting_ats : Result Context Cause → Result Context Cause
+letting_ats (Ok context) = if context.en_ats then Ok context else Err TransactionTypeDisallowed
+letting_ats (Err cause) = Err cause
+
+abbrev pub ats_context_in : DirectoryMode → Result Context Cause → Result Context Cause
+ats_context_in mode.Off found = Err AllInboundDisallowed
+ats_context_in mode.Bare found = Err TransactionTypeDisallowed
+ats_context_in mode.OneLevel found = letting_ats found
+ats_context_in mode.TwoLevels found = letting_ats found
+ats_context_in mode.ThreeLevels found = letting_ats found
+
+abbrev pub ats_context_for : List (List ℕ) → Registers → Content ℕ Context → ℕ → Result Context Cause
+ats_context_for memory r content id = ats_context_in (directory_mode r) (context_for memory r content id)
+
+-- the frame of the address itself, if there is one, to be read and written
+abbrev pub own_page : List (List ℕ) → ℕ → AccessKind → Result Translation WalkFault
 own_page memory address kind =
-    if nat_lt (address / page_size) (length memory) then Ok (address / page_size) else Err (plain (access_fault_of kind))
+    if nat_lt (address / page_size) (length memory) then Ok (record { frame = address / page_size; rights = rw })
+    else Err (plain (access_fault_of kind))
 
 -- the page of an address, in the address space that the stages of a context translate: a first stage's is named by PSCID, a second's by GSCID,
 -- that of both by both
@@ -52,61 +69,65 @@ second_key context address = (space.Second context.gscid, address / page_size)
 abbrev pub both_key : Context → ℕ → Key
 both_key context address = (space.Both context.gscid context.pscid.number, address / page_size)
 
--- the frame of a cached translation, where its right allows the access: one with too small a right isn't used
-abbrev pub cached_frame : Option Translation → AccessKind → Option ℕ
-cached_frame None kind = None
-cached_frame (Some translation) kind = if allows translation.rights kind then Some translation.frame else None
+-- a cached translation, where its right allows the access: one with too small a right isn't used
+abbrev pub cached_for : Option Translation → AccessKind → Option Translation
+cached_for None kind = None
+cached_for (Some translation) kind = if allows translation.rights kind then Some translation else None
 
 -- what is kept of a walk
 abbrev pub translation_of : Walked → Translation
 translation_of walked = record { frame = walked.frame; rights = walked.rights }
 
--- the walk reaches this frame, and its translation is kept; or it stops with this fault, and nothing is kept. What it reaches, and with what it stops,
--- is said of the stages that are walked
-abbrev pub Walks : Bool → (Walked → Type 0) → (WalkFault → Type 0) → Key → Translations → Result ℕ WalkFault → Translations → Type 0
-Walks sure Reaches Stops key old (Ok frame) new =
-    (walked : Walked) × Reaches walked × (frame ≡ walked.frame) × Keeps sure old key (translation_of walked) new
+-- the walk reaches this translation, which is kept; or it stops with this fault, and nothing is kept. What it reaches, and with what it stops, is said
+-- of the stages that are walked
+abbrev pub Walks : Bool → (Walked → Type 0) → (WalkFault → Type 0) → Key → Translations → Result Translation WalkFault → Translations → Type 0
+Walks sure Reaches Stops key old (Ok translation) new =
+    (walked : Walked) × Reaches walked × (translation ≡ translation_of walked) × Keeps sure old key (translation_of walked) new
 Walks sure Reaches Stops key old (Err fault) new = Stops fault × Stays old new
 
--- by the frame of a cached translation, if there is one; else by the walk
-abbrev pub LooksOrWalks : Bool → Option ℕ → (Walked → Type 0) → (WalkFault → Type 0) → Key → Translations → Result ℕ WalkFault → Translations → Type 0
+-- by a cached translation, if there is one; else by the walk
+abbrev pub LooksOrWalks : Bool → Option Translation → (Walked → Type 0) → (WalkFault → Type 0) → Key → Translations → Result Translation WalkFault
+    → Translations → Type 0
 LooksOrWalks sure (Some cached) Reaches Stops key old answer new = (answer ≡ Ok cached) × Stays old new
 LooksOrWalks sure None Reaches Stops key old answer new = Walks sure Reaches Stops key old answer new
 
 -- by the stages of a context: where both are Bare, the address is that of memory, and nothing is cached
-abbrev pub Translates : Bool → FirstStage → SecondStage → Context → List (List ℕ) → ℕ → AccessKind → Translations → Result ℕ WalkFault → Translations → Type 0
+abbrev pub Translates : Bool → FirstStage → SecondStage → Context → List (List ℕ) → ℕ → AccessKind → Translations → Result Translation WalkFault
+    → Translations → Type 0
 Translates sure Bare second.Bare context memory address kind old answer new = (answer ≡ own_page memory address kind) × Stays old new
 Translates sure (Sv39 root) second.Bare context memory address kind old answer new =
-    LooksOrWalks sure (cached_frame (old (first_key context address)) kind)
+    LooksOrWalks sure (cached_for (old (first_key context address)) kind)
     (ReachesFirst first_levels memory root.number address kind) (StopsFirst first_levels memory root.number address kind)
     (first_key context address) old answer new
 Translates sure Bare (second.Sv39x4 root) context memory address kind old answer new =
-    LooksOrWalks sure (cached_frame (old (second_key context address)) kind)
+    LooksOrWalks sure (cached_for (old (second_key context address)) kind)
     (ReachesSecond second_levels memory root.number address kind) (StopsSecond second_levels memory root.number address kind)
     (second_key context address) old answer new
 Translates sure (Sv39 first) (second.Sv39x4 second) context memory address kind old answer new =
-    LooksOrWalks sure (cached_frame (old (both_key context address)) kind)
+    LooksOrWalks sure (cached_for (old (both_key context address)) kind)
     (ReachesBoth first_levels second_levels memory first.number second.number address kind)
     (StopsBoth first_levels second_levels memory first.number second.number address kind)
     (both_key context address) old answer new
 
 -- by the context that was found
-abbrev pub ServesBy : Bool → Result Context Cause → List (List ℕ) → ℕ → AccessKind → Translations → Result ℕ WalkFault → Translations → Type 0
+abbrev pub ServesBy : Bool → Result Context Cause → List (List ℕ) → ℕ → AccessKind → Translations → Result Translation WalkFault → Translations → Type 0
 ServesBy sure (Ok context) memory address kind old answer new =
     Translates sure context.first_stage context.second_stage context memory address kind old answer new
 ServesBy sure (Err cause) memory address kind old answer new = (answer ≡ Err (plain cause)) × Stays old new
 
 -- by ddtp's mode: no transaction is allowed, or none is translated, or each by its context
-abbrev pub ServesIn : Bool → DirectoryMode → Result Context Cause → List (List ℕ) → ℕ → AccessKind → Translations → Result ℕ WalkFault → Translations → Type 0
+abbrev pub ServesIn : Bool → DirectoryMode → Result Context Cause → List (List ℕ) → ℕ → AccessKind → Translations → Result Translation WalkFault
+    → Translations → Type 0
 ServesIn sure mode.Off found memory address kind old answer new = (answer ≡ Err (plain AllInboundDisallowed)) × Stays old new
 ServesIn sure mode.Bare found memory address kind old answer new = (answer ≡ own_page memory address kind) × Stays old new
 ServesIn sure mode.OneLevel found memory address kind old answer new = ServesBy sure found memory address kind old answer new
 ServesIn sure mode.TwoLevels found memory address kind old answer new = ServesBy sure found memory address kind old answer new
 ServesIn sure mode.ThreeLevels found memory address kind old answer new = ServesBy sure found memory address kind old answer new
 
--- THE ANSWER to an access of a device, with the translations that are cached before and after: the frame to which it is translated, or the fault
--- for which it isn't. Whether the cache is sure says whether a keep may be refused
-abbrev pub Serves : Bool → List (List ℕ) → Registers → Content ℕ Context → ℕ → ℕ → AccessKind → Translations → Result ℕ WalkFault → Translations → Type 0
+-- THE ANSWER to an access of a device, with the translations that are cached before and after: its translation, or the fault for which it has
+-- none. Whether the cache is sure says whether a keep may be refused
+abbrev pub Serves : Bool → List (List ℕ) → Registers → Content ℕ Context → ℕ → ℕ → AccessKind → Translations → Result Translation WalkFault
+    → Translations → Type 0
 Serves sure memory r contexts id address kind old answer new =
     ServesIn sure (directory_mode r) (context_for memory r contexts id) memory address kind old answer new
 

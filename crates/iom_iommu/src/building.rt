@@ -7,6 +7,7 @@ ghost use Rattle.iom_iommu.specs.Parts.{IsAtPowerOn, AddsDevice, registers_of, f
 
 use crate::iommu::Iommu;
 use iom_base::DeviceId;
+use iom_command_queue::Slots;
 use iom_device_dir::DirCache;
 use iom_inflight::InFlight;
 use iom_registers::{Mmio, RegFault, Register, Registers};
@@ -26,6 +27,8 @@ impl<C: TransCache + Drop> Iommu<C> {
             translations,
             in_flight: InFlight::new(alloc)?,
             stock: None,
+            slots: Slots::new(),
+            opened: None,
             frames,
         })
     }
@@ -70,8 +73,8 @@ impl<C: TransCache> Iommu<C> {
     }
 }
 
-/// What follows a write is what the table of the registers says; and where the queue is off after it, what a
-/// fence at its head had counted is given up.
+/// What follows a write is what the table of the registers says; and where the command queue is off after it, no
+/// invalidation request is open, and what a fence at its head had counted is given up.
 impl<C: TransCache> Mmio for Iommu<C> {
     ghost registers = { registers_of };
 
@@ -88,6 +91,7 @@ impl<C: TransCache> Mmio for Iommu<C> {
         self.registers.set(register, value);
         if !self.registers.is_command_queue_on() {
             self.stock = None;
+            self.slots.close_all();
         }
         Ok(())
     }

@@ -1,14 +1,14 @@
 // The commands are taken one by one (IOMMU specification, section 3.1, "Command-Queue (CQ)").
-ghost use Rattle.std.specs.Prelude.{◌≡◌, true, Some, length};
+ghost use Rattle.std.specs.Prelude.{◌≡◌, ◌+◌, ◌<◌, ◌^◌, true, false, Some, None, length};
 ghost use Rattle.iom_registers.specs.Queues.{is_processing_commands};
 ghost use Rattle.iom_device_dir.specs.Cached.{cached_contexts};
-ghost use Rattle.iom_iommu.specs.Parts.{registers_of, frames_of};
-ghost use Rattle.iom_iommu.specs.Fetches.{FetchesCommand, must_wait, are_waited_for, counted_in, store_of, asks_for_interrupt, Stores, head_entry, DropsContexts};
+ghost use Rattle.iom_iommu.specs.Parts.{registers_of, slots_of, opened_of, frames_of};
+ghost use Rattle.iom_iommu.specs.Fetches.{FetchesCommand, waits_for_accesses, waits_for_slots, are_waited_for, counted_in, store_of, asks_for_interrupt, request_by, slots_by, Stores, head_entry, DropsContexts};
 
 use crate::fetched::Fetched;
 use crate::iommu::Iommu;
 use iom_base::AccessKind;
-use iom_command_queue::{Command, CommandRing, FenceStore, QueueEntry};
+use iom_command_queue::{Command, CommandRing, FenceStore, MAX_SLOTS, QueueEntry, Slot, Slots};
 use iom_device_dir::DirCache;
 use iom_inflight::InFlight;
 use iom_phys_mem::{Bytes, Memory};
@@ -21,9 +21,22 @@ fn are_waited_for(in_flight: &InFlight, before: u64, kind: AccessKind) -> bool
     !in_flight.drained(before, kind)
 }
 
-/// Whether the command has to wait, where so many accesses were accepted before it.
-fn must_wait(command: &Command, in_flight: &InFlight, before: u64) -> bool
-    ensures { result ≡ must_wait command.now in_flight.now before }
+/// Whether the command has to wait for invalidation requests: a fence for each that is open, ATS.INVAL for one of
+/// 32.
+fn waits_for_slots(command: &Command, slots: &Slots) -> bool
+    ensures { result ≡ waits_for_slots command.now slots.now }
+{
+    match *command {
+        Command::IofenceC { .. } => slots.len() != 0,
+        Command::AtsInval { .. } => slots.len() == MAX_SLOTS,
+        Command::IotinvalVma { .. } | Command::IotinvalGvma { .. } => false,
+        Command::IodirInvalDdt { .. } => false,
+    }
+}
+
+/// Whether the command has to wait for accesses, where so many were accepted before it.
+fn waits_for_accesses(command: &Command, in_flight: &InFlight, before: u64) -> bool
+    ensures { result ≡ waits_for_accesses command.now in_flight.now before }
 {
     match *command {
         Command::IofenceC { pr, pw, .. } => {
@@ -84,17 +97,38 @@ fn drop_contexts(contexts: &mut DirCache, command: &Command)
     }
 }
 
+/// Opens the invalidation request that the command is, if it is one.
+fn open_request(slots: &mut Slots, command: &Command) -> Option<Slot>
+    requires serials { slots.old.last + 1 < 2 ^ 64 }
+    requires room { waits_for_slots command.now slots.old ≡ false }
+    ensures request { result ≡ request_by command.now slots.old }
+    ensures slots { slots.new ≡ slots_by command.now slots.old }
+{
+    match *command {
+        Command::AtsInval { device, .. } => {
+            let device = device.number();
+            let serial = slots.open(device)?;
+            Some(Slot { serial, device })
+        }
+        Command::IotinvalVma { .. } | Command::IotinvalGvma { .. } => None,
+        Command::IofenceC { .. } | Command::IodirInvalDdt { .. } => None,
+    }
+}
+
 impl<C: TransCache> Iommu<C> {
     /// Takes the command at the head from memory and does it.
     ///
-    /// The head stays, and memory with it, unless the answer is `Did`. A fence with PR or PW waits for the
-    /// accesses that were accepted before its first fetch, and for no later ones. A fetch that finds an illegal
-    /// command sets `cmd_ill`. One that can't load the command, or not store a fence's word, sets `cqmf`.
-    /// These two answer `Stopped`, and so does each fetch until software clears the bit.
+    /// The head stays, and memory with it, unless the answer is `Did`. A fence waits while an invalidation request is
+    /// open; then, with PR or PW, for the accesses that were accepted before its first fetch that found none open, and
+    /// for no later ones. An ATS.INVAL waits while 32 requests are open, and opens one for its device. A fetch that
+    /// finds an illegal command sets `cmd_ill`. One that can't load the command, or not store a fence's word, sets
+    /// `cqmf`. These two answer `Stopped`, and so does each fetch until software clears the bit.
     pub fn fetch(&mut self, memory: &mut Memory) -> Fetched
-        requires { length memory.old ≡ frames_of self.old }
+        requires memory { length memory.old ≡ frames_of self.old }
+        requires serials { (slots_of self.old).last + 1 < 2 ^ 64 }
         ensures { FetchesCommand memory.old self.old result memory.new self.new }
     {
+        self.opened = None;
         if !self.registers.is_processing_commands() {
             return Fetched::Stopped;
         }
@@ -123,10 +157,15 @@ impl<C: TransCache> Iommu<C> {
     fn take(&mut self, memory: &mut Memory, command: Command) -> Fetched
         requires on { is_processing_commands (registers_of self.old) ≡ true }
         requires stands { head_entry memory.old (registers_of self.old) ≡ Some (QueueEntry.Command command) }
+        requires serials { (slots_of self.old).last + 1 < 2 ^ 64 }
+        requires none { opened_of self.old ≡ None }
         ensures { FetchesCommand memory.old self.old result memory.new self.new }
     {
+        if waits_for_slots(&command, &self.slots) {
+            return Fetched::Waiting;
+        }
         let before = self.counted();
-        if must_wait(&command, &self.in_flight, before) {
+        if waits_for_accesses(&command, &self.in_flight, before) {
             self.stock = Some(before);
             return Fetched::Waiting;
         }
@@ -143,6 +182,7 @@ impl<C: TransCache> Iommu<C> {
         }
         drop_contexts(&mut self.contexts, &command);
         invalidate(&mut self.translations, &command);
+        self.opened = open_request(&mut self.slots, &command);
         Fetched::Did(command)
     }
 }

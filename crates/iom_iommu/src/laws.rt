@@ -1,13 +1,13 @@
 //! Laws of fetches: functions that do nothing, whose contracts are proved. Each speaks of any memory `m` and
 //! IOMMU `i` before a fetch, over any cache of translations, and of what it leaves: `n` and `j`.
-ghost use Rattle.std.specs.Prelude.{◌≡◌, ◌↔◌, ℕ, List, true, false, [], ◌∷◌, length, slice_get};
+ghost use Rattle.std.specs.Prelude.{◌≡◌, ◌↔◌, ◌+◌, ◌≤◌, ℕ, List, true, false, [], ◌∷◌, length, slice_get};
 ghost use Rattle.iom_registers.specs.Queues.{command_base, command_entries, command_tail, is_command_queue_on, is_processing_commands, directory_mode, directory_root};
 ghost use Rattle.iom_command_queue.specs.declared.command.Command.{Command};
 ghost use Rattle.iom_command_queue.specs.Waiting.{commands_in};
 ghost use Rattle.iom_iommu.specs.declared.fetched.Fetched.{Fetched as Answer};
 ghost use Rattle.iom_iommu.specs.declared.iommu.Iommu.{Iommu};
-ghost use Rattle.iom_iommu.specs.Parts.{registers_of};
-ghost use Rattle.iom_iommu.specs.Fetches.{FetchesCommand, AreAlike, store_of, IsStoredIn, IsOffRing, LeavesFaultQueue};
+ghost use Rattle.iom_iommu.specs.Parts.{registers_of, stock_of, slots_of};
+ghost use Rattle.iom_iommu.specs.Fetches.{FetchesCommand, AreAlike, after_none, store_of, IsStoredIn, IsOffRing, LeavesFaultQueue};
 
 use crate::fetched::Fetched;
 use iom_command_queue::QueueEntry;
@@ -42,12 +42,12 @@ pub fn finds_empty<C: TransCache>()
 {}
 
 /// `Stopped` comes exactly where commands aren't processed afterwards. Where they weren't before, nothing
-/// changes.
+/// changes, but that this fetch opened no request.
 pub fn stops<C: TransCache>()
     ensures after { (m n : List (List ℕ)) (i j : Iommu C C.TransCache) (answer : Answer) → FetchesCommand m i answer n j
         → (answer ≡ Fetched.Stopped) ↔ (is_processing_commands (registers_of j) ≡ false) }
     ensures stays { (m n : List (List ℕ)) (i j : Iommu C C.TransCache) (answer : Answer) → FetchesCommand m i answer n j
-        → is_processing_commands (registers_of i) ≡ false → (n ≡ m) × (j ≡ i) }
+        → is_processing_commands (registers_of i) ≡ false → (n ≡ m) × (j ≡ after_none i (registers_of i) (stock_of i)) }
 {}
 
 /// Each frame but that of the stored word is as it was, and there are as many.
@@ -67,4 +67,10 @@ pub fn leaves_setup<C: TransCache>()
         × (directory_mode new ≡ directory_mode old) × (directory_root new ≡ directory_root old) }
     ensures faults { (m n : List (List ℕ)) (i j : Iommu C C.TransCache) (answer : Answer) → FetchesCommand m i answer n j
         → LeavesFaultQueue (registers_of i) (registers_of j) }
+{}
+
+/// A fetch gives one number to an invalidation request at most.
+pub fn opens_one<C: TransCache>()
+    ensures { (m n : List (List ℕ)) (i j : Iommu C C.TransCache) (answer : Answer) → FetchesCommand m i answer n j
+        → (slots_of j).last ≤ (slots_of i).last + 1 }
 {}

@@ -11,16 +11,17 @@ ghost use Rattle.iom_iommu.specs.Requests.{access_of, AnswersRequest, CommitsOld
 
 use crate::iommu::Iommu;
 use crate::reply::Reply;
-use crate::reports::report;
+use crate::reports::{faulted, report};
 use crate::service::serve;
 use iom_base::{AccessKind, DeviceId, Span};
+use iom_fault_queue::Transaction;
 use iom_inflight::{InFlight, MadeAt};
 use iom_phys_mem::Memory;
 use iom_tlb::TransCache;
 
 /// The access of the device, whose row stands at this place and has room, is accepted: its number among the
 /// device's.
-fn accept(
+pub(crate) fn accept(
     in_flight: &mut InFlight,
     device: DeviceId,
     place: usize,
@@ -83,7 +84,7 @@ impl<C: TransCache> Iommu<C> {
             address,
             kind,
         ) {
-            Ok(frame) => Reply::Accepted(accept(
+            Ok(translation) => Reply::Accepted(accept(
                 &mut self.in_flight,
                 device,
                 place,
@@ -91,10 +92,11 @@ impl<C: TransCache> Iommu<C> {
                 span.len,
                 kind,
                 bytes,
-                frame,
+                translation.frame,
             )),
             Err(fault) => {
-                report(memory, &mut self.registers, device, address, kind, fault);
+                let request = faulted(device, Transaction::untranslated(kind), address);
+                report(memory, &mut self.registers, request, fault);
                 Reply::Fault(fault.cause)
             }
         }

@@ -4,6 +4,7 @@
 // test owns its bench in a box: of what it owns in place each later proof would carry every part.
 use crate::setup::{BASE_VALUE, CQB, CQCSR, DDTP, DEVICE, FRAMES, RING, width_at};
 use iom_base::AccessKind;
+use iom_fabric::{PageNumber, Translation};
 use iom_inflight::MadeAt;
 use iom_iommu::{Fetched, Iommu, Reply};
 use iom_phys_mem::{Bytes, Memory};
@@ -130,7 +131,26 @@ impl Bench {
     pub(crate) fn fetch(&mut self, rt: &impl Abort) -> Fetched {
         let is_its = self.memory.frames() == self.iommu.frames();
         assert!(rt; is_its);
+        let has_number = self.iommu.slots().last() < u64::MAX;
+        assert!(rt; has_number);
         self.iommu.fetch(&mut self.memory)
+    }
+
+    /// The last fetch opened the invalidation request with this number to this device.
+    pub(crate) fn expect_opened(&self, rt: &impl Abort, expected: Option<(u64, u32)>) {
+        let seen = self.iommu.opened().map(|slot| (slot.serial, slot.device));
+        assert_eq!(rt; seen, expected);
+    }
+
+    /// The device says that it completed the invalidation request with this number.
+    pub(crate) fn expect_done(
+        &mut self,
+        rt: &impl Abort,
+        device: u32,
+        serial: u64,
+        expected: bool,
+    ) {
+        assert_eq!(rt; self.iommu.done(device, serial), expected);
     }
 
     pub(crate) fn expect_fetch(&mut self, rt: &impl Abort, expected: Fetched) {
@@ -169,6 +189,45 @@ impl Bench {
         expected: Reply,
     ) {
         assert_eq!(rt; self.ask(rt, device, address, bytes), expected);
+    }
+
+    /// The device asks for a read of one byte, or for a write of these, by a translated request.
+    fn ask_translated(&mut self, rt: &impl Abort, address: u64, bytes: &[u8]) -> Reply {
+        let is_its = self.memory.frames() == self.iommu.frames();
+        assert!(rt; is_its);
+        let is_added = self.iommu.is_added(DEVICE);
+        assert!(rt; is_added);
+        let has_room = self.iommu.so_far() < u64::MAX;
+        assert!(rt; has_room);
+        let (len, kind) = if bytes.is_empty() {
+            (1, AccessKind::Read)
+        } else {
+            (bytes.len() as u64, AccessKind::Write)
+        };
+        self.iommu
+            .translated(&mut self.memory, DEVICE, address, len, kind, bytes)
+    }
+
+    pub(crate) fn expect_translated(
+        &mut self,
+        rt: &impl Abort,
+        address: u64,
+        bytes: &[u8],
+        expected: Reply,
+    ) {
+        assert_eq!(rt; self.ask_translated(rt, address, bytes), expected);
+    }
+
+    /// The device asks for the translation of a page.
+    pub(crate) fn question(&mut self, rt: &impl Abort, page: u64) -> Option<Translation> {
+        let is_its = self.memory.frames() == self.iommu.frames();
+        assert!(rt; is_its);
+        let page = PageNumber::new(page)?;
+        Some(self.iommu.ask(&mut self.memory, DEVICE, page))
+    }
+
+    pub(crate) fn expect_answer(&mut self, rt: &impl Abort, page: u64, expected: Translation) {
+        assert_eq!(rt; self.question(rt, page), Some(expected));
     }
 
     /// The oldest access of the device is made.

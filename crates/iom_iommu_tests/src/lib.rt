@@ -17,6 +17,10 @@ mod expect;
 #[cfg(test)]
 mod fences;
 #[cfg(test)]
+mod invalidations;
+#[cfg(test)]
+mod questions;
+#[cfg(test)]
 mod records;
 #[cfg(test)]
 mod requests;
@@ -30,5 +34,7 @@ mod stages;
 mod stops;
 #[cfg(test)]
 mod table;
+#[cfg(test)]
+mod translated;
 #[cfg(test)]
 mod translations;

@@ -50,7 +50,7 @@ fn refused(rt: &impl Abort, bench: &mut Bench, address: u64, bytes: &[u8], cause
 }
 
 /// The record at this place of the queue has these words.
-fn has_record(rt: &impl Abort, bench: &Bench, place: u32, words: [u64; 4]) {
+pub(crate) fn has_record(rt: &impl Abort, bench: &Bench, place: u32, words: [u64; 4]) {
     let address = 0x3e000 + 32 * u64::from(place);
     for (n, word) in words.iter().enumerate() {
         bench.expect_word(rt, address + 8 * n as u64, *word);

@@ -2,7 +2,7 @@
 use Rattle.std.proofs.Common.{◌∙◌, ◌/◌, sym}
 use Rattle.iom_iommu.specs.Stages.{ReachesThrough, StopsThrough}
 use Rattle.iom_iommu.proofs.StageLemmas.{walked, through}
-use Rattle.iom_iommu.proofs.service.translate.Goals as goal
+use Rattle.iom_iommu.proofs.translations.translate.Goals as goal
 
 pub returns-in-None-clause-translated : goal.returns-in-None-clause-translated
 returns-in-None-clause-translated g c =

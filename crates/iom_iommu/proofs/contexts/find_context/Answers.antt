@@ -1,7 +1,7 @@
 -- What is kept is what the directory has.
 use Rattle.iom_device_dir.specs.Cached.{cached_contexts}
 use Rattle.iom_iommu.proofs.ServiceLemmas.{kept_after_look}
-use Rattle.iom_iommu.proofs.service.find_context.Goals as goal
+use Rattle.iom_iommu.proofs.contexts.find_context.Goals as goal
 
 pub returns-in-None-clause-kept : goal.returns-in-None-clause-kept
 returns-in-None-clause-kept c =

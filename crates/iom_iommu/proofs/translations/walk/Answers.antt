@@ -1,6 +1,6 @@
 -- The walk is that of the stages that aren't Bare.
 use Rattle.iom_iommu.proofs.StageLemmas.{walks_first, walks_second, walks_both}
-use Rattle.iom_iommu.proofs.service.walk.Goals as goal
+use Rattle.iom_iommu.proofs.translations.walk.Goals as goal
 
 pub returns-in-Sv39-Bare-clause-reached : goal.returns-in-Sv39-Bare-clause-reached
 returns-in-Sv39-Bare-clause-reached c =

@@ -1,0 +1,82 @@
+// The context of a device: the cached one, or the one that the directory has (IOMMU specification, section 2.3.1, "Process to
+// locate the Device-context", and section 2.8, "Caching in-memory data structures").
+ghost use Rattle.std.specs.Prelude.{◌≡◌, ◌≢◌, None};
+ghost use Rattle.iom_registers.specs.Queues.{directory_mode};
+ghost use Rattle.iom_registers.specs.declared.directory.DirectoryMode.TheVariants.{Bare};
+ghost use Rattle.iom_device_dir.specs.Cached.{cached_contexts};
+ghost use Rattle.iom_device_dir.specs.Located.{located_context};
+ghost use Rattle.iom_iommu.specs.Service.{context_for, ats_context_for, letting_ats, KeepsLocated, KeepsContext};
+
+use iom_base::{Cause, DeviceId};
+use iom_device_dir::{Context, DirCache, locate};
+use iom_phys_mem::Memory;
+use iom_registers::{DirectoryMode, DirectoryPointer, Registers};
+
+/// The context that the directory has for the device. It is kept.
+fn find_in_directory(
+    memory: &Memory,
+    registers: &Registers,
+    contexts: &mut DirCache,
+    device: DeviceId,
+) -> Result<Context, Cause>
+    requires { directory_mode registers.now ≢ Bare }
+    ensures found { result ≡ located_context memory.now registers.now.ddtp device }
+    ensures kept { KeepsLocated None result (cached_contexts contexts.old) device (cached_contexts contexts.new) }
+{
+    let pointer = DirectoryPointer {
+        mode: registers.directory_mode(),
+        ppn: registers.directory_root(),
+    };
+    let context = locate(memory, pointer, device)?;
+    contexts.keep(device, context);
+    Ok(context)
+}
+
+/// The context of the device: the cached one, or else the one that the directory has, which is kept.
+pub(crate) fn find_context(
+    memory: &Memory,
+    registers: &Registers,
+    contexts: &mut DirCache,
+    device: DeviceId,
+) -> Result<Context, Cause>
+    requires { directory_mode registers.now ≢ Bare }
+    ensures found { result ≡ context_for memory.now registers.now (cached_contexts contexts.old) device }
+    ensures kept { KeepsLocated (cached_contexts contexts.old device) (located_context memory.now registers.now.ddtp device)
+        (cached_contexts contexts.old) device (cached_contexts contexts.new) }
+{
+    match contexts.look(device) {
+        Some(cached) => Ok(cached),
+        None => find_in_directory(memory, registers, contexts, device),
+    }
+}
+
+/// The context, unless it has EN_ATS clear.
+fn letting_ats(found: Result<Context, Cause>) -> Result<Context, Cause>
+    ensures { result ≡ letting_ats found }
+{
+    match found {
+        Ok(context) if context.en_ats => Ok(context),
+        Ok(_) => Err(Cause::TransactionTypeDisallowed),
+        Err(cause) => Err(cause),
+    }
+}
+
+/// The context that lets the device ask for translations and make translated requests. It is kept where it was found
+/// in the directory, also where it doesn't let it.
+pub(crate) fn find_ats_context(
+    memory: &Memory,
+    registers: &Registers,
+    contexts: &mut DirCache,
+    device: DeviceId,
+) -> Result<Context, Cause>
+    ensures found { result ≡ ats_context_for memory.now registers.now (cached_contexts contexts.old) device }
+    ensures kept { KeepsContext memory.now registers.now (cached_contexts contexts.old) device (cached_contexts contexts.new) }
+{
+    match registers.directory_mode() {
+        DirectoryMode::Off => Err(Cause::AllInboundDisallowed),
+        DirectoryMode::Bare => Err(Cause::TransactionTypeDisallowed),
+        DirectoryMode::OneLevel | DirectoryMode::TwoLevels | DirectoryMode::ThreeLevels => {
+            letting_ats(find_context(memory, registers, contexts, device))
+        }
+    }
+}
