@@ -42,6 +42,7 @@ keeps_asked_counted laws driver old new events id access told sound own is below
       processing = sound.processing;
       size = sound.size;
       known = sound.known;
+      slots = sound.slots;
       confirmed = sound.confirmed;
       small = sound.small;
       counted = omega (arith, below);

@@ -58,6 +58,7 @@ leaves_made old new events id made sound is call unreserved driver devices =
           (owned_differs old.driver.marks frame is.oldest.accepted.frame owner mark free);
       registers = call.registers;
       frames = call.frames;
+      slots = λ none. call.slots ∙ none;
       rows = ap (λ (f : Flights). row_ids f.rows) is.after ∙ row_ids_kept (flights_of old.iommu).rows (record is.row { waiting = is.later });
       driver = driver;
       devices = devices;
@@ -69,6 +70,7 @@ leaves_none old new id call driver devices = record {
   reserved = λ frame owner mark. ap (λ m. slice_get m frame) call.makes.1;
   registers = call.registers;
   frames = call.frames;
+  slots = λ none. call.slots ∙ none;
   rows = ap (λ (f : Flights). row_ids f.rows) call.makes.2;
   driver = driver;
   devices = devices;

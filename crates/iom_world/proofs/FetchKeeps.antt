@@ -5,6 +5,7 @@ use Rattle.std.proofs.Math.Logic.{∥∥₁_map}
 use Rattle.std.proofs.lemmas.Bool.{false≢true, and_parts, eqb-true, eq-eqb, leb-true, le-leb}
 use Rattle.std.proofs.lemmas.Bool.Decides.{eqb_tells}
 use Rattle.std.proofs.lemmas.Grind.{not_there}
+use Rattle.iom_command_queue.specs.OpenSlots.{OpenSlots}
 use Rattle.iom_command_queue.specs.declared.command.Command.{Command as Commanded}
 use Rattle.iom_command_queue.specs.declared.command.Command.TheVariants.{IotinvalVma, IotinvalGvma, IofenceC, IodirInvalDdt, AtsInval}
 use Rattle.iom_command_queue.specs.declared.command.FenceStore.{FenceStore}
@@ -28,8 +29,8 @@ use Rattle.iom_inflight.specs.Flights.{Flights, are_drained}
 use Rattle.iom_iommu.specs.declared.fetched.Fetched.{Fetched}
 use Rattle.iom_iommu.specs.declared.fetched.Fetched.TheVariants.{Did, Waiting, Empty, Stopped}
 use Rattle.iom_world.specs.OwnIommu.{Iommu}
-use Rattle.iom_iommu.specs.Fetches.{FetchesCommand, DropsContexts, DropsTranslations, counted_in, must_wait, WaitsAt, store_of, with_store, with_done, IsStorable, IsStoredIn, IsOffRing, StopsAtEntry, StopsFetching, head_entry}
-use Rattle.iom_iommu.specs.Parts.{registers_of, contexts_of, translations_of, flights_of, with_registers}
+use Rattle.iom_iommu.specs.Fetches.{FetchesCommand, DropsContexts, DropsTranslations, counted_in, waits_for_accesses, is_held, slots_by, after_none, stock_at, WaitsAt, store_of, with_store, with_done, IsStorable, IsStoredIn, IsOffRing, StopsAtEntry, StopsFetching, head_entry}
+use Rattle.iom_iommu.specs.Parts.{registers_of, contexts_of, translations_of, flights_of, stock_of, slots_of}
 use Rattle.iom_iommu.proofs.FetchLemmas.{takes_first, leaves_frames}
 use Rattle.iom_machine.specs.declared.outcome.Outcome.{Outcome}
 use Rattle.iom_phys_mem.specs.Words.{word_at, with_word}
@@ -274,14 +275,26 @@ not_waited true true it = (refl, refl)
 not_waited true false it = absurd (false≢true (sym it))
 not_waited false b it = absurd (false≢true (sym it))
 
-done_if : (command : Commanded) (flights : Flights) (before : ℕ) → must_wait command flights before ≡ false → DoneIfFence command before (accesses_of flights.rows)
+done_if : (command : Commanded) (flights : Flights) (before : ℕ) → waits_for_accesses command flights before ≡ false → DoneIfFence command before (accesses_of flights.rows)
 done_if (IotinvalVma gscid pscid page) flights before free = tt
 done_if (IofenceC store wsi pr pw) flights before free = λ address number same.
-    let both = not_waited (are_drained flights before Read) (are_drained flights before Write) (subst (λ c. must_wait c flights before ≡ false) same free) in
+    let both = not_waited (are_drained flights before Read) (are_drained flights before Write) (subst (λ c. waits_for_accesses c flights before ≡ false) same free) in
     drained_after flights before both.0 both.1
 done_if (IodirInvalDdt device) flights before free = tt
 done_if (IotinvalGvma gscid page) flights before free = tt
 done_if (AtsInval device range) flights before free = tt
+
+second_not : (a b : Bool) → (a || b) ≡ false → b ≡ false
+second_not true b it = absurd (false≢true (sym it))
+second_not false b it = it
+
+-- a command of the driver's opens no invalidation request
+opens_none : (address low given : ℕ) (command : Commanded) (slots : OpenSlots) → IsNext address low given command → slots_by command slots ≡ slots
+opens_none address low given (IotinvalVma gscid pscid page) slots next = refl
+opens_none address low given (IofenceC store wsi pr pw) slots next = refl
+opens_none address low given (IodirInvalDdt device) slots next = refl
+opens_none address low given (IotinvalGvma gscid page) slots next = refl
+opens_none address low given (AtsInval device range) slots next = absurd next
 
 -- processing doesn't stop
 pub never_stops : (old : Parts) (events : ℕ) (next : Iommu) → AreSound old events → 64 ≤ length old.memory → StopsFetching (is_processing_commands (registers_of old.iommu)) old.memory old.iommu next → ⊥
@@ -340,7 +353,7 @@ keeps_done old new events command sound own stays fetches driver devices =
       contexts = cached_as command (contexts_of old.iommu) (contexts_of new.iommu) left.contexts;
       translations = translations_as command (translations_of old.iommu) (translations_of new.iommu) left.translations;
       stock = left.stock;
-      done = done_if command (flights_of old.iommu) (counted_in old.iommu) fetches.2;
+      done = done_if command (flights_of old.iommu) (counted_in old.iommu) (second_not _ _ fetches.2);
     } in
     record {
       ready = rw driver (stays old.memory new.memory r (registers_of new.iommu) sound.ready keeps (subst (λ s. KeepsRing r s) (sym left.registers) kept.0));
@@ -352,6 +365,7 @@ keeps_done old new events command sound own stays fetches driver devices =
         driver = rw (driver, devices) sound.known.driver;
         iommu = ap (λ (f : Flights). row_ids f.rows) left.flights ∙ rw devices sound.known.iommu;
       };
+      slots = left.slots ∙ opens_none address done given command (slots_of old.iommu) next ∙ sound.slots;
       confirmed = rw (after, driver) (omega (arith, confirmed, more));
       small = rw driver sound.small;
       counted = subst (λ (f : Flights). f.so_far ≤ events) (sym left.flights) sound.counted;
@@ -361,7 +375,7 @@ keeps_done old new events command sound own stays fetches driver devices =
 
 -- what waits at the head is a fence of the driver's
 waits_fence : (old : Parts) (events : ℕ) → AreSound old events → (command : Commanded) → head_entry old.memory (registers_of old.iommu) ≡ Some (Command command)
-    → must_wait command (flights_of old.iommu) (counted_in old.iommu) ≡ true
+    → is_held command old.iommu ≡ true
     → (number : ℕ) × (later : List QueueEntry) × (commands_in old.memory (registers_of old.iommu) ≡ Command (fence (completion_address (length old.memory)) number) ∷ later)
 waits_fence old events sound (IotinvalVma gscid pscid page) at waits = absurd (false≢true waits)
 waits_fence old events sound (IofenceC store wsi pr pw) at waits =
@@ -370,35 +384,42 @@ waits_fence old events sound (IofenceC store wsi pr pw) at waits =
     (next.0, list.0, list.1 ∙ ap (λ c. Command c ∷ list.0) next.1)
 waits_fence old events sound (IodirInvalDdt device) at waits = absurd (false≢true waits)
 waits_fence old events sound (IotinvalGvma gscid page) at waits = absurd (false≢true waits)
-waits_fence old events sound (AtsInval device range) at waits = absurd (false≢true waits)
+waits_fence old events sound (AtsInval device range) at waits = absurd (head_next old events sound (AtsInval device range) at)
 
--- a fence that waits has counted
-keeps_counted : (old : Parts) (events : ℕ) → AreSound old events → WaitsAt (head_entry old.memory (registers_of old.iommu)) (flights_of old.iommu) (counted_in old.iommu)
-    → AreSound (record old { iommu = with_registers old.iommu (registers_of old.iommu) (Some (counted_in old.iommu)) }) events
-keeps_counted old events sound waits = record {
+-- a fence that waits has counted, since no invalidation request is open
+keeps_counted : (old : Parts) (events : ℕ) → AreSound old events → WaitsAt (head_entry old.memory (registers_of old.iommu)) old.iommu
+    → AreSound (record old { iommu = after_none old.iommu (registers_of old.iommu) (stock_at (head_entry old.memory (registers_of old.iommu)) old.iommu) }) events
+keeps_counted old events sound waits = subst (λ stock. AreSound (record old { iommu = after_none old.iommu (registers_of old.iommu) stock }) events) (sym counted) (record {
   ready = sound.ready;
   started = sound.started;
   processing = sound.processing;
   size = sound.size;
   known = record { own_ids = sound.known.own_ids; driver = sound.known.driver; iommu = sound.known.iommu };
+  slots = sound.slots;
   confirmed = sound.confirmed;
   small = sound.small;
   counted = sound.counted;
   contexts = sound.contexts;
-  copies = ∥∥₁_map sound.copies (count_scene (values_of old) (values_of (record old { iommu = with_registers old.iommu (registers_of old.iommu) (Some (counted_in old.iommu)) })) counts);
-}
+  copies = ∥∥₁_map sound.copies
+      (count_scene (values_of old) (values_of (record old { iommu = after_none old.iommu (registers_of old.iommu) (Some (counted_in old.iommu)) })) counts);
+})
   where
     head : (number : ℕ) × (later : List QueueEntry) × (commands_in old.memory (registers_of old.iommu) ≡ Command (fence (completion_address (length old.memory)) number) ∷ later)
     head = by (head_entry old.memory (registers_of old.iommu)) refl waits
       where
-        by : (entry : Option QueueEntry) → head_entry old.memory (registers_of old.iommu) ≡ entry → WaitsAt entry (flights_of old.iommu) (counted_in old.iommu)
+        by : (entry : Option QueueEntry) → head_entry old.memory (registers_of old.iommu) ≡ entry → WaitsAt entry old.iommu
             → (number : ℕ) × (later : List QueueEntry) × (commands_in old.memory (registers_of old.iommu) ≡ Command (fence (completion_address (length old.memory)) number) ∷ later)
         by None at it = absurd it
         by (Some (Command command)) at it = waits_fence old events sound command at it
         by (Some (Illegal reason)) at it = absurd it
         by (Some Outside) at it = absurd it
 
-    counts : CountsAtHead (values_of old) (values_of (record old { iommu = with_registers old.iommu (registers_of old.iommu) (Some (counted_in old.iommu)) }))
+    counted : stock_at (head_entry old.memory (registers_of old.iommu)) old.iommu ≡ Some (counted_in old.iommu)
+    counted =
+        ap (λ (l : List QueueEntry). stock_at (slice_get l 0) old.iommu) head.2
+        ∙ ap (λ (slots : OpenSlots). if not (length slots.open_slots == 0) then stock_of old.iommu else Some (counted_in old.iommu)) sound.slots
+
+    counts : CountsAtHead (values_of old) (values_of (record old { iommu = after_none old.iommu (registers_of old.iommu) (Some (counted_in old.iommu)) }))
     counts = record {
       keeps = record { ledger = refl; address = refl; given = refl; confirmed = refl; plugged = λ d. refl; attachments = λ d. refl; spaces = λ d. refl };
       waiting = refl;
@@ -411,21 +432,34 @@ keeps_counted old events sound waits = record {
       stock = refl;
     }
 
+-- where no command is done, and none waits, all that is kept stays
+keeps_unopened : (old : Parts) (events : ℕ) → AreSound old events → AreSound (record old { iommu = after_none old.iommu (registers_of old.iommu) (stock_of old.iommu) }) events
+keeps_unopened old events sound = record {
+  ready = sound.ready;
+  started = sound.started;
+  processing = sound.processing;
+  size = sound.size;
+  known = record { own_ids = sound.known.own_ids; driver = sound.known.driver; iommu = sound.known.iommu };
+  slots = sound.slots;
+  confirmed = sound.confirmed;
+  small = sound.small;
+  counted = sound.counted;
+  contexts = sound.contexts;
+  copies = sound.copies;
+}
+
 pub keeps_fetched : (old new : Parts) (events : ℕ) (told : Outcome) → AreSound old events → IsSoundDriver old.driver → StaysReady old.driver → FetchesNext old told new → AreSound new events
 keeps_fetched old new events told sound own stays fetches = by fetches.answer fetches.call
   where
     many : 64 ≤ length old.memory
     many = let m = own.sizes.size.0 in let size = sound.ready.stand.size in omega (arith, size, m)
 
-    same : new.memory ≡ old.memory → new.iommu ≡ old.iommu → AreSound new events
-    same memory iommu =
-        subst (λ parts. AreSound parts events) (sym (parts_are new old.memory old.iommu old.driver old.devices memory iommu fetches.driver fetches.devices)) sound
+    left : (iommu : Iommu) → AreSound (record old { iommu = iommu }) events → new.memory ≡ old.memory → new.iommu ≡ iommu → AreSound new events
+    left iommu kept memory is =
+        subst (λ parts. AreSound parts events) (sym (parts_are new old.memory iommu old.driver old.devices memory is fetches.driver fetches.devices)) kept
 
     by : (answer : Fetched) → FetchesCommand old.memory old.iommu answer new.memory new.iommu → AreSound new events
     by (Did command) call = keeps_done old new events command sound own stays call fetches.driver fetches.devices
-    by Waiting call =
-        subst (λ parts. AreSound parts events)
-        (sym (parts_are new old.memory (with_registers old.iommu (registers_of old.iommu) (Some (counted_in old.iommu))) old.driver old.devices call.2 call.3 fetches.driver fetches.devices))
-        (keeps_counted old events sound call.1)
-    by Empty call = same call.2 call.3
+    by Waiting call = left _ (keeps_counted old events sound call.1) call.2 call.3
+    by Empty call = left _ (keeps_unopened old events sound) call.2 call.3
     by Stopped call = absurd (never_stops old events new.iommu sound many call.0)

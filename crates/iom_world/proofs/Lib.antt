@@ -53,6 +53,7 @@ pub mod RunLemmas
 pub mod SceneCalls
 pub mod SceneSteps
 pub mod ServedLemmas
+pub mod SlotLemmas
 pub mod SoundFrom
 pub mod SoundLemmas
 pub mod StartLemmas

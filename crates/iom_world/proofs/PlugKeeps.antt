@@ -149,7 +149,7 @@ module _ (old new : Parts) (events id : ℕ) (kind : DeviceKind) (sound : AreSou
   pub plugged_sound : AreSound new events
   plugged_sound =
       sound_from old new events sound leaves
-      (record { processing = ap is_processing_commands row.registers; frames = row.frames; so_far = counted_now })
+      (record { processing = ap is_processing_commands row.registers; frames = row.frames; so_far = counted_now; slots = λ none. row.slots ∙ none })
       (ap (λ (d : DriverState). d.started) driver_now) ready known_now
       (subst (λ (d : DriverState). d.confirmed ≤ completed_in old.memory) (sym driver_now) sound.confirmed)
       (subst (λ (d : DriverState). d.given < 2 ^ 32) (sym driver_now) sound.small)

@@ -47,6 +47,7 @@ keeps_stored old frame bytes events sound own stays free =
       reserved = λ n owner at. get_set_other old.memory frame n bytes (owned_differs old.driver.marks n frame owner at free);
       registers = refl;
       frames = refl;
+      slots = λ none. none;
       rows = refl;
       driver = refl;
       devices = refl;

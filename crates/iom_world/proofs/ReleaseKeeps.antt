@@ -3,6 +3,8 @@ use Rattle.std.proofs.Common.{◌≡◌, ◌≢◌, ◌+◌, ◌^◌, ◌<◌, �
 use Rattle.std.specs.Option.{option_map}
 use Rattle.std.proofs.Math.Logic.{∥∥₁_map}
 use Rattle.std.proofs.lemmas.Bool.{leb-false, and_parts}
+use Rattle.iom_world.proofs.SlotLemmas.{none_written}
+use Rattle.iom_command_queue.specs.OpenSlots.{no_slots}
 use Rattle.iom_base.specs.declared.owner.Owner.{Owner}
 use Rattle.iom_base.specs.declared.owner.Owner.TheVariants.{System, OneDevice}
 use Rattle.iom_command_queue.specs.declared.command.Command.{Command}
@@ -20,7 +22,7 @@ use Rattle.iom_driver.specs.Ready.{IsReady}
 use Rattle.iom_driver.specs.Reasons.{why_not_release}
 use Rattle.iom_driver.specs.State.{DriverState}
 use Rattle.iom_world.specs.OwnIommu.{Iommu}
-use Rattle.iom_iommu.specs.Parts.{registers_of, contexts_of, translations_of, flights_of, stock_of, frames_of, mmio}
+use Rattle.iom_iommu.specs.Parts.{registers_of, contexts_of, translations_of, flights_of, stock_of, frames_of, mmio, slots_of}
 use Rattle.iom_ledger.specs.declared.refusal.Refusal.{Refusal}
 use Rattle.iom_ledger.specs.declared.refusal.Refusal.TheVariants.{NumbersUsedUp}
 use Rattle.iom_ledger.specs.declared.entry.HistoryEntry.TheVariants.{Released}
@@ -58,6 +60,7 @@ pub record IsRung (old new : Iommu) : Type 0 where
   pub contexts : (id : ℕ) → contexts_of new id ≡ contexts_of old id
   pub translations : translations_of new ≡ translations_of old
   pub stock : is_command_queue_on (registers_of old) ≡ true → stock_of new ≡ stock_of old
+  pub slots : slots_of old ≡ no_slots → slots_of new ≡ no_slots
   pub flights : flights_of new ≡ flights_of old
   pub frames : frames_of new ≡ frames_of old
 
@@ -68,6 +71,7 @@ rung_once memory memory' old new command appends = record {
   contexts = λ id. ap (λ i. contexts_of i id) appends.rung;
   translations = ap translations_of appends.rung;
   stock = λ is_on. ap stock_of appends.rung ∙ ap (λ (b : Bool). if b then stock_of old else None) is_on;
+  slots = λ none. ap slots_of appends.rung ∙ none_written _ (slots_of old) none;
   flights = ap flights_of appends.rung;
   frames = ap frames_of appends.rung;
 }
@@ -79,6 +83,7 @@ rung_both old mid new one other = record {
   contexts = λ id. other.contexts id ∙ one.contexts id;
   translations = other.translations ∙ one.translations;
   stock = λ is_on. other.stock (one.on ∙ is_on) ∙ one.stock is_on;
+  slots = λ none. other.slots (one.slots none);
   flights = other.flights ∙ one.flights;
   frames = other.frames ∙ one.frames;
 }
@@ -91,7 +96,7 @@ pub rung_again : (memory mid memory' : List (List ℕ)) (old between new : Iommu
 rung_again memory mid memory' old between new one two three first rest = rung_both old between new (rung_once memory mid old between one first) (rung_twice mid memory' between new two three rest)
 
 pub rung_leaves : (old new : Parts) → IsRung old.iommu new.iommu → LeavesIommu old new
-rung_leaves old new rung = record { processing = rung.processing; frames = rung.frames; so_far = ap (λ f. f.so_far) rung.flights }
+rung_leaves old new rung = record { processing = rung.processing; frames = rung.frames; so_far = ap (λ f. f.so_far) rung.flights; slots = rung.slots }
 
 -- a queue from which commands are taken is on
 processing_on : (r : Registers) → is_processing_commands r ≡ true → is_command_queue_on r ≡ true

@@ -1,6 +1,8 @@
 -- The driver takes a fault record: what stays true of a world, and that it is a step of the ledger machine.
 use Rattle.std.proofs.Common.{◌≡◌, ◌∙◌, ℕ, Bool, true, false, not, is_some, List, [], ◌∷◌, length, slice_get, Option, Some, None, Result, Ok, Err, refl, sym, ap, subst, if◌then◌else◌}
 use Rattle.std.proofs.lemmas.Bool.{and_parts}
+use Rattle.iom_world.proofs.SlotLemmas.{none_written}
+use Rattle.iom_command_queue.specs.OpenSlots.{no_slots}
 use Rattle.iom_command_queue.specs.Waiting.{commands_in}
 use Rattle.iom_copies.specs.Among.{AreAmong}
 use Rattle.iom_driver.specs.Laws.{LeavesCommands, LeavesAllElse}
@@ -9,7 +11,7 @@ use Rattle.iom_driver.specs.Reasons.{why_not_poll}
 use Rattle.iom_driver.specs.Reports.{AnswersFaults, cleared_marks}
 use Rattle.iom_driver.specs.State.{DriverState}
 use Rattle.iom_fault_queue.specs.Fields.{Fields}
-use Rattle.iom_iommu.specs.Parts.{mmio, registers_of, contexts_of, translations_of, flights_of, stock_of, frames_of}
+use Rattle.iom_iommu.specs.Parts.{mmio, registers_of, contexts_of, translations_of, flights_of, stock_of, frames_of, slots_of}
 use Rattle.iom_inflight.specs.Flights.{Flights}
 use Rattle.iom_ledger.specs.declared.refusal.Refusal.{Refusal}
 use Rattle.iom_ledger.specs.declared.refusal.Refusal.TheVariants.{NotStarted}
@@ -45,6 +47,7 @@ record WritesReports (old new : Iommu) : Type 0 where
   flights : flights_of new ≡ flights_of old
   frames : frames_of new ≡ frames_of old
   stock : is_command_queue_on (registers_of old) ≡ true → stock_of new ≡ stock_of old
+  slots : slots_of old ≡ no_slots → slots_of new ≡ no_slots
 
 wrote_head : (old new : Iommu) (value : ℕ) → new ≡ mmio.after old Fqh value → WritesReports old new
 wrote_head old new value is = subst (WritesReports old) (sym is) (record {
@@ -54,6 +57,7 @@ wrote_head old new value is = subst (WritesReports old) (sym is) (record {
   flights = refl;
   frames = refl;
   stock = λ on. ap (λ (b : Bool). if b then stock_of old else None) on;
+  slots = λ none. none_written _ (slots_of old) none;
 })
 
 wrote_status : (old new : Iommu) (value : ℕ) → new ≡ mmio.after old Fqcsr value → WritesReports old new
@@ -64,6 +68,7 @@ wrote_status old new value is = subst (WritesReports old) (sym is) (record {
   flights = refl;
   frames = refl;
   stock = λ on. ap (λ (b : Bool). if b then stock_of old else None) on;
+  slots = λ none. none_written _ (slots_of old) none;
 })
 
 wrote_nothing : (old new : Iommu) → new ≡ old → WritesReports old new
@@ -74,6 +79,7 @@ wrote_nothing old new is = subst (WritesReports old) (sym is) (record {
   flights = refl;
   frames = refl;
   stock = λ on. refl;
+  slots = λ none. none;
 })
 
 wrote : (d : DriverState) (memory : List (List ℕ)) (old new : Iommu) (answer : Result (Option Fields) Refusal) → AnswersFaults mmio d memory old answer new → WritesReports old new
@@ -92,6 +98,7 @@ leaves_taken old new told ready takes =
       ready = ready;
       else_same = record { size = ap (λ m. length m) takes.memory; frames = λ frame other. ap (λ m. slice_get m frame) takes.memory; registers = writes.commands };
       frames = writes.frames;
+      slots = writes.slots;
       flights = writes.flights;
       driver = takes.driver;
       devices = takes.devices;

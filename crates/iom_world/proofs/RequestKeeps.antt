@@ -11,8 +11,9 @@ use Rattle.iom_inflight.specs.Calls.{with_access}
 use Rattle.iom_inflight.specs.Flights.{Flights}
 use Rattle.iom_iommu.specs.declared.reply.Reply.{Reply}
 use Rattle.iom_iommu.specs.declared.reply.Reply.TheVariants.{Accepted, Busy, BadSpan, Fault}
-use Rattle.iom_iommu.specs.Parts.{registers_of, contexts_of, translations_of, flights_of, stock_of, frames_of}
-use Rattle.iom_iommu.specs.Requests.{request_of, fault_of, AnswersRequest, AcceptsRequest, RefusesRequest}
+use Rattle.iom_iommu.specs.Parts.{registers_of, contexts_of, translations_of, flights_of, stock_of, frames_of, slots_of}
+use Rattle.iom_fault_queue.specs.Fields.{untranslated_of}
+use Rattle.iom_iommu.specs.Requests.{faulted_of, fault_of, AnswersRequest, AcceptsRequest, RefusesRequest}
 use Rattle.iom_machine.specs.declared.outcome.Outcome.{Outcome}
 use Rattle.iom_stage_walk.specs.declared.walked.WalkFault.{WalkFault}
 use Rattle.iom_machine.specs.declared.state.Attachment.TheVariants as shown
@@ -45,6 +46,7 @@ sound_counted parts events sound = record {
   processing = sound.processing;
   size = sound.size;
   known = sound.known;
+  slots = sound.slots;
   confirmed = sound.confirmed;
   small = sound.small;
   counted = (let count = sound.counted in omega (arith, count));
@@ -110,11 +112,12 @@ kept_or sure old new at translation (inl sets) key other there = elim (one_or_ot
 pub report_leaves : (old new : Parts) (events id : ℕ) (access : Access) → AreSound old events → StaysReported old.driver → new.driver ≡ old.driver → new.devices ≡ old.devices
     → (cause : Cause) → RefusesRequest old.memory old.iommu id access cause new.memory new.iommu → LeavesReport old new
 report_leaves old new events id access sound reported driver devices cause call =
-    let after = reported old.memory new.memory (registers_of old.iommu) (registers_of new.iommu) (record_of (request_of id access) (fault_of call.fault)) call.answer sound.ready sound.started call.recorded in
+    let after = reported old.memory new.memory (registers_of old.iommu) (registers_of new.iommu) (record_of (faulted_of id (untranslated_of access.kind) access.address) (fault_of call.fault)) call.answer sound.ready sound.started call.recorded in
     record {
       ready = rw driver after.0;
       else_same = after.1;
       frames = call.frames;
+      slots = λ none. call.slots ∙ none;
       flights = call.flights;
       driver = driver;
       devices = devices;
@@ -146,12 +149,13 @@ module _ (laws : ServiceLaws) (old new : Parts) (events id : ℕ) (access : Acce
         cached_or (attachment_of old.driver.devices id) id (contexts_of old.iommu) (contexts_of new.iommu) (inr (stage, is, one)),
       )
 
-  leaves_asked : new.memory ≡ old.memory → registers_of new.iommu ≡ registers_of old.iommu → frames_of new.iommu ≡ frames_of old.iommu → row_ids (flights_of new.iommu).rows ≡ row_ids (flights_of old.iommu).rows → Leaves old new
-  leaves_asked memory registers frames rows = record {
+  leaves_asked : new.memory ≡ old.memory → registers_of new.iommu ≡ registers_of old.iommu → frames_of new.iommu ≡ frames_of old.iommu → slots_of new.iommu ≡ slots_of old.iommu → row_ids (flights_of new.iommu).rows ≡ row_ids (flights_of old.iommu).rows → Leaves old new
+  leaves_asked memory registers frames slots rows = record {
     size = ap (λ m. length m) memory;
     reserved = λ frame owner mark. ap (λ m. slice_get m frame) memory;
     registers = registers;
     frames = frames;
+    slots = λ none. slots ∙ none;
     rows = rows;
     driver = driver;
     devices = devices;
@@ -174,13 +178,13 @@ module _ (laws : ServiceLaws) (old new : Parts) (events id : ℕ) (access : Acce
   queue_on queue = record { waiting = queue.waiting; completed = queue.completed; stock = queue.stock }
 
   -- the answer that the service gives, with the translations before and after
-  abbrev Answers : Result ℕ WalkFault → Type 0
+  abbrev Answers : Result Translation WalkFault → Type 0
   Answers answer = IsAnswered ioatc.SURE old.driver id access.address access.kind (translations_of old.iommu) answer (translations_of new.iommu)
 
   -- what becomes of the cached translations: they stay, or that of a held page is kept
-  change_of : (frame : ℕ) → IsAnswered ioatc.SURE old.driver id access.address access.kind (translations_of old.iommu) (Ok frame) (translations_of new.iommu)
+  change_of : (answer : Translation) → IsAnswered ioatc.SURE old.driver id access.address access.kind (translations_of old.iommu) (Ok answer) (translations_of new.iommu)
       → TranslationsChange (values_of old) id (translations_of new.iommu)
-  change_of frame (inl reaches) = inr (
+  change_of answer (inl reaches) = inr (
     access.address / 4096,
     space_in reaches.stage.mode reaches.stage.number,
     reaches.translation,
@@ -192,23 +196,23 @@ module _ (laws : ServiceLaws) (old new : Parts) (events id : ℕ) (access : Acce
       either = kept_or ioatc.SURE (translations_of old.iommu) (translations_of new.iommu) (space_in reaches.stage.mode reaches.stage.number, access.address / 4096) reaches.translation reaches.kept;
     },
   )
-  change_of frame (inr finds) = inl (λ key translation at. sym (finds.stays key) ∙ at)
+  change_of answer (inr finds) = inl (λ key translation at. sym (finds.stays key) ∙ at)
 
   -- what the access is served from
-  served_from : (frame : ℕ) → IsAnswered ioatc.SURE old.driver id access.address access.kind (translations_of old.iommu) (Ok frame) (translations_of new.iommu)
-      → (space : Space) × (translation : Translation) × (frame ≡ translation.frame) × (allows translation.rights access.kind ≡ true)
+  served_from : (answer : Translation) → IsAnswered ioatc.SURE old.driver id access.address access.kind (translations_of old.iommu) (Ok answer) (translations_of new.iommu)
+      → (space : Space) × (translation : Translation) × (answer.frame ≡ translation.frame) × (allows translation.rights access.kind ≡ true)
       × IsServedFrom between id (access.address / 4096) space translation
-  served_from frame (inl reaches) = (
+  served_from answer (inl reaches) = (
     space_in reaches.stage.mode reaches.stage.number,
     reaches.translation,
-    reaches.frame_is,
+    ap (λ (t : Translation). t.frame) reaches.answer_is,
     reaches.allowed,
     inl (reaches.stage.mode, ap shown_attachment reaches.attached, reaches.held),
   )
-  served_from frame (inr finds) = (
+  served_from answer (inr finds) = (
     space_in finds.stage.mode finds.stage.number,
     finds.translation,
-    finds.frame_is,
+    ap (λ (t : Translation). t.frame) finds.answer_is,
     finds.allowed,
     inr (
       finds.stays (space_in finds.stage.mode finds.stage.number, access.address / 4096) ∙ finds.cached,
@@ -235,10 +239,11 @@ module _ (laws : ServiceLaws) (old new : Parts) (events id : ℕ) (access : Acce
       let keeps = keeps_attached laws old events sound own id (contexts_of new.iommu) call.contexts in
       let is = call.accepted in
       let so_far = (flights_of old.iommu).so_far in
-      let leaves = leaves_asked memory call.registers call.frames
+      let leaves = leaves_asked memory call.registers call.frames call.slots
       (ap (λ (f : Flights). row_ids f.rows) is.after ∙ row_ids_kept (flights_of old.iommu).rows (with_access is.row (record { access = access; frame = call.frame }) (so_far + 1))) in
-      let answers = served laws old events sound own id access.address access.kind ioatc.SURE (translations_of old.iommu) (translations_of new.iommu) (Ok call.frame) fits call.served in
-      let from = served_from call.frame answers in
+      let answer : Translation = record { frame = call.frame; rights = call.rights } in
+      let answers = served laws old events sound own id access.address access.kind ioatc.SURE (translations_of old.iommu) (translations_of new.iommu) (Ok answer) fits call.served in
+      let from = served_from answer answers in
       let count = sound.counted in
       let more : so_far + 1 ≤ events + 1 = omega (arith, count) in
       sound_from old new events sound own leaves (events + 1) stays_ready (subst (λ (f : Flights). f.so_far ≤ events + 1) (sym is.after) more)
@@ -248,7 +253,7 @@ module _ (laws : ServiceLaws) (old new : Parts) (events id : ℕ) (access : Acce
       (subst (λ n. AreAmongWith (accesses_of (flights_of new.iommu).rows) (record { device = id; frame = n; kind = access.kind; number = so_far + 1 }) (accesses_of (flights_of old.iommu).rows)) from.2
       (subst (λ (f : Flights). AreAmongWith (accesses_of f.rows) (record { device = id; frame = call.frame; kind = access.kind; number = so_far + 1 }) (accesses_of (flights_of old.iommu).rows)) (sym is.after)
       (accepted_among (flights_of old.iommu).rows id is.row (record { access = access; frame = call.frame }) (so_far + 1) is.stands)))
-      (λ d there. there) (λ key translation at. at) from.4 from.3 (between_scene keeps (change_of call.frame answers) has))
+      (λ d there. there) (λ key translation at. at) from.4 from.3 (between_scene keeps (change_of answer answers) has))
 
   keeps_same : new.memory ≡ old.memory → new.iommu ≡ old.iommu → AreSound new (events + 1)
   keeps_same memory iommu =

@@ -87,15 +87,15 @@ none_held_shown state ledger id access agrees none frame held =
     none frame (held.0, sym (agrees.pages id (access.address / 4096)).holds ∙ held.1, held.2)
 
 -- what the machine lets an attached device be accepted, and each fault
-may_accept : (parts : Parts) (events : ℕ) (state : State) (id frame : ℕ) (access : Access) (sure : Bool) (old new : Translations) → AreSound parts events → IsSoundDriver parts.driver → PartsShow parts state
-    → old ≡ translations_of parts.iommu → IsAnswered sure parts.driver id access.address access.kind old (Ok frame) new
-    → MayAccept (shown_attachment (attachment_of parts.driver.devices id)) state id access frame
-may_accept parts events state id frame access sure old new sound own shows same (inl reaches) =
-    subst (λ a. MayAccept (shown_attachment a) state id access frame) (sym reaches.attached)
-    (subst (λ n. MayAccept (shown.Attached reaches.stage.mode false) state id access n) (sym reaches.frame_is)
+may_accept : (parts : Parts) (events : ℕ) (state : State) (id : ℕ) (answer : Translation) (access : Access) (sure : Bool) (old new : Translations) → AreSound parts events → IsSoundDriver parts.driver → PartsShow parts state
+    → old ≡ translations_of parts.iommu → IsAnswered sure parts.driver id access.address access.kind old (Ok answer) new
+    → MayAccept (shown_attachment (attachment_of parts.driver.devices id)) state id access answer.frame
+may_accept parts events state id answer access sure old new sound own shows same (inl reaches) =
+    subst (λ a. MayAccept (shown_attachment a) state id access answer.frame) (sym reaches.attached)
+    (subst (λ n. MayAccept (shown.Attached reaches.stage.mode false) state id access n) (sym (ap (λ (t : Translation). t.frame) reaches.answer_is))
     (held_shown state parts.driver.ledger reaches.stage.mode id access reaches.translation shows.ledger reaches.held reaches.allowed))
-may_accept parts events state id frame access sure old new sound own shows same (inr finds) =
-    subst (λ n. MayAccept (shown_attachment (attachment_of parts.driver.devices id)) state id access n) (sym finds.frame_is)
+may_accept parts events state id answer access sure old new sound own shows same (inr finds) =
+    subst (λ n. MayAccept (shown_attachment (attachment_of parts.driver.devices id)) state id access n) (sym (ap (λ (t : Translation). t.frame) finds.answer_is))
     (cached_accept parts events state id access finds.stage finds.translation sound own shows finds.owned
     (ap (λ (c : Translations). c (space_in finds.stage.mode finds.stage.number, access.address / 4096)) (sym same) ∙ finds.cached) finds.allowed)
 
@@ -203,7 +203,7 @@ module _ (laws : ServiceLaws) (old new : Parts) (events id : ℕ) (access : Acce
       let flight : AcceptedAccess = record { access = access; frame = call.frame } in
       let so_far = (flights_of old.iommu).so_far in
       let after = with_access it.row flight (so_far + 1) in
-      let answers = served laws old events sound own id access.address access.kind ioatc.SURE (translations_of old.iommu) (translations_of new.iommu) (Ok call.frame) fits call.served in
+      let answers = served laws old events sound own id access.address access.kind ioatc.SURE (translations_of old.iommu) (translations_of new.iommu) (Ok (record { frame = call.frame; rights = call.rights })) fits call.served in
       let accepted : accepted_of rows is.device.id ≡ it.row.accepted = accepted_at rows is.device.id it.row (row_at it.row it.stands) in
       let waiting : in_flight_of rows is.device.id ≡ map (λ (f : NumberedAccess). f.accepted) it.row.waiting = in_flight_at rows is.device.id it.row (row_at it.row it.stands) in
       let next = with_accepted state device access call.frame in
@@ -226,7 +226,7 @@ module _ (laws : ServiceLaws) (old new : Parts) (events id : ℕ) (access : Acce
           (
             (call.within, (λ busy. absurd (omega (arith, count, many, busy)))),
             subst (λ n. MayAccept (shown_attachment (attachment_of old.driver.devices n)) state n access call.frame) (sym is.own)
-                (may_accept old events state id call.frame access ioatc.SURE (translations_of old.iommu) (translations_of new.iommu) sound own shows refl answers),
+                (may_accept old events state id (record { frame = call.frame; rights = call.rights }) access ioatc.SURE (translations_of old.iommu) (translations_of new.iommu) sound own shows refl answers),
             counted,
           ),
           refl,

@@ -39,6 +39,7 @@ sound_counted parts events sound = record {
   processing = sound.processing;
   size = sound.size;
   known = sound.known;
+  slots = sound.slots;
   confirmed = sound.confirmed;
   small = sound.small;
   counted = (let count = sound.counted in omega (arith, count));

@@ -26,7 +26,7 @@ use Rattle.iom_driver.specs.State.{DriverState}
 use Rattle.iom_driver.specs.Tables.{AreTablesOf}
 use Rattle.iom_driver.proofs.Lists.{get_within}
 use Rattle.iom_iommu.specs.Parts.{registers_of, contexts_of}
-use Rattle.iom_iommu.specs.Service.{Serves, ServesBy, ServesIn, LooksOrWalks, Walks, cached_frame, translation_of, found_context}
+use Rattle.iom_iommu.specs.Service.{Serves, ServesBy, ServesIn, LooksOrWalks, Walks, cached_for, translation_of, found_context}
 use Rattle.iom_tlb.specs.declared.space.Space.TheVariants as space
 use Rattle.iom_tlb.specs.declared.trans_cache.Translation.{Translation}
 use Rattle.iom_tlb.specs.Content.{Content as Translations, Stays, Keeps}
@@ -58,21 +58,21 @@ abbrev pub cause_at : ℕ → ℕ → Cause
 cause_at levels id = if nat_le (id_limit levels) id then TransactionTypeDisallowed else DirectoryEntryNotValid
 
 -- of an attached device, what is held is reached by a walk, and kept
-pub record ReachesHeld (sure : Bool) (d : DriverState) (id address : ℕ) (kind : AccessKind) (old : Translations) (frame : ℕ) (new : Translations) : Type 0 where
+pub record ReachesHeld (sure : Bool) (d : DriverState) (id address : ℕ) (kind : AccessKind) (old : Translations) (answer : Translation) (new : Translations) : Type 0 where
   pub stage : Stages
   pub attached : attachment_of d.devices id ≡ Attached stage
   pub translation : Translation
-  pub frame_is : frame ≡ translation.frame
+  pub answer_is : answer ≡ translation
   pub held : HoldsWalked d.ledger stage.mode id (address / 4096) translation
   pub allowed : allows translation.rights kind ≡ true
   pub kept : Keeps sure old (space_in stage.mode stage.number, address / 4096) translation new
 
 -- of an attached or leaving device, a cached translation is found
-pub record FindsCached (d : DriverState) (id address : ℕ) (kind : AccessKind) (old : Translations) (frame : ℕ) (new : Translations) : Type 0 where
+pub record FindsCached (d : DriverState) (id address : ℕ) (kind : AccessKind) (old : Translations) (answer : Translation) (new : Translations) : Type 0 where
   pub stage : Stages
   pub owned : owned_stages_of d.devices id ≡ Some stage
   pub translation : Translation
-  pub frame_is : frame ≡ translation.frame
+  pub answer_is : answer ≡ translation
   pub cached : old (space_in stage.mode stage.number, address / 4096) ≡ Some translation
   pub allowed : allows translation.rights kind ≡ true
   pub stays : Stays old new
@@ -83,8 +83,8 @@ FaultsAs Detached d id address kind cause = cause ≡ cause_at d.levels id
 FaultsAs (Attached stage) d id address kind cause = FaultsBy stage.mode d.ledger id (address / 4096) kind cause
 FaultsAs (Leaving ticket stage) d id address kind cause = IsPageFaultOf stage.mode kind cause ⊎ (cause ≡ cause_at d.levels id)
 
-abbrev pub IsAnswered : Bool → DriverState → ℕ → ℕ → AccessKind → Translations → Result ℕ WalkFault → Translations → Type 0
-IsAnswered sure d id address kind old (Ok frame) new = ReachesHeld sure d id address kind old frame new ⊎ FindsCached d id address kind old frame new
+abbrev pub IsAnswered : Bool → DriverState → ℕ → ℕ → AccessKind → Translations → Result Translation WalkFault → Translations → Type 0
+IsAnswered sure d id address kind old (Ok answer) new = ReachesHeld sure d id address kind old answer new ⊎ FindsCached d id address kind old answer new
 IsAnswered sure d id address kind old (Err fault) new = FaultsAs (attachment_of d.devices id) d id address kind fault.cause × Stays old new
 
 -- a page fault of the mode
@@ -113,33 +113,33 @@ root_aligned memory marks ledger id Second root tables = inr tables.tree.1
 root_aligned memory marks ledger id Both root tables = inr tables.tree.1
 
 -- a context of a device names its space, and its walk
-abbrev IsLookedIn : Bool → Mode → (memory : List (List ℕ)) → (root number address : ℕ) → AccessKind → Translations → Result ℕ WalkFault → Translations → Type 0
+abbrev IsLookedIn : Bool → Mode → (memory : List (List ℕ)) → (root number address : ℕ) → AccessKind → Translations → Result Translation WalkFault → Translations → Type 0
 IsLookedIn sure mode memory root number address kind old answer new =
-    LooksOrWalks sure (cached_frame (old (space_in mode number, address / 4096)) kind) (ReachesBy mode memory root address kind) (StopsBy mode memory root address kind)
+    LooksOrWalks sure (cached_for (old (space_in mode number, address / 4096)) kind) (ReachesBy mode memory root address kind) (StopsBy mode memory root address kind)
     (space_in mode number, address / 4096) old answer new
 
-looked_by : (sure : Bool) (mode : Mode) (memory : List (List ℕ)) (root number address : ℕ) (kind : AccessKind) (old : Translations) (answer : Result ℕ WalkFault) (new : Translations)
+looked_by : (sure : Bool) (mode : Mode) (memory : List (List ℕ)) (root number address : ℕ) (kind : AccessKind) (old : Translations) (answer : Result Translation WalkFault) (new : Translations)
     → root < 2 ^ 44 → number < 2 ^ 20 → (mode ≡ First) ⊎ (root % 4 ≡ 0) → ServesBy sure (Ok (context_in mode root number)) memory address kind old answer new
     → IsLookedIn sure mode memory root number address kind old answer new
 looked_by sure First memory root number address kind old answer new low few aligned served =
     let at : root / 2 ^ 0 % 2 ^ 44 ≡ root = omega (arith, low) in
     let named : number / 2 ^ 0 % 2 ^ 20 ≡ number = omega (arith, few) in
-    subst (λ n. LooksOrWalks sure (cached_frame (old (space.First number, address / 4096)) kind) (ReachesFirst first_levels memory n address kind) (StopsFirst first_levels memory n address kind)
+    subst (λ n. LooksOrWalks sure (cached_for (old (space.First number, address / 4096)) kind) (ReachesFirst first_levels memory n address kind) (StopsFirst first_levels memory n address kind)
     (space.First number, address / 4096) old answer new) at
-    (subst (λ n. LooksOrWalks sure (cached_frame (old (space.First n, address / 4096)) kind) (ReachesFirst first_levels memory (root / 2 ^ 0 % 2 ^ 44) address kind)
+    (subst (λ n. LooksOrWalks sure (cached_for (old (space.First n, address / 4096)) kind) (ReachesFirst first_levels memory (root / 2 ^ 0 % 2 ^ 44) address kind)
     (StopsFirst first_levels memory (root / 2 ^ 0 % 2 ^ 44) address kind) (space.First n, address / 4096) old answer new) named served)
 looked_by sure Second memory root number address kind old answer new low few (inl first) served = cc
 looked_by sure Second memory root number address kind old answer new low few (inr aligned) served =
     let at : 4 * (root / 4 % 2 ^ 42) ≡ root = omega (arith, low, aligned) in
-    subst (λ n. LooksOrWalks sure (cached_frame (old (space.Second number, address / 4096)) kind) (ReachesSecond second_levels memory n address kind) (StopsSecond second_levels memory n address kind)
+    subst (λ n. LooksOrWalks sure (cached_for (old (space.Second number, address / 4096)) kind) (ReachesSecond second_levels memory n address kind) (StopsSecond second_levels memory n address kind)
     (space.Second number, address / 4096) old answer new) at served
 looked_by sure Both memory root number address kind old answer new low few (inl first) served = cc
 looked_by sure Both memory root number address kind old answer new low few (inr aligned) served =
     let at : 4 * (root / 4 % 2 ^ 42) ≡ root = omega (arith, low, aligned) in
     let named : number / 2 ^ 0 % 2 ^ 20 ≡ number = omega (arith, few) in
-    subst (λ n. LooksOrWalks sure (cached_frame (old (space.Both number number, address / 4096)) kind) (ReachesBoth first_levels second_levels memory 0 n address kind)
+    subst (λ n. LooksOrWalks sure (cached_for (old (space.Both number number, address / 4096)) kind) (ReachesBoth first_levels second_levels memory 0 n address kind)
     (StopsBoth first_levels second_levels memory 0 n address kind) (space.Both number number, address / 4096) old answer new) at
-    (subst (λ n. LooksOrWalks sure (cached_frame (old (space.Both number n, address / 4096)) kind) (ReachesBoth first_levels second_levels memory 0 (4 * (root / 4 % 2 ^ 42)) address kind)
+    (subst (λ n. LooksOrWalks sure (cached_for (old (space.Both number n, address / 4096)) kind) (ReachesBoth first_levels second_levels memory 0 (4 * (root / 4 % 2 ^ 42)) address kind)
     (StopsBoth first_levels second_levels memory 0 (4 * (root / 4 % 2 ^ 42)) address kind) (space.Both number n, address / 4096) old answer new) named served)
 
 -- the mode of the levels is that of a directory whose root has this level, and each device is served by its context
@@ -150,7 +150,7 @@ is_mode (suc (suc zero)) range = refl
 is_mode (suc (suc (suc zero))) range = refl
 is_mode (suc (suc (suc (suc n)))) range = absurd (let high = range.1 in omega (arith, high))
 
-served_in : (sure : Bool) (levels : ℕ) → IsLevels levels → (found : Result Context Cause) (memory : List (List ℕ)) (address : ℕ) (kind : AccessKind) (old : Translations) (answer : Result ℕ WalkFault)
+served_in : (sure : Bool) (levels : ℕ) → IsLevels levels → (found : Result Context Cause) (memory : List (List ℕ)) (address : ℕ) (kind : AccessKind) (old : Translations) (answer : Result Translation WalkFault)
     (new : Translations) → ServesIn sure (mode_of levels) found memory address kind old answer new → ServesBy sure found memory address kind old answer new
 served_in sure zero range found memory address kind old answer new is = absurd (let low = range.0 in omega (arith, low))
 served_in sure (suc zero) range found memory address kind old answer new is = is
@@ -242,20 +242,20 @@ module _ (laws : ServiceLaws) (parts : Parts) (events : ℕ) (sound : AreSound p
     tables_of stage owned = sound.ready.stand.tables id stage owned
 
     -- by a context of its stages an attached or leaving device is served from the cache, or by a walk
-    abbrev IsLooked : Stages → Result ℕ WalkFault → Type 0
+    abbrev IsLooked : Stages → Result Translation WalkFault → Type 0
     IsLooked stage answer = IsLookedIn sure stage.mode parts.memory stage.root stage.number address kind old answer new
 
-    abbrev IsWalked : Stages → Result ℕ WalkFault → Type 0
+    abbrev IsWalked : Stages → Result Translation WalkFault → Type 0
     IsWalked stage answer =
         Walks sure (ReachesBy stage.mode parts.memory stage.root address kind) (StopsBy stage.mode parts.memory stage.root address kind)
         (space_in stage.mode stage.number, address / 4096) old answer new
 
-    abbrev LooksAt : Stages → Result ℕ WalkFault → Option ℕ → Type 0
+    abbrev LooksAt : Stages → Result Translation WalkFault → Option Translation → Type 0
     LooksAt stage answer cached =
         LooksOrWalks sure cached (ReachesBy stage.mode parts.memory stage.root address kind) (StopsBy stage.mode parts.memory stage.root address kind)
         (space_in stage.mode stage.number, address / 4096) old answer new
 
-    from_tables : (stage : Stages) (answer : Result ℕ WalkFault) → owned_stages_of d.devices id ≡ Some stage
+    from_tables : (stage : Stages) (answer : Result Translation WalkFault) → owned_stages_of d.devices id ≡ Some stage
         → ServesBy sure (Ok (context_for stage)) parts.memory address kind old answer new → IsLooked stage answer
     from_tables stage answer owned served =
         let tables = tables_of stage owned in
@@ -265,10 +265,10 @@ module _ (laws : ServiceLaws) (parts : Parts) (events : ℕ) (sound : AreSound p
         looked_by sure stage.mode parts.memory stage.root stage.number address kind old answer new (omega (arith, below, many)) (omega (arith, few))
         (root_aligned parts.memory d.marks d.ledger id stage.mode stage.root tables) served
 
-    by_tables : (stage : Stages) (answer : Result ℕ WalkFault) → attachment_of d.devices id ≡ Attached stage → IsWalked stage answer → IsAnswered sure d id address kind old answer new
-    by_tables stage (Ok frame) attached (walked, reaches, same, kept) =
+    by_tables : (stage : Stages) (answer : Result Translation WalkFault) → attachment_of d.devices id ≡ Attached stage → IsWalked stage answer → IsAnswered sure d id address kind old answer new
+    by_tables stage (Ok answer) attached (walked, reaches, same, kept) =
         let held = reached laws.walks parts.memory d.marks d.ledger id stage.mode stage.root (tables_of stage (ap owned_stages attached)) (low_pages_of id) (held_inside id) address kind low_page walked reaches in
-        inl (record { stage = stage; attached = attached; translation = translation_of walked; frame_is = same; held = held.0; allowed = held.1; kept = kept })
+        inl (record { stage = stage; attached = attached; translation = translation_of walked; answer_is = same; held = held.0; allowed = held.1; kept = kept })
     by_tables stage (Err fault) attached (stops, stays) = (
       subst (λ a. FaultsAs a d id address kind fault.cause) (sym attached)
           (stopped laws.walks parts.memory d.marks d.ledger id stage.mode stage.root (tables_of stage (ap owned_stages attached)) (low_pages_of id) (held_inside id) address kind low_page fault stops),
@@ -276,9 +276,9 @@ module _ (laws : ServiceLaws) (parts : Parts) (events : ℕ) (sound : AreSound p
     )
 
     -- a leaving device holds nothing
-    none_reached : (ticket : ℕ) (stage : Stages) (answer : Result ℕ WalkFault) → attachment_of d.devices id ≡ Leaving ticket stage → IsWalked stage answer
+    none_reached : (ticket : ℕ) (stage : Stages) (answer : Result Translation WalkFault) → attachment_of d.devices id ≡ Leaving ticket stage → IsWalked stage answer
         → IsAnswered sure d id address kind old answer new
-    none_reached ticket stage (Ok frame) leaving (walked, reaches, same, kept) =
+    none_reached ticket stage (Ok answer) leaving (walked, reaches, same, kept) =
         let held = reached laws.walks parts.memory d.marks d.ledger id stage.mode stage.root (tables_of stage (ap owned_stages leaving)) (low_pages_of id) (held_inside id) address kind low_page walked reaches in
         let none = own.holders id held.0.0 (ap attached_stages leaving) in
         absurd (none_some walked.frame held.0.1 (sym none ∙ held.0.3))
@@ -293,38 +293,38 @@ module _ (laws : ServiceLaws) (parts : Parts) (events : ℕ) (sound : AreSound p
     )
 
     -- what is cached serves where its right allows the kind; else there is a walk
-    by_cache : (stage : Stages) (answer : Result ℕ WalkFault) → owned_stages_of d.devices id ≡ Some stage
+    by_cache : (stage : Stages) (answer : Result Translation WalkFault) → owned_stages_of d.devices id ≡ Some stage
         → (IsWalked stage answer → IsAnswered sure d id address kind old answer new) → IsLooked stage answer → IsAnswered sure d id address kind old answer new
     by_cache stage answer owned walks looked = by (old (space_in stage.mode stage.number, address / 4096)) refl looked
       where
         finds : (translation : Translation) → old (space_in stage.mode stage.number, address / 4096) ≡ Some translation → allows translation.rights kind ≡ true
-            → (answer : Result ℕ WalkFault) → answer ≡ Ok translation.frame → Stays old new → IsAnswered sure d id address kind old answer new
-        finds translation at allowed (Ok frame) same stays = inr (record {
+            → (answer : Result Translation WalkFault) → answer ≡ Ok translation → Stays old new → IsAnswered sure d id address kind old answer new
+        finds translation at allowed (Ok found) same stays = inr (record {
           stage = stage;
           owned = owned;
           translation = translation;
-          frame_is = ok_same frame translation.frame same;
+          answer_is = ok_same found translation same;
           cached = at;
           allowed = allowed;
           stays = stays;
         })
           where
-            ok_same : (x y : ℕ) → ◌≡◌ {A = Result ℕ WalkFault} (Ok x) (Ok y) → x ≡ y
+            ok_same : (x y : Translation) → ◌≡◌ {A = Result Translation WalkFault} (Ok x) (Ok y) → x ≡ y
             ok_same x y same = cc
         finds translation at allowed (Err fault) same stays = cc
 
-        by : (o : Option Translation) → old (space_in stage.mode stage.number, address / 4096) ≡ o → LooksAt stage answer (cached_frame o kind) → IsAnswered sure d id address kind old answer new
+        by : (o : Option Translation) → old (space_in stage.mode stage.number, address / 4096) ≡ o → LooksAt stage answer (cached_for o kind) → IsAnswered sure d id address kind old answer new
         by None at it = walks it
         by (Some translation) at it = allow (allows translation.rights kind) refl it
           where
-            allow : (b : Bool) → allows translation.rights kind ≡ b → LooksAt stage answer (if b then Some translation.frame else None) → IsAnswered sure d id address kind old answer new
+            allow : (b : Bool) → allows translation.rights kind ≡ b → LooksAt stage answer (if b then Some translation else None) → IsAnswered sure d id address kind old answer new
             allow true allowed (same, stays) = finds translation at allowed answer same stays
             allow false allowed it = walks it
 
     -- without a context
-    no_context : (a : Attachment) (answer : Result ℕ WalkFault) → attachment_of d.devices id ≡ a → (a ≡ Detached) ⊎ ((ticket : ℕ) × (stage : Stages) × (a ≡ Leaving ticket stage))
+    no_context : (a : Attachment) (answer : Result Translation WalkFault) → attachment_of d.devices id ≡ a → (a ≡ Detached) ⊎ ((ticket : ℕ) × (stage : Stages) × (a ≡ Leaving ticket stage))
         → answer ≡ Err (plain (cause_at d.levels id)) → Stays old new → IsAnswered sure d id address kind old answer new
-    no_context a (Ok frame) is either same stays = cc
+    no_context a (Ok answer) is either same stays = cc
     no_context a (Err fault) is (inl detached) same stays =
         let c : fault ≡ plain (cause_at d.levels id) = cc in
         (subst (λ a. FaultsAs a d id address kind fault.cause) (sym (is ∙ detached)) (ap (λ (f : WalkFault). f.cause) c), stays)
@@ -333,7 +333,7 @@ module _ (laws : ServiceLaws) (parts : Parts) (events : ℕ) (sound : AreSound p
         (subst (λ a. FaultsAs a d id address kind fault.cause) (sym (is ∙ leaving)) (inr (ap (λ (f : WalkFault). f.cause) c)), stays)
 
     -- by how it is attached, and what is cached
-    by_attachment : (a : Attachment) (cached : Option Context) (answer : Result ℕ WalkFault) → attachment_of d.devices id ≡ a
+    by_attachment : (a : Attachment) (cached : Option Context) (answer : Result Translation WalkFault) → attachment_of d.devices id ≡ a
         → ((context : Context) → cached ≡ Some context → option_map context_for (owned_stages a) ≡ Some context)
         → ServesBy sure (found_context cached (located_as d.levels id (attached_stages a))) parts.memory address kind old answer new → IsAnswered sure d id address kind old answer new
     by_attachment Detached None answer is true_for served = no_context Detached answer is (inl refl) served.0 served.1
@@ -352,7 +352,7 @@ module _ (laws : ServiceLaws) (parts : Parts) (events : ℕ) (sound : AreSound p
         by_cache stage answer (ap owned_stages is) (none_reached ticket stage answer is)
         (from_tables stage answer (ap owned_stages is) (subst (λ c. ServesBy sure (Ok c) parts.memory address kind old answer new) same served))
 
-    pub service : (answer : Result ℕ WalkFault) → Serves sure parts.memory (registers_of parts.iommu) (contexts_of parts.iommu) id address kind old answer new → IsAnswered sure parts.driver id address kind old answer new
+    pub service : (answer : Result Translation WalkFault) → Serves sure parts.memory (registers_of parts.iommu) (contexts_of parts.iommu) id address kind old answer new → IsAnswered sure parts.driver id address kind old answer new
     service answer served =
         let cached = contexts_of parts.iommu id in
         let located_cached = found_context cached (located_context parts.memory r.ddtp id) in
@@ -364,6 +364,6 @@ module _ (laws : ServiceLaws) (parts : Parts) (events : ℕ) (sound : AreSound p
 
 -- WHAT THE SERVICE MEANS
 pub served : ServiceLaws → (parts : Parts) (events : ℕ) → AreSound parts events → IsSoundDriver parts.driver → (id address : ℕ) (kind : AccessKind) (sure : Bool) (old new : Translations)
-    (answer : Result ℕ WalkFault) → address < 2 ^ 64 → Serves sure parts.memory (registers_of parts.iommu) (contexts_of parts.iommu) id address kind old answer new
+    (answer : Result Translation WalkFault) → address < 2 ^ 64 → Serves sure parts.memory (registers_of parts.iommu) (contexts_of parts.iommu) id address kind old answer new
     → IsAnswered sure parts.driver id address kind old answer new
 served laws parts events sound own id address kind sure old new answer fits is = service laws parts events sound own id address kind fits sure old new answer is

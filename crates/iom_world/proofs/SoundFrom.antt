@@ -3,6 +3,7 @@ use Rattle.std.proofs.Common.{◌≡◌, ◌≢◌, ◌*◌, ◌/◌, ◌<◌, �
 use Rattle.std.specs.Option.{option_map_or}
 use Rattle.std.proofs.Math.Logic.{∥∥₁_map}
 use Rattle.std.proofs.lemmas.Bool.{false≢true}
+use Rattle.iom_command_queue.specs.OpenSlots.{no_slots}
 use Rattle.iom_base.specs.declared.owner.Owner.{Owner}
 use Rattle.iom_base.specs.declared.owner.Owner.TheVariants.{System}
 use Rattle.iom_command_queue.specs.Waiting.{commands_in}
@@ -13,7 +14,7 @@ use Rattle.iom_driver.specs.Ready.{IsReady}
 use Rattle.iom_driver.specs.State.{DriverState}
 use Rattle.iom_driver.proofs.Lists.{get_there}
 use Rattle.iom_driver.proofs.Ring.{same_commands}
-use Rattle.iom_iommu.specs.Parts.{stock_of, registers_of, flights_of, frames_of}
+use Rattle.iom_iommu.specs.Parts.{stock_of, registers_of, flights_of, frames_of, slots_of}
 use Rattle.iom_inflight.specs.Flights.{Flights}
 use Rattle.iom_phys_mem.specs.Words.{word_at}
 use Rattle.iom_registers.specs.declared.registers.Registers.{Registers}
@@ -59,6 +60,7 @@ pub record Leaves (old new : Parts) : Type 0 where
   pub reserved : (frame : ℕ) (owner : Owner) → slice_get old.driver.marks frame ≡ Some (Some owner) → slice_get new.memory frame ≡ slice_get old.memory frame
   pub registers : registers_of new.iommu ≡ registers_of old.iommu
   pub frames : frames_of new.iommu ≡ frames_of old.iommu
+  pub slots : slots_of old.iommu ≡ no_slots → slots_of new.iommu ≡ no_slots
   pub rows : row_ids (flights_of new.iommu).rows ≡ row_ids (flights_of old.iommu).rows
   pub driver : new.driver ≡ old.driver
   pub devices : new.devices ≡ old.devices
@@ -105,6 +107,7 @@ module _ (old new : Parts) (events : ℕ) (sound : AreSound old events) (own : I
           driver = rw (leaves.driver, leaves.devices) sound.known.driver;
           iommu = leaves.rows ∙ rw leaves.devices sound.known.iommu;
         };
+        slots = leaves.slots sound.slots;
         confirmed = rw (same_done, leaves.driver) sound.confirmed;
         small = rw leaves.driver sound.small;
         counted = counted;
@@ -117,6 +120,7 @@ pub record LeavesReport (old new : Parts) : Type 0 where
   pub ready : IsReady new.driver new.memory (registers_of new.iommu)
   pub else_same : LeavesAllElse old.memory new.memory (registers_of old.iommu) (registers_of new.iommu)
   pub frames : frames_of new.iommu ≡ frames_of old.iommu
+  pub slots : slots_of old.iommu ≡ no_slots → slots_of new.iommu ≡ no_slots
   pub flights : flights_of new.iommu ≡ flights_of old.iommu
   pub driver : new.driver ≡ old.driver
   pub devices : new.devices ≡ old.devices
@@ -167,6 +171,7 @@ module _ (old new : Parts) (events : ℕ) (sound : AreSound old events) (own : I
       driver = rw (leaves.driver, leaves.devices) sound.known.driver;
       iommu = ap (λ (f : Flights). row_ids f.rows) leaves.flights ∙ rw leaves.devices sound.known.iommu;
     };
+    slots = leaves.slots sound.slots;
     confirmed = rw (report_done, leaves.driver) sound.confirmed;
     small = rw leaves.driver sound.small;
     counted = counted;

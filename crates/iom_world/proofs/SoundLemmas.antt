@@ -3,6 +3,7 @@ use Rattle.std.proofs.Common.{zero, suc, ◌≡◌, ◌*◌, ◌/◌, ◌^◌, �
 use Rattle.std.specs.Option.{option_map_or}
 use Rattle.std.proofs.Math.Logic.{∥∥₁_elim}
 use Rattle.std.proofs.Props.{props}
+use Rattle.iom_command_queue.specs.OpenSlots.{no_slots}
 use Rattle.iom_command_queue.specs.Waiting.{commands_in}
 use Rattle.iom_copies.specs.Copies.{ContextFits}
 use Rattle.iom_copies.specs.Faithful.{IsFaithful}
@@ -13,7 +14,7 @@ use Rattle.iom_driver.specs.Devices.{attachment_of}
 use Rattle.iom_driver.specs.Layout.{AreFixed, command_frame, completion_frame, completion_address}
 use Rattle.iom_driver.specs.Ready.{IsReady}
 use Rattle.iom_driver.proofs.Ring.{same_commands}
-use Rattle.iom_iommu.specs.Parts.{registers_of, contexts_of, flights_of, frames_of}
+use Rattle.iom_iommu.specs.Parts.{registers_of, contexts_of, flights_of, frames_of, slots_of}
 use Rattle.iom_ledger.specs.Refusals.{NoneApplies}
 use Rattle.iom_ledger.specs.declared.refusal.Refusal.{Refusal}
 use Rattle.iom_machine.specs.declared.state.Attachment.TheVariants.{Detached}
@@ -68,11 +69,12 @@ pub record LeavesWord (old new : Parts) : Type 0 where
   pub size : length new.memory ≡ length old.memory
   pub word : slice_get new.memory (completion_frame (length old.memory)) ≡ slice_get old.memory (completion_frame (length old.memory))
 
--- and of the IOMMU all stays but its rows, and the index that software writes
+-- and of the IOMMU all stays but its rows, and the index that software writes; no invalidation request is opened
 pub record LeavesIommu (old new : Parts) : Type 0 where
   pub processing : is_processing_commands (registers_of new.iommu) ≡ is_processing_commands (registers_of old.iommu)
   pub frames : frames_of new.iommu ≡ frames_of old.iommu
   pub so_far : (flights_of new.iommu).so_far ≡ (flights_of old.iommu).so_far
+  pub slots : slots_of old.iommu ≡ no_slots → slots_of new.iommu ≡ no_slots
 
 -- so the facts stay, where these do
 pub sound_from : (old new : Parts) (events : ℕ) → AreSound old events → LeavesWord old new → LeavesIommu old new → new.driver.started ≡ old.driver.started
@@ -84,6 +86,7 @@ sound_from old new events sound leaves iommu started ready known confirmed small
   processing = iommu.processing ∙ sound.processing;
   size = iommu.frames ∙ sound.size ∙ sym leaves.size;
   known = known;
+  slots = iommu.slots sound.slots;
   confirmed = subst (λ done. new.driver.confirmed ≤ done) (sym (same_completed old.memory new.memory leaves.size leaves.word)) confirmed;
   small = small;
   counted = subst (λ n. n ≤ events) (sym iommu.so_far) sound.counted;
@@ -97,6 +100,7 @@ same_iommu old new same = record {
   processing = ap (λ i. is_processing_commands (registers_of i)) same;
   frames = ap frames_of same;
   so_far = ap (λ i. (flights_of i).so_far) same;
+  slots = λ none. ap slots_of same ∙ none;
 }
 
 -- the ring has its bytes, and the registers are the same: the same commands wait

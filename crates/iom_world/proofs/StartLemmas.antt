@@ -4,6 +4,8 @@ use Rattle.std.specs.Option.{option_map_or}
 use Rattle.std.proofs.lemmas.Bool.{false≢true}
 use Rattle.std.proofs.lemmas.List.{length-set, length-replicate, set-append_right, replicate-append-replicate}
 use Rattle.byteorder.specs.Endian.{little_bytes}
+use Rattle.iom_world.proofs.SlotLemmas.{none_written}
+use Rattle.iom_command_queue.specs.OpenSlots.{no_slots}
 use Rattle.iom_base.specs.Bytes.{with_bytes}
 use Rattle.iom_base.specs.declared.owner.Owner.{Owner}
 use Rattle.iom_base.specs.declared.owner.Owner.TheVariants.{System}
@@ -17,7 +19,7 @@ use Rattle.iom_driver.specs.Ready.{IsReady}
 use Rattle.iom_driver.specs.State.{DriverState}
 use Rattle.iom_driver.proofs.Lists.{get_replicate, get_there}
 use Rattle.iom_world.specs.OwnIommu.{Iommu}
-use Rattle.iom_iommu.specs.Parts.{translations_of, stock_of, stock_after, IsAtPowerOn, mmio, registers_of, contexts_of, flights_of, frames_of}
+use Rattle.iom_iommu.specs.Parts.{translations_of, stock_of, stock_after, slots_after, IsAtPowerOn, mmio, registers_of, contexts_of, flights_of, frames_of, slots_of}
 use Rattle.iom_ledger.specs.Shown.{Agrees}
 use Rattle.iom_machine.specs.declared.state.Frame.{Frame}
 use Rattle.iom_machine.specs.PowerOn.{opening, empty_frame}
@@ -239,6 +241,20 @@ module _ (n levels : ℕ) (first next : DriverState) (before memory : List (List
       (none_still three (stock_after two (stock_after one (stock_of power)))
       (none_still two (stock_after one (stock_of power)) (none_still one (stock_of power) started.power_on.stock))))
 
+  none_open : slots_of iommu ≡ no_slots
+  none_open =
+      let one = written (registers_of power) Ddtp (ddtp_of (length before) first.levels) in
+      let two = written one Cqb (cqb_of (length before)) in
+      let three = written two Cqcsr 1 in
+      let four = written three Fqb (fqb_of (length before)) in
+      let five = written four Fqcsr 1 in
+      ap slots_of started.starts.registers
+      ∙ none_written (is_command_queue_on five) (slots_after four (slots_after three (slots_after two (slots_after one (slots_of power)))))
+      (none_written (is_command_queue_on four) (slots_after three (slots_after two (slots_after one (slots_of power))))
+      (none_written (is_command_queue_on three) (slots_after two (slots_after one (slots_of power)))
+      (none_written (is_command_queue_on two) (slots_after one (slots_of power))
+      (none_written (is_command_queue_on one) (slots_of power) started.power_on.slots))))
+
   scene_shows : IsSceneOf (values_of parts) scene_at_power_on
   scene_shows = record {
     ledger = agrees;
@@ -273,6 +289,7 @@ module _ (n levels : ℕ) (first next : DriverState) (before memory : List (List
       driver = ap (λ (d : DriverState). known_ids d.devices) driver_is ∙ sym (ap ids_of started.unplugged);
       iommu = ap row_ids rows_none ∙ sym (ap ids_of started.unplugged);
     };
+    slots = none_open;
     confirmed = rw confirmed_none (omega arith);
     small = rw given_none (omega arith);
     counted = rw none_accepted (omega arith);

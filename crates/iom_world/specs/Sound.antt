@@ -11,7 +11,8 @@ use Rattle.iom_driver.specs.Ready.{IsReady}
 use Rattle.iom_driver.specs.Seen.{state_of}
 use Rattle.iom_inflight.specs.Flights.{FlightRow}
 use Rattle.iom_world.specs.OwnIommu.{Iommu}
-use Rattle.iom_iommu.specs.Parts.{registers_of, contexts_of, flights_of, frames_of}
+use Rattle.iom_command_queue.specs.OpenSlots.{no_slots}
+use Rattle.iom_iommu.specs.Parts.{registers_of, contexts_of, flights_of, slots_of, frames_of}
 use Rattle.iom_registers.specs.Queues.{is_processing_commands}
 use Rattle.iom_world.specs.declared.device.Device.{Device}
 use Rattle.iom_world.specs.Parts.{Parts}
@@ -45,14 +46,15 @@ abbrev pub ContextsAreTrue : Parts → Type 0
 ContextsAreTrue parts = (id : ℕ) (context : Context) → contexts_of parts.iommu id ≡ Some context
     → option_map context_for (owned_stages_of parts.driver.devices id) ≡ Some context
 
--- The driver is started and ready; the IOMMU takes commands, and was built for this memory; they know the devices; no ticket is confirmed whose fence isn't
--- done; no more accesses were accepted than events came; cached contexts are true; and no copy outlives what it copies.
+-- The driver is started and ready; the IOMMU takes commands, and was built for this memory; they know the devices; no invalidation request was
+-- ever open, since the driver queues none; no ticket is confirmed whose fence isn't done; no more accesses were accepted than events came; cached contexts are true; and no copy outlives what it copies.
 pub record AreSound (parts : Parts) (events : ℕ) : Type 0 where
   pub ready : IsReady parts.driver parts.memory (registers_of parts.iommu)
   pub started : parts.driver.started ≡ true
   pub processing : is_processing_commands (registers_of parts.iommu) ≡ true
   pub size : frames_of parts.iommu ≡ length parts.memory
   pub known : AreKnown parts
+  pub slots : slots_of parts.iommu ≡ no_slots
   pub confirmed : parts.driver.confirmed ≤ completed_in parts.memory
   pub small : parts.driver.given < 2 ^ 32
   pub counted : (flights_of parts.iommu).so_far ≤ events

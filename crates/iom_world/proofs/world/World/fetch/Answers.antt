@@ -1,4 +1,4 @@
-use Rattle.std.proofs.Common.{refl, sym}
+use Rattle.std.proofs.Common.{refl, sym, arith, ◌+◌, ◌<◌, ◌^◌}
 use Rattle.iom_driver.specs.Seen.{state_of}
 use Rattle.iom_machine.specs.declared.outcome.Outcome.TheVariants as outcome
 use Rattle.iom_world.specs.Does.{fetch_named}
@@ -9,8 +9,11 @@ use Rattle.iom_world.proofs.PartsLemmas.{stays_of}
 use Rattle.iom_world.proofs.FetchKeeps.{keeps_fetched}
 use Rattle.iom_world.proofs.world.World.fetch.Goals as goal
 
-pub fetch-requires : goal.fetch-requires
-fetch-requires c = sym c.args.self.now.sound.size
+pub fetch-requires-clause-memory : goal.fetch-requires-clause-memory
+fetch-requires-clause-memory c = sym c.args.self.now.sound.size
+
+pub fetch-requires-clause-serials : goal.fetch-requires-clause-serials
+fetch-requires-clause-serials c = rw c.args.self.now.sound.slots (omega arith)
 
 pub invariant_of-self : goal.invariant_of-self
 invariant_of-self c =
