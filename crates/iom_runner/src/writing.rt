@@ -92,6 +92,8 @@ impl<W: Write> Sink for LineWriter<'_, W> {
 
     ghost fails = { FailsWriting W.contents };
 
+    // Written into the loop of a run: a call would save and restore registers for each event.
+    #[inline(always)]
     fn put(&mut self, outcome: &Outcome) -> Result<(), WriteFault> {
         if !self.buffer.has_room() {
             self.write_out()?;

@@ -17,6 +17,8 @@ use std::mem;
 
 impl World {
     /// The event is counted, and goes to whom it is for.
+    // Written into the loop of a run, as `take` is: a call would save and restore registers for each event.
+    #[inline(always)]
     fn dispatch<'a>(&mut self, event: &Event, kept: &'a mut KeptOutcomes) -> &'a mut Outcome
         requires event { IsEvent event.now }
         requires count { self.old.events + 1 < 2 ^ 64 }
@@ -58,6 +60,7 @@ impl World {
     }
 
     /// One event, as [`World::step`] says.
+    #[inline(always)]
     fn take<'a>(&mut self, event: &Event, kept: &'a mut KeptOutcomes) -> &'a mut Outcome
         requires event { IsEvent event.now }
         requires count { self.old.events + 1 < 2 ^ 64 }
