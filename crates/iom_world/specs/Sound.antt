@@ -47,7 +47,8 @@ ContextsAreTrue parts = (id : ℕ) (context : Context) → contexts_of parts.iom
     → option_map context_for (owned_stages_of parts.driver.devices id) ≡ Some context
 
 -- The driver is started and ready; the IOMMU takes commands, and was built for this memory; they know the devices; no invalidation request was
--- ever open, since the driver queues none; no ticket is confirmed whose fence isn't done; no more accesses were accepted than events came; cached contexts are true; and no copy outlives what it copies.
+-- ever open, since the driver queues none; no ticket is confirmed whose fence isn't done; no more accesses were accepted than events came; cached
+-- contexts are true; and no copy outlives what it copies.
 pub record AreSound (parts : Parts) (events : ℕ) : Type 0 where
   pub ready : IsReady parts.driver parts.memory (registers_of parts.iommu)
   pub started : parts.driver.started ≡ true
