@@ -41,6 +41,7 @@ DoesDetach g d memory io id (Ok ticket) d' memory' io' = QueuesDetach g d memory
 DoesDetach g d memory io id (Err why) d' memory' io' = (d' ≡ d) × (memory' ≡ memory) × (io' ≡ io)
 
 -- DETACH. `granted` is any test that tells whether the device holds or lingers on something
-pub record AnswersDetach {M : Type 0} (g : Ghosts M) (d : DriverState) (memory : List (List ℕ)) (io : M) (id : ℕ) (answer : Result Ticket Refusal) (d' : DriverState) (memory' : List (List ℕ)) (io' : M) : Type 0 where
+pub record AnswersDetach {M : Type 0} (g : Ghosts M) (d : DriverState) (memory : List (List ℕ)) (io : M) (id : ℕ) (answer : Result Ticket Refusal)
+    (d' : DriverState) (memory' : List (List ℕ)) (io' : M) : Type 0 where
   pub told : (granted : Bool) → (IsTrue granted ↔ HasGrants d.ledger id) → IsToldOfDetach d (g.registers io) granted id answer
   pub effect : DoesDetach g d memory io id answer d' memory' io'
