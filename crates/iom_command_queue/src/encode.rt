@@ -7,6 +7,7 @@ use crate::layout::{FUNC3, OPCODE, ats, iodir, iofence, iotinval};
 use crate::values::{DeviceNumber, PageNumber, Pscid};
 
 /// The first word of the command: opcode and func3, and the fields that it uses.
+#[inline(always)]
 #[tactic(auto, unfolding(crate::specs::Encoded::first_word))]
 pub(crate) fn first_word(command: &Command) -> u64
     ensures { result ≡ first_word command.now }
@@ -51,6 +52,7 @@ pub(crate) fn first_word(command: &Command) -> u64
 }
 
 /// The second word of the command: its address.
+#[inline(always)]
 #[tactic(auto, unfolding(crate::specs::Encoded::second_word))]
 pub(crate) fn second_word(command: &Command) -> u64
     ensures { result ≡ second_word command.now }

@@ -37,6 +37,7 @@ fn entry_at(memory: &Memory, address: u64) -> QueueEntry
 }
 
 /// Writes the command's 16 bytes at the address.
+#[inline(always)]
 fn put(memory: &mut Memory, address: u64, command: Command)
     requires aligned { address % 16 ≡ 0 }
     requires inside { address / 4096 < length memory.old }
@@ -142,6 +143,8 @@ impl CommandRing {
 
     /// Software puts a command at the end: its 16 bytes at the tail's place, and then the next index into
     /// `cqt`.
+    // Written into its caller, which knows what kind of command it is.
+    #[inline(always)]
     pub fn append<M: Mmio>(memory: &mut Memory, io: &mut M, command: Command)
         requires room { how_many (M.registers io.old) + 1 < command_entries (M.registers io.old) }
         requires inside { place_of (M.registers io.old) (command_tail (M.registers io.old)) / 4096 < length memory.old }

@@ -1,5 +1,5 @@
 -- The tables of the devices when one more is attached.
-use Rattle.std.proofs.Common.{◌≡◌, ◌<◌, ◌∙◌, inl, inr, ℕ, List, [], ◌∷◌, Option, Some, None, option_map, slice_get, refl, sym, ap, subst, true, false, nat_le}
+use Rattle.std.proofs.Common.{◌≡◌, ◌<◌, ◌∙◌, ◌&&◌, not, inl, inr, ℕ, Bool, List, [], ◌∷◌, Option, Some, None, option_map, slice_get, refl, sym, ap, subst, true, false, nat_le}
 use Rattle.std.proofs.lemmas.Bool.{lt-leb}
 use Rattle.iom_base.specs.declared.mode.Mode.{Mode}
 use Rattle.iom_base.specs.declared.owner.Owner.{Owner}
@@ -16,7 +16,7 @@ use Rattle.iom_driver.specs.declared.device.Device.{Device}
 use Rattle.iom_driver.specs.declared.device.Stages.{Stages}
 use Rattle.iom_driver.specs.Admitted.{IsAligned}
 use Rattle.iom_driver.specs.Attaching.{root_frames}
-use Rattle.iom_driver.specs.Devices.{owned_stages, owned_stages_of, is_plugged, with_attachment}
+use Rattle.iom_driver.specs.Devices.{owned_stages, owned_stages_of, is_plugged, is_trusted, with_attachment}
 use Rattle.iom_driver.specs.Layout.{id_limit}
 use Rattle.iom_driver.specs.Reasons.{why_not_attach}
 use Rattle.iom_driver.specs.State.{DriverState}
@@ -66,7 +66,8 @@ tables_attached memory memory' marks marks' ledger devices id stage tables plugg
     ]
 
 -- a device that is there and owns nothing may be attached, where the directory can name it
-pub may_attach : (d : DriverState) (id : ℕ) → d.started ≡ true → is_plugged d.devices id ≡ true → owned_stages_of d.devices id ≡ None → id < id_limit d.levels → NoneApplies (why_not_attach d id)
-may_attach d id runs plugged none narrow =
+pub may_attach : (d : DriverState) (id : ℕ) (ats : Bool) → d.started ≡ true → is_plugged d.devices id ≡ true → owned_stages_of d.devices id ≡ None → id < id_limit d.levels
+    → (ats && not (is_trusted d.devices id)) ≡ false → NoneApplies (why_not_attach d id ats)
+may_attach d id ats runs plugged none narrow trusted =
     let test : nat_le (id_limit d.levels) id ≡ false = lt-leb (id_limit d.levels) id narrow in
-    rw (runs, plugged, none, test) refl
+    rw (runs, plugged, none, test, trusted) refl

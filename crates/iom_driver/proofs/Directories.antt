@@ -1,5 +1,5 @@
 -- The device directory of a driver: at its start, while other frames change, and when a context is written or cleared.
-use Rattle.std.proofs.Common.{zero, suc, ◌≡◌, ◌≢◌, ◌<◌, ◌≤◌, ◌∙◌, ◌⊎◌, inl, inr, ℕ, List, length, Contains, Option, Some, None, Ok, Err, slice_get, refl, sym, ap, subst, arith}
+use Rattle.std.proofs.Common.{zero, suc, ◌≡◌, ◌≢◌, ◌<◌, ◌≤◌, ◌∙◌, ◌⊎◌, ◌^◌, ◌==◌, if◌then◌else◌, inl, inr, ℕ, Bool, true, false, List, length, Contains, Option, Some, None, Ok, Err, slice_get, refl, sym, ap, subst, arith}
 use Rattle.std.proofs.lemmas.Bool.Decides.{eqb_tells}
 use Rattle.iom_base.specs.declared.cause.Cause.TheVariants.{DirectoryEntryNotValid}
 use Rattle.iom_base.specs.declared.owner.Owner.{Owner}
@@ -46,6 +46,15 @@ room_for_ids levels range = by levels range.0 range.1
     by (suc (suc zero)) low high = refl
     by (suc (suc (suc zero))) low high = refl
     by (suc (suc (suc (suc n)))) low high = absurd (omega arith)
+
+-- such an id has 24 bits
+pub low_id : (levels id : ℕ) → id < id_limit levels → id < 16777216
+low_id levels id = by (levels == 1) (levels == 2)
+  where
+    by : (one two : Bool) → id < (if one then 2 ^ 7 else if two then 2 ^ 16 else 2 ^ 24) → id < 16777216
+    by true two lt = omega (arith, lt)
+    by false true lt = omega (arith, lt)
+    by false false lt = omega (arith, lt)
 
 -- a directory frame stays one while its mark does
 frame_stays : (marks marks' : List (Option Owner)) (frames page : ℕ) → slice_get marks' page ≡ slice_get marks page → IsDirectoryFrame marks frames page → IsDirectoryFrame marks' frames page

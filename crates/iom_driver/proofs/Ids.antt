@@ -1,5 +1,5 @@
 -- Each device keeps an id of its own.
-use Rattle.std.proofs.Common.{suc, zero, ◌≡◌, ◌≢◌, ◌∙◌, ◌++◌, ℕ, List, [], ◌∷◌, Option, Some, None, slice_get, refl, sym, ap, inl, inr}
+use Rattle.std.proofs.Common.{suc, zero, ◌≡◌, ◌≢◌, ◌∙◌, ◌++◌, ℕ, Bool, List, [], ◌∷◌, Option, Some, None, slice_get, refl, sym, ap, inl, inr}
 use Rattle.std.proofs.lemmas.Bool.Decides.{eqb_tells}
 use Rattle.std.proofs.lemmas.Bool.{eq-eqb}
 use Rattle.iom_driver.specs.declared.device.Attachment.{Attachment}
@@ -41,15 +41,15 @@ ids_with (device ∷ others) id a own = elim (eqb_tells device.id id) [
 ]
 
 -- one device more
-none_plugged : (devices : List Device) (id other : ℕ) → id ≢ other → device_of devices other ≡ None → device_of (devices ++ detached id ∷ []) other ≡ None
-none_plugged [] id other apart none = rw (differs id other apart) refl
-none_plugged (device ∷ others) id other apart none =
-    let parts = none_of_all device others other none in rw (differs device.id other parts.0) (none_plugged others id other apart parts.1)
+none_plugged : (devices : List Device) (id other : ℕ) (trusted : Bool) → id ≢ other → device_of devices other ≡ None → device_of (devices ++ detached id trusted ∷ []) other ≡ None
+none_plugged [] id other trusted apart none = rw (differs id other apart) refl
+none_plugged (device ∷ others) id other trusted apart none =
+    let parts = none_of_all device others other none in rw (differs device.id other parts.0) (none_plugged others id other trusted apart parts.1)
 
-pub ids_plugged : (devices : List Device) (id : ℕ) → device_of devices id ≡ None → HaveOwnIds devices → HaveOwnIds (devices ++ detached id ∷ [])
-ids_plugged [] id none own = (refl, tt)
-ids_plugged (device ∷ others) id none own =
-    let parts = none_of_all device others id none in (none_plugged others id device.id (λ same. parts.0 (sym same)) own.0, ids_plugged others id parts.1 own.1)
+pub ids_plugged : (devices : List Device) (id : ℕ) (trusted : Bool) → device_of devices id ≡ None → HaveOwnIds devices → HaveOwnIds (devices ++ detached id trusted ∷ [])
+ids_plugged [] id trusted none own = (refl, tt)
+ids_plugged (device ∷ others) id trusted none own =
+    let parts = none_of_all device others id none in (none_plugged others id device.id trusted (λ same. parts.0 (sym same)) own.0, ids_plugged others id trusted parts.1 own.1)
 
 -- the device at a place is the one with its id
 pub device_at : (devices : List Device) (k : ℕ) (device : Device) → HaveOwnIds devices → slice_get devices k ≡ Some device → device_of devices device.id ≡ Some device

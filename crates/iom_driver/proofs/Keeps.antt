@@ -32,11 +32,11 @@ use Rattle.iom_driver.proofs.Tickets.{rise_further, rise_more, rise_left}
 
 -- PLUG
 
-pub sound_plugged : (ledger : Ledger) (marks : List (Option Owner)) (devices : List Device) (frames levels : ℕ) (started : Bool) (given confirmed id : ℕ)
+pub sound_plugged : (ledger : Ledger) (marks : List (Option Owner)) (devices : List Device) (frames levels : ℕ) (started : Bool) (given confirmed id : ℕ) (trusted : Bool)
     → IsSound ledger marks devices frames levels started given confirmed → device_of devices id ≡ None → length devices < 16
-    → IsSound ledger marks (devices ++ detached id ∷ []) frames levels started given confirmed
-sound_plugged ledger marks devices frames levels started given confirmed id sound none few =
-    let same : (other : ℕ) → attachment_of (devices ++ detached id ∷ []) other ≡ attachment_of devices other = λ other. attachment_plugged devices id other in
+    → IsSound ledger marks (devices ++ detached id trusted ∷ []) frames levels started given confirmed
+sound_plugged ledger marks devices frames levels started given confirmed id trusted sound none few =
+    let same : (other : ℕ) → attachment_of (devices ++ detached id trusted ∷ []) other ≡ attachment_of devices other = λ other. attachment_plugged devices id trusted other in
     record {
       sizes = sound.sizes;
       fixed = sound.fixed;
@@ -49,8 +49,8 @@ sound_plugged ledger marks devices frames levels started given confirmed id soun
       named = λ other stage at. sound.named other stage (sym (ap owned_stages (same other)) ∙ at);
       tickets = sound.tickets;
       leaving = λ other ticket stage at. sound.leaving other ticket stage (sym (same other) ∙ at);
-      ids = ids_plugged devices id none sound.ids;
-      few = omega (arith, length-append devices (detached id ∷ []));
+      ids = ids_plugged devices id trusted none sound.ids;
+      few = omega (arith, length-append devices (detached id trusted ∷ []));
       idle = λ stopped other. same other ∙ sound.idle stopped other;
     }
 

@@ -1,5 +1,5 @@
 -- Looking a device up by its id, and how it is attached once that is set.
-use Rattle.std.proofs.Common.{suc, zero, ◌≡◌, ◌≢◌, ◌==◌, ◌<◌, ◌∙◌, ◌++◌, ℕ, Bool, true, false, List, [], ◌∷◌, length, Option, Some, None, slice_get, refl, sym, ap, inl, inr, arith, if◌then◌else◌}
+use Rattle.std.proofs.Common.{suc, zero, ◌≡◌, ◌≢◌, ◌==◌, ◌<◌, ◌&&◌, not, ◌∙◌, ◌++◌, ℕ, Bool, true, false, List, [], ◌∷◌, length, Option, Some, None, slice_get, refl, sym, ap, inl, inr, arith, if◌then◌else◌}
 use Rattle.std.specs.Option.{option_map_or}
 use Rattle.std.proofs.lemmas.Bool.Decides.{eqb_tells}
 use Rattle.std.proofs.lemmas.Bool.{eq-eqb, false≢true}
@@ -7,7 +7,7 @@ use Rattle.iom_driver.specs.declared.device.Attachment.{Attachment}
 use Rattle.iom_driver.specs.declared.device.Attachment.TheVariants.{Detached, Attached, Leaving}
 use Rattle.iom_driver.specs.declared.device.Device.{Device}
 use Rattle.iom_driver.specs.declared.device.Stages.{Stages}
-use Rattle.iom_driver.specs.Devices.{device_of, is_plugged, attachment_of, attached_stages, owned_stages, stages_of, detached, with_attachment}
+use Rattle.iom_driver.specs.Devices.{device_of, is_plugged, is_trusted, attachment_of, attached_stages, owned_stages, stages_of, detached, with_attachment}
 use Rattle.iom_driver.specs.Places.{IsPlaceOf}
 use Rattle.iom_driver.proofs.Lists.{differs}
 
@@ -33,6 +33,12 @@ place_is (first ∷ others) id (suc place) device at own none =
 -- how a device is attached
 pub attachment_is : (devices : List Device) (id : ℕ) (device : Device) → device_of devices id ≡ Some device → attachment_of devices id ≡ device.attachment
 attachment_is devices id device at = ap (λ (o : Option Device). option_map_or (λ (d : Device). d.attachment) o Detached) at
+
+-- and whether it may have ATS, as the device that is read at its place says
+pub trusted : (devices : List Device) (id : ℕ) (ats : Bool) (device read : Device) → device_of devices id ≡ Some device → read ≡ device
+    → (ats && not (is_trusted devices id)) ≡ (ats && not read.trusted)
+trusted devices id ats device read at same =
+    ap (λ (o : Option Device). ats && not (option_map_or (λ (d : Device). d.trusted) o false)) at ∙ ap (λ (d : Device). ats && not d.trusted) (sym same)
 
 pub attachment_absent : (devices : List Device) (id : ℕ) → device_of devices id ≡ None → attachment_of devices id ≡ Detached
 attachment_absent devices id at = ap (λ (o : Option Device). option_map_or (λ (d : Device). d.attachment) o Detached) at
@@ -94,16 +100,16 @@ with_absent (device ∷ others) id a none = elim (eqb_tells device.id id) [
     some_none same = cc
 
 -- a detached device more at the end changes nothing of how any is attached
-pub attachment_plugged : (devices : List Device) (id other : ℕ) → attachment_of (devices ++ detached id ∷ []) other ≡ attachment_of devices other
-attachment_plugged [] id other = by (id == other)
+pub attachment_plugged : (devices : List Device) (id : ℕ) (trusted : Bool) (other : ℕ) → attachment_of (devices ++ detached id trusted ∷ []) other ≡ attachment_of devices other
+attachment_plugged [] id trusted other = by (id == other)
   where
-    by : (b : Bool) → ◌≡◌ {A = Attachment} (option_map_or (λ (d : Device). d.attachment) (if b then Some (detached id) else None) Detached) Detached
+    by : (b : Bool) → ◌≡◌ {A = Attachment} (option_map_or (λ (d : Device). d.attachment) (if b then Some (detached id trusted) else None) Detached) Detached
     by true = refl
     by false = refl
-attachment_plugged (device ∷ others) id other = by (device.id == other) (attachment_plugged others id other)
+attachment_plugged (device ∷ others) id trusted other = by (device.id == other) (attachment_plugged others id trusted other)
   where
-    by : (b : Bool) → attachment_of (others ++ detached id ∷ []) other ≡ attachment_of others other
-        → ◌≡◌ {A = Attachment} (option_map_or (λ (d : Device). d.attachment) (if b then Some device else device_of (others ++ detached id ∷ []) other) Detached)
+    by : (b : Bool) → attachment_of (others ++ detached id trusted ∷ []) other ≡ attachment_of others other
+        → ◌≡◌ {A = Attachment} (option_map_or (λ (d : Device). d.attachment) (if b then Some device else device_of (others ++ detached id trusted ∷ []) other) Detached)
         (option_map_or (λ (d : Device). d.attachment) (if b then Some device else device_of others other) Detached)
     by true rest = refl
     by false rest = rest

@@ -1,5 +1,5 @@
 -- The registers go on to name the driver's ring, and the list of the commands in it.
-use Rattle.std.proofs.Common.{zero, suc, ◌≡◌, ◌+◌, ◌-◌, ◌*◌, ◌/◌, ◌%◌, ◌^◌, ◌<◌, ◌≤◌, ◌++◌, ◌∙◌, ℕ, true, List, [], ◌∷◌, length, slice_get, refl, sym, ap, subst, arith, All}
+use Rattle.std.proofs.Common.{zero, suc, ◌≡◌, ◌+◌, ◌-◌, ◌*◌, ◌/◌, ◌%◌, ◌^◌, ◌<◌, ◌≤◌, ◌++◌, ◌∙◌, ℕ, true, List, [], ◌∷◌, length, map, slice_get, refl, sym, ap, subst, arith, All}
 use Rattle.std.proofs.lemmas.List.Elements.{All-nil}
 use Rattle.std.proofs.Math.Nat.{zero-mod}
 use Rattle.iom_command_queue.specs.declared.command.Command.{Command}
@@ -16,7 +16,7 @@ use Rattle.iom_registers.specs.declared.register.Register.TheVariants.{Ddtp, Cqb
 use Rattle.iom_registers.specs.Fields.{entry_count}
 use Rattle.iom_registers.specs.Queues.{command_base, command_entries, command_head, command_tail, directory_mode, directory_root, is_command_queue_on, fault_base, fault_entries, fault_head, fault_tail, is_fault_queue_on}
 use Rattle.iom_registers.specs.Table.{written}
-use Rattle.iom_driver.specs.Appends.{AppendsTwo, AppendsThree}
+use Rattle.iom_driver.specs.Appends.{AppendsAll}
 use Rattle.iom_driver.specs.Calls.{IsOff}
 use Rattle.iom_driver.specs.Directory.{NamesDirectory}
 use Rattle.iom_driver.specs.Layout.{IsLevels, command_frame, cqb_of, ddtp_of, fqb_of}
@@ -96,28 +96,22 @@ pub same_commands : (m n : List (List ℕ)) (r : Registers) → IsRing (length m
     → commands_in n r ≡ commands_in m r
 same_commands m n r ring same = stays_by_frames m n r (λ j lt. rw (in_ring r (length m) j ring lt) same)
 
-after_both : (xs : List QueueEntry) (one other : QueueEntry) → (xs ++ one ∷ []) ++ other ∷ [] ≡ xs ++ one ∷ other ∷ []
-after_both [] one other = refl
-after_both (x ∷ xs) one other = ap (λ ys. x ∷ ys) (after_both xs one other)
+after_first : (xs : List QueueEntry) (x : QueueEntry) (ys : List QueueEntry) → (xs ++ x ∷ []) ++ ys ≡ xs ++ x ∷ ys
+after_first [] x ys = refl
+after_first (z ∷ zs) x ys = ap (λ ws. z ∷ ws) (after_first zs x ys)
 
--- two commands that are appended are the last two of those that wait
-pub two_last : {M : Type 0} (g : Ghosts M) (memory memory' : List (List ℕ)) (io io' : M) (one other : Command) → AppendsTwo g memory io one other memory' io'
-    → commands_in memory' (g.registers io') ≡ commands_in memory (g.registers io) ++ stands.Command one ∷ stands.Command other ∷ []
-two_last g memory memory' io io' one other two =
-    two.second.list ∙ ap (λ (xs : List QueueEntry). xs ++ stands.Command other ∷ []) two.first.list
-    ∙ after_both (commands_in memory (g.registers io)) (stands.Command one) (stands.Command other)
+none_after : (xs : List QueueEntry) → xs ++ [] ≡ xs
+none_after [] = refl
+none_after (x ∷ xs) = ap (λ ys. x ∷ ys) (none_after xs)
 
--- three
-pub three_last : {M : Type 0} (g : Ghosts M) (memory memory' : List (List ℕ)) (io io' : M) (one two three : Command) → AppendsThree g memory io one two three memory' io'
-    → commands_in memory' (g.registers io') ≡ commands_in memory (g.registers io) ++ stands.Command one ∷ stands.Command two ∷ stands.Command three ∷ []
-three_last g memory memory' io io' one two three all =
-    two_last g all.between_memory memory' all.between_io io' two three all.rest
-    ∙ ap (λ (xs : List QueueEntry). xs ++ stands.Command two ∷ stands.Command three ∷ []) all.first.list
-    ∙ after_first (commands_in memory (g.registers io)) (stands.Command one) (stands.Command two ∷ stands.Command three ∷ [])
-  where
-    after_first : (xs : List QueueEntry) (x : QueueEntry) (ys : List QueueEntry) → (xs ++ x ∷ []) ++ ys ≡ xs ++ x ∷ ys
-    after_first [] x ys = refl
-    after_first (z ∷ zs) x ys = ap (λ ws. z ∷ ws) (after_first zs x ys)
+-- commands that are appended are the last of those that wait
+pub all_last : {M : Type 0} (g : Ghosts M) (memory memory' : List (List ℕ)) (io io' : M) (commands : List Command) → AppendsAll g memory io commands memory' io'
+    → commands_in memory' (g.registers io') ≡ commands_in memory (g.registers io) ++ map stands.Command commands
+all_last g memory memory' io io' [] all = rw (all.0, all.1) (sym (none_after (commands_in memory (g.registers io))))
+all_last g memory memory' io io' (command ∷ later) all =
+    all_last g all.0 memory' all.1 io' later all.3
+    ∙ ap (λ (xs : List QueueEntry). xs ++ map stands.Command later) all.2.list
+    ∙ after_first (commands_in memory (g.registers io)) (stands.Command command) (map stands.Command later)
 
 -- registers whose ddtp stays name the same directory
 pub stays_named : (frames levels : ℕ) (old new : Registers) → (directory_mode new ≡ directory_mode old) × (directory_root new ≡ directory_root old) → NamesDirectory frames levels old

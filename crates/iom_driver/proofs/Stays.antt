@@ -1,5 +1,5 @@
 -- The tables of devices while other frames change.
-use Rattle.std.proofs.Common.{◌≡◌, ◌≢◌, ◌-◌, ◌*◌, ◌≤◌, ◌∙◌, ◌⊎◌, inl, inr, ℕ, arith, List, length, Option, Some, option_map, slice_get, refl, sym, ap, subst, [], ◌∷◌, ◌++◌}
+use Rattle.std.proofs.Common.{◌≡◌, ◌≢◌, ◌-◌, ◌*◌, ◌≤◌, ◌∙◌, ◌⊎◌, inl, inr, ℕ, Bool, arith, List, length, Option, Some, option_map, slice_get, refl, sym, ap, subst, [], ◌∷◌, ◌++◌}
 use Rattle.iom_ledger.specs.declared.ledger.Ledger.{Ledger}
 use Rattle.iom_ledger.specs.Shown.{held_in}
 use Rattle.iom_page_table.proofs.Stays.{stays}
@@ -102,17 +102,18 @@ ready_from d d' memory memory' r stand size unreported started levels ready = re
 }
 
 -- and so does one more device that is attached to nothing
-pub ready_plugged : (d : DriverState) (memory : List (List ℕ)) (r : Registers) (id : ℕ) → IsReady d memory r → IsReady (record d { devices = d.devices ++ detached id ∷ [] }) memory r
-ready_plugged d memory r id ready = record {
+pub ready_plugged : (d : DriverState) (memory : List (List ℕ)) (r : Registers) (id : ℕ) (trusted : Bool) → IsReady d memory r
+    → IsReady (record d { devices = d.devices ++ detached id trusted ∷ [] }) memory r
+ready_plugged d memory r id trusted ready = record {
   stand = record {
     size = ready.stand.size;
-    tables = λ other stage at. ready.stand.tables other stage (sym (ap owned_stages (attachment_plugged d.devices id other)) ∙ at);
+    tables = λ other stage at. ready.stand.tables other stage (sym (ap owned_stages (attachment_plugged d.devices id trusted other)) ∙ at);
     directory = λ runs.
         let stands = ready.stand.directory runs in
         record {
           tree = stands.tree;
           own = stands.own;
-          contexts = λ other low. stands.contexts other low ∙ ap located_for (sym (ap attached_stages (attachment_plugged d.devices id other)));
+          contexts = λ other low. stands.contexts other low ∙ ap located_for (sym (ap attached_stages (attachment_plugged d.devices id trusted other)));
         };
   };
   ring = ready.ring;

@@ -1,5 +1,5 @@
 -- What an attach answers, what it leaves, and what stays.
-use Rattle.std.specs.Prelude.{◌≡◌, ◌≢◌, ◌⊎◌, ℕ, List, [], ◌∷◌, ◌++◌, length, None, Some, Result, Ok, Err, Contains, slice_get}
+use Rattle.std.specs.Prelude.{◌≡◌, ◌≢◌, ◌⊎◌, ℕ, Bool, List, [], ◌∷◌, ◌++◌, length, None, Some, Result, Ok, Err, Contains, slice_get}
 use Rattle.iom_base.specs.declared.mode.Mode.{Mode}
 use Rattle.iom_base.specs.declared.mode.Mode.TheVariants.{First, Second, Both}
 use Rattle.iom_base.specs.declared.owner.Owner.TheVariants.{System, OneDevice}
@@ -53,10 +53,11 @@ root_frames Both root = root ∷ other_quarters root
 
 -- The directory pages that the id's path lacks, from the root of the directory down, take the highest free frames, and then the root of the device's
 -- tables the highest that are free then. The lowest free number is the device's address space. Memory is what it was, but that these frames are zero, and
--- then the pages hang on the id's path, with the device's context: no frame but these and the system's changes.
-pub record TakesRoot (d : DriverState) (memory : List (List ℕ)) (id : ℕ) (mode : Mode) (d' : DriverState) (memory' : List (List ℕ)) : Type 0 where
+-- then the pages hang on the id's path, with the device's context, with ATS or without: no frame but these and the system's changes.
+pub record TakesRoot (d : DriverState) (memory : List (List ℕ)) (id : ℕ) (mode : Mode) (ats : Bool) (d' : DriverState) (memory' : List (List ℕ)) : Type 0 where
   pub stage : Stages
   pub in_mode : stage.mode ≡ mode
+  pub with_ats : stage.ats ≡ ats
   pub pages : List ℕ
   pub chosen : ArePages d memory id pages
   pub root : IsRootBelow mode d (limit_below (length memory) pages) stage.root
@@ -76,6 +77,6 @@ LacksRoot d memory id mode NoFrames =
 LacksRoot d memory id mode _ = ⊥
 
 -- ATTACH
-abbrev pub AnswersAttach : DriverState → List (List ℕ) → ℕ → Mode → Result (Unit {0}) Refusal → DriverState → List (List ℕ) → Type 0
-AnswersAttach d memory id mode (Ok done) d' memory' = NoneApplies (why_not_attach d id) × TakesRoot d memory id mode d' memory'
-AnswersAttach d memory id mode (Err why) d' memory' = IsRefusedBy (why_not_attach d id) (LacksRoot d memory id mode) why × (d' ≡ d) × (memory' ≡ memory)
+abbrev pub AnswersAttach : DriverState → List (List ℕ) → ℕ → Mode → Bool → Result (Unit {0}) Refusal → DriverState → List (List ℕ) → Type 0
+AnswersAttach d memory id mode ats (Ok done) d' memory' = NoneApplies (why_not_attach d id ats) × TakesRoot d memory id mode ats d' memory'
+AnswersAttach d memory id mode ats (Err why) d' memory' = IsRefusedBy (why_not_attach d id ats) (LacksRoot d memory id mode) why × (d' ≡ d) × (memory' ≡ memory)

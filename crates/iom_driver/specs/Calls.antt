@@ -1,6 +1,6 @@
 -- What each call answers, what it leaves, and what stays: over the driver, memory, and whatever has registers. Attach, detach and poll have files of
 -- their own: Attaching, Leaving and Polling.
-use Rattle.std.specs.Prelude.{◌≡◌, ◌≢◌, ℕ, ◌+◌, ◌<◌, true, false, List, [], ◌∷◌, ◌++◌, length, Some, Result, Ok, Err, Option, slice_get, slice_set}
+use Rattle.std.specs.Prelude.{◌≡◌, ◌≢◌, ℕ, ◌+◌, ◌<◌, Bool, true, false, List, [], ◌∷◌, ◌++◌, length, map, Some, Result, Ok, Err, Option, slice_get, slice_set}
 use Rattle.iom_base.specs.GrantRights.{rights_of}
 use Rattle.iom_base.specs.declared.grant_rights.GrantRights.{GrantRights}
 use Rattle.iom_base.specs.declared.owner.Owner.{Owner}
@@ -25,7 +25,7 @@ use Rattle.iom_table_frames.specs.Marks.{HasFree, opening_marks, is_marked}
 use Rattle.iom_ledger.specs.Shown.{Agrees, IsFreeIn}
 use Rattle.iom_driver.specs.declared.answers.Ticket.{Ticket}
 use Rattle.iom_driver.specs.declared.device.Stages.{Stages}
-use Rattle.iom_driver.specs.Appends.{invalidation, fence, AppendsTwo}
+use Rattle.iom_driver.specs.Appends.{release_commands, AppendsAll}
 use Rattle.iom_driver.specs.Choices.{AreHighestFree, marked_for, cleared}
 use Rattle.iom_driver.specs.Devices.{stages_of, detached}
 use Rattle.iom_driver.specs.Layout.{command_frame, directory_frame, completion_address, ddtp_of, cqb_of, fqb_of}
@@ -57,10 +57,10 @@ pub record Starts {M : Type 0} (g : Ghosts M) (d : DriverState) (memory : List (
   pub empty : commands_in memory' (g.registers io') ≡ []
   pub unreported : records_in memory' (g.registers io') ≡ []
 
--- PLUG: one more device, attached to nothing; or a refusal, which changes nothing
-abbrev pub AnswersPlug : DriverState → ℕ → Result (Unit {0}) Refusal → DriverState → Type 0
-AnswersPlug d id (Ok done) d' = NoneApplies (why_not_plug d id) × (d' ≡ record d { devices = d.devices ++ detached id ∷ [] })
-AnswersPlug d id (Err why) d' = IsRefusedBy (why_not_plug d id) (λ may. may ≡ Memory) why × (d' ≡ d)
+-- PLUG: one more device, trusted or not, and attached to nothing; or a refusal, which changes nothing
+abbrev pub AnswersPlug : DriverState → ℕ → Bool → Result (Unit {0}) Refusal → DriverState → Type 0
+AnswersPlug d id trusted (Ok done) d' = NoneApplies (why_not_plug d id) × (d' ≡ record d { devices = d.devices ++ detached id trusted ∷ [] })
+AnswersPlug d id trusted (Err why) d' = IsRefusedBy (why_not_plug d id) (λ may. may ≡ Memory) why × (d' ≡ d)
 
 -- nothing changes but what room the ledger has: it shows the same, and agrees with the same histories
 pub record IsSame (d d' : DriverState) : Type 0 where
@@ -108,8 +108,8 @@ AnswersGrant d memory id page frame rights (Ok done) d' memory' = NoneApplies (w
 AnswersGrant d memory id page frame rights (Err why) d' memory' =
     IsRefusedBy (why_not_grant d id page frame) (LacksTables d memory id page frame) why × IsSame d d' × (memory' ≡ memory)
 
--- The next ticket is given; the page's leaf is cleared; an invalidation of the page and the ticket's fence are appended: no frame but the device's and
--- the ring's changes. The ledger has the release.
+-- The next ticket is given; the page's leaf is cleared; the commands of the release are appended: no frame but the device's and the ring's changes. The
+-- ledger has the release.
 pub record QueuesRelease {M : Type 0} (g : Ghosts M) (d : DriverState) (memory : List (List ℕ)) (io : M) (id page ticket : ℕ) (d' : DriverState) (memory' : List (List ℕ)) (io' : M) : Type 0 where
   pub stage : Stages
   pub attached : stages_of d.devices id ≡ Some stage
@@ -117,9 +117,9 @@ pub record QueuesRelease {M : Type 0} (g : Ghosts M) (d : DriverState) (memory :
   pub shown : ShowsRelease d.ledger d'.ledger id page ticket
   pub agrees : (h : History) → Agrees d.ledger h → confirms h ticket ≡ false → Agrees d'.ledger (entry.Released id page ticket ∷ h)
   pub driver : d' ≡ record d { ledger = d'.ledger; given = ticket }
-  pub queued : AppendsTwo g (unmapped memory stage.root page) io (invalidation stage.mode stage.number page) (fence (completion_address (length memory)) ticket) memory' io'
+  pub queued : AppendsAll g (unmapped memory stage.root page) io (release_commands id stage page (completion_address (length memory)) ticket) memory' io'
   pub list : commands_in memory' (g.registers io') ≡ commands_in memory (g.registers io)
-      ++ stands.Command (invalidation stage.mode stage.number page) ∷ stands.Command (fence (completion_address (length memory)) ticket) ∷ []
+      ++ map stands.Command (release_commands id stage page (completion_address (length memory)) ticket)
   pub others : (f : ℕ) → slice_get d.marks f ≢ Some (Some (OneDevice id)) → f ≢ command_frame (length memory) → slice_get memory' f ≡ slice_get memory f
 
 -- RELEASE

@@ -16,6 +16,10 @@ device_of (device ∷ others) id = if device.id == id then Some device else devi
 abbrev pub is_plugged : List Device → ℕ → Bool
 is_plugged devices id = is_some (device_of devices id)
 
+-- whether the device with this id has a cache of translations of its own that obeys invalidations; false where there is none
+abbrev pub is_trusted : List Device → ℕ → Bool
+is_trusted devices id = option_map_or (λ (device : Device). device.trusted) (device_of devices id) false
+
 -- how the device with this id is attached; Detached where there is none
 abbrev pub attachment_of : List Device → ℕ → Attachment
 attachment_of devices id = option_map_or (λ (device : Device). device.attachment) (device_of devices id) Detached
@@ -41,8 +45,8 @@ abbrev pub owned_stages_of : List Device → ℕ → Option Stages
 owned_stages_of devices id = owned_stages (attachment_of devices id)
 
 -- a device as it is plugged in: attached to nothing
-abbrev pub detached : ℕ → Device
-detached id = record { id = id; attachment = Detached }
+abbrev pub detached : ℕ → Bool → Device
+detached id trusted = record { id = id; trusted = trusted; attachment = Detached }
 
 -- the devices, where the one with this id is attached so
 abbrev pub with_attachment : List Device → ℕ → Attachment → List Device

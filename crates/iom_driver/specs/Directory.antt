@@ -1,5 +1,5 @@
 -- The device directory: a context for each attached device, and for no other id.
-use Rattle.std.specs.Prelude.{◌≡◌, ◌≢◌, ℕ, ◌<◌, ◌==◌, false, List, length, Option, None, Some, Result, Ok, Err, slice_get, if◌then◌else◌}
+use Rattle.std.specs.Prelude.{◌≡◌, ◌≢◌, ℕ, ◌<◌, ◌==◌, Bool, List, length, Option, None, Some, Result, Ok, Err, slice_get, if◌then◌else◌}
 use Rattle.iom_base.specs.declared.cause.Cause.{Cause}
 use Rattle.iom_base.specs.declared.cause.Cause.TheVariants.{DirectoryEntryNotValid}
 use Rattle.iom_base.specs.declared.owner.Owner.{Owner}
@@ -23,25 +23,25 @@ use Rattle.iom_driver.specs.declared.device.Stages.{Stages}
 use Rattle.iom_driver.specs.Devices.{stages_of}
 use Rattle.iom_driver.specs.Layout.{command_frame, fault_frame, completion_frame, directory_frame}
 
--- The context of a device that is attached in a mode, with a root and an address-space number, without ATS. In both stages the root of the first is
--- the guest physical page 0.
-abbrev pub context_in : Mode → ℕ → ℕ → Context
-context_in First root number = record {
-  en_ats = false;
+-- The context of a device that is attached in a mode, with a root and an address-space number, with ATS or without. In both stages the root of the
+-- first is the guest physical page 0.
+abbrev pub context_in : Mode → ℕ → ℕ → Bool → Context
+context_in First root number ats = record {
+  en_ats = ats;
   first_stage = first.Sv39 (page_from 0 root);
   second_stage = second.Bare;
   pscid = address_space_from 0 number;
   gscid = 0;
 }
-context_in Second root number = record {
-  en_ats = false;
+context_in Second root number ats = record {
+  en_ats = ats;
   first_stage = first.Bare;
   second_stage = second.Sv39x4 (guest_root_from root);
   pscid = address_space_from 0 0;
   gscid = number;
 }
-context_in Both root number = record {
-  en_ats = false;
+context_in Both root number ats = record {
+  en_ats = ats;
   first_stage = first.Sv39 (page_from 0 0);
   second_stage = second.Sv39x4 (guest_root_from root);
   pscid = address_space_from 0 number;
@@ -50,7 +50,7 @@ context_in Both root number = record {
 
 -- that of these stages
 abbrev pub context_for : Stages → Context
-context_for stages = context_in stages.mode stages.root stages.number
+context_for stages = context_in stages.mode stages.root stages.number stages.ats
 
 -- where the path of an id ends, by the stages in which it is attached
 abbrev pub located_for : Option Stages → Result Context Cause

@@ -1,5 +1,5 @@
 -- What a detach answers, what it leaves, and what stays.
-use Rattle.std.specs.Prelude.{◌≡◌, ◌≢◌, ◌↔◌, ℕ, ◌+◌, Bool, List, [], ◌∷◌, ◌++◌, length, Some, Result, Ok, Err, IsTrue, slice_get}
+use Rattle.std.specs.Prelude.{◌≡◌, ◌≢◌, ◌↔◌, ℕ, ◌+◌, Bool, List, ◌++◌, length, map, Some, Result, Ok, Err, IsTrue, slice_get}
 use Rattle.iom_command_queue.specs.declared.entry.QueueEntry.TheVariants as stands
 use Rattle.iom_command_queue.specs.Waiting.{commands_in}
 use Rattle.iom_directory.specs.Pages.{HasPage, root_level}
@@ -11,23 +11,23 @@ use Rattle.iom_registers.specs.declared.registers.Registers.{Registers}
 use Rattle.iom_driver.specs.declared.answers.Ticket.{Ticket}
 use Rattle.iom_driver.specs.declared.device.Attachment.TheVariants as attachment
 use Rattle.iom_driver.specs.declared.device.Stages.{Stages}
-use Rattle.iom_driver.specs.Appends.{context_invalidation, space_invalidation, fence, AppendsThree}
+use Rattle.iom_driver.specs.Appends.{detach_commands, AppendsAll}
 use Rattle.iom_driver.specs.Devices.{stages_of, with_attachment}
 use Rattle.iom_driver.specs.Layout.{command_frame, directory_frame, completion_address}
 use Rattle.iom_driver.specs.Reasons.{why_not_detach, HasGrants}
 use Rattle.iom_driver.specs.State.{DriverState}
 
--- The next ticket is given, and the device leaves under it, with its stages; its context's bytes are zero; then an invalidation of its context, one
--- of its address space, and the ticket's fence are appended: no frame but the directory's pages and the ring's changes. The ledger stays.
+-- The next ticket is given, and the device leaves under it, with its stages; its context's bytes are zero; then the commands of the detach are appended:
+-- no frame but the directory's pages and the ring's changes. The ledger stays.
 pub record QueuesDetach {M : Type 0} (g : Ghosts M) (d : DriverState) (memory : List (List ℕ)) (io : M) (id ticket : ℕ) (d' : DriverState) (memory' : List (List ℕ)) (io' : M) : Type 0 where
   pub stage : Stages
   pub attached : stages_of d.devices id ≡ Some stage
   pub next : ticket ≡ d.given + 1
   pub driver : d' ≡ record d { devices = with_attachment d.devices id (attachment.Leaving ticket stage); given = ticket }
-  pub queued : AppendsThree g (without_context memory (root_level d.levels) (directory_frame (length memory)) id) io
-      (context_invalidation id) (space_invalidation stage.mode stage.number) (fence (completion_address (length memory)) ticket) memory' io'
+  pub queued : AppendsAll g (without_context memory (root_level d.levels) (directory_frame (length memory)) id) io
+      (detach_commands id stage (completion_address (length memory)) ticket) memory' io'
   pub list : commands_in memory' (g.registers io') ≡ commands_in memory (g.registers io)
-      ++ stands.Command (context_invalidation id) ∷ stands.Command (space_invalidation stage.mode stage.number) ∷ stands.Command (fence (completion_address (length memory)) ticket) ∷ []
+      ++ map stands.Command (detach_commands id stage (completion_address (length memory)) ticket)
   pub others : (f : ℕ) → ¬ HasPage memory (root_level d.levels) (directory_frame (length memory)) f → f ≢ command_frame (length memory) → slice_get memory' f ≡ slice_get memory f
 
 -- why it is refused, or that it isn't, where the device holds or lingers on something or not

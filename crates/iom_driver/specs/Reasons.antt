@@ -1,16 +1,18 @@
 -- Why a call is refused: its reasons, in the order in which it tests them.
-use Rattle.std.specs.Prelude.{ℕ, ◌+◌, ◌-◌, Bool, not, ◌||◌, nat_le, nat_lt, List, [], ◌∷◌, length, is_some, is_none, IsSome, ◌⊎◌}
+use Rattle.std.specs.Prelude.{ℕ, ◌+◌, ◌-◌, Bool, not, ◌||◌, ◌&&◌, nat_le, List, [], ◌∷◌, length, Option, None, Some, is_some, is_none, IsSome, ◌⊎◌, if◌then◌else◌}
 use Rattle.iom_base.specs.Sizes.{page_limit}
 use Rattle.iom_command_queue.specs.Waiting.{how_many}
 use Rattle.iom_ledger.specs.declared.ledger.Ledger.{Ledger}
 use Rattle.iom_ledger.specs.declared.refusal.Refusal.{Refusal}
-use Rattle.iom_ledger.specs.declared.refusal.Refusal.TheVariants.{NoSuchDevice, AlreadyAttached, NotAttached, FrameOutOfRange, FrameReserved, IovaOutOfRange, IovaBusy, NotGranted, QueueFull, TooManyPending, NumbersUsedUp, StillGranted, IdTooWide, TooManyDevices, NotStarted, AlreadyPlugged}
+use Rattle.iom_ledger.specs.declared.refusal.Refusal.TheVariants.{NotStarted, AlreadyPlugged, TooManyDevices, NoSuchDevice, AlreadyAttached, NotAttached, IdTooWide, NotTrusted}
+use Rattle.iom_ledger.specs.declared.refusal.Refusal.TheVariants.{FrameOutOfRange, FrameReserved, IovaOutOfRange, IovaBusy, NotGranted, StillGranted, TooManyPending, QueueFull, NumbersUsedUp}
 use Rattle.iom_ledger.specs.Pending.{pending_limit}
 use Rattle.iom_ledger.specs.Shown.{held_in, lingering_in}
 use Rattle.iom_registers.specs.declared.registers.Registers.{Registers}
 use Rattle.iom_registers.specs.Queues.{command_entries}
 use Rattle.iom_table_frames.specs.Marks.{is_marked}
-use Rattle.iom_driver.specs.Devices.{is_plugged, stages_of, owned_stages_of}
+use Rattle.iom_driver.specs.declared.device.Stages.{Stages}
+use Rattle.iom_driver.specs.Devices.{is_plugged, is_trusted, stages_of, owned_stages_of}
 use Rattle.iom_driver.specs.Layout.{id_limit}
 use Rattle.iom_driver.specs.State.{DriverState}
 
@@ -18,13 +20,14 @@ use Rattle.iom_driver.specs.State.{DriverState}
 abbrev pub is_busy : DriverState → ℕ → ℕ → Bool
 is_busy d id page = is_some (held_in d.ledger id page) || is_some (lingering_in d.ledger id page)
 
--- whether fewer than two entries of the ring are free: one stays empty, since a queue whose head and tail are the same has none
-abbrev pub lacks_two_places : Registers → Bool
-lacks_two_places r = nat_lt (command_entries r) (how_many r + 3)
+-- whether fewer places of the ring than these are free: one stays empty, since a queue whose head and tail are the same has no command
+abbrev pub lacks_places : ℕ → Registers → Bool
+lacks_places places r = nat_le (command_entries r) (how_many r + places)
 
--- whether fewer than three are
-abbrev pub lacks_three_places : Registers → Bool
-lacks_three_places r = nat_lt (command_entries r) (how_many r + 4)
+-- how many places the commands of a release take (`release_commands`), by the stages of the device
+abbrev pub release_places : Option Stages → ℕ
+release_places None = 0
+release_places (Some stage) = if stage.ats then 3 else 2
 
 -- a device is plugged in
 abbrev pub why_not_plug : DriverState → ℕ → List (Bool × Refusal)
@@ -33,13 +36,14 @@ why_not_plug d id =
     ∷ (nat_le 16 (length d.devices), TooManyDevices)
     ∷ []
 
--- a device is attached
-abbrev pub why_not_attach : DriverState → ℕ → List (Bool × Refusal)
-why_not_attach d id =
+-- a device is attached, with ATS or without
+abbrev pub why_not_attach : DriverState → ℕ → Bool → List (Bool × Refusal)
+why_not_attach d id ats =
     (not d.started, NotStarted)
     ∷ (not (is_plugged d.devices id), NoSuchDevice)
     ∷ (is_some (owned_stages_of d.devices id), AlreadyAttached)
     ∷ (nat_le (id_limit d.levels) id, IdTooWide)
+    ∷ (ats && not (is_trusted d.devices id), NotTrusted)
     ∷ []
 
 -- the driver isn't started, or the device isn't there, or isn't attached
@@ -62,24 +66,24 @@ granting_reasons d id page frame =
 abbrev pub why_not_grant : DriverState → ℕ → ℕ → ℕ → List (Bool × Refusal)
 why_not_grant d id page frame = why_not_attached d id (granting_reasons d id page frame)
 
--- and: a page is released
-abbrev pub releasing_reasons : DriverState → Registers → ℕ → ℕ → List (Bool × Refusal)
-releasing_reasons d r id page =
+-- and: a page is released, by so many commands
+abbrev pub releasing_reasons : DriverState → Registers → ℕ → ℕ → ℕ → List (Bool × Refusal)
+releasing_reasons d r places id page =
     (is_none (held_in d.ledger id page), NotGranted)
     ∷ (nat_le pending_limit (d.given - d.confirmed), TooManyPending)
-    ∷ (lacks_two_places r, QueueFull)
+    ∷ (lacks_places places r, QueueFull)
     ∷ (nat_le 4294967295 d.given, NumbersUsedUp)
     ∷ []
 
 abbrev pub why_not_release : DriverState → Registers → ℕ → ℕ → List (Bool × Refusal)
-why_not_release d r id page = why_not_attached d id (releasing_reasons d r id page)
+why_not_release d r id page = why_not_attached d id (releasing_reasons d r (release_places (stages_of d.devices id)) id page)
 
 -- a device is detached, where it holds or lingers on something or not: `granted` says which
 abbrev pub detaching_reasons : DriverState → Registers → Bool → List (Bool × Refusal)
 detaching_reasons d r granted =
     (granted, StillGranted)
     ∷ (nat_le pending_limit (d.given - d.confirmed), TooManyPending)
-    ∷ (lacks_three_places r, QueueFull)
+    ∷ (lacks_places 3 r, QueueFull)
     ∷ (nat_le 4294967295 d.given, NumbersUsedUp)
     ∷ []
 

@@ -1,16 +1,17 @@
 // Registers by their names, and what the driver reads off them.
-ghost use Rattle.std.specs.Prelude.{◌≡◌, ◌+◌, nat_lt};
+ghost use Rattle.std.specs.Prelude.{◌≡◌, ◌≤◌, ◌+◌, nat_le};
 ghost use Rattle.iom_command_queue.specs.Waiting.{how_many};
 ghost use Rattle.iom_registers.specs.Queues.{command_entries, command_status};
 ghost use Rattle.iom_registers.specs.Table.{value_of};
 ghost use Rattle.iom_driver.specs.Layout.{queue_entries};
-ghost use Rattle.iom_driver.specs.Reasons.{lacks_two_places, lacks_three_places};
+ghost use Rattle.iom_driver.specs.Reasons.{lacks_places};
 
 use crate::layout::QUEUE_ENTRIES;
 use bitflags::Flags;
 use iom_registers::{Cqcsr, Mmio, Register};
 
 /// The value of a register.
+#[inline]
 pub(crate) fn read<M: Mmio>(io: &M, register: Register) -> u64
     ensures { result ≡ value_of (M.registers io.now) register }
 {
@@ -18,6 +19,7 @@ pub(crate) fn read<M: Mmio>(io: &M, register: Register) -> u64
 }
 
 /// Writes a register.
+#[inline]
 pub(crate) fn write<M: Mmio>(io: &mut M, register: Register, value: u64)
     ensures { io.new ≡ M.after io.old register value }
 {
@@ -25,6 +27,7 @@ pub(crate) fn write<M: Mmio>(io: &mut M, register: Register, value: u64)
 }
 
 /// How many commands wait.
+#[inline]
 fn how_many<M: Mmio>(io: &M) -> u64
     requires { command_entries (M.registers io.now) ≡ queue_entries }
     ensures { result ≡ how_many (M.registers io.now) }
@@ -38,20 +41,13 @@ fn how_many<M: Mmio>(io: &M) -> u64
     }
 }
 
-/// Whether the ring has no room for the two commands of a release.
-pub(crate) fn lacks_two_places<M: Mmio>(io: &M) -> bool
-    requires { command_entries (M.registers io.now) ≡ queue_entries }
-    ensures { result ≡ lacks_two_places (M.registers io.now) }
+/// Whether the ring has no room for so many commands more.
+pub(crate) fn lacks_places<M: Mmio>(io: &M, places: u64) -> bool
+    requires entries { command_entries (M.registers io.now) ≡ queue_entries }
+    requires few { places ≤ 256 }
+    ensures { result ≡ lacks_places places (M.registers io.now) }
 {
-    how_many(io) + 3 > QUEUE_ENTRIES
-}
-
-/// Whether the ring has no room for the three commands of a detach.
-pub(crate) fn lacks_three_places<M: Mmio>(io: &M) -> bool
-    requires { command_entries (M.registers io.now) ≡ queue_entries }
-    ensures { result ≡ lacks_three_places (M.registers io.now) }
-{
-    how_many(io) + 4 > QUEUE_ENTRIES
+    how_many(io) + places >= QUEUE_ENTRIES
 }
 
 /// Whether a command took too long.

@@ -7,15 +7,22 @@ ghost use Rattle.iom_registers.specs.Queues.{command_entries};
 ghost use Rattle.iom_driver.specs.Admitted.{MayBeGranted, MayBeReleased, MayBeDetached};
 ghost use Rattle.iom_driver.specs.Devices.{device_of, stages_of};
 ghost use Rattle.iom_driver.specs.Layout.{queue_entries};
-ghost use Rattle.iom_driver.specs.Reasons.{why_not_attached, why_not_grant, why_not_release, why_not_detach, HasGrants};
+ghost use Rattle.iom_driver.specs.Reasons.{release_places, why_not_attached, why_not_grant, why_not_release, why_not_detach, HasGrants};
 ghost use Rattle.iom_driver.specs.Seen.{state_of};
 
-use crate::access::{lacks_three_places, lacks_two_places};
+use crate::access::lacks_places;
 use crate::device::Stages;
 use crate::driver::Driver;
 use iom_base::{DeviceId, PAGE_LIMIT};
 use iom_ledger::{MAX_PENDING, Refusal};
 use iom_registers::Mmio;
+
+/// How many commands a release of a page of the device takes.
+fn release_places(stage: Stages) -> u64
+    ensures { result ≡ release_places (Some stage) }
+{
+    if stage.ats { 3 } else { 2 }
+}
 
 impl Driver {
     /// The stages of the attached device, or why it has none.
@@ -83,7 +90,7 @@ impl Driver {
         if self.given - self.confirmed >= MAX_PENDING as u32 {
             return Err(Refusal::TooManyPending);
         }
-        if lacks_two_places(io) {
+        if lacks_places(io, release_places(stage)) {
             return Err(Refusal::QueueFull);
         }
         if self.given == u32::MAX {
@@ -118,7 +125,7 @@ impl Driver {
         if self.given - self.confirmed >= MAX_PENDING as u32 {
             return Err(Refusal::TooManyPending);
         }
-        if lacks_three_places(io) {
+        if lacks_places(io, 3) {
             return Err(Refusal::QueueFull);
         }
         if self.given == u32::MAX {

@@ -1,21 +1,27 @@
-// The commands of a release and of a detach.
-ghost use Rattle.std.specs.Prelude.{◌≡◌, ◌+◌, ◌*◌, ◌/◌, ◌%◌, ◌<◌, ◌≤◌, ◌^◌, ◌≢◌, ℕ, length, slice_get};
+// The commands of a release and of a detach. Those of a release are made in place, so that the constant parts of
+// their words are known when it is compiled.
+ghost use Rattle.std.specs.Prelude.{◌≡◌, ◌+◌, ◌*◌, ◌/◌, ◌%◌, ◌<◌, ◌≤◌, ◌^◌, ◌≢◌, ℕ, true, Some, length, slice_get, if◌then◌else◌};
+ghost use Rattle.iom_command_queue.specs.declared.command.Command.TheVariants.{AtsInval};
 ghost use Rattle.iom_command_queue.specs.Waiting.{how_many};
-ghost use Rattle.iom_driver.specs.Appends.{invalidation_of, invalidation, space_invalidation, context_invalidation, fence, AppendsTwo, AppendsThree};
+ghost use Rattle.iom_driver.specs.Appends.{invalidation_of, invalidation, space_invalidation, context_invalidation, dropped_range, device_invalidation, fence};
+ghost use Rattle.iom_driver.specs.Appends.{release_commands, detach_commands, Appends, AppendsAll};
 ghost use Rattle.iom_driver.specs.Layout.{command_frame, completion_address, queue_entries};
 ghost use Rattle.iom_driver.specs.Directory.{KeepsDirectory};
 ghost use Rattle.iom_driver.specs.Ready.{IsRing, KeepsFaults};
+ghost use Rattle.iom_driver.specs.Reasons.{release_places};
 
+use crate::device::Stages;
 use crate::layout::completion_address;
 use iom_base::{DeviceId, Mode};
 use iom_command_queue::{
-    Command, CommandRing, DeviceNumber, FenceAddress, FenceStore, PageNumber, Pscid,
+    AtsRange, Command, CommandRing, DeviceNumber, FenceAddress, FenceStore, PageNumber, Pscid,
 };
 use iom_phys_mem::Memory;
 use iom_registers::Mmio;
 
 /// Drop translations in the address space of this number in the mode: those of the page, or all. Where the
 /// first stage translates alone the number is a PSCID; else it is a GSCID, and the page a guest physical one.
+#[inline(always)]
 fn invalidation_of(mode: Mode, number: u32, page: Option<PageNumber>) -> Command
     requires { number < 2 ^ 16 }
     ensures { result ≡ invalidation_of mode number page }
@@ -34,7 +40,8 @@ fn invalidation_of(mode: Mode, number: u32, page: Option<PageNumber>) -> Command
 }
 
 /// Drop the translations of the page in this address space.
-pub(crate) fn invalidation(mode: Mode, number: u32, page: u64) -> Command
+#[inline(always)]
+fn invalidation(mode: Mode, number: u32, page: u64) -> Command
     requires number { number < 2 ^ 16 }
     requires page { page < 2 ^ 52 }
     ensures { result ≡ invalidation mode number page }
@@ -43,7 +50,7 @@ pub(crate) fn invalidation(mode: Mode, number: u32, page: u64) -> Command
 }
 
 /// Drop all translations in this address space.
-pub(crate) fn space_invalidation(mode: Mode, number: u32) -> Command
+fn space_invalidation(mode: Mode, number: u32) -> Command
     requires { number < 2 ^ 16 }
     ensures { result ≡ space_invalidation mode number }
 {
@@ -51,7 +58,7 @@ pub(crate) fn space_invalidation(mode: Mode, number: u32) -> Command
 }
 
 /// Drop the context of the device.
-pub(crate) fn context_invalidation(id: DeviceId) -> Command
+fn context_invalidation(id: DeviceId) -> Command
     requires { id < 2 ^ 24 }
     ensures { result ≡ context_invalidation id }
 {
@@ -60,7 +67,32 @@ pub(crate) fn context_invalidation(id: DeviceId) -> Command
     }
 }
 
+/// What a device with ATS is to drop when its page is released: in both stages everything, since the page is
+/// then a guest physical one.
+fn dropped_range(mode: Mode, page: u64) -> AtsRange
+    requires { page < 2 ^ 52 }
+    ensures { result ≡ dropped_range mode page }
+{
+    match mode {
+        Mode::First | Mode::Second => AtsRange::Page(PageNumber::new(page).unwrap()),
+        Mode::Both => AtsRange::Everything,
+    }
+}
+
+/// The device is to drop its own translations of the page.
+fn device_invalidation(id: DeviceId, mode: Mode, page: u64) -> Command
+    requires id { id < 2 ^ 24 }
+    requires page { page < 2 ^ 52 }
+    ensures { result ≡ AtsInval id (dropped_range mode page) }
+{
+    Command::AtsInval {
+        device: DeviceNumber::new(id).unwrap(),
+        range: dropped_range(mode, page),
+    }
+}
+
 /// When all before is complete, accesses under way among it, store the number.
+#[inline(always)]
 fn fence(address: u64, number: u32) -> Command
     requires { address % 4 ≡ 0 }
     ensures { result ≡ fence address number }
@@ -75,28 +107,81 @@ fn fence(address: u64, number: u32) -> Command
     }
 }
 
-/// Appends the commands of a release: the invalidation of its page, and the fence of its ticket.
+/// Appends a command to the driver's ring.
+#[inline(always)]
+fn append<M: Mmio>(memory: &mut Memory, io: &mut M, command: Command)
+    requires many { 64 ≤ length memory.old }
+    requires ring { IsRing (length memory.old) (M.registers io.old) }
+    requires room { how_many (M.registers io.old) + 1 < queue_entries }
+    ensures appended { Appends M.Mmio memory.old io.old command memory.new io.new }
+    ensures count { how_many (M.registers io.new) ≡ how_many (M.registers io.old) + 1 }
+    ensures ring { IsRing (length memory.old) (M.registers io.new) }
+    ensures named { KeepsDirectory (M.registers io.old) (M.registers io.new) }
+    ensures faults { KeepsFaults (M.registers io.old) (M.registers io.new) }
+    ensures other_frames { (n : ℕ) → n ≢ command_frame (length memory.old) → slice_get memory.new n ≡ slice_get memory.old n }
+    ensures size { length memory.new ≡ length memory.old }
+{
+    CommandRing::append(memory, io, command);
+}
+
+/// Where the device may keep translations of its own, appends the command that asks it to drop those of the
+/// page.
+#[inline(always)]
+fn append_device_invalidation<M: Mmio>(
+    memory: &mut Memory,
+    io: &mut M,
+    id: DeviceId,
+    stage: Stages,
+    page: u64,
+)
+    requires many { 64 ≤ length memory.old }
+    requires ring { IsRing (length memory.old) (M.registers io.old) }
+    requires room { stage.ats ≡ true → how_many (M.registers io.old) + 1 < queue_entries }
+    requires id { id < 2 ^ 24 }
+    requires page { page < 2 ^ 52 }
+    ensures appended { AppendsAll M.Mmio memory.old io.old (device_invalidation id stage page) memory.new io.new }
+    ensures count { how_many (M.registers io.new) ≡ how_many (M.registers io.old) + (if stage.ats then 1 else 0) }
+    ensures ring { IsRing (length memory.old) (M.registers io.new) }
+    ensures named { KeepsDirectory (M.registers io.old) (M.registers io.new) }
+    ensures faults { KeepsFaults (M.registers io.old) (M.registers io.new) }
+    ensures other_frames { (n : ℕ) → n ≢ command_frame (length memory.old) → slice_get memory.new n ≡ slice_get memory.old n }
+    ensures size { length memory.new ≡ length memory.old }
+{
+    if stage.ats {
+        append(memory, io, device_invalidation(id, stage.mode, page));
+    }
+}
+
+/// Appends the commands of a release: the invalidation of its page, where the device has ATS the one that asks
+/// it to drop its own translations, and the fence of its ticket.
+#[inline(always)]
 pub(crate) fn append_release<M: Mmio>(
     memory: &mut Memory,
     io: &mut M,
     frames: u32,
-    invalidation: Command,
+    id: DeviceId,
+    stage: Stages,
+    page: u64,
     ticket: u32,
 )
     requires frames { length memory.old ≡ frames }
     requires many { 64 ≤ frames }
     requires ring { IsRing frames (M.registers io.old) }
-    requires room { how_many (M.registers io.old) + 3 ≤ queue_entries }
-    ensures appended { let last = fence (completion_address frames) ticket in
-        AppendsTwo M.Mmio memory.old io.old invalidation last memory.new io.new }
+    requires room { how_many (M.registers io.old) + release_places (Some stage) < queue_entries }
+    requires id { id < 2 ^ 24 }
+    requires number { stage.number < 2 ^ 16 }
+    requires page { page < 2 ^ 52 }
+    ensures appended { let commands = release_commands id stage page (completion_address frames) ticket in
+        AppendsAll M.Mmio memory.old io.old commands memory.new io.new }
     ensures ring { IsRing frames (M.registers io.new) }
     ensures named { KeepsDirectory (M.registers io.old) (M.registers io.new) }
     ensures faults { KeepsFaults (M.registers io.old) (M.registers io.new) }
     ensures other_frames { (n : ℕ) → n ≢ command_frame frames → slice_get memory.new n ≡ slice_get memory.old n }
     ensures size { length memory.new ≡ length memory.old }
 {
-    CommandRing::append(memory, io, invalidation);
-    CommandRing::append(memory, io, fence(completion_address(frames), ticket));
+    append(memory, io, invalidation(stage.mode, stage.number, page));
+    append_device_invalidation(memory, io, id, stage, page);
+    append(memory, io, fence(completion_address(frames), ticket));
 }
 
 /// Appends the commands of a detach: the invalidations of the device's context and of its address space, and
@@ -105,22 +190,25 @@ pub(crate) fn append_detach<M: Mmio>(
     memory: &mut Memory,
     io: &mut M,
     frames: u32,
-    context: Command,
-    space: Command,
+    id: DeviceId,
+    stage: Stages,
     ticket: u32,
 )
     requires frames { length memory.old ≡ frames }
     requires many { 64 ≤ frames }
     requires ring { IsRing frames (M.registers io.old) }
-    requires room { how_many (M.registers io.old) + 4 ≤ queue_entries }
-    ensures appended { let last = fence (completion_address frames) ticket in
-        AppendsThree M.Mmio memory.old io.old context space last memory.new io.new }
+    requires room { how_many (M.registers io.old) + 3 < queue_entries }
+    requires id { id < 2 ^ 24 }
+    requires number { stage.number < 2 ^ 16 }
+    ensures appended { let commands = detach_commands id stage (completion_address frames) ticket in
+        AppendsAll M.Mmio memory.old io.old commands memory.new io.new }
     ensures ring { IsRing frames (M.registers io.new) }
     ensures named { KeepsDirectory (M.registers io.old) (M.registers io.new) }
     ensures faults { KeepsFaults (M.registers io.old) (M.registers io.new) }
     ensures other_frames { (n : ℕ) → n ≢ command_frame frames → slice_get memory.new n ≡ slice_get memory.old n }
     ensures size { length memory.new ≡ length memory.old }
 {
-    CommandRing::append(memory, io, context);
-    append_release(memory, io, frames, space, ticket);
+    append(memory, io, context_invalidation(id));
+    append(memory, io, space_invalidation(stage.mode, stage.number));
+    append(memory, io, fence(completion_address(frames), ticket));
 }

@@ -75,8 +75,8 @@ fn space(number: u32) -> Pscid
     Pscid::new(number).unwrap()
 }
 
-/// The context of a device that is attached in these stages, without ATS. In both the root of the first is the
-/// guest physical page 0.
+/// The context of a device that is attached in these stages. In both the root of the first is the guest
+/// physical page 0.
 fn context_for(stages: Stages) -> Context
     requires number { stages.number < 2 ^ 16 }
     requires root { IsAligned stages.mode stages.root }
@@ -84,21 +84,21 @@ fn context_for(stages: Stages) -> Context
 {
     match stages.mode {
         Mode::First => Context {
-            en_ats: false,
+            en_ats: stages.ats,
             first_stage: sv39(stages.root),
             second_stage: SecondStage::Bare,
             pscid: space(stages.number),
             gscid: 0,
         },
         Mode::Second => Context {
-            en_ats: false,
+            en_ats: stages.ats,
             first_stage: FirstStage::Bare,
             second_stage: sv39x4(stages.root),
             pscid: space(0),
             gscid: stages.number as u16,
         },
         Mode::Both => Context {
-            en_ats: false,
+            en_ats: stages.ats,
             first_stage: sv39(0),
             second_stage: sv39x4(stages.root),
             pscid: space(stages.number),
@@ -144,15 +144,22 @@ impl Driver {
         Some(Taken { pages, root })
     }
 
-    /// The device is attached in the mode, without ATS: the directory pages that its id's path lacks, from
-    /// the root of the directory down, and then the root of its tables take the highest free frames, a root
-    /// of a second stage the highest four side by side; its address space takes the lowest number from 1 on
-    /// that no attached or leaving device holds; its context is written. `NotStarted`, `NoSuchDevice`,
-    /// `AlreadyAttached` (a leaving device too), `IdTooWide`, `NoFrames`: the first that applies, and then
-    /// nothing changes. Takes no memory.
-    pub fn attach(&mut self, memory: &mut Memory, id: DeviceId, mode: Mode) -> Result<(), Refusal>
+    /// The device is attached in the mode, with ATS (it may ask for translations and keep them) or without:
+    /// the directory pages that its id's path lacks, from the root of the directory down, and then the root
+    /// of its tables take the highest free frames, a root of a second stage the highest four side by side;
+    /// its address space takes the lowest number from 1 on that no attached or leaving device holds; its
+    /// context is written. `NotStarted`, `NoSuchDevice`, `AlreadyAttached` (a leaving device too),
+    /// `IdTooWide`, `NotTrusted` where ATS is asked for a device that isn't trusted, `NoFrames`: the first
+    /// that applies, and then nothing changes. Takes no memory.
+    pub fn attach(
+        &mut self,
+        memory: &mut Memory,
+        id: DeviceId,
+        mode: Mode,
+        ats: bool,
+    ) -> Result<(), Refusal>
         requires stand { TablesStand (state_of self.old) memory.old }
-        ensures effect { AnswersAttach (state_of self.old) memory.old id mode result (state_of self.new) memory.new }
+        ensures effect { AnswersAttach (state_of self.old) memory.old id mode ats result (state_of self.new) memory.new }
         ensures stand { TablesStand (state_of self.new) memory.new }
         ensures ready { (r : Registers) → IsReady (state_of self.old) memory.old r → IsReady (state_of self.new) memory.new r }
     {
@@ -168,6 +175,9 @@ impl Driver {
         if id >= id_limit(self.levels) {
             return Err(Refusal::IdTooWide);
         }
+        if self.devices[place].lacks_trust(ats) {
+            return Err(Refusal::NotTrusted);
+        }
         let directory = directory_frame(self.frames);
         let lacking = missing(memory, self.levels, directory, id);
         let Some(taken) = self.choose_with_root(mode, lacking) else {
@@ -176,7 +186,12 @@ impl Driver {
         let pages = taken.pages.as_slice();
         let root = taken.root;
         let number = lowest_number(&self.devices);
-        let stages = Stages { mode, root, number };
+        let stages = Stages {
+            mode,
+            root,
+            number,
+            ats,
+        };
         let context = context_for(stages);
         reserve_all(&mut self.marks, memory, pages, Owner::System);
         reserve_root(&mut self.marks, memory, mode, root, Owner::OneDevice(id));

@@ -10,6 +10,8 @@ pub struct Stages {
     pub(crate) root: u32,
     /// Its address-space number, which commands name it by: the PSCID of a first stage, the GSCID of a second.
     pub(crate) number: u32,
+    /// Whether the device may ask for translations and keep them (`EN_ATS` of its context).
+    pub(crate) ats: bool,
 }
 
 /// How a device that is plugged in is attached.
@@ -27,7 +29,20 @@ pub enum Attachment {
 #[derive(Clone, Copy, PartialEq, Eq, Debug)]
 pub struct Device {
     pub(crate) id: DeviceId,
+    /// Whether it has a cache of translations of its own (ATS) that obeys invalidations.
+    pub(crate) trusted: bool,
     pub(crate) attachment: Attachment,
+}
+
+impl Device {
+    ghost use Rattle.std.specs.Prelude.{◌≡◌, ◌&&◌, not};
+
+    // Whether ATS is asked for a device that may not have it.
+    pub(crate) fn lacks_trust(self, ats: bool) -> bool
+        ensures { result ≡ (ats && not self.trusted) }
+    {
+        ats && !self.trusted
+    }
 }
 
 impl Attachment {

@@ -4,7 +4,7 @@ ghost use Rattle.iom_driver.specs.Ready.{IsReady};
 ghost use Rattle.iom_driver.specs.Seen.{state_of};
 
 use crate::answers::Ticket;
-use crate::appending::{append_detach, context_invalidation, space_invalidation};
+use crate::appending::append_detach;
 use crate::device::Attachment;
 use crate::driver::Driver;
 use crate::layout::directory_frame;
@@ -41,14 +41,7 @@ impl Driver {
         set_attachment(&mut self.devices, id, Attachment::Leaving { ticket, stage });
         let directory = directory_frame(self.frames);
         clear_context(memory, self.levels, directory, id);
-        append_detach(
-            memory,
-            io,
-            self.frames,
-            context_invalidation(id),
-            space_invalidation(stage.mode, stage.number),
-            ticket,
-        );
+        append_detach(memory, io, self.frames, id, stage, ticket);
         Ok(Ticket(ticket))
     }
 }

@@ -12,10 +12,11 @@ use iom_base::DeviceId;
 use iom_ledger::Refusal;
 
 impl Driver {
-    /// A device is plugged in, and attached to nothing. May come before the start. `AlreadyPlugged`, else
+    /// A device is plugged in, and attached to nothing. It is trusted where it has a cache of translations of
+    /// its own (ATS) that obeys invalidations. May come before the start. `AlreadyPlugged`, else
     /// `TooManyDevices` where there are 16, else `Memory`.
-    pub fn plug(&mut self, id: DeviceId) -> Result<(), Refusal>
-        ensures effect { AnswersPlug (state_of self.old) id result (state_of self.new) }
+    pub fn plug(&mut self, id: DeviceId, trusted: bool) -> Result<(), Refusal>
+        ensures effect { AnswersPlug (state_of self.old) id trusted result (state_of self.new) }
         ensures ready { (memory : List (List ℕ)) (r : Registers)
             → IsReady (state_of self.old) memory r → IsReady (state_of self.new) memory r }
     {
@@ -26,7 +27,12 @@ impl Driver {
             return Err(Refusal::TooManyDevices);
         }
         let attachment = Attachment::Detached;
-        match self.devices.push(Device { id, attachment }) {
+        let device = Device {
+            id,
+            trusted,
+            attachment,
+        };
+        match self.devices.push(device) {
             Ok(()) => Ok(()),
             Err(_) => Err(Refusal::Memory),
         }

@@ -4,7 +4,7 @@ ghost use Rattle.iom_driver.specs.Ready.{IsReady};
 ghost use Rattle.iom_driver.specs.Seen.{state_of};
 
 use crate::answers::Ticket;
-use crate::appending::{append_release, invalidation};
+use crate::appending::append_release;
 use crate::driver::Driver;
 use iom_base::DeviceId;
 use iom_ledger::Refusal;
@@ -14,9 +14,10 @@ use iom_registers::Mmio;
 
 impl Driver {
     /// What the device holds at the page is released under the next ticket: the page's leaf is cleared, and
-    /// two commands are queued, an invalidation of the page and the ticket's fence. `NotStarted`,
-    /// `NoSuchDevice`, `NotAttached`, `NotGranted`, `TooManyPending` where 256 tickets wait, `QueueFull` where
-    /// the ring has fewer than two free places, `NumbersUsedUp` after the last ticket: the first that applies.
+    /// commands are queued, an invalidation of the page, where the device has ATS one that asks it to drop its
+    /// own copies, and the ticket's fence. `NotStarted`, `NoSuchDevice`, `NotAttached`, `NotGranted`,
+    /// `TooManyPending` where 256 tickets wait, `QueueFull` where the ring has fewer free places than these
+    /// commands take, two or with ATS three, `NumbersUsedUp` after the last ticket: the first that applies.
     /// Takes no memory.
     pub fn release<M: Mmio>(
         &mut self,
@@ -36,13 +37,7 @@ impl Driver {
         self.given += 1;
         self.ledger.release(id, page, self.given);
         unmap(memory, stage.root, page);
-        append_release(
-            memory,
-            io,
-            self.frames,
-            invalidation(stage.mode, stage.number, page),
-            self.given,
-        );
+        append_release(memory, io, self.frames, id, stage, page, self.given);
         Ok(Ticket(self.given))
     }
 }

@@ -87,7 +87,12 @@ impl Bench {
     }
 
     pub(crate) fn plug(&mut self, id: DeviceId) -> Result<(), Refusal> {
-        self.driver.plug(id)
+        self.driver.plug(id, false)
+    }
+
+    /// The device has a cache of translations of its own.
+    pub(crate) fn plug_trusted(&mut self, id: DeviceId) -> Result<(), Refusal> {
+        self.driver.plug(id, true)
     }
 
     /// In the first stage.
@@ -96,7 +101,11 @@ impl Bench {
     }
 
     pub(crate) fn attach_in(&mut self, id: DeviceId, mode: Mode) -> Result<(), Refusal> {
-        self.driver.attach(&mut self.memory, id, mode)
+        self.driver.attach(&mut self.memory, id, mode, false)
+    }
+
+    pub(crate) fn attach_with_ats(&mut self, id: DeviceId, mode: Mode) -> Result<(), Refusal> {
+        self.driver.attach(&mut self.memory, id, mode, true)
     }
 
     pub(crate) fn grant(&mut self, id: DeviceId, page: u64, frame: u64) -> Result<(), Refusal> {

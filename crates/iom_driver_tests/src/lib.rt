@@ -1,5 +1,5 @@
 //! Tests of the driver: the bytes of its commands, tables and contexts in each mode against the standard's
-//! figures, the order of its register writes, its refusals, what a poll confirms and gives back, and what it
+//! figures, with ATS and without, the order of its register writes, its refusals, what a poll confirms and gives back, and what it
 //! tells of faults.
 //!
 //! The driver stands on memory and on registers with no IOMMU around them: a test takes its place, and
@@ -7,6 +7,8 @@
 //! of its own is proved twice.
 #![tactic(auto)]
 
+#[cfg(test)]
+mod ats;
 #[cfg(test)]
 mod attaches;
 #[cfg(test)]

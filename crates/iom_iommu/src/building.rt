@@ -86,6 +86,8 @@ impl<C: TransCache> Mmio for Iommu<C> {
         self.registers.read(offset, width)
     }
 
+    // Written into its caller, which knows the register.
+    #[inline(always)]
     fn write(&mut self, offset: u64, width: u32, value: u64) -> Result<(), RegFault> {
         let register = Register::at(offset, width)?;
         self.registers.set(register, value);

@@ -369,6 +369,8 @@ impl Driver {
             directory,
             taken,
             frame: frame.unwrap_or(0),
+            device: 0,
+            page: 0,
         })
     }
 }

@@ -14,6 +14,7 @@ use iom_base::DeviceId;
 use std::alloc::AllocError;
 
 /// The row of a page of a device.
+#[inline(always)]
 pub(crate) fn row_in(devices: &Devices, device: DeviceId, page: u64) -> Option<PageRow>
     ensures { result ≡ row_at devices.now device page }
 {
@@ -249,6 +250,7 @@ fn drop_waiting_at(
 }
 
 /// Drops the rows that the release names and that wait for its ticket.
+#[inline(always)]
 pub(crate) fn drop_named_in(devices: &mut Devices, frames: &mut FrameRows, release: Pending)
     requires { AreCounted devices.old frames.old.rows.items }
     ensures counted { AreCounted devices.new frames.new.rows.items }

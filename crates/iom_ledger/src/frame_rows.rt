@@ -57,6 +57,9 @@ impl FrameRows {
         ensures capacity { OnOk result (frame < vec_capacity self.new.rows) }
         ensures kept { self.new.rows.items ≡ self.old.rows.items }
     {
+        if (frame as usize) < self.rows.len() {
+            return Ok(());
+        }
         self.free.make_room(frame)?;
         let missing = (frame as usize + 1).saturating_sub(self.rows.len());
         self.rows.reserve(missing)

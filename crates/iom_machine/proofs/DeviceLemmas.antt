@@ -2,13 +2,13 @@
 use Rattle.std.proofs.Common.{◌≡◌, ℕ, zero, suc, ◌+◌, ◌==◌, inl, inr, Bool, true, false, cond, List, [], ◌∷◌, ◌++◌, length, length-append, append_assoc, map, drop, find, Option, None, Some, if◌then◌else◌, get_or, slice_get, refl, sym, ap, ◌∙◌, subst, arith}
 use Rattle.std.specs.Option.{option_map, option_map_or, option_or}
 use Rattle.std.proofs.lemmas.Bool.{eq-eqb, eqb-true, eqb-false}
-use Rattle.std.proofs.lemmas.List.{append-nil, map-append}
+use Rattle.std.proofs.lemmas.List.{append-nil}
 use Rattle.std.proofs.lemmas.List.Folds.{find-append}
 use Rattle.std.proofs.lemmas.Option.{slice_get-get_or}
 use Rattle.iom_machine.specs.declared.event.Event.{Event}
 use Rattle.iom_machine.specs.declared.event.Event.TheVariants as events
 use Rattle.iom_machine.specs.declared.outcome.Outcome.{Outcome}
-use Rattle.iom_machine.specs.declared.outcome.Outcome.TheVariants.{Done, Refused, Ticket, Confirmed, NoneConfirmed, Record, NoRecord, Fetched, Accepted, Busy, BadSpan, Fault, Read, Wrote, NothingInFlight, Bytes, Free}
+use Rattle.iom_machine.specs.declared.outcome.Outcome.TheVariants.{Done, Refused, Ticket, Confirmed, NoneConfirmed, Record, NoRecord, Fetched, Accepted, Busy, BadSpan, Fault, Miss, Read, Wrote, NothingInFlight, Bytes, Free}
 use Rattle.iom_base.specs.declared.access.Access.{Access}
 use Rattle.iom_base.specs.declared.access.AcceptedAccess.{AcceptedAccess}
 use Rattle.iom_machine.specs.declared.state.Device.{Device}
@@ -16,35 +16,40 @@ use Rattle.iom_machine.specs.declared.state.DeviceKind.{DeviceKind}
 use Rattle.iom_machine.specs.declared.state.State.{State}
 use Rattle.iom_machine.specs.Devices.{device_of, replaced_device}
 use Rattle.iom_base.specs.Accesses.{read_of, write_of}
-use Rattle.iom_machine.specs.Requests.{MayAnswer, state_after}
-use Rattle.iom_machine.specs.Machine.{Requests, Makes, Commits, Step, Run, plugged_device}
+use Rattle.iom_machine.specs.Kinds.{sends_untranslated, sends_through_cache, is_any_kind}
+use Rattle.iom_machine.specs.Requests.{MayAnswer, state_after, with_accepted}
+use Rattle.iom_machine.specs.ThroughCache.{at_frame, MayAnswerThroughCache, state_after_cached}
+use Rattle.iom_machine.specs.Machine.{Requests, RequestsThroughCache, Makes, Commits, Step, Run, plugged_device}
 use Rattle.iom_ledger.specs.Refusals.{first_that_applies}
 use Rattle.iom_machine.specs.Refusals.{plug_reasons}
-use Rattle.iom_machine.specs.Headline.{asked_by, accepted_by, accepted_in, made_by, made_in, AccessesInFlightWereAccepted}
+use Rattle.iom_machine.specs.Headline.{Asked, asked_untranslated, asked_through_cache, asked_by, access_sent, AreSent, accepted_by, accepted_in, made_by, made_in, AccessesInFlightWereAccepted}
 use Rattle.iom_machine.specs.PowerOn.{opening}
 use Rattle.iom_ledger.specs.History.{History}
 use Rattle.iom_machine.specs.Leaving.{device_once_confirmed}
 use Rattle.iom_machine.specs.Tickets.{with_confirmed}
-use Rattle.iom_machine.proofs.InFlightLemmas.{match_cases, some_case, found_device}
+use Rattle.iom_machine.proofs.InFlightLemmas.{act_cases, some_case, found_device, same-translated, same-asks, same-forges, same-delivers, same-drops, same-repeats}
 use Rattle.iom_machine.proofs.LeavingLemmas.{found_once_confirmed}
 
 -- the accesses of a device in flight; none where there is no device
-abbrev pub asked_in_flight : Device → List Access
-asked_in_flight device = map (λ flight. flight.access) device.in_flight
-
-abbrev pub in_flight_of : Option Device → List Access
-in_flight_of found = option_map_or asked_in_flight found []
+abbrev pub in_flight_of : Option Device → List AcceptedAccess
+in_flight_of found = option_map_or (λ (device : Device). device.in_flight) found []
 
 -- how many of its accesses were ever accepted
 abbrev pub count_of : Option Device → ℕ
 count_of found = option_map_or (λ (device : Device). device.accepted) found 0
 
--- What was in flight, and then what is accepted, is what is made, and then what is in flight; and the accepted ones are counted.
-pub record Flows (accepted : List Access) (count : ℕ) (old new : Option Device) : Type 0 where
-  pub made : List Access
+-- What was asked for, of what was in flight, and then what is accepted, is what is made, and then what was asked for of what is in flight; and the accepted
+-- ones are counted.
+pub record FlowsFrom (waiting accepted : List Asked) (count : ℕ) (old new : Option Device) : Type 0 where
+  pub made : List Asked
+  pub later : List Asked
   pub as_many : length made ≡ count
-  pub in_order : in_flight_of old ++ accepted ≡ made ++ in_flight_of new
+  pub in_order : waiting ++ accepted ≡ made ++ later
+  pub sent : AreSent later (in_flight_of new)
   pub counted : count_of new ≡ count_of old + length accepted
+
+abbrev pub Flows : List Asked → ℕ → Option Device → Option Device → Type 0
+Flows accepted count old new = (waiting : List Asked) → AreSent waiting (in_flight_of old) → FlowsFrom waiting accepted count old new
 
 -- nothing of the device is accepted or made
 abbrev pub NothingFlows : Event → Outcome → ℕ → Type 0
@@ -64,7 +69,18 @@ pub data DevicesChange (event : Event) (outcome : Outcome) (old new : State) : T
 
 -- nothing changes where nothing flows
 nothing : (found : Option Device) → Flows [] 0 found found
-nothing found = record { made = []; as_many = refl; in_order = append-nil (in_flight_of found); counted = omega arith }
+nothing found = λ waiting sent. record { made = []; later = waiting; as_many = refl; in_order = append-nil waiting; sent = sent; counted = omega arith }
+
+-- nor where a device has as many in flight, and as many were accepted
+same_flights : (old new : Option Device) → in_flight_of new ≡ in_flight_of old → count_of new ≡ count_of old → Flows [] 0 old new
+same_flights old new flights count = λ waiting sent. record {
+  made = [];
+  later = waiting;
+  as_many = refl;
+  in_order = append-nil waiting;
+  sent = subst (AreSent waiting) (sym flights) sent;
+  counted = omega (arith, count);
+}
 
 quiet : (event : Event) (outcome : Outcome) (id : ℕ) (old new : Option Device) → NothingFlows event outcome id → Flows [] 0 old new
     → Flows (accepted_by event outcome id) (made_by event outcome id) old new
@@ -102,7 +118,7 @@ flows-enters devices id kind other =
   where
     by : (found : Option Device) (b : Bool) → Flows [] 0 found (option_or found (cond b (Some (plugged_device id kind)) None))
     by (Some device) b = nothing (Some device)
-    by None true = record { made = []; as_many = refl; in_order = refl; counted = refl }
+    by None true = same_flights None (Some (plugged_device id kind)) refl refl
     by None false = nothing None
 
 flows-changes : (event : Event) (outcome : Outcome) (devices : List Device) (id : ℕ) (device now : Device) → find (λ d. d.id == id) devices ≡ Some device → now.id ≡ device.id
@@ -133,7 +149,7 @@ flows-leave history devices id =
     subst (λ found. Flows [] 0 (find (λ d. d.id == id) devices) found) (sym (found_once_confirmed history devices id)) (by (find (λ d. d.id == id) devices))
   where
     by : (found : Option Device) → Flows [] 0 found (option_map (device_once_confirmed history) found)
-    by (Some device) = record { made = []; as_many = refl; in_order = append-nil (asked_in_flight device); counted = omega arith }
+    by (Some device) = same_flights (Some device) (Some (device_once_confirmed history device)) refl refl
     by None = nothing None
 
 flows-change : (event : Event) (outcome : Outcome) (old new : State) → DevicesChange event outcome old new
@@ -218,37 +234,75 @@ own_ids-found (d ∷ devices) (suc k) device own at = by (d.id == device.id) ref
     by false e rest = rest
     by true e rest = let none : find (λ x. x.id == device.id) devices ≡ None = subst (λ n. find (λ x. x.id == n) devices ≡ None) (eqb-true d.id device.id e) own.0 in cc
 
+-- one more access of a device is in flight
+AreSent-push : (waiting : List Asked) (flights : List AcceptedAccess) (asked : Asked) (flight : AcceptedAccess) → AreSent waiting flights → flight.access ≡ access_sent flight.frame asked
+    → AreSent (waiting ++ asked ∷ []) (flights ++ flight ∷ [])
+AreSent-push [] [] asked flight sent its = (its, tt)
+AreSent-push (first ∷ waiting) (own ∷ flights) asked flight sent its = (sent.0, AreSent-push waiting flights asked flight sent.1 its)
+AreSent-push [] (own ∷ flights) asked flight sent its = absurd sent
+AreSent-push (first ∷ waiting) [] asked flight sent its = absurd sent
+
+-- where the event asked for it
+change-accepted : (old new : State) (event : Event) (number id : ℕ) (device : Device) (asked : Asked) (entered : AcceptedAccess) → device_of old id ≡ Some device
+    → asked_by event ≡ Some (id, asked) → entered.access ≡ access_sent entered.frame asked → ((told : Outcome) (other : ℕ) → made_by event told other ≡ 0)
+    → new ≡ with_accepted old device entered.access entered.frame → DevicesChange event (Accepted number) old new
+change-accepted old new event number id device asked entered at asks its none_made same =
+    DevicesChange.changes id device (record device { accepted = device.accepted + 1; in_flight = device.in_flight ++ entered ∷ [] }) at refl
+    (λ waiting sent. record {
+      made = [];
+      later = waiting ++ asked ∷ [];
+      as_many = sym (none_made (Accepted number) id);
+      in_order = ap (λ l. waiting ++ l) own;
+      sent = AreSent-push waiting device.in_flight asked entered sent its;
+      counted = ap (λ (l : List Asked). device.accepted + length l) (sym own);
+    })
+    (λ other differ. (at_event other ∙ ap (λ b. cond b (asked ∷ []) []) differ, none_made (Accepted number) other))
+    (ap (λ (s : State). s.devices) same)
+  where
+    at_event : (other : ℕ) → accepted_by event (Accepted number) other ≡ (if id == other then asked ∷ [] else [])
+    at_event other = ap (λ (found : Option (ℕ × Asked)). option_map_or (λ it. if it.0 == other then it.1 ∷ [] else []) found []) asks
+
+    own : accepted_by event (Accepted number) id ≡ asked ∷ []
+    own = at_event id ∙ ap (λ b. cond b (asked ∷ []) []) (eq-eqb id id refl)
+
+-- where nothing is accepted
+stays_quiet : (event : Event) (told : Outcome) (old new : State) → ((other : ℕ) → accepted_by event told other ≡ []) → ((other : ℕ) → made_by event told other ≡ 0) → new ≡ old
+    → DevicesChange event told old new
+stays_quiet event told old new none none_made same = DevicesChange.stay (λ other. (none other, none_made other)) (ap (λ (s : State). s.devices) same)
+
 -- the step of a request
 change-requests : (chosen : ℕ) (old new : State) (event : Event) (outcome : Outcome) (id : ℕ) (access : Access) → Requests chosen old id access outcome new
-    → asked_by event ≡ Some (id, access) → ((told : Outcome) (other : ℕ) → made_by event told other ≡ 0) → DevicesChange event outcome old new
-change-requests chosen old new event outcome id access step asks none_made = elim (match_cases (device_of old id) _ _ step) [
-  | inl (none, same) ↦ stays outcome (λ other. ap (λ o. accepted_by event o other) same.0) same.1
+    → asked_by event ≡ asked_untranslated id access → ((told : Outcome) (other : ℕ) → made_by event told other ≡ 0) → DevicesChange event outcome old new
+change-requests chosen old new event outcome id access step asks none_made = elim (act_cases sends_untranslated _ old id outcome new step) [
+  | inl (why, told, same) ↦ stays_quiet event outcome old new (λ other. ap (λ o. accepted_by event o other) told) (none_made outcome) same
   | inr (device, at, answer) ↦ by device at outcome answer.0 answer.1
 ]
   where
-    stays : (told : Outcome) → ((other : ℕ) → accepted_by event told other ≡ []) → new ≡ old → DevicesChange event told old new
-    stays told none same = DevicesChange.stay (λ other. (none other, none_made told other)) (ap (λ (s : State). s.devices) same)
-
-    asked : (number other : ℕ) → accepted_by event (Accepted number) other ≡ (if id == other then access ∷ [] else [])
-    asked number other = ap (λ (found : Option (ℕ × Access)). option_map_or (λ asked. if asked.0 == other then asked.1 ∷ [] else []) found []) asks
-
     by : (device : Device) → device_of old id ≡ Some device → (told : Outcome) → MayAnswer old device access chosen told → new ≡ state_after old device access chosen told
         → DevicesChange event told old new
     by device at (Accepted number) answer same =
-        let entered : AcceptedAccess = record { access = access; frame = chosen } in
-        let its : accepted_by event (Accepted number) id ≡ access ∷ [] = asked number id ∙ ap (λ b. cond b (access ∷ []) []) (eq-eqb id id refl) in
-        DevicesChange.changes id device (record device { accepted = device.accepted + 1; in_flight = device.in_flight ++ entered ∷ [] }) at refl
-        (record {
-          made = [];
-          as_many = sym (none_made (Accepted number) id);
-          in_order = ap (λ l. asked_in_flight device ++ l) its ∙ sym (map-append (λ (flight : AcceptedAccess). flight.access) device.in_flight (entered ∷ []));
-          counted = ap (λ (l : List Access). device.accepted + length l) (sym its);
-        })
-        (λ other differ. (asked number other ∙ ap (λ b. cond b (access ∷ []) []) differ, none_made (Accepted number) other))
-        (ap (λ (s : State). s.devices) same)
-    by device at BadSpan answer same = stays BadSpan (λ other. refl) same
-    by device at Busy answer same = stays Busy (λ other. refl) same
-    by device at (Fault cause) answer same = stays (Fault cause) (λ other. refl) same
+        change-accepted old new event number id device _ (record { access = access; frame = chosen }) at asks refl none_made same
+    by device at BadSpan answer same = stays_quiet event BadSpan old new (λ other. refl) (none_made BadSpan) same
+    by device at Busy answer same = stays_quiet event Busy old new (λ other. refl) (none_made Busy) same
+    by device at (Fault cause) answer same = stays_quiet event (Fault cause) old new (λ other. refl) (none_made (Fault cause)) same
+    by device at _ answer same = absurd answer
+
+-- the step of an access through a cache
+change-through_cache : (chosen : ℕ) (old new : State) (event : Event) (outcome : Outcome) (id : ℕ) (access : Access) → RequestsThroughCache chosen old id access outcome new
+    → asked_by event ≡ asked_through_cache id access → ((told : Outcome) (other : ℕ) → made_by event told other ≡ 0) → DevicesChange event outcome old new
+change-through_cache chosen old new event outcome id access step asks none_made = elim (act_cases sends_through_cache _ old id outcome new step) [
+  | inl (why, told, same) ↦ stays_quiet event outcome old new (λ other. ap (λ o. accepted_by event o other) told) (none_made outcome) same
+  | inr (device, at, answer) ↦ by device at outcome answer.0 answer.1
+]
+  where
+    by : (device : Device) → device_of old id ≡ Some device → (told : Outcome) → MayAnswerThroughCache old device access chosen told
+        → new ≡ state_after_cached old device access chosen told → DevicesChange event told old new
+    by device at (Accepted number) answer same =
+        change-accepted old new event number id device _ (record { access = at_frame chosen access; frame = chosen }) at asks refl none_made same
+    by device at BadSpan answer same = stays_quiet event BadSpan old new (λ other. refl) (none_made BadSpan) same
+    by device at Busy answer same = stays_quiet event Busy old new (λ other. refl) (none_made Busy) same
+    by device at Miss answer same = stays_quiet event Miss old new (λ other. refl) (none_made Miss) same
+    by device at (Fault cause) answer same = stays_quiet event (Fault cause) old new (λ other. refl) (none_made (Fault cause)) same
     by device at _ answer same = absurd answer
 
 -- the oldest access is made
@@ -258,23 +312,27 @@ made_first (flight ∷ later) made at = let same : flight ≡ made = cc in ap (�
 
 -- the step of a commit
 change-commits : (old new : State) (id : ℕ) (outcome : Outcome) → Commits old id outcome new → DevicesChange (events.Commit id) outcome old new
-change-commits old new id outcome step = elim (match_cases (device_of old id) _ _ step) [
-  | inl (none, same) ↦ stays outcome (λ other. ap (λ o. accepted_by (events.Commit id) o other) same.0) (λ other. ap (λ o. made_by (events.Commit id) o other) same.0) same.1
+change-commits old new id outcome step = elim (act_cases is_any_kind _ old id outcome new step) [
+  | inl (why, told, same) ↦
+      stays_quiet (events.Commit id) outcome old new (λ other. ap (λ o. accepted_by (events.Commit id) o other) told) (λ other. ap (λ o. made_by (events.Commit id) o other) told) same
   | inr (device, at, makes) ↦ by device at outcome makes
 ]
   where
-    stays : (told : Outcome) → ((other : ℕ) → accepted_by (events.Commit id) told other ≡ []) → ((other : ℕ) → made_by (events.Commit id) told other ≡ 0) → new ≡ old
-        → DevicesChange (events.Commit id) told old new
-    stays told none none_made same = DevicesChange.stay (λ other. (none other, none_made other)) (ap (λ (s : State). s.devices) same)
-
     flows : (device : Device) (made : AcceptedAccess) (count : ℕ) → slice_get device.in_flight 0 ≡ Some made → count ≡ 1
         → Flows [] count (Some device) (Some (record device { in_flight = drop 1 device.in_flight }))
-    flows device made count first one = record {
-      made = made.access ∷ [];
-      as_many = sym one;
-      in_order = append-nil (asked_in_flight device) ∙ ap (λ l. map (λ (flight : AcceptedAccess). flight.access) l) (made_first device.in_flight made first);
-      counted = omega arith;
-    }
+    flows device made count first one = λ waiting sent. from waiting (subst (AreSent waiting) (made_first device.in_flight made first) sent)
+      where
+        from : (waiting : List Asked) → AreSent waiting (made ∷ drop 1 device.in_flight)
+            → FlowsFrom waiting [] count (Some device) (Some (record device { in_flight = drop 1 device.in_flight }))
+        from [] sent = absurd sent
+        from (asked ∷ others) sent = record {
+          made = asked ∷ [];
+          later = others;
+          as_many = sym one;
+          in_order = append-nil (asked ∷ others);
+          sent = sent.1;
+          counted = omega arith;
+        }
 
     its_own : ◌≡◌ {A = ℕ} (if id == id then 1 else 0) 1
     its_own = ap (λ b. cond b 1 0) (eq-eqb id id refl)
@@ -288,7 +346,7 @@ change-commits old new id outcome step = elim (match_cases (device_of old id) _ 
         let made = some_case (slice_get device.in_flight 0) _ makes in
         DevicesChange.changes id device (record device { in_flight = drop 1 device.in_flight }) at refl (flows device made.0 _ made.1 its_own)
         (λ other differ. (refl, ap (λ b. cond b 1 0) differ)) (ap (λ (s : State). s.devices) made.2.1)
-    by device at NothingInFlight makes = stays NothingInFlight (λ other. refl) (λ other. refl) makes.1
+    by device at NothingInFlight makes = stays_quiet (events.Commit id) NothingInFlight old new (λ other. refl) (λ other. refl) makes.1
     by device at _ makes = absurd makes
 
 -- where the event asks for nothing and makes nothing, and the devices stay
@@ -297,7 +355,7 @@ stays_asking : (event : Event) (outcome : Outcome) (old new : State) → asked_b
 stays_asking event outcome old new asks none_made same = DevicesChange.stay (λ other. (none outcome other, none_made other)) same
   where
     none : (told : Outcome) (other : ℕ) → accepted_by event told other ≡ []
-    none (Accepted number) other = ap (λ (found : Option (ℕ × Access)). option_map_or (λ asked. if asked.0 == other then asked.1 ∷ [] else []) found []) asks
+    none (Accepted number) other = ap (λ (found : Option (ℕ × Asked)). option_map_or (λ asked. if asked.0 == other then asked.1 ∷ [] else []) found []) asks
     none _ other = refl
 
 -- a device that is plugged in was absent
@@ -316,14 +374,14 @@ devices-step old new (events.Plug id kind) _ (choice, step) = absurd step
 devices-step old new (events.Attach id mode ats) Done (choice, step) =
     let found = some_case (device_of old id) _ step.2 in
     DevicesChange.changes id found.0 (record found.0 { attachment = _ }) found.1 refl
-    (record { made = []; as_many = refl; in_order = append-nil (asked_in_flight found.0); counted = omega arith })
+    (same_flights (Some found.0) (Some (record found.0 { attachment = _ })) refl refl)
     (λ other differ. (refl, refl)) (ap (λ (s : State). s.devices) found.2)
 devices-step old new (events.Attach id mode ats) (Refused why) (choice, step) = stays_asking _ _ old new refl (λ other. refl) (ap (λ (s : State). s.devices) step.1)
 devices-step old new (events.Attach id mode ats) _ (choice, step) = absurd step
 devices-step old new (events.Detach id) (Ticket ticket) (choice, step) =
     let found = some_case (device_of old id) _ step.2 in
     DevicesChange.changes id found.0 (record found.0 { attachment = _ }) found.1 refl
-    (record { made = []; as_many = refl; in_order = append-nil (asked_in_flight found.0); counted = omega arith })
+    (same_flights (Some found.0) (Some (record found.0 { attachment = _ })) refl refl)
     (λ other differ. (refl, refl)) (ap (λ (s : State). s.devices) found.2)
 devices-step old new (events.Detach id) (Refused why) (choice, step) = stays_asking _ _ old new refl (λ other. refl) (ap (λ (s : State). s.devices) step.1)
 devices-step old new (events.Detach id) _ (choice, step) = absurd step
@@ -344,6 +402,15 @@ devices-step old new events.Faults NoRecord (choice, step) = stays_asking _ _ ol
 devices-step old new events.Faults _ (choice, step) = absurd step
 devices-step old new (events.Read id address len) outcome (choice, step) = change-requests choice.frame old new _ outcome id (read_of address len) step refl (λ told other. refl)
 devices-step old new (events.Write id address bytes) outcome (choice, step) = change-requests choice.frame old new _ outcome id (write_of address bytes) step refl (λ told other. refl)
+devices-step old new (events.ReadTranslated id address len) outcome (choice, step) = stays_asking _ _ old new refl (λ other. refl) (ap (λ (s : State). s.devices) (same-translated old new id (read_of address len) outcome step))
+devices-step old new (events.WriteTranslated id address bytes) outcome (choice, step) = stays_asking _ _ old new refl (λ other. refl) (ap (λ (s : State). s.devices) (same-translated old new id (write_of address bytes) outcome step))
+devices-step old new (events.ReadThroughCache id address len) outcome (choice, step) = change-through_cache choice.frame old new _ outcome id (read_of address len) step refl (λ told other. refl)
+devices-step old new (events.WriteThroughCache id address bytes) outcome (choice, step) = change-through_cache choice.frame old new _ outcome id (write_of address bytes) step refl (λ told other. refl)
+devices-step old new (events.Ask id page) outcome (choice, step) = stays_asking _ _ old new refl (λ other. refl) (ap (λ (s : State). s.devices) (same-asks old new id outcome step))
+devices-step old new (events.Forge id serial) outcome (choice, step) = stays_asking _ _ old new refl (λ other. refl) (ap (λ (s : State). s.devices) (same-forges old new id outcome step))
+devices-step old new (events.Deliver place) outcome (choice, step) = stays_asking _ _ old new refl (λ other. refl) (ap (λ (s : State). s.devices) (same-delivers choice.device choice.page old new outcome step))
+devices-step old new (events.Drop place) outcome (choice, step) = stays_asking _ _ old new refl (λ other. refl) (ap (λ (s : State). s.devices) (same-drops old new outcome step))
+devices-step old new (events.Repeat place) outcome (choice, step) = stays_asking _ _ old new refl (λ other. refl) (ap (λ (s : State). s.devices) (same-repeats old new outcome step))
 devices-step old new (events.Commit id) outcome (choice, step) = change-commits old new id outcome step
 devices-step old new (events.Poke address bytes) Done (choice, step) = stays_asking _ _ old new refl (λ other. refl) (ap (λ (s : State). s.devices) step.2)
 devices-step old new (events.Poke address bytes) (Refused why) (choice, step) = stays_asking _ _ old new refl (λ other. refl) (ap (λ (s : State). s.devices) step.2)
@@ -358,14 +425,19 @@ devices-step old new (events.Free frame) (Refused why) (choice, step) = stays_as
 devices-step old new (events.Free frame) _ (choice, step) = absurd step
 
 -- what flows in two parts of a run flows in both
-flows_on : (first second : List Access) (n m : ℕ) (old mid new : Option Device) → Flows first n old mid → Flows second m mid new → Flows (first ++ second) (n + m) old new
-flows_on first second n m old mid new before after = record {
-  made = before.made ++ after.made;
-  as_many = length-append before.made after.made ∙ ap (λ k. k + length after.made) before.as_many ∙ ap (λ k. n + k) after.as_many;
-  in_order = sym (append_assoc (in_flight_of old) first second) ∙ ap (λ l. l ++ second) before.in_order ∙ append_assoc before.made (in_flight_of mid) second
-      ∙ ap (λ l. before.made ++ l) after.in_order ∙ sym (append_assoc before.made after.made (in_flight_of new));
-  counted = after.counted ∙ ap (λ k. k + length second) before.counted ∙ (let both : length (first ++ second) ≡ length first + length second = length-append first second in omega arith);
-}
+flows_on : (first second : List Asked) (n m : ℕ) (old mid new : Option Device) → Flows first n old mid → Flows second m mid new → Flows (first ++ second) (n + m) old new
+flows_on first second n m old mid new before after waiting sent =
+    let early = before waiting sent in
+    let late = after early.later early.sent in
+    record {
+      made = early.made ++ late.made;
+      later = late.later;
+      as_many = length-append early.made late.made ∙ ap (λ k. k + length late.made) early.as_many ∙ ap (λ k. n + k) late.as_many;
+      in_order = sym (append_assoc waiting first second) ∙ ap (λ l. l ++ second) early.in_order ∙ append_assoc early.made early.later second
+          ∙ ap (λ l. early.made ++ l) late.in_order ∙ sym (append_assoc early.made late.made late.later);
+      sent = late.sent;
+      counted = late.counted ∙ ap (λ k. k + length second) early.counted ∙ (let both : length (first ++ second) ≡ length first + length second = length-append first second in omega arith);
+    }
 
 -- what flows of each device in a run, and that no two devices have the same id
 pub flows-run : (old new : State) (events : List Event) (outcomes : List Outcome) → Run old events outcomes new
@@ -392,4 +464,5 @@ in_flight_were_accepted state events outcomes (frames, levels, run) k d below =
     let there : device_of state device.id ≡ Some device = own_ids-found state.devices k device (own_ids-run (opening frames levels) state events outcomes run tt) at in
     let flows : Flows (accepted_in events outcomes device.id) (made_in events outcomes device.id) None (Some device) =
     subst (λ found. Flows (accepted_in events outcomes device.id) (made_in events outcomes device.id) None found) there (flows-run (opening frames levels) state events outcomes run device.id) in
-    record { made = flows.made; as_many = flows.as_many; in_order = flows.in_order; counted = flows.counted ∙ omega arith }
+    let from = flows [] tt in
+    record { made = from.made; waiting = from.later; as_many = from.as_many; in_order = from.in_order; in_flight = from.sent; counted = from.counted ∙ omega arith }

@@ -1,5 +1,5 @@
 -- The sentences of the headline, over every run.
-use Rattle.std.proofs.Common.{◌≡◌, ◌≢◌, ℕ, suc, zero, ◌+◌, ◌<◌, ◌≤◌, ◌⊎◌, inl, inr, List, [], ◌∷◌, length, slice_range, Option, None, Some, slice_get, slice_set, refl, sym, ap, ◌∙◌, subst, arith}
+use Rattle.std.proofs.Common.{◌≡◌, ◌≢◌, ℕ, suc, zero, ◌+◌, ◌<◌, ◌≤◌, ◌⊎◌, inl, inr, true, false, List, [], ◌∷◌, length, slice_range, Option, None, Some, slice_get, slice_set, refl, sym, ap, ◌∙◌, subst, arith}
 use Rattle.std.specs.Option.{option_map_or}
 use Rattle.std.proofs.lemmas.Bool.{cases_eq}
 use Rattle.iom_base.specs.Bytes.{with_bytes}
@@ -18,6 +18,7 @@ use Rattle.iom_machine.specs.declared.outcome.Outcome.{Outcome}
 use Rattle.iom_machine.specs.declared.outcome.Outcome.TheVariants.{Refused, Accepted, Busy, BadSpan, Fault, Read, Wrote, NothingInFlight}
 use Rattle.iom_base.specs.declared.access.Access.{Access}
 use Rattle.iom_machine.specs.declared.state.Device.{Device}
+use Rattle.iom_machine.specs.declared.state.DeviceKind.TheVariants.{Raw}
 use Rattle.iom_machine.specs.declared.state.Frame.{Frame}
 use Rattle.iom_base.specs.declared.access.AcceptedAccess.{AcceptedAccess}
 use Rattle.iom_machine.specs.declared.state.State.{State}
@@ -26,11 +27,12 @@ use Rattle.iom_machine.specs.Devices.{device_of, IsPlugged, EachInFlightMay}
 use Rattle.iom_ledger.specs.Confirmations.{confirmed_from}
 use Rattle.iom_base.specs.Accesses.{read_of, write_of, offset_of, IsWithinPage}
 use Rattle.iom_machine.specs.Requests.{IsBusy, HoldsFor, MayAcceptInOneStage, MayAccept, MayFault, MayAnswer, state_after, with_accepted}
+use Rattle.iom_machine.specs.Kinds.{sends_untranslated, is_any_kind}
 use Rattle.iom_machine.specs.Machine.{Requests, Makes, Step, Run, with_oldest_made}
-use Rattle.iom_machine.specs.Headline.{IsReached, byte_in, IsOldest, IsOutside, AreNamedBytes, TouchesItsOwn, AsksFor, IsOneStage, GrantsFrame, NoneGrants, TouchesFrame}
+use Rattle.iom_machine.specs.Headline.{IsReached, byte_in, IsOldest, IsOutside, AreNamedBytes, TouchesItsOwn, Asked, asked_untranslated, asked_through_cache, AsksFor, IsOneStage, GrantsFrame, NoneGrants, TouchesFrame}
 use Rattle.iom_machine.proofs.ReachLemmas.{NamesFrame, reach_before}
 use Rattle.iom_machine.proofs.ByteLemmas.{slice_get-set_same, slice_get-set_other, slice_get-written_inside, slice_get-written_outside, slice_get-range, length-range}
-use Rattle.iom_machine.proofs.InFlightLemmas.{match_cases, some_case, All-at, AllInFlight-of, found_device, asked_parts}
+use Rattle.iom_machine.proofs.InFlightLemmas.{act_cases, able_act, some_case, All-at, AllInFlight-of, found_device, asked_parts}
 use Rattle.iom_machine.proofs.SoundLemmas.{IsSound, IsWhole, Change, change-step, sound_if_reached}
 
 pub in_flight_may : (state : State) → IsReached state → EachInFlightMay state
@@ -162,8 +164,8 @@ touches-makes old new id NothingInFlight sound device at makes = ap (λ (s : Sta
 touches-makes old new id _ sound device at makes = absurd makes
 
 pub touches_its_own : (old new : State) (id : ℕ) (outcome : Outcome) → IsSound old → Step old (events.Commit id) outcome new → TouchesItsOwn old id outcome new
-touches_its_own old new id outcome sound (choice, step) = elim (match_cases (device_of old id) _ _ step) [
-  | inl (none, refused) ↦ subst (λ o. TouchesItsOwn old id o new) (sym refused.0) (ap (λ (s : State). s.frames) refused.1)
+touches_its_own old new id outcome sound (choice, step) = elim (act_cases is_any_kind _ old id outcome new step) [
+  | inl (why, told, same) ↦ subst (λ o. TouchesItsOwn old id o new) (sym told) (ap (λ (s : State). s.frames) same)
   | inr (device, at, makes) ↦ touches-makes old new id outcome sound device at makes
 ]
 
@@ -202,27 +204,43 @@ answered_where_held chosen old new frame device access (Accepted number) answer 
 answered_where_held chosen old new frame device access _ answer next one within room held = absurd answer
 
 asked_where_held : (chosen : ℕ) (old new : State) (id frame : ℕ) (device : Device) (access : Access) (outcome : Outcome)
-    → Requests chosen old id access outcome new → IsPlugged old id device → IsOneStage device → IsWithinPage access → ¬ IsBusy device.in_flight
+    → Requests chosen old id access outcome new → IsPlugged old id device → device.kind ≡ Raw → IsOneStage device → IsWithinPage access → ¬ IsBusy device.in_flight
     → HoldsFor old.history id access frame
     → (outcome ≡ Accepted (device.accepted + 1)) × (new ≡ with_accepted old device access frame)
-asked_where_held chosen old new id frame device access outcome step there one within room held =
-    let answer = rw there at step in
+asked_where_held chosen old new id frame device access outcome step there raw one within room held =
+    let answer = able_act sends_untranslated (λ (d : Device). MayAnswer old d access chosen outcome × (new ≡ state_after old d access chosen outcome)) old id outcome new device
+    there (ap sends_untranslated raw) step in
     let own : device.id ≡ id = (found_device old.devices id device there).1 in
     answered_where_held chosen old new frame device access outcome answer.0 answer.1 one within room (subst (λ i. HoldsFor old.history i access frame) (sym own) held)
 
+-- an access that the IOMMU translates is not one through a cache
+translated_parts : (d id : ℕ) (its access : Access) → asked_untranslated d its ≡ asked_untranslated id access → (d ≡ id) × (its ≡ access)
+translated_parts d id its access asks =
+    let parts = asked_parts d id (record { access = its; through_cache = false }) (record { access = access; through_cache = false }) asks in
+    (parts.0, ap (λ (a : Asked). a.access) parts.1)
+
+cached_is_none : (d id : ℕ) (its access : Access) → asked_through_cache d its ≡ asked_untranslated id access → ⊥
+cached_is_none d id its access asks =
+    let parts = asked_parts d id (record { access = its; through_cache = true }) (record { access = access; through_cache = false }) asks in
+    let same : true ≡ false = ap (λ (a : Asked). a.through_cache) parts.1 in cc
+
 pub accepted_on_its_frame : (old new : State) (event : Event) (outcome : Outcome) (id frame : ℕ) (device : Device) (access : Access)
-    → Step old event outcome new → AsksFor event id access → IsPlugged old id device → IsOneStage device → IsWithinPage access → ¬ IsBusy device.in_flight
+    → Step old event outcome new → AsksFor event id access → IsPlugged old id device → device.kind ≡ Raw → IsOneStage device → IsWithinPage access → ¬ IsBusy device.in_flight
     → HoldsFor old.history id access frame
     → (outcome ≡ Accepted (device.accepted + 1)) × (new ≡ with_accepted old device access frame)
-accepted_on_its_frame old new (events.Read d address len) outcome id frame device access (choice, step) asks there one within room held =
-    let asked = asked_parts d id (read_of address len) access asks in
+accepted_on_its_frame old new (events.Read d address len) outcome id frame device access (choice, step) asks there raw one within room held =
+    let asked = translated_parts d id (read_of address len) access asks in
     asked_where_held choice.frame old new id frame device access outcome
-    (subst (λ i. Requests choice.frame old i access outcome new) asked.0 (subst (λ x. Requests choice.frame old d x outcome new) asked.1 step)) there one within room held
-accepted_on_its_frame old new (events.Write d address bytes) outcome id frame device access (choice, step) asks there one within room held =
-    let asked = asked_parts d id (write_of address bytes) access asks in
+    (subst (λ i. Requests choice.frame old i access outcome new) asked.0 (subst (λ x. Requests choice.frame old d x outcome new) asked.1 step)) there raw one within room held
+accepted_on_its_frame old new (events.Write d address bytes) outcome id frame device access (choice, step) asks there raw one within room held =
+    let asked = translated_parts d id (write_of address bytes) access asks in
     asked_where_held choice.frame old new id frame device access outcome
-    (subst (λ i. Requests choice.frame old i access outcome new) asked.0 (subst (λ x. Requests choice.frame old d x outcome new) asked.1 step)) there one within room held
-accepted_on_its_frame old new _ outcome id frame device access step asks there one within room held = cc
+    (subst (λ i. Requests choice.frame old i access outcome new) asked.0 (subst (λ x. Requests choice.frame old d x outcome new) asked.1 step)) there raw one within room held
+accepted_on_its_frame old new (events.ReadThroughCache d address len) outcome id frame device access step asks there raw one within room held =
+    absurd (cached_is_none d id (read_of address len) access asks)
+accepted_on_its_frame old new (events.WriteThroughCache d address bytes) outcome id frame device access step asks there raw one within room held =
+    absurd (cached_is_none d id (write_of address bytes) access asks)
+accepted_on_its_frame old new _ outcome id frame device access step asks there raw one within room held = cc
 
 -- a frame that is free stays so, after an entry that doesn't grant it
 free_after : (entry : HistoryEntry) (h : History) (frame : ℕ) → ¬ NamesFrame entry frame → ledger.NoneMayReach h frame → ledger.NoneMayReach (entry ∷ h) frame
@@ -294,7 +312,7 @@ pub commits_are_answered : (state : State) (id : ℕ) → IsReached state → (o
 commits_are_answered state id reached = by (device_of state id) refl
   where
     none_chosen : Choice
-    none_chosen = record { directory = []; taken = []; frame = 0 }
+    none_chosen = record { directory = []; taken = []; frame = 0; device = 0; page = 0 }
 
     by : (found : Option Device) → device_of state id ≡ found → (outcome : Outcome) × (new : State) × Step state (events.Commit id) outcome new
     by None absent = (Refused NoSuchDevice, state, (none_chosen, rw absent (refl, refl)))

@@ -1,30 +1,37 @@
 -- What a step keeps of each access in flight.
-use Rattle.std.proofs.Common.{◌≡◌, ℕ, ◌==◌, ◌⊎◌, inl, inr, Bool, true, false, cond, List, [], ◌∷◌, ◌-◌, length, take, drop, find, map, All, Contains, Option, None, Some, MatchOption, IsSomeAnd, if◌then◌else◌, slice_get, refl, sym, ap, subst, arith}
+use Rattle.std.proofs.Common.{◌≡◌, ℕ, ◌+◌, ◌%◌, ◌≤◌, ◌==◌, ◌⊎◌, inl, inr, Bool, true, false, cond, List, [], ◌∷◌, ◌-◌, length, take, drop, find, map, All, Contains, Option, None, Some, MatchOption, IsSomeAnd, if◌then◌else◌, slice_get, refl, sym, ap, subst, arith}
 use Rattle.std.specs.Prelude.{⊤}
 use Rattle.std.proofs.lemmas.Bool.{eqb-true}
 use Rattle.std.proofs.lemmas.Grind.{common_steps}
 use Rattle.std.proofs.lemmas.List.Elements.{All-map, All-push, All-nil, All-weaker, All-contains, All-cons, All-tail, All-head}
+use Rattle.std.proofs.lemmas.Nat.{mod-mul-add, mod_below}
 use Rattle.std.proofs.lemmas.Option.{get_or_from_slice_get, slice_get_within}
+use Rattle.iom_ledger.specs.declared.refusal.Refusal.{Refusal}
+use Rattle.iom_ledger.specs.declared.refusal.Refusal.TheVariants.{NoSuchDevice, WrongKind}
 use Rattle.iom_ledger.specs.History.{History, May}
 use Rattle.iom_machine.specs.declared.event.Event.{Event}
 use Rattle.iom_machine.specs.declared.event.Event.TheVariants as events
 use Rattle.iom_machine.specs.declared.outcome.Outcome.{Outcome}
-use Rattle.iom_machine.specs.declared.outcome.Outcome.TheVariants.{Done, Refused, Ticket, Confirmed, NoneConfirmed, Record, NoRecord, Fetched, Accepted, Busy, BadSpan, Fault, Read, Wrote, NothingInFlight, Bytes, Free}
+use Rattle.iom_machine.specs.declared.outcome.Outcome.TheVariants.{Done, Refused, Ticket, Confirmed, NoneConfirmed, Record, NoRecord, Fetched, Accepted, Busy, BadSpan, Fault, Miss, Sent, Lost, Answered, Kept, Stale, AnswerRefused, Ignored, Invalidated, Closed, NotClosed, Dropped, Repeated, NoMessage, Read, Wrote, NothingInFlight, Bytes, Free}
 use Rattle.iom_base.specs.declared.access.Access.{Access}
 use Rattle.iom_machine.specs.declared.state.Attachment.{Attachment}
 use Rattle.iom_machine.specs.declared.state.Attachment.TheVariants.{Detached, Attached, Quarantined, Leaving}
 use Rattle.iom_machine.specs.declared.state.Device.{Device}
+use Rattle.iom_machine.specs.declared.state.DeviceKind.{DeviceKind}
 use Rattle.iom_base.specs.declared.access.AcceptedAccess.{AcceptedAccess}
 use Rattle.iom_base.specs.declared.mode.Mode.{Mode}
 use Rattle.iom_base.specs.declared.mode.Mode.TheVariants.{First, Second, Both}
 use Rattle.iom_machine.specs.declared.state.State.{State}
 use Rattle.iom_machine.specs.Devices.{device_of, replaced_device}
-use Rattle.iom_base.specs.Accesses.{read_of, write_of, page_of, IsWithinPage}
-use Rattle.iom_machine.specs.Requests.{MayAcceptFormerly, MayAccept, MayAnswer, state_after}
-use Rattle.iom_machine.specs.Machine.{Requests, Makes, Commits, Step}
+use Rattle.iom_base.specs.Accesses.{read_of, write_of, page_of, offset_of, IsWithinPage}
+use Rattle.iom_machine.specs.Kinds.{sends_untranslated, forges, sends_through_cache, asks_questions, is_any_kind}
+use Rattle.iom_machine.specs.Messages.{Sends, Delivers, Drops, Repeats}
+use Rattle.iom_machine.specs.Requests.{MayAcceptFormerly, MayAccept, MayAnswer, state_after, with_accepted}
+use Rattle.iom_machine.specs.ThroughCache.{at_frame, MayGoThrough, MayAnswerThroughCache, state_after_cached}
+use Rattle.iom_machine.specs.Machine.{IfItCan, Acts, Requests, RequestsTranslated, RequestsThroughCache, Asks, Forges, Makes, Commits, Step}
 use Rattle.iom_machine.specs.Leaving.{device_once_confirmed}
 use Rattle.iom_machine.specs.Tickets.{with_confirmed}
-use Rattle.iom_machine.specs.Headline.{AsksFor}
+use Rattle.iom_machine.specs.Headline.{Asked, asked_by, access_sent}
 use Rattle.iom_machine.proofs.ReachLemmas.{contains_head, contains_tail}
 
 -- a fact by cases of an option, with the case that it is
@@ -35,6 +42,24 @@ match_cases (Some x) A Q fact = inr (x, refl, fact)
 pub some_case : {X : Type 0} (o : Option X) (Q : X → Type 0) → IsSomeAnd o Q → (x : X) × (o ≡ Some x) × Q x
 some_case None Q fact = absurd fact
 some_case (Some x) Q fact = (x, refl, fact)
+
+-- an act that is refused, and changes nothing; or of a plugged device that is able
+pub act_cases : (can : DeviceKind → Bool) (IfAble : Device → Type 0) (old : State) (id : ℕ) (outcome : Outcome) (new : State) → Acts can IfAble old id outcome new
+    → ((why : Refusal) × (outcome ≡ Refused why) × (new ≡ old)) ⊎ ((device : Device) × (device_of old id ≡ Some device) × IfAble device)
+act_cases can IfAble old id outcome new step = elim (match_cases (device_of old id) _ _ step) [
+  | inl (none, both) ↦ inl (NoSuchDevice, both.0, both.1)
+  | inr (device, at, acts) ↦ by device at (can device.kind) acts
+]
+  where
+    by : (device : Device) → device_of old id ≡ Some device → (b : Bool) → IfItCan b (IfAble device) old outcome new
+        → ((why : Refusal) × (outcome ≡ Refused why) × (new ≡ old)) ⊎ ((device : Device) × (device_of old id ≡ Some device) × IfAble device)
+    by device at true acts = inr (device, at, acts)
+    by device at false acts = inl (WrongKind, acts.0, acts.1)
+
+-- what comes of an act of a plugged device that is able
+pub able_act : (can : DeviceKind → Bool) (IfAble : Device → Type 0) (old : State) (id : ℕ) (outcome : Outcome) (new : State) (device : Device)
+    → device_of old id ≡ Some device → can device.kind ≡ true → Acts can IfAble old id outcome new → IfAble device
+able_act can IfAble old id outcome new device there able step = rw (there, able) at step
 
 -- a fact of all elements, at one of them
 pub All-at : {X : Type 0} (P : X → Type 0) (xs : List X) (k : ℕ) (x : X) → All P xs → slice_get xs k ≡ Some x → P x
@@ -107,30 +132,55 @@ IsAcceptance (Accepted number) = ⊤
 IsAcceptance _ = ⊥
 
 -- a device that asks for an access is the one that asks for it, and the access the one that it asks for
-pub asked_parts : (d id : ℕ) (asked access : Access) → ◌≡◌ {A = Option (ℕ × Access)} (Some (d, asked)) (Some (id, access)) → (d ≡ id) × (asked ≡ access)
-asked_parts d id asked access same =
-    let pairs : ◌≡◌ {A = ℕ × Access} (d, asked) (id, access) = cc in (ap (λ (p : ℕ × Access). p.0) pairs, ap (λ (p : ℕ × Access). p.1) pairs)
+pub asked_parts : (d id : ℕ) (its asked : Asked) → ◌≡◌ {A = Option (ℕ × Asked)} (Some (d, its)) (Some (id, asked)) → (d ≡ id) × (its ≡ asked)
+asked_parts d id its asked same =
+    let pairs : ◌≡◌ {A = ℕ × Asked} (d, its) (id, asked) = cc in (ap (λ (p : ℕ × Asked). p.0) pairs, ap (λ (p : ℕ × Asked). p.1) pairs)
 
--- the event asked for the access, and was answered that it is accepted
-abbrev pub IsAccepted : Event → Outcome → ℕ → Access → Type 0
-IsAccepted event (Accepted number) id access = AsksFor event id access
-IsAccepted event _ id access = ⊥
+-- the event asked for the access in flight, and was answered that it is accepted
+abbrev pub IsAccepted : Event → Outcome → ℕ → AcceptedAccess → Type 0
+IsAccepted event (Accepted number) id flight = (asked : Asked) × (asked_by event ≡ Some (id, asked)) × (flight.access ≡ access_sent flight.frame asked)
+IsAccepted event _ id flight = ⊥
 
-pub accepted_if : (event : Event) (outcome : Outcome) (id : ℕ) (access : Access) → AsksFor event id access → IsAcceptance outcome → IsAccepted event outcome id access
-accepted_if event (Accepted number) id access asks accepts = asks
-accepted_if event _ id access asks never = absurd never
+pub accepted_if : (event : Event) (outcome : Outcome) (id : ℕ) (asked : Asked) (flight : AcceptedAccess) → asked_by event ≡ Some (id, asked) → flight.access ≡ access_sent flight.frame asked
+    → IsAcceptance outcome → IsAccepted event outcome id flight
+accepted_if event (Accepted number) id asked flight asks sent accepts = (asked, asks, sent)
+accepted_if event _ id asked flight asks sent never = absurd never
+
+-- what a cache may have may be reached
+went_through_reach : (attachment : Attachment) (state : State) (id : ℕ) (access : Access) (frame : ℕ) → MayGoThrough attachment state id access frame → May state.history id frame access.kind
+went_through_reach (Attached First ats) state id access frame (inl holds) = (page_of access, holds.0, inl holds.1, holds.2)
+went_through_reach (Attached First ats) state id access frame (inr lingers) = (page_of access, lingers.0, inr lingers.1, lingers.2)
+went_through_reach (Attached Second ats) state id access frame (inl holds) = (page_of access, holds.0, inl holds.1, holds.2)
+went_through_reach (Attached Second ats) state id access frame (inr lingers) = (page_of access, lingers.0, inr lingers.1, lingers.2)
+went_through_reach (Attached Both ats) state id access frame may = may
+went_through_reach Detached state id access frame may = absurd may
+went_through_reach (Quarantined ticket mode ats) state id access frame (unconfirmed, formerly) = formerly_reach mode state.history id access frame formerly
+went_through_reach (Leaving ticket mode ats) state id access frame (unconfirmed, formerly) = formerly_reach mode state.history id access frame formerly
+
+-- the offset of an access in its frame is that in its page
+pub offset_at_frame : (frame : ℕ) (access : Access) → offset_of (at_frame frame access) ≡ offset_of access
+offset_at_frame frame access = mod-mul-add frame 4096 (access.address % 4096) (mod_below access.address 4096 (omega arith))
+
+-- an access within its page is within its frame
+within_frame : (frame : ℕ) (access : Access) → IsWithinPage access → IsWithinPage (at_frame frame access)
+within_frame frame access within = (within.0, subst (λ n. n + access.len ≤ 4096) (sym (offset_at_frame frame access)) within.1)
+
+-- one more access of a device is in flight
+in_flight-accepted : (P : ℕ → AcceptedAccess → Type 0) (old new : State) (id : ℕ) (device : Device) (entered : AcceptedAccess) → device_of old id ≡ Some device
+    → new ≡ with_accepted old device entered.access entered.frame → (device.id ≡ id → P device.id entered) → AllInFlight P old.devices → AllInFlight P new.devices
+in_flight-accepted P old new id device entered at same enters all =
+    let own : device.id ≡ id = (found_device old.devices id device at).1 in
+    subst (λ (s : State). AllInFlight P s.devices) (sym same)
+    (AllInFlight-with P old.devices device.id _ all (All-push (P device.id) device.in_flight _ (AllInFlight-of P old.devices id device at all) (enters own)))
 
 in_flight-answer : (P : ℕ → AcceptedAccess → Type 0) (chosen : ℕ) (old new : State) (id : ℕ) (device : Device) (access : Access) (outcome : Outcome) → device_of old id ≡ Some device
     → MayAnswer old device access chosen outcome → new ≡ state_after old device access chosen outcome
     → (IsAcceptance outcome → IsWithinPage access → May old.history id chosen access.kind → P id (record { access = access; frame = chosen }))
     → AllInFlight P old.devices → AllInFlight P new.devices
 in_flight-answer P chosen old new id device access (Accepted number) at (forwarded, accepts, next) same enters all =
-    let own : device.id ≡ id = (found_device old.devices id device at).1 in
-    let its : P device.id (record { access = access; frame = chosen }) =
-    subst (λ i. P i (record { access = access; frame = chosen })) (sym own)
-    (enters tt forwarded.0 (subst (λ i. May old.history i chosen access.kind) own (accepted_reach device.attachment old device.id access chosen accepts))) in
-    subst (λ (s : State). AllInFlight P s.devices) (sym same)
-    (AllInFlight-with P old.devices device.id _ all (All-push (P device.id) device.in_flight _ (AllInFlight-of P old.devices id device at all) its))
+    in_flight-accepted P old new id device (record { access = access; frame = chosen }) at same
+    (λ own. subst (λ i. P i (record { access = access; frame = chosen })) (sym own)
+    (enters tt forwarded.0 (subst (λ i. May old.history i chosen access.kind) own (accepted_reach device.attachment old device.id access chosen accepts)))) all
 in_flight-answer P chosen old new id device access BadSpan at answer same enters all = subst (λ (s : State). AllInFlight P s.devices) (sym same) all
 in_flight-answer P chosen old new id device access Busy at answer same enters all = subst (λ (s : State). AllInFlight P s.devices) (sym same) all
 in_flight-answer P chosen old new id device access (Fault cause) at answer same enters all = subst (λ (s : State). AllInFlight P s.devices) (sym same) all
@@ -139,9 +189,32 @@ in_flight-answer P chosen old new id device access _ at answer same enters all =
 in_flight-requests : (P : ℕ → AcceptedAccess → Type 0) (chosen : ℕ) (old new : State) (id : ℕ) (access : Access) (outcome : Outcome) → Requests chosen old id access outcome new
     → (IsAcceptance outcome → IsWithinPage access → May old.history id chosen access.kind → P id (record { access = access; frame = chosen }))
     → AllInFlight P old.devices → AllInFlight P new.devices
-in_flight-requests P chosen old new id access outcome step enters all = elim (match_cases (device_of old id) _ _ step) [
-  | inl (none, same) ↦ subst (λ (s : State). AllInFlight P s.devices) (sym same.1) all
+in_flight-requests P chosen old new id access outcome step enters all = elim (act_cases sends_untranslated _ old id outcome new step) [
+  | inl (why, told, same) ↦ subst (λ (s : State). AllInFlight P s.devices) (sym same) all
   | inr (device, at, answer) ↦ in_flight-answer P chosen old new id device access outcome at answer.0 answer.1 enters all
+]
+
+-- of an access through a cache
+in_flight-cached : (P : ℕ → AcceptedAccess → Type 0) (chosen : ℕ) (old new : State) (id : ℕ) (device : Device) (access : Access) (outcome : Outcome) → device_of old id ≡ Some device
+    → MayAnswerThroughCache old device access chosen outcome → new ≡ state_after_cached old device access chosen outcome
+    → (IsAcceptance outcome → IsWithinPage (at_frame chosen access) → May old.history id chosen access.kind → P id (record { access = at_frame chosen access; frame = chosen }))
+    → AllInFlight P old.devices → AllInFlight P new.devices
+in_flight-cached P chosen old new id device access (Accepted number) at (forwarded, through, next) same enters all =
+    in_flight-accepted P old new id device (record { access = at_frame chosen access; frame = chosen }) at same
+    (λ own. subst (λ i. P i (record { access = at_frame chosen access; frame = chosen })) (sym own)
+    (enters tt (within_frame chosen access forwarded.0) (subst (λ i. May old.history i chosen access.kind) own (went_through_reach device.attachment old device.id access chosen through)))) all
+in_flight-cached P chosen old new id device access BadSpan at answer same enters all = subst (λ (s : State). AllInFlight P s.devices) (sym same) all
+in_flight-cached P chosen old new id device access Busy at answer same enters all = subst (λ (s : State). AllInFlight P s.devices) (sym same) all
+in_flight-cached P chosen old new id device access Miss at answer same enters all = subst (λ (s : State). AllInFlight P s.devices) (sym same) all
+in_flight-cached P chosen old new id device access (Fault cause) at answer same enters all = subst (λ (s : State). AllInFlight P s.devices) (sym same) all
+in_flight-cached P chosen old new id device access _ at answer same enters all = absurd answer
+
+in_flight-through_cache : (P : ℕ → AcceptedAccess → Type 0) (chosen : ℕ) (old new : State) (id : ℕ) (access : Access) (outcome : Outcome) → RequestsThroughCache chosen old id access outcome new
+    → (IsAcceptance outcome → IsWithinPage (at_frame chosen access) → May old.history id chosen access.kind → P id (record { access = at_frame chosen access; frame = chosen }))
+    → AllInFlight P old.devices → AllInFlight P new.devices
+in_flight-through_cache P chosen old new id access outcome step enters all = elim (act_cases sends_through_cache _ old id outcome new step) [
+  | inl (why, told, same) ↦ subst (λ (s : State). AllInFlight P s.devices) (sym same) all
+  | inr (device, at, answer) ↦ in_flight-cached P chosen old new id device access outcome at answer.0 answer.1 enters all
 ]
 
 -- where the oldest access of a device is made
@@ -162,8 +235,8 @@ in_flight-makes P old new id device NothingInFlight at makes all = subst (λ (s 
 in_flight-makes P old new id device _ at makes all = absurd makes
 
 in_flight-commits : (P : ℕ → AcceptedAccess → Type 0) (old new : State) (id : ℕ) (outcome : Outcome) → Commits old id outcome new → AllInFlight P old.devices → AllInFlight P new.devices
-in_flight-commits P old new id outcome step all = elim (match_cases (device_of old id) _ _ step) [
-  | inl (none, same) ↦ subst (λ (s : State). AllInFlight P s.devices) (sym same.1) all
+in_flight-commits P old new id outcome step all = elim (act_cases is_any_kind _ old id outcome new step) [
+  | inl (why, told, same) ↦ subst (λ (s : State). AllInFlight P s.devices) (sym same) all
   | inr (device, at, makes) ↦ in_flight-makes P old new id device outcome at makes all
 ]
 
@@ -177,9 +250,56 @@ devices_leave : (P : ℕ → AcceptedAccess → Type 0) (old new : State) (histo
 devices_leave P old new history same all =
     subst (AllInFlight P) (sym same) (All-map (λ (device : Device). All (P device.id) device.in_flight) (device_once_confirmed history) old.devices all)
 
+-- the steps of messages, and of translated requests of devices that forge them, change nothing
+same-sends : (old new : State) (outcome : Outcome) → Sends old outcome new → new ≡ old
+same-sends old new Sent step = step
+same-sends old new Lost step = step
+same-sends old new _ step = absurd step
+
+pub same-asks : (old new : State) (id : ℕ) (outcome : Outcome) → Asks old id outcome new → new ≡ old
+same-asks old new id outcome step = elim (act_cases asks_questions _ old id outcome new step) [
+  | inl (why, told, same) ↦ same
+  | inr (device, at, sends) ↦ same-sends old new outcome sends
+]
+
+pub same-forges : (old new : State) (id : ℕ) (outcome : Outcome) → Forges old id outcome new → new ≡ old
+same-forges old new id outcome step = elim (act_cases forges _ old id outcome new step) [
+  | inl (why, told, same) ↦ same
+  | inr (device, at, sends) ↦ same-sends old new outcome sends
+]
+
+pub same-translated : (old new : State) (id : ℕ) (access : Access) (outcome : Outcome) → RequestsTranslated old id access outcome new → new ≡ old
+same-translated old new id access outcome step = elim (act_cases forges _ old id outcome new step) [
+  | inl (why, told, same) ↦ same
+  | inr (device, at, answer) ↦ answer.1
+]
+
+pub same-delivers : (asker page : ℕ) (old new : State) (outcome : Outcome) → Delivers asker page old outcome new → new ≡ old
+same-delivers asker page old new (Answered told) step = step.1
+same-delivers asker page old new Kept step = step
+same-delivers asker page old new Stale step = step
+same-delivers asker page old new AnswerRefused step = step
+same-delivers asker page old new Ignored step = step
+same-delivers asker page old new (Invalidated serial) step = step
+same-delivers asker page old new (Closed serial) step = step
+same-delivers asker page old new (NotClosed serial) step = step
+same-delivers asker page old new NoMessage step = step
+same-delivers asker page old new _ step = absurd step
+
+pub same-drops : (old new : State) (outcome : Outcome) → Drops old outcome new → new ≡ old
+same-drops old new Dropped step = step
+same-drops old new NoMessage step = step
+same-drops old new _ step = absurd step
+
+pub same-repeats : (old new : State) (outcome : Outcome) → Repeats old outcome new → new ≡ old
+same-repeats old new Repeated step = step
+same-repeats old new Lost step = step
+same-repeats old new NoMessage step = step
+same-repeats old new _ step = absurd step
+
 -- A step keeps each fact of each access in flight, where it is true of those that enter.
 pub in_flight-step : (P : ℕ → AcceptedAccess → Type 0) (old new : State) (event : Event) (outcome : Outcome) → Step old event outcome new
-    → ((id : ℕ) (flight : AcceptedAccess) → IsAccepted event outcome id flight.access → IsWithinPage flight.access → StillMay old.history id flight → P id flight)
+    → ((id : ℕ) (flight : AcceptedAccess) → IsAccepted event outcome id flight → IsWithinPage flight.access → StillMay old.history id flight → P id flight)
     → AllInFlight P old.devices → AllInFlight P new.devices
 in_flight-step P old new (events.Plug id kind) Done (choice, step) enters all =
     subst (λ (s : State). AllInFlight P s.devices) (sym step.1) (All-push (λ (d : Device). All (P d.id) d.in_flight) old.devices _ all (All-nil (P id)))
@@ -212,10 +332,23 @@ in_flight-step P old new events.Faults NoRecord (choice, step) enters all = devi
 in_flight-step P old new events.Faults _ (choice, step) enters all = absurd step
 in_flight-step P old new (events.Read id address len) outcome (choice, step) enters all =
     in_flight-requests P choice.frame old new id (read_of address len) outcome step
-    (λ accepts within may. enters id _ (accepted_if (events.Read id address len) outcome id (read_of address len) refl accepts) within may) all
+    (λ accepts within may. enters id _ (accepted_if (events.Read id address len) outcome id _ _ refl refl accepts) within may) all
 in_flight-step P old new (events.Write id address bytes) outcome (choice, step) enters all =
     in_flight-requests P choice.frame old new id (write_of address bytes) outcome step
-    (λ accepts within may. enters id _ (accepted_if (events.Write id address bytes) outcome id (write_of address bytes) refl accepts) within may) all
+    (λ accepts within may. enters id _ (accepted_if (events.Write id address bytes) outcome id _ _ refl refl accepts) within may) all
+in_flight-step P old new (events.ReadTranslated id address len) outcome (choice, step) enters all = devices_stay P old new (ap (λ (s : State). s.devices) (same-translated old new id (read_of address len) outcome step)) all
+in_flight-step P old new (events.WriteTranslated id address bytes) outcome (choice, step) enters all = devices_stay P old new (ap (λ (s : State). s.devices) (same-translated old new id (write_of address bytes) outcome step)) all
+in_flight-step P old new (events.ReadThroughCache id address len) outcome (choice, step) enters all =
+    in_flight-through_cache P choice.frame old new id (read_of address len) outcome step
+    (λ accepts within may. enters id _ (accepted_if (events.ReadThroughCache id address len) outcome id _ _ refl refl accepts) within may) all
+in_flight-step P old new (events.WriteThroughCache id address bytes) outcome (choice, step) enters all =
+    in_flight-through_cache P choice.frame old new id (write_of address bytes) outcome step
+    (λ accepts within may. enters id _ (accepted_if (events.WriteThroughCache id address bytes) outcome id _ _ refl refl accepts) within may) all
+in_flight-step P old new (events.Ask id page) outcome (choice, step) enters all = devices_stay P old new (ap (λ (s : State). s.devices) (same-asks old new id outcome step)) all
+in_flight-step P old new (events.Forge id serial) outcome (choice, step) enters all = devices_stay P old new (ap (λ (s : State). s.devices) (same-forges old new id outcome step)) all
+in_flight-step P old new (events.Deliver place) outcome (choice, step) enters all = devices_stay P old new (ap (λ (s : State). s.devices) (same-delivers choice.device choice.page old new outcome step)) all
+in_flight-step P old new (events.Drop place) outcome (choice, step) enters all = devices_stay P old new (ap (λ (s : State). s.devices) (same-drops old new outcome step)) all
+in_flight-step P old new (events.Repeat place) outcome (choice, step) enters all = devices_stay P old new (ap (λ (s : State). s.devices) (same-repeats old new outcome step)) all
 in_flight-step P old new (events.Commit id) outcome (choice, step) enters all = in_flight-commits P old new id outcome step all
 in_flight-step P old new (events.Poke address bytes) Done (choice, step) enters all = devices_stay P old new (ap (λ (s : State). s.devices) step.2) all
 in_flight-step P old new (events.Poke address bytes) (Refused why) (choice, step) enters all = devices_stay P old new (ap (λ (s : State). s.devices) step.2) all

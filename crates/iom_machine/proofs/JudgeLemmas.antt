@@ -19,7 +19,7 @@ use Rattle.iom_machine.specs.Frames.{FewerThan}
 use Rattle.iom_ledger.specs.declared.entry.HistoryEntry.{HistoryEntry}
 use Rattle.iom_ledger.specs.declared.entry.HistoryEntry.TheVariants.{Granted, Released, AllReleased, Confirmed}
 use Rattle.iom_ledger.specs.History.{History, Pair, is_about, granted_by, held_at, released_by, released_at, confirms, Holds, Lingers, May, NoneMayReach, serves}
-use Rattle.iom_machine.specs.Judging.{holds_for, still_serves, lingers_for, lingers_among, reaches_in, anyone_reaches_in}
+use Rattle.iom_machine.specs.Judging.{holds_for, still_serves, is_pair, still_is, lingers_for, lingers_among, reaches_in, anyone_reaches_in}
 use Rattle.iom_machine.proofs.ReachLemmas.{cons_cases, contains_head, contains_tail, contains_from_filter, contains_filter, released_was_held}
 
 -- a test that some element passes, and the element
@@ -92,6 +92,33 @@ LingersFor-test h id page kind frame (rights, (ticket, c), allowed) =
     let kept = contains_from_filter (λ r. not (confirms h r.0)) (released_at h id page) (ticket, (frame, rights)) c in
     some_passes (still_serves h frame kind) (released_at h id page) (ticket, (frame, rights)) kept.0
     (and_from (not (confirms h ticket)) (serves frame kind (frame, rights)) kept.1 (serving frame kind rights allowed))
+
+-- the pair that is sought
+abbrev pair_of : ℕ → ℕ → Pair
+pair_of frame bits = (frame, record { 0 = bits })
+
+sought_pair : (sought pair : Pair) → is_pair sought pair ≡ true → ◌≡◌ {A = Pair} pair sought
+sought_pair sought pair e =
+    let parts = and_parts (pair.0 == sought.0) (pair.1.0 == sought.1.0) e in
+    ap (λ (f : ℕ). pair_of f pair.1.0) (eqb-true pair.0 sought.0 parts.0) ∙ ap (pair_of sought.0) (eqb-true pair.1.0 sought.1.0 parts.1)
+
+pair_itself : (pair : Pair) → is_pair pair pair ≡ true
+pair_itself pair = and_from (pair.0 == pair.0) (pair.1.0 == pair.1.0) (eq-eqb pair.0 pair.0 refl) (eq-eqb pair.1.0 pair.1.0 refl)
+
+-- a pair lingers exactly where it is found
+pub Lingers-from : (h : History) (id page : ℕ) (sought : Pair) → list_any (still_is h sought) (released_at h id page) ≡ true → Lingers h id page sought
+Lingers-from h id page sought e =
+    let found = passing_element (still_is h sought) (released_at h id page) e in
+    let parts = and_parts (not (confirms h found.0.0)) (is_pair sought found.0.1) found.2 in (
+      found.0.0,
+      subst (λ (p : Pair). Contains (filter (λ r. not (confirms h r.0)) (released_at h id page)) (found.0.0, p)) (sought_pair sought found.0.1 parts.1)
+          (contains_filter (λ r. not (confirms h r.0)) (released_at h id page) found.0 found.1 parts.0),
+    )
+
+pub Lingers-test : (h : History) (id page : ℕ) (sought : Pair) → Lingers h id page sought → list_any (still_is h sought) (released_at h id page) ≡ true
+Lingers-test h id page sought (ticket, c) =
+    let kept = contains_from_filter (λ r. not (confirms h r.0)) (released_at h id page) (ticket, sought) c in
+    some_passes (still_is h sought) (released_at h id page) (ticket, sought) kept.0 (and_from (not (confirms h ticket)) (is_pair sought sought) kept.1 (pair_itself sought))
 
 -- whether some entry grants the device something at the page
 abbrev pub grants_at : History → ℕ → ℕ → Bool

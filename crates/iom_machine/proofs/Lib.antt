@@ -14,3 +14,4 @@ pub mod CallLemmas
 pub mod VerdictLemmas
 pub mod HistoryLoops
 pub mod ProcessorLemmas
+pub mod QuestionLemmas

@@ -16,7 +16,7 @@ step_touches_its_own old new event outcome sound step id is = touches_its_own ol
 
 step_accepts_held : (old new : State) (event : Event) (outcome : Outcome) → Step old event outcome new → HeldPageIsAccepted old event outcome new
 step_accepts_held old new event outcome step id frame device access asks there raw one within room held =
-    accepted_on_its_frame old new event outcome id frame device access step asks there one within room held
+    accepted_on_its_frame old new event outcome id frame device access step asks there raw one within room held
 
 -- the sentences of every step
 pub made_accesses_touch_their_own : MadeAccessesTouchTheirOwn

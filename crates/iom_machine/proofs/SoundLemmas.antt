@@ -32,15 +32,17 @@ use Rattle.iom_ledger.specs.Confirmations.{confirmed_from}
 use Rattle.iom_ledger.specs.Refusals.{NoneApplies, first_that_applies}
 use Rattle.iom_machine.specs.Refusals.{grant_reasons, is_held, is_lingering}
 use Rattle.iom_base.specs.Accesses.{read_of, write_of, offset_of, IsWithinPage}
+use Rattle.iom_machine.specs.Kinds.{sends_untranslated, sends_through_cache, is_any_kind}
 use Rattle.iom_machine.specs.Requests.{state_after}
-use Rattle.iom_machine.specs.Machine.{Requests, Makes, Commits, Step, Run}
+use Rattle.iom_machine.specs.ThroughCache.{at_frame, state_after_cached}
+use Rattle.iom_machine.specs.Machine.{Requests, RequestsThroughCache, Makes, Commits, Step, Run}
 use Rattle.iom_machine.specs.PowerOn.{opening, empty_frame}
 use Rattle.iom_machine.specs.Leaving.{is_of_left, given_back}
 use Rattle.iom_machine.specs.Tickets.{with_confirmed}
-use Rattle.iom_machine.specs.Headline.{GrantsFrame, AsksFor, IsReached}
+use Rattle.iom_machine.specs.Headline.{GrantsFrame, Asked, asked_by, access_sent, IsReached}
 use Rattle.iom_machine.proofs.ReachLemmas.{NamesFrame, reach_before, reach_after_grant, reach_after_release}
 use Rattle.iom_machine.proofs.ByteLemmas.{length-with_bytes}
-use Rattle.iom_machine.proofs.InFlightLemmas.{match_cases, some_case, All-at, AllInFlight, AllInFlight-of, AllInFlight-weaker, StillMay, IsAccepted, asked_parts, in_flight-step}
+use Rattle.iom_machine.proofs.InFlightLemmas.{act_cases, some_case, All-at, AllInFlight, AllInFlight-of, AllInFlight-weaker, StillMay, IsAccepted, asked_parts, same-translated, same-asks, same-forges, same-delivers, same-drops, same-repeats, in_flight-step}
 
 -- an access that stays within its page, and a write with as many bytes as it names
 abbrev pub IsWhole : ℕ → AcceptedAccess → Type 0
@@ -142,8 +144,8 @@ all_same : (old new : State) → new ≡ old → SameLedger old new
 all_same old new same = (ap (λ (s : State). s.history) same, ap (λ (s : State). s.last_ticket) same)
 
 same_ledger-requests : (chosen : ℕ) (old new : State) (id : ℕ) (access : Access) (outcome : Outcome) → Requests chosen old id access outcome new → SameLedger old new
-same_ledger-requests chosen old new id access outcome step = elim (match_cases (device_of old id) _ _ step) [
-  | inl (none, same) ↦ all_same old new same.1
+same_ledger-requests chosen old new id access outcome step = elim (act_cases sends_untranslated _ old id outcome new step) [
+  | inl (why, told, same) ↦ all_same old new same
   | inr (device, at, answer) ↦ by device outcome answer.1
 ]
   where
@@ -151,9 +153,19 @@ same_ledger-requests chosen old new id access outcome step = elim (match_cases (
     by device (Accepted number) same = (ap (λ (s : State). s.history) same, ap (λ (s : State). s.last_ticket) same)
     by device _ same = all_same old new same
 
+same_ledger-through_cache : (chosen : ℕ) (old new : State) (id : ℕ) (access : Access) (outcome : Outcome) → RequestsThroughCache chosen old id access outcome new → SameLedger old new
+same_ledger-through_cache chosen old new id access outcome step = elim (act_cases sends_through_cache _ old id outcome new step) [
+  | inl (why, told, same) ↦ all_same old new same
+  | inr (device, at, answer) ↦ by device outcome answer.1
+]
+  where
+    by : (device : Device) (outcome : Outcome) → new ≡ state_after_cached old device access chosen outcome → SameLedger old new
+    by device (Accepted number) same = (ap (λ (s : State). s.history) same, ap (λ (s : State). s.last_ticket) same)
+    by device _ same = all_same old new same
+
 same_ledger-commits : (old new : State) (id : ℕ) (outcome : Outcome) → Commits old id outcome new → SameLedger old new
-same_ledger-commits old new id outcome step = elim (match_cases (device_of old id) _ _ step) [
-  | inl (none, same) ↦ all_same old new same.1
+same_ledger-commits old new id outcome step = elim (act_cases is_any_kind _ old id outcome new step) [
+  | inl (why, told, same) ↦ all_same old new same
   | inr (device, at, makes) ↦ by device outcome makes
 ]
   where
@@ -207,6 +219,15 @@ change-step old new events.Faults NoRecord (choice, step) = unchanged _ _ old ne
 change-step old new events.Faults _ (choice, step) = absurd step
 change-step old new (events.Read id address len) outcome (choice, step) = Change.ledger_stays (same_ledger-requests choice.frame old new id (read_of address len) outcome step)
 change-step old new (events.Write id address bytes) outcome (choice, step) = Change.ledger_stays (same_ledger-requests choice.frame old new id (write_of address bytes) outcome step)
+change-step old new (events.ReadTranslated id address len) outcome (choice, step) = unchanged _ _ old new (same-translated old new id (read_of address len) outcome step)
+change-step old new (events.WriteTranslated id address bytes) outcome (choice, step) = unchanged _ _ old new (same-translated old new id (write_of address bytes) outcome step)
+change-step old new (events.ReadThroughCache id address len) outcome (choice, step) = Change.ledger_stays (same_ledger-through_cache choice.frame old new id (read_of address len) outcome step)
+change-step old new (events.WriteThroughCache id address bytes) outcome (choice, step) = Change.ledger_stays (same_ledger-through_cache choice.frame old new id (write_of address bytes) outcome step)
+change-step old new (events.Ask id page) outcome (choice, step) = unchanged _ _ old new (same-asks old new id outcome step)
+change-step old new (events.Forge id serial) outcome (choice, step) = unchanged _ _ old new (same-forges old new id outcome step)
+change-step old new (events.Deliver place) outcome (choice, step) = unchanged _ _ old new (same-delivers choice.device choice.page old new outcome step)
+change-step old new (events.Drop place) outcome (choice, step) = unchanged _ _ old new (same-drops old new outcome step)
+change-step old new (events.Repeat place) outcome (choice, step) = unchanged _ _ old new (same-repeats old new outcome step)
 change-step old new (events.Commit id) outcome (choice, step) = Change.ledger_stays (same_ledger-commits old new id outcome step)
 change-step old new (events.Poke address bytes) Done (choice, step) = Change.ledger_stays (ap (λ (s : State). s.history) step.2, ap (λ (s : State). s.last_ticket) step.2)
 change-step old new (events.Poke address bytes) (Refused why) (choice, step) = unchanged _ _ old new step.2
@@ -275,12 +296,22 @@ in_memory-change event outcome old new change size low = subst (λ n. AreInMemor
     by (Change.confirms_some first n most extended tickets reaches) = subst (λ h. AreInMemory h (length old.frames)) (sym extended) (confirmed first n)
 
 same_frames-requests : (chosen : ℕ) (old new : State) (id : ℕ) (access : Access) (outcome : Outcome) → Requests chosen old id access outcome new → new.frames ≡ old.frames
-same_frames-requests chosen old new id access outcome step = elim (match_cases (device_of old id) _ _ step) [
-  | inl (none, same) ↦ ap (λ (s : State). s.frames) same.1
+same_frames-requests chosen old new id access outcome step = elim (act_cases sends_untranslated _ old id outcome new step) [
+  | inl (why, told, same) ↦ ap (λ (s : State). s.frames) same
   | inr (device, at, answer) ↦ by device outcome answer.1
 ]
   where
     by : (device : Device) (outcome : Outcome) → new ≡ state_after old device access chosen outcome → new.frames ≡ old.frames
+    by device (Accepted number) same = ap (λ (s : State). s.frames) same
+    by device _ same = ap (λ (s : State). s.frames) same
+
+same_frames-through_cache : (chosen : ℕ) (old new : State) (id : ℕ) (access : Access) (outcome : Outcome) → RequestsThroughCache chosen old id access outcome new → new.frames ≡ old.frames
+same_frames-through_cache chosen old new id access outcome step = elim (act_cases sends_through_cache _ old id outcome new step) [
+  | inl (why, told, same) ↦ ap (λ (s : State). s.frames) same
+  | inr (device, at, answer) ↦ by device outcome answer.1
+]
+  where
+    by : (device : Device) (outcome : Outcome) → new ≡ state_after_cached old device access chosen outcome → new.frames ≡ old.frames
     by device (Accepted number) same = ap (λ (s : State). s.frames) same
     by device _ same = ap (λ (s : State). s.frames) same
 
@@ -307,8 +338,8 @@ kept-reserved P owned owner (number ∷ numbers) frames its = kept-reserved P ow
 
 frames-commits : (W : AcceptedAccess → Type 0) (P : List Frame → Type 0) → KeptByWrites W P → (old new : State) (id : ℕ) (outcome : Outcome) → AllInFlight (λ id flight. W flight) old.devices
     → Commits old id outcome new → P old.frames → P new.frames
-frames-commits W P written old new id outcome all step its = elim (match_cases (device_of old id) _ _ step) [
-  | inl (none, same) ↦ stay same.1
+frames-commits W P written old new id outcome all step its = elim (act_cases is_any_kind _ old id outcome new step) [
+  | inl (why, told, same) ↦ stay same
   | inr (device, at, makes) ↦ by device at outcome makes
 ]
   where
@@ -358,6 +389,17 @@ frames-step W P owned returned written poked old new events.Faults NoRecord all 
 frames-step W P owned returned written poked old new events.Faults _ all (choice, step) its = absurd step
 frames-step W P owned returned written poked old new (events.Read id address len) outcome all (choice, step) its = subst P (sym (same_frames-requests choice.frame old new id (read_of address len) outcome step)) its
 frames-step W P owned returned written poked old new (events.Write id address bytes) outcome all (choice, step) its = subst P (sym (same_frames-requests choice.frame old new id (write_of address bytes) outcome step)) its
+frames-step W P owned returned written poked old new (events.ReadTranslated id address len) outcome all (choice, step) its = subst P (sym (ap (λ (s : State). s.frames) (same-translated old new id (read_of address len) outcome step))) its
+frames-step W P owned returned written poked old new (events.WriteTranslated id address bytes) outcome all (choice, step) its = subst P (sym (ap (λ (s : State). s.frames) (same-translated old new id (write_of address bytes) outcome step))) its
+frames-step W P owned returned written poked old new (events.ReadThroughCache id address len) outcome all (choice, step) its =
+    subst P (sym (same_frames-through_cache choice.frame old new id (read_of address len) outcome step)) its
+frames-step W P owned returned written poked old new (events.WriteThroughCache id address bytes) outcome all (choice, step) its =
+    subst P (sym (same_frames-through_cache choice.frame old new id (write_of address bytes) outcome step)) its
+frames-step W P owned returned written poked old new (events.Ask id page) outcome all (choice, step) its = subst P (sym (ap (λ (s : State). s.frames) (same-asks old new id outcome step))) its
+frames-step W P owned returned written poked old new (events.Forge id serial) outcome all (choice, step) its = subst P (sym (ap (λ (s : State). s.frames) (same-forges old new id outcome step))) its
+frames-step W P owned returned written poked old new (events.Deliver place) outcome all (choice, step) its = subst P (sym (ap (λ (s : State). s.frames) (same-delivers choice.device choice.page old new outcome step))) its
+frames-step W P owned returned written poked old new (events.Drop place) outcome all (choice, step) its = subst P (sym (ap (λ (s : State). s.frames) (same-drops old new outcome step))) its
+frames-step W P owned returned written poked old new (events.Repeat place) outcome all (choice, step) its = subst P (sym (ap (λ (s : State). s.frames) (same-repeats old new outcome step))) its
 frames-step W P owned returned written poked old new (events.Commit id) outcome all (choice, step) its = frames-commits W P written old new id outcome all step its
 frames-step W P owned returned written poked old new (events.Poke address bytes) Done all (choice, step) its =
     subst P (sym (ap (λ (s : State). s.frames) step.2)) (poked old.frames (address / 4096) (address % 4096) bytes step.0.1 its)
@@ -420,23 +462,40 @@ same_size-step old new event outcome step =
     old new event outcome (λ k d below. all_so _) step refl
 
 -- an access that is asked for names as many bytes as it has
-named_bytes : (event : Event) (outcome : Outcome) (id : ℕ) (access : Access) → IsAccepted event outcome id access → access.kind ≡ kinds.Write → length access.bytes ≡ access.len
-named_bytes event (Accepted number) id access accepted write = by event accepted
+abbrev pub NamesItsBytes : Access → Type 0
+NamesItsBytes access = access.kind ≡ kinds.Write → length access.bytes ≡ access.len
+
+read_names : (address len : ℕ) → NamesItsBytes (read_of address len)
+read_names address len write = let same : kinds.Read ≡ kinds.Write = write in cc
+
+write_names : (address : ℕ) (bytes : List ℕ) → NamesItsBytes (write_of address bytes)
+write_names address bytes write = refl
+
+asked_names : (event : Event) (id : ℕ) (asked : Asked) → asked_by event ≡ Some (id, asked) → NamesItsBytes asked.access
+asked_names (events.Read d address len) id asked asks = subst (λ (a : Asked). NamesItsBytes a.access) (asked_parts d id _ asked asks).1 (read_names address len)
+asked_names (events.Write d address bytes) id asked asks = subst (λ (a : Asked). NamesItsBytes a.access) (asked_parts d id _ asked asks).1 (write_names address bytes)
+asked_names (events.ReadThroughCache d address len) id asked asks = subst (λ (a : Asked). NamesItsBytes a.access) (asked_parts d id _ asked asks).1 (read_names address len)
+asked_names (events.WriteThroughCache d address bytes) id asked asks = subst (λ (a : Asked). NamesItsBytes a.access) (asked_parts d id _ asked asks).1 (write_names address bytes)
+asked_names _ id asked asks = cc
+
+-- and so has the access that is sent of it
+sent_names : (frame : ℕ) (asked : Asked) → NamesItsBytes asked.access → NamesItsBytes (access_sent frame asked)
+sent_names frame asked names = by asked.through_cache
   where
-    by : (event : Event) → AsksFor event id access → length access.bytes ≡ access.len
-    by (events.Read d address len) asks =
-        let what : read_of address len ≡ access = (asked_parts d id (read_of address len) access asks).1 in
-        let same : kinds.Read ≡ kinds.Write = ap (λ (a : Access). a.kind) what ∙ write in cc
-    by (events.Write d address bytes) asks = subst (λ (a : Access). length a.bytes ≡ a.len) (asked_parts d id (write_of address bytes) access asks).1 refl
-    by _ asks = cc
-named_bytes event _ id access accepted write = absurd accepted
+    by : (b : Bool) → NamesItsBytes (if b then at_frame frame asked.access else asked.access)
+    by true = names
+    by false = names
+
+named_bytes : (event : Event) (outcome : Outcome) (id : ℕ) (flight : AcceptedAccess) → IsAccepted event outcome id flight → NamesItsBytes flight.access
+named_bytes event (Accepted number) id flight (asked, asks, sent) = subst NamesItsBytes (sym sent) (sent_names flight.frame asked (asked_names event id asked asks))
+named_bytes event _ id flight accepted = absurd accepted
 
 pub sound-step : (old new : State) (event : Event) (outcome : Outcome) → IsSound old → Step old event outcome new → IsSound new
 sound-step old new event outcome sound step =
     let change = change-step old new event outcome step in
     record {
       reaches = reaches-change event outcome old new change sound.tickets (in_flight-step (StillMay old.history) old new event outcome step (λ id flight accepted within may. may) sound.reaches);
-      whole = in_flight-step IsWhole old new event outcome step (λ id flight accepted within may. (within, named_bytes event outcome id flight.access accepted)) sound.whole;
+      whole = in_flight-step IsWhole old new event outcome step (λ id flight accepted within may. (within, named_bytes event outcome id flight accepted)) sound.whole;
       tickets = tickets-change event outcome old new change sound.tickets;
       frames = frames-step (IsWhole 0) AreWholeFrames
           (λ frames number owner all. All-with_frame (λ (f : Frame). length f.bytes ≡ 4096) frames number (λ frame. record frame { owner = Some owner }) (λ frame its. its) all)

@@ -1,13 +1,15 @@
 -- A step that the judge decides, with the next state shown.
-use Rattle.std.proofs.Common.{◌≡◌, ◌↔◌, ℕ, List, Option, None, Some, Result, Ok, Err, IfOk, slice_get, sym, ap, subst, ◌∙◌}
+use Rattle.std.proofs.Common.{◌≡◌, ◌↔◌, ℕ, Bool, true, false, IsTrue, refl, List, Option, None, Some, Result, Ok, Err, IfOk, slice_get, sym, ap, subst, ◌∙◌}
 use Rattle.std.specs.declared.alloc.AllocError.{AllocError}
-use Rattle.iom_ledger.specs.declared.refusal.Refusal.TheVariants.{NoSuchDevice}
+use Rattle.iom_ledger.specs.declared.refusal.Refusal.TheVariants.{NoSuchDevice, WrongKind}
 use Rattle.iom_machine.specs.declared.outcome.Outcome.{Outcome}
 use Rattle.iom_machine.specs.declared.outcome.Outcome.TheVariants.{Refused}
 use Rattle.iom_machine.specs.declared.state.Device.{Device}
+use Rattle.iom_machine.specs.declared.state.DeviceKind.{DeviceKind}
 use Rattle.iom_machine.specs.declared.state.State.{State}
 use Rattle.iom_machine.specs.Devices.{device_of}
 use Rattle.iom_machine.specs.Judging.{StandsAt}
+use Rattle.iom_machine.specs.Kinds.{is_any_kind}
 use Rattle.iom_machine.specs.Machine.{Acts}
 use Rattle.iom_machine.proofs.InFlightLemmas.{found_device}
 
@@ -29,14 +31,28 @@ lawful P next final fact is new =
 pub unlawful : (P : Type 0) (final : State) → ¬ P → (new : State) → (◌≡◌ {A = Option State} None (Some new)) ↔ (P × (new ≡ final))
 unlawful P final never new = ((λ same. absurd (no_state new same)), (λ both. absurd (never both.0)))
 
--- what a plugged device's act leaves, and one's that isn't there
-pub acts_there : (next : Option State) (Q : Device → State → Type 0) (old : State) (id : ℕ) (outcome : Outcome) (device : Device) → device_of old id ≡ Some device
-    → ((new : State) → (next ≡ Some new) ↔ Q device new) → (new : State) → (next ≡ Some new) ↔ Acts (λ d. Q d new) old id outcome new
-acts_there next Q old id outcome device there decides new = rw there (decides new)
+-- what the act of a plugged device leaves that is able, of one that isn't, and of one that isn't there
+pub acts_there : (can : DeviceKind → Bool) (next : Option State) (Q : Device → State → Type 0) (old : State) (id : ℕ) (outcome : Outcome) (device : Device)
+    → device_of old id ≡ Some device → can device.kind ≡ true
+    → ((new : State) → (next ≡ Some new) ↔ Q device new) → (new : State) → (next ≡ Some new) ↔ Acts can (λ d. Q d new) old id outcome new
+acts_there can next Q old id outcome device there able decides new = rw (there, able) (decides new)
 
-pub acts_absent : (next : Option State) (Q : Device → State → Type 0) (old : State) (id : ℕ) (outcome : Outcome) → device_of old id ≡ None
-    → ((new : State) → (next ≡ Some new) ↔ ((outcome ≡ Refused NoSuchDevice) × (new ≡ old))) → (new : State) → (next ≡ Some new) ↔ Acts (λ d. Q d new) old id outcome new
-acts_absent next Q old id outcome absent decides new = rw absent (decides new)
+pub acts_unable : (can : DeviceKind → Bool) (next : Option State) (Q : Device → State → Type 0) (old : State) (id : ℕ) (outcome : Outcome) (device : Device)
+    → device_of old id ≡ Some device → can device.kind ≡ false
+    → ((new : State) → (next ≡ Some new) ↔ ((outcome ≡ Refused WrongKind) × (new ≡ old))) → (new : State) → (next ≡ Some new) ↔ Acts can (λ d. Q d new) old id outcome new
+acts_unable can next Q old id outcome device there unable decides new = rw (there, unable) (decides new)
+
+pub acts_absent : (can : DeviceKind → Bool) (next : Option State) (Q : Device → State → Type 0) (old : State) (id : ℕ) (outcome : Outcome) → device_of old id ≡ None
+    → ((new : State) → (next ≡ Some new) ↔ ((outcome ≡ Refused NoSuchDevice) × (new ≡ old))) → (new : State) → (next ≡ Some new) ↔ Acts can (λ d. Q d new) old id outcome new
+acts_absent can next Q old id outcome absent decides new = rw absent (decides new)
+
+-- a state that stays where a test says so, which decides a fact
+pub stays_where : (next : Option State) (test : Bool) (P : Type 0) (old : State) → (IsTrue test ↔ P)
+    → ((new : State) → (next ≡ Some new) ↔ (IsTrue test × (new ≡ old))) → (new : State) → (next ≡ Some new) ↔ (P × (new ≡ old))
+stays_where next test P old decides stays new = (
+  (λ same. let both = (stays new).0 same in (decides.0 both.0, both.1)),
+  (λ both. (stays new).1 (decides.1 both.0, both.1)),
+)
 
 -- the device at the place of an id has that place itself
 pub own_place : (devices : List Device) (id place : ℕ) (device : Device) → StandsAt devices id place → slice_get devices place ≡ Some device → StandsAt devices device.id place
@@ -45,8 +61,8 @@ own_place devices id place device is_place at =
 
 -- the same, whatever memory did
 pub acts_if_ok : (result : Result (Option State) AllocError) (Q : Device → State → Type 0) (old : State) (id : ℕ) (outcome : Outcome) (device : Device) → device_of old id ≡ Some device
-    → IfOk result (λ next. (new : State) → (next ≡ Some new) ↔ Q device new) → IfOk result (λ next. (new : State) → (next ≡ Some new) ↔ Acts (λ d. Q d new) old id outcome new)
-acts_if_ok (Ok next) Q old id outcome device there decides = acts_there next Q old id outcome device there decides
+    → IfOk result (λ next. (new : State) → (next ≡ Some new) ↔ Q device new) → IfOk result (λ next. (new : State) → (next ≡ Some new) ↔ Acts is_any_kind (λ d. Q d new) old id outcome new)
+acts_if_ok (Ok next) Q old id outcome device there decides = acts_there is_any_kind next Q old id outcome device there refl decides
 acts_if_ok (Err e) Q old id outcome device there decides = decides
 
 -- what is so for each device at the place is so for the one that is there

@@ -1,12 +1,12 @@
 -- After any list of events from power-on: what a made access touched, what was accepted and on which frame, and what no device touched.
-use Rattle.std.specs.Prelude.{◌≡◌, ◌≢◌, ℕ, ◌+◌, ◌<◌, ◌≤◌, ◌⊎◌, ◌==◌, Bool, List, [], ◌∷◌, ◌++◌, length, map, All, Option, None, Some, if◌then◌else◌, slice_get, ⊤}
+use Rattle.std.specs.Prelude.{◌≡◌, ◌≢◌, ℕ, ◌+◌, ◌<◌, ◌≤◌, ◌⊎◌, ◌==◌, Bool, true, false, List, [], ◌∷◌, ◌++◌, length, All, Option, None, Some, if◌then◌else◌, slice_get, ⊤}
 use Rattle.std.specs.Option.{option_map_or}
 use Rattle.iom_base.specs.declared.access.AccessKind.TheVariants as kinds
 use Rattle.iom_ledger.specs.History.{May}
 use Rattle.iom_machine.specs.declared.event.Event.{Event}
 use Rattle.iom_machine.specs.declared.event.Event.TheVariants as events
 use Rattle.iom_machine.specs.declared.outcome.Outcome.{Outcome}
-use Rattle.iom_machine.specs.declared.outcome.Outcome.TheVariants.{Done, Refused, Ticket, Confirmed, NoneConfirmed, Record, NoRecord, Fetched, Accepted, Busy, BadSpan, Fault, Read, Wrote, NothingInFlight, Bytes, Free}
+use Rattle.iom_machine.specs.declared.outcome.Outcome.TheVariants.{Done, Refused, Ticket, Confirmed, NoneConfirmed, Record, NoRecord, Fetched, Accepted, Busy, BadSpan, Fault, Miss, Sent, Lost, Answered, Kept, Stale, AnswerRefused, Ignored, Invalidated, Closed, NotClosed, Dropped, Repeated, NoMessage, Read, Wrote, NothingInFlight, Bytes, Free}
 use Rattle.iom_base.specs.declared.access.Access.{Access}
 use Rattle.iom_machine.specs.declared.state.Attachment.TheVariants.{Attached}
 use Rattle.iom_machine.specs.declared.state.Device.{Device}
@@ -19,6 +19,7 @@ use Rattle.iom_machine.specs.Frames.{IsFree, bytes_of}
 use Rattle.iom_machine.specs.Devices.{IsPlugged, EachInFlightMay}
 use Rattle.iom_base.specs.Accesses.{read_of, write_of, offset_of, IsWithinPage}
 use Rattle.iom_machine.specs.Requests.{IsBusy, HoldsFor, with_accepted}
+use Rattle.iom_machine.specs.ThroughCache.{at_frame}
 use Rattle.iom_machine.specs.Machine.{Step, Run}
 use Rattle.iom_machine.specs.PowerOn.{opening}
 
@@ -65,10 +66,30 @@ TouchesItsOwn old id (Refused why) new = new.frames ≡ old.frames
 -- no other outcome comes of a commit
 TouchesItsOwn old id _ new = ⊥
 
--- the access that the event asks for, with the device that asks
-abbrev pub asked_by : Event → Option (ℕ × Access)
-asked_by (events.Read id address len) = Some (id, read_of address len)
-asked_by (events.Write id address bytes) = Some (id, write_of address bytes)
+-- an access that is asked for, and whether through the device's own cache
+pub record Asked : Type 0 where
+  pub access : Access
+  pub through_cache : Bool
+
+abbrev pub asked_untranslated : ℕ → Access → Option (ℕ × Asked)
+asked_untranslated id access = Some (id, record { access = access; through_cache = false })
+
+abbrev pub asked_through_cache : ℕ → Access → Option (ℕ × Asked)
+asked_through_cache id access = Some (id, record { access = access; through_cache = true })
+
+-- The access that the event asks for, with the device that asks. A request that says it is translated already is never accepted, and so asks for none.
+abbrev pub asked_by : Event → Option (ℕ × Asked)
+asked_by (events.Read id address len) = asked_untranslated id (read_of address len)
+asked_by (events.Write id address bytes) = asked_untranslated id (write_of address bytes)
+asked_by (events.ReadThroughCache id address len) = asked_through_cache id (read_of address len)
+asked_by (events.WriteThroughCache id address bytes) = asked_through_cache id (write_of address bytes)
+asked_by (events.ReadTranslated id address len) = None
+asked_by (events.WriteTranslated id address bytes) = None
+asked_by (events.Ask id page) = None
+asked_by (events.Forge id serial) = None
+asked_by (events.Deliver place) = None
+asked_by (events.Drop place) = None
+asked_by (events.Repeat place) = None
 asked_by (events.Plug id kind) = None
 asked_by (events.Attach id mode ats) = None
 asked_by (events.Detach id) = None
@@ -82,12 +103,12 @@ asked_by (events.Poke address bytes) = None
 asked_by (events.Peek address len) = None
 asked_by (events.Free frame) = None
 
--- the event asks for this access of this device
+-- the event asks for this access of this device, at an address that the IOMMU translates
 abbrev pub AsksFor : Event → ℕ → Access → Type 0
-AsksFor event id access = asked_by event ≡ Some (id, access)
+AsksFor event id access = asked_by event ≡ asked_untranslated id access
 
 -- the access of the device that is accepted at the event, if one is
-abbrev pub accepted_by : Event → Outcome → ℕ → List Access
+abbrev pub accepted_by : Event → Outcome → ℕ → List Asked
 accepted_by event (Accepted number) id = option_map_or (λ asked. if asked.0 == id then asked.1 ∷ [] else []) (asked_by event) []
 accepted_by event Done id = []
 accepted_by event (Refused why) id = []
@@ -100,6 +121,20 @@ accepted_by event (Fetched result) id = []
 accepted_by event Busy id = []
 accepted_by event BadSpan id = []
 accepted_by event (Fault cause) id = []
+accepted_by event Miss id = []
+accepted_by event Sent id = []
+accepted_by event Lost id = []
+accepted_by event (Answered told) id = []
+accepted_by event Kept id = []
+accepted_by event Stale id = []
+accepted_by event AnswerRefused id = []
+accepted_by event Ignored id = []
+accepted_by event (Invalidated serial) id = []
+accepted_by event (Closed serial) id = []
+accepted_by event (NotClosed serial) id = []
+accepted_by event Dropped id = []
+accepted_by event Repeated id = []
+accepted_by event NoMessage id = []
 accepted_by event (Read bytes) id = []
 accepted_by event (Wrote len) id = []
 accepted_by event NothingInFlight id = []
@@ -107,7 +142,7 @@ accepted_by event (Bytes bytes) id = []
 accepted_by event (Free is_free) id = []
 
 -- the accesses of the device that are accepted at the events, in order
-abbrev pub accepted_in : List Event → List Outcome → ℕ → List Access
+abbrev pub accepted_in : List Event → List Outcome → ℕ → List Asked
 accepted_in (event ∷ events) (outcome ∷ outcomes) id = accepted_by event outcome id ++ accepted_in events outcomes id
 accepted_in _ _ id = []
 
@@ -129,6 +164,15 @@ made_by events.Poll outcome id = 0
 made_by events.Faults outcome id = 0
 made_by (events.Read d address len) outcome id = 0
 made_by (events.Write d address bytes) outcome id = 0
+made_by (events.ReadTranslated d address len) outcome id = 0
+made_by (events.WriteTranslated d address bytes) outcome id = 0
+made_by (events.ReadThroughCache d address len) outcome id = 0
+made_by (events.WriteThroughCache d address bytes) outcome id = 0
+made_by (events.Ask d page) outcome id = 0
+made_by (events.Forge d serial) outcome id = 0
+made_by (events.Deliver place) outcome id = 0
+made_by (events.Drop place) outcome id = 0
+made_by (events.Repeat place) outcome id = 0
 made_by (events.Poke address bytes) outcome id = 0
 made_by (events.Peek address len) outcome id = 0
 made_by (events.Free frame) outcome id = 0
@@ -138,12 +182,24 @@ abbrev pub made_in : List Event → List Outcome → ℕ → ℕ
 made_in (event ∷ events) (outcome ∷ outcomes) id = made_by event outcome id + made_in events outcomes id
 made_in _ _ id = 0
 
+-- the access that goes to memory, of what was asked for: through the device's own cache it is at its physical address
+abbrev pub access_sent : ℕ → Asked → Access
+access_sent frame asked = if asked.through_cache then at_frame frame asked.access else asked.access
+
+-- these accesses in flight are what was sent of those that were asked for, one by one
+abbrev pub AreSent : List Asked → List AcceptedAccess → Type 0
+AreSent [] [] = ⊤
+AreSent (asked ∷ others) (flight ∷ flights) = (flight.access ≡ access_sent flight.frame asked) × AreSent others flights
+AreSent _ _ = ⊥
+
 -- The accesses of the device that were accepted at these events are, in order, those that were made, and then those that are in flight; and the device
 -- counts them.
 pub record WereAccepted (events : List Event) (outcomes : List Outcome) (device : Device) : Type 0 where
-  pub made : List Access
+  pub made : List Asked
+  pub waiting : List Asked
   pub as_many : length made ≡ made_in events outcomes device.id
-  pub in_order : accepted_in events outcomes device.id ≡ made ++ map (λ flight. flight.access) device.in_flight
+  pub in_order : accepted_in events outcomes device.id ≡ made ++ waiting
+  pub in_flight : AreSent waiting device.in_flight
   pub counted : device.accepted ≡ length (accepted_in events outcomes device.id)
 
 -- attached in one stage, with ATS or without
@@ -165,6 +221,15 @@ GrantsFrame events.Poll outcome frame = ⊥
 GrantsFrame events.Faults outcome frame = ⊥
 GrantsFrame (events.Read id address len) outcome frame = ⊥
 GrantsFrame (events.Write id address bytes) outcome frame = ⊥
+GrantsFrame (events.ReadTranslated id address len) outcome frame = ⊥
+GrantsFrame (events.WriteTranslated id address bytes) outcome frame = ⊥
+GrantsFrame (events.ReadThroughCache id address len) outcome frame = ⊥
+GrantsFrame (events.WriteThroughCache id address bytes) outcome frame = ⊥
+GrantsFrame (events.Ask id page) outcome frame = ⊥
+GrantsFrame (events.Forge id serial) outcome frame = ⊥
+GrantsFrame (events.Deliver place) outcome frame = ⊥
+GrantsFrame (events.Drop place) outcome frame = ⊥
+GrantsFrame (events.Repeat place) outcome frame = ⊥
 GrantsFrame (events.Commit id) outcome frame = ⊥
 GrantsFrame (events.Poke address bytes) outcome frame = ⊥
 GrantsFrame (events.Peek address len) outcome frame = ⊥
@@ -193,6 +258,15 @@ TouchesFrame old events.Poll outcome frame = ⊥
 TouchesFrame old events.Faults outcome frame = ⊥
 TouchesFrame old (events.Read id address len) outcome frame = ⊥
 TouchesFrame old (events.Write id address bytes) outcome frame = ⊥
+TouchesFrame old (events.ReadTranslated id address len) outcome frame = ⊥
+TouchesFrame old (events.WriteTranslated id address bytes) outcome frame = ⊥
+TouchesFrame old (events.ReadThroughCache id address len) outcome frame = ⊥
+TouchesFrame old (events.WriteThroughCache id address bytes) outcome frame = ⊥
+TouchesFrame old (events.Ask id page) outcome frame = ⊥
+TouchesFrame old (events.Forge id serial) outcome frame = ⊥
+TouchesFrame old (events.Deliver place) outcome frame = ⊥
+TouchesFrame old (events.Drop place) outcome frame = ⊥
+TouchesFrame old (events.Repeat place) outcome frame = ⊥
 -- the processor is no device
 TouchesFrame old (events.Poke address bytes) outcome frame = ⊥
 TouchesFrame old (events.Peek address len) outcome frame = ⊥
@@ -238,7 +312,8 @@ FreeFramesAreNotTouched =
 abbrev pub AccessesInFlightMay : Type 0
 AccessesInFlightMay = (state : State) → IsReached state → EachInFlightMay state
 
--- Every access in flight was asked for by an earlier event of its own, of its device, with that address, length and bytes, and accepted.
+-- Every access in flight was asked for by an earlier event of its own, of its device, with that address, length and bytes, and accepted; where it goes
+-- through the device's own cache, at the physical address of that one.
 abbrev pub AccessesInFlightWereAccepted : Type 0
 AccessesInFlightWereAccepted =
     (state : State) (events : List Event) (outcomes : List Outcome) → IsReachedBy events outcomes state

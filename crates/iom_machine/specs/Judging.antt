@@ -12,7 +12,14 @@ use Rattle.iom_ledger.specs.History.{History, Pair, serves, held_at, released_at
 use Rattle.iom_machine.specs.declared.state.Attachment.{Attachment}
 use Rattle.iom_machine.specs.declared.state.Attachment.TheVariants.{Detached}
 use Rattle.iom_machine.specs.declared.state.Device.{Device}
+use Rattle.iom_machine.specs.declared.choice.Choice.{Choice}
+use Rattle.iom_machine.specs.declared.event.Event.{Event}
+use Rattle.iom_machine.specs.declared.event.Event.TheVariants as events
+use Rattle.iom_machine.specs.declared.outcome.Outcome.{Outcome}
+use Rattle.iom_machine.specs.declared.state.State.{State}
+use Rattle.iom_base.specs.Accesses.{read_of, write_of}
 use Rattle.iom_machine.specs.Devices.{replaced_device}
+use Rattle.iom_machine.specs.Machine.{Plugs, Attaches, Detaches, Grants, Releases, Requests, RequestsTranslated, RequestsThroughCache}
 use Rattle.iom_machine.specs.Leaving.{has_left}
 
 -- whether the device holds the frame at the page, with such a right
@@ -26,6 +33,14 @@ still_serves history frame kind released = not (confirms history released.0) && 
 -- whether the frame lingers at the page by these entries of the whole history, with such a right
 abbrev pub lingers_for : History → History → ℕ → ℕ → AccessKind → ℕ → Bool
 lingers_for all history device page kind frame = list_any (still_serves all frame kind) (released_at history device page)
+
+-- whether it is the pair that is sought
+abbrev pub is_pair : Pair → Pair → Bool
+is_pair sought pair = (pair.0 == sought.0) && (pair.1.0 == sought.1.0)
+
+-- whether the released pair is the one that is sought, and its ticket isn't confirmed
+abbrev pub still_is : History → Pair → ℕ × Pair → Bool
+still_is history sought released = not (confirms history released.0) && is_pair sought released.1
 
 -- whether the device reaches the frame at one of the pages that these entries grant
 abbrev pub reaches_in : History → History → ℕ → ℕ → AccessKind → Bool
@@ -88,3 +103,30 @@ ListsAll found n IsOfSort =
 -- so many numbers below n are of this sort
 abbrev pub CountsAll : ℕ → ℕ → (ℕ → Type 0) → Type 0
 CountsAll count n IsOfSort = (found : List ℕ) × ListsAll found n IsOfSort × (length found ≡ count)
+
+-- the step of a call of the driver; no other event is one
+abbrev pub CallStep : Choice → State → Event → Outcome → State → Type 0
+CallStep choice old (events.Plug id kind) outcome new = Plugs old id kind outcome new
+CallStep choice old (events.Attach id mode ats) outcome new = Attaches choice.directory choice.taken old id mode ats outcome new
+CallStep choice old (events.Detach id) outcome new = Detaches old id outcome new
+CallStep choice old (events.Grant id page frame rights) outcome new = Grants choice.taken old id page frame rights outcome new
+CallStep choice old (events.Release id page) outcome new = Releases old id page outcome new
+CallStep choice old _ outcome new = ⊥
+
+-- the step of a request that the IOMMU translates; no other event is one
+abbrev pub UntranslatedStep : ℕ → State → Event → Outcome → State → Type 0
+UntranslatedStep frame old (events.Read id address len) outcome new = Requests frame old id (read_of address len) outcome new
+UntranslatedStep frame old (events.Write id address bytes) outcome new = Requests frame old id (write_of address bytes) outcome new
+UntranslatedStep frame old _ outcome new = ⊥
+
+-- the step of a request that says it is translated already; no other event is one
+abbrev pub TranslatedStep : State → Event → Outcome → State → Type 0
+TranslatedStep old (events.ReadTranslated id address len) outcome new = RequestsTranslated old id (read_of address len) outcome new
+TranslatedStep old (events.WriteTranslated id address bytes) outcome new = RequestsTranslated old id (write_of address bytes) outcome new
+TranslatedStep old _ outcome new = ⊥
+
+-- the step of an access through the device's own cache; no other event is one
+abbrev pub CachedStep : ℕ → State → Event → Outcome → State → Type 0
+CachedStep frame old (events.ReadThroughCache id address len) outcome new = RequestsThroughCache frame old id (read_of address len) outcome new
+CachedStep frame old (events.WriteThroughCache id address bytes) outcome new = RequestsThroughCache frame old id (write_of address bytes) outcome new
+CachedStep frame old _ outcome new = ⊥

@@ -3,6 +3,11 @@ pub mod Devices
 pub mod Tickets
 pub mod Refusals
 pub mod Requests
+pub mod Kinds
+pub mod Translated
+pub mod ThroughCache
+pub mod Questions
+pub mod Messages
 pub mod PowerOn
 pub mod Leaving
 pub mod Machine

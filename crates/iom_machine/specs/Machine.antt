@@ -1,9 +1,9 @@
 -- The ledger machine: what may come of each event, and the state after it.
-use Rattle.std.specs.Prelude.{◌≡◌, ◌↔◌, ℕ, ◌+◌, ◌/◌, ◌%◌, Bool, false, List, [], ◌∷◌, ◌++◌, All, Some, MatchOption, IsTrue, length, IsSomeAnd, slice_get, slice_range, drop, ⊤}
+use Rattle.std.specs.Prelude.{◌≡◌, ◌↔◌, ℕ, ◌+◌, ◌/◌, ◌%◌, Bool, true, false, List, [], ◌∷◌, ◌++◌, All, Some, MatchOption, IsTrue, length, IsSomeAnd, slice_get, slice_range, drop, ⊤}
 use Rattle.iom_base.specs.declared.access.AccessKind.TheVariants as kinds
 use Rattle.iom_base.specs.declared.grant_rights.GrantRights.{GrantRights}
 use Rattle.iom_ledger.specs.declared.entry.HistoryEntry.TheVariants as entry
-use Rattle.iom_ledger.specs.declared.refusal.Refusal.TheVariants.{NoSuchDevice}
+use Rattle.iom_ledger.specs.declared.refusal.Refusal.TheVariants.{NoSuchDevice, WrongKind}
 use Rattle.iom_ledger.specs.History.{May}
 use Rattle.iom_base.specs.GrantRights.{rights_of}
 use Rattle.iom_base.specs.Sizes.{page_size}
@@ -28,11 +28,15 @@ use Rattle.iom_machine.specs.Tickets.{AreNextTickets, with_confirmed}
 use Rattle.iom_ledger.specs.Refusals.{NoneApplies, IsRefusedBy}
 use Rattle.iom_machine.specs.Refusals.{MayRefusePlug, MayRefuseAttach, MayRefuseGrant, MayFindNoPlace, NeverElse, plug_reasons, attach_reasons, detach_reasons, grant_reasons, release_reasons, frame_reasons, poke_reasons}
 use Rattle.iom_base.specs.Accesses.{read_of, write_of, offset_of}
+use Rattle.iom_machine.specs.Kinds.{sends_untranslated, forges, sends_through_cache, asks_questions, is_any_kind}
 use Rattle.iom_machine.specs.Requests.{MayAnswer, state_after}
+use Rattle.iom_machine.specs.Translated.{MayAnswerTranslated}
+use Rattle.iom_machine.specs.ThroughCache.{MayAnswerThroughCache, state_after_cached}
+use Rattle.iom_machine.specs.Messages.{Sends, Delivers, Drops, Repeats}
 use Rattle.iom_machine.specs.Leaving.{leaving_under, with_left}
 
--- The event can come, so far: of devices raw ones alone, and of attachments those without ATS, in any mode. The steps below say what the others lead
--- to all the same; nothing that asks for this takes them yet.
+-- The event can come, so far: of devices raw ones alone, of attachments those without ATS, in any mode, and none that is for address translation
+-- services. The steps below say what the others lead to all the same; nothing that asks for this takes them yet.
 abbrev pub IsEvent : Event → Type 0
 IsEvent (events.Plug id kind) = kind ≡ Raw
 IsEvent (events.Attach id mode ats) = ats ≡ false
@@ -44,6 +48,15 @@ IsEvent events.Poll = ⊤
 IsEvent events.Faults = ⊤
 IsEvent (events.Read id address len) = ⊤
 IsEvent (events.Write id address bytes) = ⊤
+IsEvent (events.ReadTranslated id address len) = ⊥
+IsEvent (events.WriteTranslated id address bytes) = ⊥
+IsEvent (events.ReadThroughCache id address len) = ⊥
+IsEvent (events.WriteThroughCache id address bytes) = ⊥
+IsEvent (events.Ask id page) = ⊥
+IsEvent (events.Forge id serial) = ⊥
+IsEvent (events.Deliver place) = ⊥
+IsEvent (events.Drop place) = ⊥
+IsEvent (events.Repeat place) = ⊥
 IsEvent (events.Commit id) = ⊤
 IsEvent (events.Poke address bytes) = ⊤
 IsEvent (events.Peek address len) = ⊤
@@ -122,15 +135,39 @@ TakesRecord old (Record taken) new = new ≡ old
 TakesRecord old NoRecord new = new ≡ old
 TakesRecord old _ new = ⊥
 
--- A device acts; one that isn't plugged in is refused.
-abbrev pub Acts : (Device → Type 0) → State → ℕ → Outcome → State → Type 0
-Acts IfPlugged old id outcome new =
-    MatchOption (device_of old id) ((outcome ≡ Refused NoSuchDevice) × (new ≡ old)) IfPlugged
+-- what comes of an act where the device's kind can do that; where it can't, it is refused
+abbrev pub IfItCan : Bool → Type 0 → State → Outcome → State → Type 0
+IfItCan true IfAble old outcome new = IfAble
+IfItCan false IfAble old outcome new = (outcome ≡ Refused WrongKind) × (new ≡ old)
+
+-- A device acts. One that isn't plugged in is refused, and then one of a kind that can't do that.
+abbrev pub Acts : (DeviceKind → Bool) → (Device → Type 0) → State → ℕ → Outcome → State → Type 0
+Acts can IfAble old id outcome new =
+    MatchOption (device_of old id) ((outcome ≡ Refused NoSuchDevice) × (new ≡ old))
+    (λ device. IfItCan (can device.kind) (IfAble device) old outcome new)
 
 -- A device asks for an access. Where it is accepted, that is on the frame.
 abbrev pub Requests : ℕ → State → ℕ → Access → Outcome → State → Type 0
-Requests frame old id access outcome new = Acts (λ device.
+Requests frame old id access outcome new = Acts sends_untranslated (λ device.
     MayAnswer old device access frame outcome × (new ≡ state_after old device access frame outcome)) old id outcome new
+
+-- A device asks for an access at a physical address: its request says that it is translated already.
+abbrev pub RequestsTranslated : State → ℕ → Access → Outcome → State → Type 0
+RequestsTranslated old id access outcome new = Acts forges (λ device.
+    MayAnswerTranslated old device access outcome × (new ≡ old)) old id outcome new
+
+-- A device has an access through its own cache. Where it is accepted, that is on the frame.
+abbrev pub RequestsThroughCache : ℕ → State → ℕ → Access → Outcome → State → Type 0
+RequestsThroughCache frame old id access outcome new = Acts sends_through_cache (λ device.
+    MayAnswerThroughCache old device access frame outcome × (new ≡ state_after_cached old device access frame outcome)) old id outcome new
+
+-- A device asks for the translation of a page.
+abbrev pub Asks : State → ℕ → Outcome → State → Type 0
+Asks old id outcome new = Acts asks_questions (λ device. Sends old outcome new) old id outcome new
+
+-- A device says that an invalidation is done.
+abbrev pub Forges : State → ℕ → Outcome → State → Type 0
+Forges old id outcome new = Acts forges (λ device. Sends old outcome new) old id outcome new
 
 -- the state, where the oldest access of the device is in flight no more
 abbrev pub with_oldest_made : State → Device → State
@@ -160,7 +197,7 @@ Makes old device _ new = ⊥
 
 -- The oldest accepted access of a device is made.
 abbrev pub Commits : State → ℕ → Outcome → State → Type 0
-Commits old id outcome new = Acts (λ device. Makes old device outcome new) old id outcome new
+Commits old id outcome new = Acts is_any_kind (λ device. Makes old device outcome new) old id outcome new
 
 -- The processor writes bytes, within one frame that isn't reserved.
 abbrev pub Pokes : State → ℕ → List ℕ → Outcome → State → Type 0
@@ -206,6 +243,15 @@ ChosenStep choice old events.Poll outcome new = Polls old outcome new
 ChosenStep choice old events.Faults outcome new = TakesRecord old outcome new
 ChosenStep choice old (events.Read id address len) outcome new = Requests choice.frame old id (read_of address len) outcome new
 ChosenStep choice old (events.Write id address bytes) outcome new = Requests choice.frame old id (write_of address bytes) outcome new
+ChosenStep choice old (events.ReadTranslated id address len) outcome new = RequestsTranslated old id (read_of address len) outcome new
+ChosenStep choice old (events.WriteTranslated id address bytes) outcome new = RequestsTranslated old id (write_of address bytes) outcome new
+ChosenStep choice old (events.ReadThroughCache id address len) outcome new = RequestsThroughCache choice.frame old id (read_of address len) outcome new
+ChosenStep choice old (events.WriteThroughCache id address bytes) outcome new = RequestsThroughCache choice.frame old id (write_of address bytes) outcome new
+ChosenStep choice old (events.Ask id page) outcome new = Asks old id outcome new
+ChosenStep choice old (events.Forge id serial) outcome new = Forges old id outcome new
+ChosenStep choice old (events.Deliver place) outcome new = Delivers choice.device choice.page old outcome new
+ChosenStep choice old (events.Drop place) outcome new = Drops old outcome new
+ChosenStep choice old (events.Repeat place) outcome new = Repeats old outcome new
 ChosenStep choice old (events.Commit id) outcome new = Commits old id outcome new
 ChosenStep choice old (events.Poke address bytes) outcome new = Pokes old address bytes outcome new
 ChosenStep choice old (events.Peek address len) outcome new = Peeks old address len outcome new

@@ -1,4 +1,4 @@
-use iom_base::Sequence;
+use iom_base::{DeviceId, Sequence};
 
 /// What a step leaves free and its outcome doesn't show.
 #[derive(Drop)]
@@ -9,4 +9,8 @@ pub struct Choice {
     pub taken: Sequence<u32>,
     /// The frame on which a request was accepted.
     pub frame: u32,
+    /// The device whose question a delivery answered.
+    pub device: DeviceId,
+    /// The page that it asked for.
+    pub page: u64,
 }

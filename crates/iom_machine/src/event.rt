@@ -1,5 +1,6 @@
 use crate::state::DeviceKind;
 use iom_base::{DeviceId, GrantRights, Mode, Sequence};
+use iom_fabric::PageNumber;
 
 /// One thing that happens: a call of the driver, an act of a device or a step of the IOMMU.
 #[derive(Drop)]
@@ -48,6 +49,54 @@ pub enum Event {
         device: DeviceId,
         address: u64,
         bytes: Sequence<u8>,
+    },
+    /// The device asks to read so many bytes at the physical address: its request says that it is
+    /// translated already (address translation services, PCI Express Base Specification, chapter 10).
+    ReadTranslated {
+        device: DeviceId,
+        address: u64,
+        len: u64,
+    },
+    /// The device asks so to write the bytes at the physical address.
+    WriteTranslated {
+        device: DeviceId,
+        address: u64,
+        bytes: Sequence<u8>,
+    },
+    /// The device reads so many bytes at the address through its own cache of translations.
+    ReadThroughCache {
+        device: DeviceId,
+        address: u64,
+        len: u64,
+    },
+    /// The device writes the bytes at the address through its own cache of translations.
+    WriteThroughCache {
+        device: DeviceId,
+        address: u64,
+        bytes: Sequence<u8>,
+    },
+    /// The device asks for the translation of the page (a Translation Request).
+    Ask {
+        device: DeviceId,
+        page: PageNumber,
+    },
+    /// The device says that it did what the request to invalidate with this number asked (an Invalidate
+    /// Completion), whatever it did.
+    Forge {
+        device: DeviceId,
+        serial: u64,
+    },
+    /// The message at the place, counted from 0, is delivered.
+    Deliver {
+        place: u64,
+    },
+    /// The message at the place is lost.
+    Drop {
+        place: u64,
+    },
+    /// A copy of the message at the place is sent.
+    Repeat {
+        place: u64,
     },
     /// The oldest accepted access of the device is made.
     Commit {

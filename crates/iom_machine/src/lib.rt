@@ -4,15 +4,18 @@
 //! frames with their owners and bytes, and the devices with their accesses in flight. `specs/` says
 //! which steps are lawful: `Machine.antt` has one relation for each event, and so says when the
 //! frames of a device that leaves come back; `Refusals.antt` has the reasons of each refusal, in
-//! their order; `Requests.antt` what a request may be answered, of a page that lingers too. The
-//! layers above are proved to take lawful steps alone, and the laws of this crate say what every
-//! run of lawful steps has.
+//! their order; `Requests.antt` what a request may be answered, of a page that lingers too;
+//! `Questions.antt` what a device may be told that asks for a translation, and `ThroughCache.antt`
+//! what may come of an access through its cache (address translation services: PCI Express Base
+//! Specification, chapter 10). The layers above are proved to take lawful steps alone, and the laws
+//! of this crate say what every run of lawful steps has.
 #![tactic(auto)]
 
 mod choice;
 mod decide;
 mod event;
 mod headline;
+mod kinds;
 mod laws;
 mod line;
 mod outcome;

@@ -1,5 +1,6 @@
 use arrayvec::ArrayVec;
 use iom_base::Cause;
+use iom_fabric::Translation;
 use iom_ledger::Refusal;
 
 /// A command of the IOMMU's command queue, by its name.
@@ -58,6 +59,35 @@ pub enum Outcome {
     BadSpan,
     /// The access is refused.
     Fault(Cause),
+    /// The device's own cache has no translation that lets the access through.
+    Miss,
+    /// The message is under way.
+    Sent,
+    /// The message is lost: there was no room for it.
+    Lost,
+    /// A question was delivered, and is answered so.
+    Answered(Translation),
+    /// An answer was delivered, and the device keeps its translation.
+    Kept,
+    /// An answer was delivered, to a question that is older than what the device last dropped.
+    Stale,
+    /// An answer was delivered that has no translation.
+    AnswerRefused,
+    /// An answer or a request to invalidate was delivered to a device without a cache.
+    Ignored,
+    /// A request to invalidate with this number was delivered, and the device dropped what it names.
+    Invalidated(u64),
+    /// The word that the request to invalidate with this number is done was delivered: it was open for
+    /// that device, and is closed.
+    Closed(u64),
+    /// Such a word was delivered, and no such request is open for that device.
+    NotClosed(u64),
+    /// The message is lost.
+    Dropped,
+    /// A copy of the message is under way.
+    Repeated,
+    /// There is no such message.
+    NoMessage,
     /// A read was made, and gave these bytes.
     Read(ArrayVec<u8, 4096>),
     /// A write of so many bytes was made.

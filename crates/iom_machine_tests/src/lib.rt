@@ -7,6 +7,8 @@
 #![tactic(auto)]
 
 #[cfg(test)]
+mod ats;
+#[cfg(test)]
 mod expect;
 #[cfg(test)]
 mod lines;

@@ -1,7 +1,8 @@
 // Lists of lines, as the tests write them, for the judge.
 use crate::expect::expect_eq;
 use arrayvec::ArrayVec;
-use iom_base::{Cause, DeviceId, GrantRights, Mode, Sequence};
+use iom_base::{Cause, DeviceId, GrantRights, Mode, Rights, Sequence};
+use iom_fabric::{PageNumber, Translation};
 use iom_ledger::Refusal;
 use iom_machine::{
     Choice, DeviceKind, Event, FaultRecord, Fetched, Line, Outcome, Verdict, judge_run, power_on,
@@ -10,15 +11,28 @@ use std::alloc::Global;
 use std::process::Abort;
 use std::test::Fail;
 
+/// Another way of a request to memory than through the translation of the IOMMU.
+#[derive(Clone, Copy)]
+pub(crate) enum Way {
+    /// The request says that it is translated already.
+    Translated,
+    /// Through the device's own cache.
+    Cached,
+}
+
 /// An event as the tests write it, with the frames that the driver takes for its tables.
 #[derive(Clone, Copy)]
 pub(crate) enum Does<'a> {
     Plug(DeviceId),
+    /// As a device with a cache.
+    PlugAts(DeviceId),
     Attach(DeviceId, &'a [u32]),
     /// The first frames become pages of the device directory.
     AttachBelow(DeviceId, &'a [u32], &'a [u32]),
     /// In the mode.
     AttachIn(DeviceId, Mode, &'a [u32]),
+    /// In the mode, with ATS.
+    AttachAts(DeviceId, Mode, &'a [u32]),
     Detach(DeviceId),
     Grant(DeviceId, u64, u64, GrantRights, &'a [u32]),
     Release(DeviceId, u64),
@@ -27,13 +41,21 @@ pub(crate) enum Does<'a> {
     Faults,
     Read(DeviceId, u64, u64),
     Write(DeviceId, u64, &'a [u8]),
+    ReadBy(Way, DeviceId, u64, u64),
+    WriteBy(Way, DeviceId, u64, &'a [u8]),
+    Ask(DeviceId, u64),
+    Forge(DeviceId, u64),
+    Deliver(u64),
+    Drop(u64),
+    Repeat(u64),
     Commit(DeviceId),
     Poke(u64, &'a [u8]),
     Peek(u64, u64),
     Free(u64),
 }
 
-/// An outcome as the tests write it; of an acceptance also the frame.
+/// An outcome as the tests write it; of an acceptance also the frame, and of an answer to a question whose it
+/// was, and of which page.
 #[derive(Clone, Copy)]
 pub(crate) enum Comes<'a> {
     Done,
@@ -48,6 +70,23 @@ pub(crate) enum Comes<'a> {
     Busy,
     BadSpan,
     Fault(Cause),
+    Miss,
+    Sent,
+    Lost,
+    /// The frame and the right.
+    Told(DeviceId, u64, u32, Rights),
+    /// That there is none, and why.
+    ToldNone(DeviceId, u64, Cause),
+    Kept,
+    Stale,
+    AnswerRefused,
+    Ignored,
+    Invalidated(u64),
+    Closed(u64),
+    NotClosed(u64),
+    Dropped,
+    Repeated,
+    NoMessage,
     Read(&'a [u8]),
     Wrote(u64),
     Nothing,
@@ -71,51 +110,112 @@ fn numbers_of(alloc: Global, numbers: &[u32]) -> Result<Sequence<u32>, Fail> {
     Ok(made)
 }
 
-fn attach(device: DeviceId, mode: Mode) -> Event {
-    Event::Attach {
-        device,
-        mode,
-        ats: false,
-    }
+fn plug(device: DeviceId, kind: DeviceKind) -> Event {
+    Event::Plug { device, kind }
 }
 
-fn event_of(alloc: Global, does: &Does) -> Result<Event, Fail> {
-    Ok(match *does {
-        Does::Plug(device) => Event::Plug {
-            device,
-            kind: DeviceKind::Raw,
-        },
-        Does::Attach(device, _) => attach(device, Mode::First),
-        Does::AttachBelow(device, _, _) => attach(device, Mode::First),
-        Does::AttachIn(device, mode, _) => attach(device, mode),
-        Does::Detach(device) => Event::Detach { device },
-        Does::Grant(device, page, frame, rights, _) => Event::Grant {
+fn attach(device: DeviceId, mode: Mode, ats: bool) -> Event {
+    Event::Attach { device, mode, ats }
+}
+
+/// The call of the driver, if it is one.
+fn call_of(does: &Does) -> Option<Event> {
+    match *does {
+        Does::Plug(device) => Some(plug(device, DeviceKind::Raw)),
+        Does::PlugAts(device) => Some(plug(device, DeviceKind::Ats)),
+        Does::Attach(device, _) => Some(attach(device, Mode::First, false)),
+        Does::AttachBelow(device, _, _) => Some(attach(device, Mode::First, false)),
+        Does::AttachIn(device, mode, _) => Some(attach(device, mode, false)),
+        Does::AttachAts(device, mode, _) => Some(attach(device, mode, true)),
+        Does::Detach(device) => Some(Event::Detach { device }),
+        Does::Grant(device, page, frame, rights, _) => Some(Event::Grant {
             device,
             page,
             frame,
             rights,
-        },
-        Does::Release(device, page) => Event::Release { device, page },
-        Does::Fetch => Event::Fetch,
-        Does::Poll => Event::Poll,
-        Does::Faults => Event::Faults,
-        Does::Read(device, address, len) => Event::Read {
+        }),
+        Does::Release(device, page) => Some(Event::Release { device, page }),
+        _ => None,
+    }
+}
+
+fn read_by(way: Way, device: DeviceId, address: u64, len: u64) -> Event {
+    match way {
+        Way::Translated => Event::ReadTranslated {
             device,
             address,
             len,
         },
-        Does::Write(device, address, bytes) => Event::Write {
+        Way::Cached => Event::ReadThroughCache {
+            device,
+            address,
+            len,
+        },
+    }
+}
+
+fn write_by(way: Way, device: DeviceId, address: u64, bytes: Sequence<u8>) -> Event {
+    match way {
+        Way::Translated => Event::WriteTranslated {
+            device,
+            address,
+            bytes,
+        },
+        Way::Cached => Event::WriteThroughCache {
+            device,
+            address,
+            bytes,
+        },
+    }
+}
+
+fn ask(device: DeviceId, number: u64) -> Option<Event> {
+    let page = PageNumber::new(number)?;
+    Some(Event::Ask { device, page })
+}
+
+/// What a device or the fabric does, if it is that.
+fn act_of(alloc: Global, does: &Does) -> Result<Option<Event>, Fail> {
+    Ok(match *does {
+        Does::Read(device, address, len) => Some(Event::Read {
+            device,
+            address,
+            len,
+        }),
+        Does::Write(device, address, bytes) => Some(Event::Write {
             device,
             address,
             bytes: bytes_of(alloc, bytes)?,
-        },
-        Does::Commit(device) => Event::Commit { device },
+        }),
+        Does::ReadBy(way, device, address, len) => Some(read_by(way, device, address, len)),
+        Does::WriteBy(way, device, address, bytes) => {
+            Some(write_by(way, device, address, bytes_of(alloc, bytes)?))
+        }
+        Does::Ask(device, page) => ask(device, page),
+        Does::Forge(device, serial) => Some(Event::Forge { device, serial }),
+        Does::Deliver(place) => Some(Event::Deliver { place }),
+        Does::Drop(place) => Some(Event::Drop { place }),
+        Does::Repeat(place) => Some(Event::Repeat { place }),
+        Does::Commit(device) => Some(Event::Commit { device }),
+        _ => None,
+    })
+}
+
+fn event_of(alloc: Global, does: &Does) -> Result<Event, Fail> {
+    if let Some(act) = act_of(alloc, does)? {
+        return Ok(act);
+    }
+    Ok(match *does {
+        Does::Fetch => Event::Fetch,
+        Does::Poll => Event::Poll,
+        Does::Faults => Event::Faults,
         Does::Poke(address, bytes) => Event::Poke {
             address,
             bytes: bytes_of(alloc, bytes)?,
         },
         Does::Peek(address, len) => Event::Peek { address, len },
         Does::Free(frame) => Event::Free { frame },
+        _ => call_of(does).ok_or("an event")?,
     })
 }
 
@@ -142,6 +242,21 @@ fn outcome_of(comes: &Comes) -> Outcome {
         Comes::Busy => Outcome::Busy,
         Comes::BadSpan => Outcome::BadSpan,
         Comes::Fault(cause) => Outcome::Fault(cause),
+        Comes::Miss => Outcome::Miss,
+        Comes::Sent => Outcome::Sent,
+        Comes::Lost => Outcome::Lost,
+        Comes::Told(_, _, frame, rights) => Outcome::Answered(Translation::Page { frame, rights }),
+        Comes::ToldNone(_, _, cause) => Outcome::Answered(Translation::Refused(cause)),
+        Comes::Kept => Outcome::Kept,
+        Comes::Stale => Outcome::Stale,
+        Comes::AnswerRefused => Outcome::AnswerRefused,
+        Comes::Ignored => Outcome::Ignored,
+        Comes::Invalidated(serial) => Outcome::Invalidated(serial),
+        Comes::Closed(serial) => Outcome::Closed(serial),
+        Comes::NotClosed(serial) => Outcome::NotClosed(serial),
+        Comes::Dropped => Outcome::Dropped,
+        Comes::Repeated => Outcome::Repeated,
+        Comes::NoMessage => Outcome::NoMessage,
         Comes::Read(bytes) => Outcome::Read(few(bytes)),
         Comes::Wrote(len) => Outcome::Wrote(len),
         Comes::Nothing => Outcome::NothingInFlight,
@@ -156,6 +271,7 @@ fn taken_by<'a>(does: &Does<'a>) -> &'a [u32] {
         Does::Attach(_, taken) => taken,
         Does::AttachBelow(_, _, taken) => taken,
         Does::AttachIn(_, _, taken) => taken,
+        Does::AttachAts(_, _, taken) => taken,
         Does::Grant(_, _, _, _, taken) => taken,
         _ => &[],
     }
@@ -176,11 +292,23 @@ fn frame_of(comes: &Comes) -> u32 {
     }
 }
 
+/// Whose question it was, and of which page.
+fn question_of(comes: &Comes) -> (DeviceId, u64) {
+    match *comes {
+        Comes::Told(device, page, _, _) => (device, page),
+        Comes::ToldNone(device, page, _) => (device, page),
+        _ => (0, 0),
+    }
+}
+
 fn choice_of(alloc: Global, does: &Does, comes: &Comes) -> Result<Choice, Fail> {
+    let (device, page) = question_of(comes);
     Ok(Choice {
         directory: numbers_of(alloc, directory_of(does))?,
         taken: numbers_of(alloc, taken_by(does))?,
         frame: frame_of(comes),
+        device,
+        page,
     })
 }
 

@@ -1,6 +1,7 @@
 use crate::expect::{expect, expect_eq};
 use arrayvec::ArrayVec;
-use iom_base::{Cause, GrantRights, Mode};
+use iom_base::{Cause, GrantRights, Mode, Rights};
+use iom_fabric::Translation;
 use iom_ledger::Refusal;
 use iom_machine::{CommandName, Event, FaultRecord, Fetched, Outcome};
 use iom_script::{LineBuffer, ScriptFault, WorldSize, parse};
@@ -92,6 +93,44 @@ fn lines_tell_what_hardware_does(rt: HostRuntime) -> Result<(), Fail> {
     is_told(&rt, &mut out, &Outcome::Wrote(4096), b"wrote 4096\n");
     is_told(&rt, &mut out, &Outcome::NothingInFlight, b"none\n");
     is_told(&rt, &mut out, &Outcome::Bytes(shown), b"bytes 00af\n");
+    Ok(())
+}
+
+#[test]
+fn lines_tell_what_devices_with_caches_are_answered(rt: HostRuntime) -> Result<(), Fail> {
+    let mut out = LineBuffer::new(rt.alloc())?;
+    let read = Outcome::Answered(Translation::Page {
+        frame: u32::MAX,
+        rights: Rights::R,
+    });
+    let both = Outcome::Answered(Translation::Page {
+        frame: 5,
+        rights: Rights::RW,
+    });
+    let none = Outcome::Answered(Translation::Refused(Cause::TransactionTypeDisallowed));
+    is_told(&rt, &mut out, &Outcome::Miss, b"miss\n");
+    is_told(&rt, &mut out, &read, b"answer 4294967295 r\n");
+    is_told(&rt, &mut out, &both, b"answer 5 rw\n");
+    is_told(&rt, &mut out, &none, b"answer fault 260\n");
+    is_told(&rt, &mut out, &Outcome::Kept, b"kept\n");
+    is_told(&rt, &mut out, &Outcome::Stale, b"stale\n");
+    is_told(&rt, &mut out, &Outcome::AnswerRefused, b"refusal\n");
+    is_told(&rt, &mut out, &Outcome::Ignored, b"ignored\n");
+    Ok(())
+}
+
+#[test]
+fn lines_tell_what_becomes_of_messages(rt: HostRuntime) -> Result<(), Fail> {
+    let mut out = LineBuffer::new(rt.alloc())?;
+    let last = Outcome::Closed(u64::MAX);
+    is_told(&rt, &mut out, &Outcome::Sent, b"sent\n");
+    is_told(&rt, &mut out, &Outcome::Lost, b"lost\n");
+    is_told(&rt, &mut out, &Outcome::Invalidated(1), b"invalidated 1\n");
+    is_told(&rt, &mut out, &last, b"closed 18446744073709551615\n");
+    is_told(&rt, &mut out, &Outcome::NotClosed(0), b"ignored 0\n");
+    is_told(&rt, &mut out, &Outcome::Dropped, b"dropped\n");
+    is_told(&rt, &mut out, &Outcome::Repeated, b"repeated\n");
+    is_told(&rt, &mut out, &Outcome::NoMessage, b"none\n");
     Ok(())
 }
 

@@ -58,6 +58,8 @@ impl Choices {
             directory,
             taken,
             frame: step.frame.unwrap_or(0),
+            device: 0,
+            page: 0,
         })
     }
 }

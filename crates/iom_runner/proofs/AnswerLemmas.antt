@@ -3,19 +3,20 @@ use Rattle.std.proofs.Common.{◌≡◌, ◌≢◌, ◌+◌, ◌%◌, ◌≤◌,
 use Rattle.std.proofs.lemmas.Bool.{cases_lt}
 use Rattle.std.proofs.lemmas.List.Elements.{All-nil}
 use Rattle.iom_base.specs.Causes.{page_fault_of, guest_page_fault_of}
+use Rattle.iom_base.specs.declared.cause.Cause.TheVariants.{TransactionTypeDisallowed}
 use Rattle.iom_base.specs.Rights.{allows}
 use Rattle.iom_base.specs.declared.grant_rights.GrantRights.{GrantRights}
 use Rattle.iom_base.specs.declared.rights.Rights.{Rights}
 use Rattle.iom_base.specs.GrantRights.{rights_of}
 use Rattle.iom_ledger.specs.declared.entry.HistoryEntry.TheVariants as entry
 use Rattle.iom_ledger.specs.declared.refusal.Refusal.{Refusal}
-use Rattle.iom_ledger.specs.declared.refusal.Refusal.TheVariants.{NoSuchDevice}
+use Rattle.iom_ledger.specs.declared.refusal.Refusal.TheVariants.{NoSuchDevice, WrongKind}
 use Rattle.iom_ledger.specs.History.{Pair, held_at}
 use Rattle.iom_machine.specs.declared.event.Event.{Event}
 use Rattle.iom_machine.specs.declared.event.Event.TheVariants as events
 use Rattle.iom_machine.specs.declared.outcome.Fetched.TheVariants.{Empty}
 use Rattle.iom_machine.specs.declared.outcome.Outcome.{Outcome}
-use Rattle.iom_machine.specs.declared.outcome.Outcome.TheVariants.{Done, Refused, Ticket, NoneConfirmed, NoRecord, Fetched, Accepted, Busy, BadSpan, Fault}
+use Rattle.iom_machine.specs.declared.outcome.Outcome.TheVariants.{Done, Refused, Ticket, NoneConfirmed, NoRecord, Fetched, Accepted, Busy, BadSpan, Fault, Miss, Lost, NoMessage}
 use Rattle.iom_base.specs.declared.access.Access.{Access}
 use Rattle.iom_machine.specs.declared.state.Attachment.{Attachment}
 use Rattle.iom_machine.specs.declared.state.Attachment.TheVariants.{Detached, Attached, Quarantined, Leaving}
@@ -27,13 +28,17 @@ use Rattle.iom_machine.specs.Devices.{device_of, with_device}
 use Rattle.iom_machine.specs.Frames.{IsFree}
 use Rattle.iom_machine.specs.Headline.{IsReached}
 use Rattle.iom_machine.specs.Leaving.{leaving_under}
-use Rattle.iom_machine.specs.Machine.{Step, Requests, Run, plugged_device}
+use Rattle.iom_machine.specs.Kinds.{sends_untranslated, forges, sends_through_cache, asks_questions}
+use Rattle.iom_machine.specs.Machine.{Step, Acts, Requests, RequestsTranslated, RequestsThroughCache, Run, plugged_device}
+use Rattle.iom_machine.specs.Messages.{Sends}
 use Rattle.iom_machine.specs.PowerOn.{opening}
 use Rattle.iom_machine.specs.declared.state.DeviceKind.{DeviceKind}
 use Rattle.iom_ledger.specs.Refusals.{first_that_applies, IsRefusedBy}
 use Rattle.iom_machine.specs.Refusals.{MayRefusePlug, MayRefuseAttach, MayRefuseGrant, MayFindNoPlace, plug_reasons, attach_reasons, detach_reasons, grant_reasons, release_reasons}
-use Rattle.iom_base.specs.Accesses.{read_of, write_of, page_of}
-use Rattle.iom_machine.specs.Requests.{cause_without_context, HoldsFor, HoldsNoneFor, MayAccept, MayFault, MayAnswer, IsForwarded, state_after}
+use Rattle.iom_base.specs.Accesses.{read_of, write_of, page_of, IsWithinPage}
+use Rattle.iom_machine.specs.Requests.{cause_without_context, HoldsFor, HoldsNoneFor, MayAccept, MayFault, MayAnswer, IsBusy, IsForwarded, state_after}
+use Rattle.iom_machine.specs.ThroughCache.{MayAnswerThroughCache, state_after_cached}
+use Rattle.iom_machine.specs.Translated.{MayAnswerTranslated}
 use Rattle.iom_machine.proofs.HeadlineLemmas.{commits_are_answered}
 use Rattle.iom_machine.proofs.ProcessorLemmas.{poke_is_answered, peek_is_answered, free_is_answered}
 use Rattle.iom_world.proofs.RunLemmas.{no_choice, frame_chosen, run_more}
@@ -105,9 +110,13 @@ detach_is_answered state id = found (device_of state id) refl
     found None absent = (Refused NoSuchDevice, state, (no_choice, (refused_first (detach_reasons state id) MayFindNoPlace NoSuchDevice (rw absent refl), refl)))
     found (Some device) there = by device there (first_that_applies (detach_reasons state id)) refl
 
--- the answer to a request, with the frame where it is accepted
+-- an answer that may come, with the frame where it is that the access is accepted
+abbrev Reply : (ℕ → Outcome → Type 0) → Type 0
+Reply MayCome = (frame : ℕ) × (outcome : Outcome) × MayCome frame outcome
+
+-- the answer to a request
 abbrev HasReply : State → Device → Access → Type 0
-HasReply state device access = (frame : ℕ) × (outcome : Outcome) × MayAnswer state device access frame outcome
+HasReply state device access = Reply (MayAnswer state device access)
 
 same_right : (frame other : ℕ) (rights others : Rights) → ◌≡◌ {A = Option Pair} (Some (frame, rights)) (Some (other, others)) → rights ≡ others
 same_right frame other rights others same = ap (λ (o : Option Pair). (unwrap_or o (frame, rights)).1) same
@@ -152,27 +161,77 @@ forwarded_reply state device access forwarded (Quarantined ticket mode ats) is =
 forwarded_reply state device access forwarded (Leaving ticket mode ats) is =
     without_context state device access forwarded (subst (λ a. MayFault a state device.id access (cause_without_context state device.id)) (sym is) (inl refl))
 
-reply : (state : State) (device : Device) (access : Access) → HasReply state device access
-reply state device access =
+-- an access leaves its page, or is one too many, or is forwarded
+reply_by : (MayCome : ℕ → Outcome → Type 0) (device : Device) (access : Access) → (¬ IsWithinPage access → MayCome 0 BadSpan)
+    → (IsWithinPage access → IsBusy device.in_flight → MayCome 0 Busy) → (IsForwarded device.in_flight access.address access.len → Reply MayCome) → Reply MayCome
+reply_by MayCome device access bad busy forwarded =
     elim (cases_lt access.len 1) [
-      | inl empty ↦ (0, BadSpan, λ within. let some : 1 ≤ access.len = within.0 in omega arith)
+      | inl empty ↦ (0, BadSpan, bad (λ within. let some : 1 ≤ access.len = within.0 in omega arith))
       | inr some ↦ elim (cases_lt 4096 (access.address % 4096 + access.len)) [
-        | inl past ↦ (0, BadSpan, λ within. let fits : access.address % 4096 + access.len ≤ 4096 = within.1 in omega arith)
+        | inl past ↦ (0, BadSpan, bad (λ within. let fits : access.address % 4096 + access.len ≤ 4096 = within.1 in omega arith))
         | inr fits ↦ elim (cases_lt (length device.in_flight) 8) [
-          | inl room ↦ forwarded_reply state device access ((some, fits), λ busy. let full : 8 ≤ length device.in_flight = busy in omega arith) device.attachment refl
-          | inr busy ↦ (0, Busy, ((some, fits), busy))
+          | inl room ↦ forwarded ((some, fits), λ full. let many : 8 ≤ length device.in_flight = full in omega arith)
+          | inr full ↦ (0, Busy, busy (some, fits) full)
         ]
       ]
     ]
 
-request_is_answered : (state : State) (id : ℕ) (access : Access) → (frame : ℕ) × (outcome : Outcome) × (new : State) × Requests frame state id access outcome new
-request_is_answered state id access = by (device_of state id) refl
+reply : (state : State) (device : Device) (access : Access) → HasReply state device access
+reply state device access =
+    reply_by (MayAnswer state device access) device access (λ bad. bad) (λ within busy. (within, busy))
+    (λ forwarded. forwarded_reply state device access forwarded device.attachment refl)
+
+-- what is translated already is never let through
+translated_reply : (state : State) (device : Device) (access : Access) → Reply (λ frame. MayAnswerTranslated state device access)
+translated_reply state device access =
+    reply_by (λ frame. MayAnswerTranslated state device access) device access (λ bad. bad) (λ within busy. (within, busy))
+    (λ forwarded. (0, Fault TransactionTypeDisallowed, (forwarded, inl refl)))
+
+-- a cache need not have anything
+cached_reply : (state : State) (device : Device) (access : Access) → Reply (MayAnswerThroughCache state device access)
+cached_reply state device access =
+    reply_by (MayAnswerThroughCache state device access) device access (λ bad. bad) (λ within busy. (within, busy)) (λ forwarded. (0, Miss, forwarded))
+
+-- an answer and a state that may come, with the frame
+abbrev Comes : (ℕ → Outcome → State → Type 0) → Type 0
+Comes MayCome = (frame : ℕ) × (outcome : Outcome) × (new : State) × MayCome frame outcome new
+
+-- an answer to an act of devices of some kinds
+abbrev ActComes : (DeviceKind → Bool) → (Device → ℕ → Outcome → State → Type 0) → State → ℕ → Type 0
+ActComes can MayCome state id = Comes (λ frame outcome new. Acts can (λ device. MayCome device frame outcome new) state id outcome new)
+
+-- such an act is answered, where it is for each device
+act_is_answered : (can : DeviceKind → Bool) (MayCome : Device → ℕ → Outcome → State → Type 0) (state : State) (id : ℕ) → ((device : Device) → Comes (MayCome device))
+    → ActComes can MayCome state id
+act_is_answered can MayCome state id able = by (device_of state id) refl
   where
-    by : (found : Option Device) → device_of state id ≡ found → (frame : ℕ) × (outcome : Outcome) × (new : State) × Requests frame state id access outcome new
+    of_kind : (device : Device) → device_of state id ≡ Some device → (b : Bool) → can device.kind ≡ b → ActComes can MayCome state id
+    of_kind device there true can_it = let told = able device in (told.0, told.1, told.2, rw (there, can_it) told.3)
+    of_kind device there false cannot = (0, Refused WrongKind, state, rw (there, cannot) (refl, refl))
+
+    by : (found : Option Device) → device_of state id ≡ found → ActComes can MayCome state id
     by None absent = (0, Refused NoSuchDevice, state, rw absent (refl, refl))
-    by (Some device) there =
-        let told = reply state device access in
-        (told.0, told.1, state_after state device access told.0 told.1, rw there (told.2, refl))
+    by (Some device) there = of_kind device there (can device.kind) refl
+
+request_is_answered : (state : State) (id : ℕ) (access : Access) → Comes (λ frame outcome new. Requests frame state id access outcome new)
+request_is_answered state id access =
+    act_is_answered sends_untranslated (λ device frame outcome new. MayAnswer state device access frame outcome × (new ≡ state_after state device access frame outcome)) state id
+    (λ device. let told = reply state device access in (told.0, told.1, state_after state device access told.0 told.1, (told.2, refl)))
+
+translated_is_answered : (state : State) (id : ℕ) (access : Access) → Comes (λ frame. RequestsTranslated state id access)
+translated_is_answered state id access =
+    act_is_answered forges (λ device frame outcome new. MayAnswerTranslated state device access outcome × (new ≡ state)) state id
+    (λ device. let told = translated_reply state device access in (told.0, told.1, state, (told.2, refl)))
+
+cached_is_answered : (state : State) (id : ℕ) (access : Access) → Comes (λ frame outcome new. RequestsThroughCache frame state id access outcome new)
+cached_is_answered state id access =
+    act_is_answered sends_through_cache
+    (λ device frame outcome new. MayAnswerThroughCache state device access frame outcome × (new ≡ state_after_cached state device access frame outcome)) state id
+    (λ device. let told = cached_reply state device access in (told.0, told.1, state_after_cached state device access told.0 told.1, (told.2, refl)))
+
+-- a message may be lost
+message_is_answered : (can : DeviceKind → Bool) (state : State) (id : ℕ) → Comes (λ frame outcome new. Acts can (λ device. Sends state outcome new) state id outcome new)
+message_is_answered can state id = act_is_answered can (λ device frame outcome new. Sends state outcome new) state id (λ device. (0, Lost, state, refl))
 
 -- every event is answered
 is_answered : (state : State) (event : Event) → IsReached state → IsAnswered state event
@@ -188,6 +247,19 @@ is_answered state (events.Read id address len) reached =
     let told = request_is_answered state id (read_of address len) in (told.1, told.2, (frame_chosen told.0, told.3))
 is_answered state (events.Write id address bytes) reached =
     let told = request_is_answered state id (write_of address bytes) in (told.1, told.2, (frame_chosen told.0, told.3))
+is_answered state (events.ReadTranslated id address len) reached =
+    let told = translated_is_answered state id (read_of address len) in (told.1, told.2, (no_choice, told.3))
+is_answered state (events.WriteTranslated id address bytes) reached =
+    let told = translated_is_answered state id (write_of address bytes) in (told.1, told.2, (no_choice, told.3))
+is_answered state (events.ReadThroughCache id address len) reached =
+    let told = cached_is_answered state id (read_of address len) in (told.1, told.2, (frame_chosen told.0, told.3))
+is_answered state (events.WriteThroughCache id address bytes) reached =
+    let told = cached_is_answered state id (write_of address bytes) in (told.1, told.2, (frame_chosen told.0, told.3))
+is_answered state (events.Ask id page) reached = let told = message_is_answered asks_questions state id in (told.1, told.2, (no_choice, told.3))
+is_answered state (events.Forge id serial) reached = let told = message_is_answered forges state id in (told.1, told.2, (no_choice, told.3))
+is_answered state (events.Deliver place) reached = (NoMessage, state, (no_choice, refl))
+is_answered state (events.Drop place) reached = (NoMessage, state, (no_choice, refl))
+is_answered state (events.Repeat place) reached = (NoMessage, state, (no_choice, refl))
 is_answered state (events.Commit id) reached = commits_are_answered state id reached
 is_answered state (events.Poke address bytes) reached = let told = poke_is_answered state address bytes in (told.0, told.1, (no_choice, told.2))
 is_answered state (events.Peek address len) reached = let told = peek_is_answered state address len reached in (told.0, told.1, (no_choice, told.2))

@@ -49,6 +49,15 @@ begins_somehow line (events.Detach device) q = ((10, omega arith, refl), q)
 begins_somehow line (events.Free frame) q = ((11, omega arith, refl), q)
 begins_somehow line (events.Peek address len) q = ((12, omega arith, refl), q)
 begins_somehow line (events.Poke address bytes) q = ((13, omega arith, refl), q)
+begins_somehow line (events.ReadTranslated device address len) q = absurd q
+begins_somehow line (events.WriteTranslated device address bytes) q = absurd q
+begins_somehow line (events.ReadThroughCache device address len) q = absurd q
+begins_somehow line (events.WriteThroughCache device address bytes) q = absurd q
+begins_somehow line (events.Ask device page) q = absurd q
+begins_somehow line (events.Forge device serial) q = absurd q
+begins_somehow line (events.Deliver place) q = absurd q
+begins_somehow line (events.Drop place) q = absurd q
+begins_somehow line (events.Repeat place) q = absurd q
 
 -- so what is read of a line that begins in any of them is read of the line
 pub any_line : (line : List ℕ) (result : Option Event) → Reads result (IsLineOf (single_starts ++ (device_starts ++ (driver_starts ++ processor_starts))) line) → Reads result (IsEventLine line)

@@ -6,6 +6,7 @@ use Rattle.std.proofs.lemmas.Fmt.{digits_value-decimal}
 use Rattle.std.proofs.lemmas.List.{append_cancel_left}
 use Rattle.iom_machine.specs.declared.event.Event.{Event}
 use Rattle.iom_machine.specs.declared.event.Event.TheVariants.{Plug, Attach, Detach, Grant, Release, Fetch, Poll, Faults, Read, Write, Commit, Poke, Peek, Free}
+use Rattle.iom_machine.specs.declared.event.Event.TheVariants.{ReadTranslated, WriteTranslated, ReadThroughCache, WriteThroughCache, Ask, Forge, Deliver, Drop, Repeat}
 use Rattle.iom_base.specs.declared.mode.Mode.TheVariants.{First, Second, Both}
 use Rattle.iom_script.specs.declared.script.WorldSize.{WorldSize}
 use Rattle.iom_script.specs.declared.script.Script.{Script}
@@ -133,6 +134,15 @@ event_same line (Peek address len) b p q =
 event_same line (Free frame) b p q =
     event_by_words free_event (IsNumber p.0) (Free frame) b (number_same p.0)
     (free_from p.0 (Free frame) (p.0, p.1, refl)) (free_from p.0 b (subst (λ l. IsEventLine l b) p.2 q))
+event_same line (ReadTranslated device address len) b p q = absurd p
+event_same line (WriteTranslated device address bytes) b p q = absurd p
+event_same line (ReadThroughCache device address len) b p q = absurd p
+event_same line (WriteThroughCache device address bytes) b p q = absurd p
+event_same line (Ask device page) b p q = absurd p
+event_same line (Forge device serial) b p q = absurd p
+event_same line (Deliver place) b p q = absurd p
+event_same line (Drop place) b p q = absurd p
+event_same line (Repeat place) b p q = absurd p
 
 -- the two numbers of a world
 abbrev pub numbers_of : WorldSize → ℕ × ℕ

@@ -5,6 +5,7 @@ use Rattle.std.specs.Int.{IsInRange}
 use Rattle.std.specs.Str.Parse.{AllDigits, digits_value}
 use Rattle.iom_machine.specs.declared.event.Event.{Event}
 use Rattle.iom_machine.specs.declared.event.Event.TheVariants.{Plug, Attach, Detach, Grant, Release, Fetch, Poll, Faults, Read, Write, Commit, Poke, Peek, Free}
+use Rattle.iom_machine.specs.declared.event.Event.TheVariants.{ReadTranslated, WriteTranslated, ReadThroughCache, WriteThroughCache, Ask, Forge, Deliver, Drop, Repeat}
 use Rattle.iom_script.specs.Words.{◌␣◌, IsWithout, IsNumber}
 use Rattle.iom_script.specs.Digits.{hex_digit, hex_digits, hex_of}
 use Rattle.iom_script.specs.Grammar.{IsEventLine}
@@ -67,6 +68,16 @@ start_of (Commit device) = codes "commit "
 start_of (Poke address bytes) = codes "poke "
 start_of (Peek address len) = codes "peek "
 start_of (Free frame) = codes "free "
+-- no line says these yet: a beginning that no line has
+start_of (ReadTranslated device address len) = codes "?"
+start_of (WriteTranslated device address bytes) = codes "?"
+start_of (ReadThroughCache device address len) = codes "?"
+start_of (WriteThroughCache device address bytes) = codes "?"
+start_of (Ask device page) = codes "?"
+start_of (Forge device serial) = codes "?"
+start_of (Deliver place) = codes "?"
+start_of (Drop place) = codes "?"
+start_of (Repeat place) = codes "?"
 
 -- the line begins with one of these, and says the event
 abbrev pub IsLineOf : List (List ℕ) → List ℕ → Event → Type 0

@@ -5,7 +5,8 @@ ghost use Rattle.iom_script.specs.Grammar.{IsEventLine, IsWorldLine};
 
 use crate::script::WorldSize;
 use crate::words::{
-    address_and, after, bytes_of, device_and, device_of, mode_of, number_and, number_of, right_of,
+    address_and, after, bytes_of, device_and, device_of, is_word, mode_of, number_and, number_of,
+    right_of,
 };
 use iom_machine::{DeviceKind, Event};
 use std::alloc::{AllocError, Global};
@@ -209,11 +210,11 @@ fn act_of_processor(alloc: Global, line: &[u8]) -> Result<Option<Event>, AllocEr
 fn single(line: &[u8]) -> Option<Event>
     ensures { Reads result (IsLineOf single_starts line.now) }
 {
-    if line == b"poll".as_slice() {
+    if is_word(line, b"poll") {
         Some(Event::Poll)
-    } else if line == b"fetch".as_slice() {
+    } else if is_word(line, b"fetch") {
         Some(Event::Fetch)
-    } else if line == b"faults".as_slice() {
+    } else if is_word(line, b"faults") {
         Some(Event::Faults)
     } else {
         None

@@ -1,4 +1,4 @@
-ghost use Rattle.std.specs.Prelude.{◌≡◌, ◌/◌, ◌%◌, ◌^◌, ◌*◌, ◌<◌, ◌≤◌, ◌++◌, length, IfOk, MatchOption, None};
+ghost use Rattle.std.specs.Prelude.{◌≡◌, ◌/◌, ◌%◌, ◌^◌, ◌*◌, ◌<◌, ◌≤◌, ◌++◌, ◌↔◌, length, IfOk, IsTrue, MatchOption, None};
 ghost use Rattle.memchr.specs.Find.{IsFirstByte, is_byte};
 ghost use Rattle.iom_script.specs.Digits.{hex_digit, hex_digits};
 ghost use Rattle.iom_script.specs.Words.{Reads, IsDevice, IsNumber, IsAddress, IsRight, IsMode, IsHex};
@@ -32,6 +32,14 @@ pub(crate) fn after<'a>(text: &'a [u8], start: &[u8]) -> Option<&'a [u8]>
     ensures { Reads (shown_rest result) (λ rest. text.now ≡ start.now ++ rest) }
 {
     text.strip_prefix(start)
+}
+
+/// Whether the text is the word. Written into its caller, where the word is known: a comparison of slices is a call.
+#[inline(always)]
+pub(crate) fn is_word(text: &[u8], word: &[u8]) -> bool
+    ensures { IsTrue result ↔ (text.now ≡ word.now) }
+{
+    text.len() == word.len() && after(text, word).is_some()
 }
 
 /// No digit's value.
@@ -148,9 +156,9 @@ pub(crate) fn number_of(text: &[u8]) -> Option<u64>
 pub(crate) fn right_of(text: &[u8]) -> Option<GrantRights>
     ensures { Reads result (IsRight text.now) }
 {
-    if text == b"r".as_slice() {
+    if is_word(text, b"r") {
         Some(GrantRights::ReadOnly)
-    } else if text == b"rw".as_slice() {
+    } else if is_word(text, b"rw") {
         Some(GrantRights::ReadWrite)
     } else {
         None

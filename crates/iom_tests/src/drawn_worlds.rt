@@ -195,6 +195,8 @@ impl Known {
             directory,
             taken,
             frame,
+            device: 0,
+            page: 0,
         })
     }
 }

@@ -1,5 +1,5 @@
 -- A request keeps the facts, where fewer accesses were accepted than events are counted.
-use Rattle.std.proofs.Common.{◌≡◌, ◌+◌, ◌-◌, ◌^◌, ◌<◌, ◌≤◌, ℕ, sym, subst, arith}
+use Rattle.std.proofs.Common.{◌≡◌, ◌^◌, ◌<◌, ℕ, sym, subst}
 use Rattle.iom_base.specs.declared.access.Access.{Access}
 use Rattle.iom_driver.specs.declared.driver.Driver.{Driver}
 use Rattle.iom_driver.specs.Seen.{state_of}
@@ -36,20 +36,5 @@ service_laws laws = record {
 pub keeps_asked_counted : LawsBelow → (driver : Driver) (old new : Parts) (events id : ℕ) (access : Access) (told : Outcome) → AreSound old events → IsSoundDriver old.driver → old.driver ≡ state_of driver
     → (flights_of old.iommu).so_far < events → access.address < 2 ^ 64 → AsksAccess old id access told new → AreSound new events
 keeps_asked_counted laws driver old new events id access told sound own is below fits asks =
-    let before : AreSound old (events - 1) = record {
-      ready = sound.ready;
-      started = sound.started;
-      processing = sound.processing;
-      size = sound.size;
-      known = sound.known;
-      slots = sound.slots;
-      confirmed = sound.confirmed;
-      small = sound.small;
-      counted = omega (arith, below);
-      contexts = sound.contexts;
-      copies = sound.copies;
-    } in
-    let again : events - 1 + 1 ≡ events = omega (arith, below) in
-    subst (AreSound new) again
-    (keeps_asked (service_laws laws) old new (events - 1) id access told before own
-    (subst StaysReady (sym is) (stays_of laws.stays driver)) (subst StaysReported (sym is) (reported_of laws.reported driver)) fits asks)
+    keeps_asked (service_laws laws) old new events id access told sound own
+    (subst StaysReady (sym is) (stays_of laws.stays driver)) (subst StaysReported (sym is) (reported_of laws.reported driver)) below fits asks

@@ -1,15 +1,14 @@
 -- An attach of the driver is one of the ledger machine.
-use Rattle.std.proofs.Common.{◌≡◌, ◌≢◌, ◌+◌, ◌*◌, ◌-◌, ◌<◌, ◌≤◌, ◌⊎◌, ◌∙◌, ◌++◌, ℕ, zero, suc, Bool, true, false, not, List, [], ◌∷◌, length, All, nat_eq, Option, Some, None, Result, Ok, Err, slice_get, slice_set, get_or, is_some, nat_le, refl, sym, ap, subst, inl, inr, arith}
+use Rattle.std.proofs.Common.{◌≡◌, ◌+◌, ◌*◌, ◌-◌, ◌<◌, ◌≤◌, ◌⊎◌, ◌∙◌, ◌++◌, ◌&&◌, ℕ, zero, suc, Bool, true, false, not, List, [], ◌∷◌, length, All, nat_eq, Option, Some, None, Result, Ok, Err, get_or, is_some, nat_le, refl, sym, ap, subst, inl, inr, arith}
 use Rattle.std.specs.List.{IsDistinct}
 use Rattle.std.proofs.lemmas.Bool.{cases_lt}
 use Rattle.std.proofs.lemmas.List.Elements.{All-nil, All-cons}
-use Rattle.iom_base.specs.declared.owner.Owner.{Owner}
 use Rattle.iom_base.specs.declared.owner.Owner.TheVariants.{System, OneDevice}
-use Rattle.iom_directory.specs.Pages.{missing_pages, root_level}
+use Rattle.iom_directory.specs.Pages.{root_level}
 use Rattle.iom_driver.specs.declared.device.Attachment.TheVariants as attached
 use Rattle.iom_driver.specs.Attaching.{AnswersAttach, TakesRoot, LacksRoot, ArePages, lacking_pages, limit_below, root_frames}
 use Rattle.iom_driver.specs.Choices.{AreHighestFree, marked_for, cleared}
-use Rattle.iom_driver.specs.Devices.{is_plugged, owned_stages_of, with_attachment}
+use Rattle.iom_driver.specs.Devices.{is_plugged, is_trusted, owned_stages_of, with_attachment}
 use Rattle.iom_driver.specs.Directory.{context_for}
 use Rattle.iom_driver.specs.Layout.{id_limit, directory_frame}
 use Rattle.iom_driver.specs.Reasons.{why_not_attach}
@@ -21,7 +20,7 @@ use Rattle.iom_driver.proofs.Places.{attachment_set, attachment_other}
 use Rattle.iom_world.specs.OwnIommu.{Iommu}
 use Rattle.iom_iommu.specs.Parts.{flights_of}
 use Rattle.iom_ledger.specs.declared.refusal.Refusal.{Refusal}
-use Rattle.iom_ledger.specs.declared.refusal.Refusal.TheVariants.{NoFrames, NotStarted, NoSuchDevice, AlreadyAttached, IdTooWide}
+use Rattle.iom_ledger.specs.declared.refusal.Refusal.TheVariants.{NoFrames, NotStarted, NoSuchDevice, AlreadyAttached, IdTooWide, NotTrusted}
 use Rattle.iom_ledger.specs.Refusals.{first_that_applies}
 use Rattle.iom_machine.specs.declared.outcome.Outcome.{Outcome}
 use Rattle.iom_machine.specs.declared.outcome.Outcome.TheVariants.{Done}
@@ -155,21 +154,21 @@ module _ (parts : Parts) (state : State) (id : ℕ) (sound : IsSoundDriver parts
 -- THE STEP
 
 -- the machine's state after it
-abbrev attached_state : State → ℕ → declared.Device → Mode → (pages roots : List ℕ) → State
-attached_state state id device mode pages roots =
-    record (with_device state (record device { attachment = Attached mode false })) { frames = reserved_for (OneDevice id) roots (reserved_for System pages state.frames) }
+abbrev attached_state : State → ℕ → declared.Device → Mode → Bool → (pages roots : List ℕ) → State
+attached_state state id device mode ats pages roots =
+    record (with_device state (record device { attachment = Attached mode ats })) { frames = reserved_for (OneDevice id) roots (reserved_for System pages state.frames) }
 
 -- memory has as many frames then
-size_attached : (d d' : DriverState) (memory memory' : List (List ℕ)) (id : ℕ) (mode : Mode) → TakesRoot d memory id mode d' memory' → length memory' ≡ length memory
-size_attached d d' memory memory' id mode takes =
+size_attached : (d d' : DriverState) (memory memory' : List (List ℕ)) (id : ℕ) (mode : Mode) (ats : Bool) → TakesRoot d memory id mode ats d' memory' → length memory' ≡ length memory
+size_attached d d' memory memory' id mode ats takes =
     ap (λ (m : List (List ℕ)). length m) takes.bytes
     ∙ length-hung (root_level d.levels) (cleared (takes.pages ++ root_frames mode takes.stage.root) memory) (directory_frame (length memory)) id takes.pages (context_for takes.stage)
     ∙ length-cleared (takes.pages ++ root_frames mode takes.stage.root) memory
 
-shows_attached : (old new : Parts) (events id : ℕ) (mode : Mode) (found : declared.Device) → AreSound old events → is_plugged old.driver.devices id ≡ true
-    → (takes : TakesRoot old.driver old.memory id mode new.driver new.memory) → new.iommu ≡ old.iommu → new.devices ≡ old.devices
-    → (state : State) → PartsShow old state → device_of state id ≡ Some found → PartsShow new (attached_state state id found mode takes.pages (root_frames mode takes.stage.root))
-shows_attached old new events id mode found sound there takes iommu devices state shows at =
+shows_attached : (old new : Parts) (events id : ℕ) (mode : Mode) (ats : Bool) (found : declared.Device) → AreSound old events → is_plugged old.driver.devices id ≡ true
+    → (takes : TakesRoot old.driver old.memory id mode ats new.driver new.memory) → new.iommu ≡ old.iommu → new.devices ≡ old.devices
+    → (state : State) → PartsShow old state → device_of state id ≡ Some found → PartsShow new (attached_state state id found mode ats takes.pages (root_frames mode takes.stage.root))
+shows_attached old new events id mode ats found sound there takes iommu devices state shows at =
     let d = old.driver in
     let roots = root_frames mode takes.stage.root in
     let pages = takes.pages in
@@ -184,27 +183,28 @@ shows_attached old new events id mode found sound there takes iommu devices stat
     let roots_in = subst (λ m. All (λ f. f < m) roots) (sym long) inside.1 in
     let frames = shows_kept old.memory new.memory (taken_marks id pages roots d.marks) (reserved_for (OneDevice id) roots (reserved_for System pages state.frames)) rooted
     (λ k free. takes.others k (free_before id pages roots d.marks in_marks roots_in k free) (free_untaken id pages roots d.marks in_marks roots_in k free))
-    (size_attached d new.driver old.memory new.memory id mode takes) in
+    (size_attached d new.driver old.memory new.memory id mode ats takes) in
     record {
       ledger = rw (ap (λ (x : DriverState). x.ledger) takes.driver) shows.ledger;
       frames = rw (ap (λ (x : DriverState). x.marks) takes.driver) frames;
       devices = rw (devices, ap (λ (i : Iommu). (flights_of i).rows) iommu, ap (λ (x : DriverState). x.devices) takes.driver)
-          (subst (λ m. replaced_device state.devices found.id (record found { attachment = Attached m false }) ≡ shown_devices known' rows old.devices) takes.in_mode
+          (subst (λ m. replaced_device state.devices found.id (record found { attachment = Attached m ats }) ≡ shown_devices known' rows old.devices) takes.in_mode
+          (subst (λ a. replaced_device state.devices found.id (record found { attachment = Attached takes.stage.mode a }) ≡ shown_devices known' rows old.devices) takes.with_ats
           (replaced_found d.devices known' rows old.devices state.devices id (attached.Attached takes.stage) found
           (λ other differs. attachment_other d.devices id other (attached.Attached takes.stage) differs) (attachment_set d.devices id (attached.Attached takes.stage) there)
-          sound.known.own_ids shows.devices at));
+          sound.known.own_ids shows.devices at)));
       given = shows.given ∙ sym (ap (λ (x : DriverState). x.given) takes.driver);
       confirmed = shows.confirmed ∙ sym (ap (λ (x : DriverState). x.confirmed) takes.driver);
       none_later = rw (ap (λ (x : DriverState). x.confirmed) takes.driver) shows.none_later;
       levels = shows.levels ∙ sym (ap (λ (x : DriverState). x.levels) takes.driver);
     }
 
-pub attach_step : (old new : Parts) (events id : ℕ) (mode : Mode) (told : Outcome) → AreSound old events → IsSoundDriver old.driver → AttachesDevice old id mode told new
-    → (state : State) → PartsShow old state → (pages taken : List ℕ) × (next : State) × machine.Attaches pages taken state id mode false told next × PartsShow new next
-attach_step old new events id mode told sound sound_driver does state shows = by does.answer does.told_so does.call
+pub attach_step : (old new : Parts) (events id : ℕ) (mode : Mode) (ats : Bool) (told : Outcome) → AreSound old events → IsSoundDriver old.driver → AttachesDevice old id mode ats told new
+    → (state : State) → PartsShow old state → (pages taken : List ℕ) × (next : State) × machine.Attaches pages taken state id mode ats told next × PartsShow new next
+attach_step old new events id mode ats told sound sound_driver does state shows = by does.answer does.told_so does.call
   where
-    taken_root : (takes : TakesRoot old.driver old.memory id mode new.driver new.memory) → is_plugged old.driver.devices id ≡ true → first_that_applies (refusals.attach_reasons state id false) ≡ None
-        → (pages taken : List ℕ) × (next : State) × machine.Attaches pages taken state id mode false Done next × PartsShow new next
+    taken_root : (takes : TakesRoot old.driver old.memory id mode ats new.driver new.memory) → is_plugged old.driver.devices id ≡ true → first_that_applies (refusals.attach_reasons state id ats) ≡ None
+        → (pages taken : List ℕ) × (next : State) × machine.Attaches pages taken state id mode ats Done next × PartsShow new next
     taken_root takes there none =
         let d = old.driver in
         let roots = root_frames mode takes.stage.root in
@@ -215,28 +215,29 @@ attach_step old new events id mode told sound sound_driver does state shows = by
         free_in_machine old.memory d.marks d.ledger state (get_or (pages ++ roots) k n) shows.ledger shows.frames one.0 one.1.unmarked one.1.ungranted) in (
           pages,
           roots,
-          attached_state state id found.0 mode pages roots,
+          attached_state state id found.0 mode ats pages roots,
           (
             none,
             free,
-            some_and (λ (d : declared.Device). attached_state state id found.0 mode pages roots ≡ attached_state state id d mode pages roots) (device_of state id) found.0 found.1 refl,
+            some_and (λ (d : declared.Device). attached_state state id found.0 mode ats pages roots ≡ attached_state state id d mode ats pages roots) (device_of state id) found.0 found.1 refl,
           ),
-          shows_attached old new events id mode found.0 sound there takes does.iommu does.devices state shows found.1,
+          shows_attached old new events id mode ats found.0 sound there takes does.iommu does.devices state shows found.1,
         )
 
-    by : (answer : Result (Unit {0}) Refusal) → told ≡ told_of answer → AnswersAttach old.driver old.memory id mode answer new.driver new.memory
-        → (pages taken : List ℕ) × (next : State) × machine.Attaches pages taken state id mode false told next × PartsShow new next
+    by : (answer : Result (Unit {0}) Refusal) → told ≡ told_of answer → AnswersAttach old.driver old.memory id mode ats answer new.driver new.memory
+        → (pages taken : List ℕ) × (next : State) × machine.Attaches pages taken state id mode ats told next × PartsShow new next
     by (Ok done) is call =
         let d = old.driver in
-        subst (λ t. (pages taken : List ℕ) × (next : State) × machine.Attaches pages taken state id mode false t next × PartsShow new next) (sym is)
-        (taken_root call.1 (plugged_then d.started (is_plugged d.devices id) ((is_some (owned_stages_of d.devices id), AlreadyAttached) ∷ (nat_le (id_limit d.levels) id, IdTooWide) ∷ []) call.0) (attach_first old events state id sound shows ∙ call.0))
+        subst (λ t. (pages taken : List ℕ) × (next : State) × machine.Attaches pages taken state id mode ats t next × PartsShow new next) (sym is)
+        (taken_root call.1 (plugged_then d.started (is_plugged d.devices id) ((is_some (owned_stages_of d.devices id), AlreadyAttached) ∷ (nat_le (id_limit d.levels) id, IdTooWide) ∷ (ats && not (is_trusted d.devices id), NotTrusted) ∷ []) call.0)
+        (attach_first old events state id ats sound shows ∙ call.0))
     by (Err why) is call = (
       [],
       [],
       state,
-      subst (λ t. machine.Attaches [] [] state id mode false t state) (sym is) (
-        refused_as (why_not_attach old.driver id) (refusals.attach_reasons state id false) (LacksRoot old.driver old.memory id mode) (MayRefuseAttach state mode) why
-            (attach_first old events state id sound shows) (λ none. may_lack_root old state id sound_driver shows mode why) call.0,
+      subst (λ t. machine.Attaches [] [] state id mode ats t state) (sym is) (
+        refused_as (why_not_attach old.driver id ats) (refusals.attach_reasons state id ats) (LacksRoot old.driver old.memory id mode) (MayRefuseAttach state mode) why
+            (attach_first old events state id ats sound shows) (λ none. may_lack_root old state id sound_driver shows mode why) call.0,
         refl,
       ),
       shows_same old new state call.2 (ap (λ (i : Iommu). flights_of i) does.iommu) does.devices call.1 shows,

@@ -1,22 +1,23 @@
 -- What is cached of translations, and who has which address space, where little changes.
-use Rattle.std.proofs.Common.{◌≡◌, ◌≢◌, ◌∙◌, ℕ, List, Option, None, Some, sym, ap, option_map}
-use Rattle.iom_driver.specs.declared.device.Attachment.{Attachment}
+use Rattle.std.proofs.Common.{◌≡◌, ◌∙◌, ℕ, List, Option, None, Some, sym, ap, option_map}
 use Rattle.iom_driver.specs.declared.device.Device as driver
 use Rattle.iom_driver.specs.declared.device.Stages.{Stages}
-use Rattle.iom_driver.specs.Devices.{owned_stages, owned_stages_of}
-use Rattle.iom_iommu.specs.Parts.{translations_of, stock_of}
+use Rattle.iom_driver.specs.Devices.{owned_stages_of}
+use Rattle.iom_iommu.specs.Parts.{translations_of, stock_of, slots_of}
 use Rattle.iom_tlb.specs.declared.space.Space.{Space}
 use Rattle.iom_world.specs.Parts.{Parts}
 use Rattle.iom_world.specs.Read.{space_in, space_at, values_of}
 use Rattle.iom_world.proofs.SceneCalls.{KeepsCached}
+use Rattle.iom_world.proofs.SoundLemmas.{traffic_kept}
 
--- the IOMMU is the same, and who has an address space keeps it
-pub same_cached : (old new : Parts) → new.iommu ≡ old.iommu
+-- the IOMMU is the same, and so are devices and messages; and who has an address space keeps it
+pub same_cached : (old new : Parts) → new.iommu ≡ old.iommu → new.devices ≡ old.devices → new.fabric ≡ old.fabric
     → ((id : ℕ) (space : Space) → space_at old.driver.devices id ≡ Some space → space_at new.driver.devices id ≡ Some space) → KeepsCached (values_of old) (values_of new)
-same_cached old new iommu spaces = record {
+same_cached old new iommu devices fabric spaces = record {
   spaces = spaces;
   translations = λ key translation at. ap (λ i. translations_of i key) (sym iommu) ∙ at;
   stock = ap stock_of iommu;
+  traffic = traffic_kept old new devices fabric (ap slots_of iommu);
 }
 
 -- the devices are attached as they were

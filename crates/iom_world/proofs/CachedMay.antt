@@ -126,19 +126,19 @@ module _ (parts : Parts) (events : ℕ) (state : State) (id : ℕ) (access : Acc
   leaves_none : (ticket : ℕ) (s : Stages) → attachment_of parts.driver.devices id ≡ driver.Leaving ticket s → ⊥
   leaves_none ticket s is =
       not_there sound.copies (λ (scene, shown, facts).
-      none_cached scene (copy_of id (access.address / 4096) translation) (Leaving ticket s.mode false) ticket facts (shown.attachments id ∙ ap shown_attachment is) (omega arith) (there_in scene shown))
+      none_cached scene (copy_of id (access.address / 4096) translation) (Leaving ticket s.mode s.ats) ticket facts (shown.attachments id ∙ ap shown_attachment is) (omega arith) (there_in scene shown))
 
-  by_mode : (mode : Mode) → in_both_stages (shown_attachment (attachment_of parts.driver.devices id)) ≡ is_both mode → MayAccept (Attached mode false) state id access translation.frame
-  by_mode First is = accept_merely state.history id translation.frame access (∥∥₁_map sound.copies (λ (scene, shown, facts). accept_in is scene shown facts))
-  by_mode Second is = accept_merely state.history id translation.frame access (∥∥₁_map sound.copies (λ (scene, shown, facts). accept_in is scene shown facts))
-  by_mode Both is = may_merely state.history id translation.frame access.kind (∥∥₁_map sound.copies (λ (scene, shown, facts). may_in is scene shown facts))
+  by_mode : (mode : Mode) (ats : Bool) → in_both_stages (shown_attachment (attachment_of parts.driver.devices id)) ≡ is_both mode → MayAccept (Attached mode ats) state id access translation.frame
+  by_mode First ats is = accept_merely state.history id translation.frame access (∥∥₁_map sound.copies (λ (scene, shown, facts). accept_in is scene shown facts))
+  by_mode Second ats is = accept_merely state.history id translation.frame access (∥∥₁_map sound.copies (λ (scene, shown, facts). accept_in is scene shown facts))
+  by_mode Both ats is = may_merely state.history id translation.frame access.kind (∥∥₁_map sound.copies (λ (scene, shown, facts). may_in is scene shown facts))
 
   by_attachment : (a : Attachment) → attachment_of parts.driver.devices id ≡ a → MayAccept (shown_attachment a) state id access translation.frame
   by_attachment driver.Detached is = absurd (none_some (sym (ap owned_stages is) ∙ owned))
     where
       none_some : ◌≡◌ {A = Option Stages} None (Some stage) → ⊥
       none_some same = cc
-  by_attachment (driver.Attached s) is = by_mode s.mode (ap (λ a. in_both_stages (shown_attachment a)) is)
+  by_attachment (driver.Attached s) is = by_mode s.mode s.ats (ap (λ a. in_both_stages (shown_attachment a)) is)
   by_attachment (driver.Leaving ticket s) is = absurd (leaves_none ticket s is)
 
 pub cached_accept : (parts : Parts) (events : ℕ) (state : State) (id : ℕ) (access : Access) (stage : Stages) (translation : Translation) → AreSound parts events → IsSoundDriver parts.driver

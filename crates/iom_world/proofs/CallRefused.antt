@@ -19,13 +19,15 @@ use Rattle.iom_machine.specs.declared.state.DeviceKind.{DeviceKind}
 use Rattle.iom_world.specs.Does.{PlugsDevice, AttachesDevice, GrantsPage, ReleasesPage, DetachesDevice, FetchesNext, PollsTickets, told_of, ticket_told_of, polled_told_of, devices_after, AddsRow}
 use Rattle.iom_world.specs.Happens.{AreSame, SameIfRefused}
 use Rattle.iom_world.specs.Parts.{Parts}
+use Rattle.iom_machine.specs.Refusals.{has_cache}
 
 -- parts of which each is the same
-pub same_of : (old new : Parts) → new.memory ≡ old.memory → new.iommu ≡ old.iommu → new.devices ≡ old.devices → new.driver ≡ old.driver → AreSame old new
-same_of old new memory iommu devices driver = record {
+pub same_of : (old new : Parts) → new.memory ≡ old.memory → new.iommu ≡ old.iommu → new.devices ≡ old.devices → new.fabric ≡ old.fabric → new.driver ≡ old.driver → AreSame old new
+same_of old new memory iommu devices fabric driver = record {
   memory = memory;
   iommu = iommu;
   devices = devices;
+  fabric = fabric;
   ledger = subst (λ (d : DriverState). IsUnchanged old.driver.ledger d.ledger) (sym driver) (record { held = λ d a. refl; lingering = λ d a. refl; pending = refl });
   driver = driver ∙ ap (λ l. record old.driver { ledger = l }) (sym (ap (λ (d : DriverState). d.ledger) driver));
 }
@@ -37,37 +39,37 @@ done_refused why same = cc
 pub plug_refused : (old new : Parts) (id : ℕ) (kind : DeviceKind) (told : Outcome) → PlugsDevice old id kind told new → SameIfRefused told old new
 plug_refused old new id kind told does why is = by does.answer (sym does.told_so ∙ is) does.call does.row does.devices
   where
-    by : (answer : Result (Unit {0}) Refusal) → told_of answer ≡ outcome.Refused why → AnswersPlug old.driver id answer new.driver → AddsRow answer old.iommu id new.iommu → new.devices ≡ devices_after answer old.devices id kind → AreSame old new
+    by : (answer : Result (Unit {0}) Refusal) → told_of answer ≡ outcome.Refused why → AnswersPlug old.driver id (has_cache kind) answer new.driver → AddsRow answer old.iommu id new.iommu → new.devices ≡ devices_after answer old.devices id kind → AreSame old new
     by (Ok done) refused call row devices = absurd (done_refused why refused)
-    by (Err reason) refused call row devices = same_of old new does.memory row devices call.1
+    by (Err reason) refused call row devices = same_of old new does.memory row devices does.fabric call.1
 
-pub attach_refused : (old new : Parts) (id : ℕ) (mode : Mode) (told : Outcome) → AttachesDevice old id mode told new → SameIfRefused told old new
-attach_refused old new id mode told does why is = by does.answer (sym does.told_so ∙ is) does.call
+pub attach_refused : (old new : Parts) (id : ℕ) (mode : Mode) (ats : Bool) (told : Outcome) → AttachesDevice old id mode ats told new → SameIfRefused told old new
+attach_refused old new id mode ats told does why is = by does.answer (sym does.told_so ∙ is) does.call
   where
-    by : (answer : Result (Unit {0}) Refusal) → told_of answer ≡ outcome.Refused why → AnswersAttach old.driver old.memory id mode answer new.driver new.memory → AreSame old new
+    by : (answer : Result (Unit {0}) Refusal) → told_of answer ≡ outcome.Refused why → AnswersAttach old.driver old.memory id mode ats answer new.driver new.memory → AreSame old new
     by (Ok done) refused call = absurd (done_refused why refused)
-    by (Err reason) refused call = same_of old new call.2 does.iommu does.devices call.1
+    by (Err reason) refused call = same_of old new call.2 does.iommu does.devices does.fabric call.1
 
 pub grant_refused : (old new : Parts) (id page frame : ℕ) (rights : GrantRights) (told : Outcome) → GrantsPage old id page frame rights told new → SameIfRefused told old new
 grant_refused old new id page frame rights told does why is = by does.answer (sym does.told_so ∙ is) does.call
   where
     by : (answer : Result (Unit {0}) Refusal) → told_of answer ≡ outcome.Refused why → AnswersGrant old.driver old.memory id page frame rights answer new.driver new.memory → AreSame old new
     by (Ok done) refused call = absurd (done_refused why refused)
-    by (Err reason) refused call = record { memory = call.2; iommu = does.iommu; devices = does.devices; ledger = call.1.ledger; driver = call.1.rest }
+    by (Err reason) refused call = record { memory = call.2; iommu = does.iommu; devices = does.devices; fabric = does.fabric; ledger = call.1.ledger; driver = call.1.rest }
 
 pub release_refused : (old new : Parts) (id page : ℕ) (told : Outcome) → ReleasesPage old id page told new → SameIfRefused told old new
 release_refused old new id page told does why is = by does.answer (sym does.told_so ∙ is) does.call
   where
     by : (answer : Result answers.Ticket Refusal) → ticket_told_of answer ≡ outcome.Refused why → AnswersRelease mmio old.driver old.memory old.iommu id page answer new.driver new.memory new.iommu → AreSame old new
     by (Ok ticket) refused call = cc
-    by (Err reason) refused call = same_of old new call.2 call.3 does.devices call.1
+    by (Err reason) refused call = same_of old new call.2 call.3 does.devices does.fabric call.1
 
 pub detach_refused : (old new : Parts) (id : ℕ) (told : Outcome) → DetachesDevice old id told new → SameIfRefused told old new
 detach_refused old new id told does why is = by does.answer (sym does.told_so ∙ is) does.call.effect
   where
     by : (answer : Result answers.Ticket Refusal) → ticket_told_of answer ≡ outcome.Refused why → DoesDetach mmio old.driver old.memory old.iommu id answer new.driver new.memory new.iommu → AreSame old new
     by (Ok ticket) refused call = cc
-    by (Err reason) refused call = same_of old new call.1 call.2 does.devices call.0
+    by (Err reason) refused call = same_of old new call.1 call.2 does.devices does.fabric call.0
 
 pub fetch_refused : (old new : Parts) (told : Outcome) → FetchesNext old told new → SameIfRefused told old new
 fetch_refused old new told does why is = absurd (never (sym does.told_so ∙ is))
@@ -84,4 +86,4 @@ poll_refused old new told does why is = by does.answer (sym does.told_so ∙ is)
 
     by : (answer : Result Polled Refusal) → polled_told_of answer ≡ outcome.Refused why → AnswersPoll (registers_of old.iommu) old.driver old.memory answer new.driver new.memory → AreSame old new
     by (Ok polled) refused call = absurd (never (polled.count == 0) polled.first (polled.first + polled.count - 1) refused)
-    by (Err reason) refused call = same_of old new call.2 does.iommu does.devices call.1
+    by (Err reason) refused call = same_of old new call.2 does.iommu does.devices does.fabric call.1

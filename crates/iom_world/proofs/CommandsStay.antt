@@ -1,5 +1,5 @@
 -- Nothing but a release, a detach and a fetch changes the commands that wait: the ring lies in a frame of the system's.
-use Rattle.std.proofs.Common.{◌≡◌, ◌<◌, ◌∙◌, inl, inr, ℕ, false, List, length, Option, Some, None, IfSome, Result, Ok, Err, slice_get, slice_set, refl, sym, ap, subst}
+use Rattle.std.proofs.Common.{◌≡◌, ◌<◌, ◌∙◌, inl, inr, ℕ, Bool, false, List, length, Option, Some, None, IfSome, Result, Ok, Err, slice_get, slice_set, refl, sym, ap, subst}
 use Rattle.iom_base.specs.declared.grant_rights.GrantRights.{GrantRights}
 use Rattle.iom_base.specs.declared.owner.Owner.TheVariants.{System}
 use Rattle.iom_base.specs.Accesses.{read_of, write_of}
@@ -44,6 +44,7 @@ use Rattle.iom_world.proofs.ReportKeeps.{taken_waiting}
 use Rattle.iom_world.proofs.RequestKeeps.{report_leaves}
 use Rattle.iom_world.proofs.SoundFrom.{report_waiting}
 use Rattle.iom_world.proofs.SoundLemmas.{same_waiting, fixed_frames}
+use Rattle.iom_machine.specs.Machine.{IsEvent}
 
 -- the system's frames keep their bytes
 abbrev KeepsSystem : Parts → List (List ℕ) → Type 0
@@ -63,11 +64,11 @@ stored_keeps : (old : Parts) (frame : ℕ) (bytes : List ℕ) (memory : List (Li
 stored_keeps old frame bytes memory free stored n system =
     ap (λ m. slice_get m n) stored ∙ get_set_other old.memory frame n bytes (owned_differs old.driver.marks n frame System system free)
 
-attach_keeps : (old new : Parts) (events id : ℕ) (mode : Mode) (told : Outcome) → AreSound old events → IsSoundDriver old.driver → AttachesDevice old id mode told new → waiting_in new ≡ waiting_in old
-attach_keeps old new events id mode told sound own does = by does.answer does.call
+attach_keeps : (old new : Parts) (events id : ℕ) (mode : Mode) (ats : Bool) (told : Outcome) → AreSound old events → IsSoundDriver old.driver → AttachesDevice old id mode ats told new → waiting_in new ≡ waiting_in old
+attach_keeps old new events id mode ats told sound own does = by does.answer does.call
   where
-    by : (answer : Result (Unit {0}) Refusal) → AnswersAttach old.driver old.memory id mode answer new.driver new.memory → waiting_in new ≡ waiting_in old
-    by (Ok done) (admitted, takes) = same_waiting old new events sound (ap registers_of does.iommu) (attach_keeps_ring old new events id sound own admitted mode takes)
+    by : (answer : Result (Unit {0}) Refusal) → AnswersAttach old.driver old.memory id mode ats answer new.driver new.memory → waiting_in new ≡ waiting_in old
+    by (Ok done) (admitted, takes) = same_waiting old new events sound (ap registers_of does.iommu) (attach_keeps_ring old new events id sound own ats admitted mode takes)
     by (Err why) (refused, driver, memory) = waits_same old new memory (ap registers_of does.iommu)
 
 grant_keeps : (old new : Parts) (events id page frame : ℕ) (rights : GrantRights) (told : Outcome) → AreSound old events → GrantsPage old id page frame rights told new → KeepsSystem old new.memory
@@ -100,14 +101,15 @@ asks_keep : (old new : Parts) (events id : ℕ) (access : Access) (told : Outcom
     → AsksAccess old id access told new → waiting_in new ≡ waiting_in old
 asks_keep old new events id access told sound own reported asks = elim asks [
   | inl unknown ↦ ap waiting_in unknown.same
-  | inr answered ↦ by answered.driver answered.devices answered.reply answered.call
+  | inr (inl unable) ↦ ap waiting_in unable.same
+  | inr (inr answered) ↦ by answered.1.driver answered.1.devices answered.1.fabric answered.1.reply answered.1.call
 ]
   where
-    by : new.driver ≡ old.driver → new.devices ≡ old.devices → (reply : Reply) → AnswersRequest old.memory old.iommu id access reply new.memory new.iommu → waiting_in new ≡ waiting_in old
-    by driver devices reply.BadSpan answers = waits_same old new answers.2 (ap registers_of answers.1)
-    by driver devices reply.Busy answers = waits_same old new answers.3 (ap registers_of answers.2)
-    by driver devices (reply.Accepted number) answers = waits_same old new answers.1 answers.0.registers
-    by driver devices (reply.Fault cause) answers = report_waiting old new events sound own (report_leaves old new events id access sound reported driver devices cause answers)
+    by : new.driver ≡ old.driver → new.devices ≡ old.devices → new.fabric ≡ old.fabric → (reply : Reply) → AnswersRequest old.memory old.iommu id access reply new.memory new.iommu → waiting_in new ≡ waiting_in old
+    by driver devices fabric reply.BadSpan answers = waits_same old new answers.2 (ap registers_of answers.1)
+    by driver devices fabric reply.Busy answers = waits_same old new answers.3 (ap registers_of answers.2)
+    by driver devices fabric (reply.Accepted number) answers = waits_same old new answers.1 answers.0.registers
+    by driver devices fabric (reply.Fault cause) answers = report_waiting old new events sound own (report_leaves old new events id access sound reported driver devices fabric cause answers)
 
 -- what an access that is made does to memory: a frame changes that is nobody's, or none
 performs_keep : (old : Parts) (accepted : AcceptedAccess) (memory : List (List ℕ)) → slice_get old.driver.marks accepted.frame ≡ Some None
@@ -136,18 +138,19 @@ commits_keep old new events id told sound own commits = elim commits [
 poke_keeps : (old : Parts) (events address : ℕ) (bytes : List ℕ) (told : Outcome) (memory : List (List ℕ)) → AreSound old events → StoresIfAny old address bytes told memory → KeepsSystem old memory
 poke_keeps old events address bytes told memory sound stores n system = (stores_keep old events address bytes told memory sound stores).1 n System system
 
-pub commands_stay : (old new : Parts) (before : ℕ) (event : Event) (told : Outcome) → AreSound old before → IsSoundDriver old.driver → StaysReported old.driver → Does old event told new → KeepsCommands event old new
-commands_stay old new before (events.Release id page) told sound own reported does = tt
-commands_stay old new before (events.Detach id) told sound own reported does = tt
-commands_stay old new before events.Fetch told sound own reported does = tt
-commands_stay old new before (events.Plug id kind) told sound own reported does = plug_keeps old new id kind told does
-commands_stay old new before (events.Attach id mode ats) told sound own reported does = attach_keeps old new before id mode told sound own does
-commands_stay old new before (events.Grant id page frame rights) told sound own reported does = waits_still old new before sound own (ap registers_of does.iommu) (grant_keeps old new before id page frame rights told sound does)
-commands_stay old new before events.Poll told sound own reported does = waits_still old new before sound own (ap registers_of does.iommu) (poll_keeps old new told does)
-commands_stay old new before events.Faults told sound own reported does = taken_waiting old new before told sound own does
-commands_stay old new before (events.Read id address len) told sound own reported does = asks_keep old new before id (read_of address len) told sound own reported does
-commands_stay old new before (events.Write id address bytes) told sound own reported does = asks_keep old new before id (write_of address bytes) told sound own reported does
-commands_stay old new before (events.Commit id) told sound own reported does = commits_keep old new before id told sound own does
-commands_stay old new before (events.Poke address bytes) told sound own reported does = waits_still old new before sound own (ap registers_of does.iommu) (poke_keeps old before address bytes told new.memory sound does.memory)
-commands_stay old new before (events.Peek address len) told sound own reported does = ap waiting_in does.1
-commands_stay old new before (events.Free frame) told sound own reported does = ap waiting_in does.1
+pub commands_stay : (old new : Parts) (before : ℕ) (event : Event) (told : Outcome) → IsEvent event → AreSound old before → IsSoundDriver old.driver → StaysReported old.driver → Does old event told new → KeepsCommands event old new
+commands_stay old new before (events.Release id page) told may sound own reported does = tt
+commands_stay old new before (events.Detach id) told may sound own reported does = tt
+commands_stay old new before events.Fetch told may sound own reported does = tt
+commands_stay old new before (events.Plug id kind) told may sound own reported does = plug_keeps old new id kind told does
+commands_stay old new before (events.Attach id mode ats) told may sound own reported does = attach_keeps old new before id mode ats told sound own does
+commands_stay old new before (events.Grant id page frame rights) told may sound own reported does = waits_still old new before sound own (ap registers_of does.iommu) (grant_keeps old new before id page frame rights told sound does)
+commands_stay old new before events.Poll told may sound own reported does = waits_still old new before sound own (ap registers_of does.iommu) (poll_keeps old new told does)
+commands_stay old new before events.Faults told may sound own reported does = taken_waiting old new before told sound own does
+commands_stay old new before (events.Read id address len) told may sound own reported does = asks_keep old new before id (read_of address len) told sound own reported does
+commands_stay old new before (events.Write id address bytes) told may sound own reported does = asks_keep old new before id (write_of address bytes) told sound own reported does
+commands_stay old new before (events.Commit id) told may sound own reported does = commits_keep old new before id told sound own does
+commands_stay old new before (events.Poke address bytes) told may sound own reported does = waits_still old new before sound own (ap registers_of does.iommu) (poke_keeps old before address bytes told new.memory sound does.memory)
+commands_stay old new before (events.Peek address len) told may sound own reported does = ap waiting_in does.1
+commands_stay old new before (events.Free frame) told may sound own reported does = ap waiting_in does.1
+commands_stay old new before event told may sound own reported does = absurd may

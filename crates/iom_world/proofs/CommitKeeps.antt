@@ -1,5 +1,5 @@
 -- What stays true of a world when an access in flight is made: its frame isn't reserved.
-use Rattle.std.proofs.Common.{◌≡◌, ◌<◌, ◌≤◌, ◌∙◌, IfSome, inl, inr, ℕ, false, is_some, List, length, Option, Some, None, slice_get, sym, ap, subst}
+use Rattle.std.proofs.Common.{◌≡◌, ◌<◌, ◌≤◌, ◌∙◌, IfSome, ℕ, false, is_some, List, length, Option, Some, None, slice_get, sym, ap, subst}
 use Rattle.std.proofs.lemmas.List.{length-set}
 use Rattle.iom_base.specs.declared.access.AcceptedAccess.{AcceptedAccess}
 use Rattle.iom_base.specs.declared.access.AccessKind.{AccessKind}
@@ -14,10 +14,8 @@ use Rattle.iom_inflight.specs.Calls.{IsMade, Performs}
 use Rattle.iom_inflight.specs.Flights.{Flights}
 use Rattle.iom_iommu.specs.Parts.{contexts_of, flights_of}
 use Rattle.iom_iommu.specs.Requests.{CommitsOldest}
-use Rattle.iom_machine.specs.declared.outcome.Outcome.{Outcome}
 use Rattle.iom_table_frames.specs.Marks.{is_marked}
 use Rattle.iom_tlb.specs.Chosen.{ioatc}
-use Rattle.iom_world.specs.Commits.{CommitsAccess, MakesOldest}
 use Rattle.iom_world.specs.Parts.{Parts}
 use Rattle.iom_world.specs.Read.{values_of, accesses_of}
 use Rattle.iom_world.specs.Sound.{AreSound, ContextsAreTrue, row_ids}
@@ -49,8 +47,8 @@ made_free old events id made memory flights sound is unreserved =
     (subst (λ (m : MadeAt). is_marked old.driver.marks m.frame ≡ false) is.told unreserved)
 
 leaves_made : (old new : Parts) (events id : ℕ) (made : MadeAt) → AreSound old events → IsMade old.memory (flights_of old.iommu) id made new.memory (flights_of new.iommu)
-    → CommitsOldest old.memory old.iommu id (Some made) new.memory new.iommu → is_marked old.driver.marks made.frame ≡ false → new.driver ≡ old.driver → new.devices ≡ old.devices → Leaves old new
-leaves_made old new events id made sound is call unreserved driver devices =
+    → CommitsOldest old.memory old.iommu id (Some made) new.memory new.iommu → is_marked old.driver.marks made.frame ≡ false → new.driver ≡ old.driver → new.devices ≡ old.devices → new.fabric ≡ old.fabric → Leaves old new
+leaves_made old new events id made sound is call unreserved driver devices fabric =
     let free = made_free old events id made new.memory (flights_of new.iommu) sound is unreserved in
     record {
       size = performed_size is.oldest.accepted.access.kind old.memory new.memory is.oldest.accepted is.performed;
@@ -58,22 +56,24 @@ leaves_made old new events id made sound is call unreserved driver devices =
           (owned_differs old.driver.marks frame is.oldest.accepted.frame owner mark free);
       registers = call.registers;
       frames = call.frames;
-      slots = λ none. call.slots ∙ none;
+      slots = call.slots;
       rows = ap (λ (f : Flights). row_ids f.rows) is.after ∙ row_ids_kept (flights_of old.iommu).rows (record is.row { waiting = is.later });
       driver = driver;
       devices = devices;
+      fabric = fabric;
     }
 
-leaves_none : (old new : Parts) (id : ℕ) → CommitsOldest old.memory old.iommu id None new.memory new.iommu → new.driver ≡ old.driver → new.devices ≡ old.devices → Leaves old new
-leaves_none old new id call driver devices = record {
+leaves_none : (old new : Parts) (id : ℕ) → CommitsOldest old.memory old.iommu id None new.memory new.iommu → new.driver ≡ old.driver → new.devices ≡ old.devices → new.fabric ≡ old.fabric → Leaves old new
+leaves_none old new id call driver devices fabric = record {
   size = ap (λ m. length m) call.makes.1;
   reserved = λ frame owner mark. ap (λ m. slice_get m frame) call.makes.1;
   registers = call.registers;
   frames = call.frames;
-  slots = λ none. call.slots ∙ none;
+  slots = call.slots;
   rows = ap (λ (f : Flights). row_ids f.rows) call.makes.2;
   driver = driver;
   devices = devices;
+  fabric = fabric;
 }
 
 keeps_made : (old new : Parts) (events id : ℕ) (made : Option MadeAt) → AreSound old events → IsSoundDriver old.driver → StaysReady old.driver → Leaves old new
@@ -81,21 +81,21 @@ keeps_made : (old new : Parts) (events id : ℕ) (made : Option MadeAt) → AreS
     → (flights_of new.iommu).so_far ≡ (flights_of old.iommu).so_far → AreAmong (accesses_of (flights_of new.iommu).rows) (accesses_of (flights_of old.iommu).rows) → AreSound new events
 keeps_made old new events id made sound own stays leaves call so_far among =
     let contexts : contexts_of new.iommu ≡ contexts_of old.iommu = ap cached_contexts call.contexts in
-    sound_from old new events sound own leaves events stays (subst (λ n. n ≤ events) (sym so_far) sound.counted)
+    sound_from old new events sound own leaves stays (subst (λ n. n ≤ events) (sym so_far) sound.counted)
     (contexts_stay old new sound.contexts contexts leaves.driver)
     (λ has. make_scene (values_of old) (values_of new) (grants_kept old new events sound own leaves) (queue_kept old new events sound own leaves call.stock)
     so_far among (λ d there. ap (λ c. is_some (c d)) (sym contexts) ∙ there) (λ key translation at. ap (λ c. ioatc.content c key) (sym call.translations) ∙ at) has)
 
 -- a commit keeps the facts, whatever is told of it
 pub keeps_oldest : (old new : Parts) (events id : ℕ) (made : Option MadeAt) → AreSound old events → IsSoundDriver old.driver → StaysReady old.driver
-    → CommitsOldest old.memory old.iommu id made new.memory new.iommu → IfSome made (λ it. is_marked old.driver.marks it.frame ≡ false) → new.driver ≡ old.driver → new.devices ≡ old.devices → AreSound new events
-keeps_oldest old new events id None sound own stays call unreserved driver devices =
-    keeps_made old new events id None sound own stays (leaves_none old new id call driver devices) call
+    → CommitsOldest old.memory old.iommu id made new.memory new.iommu → IfSome made (λ it. is_marked old.driver.marks it.frame ≡ false) → new.driver ≡ old.driver → new.devices ≡ old.devices → new.fabric ≡ old.fabric → AreSound new events
+keeps_oldest old new events id None sound own stays call unreserved driver devices fabric =
+    keeps_made old new events id None sound own stays (leaves_none old new id call driver devices fabric) call
     (ap (λ (f : Flights). f.so_far) call.makes.2)
     (subst (λ (f : Flights). AreAmong (accesses_of f.rows) (accesses_of (flights_of old.iommu).rows)) (sym call.makes.2) (λ x there. there))
-keeps_oldest old new events id (Some made) sound own stays call unreserved driver devices =
+keeps_oldest old new events id (Some made) sound own stays call unreserved driver devices fabric =
     let is : IsMade old.memory (flights_of old.iommu) id made new.memory (flights_of new.iommu) = call.makes in
-    keeps_made old new events id (Some made) sound own stays (leaves_made old new events id made sound is call unreserved driver devices) call
+    keeps_made old new events id (Some made) sound own stays (leaves_made old new events id made sound is call unreserved driver devices fabric) call
     (ap (λ (f : Flights). f.so_far) is.after)
     (subst (λ (f : Flights). AreAmong (accesses_of f.rows) (accesses_of (flights_of old.iommu).rows)) (sym is.after)
     (made_among (flights_of old.iommu).rows id is.row is.oldest is.later is.stands is.waiting))

@@ -31,6 +31,7 @@ use Rattle.iom_world.proofs.FlightMay.{row_may}
 use Rattle.iom_world.proofs.RowPlaces.{IsFound, present_found, row_shown, accepted_at, in_flight_at, with_own}
 use Rattle.iom_world.proofs.RequestStep.{acts_at, acts_absent, shows_same, shows_flights}
 use Rattle.iom_world.proofs.StoreLemmas.{bytes_shown, frames_stored}
+use Rattle.iom_machine.specs.Kinds.{is_any_kind}
 
 -- what a commit leads to: the machine may make the access so, and shows the parts then
 abbrev pub Steps : State → ℕ → Outcome → Parts → Type 0
@@ -102,7 +103,7 @@ module _ (old new : Parts) (events id : ℕ) (sound : AreSound old events) (driv
         let shown = bytes_shown old.memory old.driver.marks state.frames oldest.frame gives.bytes shows.frames free gives.there in (
           next,
           subst (λ t. Commits state id t next) (sym gives.told_so.1)
-              (acts_at (λ (d : machine.Device). Makes state d (Read held) next) old state id (Read held) next shows.devices found
+              (acts_at is_any_kind (λ (d : machine.Device). Makes state d (Read held) next) old state id (Read held) next shows.devices found refl
               (rw in_flight (
                 (
                   reads,
@@ -117,7 +118,7 @@ module _ (old new : Parts) (events id : ℕ) (sound : AreSound old events) (driv
         let next = record (with_oldest_made state device) { frames = stored state.frames oldest.frame (offset_of oldest.access) oldest.access.bytes } in (
           next,
           subst (λ t. Commits state id t next) (sym told_so)
-              (acts_at (λ (d : machine.Device). Makes state d (Wrote oldest.access.len) next) old state id (Wrote oldest.access.len) next shows.devices found
+              (acts_at is_any_kind (λ (d : machine.Device). Makes state d (Wrote oldest.access.len) next) old state id (Wrote oldest.access.len) next shows.devices found refl
               (rw in_flight ((writes, subst (λ k. May state.history found.device.id oldest.frame k) writes may_reach, refl), refl))),
           shows_made next refl
               (subst (λ m. ShowsFrames m old.driver.marks (stored state.frames oldest.frame (offset_of oldest.access) oldest.access.bytes)) (sym stores)
@@ -136,7 +137,7 @@ module _ (old new : Parts) (events id : ℕ) (sound : AreSound old events) (driv
       in_flight_at rows found.device.id idle.row (ap (row_of rows) found.own ∙ idle.stands) ∙ ap (λ (l : List NumberedAccess). map (λ (f : NumberedAccess). f.accepted) l) idle.idle in (
         state,
         subst (λ t. Commits state id t state) (sym tells)
-            (acts_at (λ (d : machine.Device). Makes state d NothingInFlight state) old state id NothingInFlight state shows.devices found (empty, refl)),
+            (acts_at is_any_kind (λ (d : machine.Device). Makes state d NothingInFlight state) old state id NothingInFlight state shows.devices found refl (empty, refl)),
         shows_flights old new state call.makes.1 driver devices call.makes.2 shows,
       )
   step_oldest (Some made) told tells call unreserved = step_made made call.makes unreserved told tells
@@ -146,7 +147,7 @@ pub commit_step : (old new : Parts) (events id : ℕ) (told : Outcome) → AreSo
 commit_step old new events id told sound commits state shows = elim commits [
   | inl unknown ↦ (
     state,
-    acts_absent (λ device. Makes state device told state) old state id told shows.devices unknown.absent unknown.told_so,
+    acts_absent is_any_kind (λ device. Makes state device told state) old state id told shows.devices unknown.absent unknown.told_so,
     shows_same old new state unknown.same shows,
   )
   | inr makes ↦ step_oldest old new events id sound makes.driver makes.devices state shows

@@ -1,10 +1,10 @@
 -- A poll confirms tickets one after another, as far as copies go.
-use Rattle.std.proofs.Common.{◌≡◌, ◌+◌, ◌-◌, ◌≤◌, ◌<◌, ◌∙◌, ℕ, zero, suc, List, [], ◌∷◌, ◌++◌, refl, sym, ap, subst, arith}
+use Rattle.std.proofs.Common.{◌≡◌, ◌+◌, ◌≤◌, ◌∙◌, ℕ, zero, suc, ◌∷◌, refl, sym, ap, subst, arith}
 use Rattle.iom_copies.specs.DriverCalls.{once_confirmed}
 use Rattle.iom_copies.specs.Faithful.{IsFaithful}
 use Rattle.iom_copies.specs.Occurrences.{Confirm}
 use Rattle.iom_ledger.specs.declared.entry.HistoryEntry.TheVariants.{Confirmed}
-use Rattle.iom_copies.specs.Scene.{Scene, PendingTicket}
+use Rattle.iom_copies.specs.Scene.{Scene}
 use Rattle.iom_copies.proofs.OccurrenceLemmas.{occurrences_keep_facts}
 use Rattle.iom_ledger.specs.Confirmations.{confirmed_from}
 use Rattle.iom_machine.specs.declared.state.Attachment.{Attachment}

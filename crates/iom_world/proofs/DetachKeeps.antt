@@ -13,9 +13,9 @@ use Rattle.iom_directory.specs.Pages.{root_level}
 use Rattle.iom_directory.specs.Written.{without_context}
 use Rattle.iom_driver.specs.declared.answers.Ticket as answers
 use Rattle.iom_driver.specs.declared.device.Attachment.TheVariants.{Attached, Leaving}
-use Rattle.iom_driver.specs.Appends.{context_invalidation, space_invalidation, fence}
+use Rattle.iom_driver.specs.Appends.{context_invalidation, space_invalidation, detach_commands, fence}
 use Rattle.iom_driver.specs.declared.device.Stages.{Stages}
-use Rattle.iom_driver.specs.Devices.{attachment_of, is_plugged, owned_stages, owned_stages_of, with_attachment}
+use Rattle.iom_driver.specs.Devices.{attachment_of, is_plugged, owned_stages, owned_stages_of, is_trusted, with_attachment}
 use Rattle.iom_driver.specs.Directory.{context_for}
 use Rattle.iom_driver.specs.Layout.{completion_frame, completion_address, directory_frame}
 use Rattle.iom_driver.specs.Leaving.{QueuesDetach, IsToldOfDetach, DoesDetach}
@@ -38,15 +38,15 @@ use Rattle.iom_world.specs.Parts.{Parts}
 use Rattle.iom_world.specs.Queued.{completed_in}
 use Rattle.iom_world.specs.Read.{space_in, space_at, values_of, accesses_of}
 use Rattle.iom_world.specs.Sound.{AreSound, known_ids, row_ids}
-use Rattle.iom_world.proofs.DeviceLemmas.{shown_set, plugged_set, ids_set, attachment_set, attachment_other}
+use Rattle.iom_world.proofs.DeviceLemmas.{shown_set, trusted_set, ids_set, attachment_set, attachment_other}
 use Rattle.iom_world.proofs.CachedLemmas.{spaces_owned}
 use Rattle.iom_world.proofs.QueuedLemmas.{queued_space}
 use Rattle.iom_world.proofs.DriverKeeps.{attached_is}
 use Rattle.iom_world.proofs.DriverLemmas.{IsSoundDriver}
 use Rattle.iom_world.proofs.PollKeeps.{same_known}
-use Rattle.iom_world.proofs.ReleaseKeeps.{rung_cached, IsRung, rung_again, rung_leaves, next_small}
+use Rattle.iom_world.proofs.ReleaseKeeps.{rung_cached, IsRung, rung_all, rung_leaves, next_small}
 use Rattle.iom_world.proofs.SceneCalls.{QueuesTicket, detach_scene}
-use Rattle.iom_world.proofs.SoundLemmas.{completed_given, same_completed, LeavesWord, sound_from, none_at}
+use Rattle.iom_world.proofs.SoundLemmas.{completed_given, same_completed, LeavesWord, sound_from, none_at, kinds_kept, same_epochs}
 
 -- the reasons of a detach that is answered, whatever tells that something is granted
 abbrev pub IsAdmitted : DriverState → Registers → ℕ → Type 0
@@ -75,12 +75,11 @@ numbers_left d r id admitted =
 
 module _ (old new : Parts) (events id ticket : ℕ) (sound : AreSound old events) (own : IsSoundDriver old.driver) (ready : IsReady new.driver new.memory (registers_of new.iommu))
     (admitted : IsAdmitted old.driver (registers_of old.iommu) id) (queues : QueuesDetach mmio old.driver old.memory old.iommu id ticket new.driver new.memory new.iommu)
-    (devices : new.devices ≡ old.devices) where
+    (devices : new.devices ≡ old.devices) (fabric : new.fabric ≡ old.fabric) where
   rung : IsRung old.iommu new.iommu
   rung =
-      rung_again (without_context old.memory (root_level old.driver.levels) (directory_frame (length old.memory)) id) queues.queued.between_memory new.memory
-      old.iommu queues.queued.between_io new.iommu (context_invalidation id) (space_invalidation queues.stage.mode queues.stage.number) (fence (completion_address (length old.memory)) ticket)
-      queues.queued.first queues.queued.rest
+      rung_all (detach_commands id queues.stage (completion_address (length old.memory)) ticket)
+      (without_context old.memory (root_level old.driver.levels) (directory_frame (length old.memory)) id) new.memory old.iommu new.iommu queues.queued
 
   leaves : LeavesWord old new
   leaves = record {
@@ -135,23 +134,26 @@ module _ (old new : Parts) (events id ticket : ℕ) (sound : AreSound old events
         confirmed = ap (λ (d : DriverState). d.confirmed) queues.driver;
         so_far = ap (λ f. f.so_far) rung.flights;
         in_flight = ap (λ f. accesses_of f.rows) rung.flights;
-        unplugged = λ d none. sym (ap (λ (s : DriverState). is_plugged s.devices d) queues.driver ∙ plugged_set old.driver.devices id (Leaving ticket queues.stage) d) ∙ none;
+        kinds = kinds_kept old new devices;
         contexts = λ d is. sym (ap is_some (rung.contexts d)) ∙ is;
-        cached = rung_cached old new sound.processing rung (spaces_owned old.driver.devices new.driver.devices owned_still);
+        cached = rung_cached old new sound.processing rung devices fabric (spaces_owned old.driver.devices new.driver.devices owned_still);
       }
 
   pub detached_sound : AreSound new events
   detached_sound =
-      sound_from old new events sound leaves (rung_leaves old new rung) (ap (λ (d : DriverState). d.started) queues.driver) ready
-      (same_known old new devices (ap (λ (d : DriverState). known_ids d.devices) queues.driver ∙ ids_set old.driver.devices id (Leaving ticket queues.stage)) (ap (λ f. row_ids f.rows) rung.flights) sound.known)
+      sound_from old new events sound leaves (rung_leaves old new sound.processing rung) (ap (λ (d : DriverState). d.started) queues.driver) ready
+      (same_known old new devices fabric (ap (λ (d : DriverState). known_ids d.devices) queues.driver ∙ ids_set old.driver.devices id (Leaving ticket queues.stage))
+      (λ d. ap (λ (s : DriverState). is_trusted s.devices d) queues.driver ∙ trusted_set old.driver.devices id (Leaving ticket queues.stage) d)
+      (ap (λ f. row_ids f.rows) rung.flights) sound.known)
+      (same_epochs old new events sound devices)
       (subst (λ n. n ≤ completed_in old.memory) (sym (ap (λ (d : DriverState). d.confirmed) queues.driver)) sound.confirmed)
       (subst (λ n. n < 2 ^ 32) (sym given_now) (next_small old.driver.given (numbers_left old.driver (registers_of old.iommu) id admitted)))
       (λ other context cached. ap (option_map context_for) (owned_still other) ∙ sound.contexts other context (sym (rung.contexts other) ∙ cached))
       (∥∥₁_map sound.copies
-      (detach_scene (values_of old) (values_of new) id queues.stage.mode commands queues_ticket
+      (detach_scene (values_of old) (values_of new) id queues.stage.mode queues.stage.ats commands queues_ticket
       (ap shown_attachment was_attached)
       (λ d. ap (λ (s : DriverState). shown_attachment (attachment_of s.devices d)) queues.driver ∙ shown_set old.driver.devices id (Leaving ticket queues.stage) plugged d
-      ∙ ap (λ t. if id == d then shown.Leaving t queues.stage.mode false else shown_attachment (attachment_of old.driver.devices d)) queues.next)
+      ∙ ap (λ t. if id == d then shown.Leaving t queues.stage.mode queues.stage.ats else shown_attachment (attachment_of old.driver.devices d)) queues.next)
       (ungranted old.driver (registers_of old.iommu) id admitted)
       (λ h agrees. subst (λ (s : DriverState). Agrees s.ledger h) (sym queues.driver) agrees)))
 
@@ -162,5 +164,5 @@ keeps_detached old new events id told sound own ready detaches = by detaches.ans
     by : (answer : Result answers.Ticket Refusal)
         → ((granted : Bool) → (IsTrue granted → HasGrants old.driver.ledger id) × (HasGrants old.driver.ledger id → IsTrue granted) → IsToldOfDetach old.driver (registers_of old.iommu) granted id answer)
         → DoesDetach mmio old.driver old.memory old.iommu id answer new.driver new.memory new.iommu → AreSound new events
-    by (Ok ticket) admitted queues = detached_sound old new events id ticket.0 sound own ready admitted queues detaches.devices
-    by (Err why) refused (driver_stays, memory_stays, iommu_stays) = rw (driver_stays, memory_stays, iommu_stays, detaches.devices) sound
+    by (Ok ticket) admitted queues = detached_sound old new events id ticket.0 sound own ready admitted queues detaches.devices detaches.fabric
+    by (Err why) refused (driver_stays, memory_stays, iommu_stays) = rw (driver_stays, memory_stays, iommu_stays, detaches.devices, detaches.fabric) sound

@@ -1,5 +1,5 @@
 -- A detach of the driver is one of the ledger machine.
-use Rattle.std.proofs.Common.{◌≡◌, ◌+◌, ◌∙◌, ℕ, false, List, length, Option, Some, None, Result, Ok, Err, slice_get, refl, sym, ap, subst}
+use Rattle.std.proofs.Common.{◌≡◌, ◌+◌, ◌∙◌, ℕ, List, length, Option, Some, None, Result, Ok, Err, slice_get, refl, sym, ap, subst}
 use Rattle.std.specs.Option.{option_map_or}
 use Rattle.iom_base.specs.declared.owner.Owner.TheVariants.{System}
 use Rattle.iom_directory.specs.Pages.{HasPage, root_level}
@@ -7,7 +7,8 @@ use Rattle.iom_directory.specs.Written.{without_context}
 use Rattle.iom_driver.specs.declared.answers.Ticket.{Ticket}
 use Rattle.iom_driver.specs.declared.device.Attachment.TheVariants as attached
 use Rattle.iom_driver.specs.Devices.{attachment_of, with_attachment}
-use Rattle.iom_driver.specs.Layout.{command_frame, directory_frame}
+use Rattle.iom_driver.specs.Layout.{command_frame, completion_address, directory_frame}
+use Rattle.iom_driver.specs.Appends.{detach_commands}
 use Rattle.iom_driver.specs.Leaving.{QueuesDetach, IsToldOfDetach, DoesDetach}
 use Rattle.iom_driver.specs.State.{DriverState}
 use Rattle.iom_driver.proofs.Places.{attached_is, attached_there, attachment_set, attachment_other}
@@ -36,13 +37,14 @@ use Rattle.iom_world.proofs.HungLemmas.{length-without_context}
 use Rattle.iom_world.proofs.PlaceLemmas.{found_there, replaced_found}
 use Rattle.iom_world.proofs.ReasonLemmas.{there_shown, how_shown, grants_shown, may_detach, detach_refused_by}
 use Rattle.iom_world.proofs.RefusalLemmas.{some_and}
-use Rattle.iom_world.proofs.ReleaseStep.{flights_three, not_ring}
+use Rattle.iom_world.proofs.ReleaseStep.{flights_appended, size_appended, not_ring}
 use Rattle.iom_world.proofs.StayLemmas.{shows_same, not_owned}
 
 -- memory has as many frames after a detach
 size_left : (d d' : DriverState) (memory memory' : List (List ℕ)) (io io' : Iommu) (id ticket : ℕ) → QueuesDetach mmio d memory io id ticket d' memory' io' → length memory' ≡ length memory
 size_left d d' memory memory' io io' id ticket queues =
-    queues.queued.rest.second.written.frames ∙ queues.queued.rest.first.written.frames ∙ queues.queued.first.written.frames
+    size_appended (detach_commands id queues.stage (completion_address (length memory)) ticket)
+    (without_context memory (root_level d.levels) (directory_frame (length memory)) id) memory' io io' queues.queued
     ∙ length-without_context memory (root_level d.levels) (directory_frame (length memory)) id
 
 -- a frame that is nobody's is no page of the directory
@@ -62,11 +64,11 @@ left_state state device ticket = record (with_device state (record device { atta
 
 shows_left : (old new : Parts) (events id ticket : ℕ) (found : declared.Device) → AreSound old events → IsSoundDriver old.driver
     → (queues : QueuesDetach mmio old.driver old.memory old.iommu id ticket new.driver new.memory new.iommu) → new.devices ≡ old.devices
-    → (state : State) → PartsShow old state → device_of state id ≡ Some found → found.attachment ≡ Attached queues.stage.mode false → PartsShow new (left_state state found ticket)
+    → (state : State) → PartsShow old state → device_of state id ≡ Some found → found.attachment ≡ Attached queues.stage.mode queues.stage.ats → PartsShow new (left_state state found ticket)
 shows_left old new events id ticket found sound sound_driver queues devices state shows at how =
     let d = old.driver in
     let rows = (flights_of old.iommu).rows in
-    let flights = flights_three (without_context old.memory (root_level d.levels) (directory_frame (length old.memory)) id) new.memory old.iommu new.iommu _ _ _ queues.queued in
+    let flights = flights_appended (detach_commands id queues.stage (completion_address (length old.memory)) ticket) (without_context old.memory (root_level d.levels) (directory_frame (length old.memory)) id) new.memory old.iommu new.iommu queues.queued in
     let known' = with_attachment d.devices id (attached.Leaving ticket queues.stage) in
     let there = attached_there d.devices id queues.stage queues.attached in
     let ring = subst (λ n. slice_get d.marks (command_frame n) ≡ Some (Some System)) (sym sound.ready.stand.size) sound_driver.fixed.command in
@@ -98,7 +100,7 @@ detach_step old new events id told sound sound_driver does state shows =
         let d = old.driver in
         let there = attached_there d.devices id queues.stage queues.attached in
         let found = found_there (device_of state id) (there_shown old events state id sound shows ∙ there) in
-        let how : found.0.attachment ≡ Attached queues.stage.mode false = found_how state id found.0 found.1 ∙ how_shown old events state id sound shows
+        let how : found.0.attachment ≡ Attached queues.stage.mode queues.stage.ats = found_how state id found.0 found.1 ∙ how_shown old events state id sound shows
         ∙ ap shown_attachment (attached_is (attachment_of d.devices id) queues.stage queues.attached) in (
           left_state state found.0 ticket.0,
           subst (λ t. machine.Detaches state id t (left_state state found.0 ticket.0)) (sym is) (

@@ -9,7 +9,7 @@ use Rattle.iom_driver.specs.declared.device.Attachment.TheVariants.{Detached, At
 use Rattle.iom_driver.specs.declared.device.Device.{Device}
 use Rattle.iom_driver.specs.declared.device.Stages.{Stages}
 use Rattle.iom_driver.specs.Confirmed.{has_left, once_confirmed}
-use Rattle.iom_driver.specs.Devices.{device_of, is_plugged, attachment_of, owned_stages, with_attachment}
+use Rattle.iom_driver.specs.Devices.{device_of, is_plugged, attachment_of, owned_stages, with_attachment, is_trusted}
 use Rattle.iom_driver.proofs.Lists.{differs}
 use Rattle.iom_machine.specs.declared.state.Attachment as machine
 use Rattle.iom_machine.specs.declared.state.Attachment.TheVariants as shown
@@ -46,6 +46,13 @@ plugged_confirmed done devices id = ap (λ (o : Option Device). is_some o) (devi
     by None = refl
     by (Some device) = refl
 
+pub trusted_confirmed : (done : ℕ) (devices : List Device) (id : ℕ) → is_trusted (map (once_confirmed done) devices) id ≡ is_trusted devices id
+trusted_confirmed done devices id = ap (λ (o : Option Device). option_map_or (λ (d : Device). d.trusted) o false) (device_confirmed done devices id) ∙ by (device_of devices id)
+  where
+    by : (o : Option Device) → option_map_or (λ (d : Device). d.trusted) (option_map (once_confirmed done) o) false ≡ option_map_or (λ (d : Device). d.trusted) o false
+    by None = refl
+    by (Some device) = refl
+
 pub ids_confirmed : (done : ℕ) (devices : List Device) → known_ids (map (once_confirmed done) devices) ≡ known_ids devices
 ids_confirmed done [] = refl
 ids_confirmed done (device ∷ others) = ap (λ ids. device.id ∷ ids) (ids_confirmed done others)
@@ -55,7 +62,7 @@ left_still : (first n : ℕ) (f : ℕ → machine.Attachment) (d : ℕ) (a : mac
 left_still first zero f d a is still = is
 left_still first (suc n) f d a is still = ap (ticket_confirmed (first + n + 1)) (left_still first n f d a is still) ∙ still (first + n + 1)
 
-left_leaving : (first n : ℕ) (f : ℕ → machine.Attachment) (d ticket : ℕ) (stage : Stages) → f d ≡ shown.Leaving ticket stage.mode false → first < ticket
+left_leaving : (first n : ℕ) (f : ℕ → machine.Attachment) (d ticket : ℕ) (stage : Stages) → f d ≡ shown.Leaving ticket stage.mode stage.ats → first < ticket
     → left_after first n f d ≡ shown_attachment (after (first + n) (Leaving ticket stage))
 left_leaving first zero f d ticket stage is above =
     let waits : nat_le ticket (first + 0) ≡ false = lt-leb ticket (first + 0) (omega (arith, above)) in
@@ -72,12 +79,12 @@ left_leaving first (suc n) f d ticket stage is above =
           ∙ elim (eqb_tells (first + n + 1) ticket) [
             | inl e ↦
                 let gone : nat_le ticket (first + suc n) ≡ true = le-leb ticket (first + suc n) (let l = e.1 in omega (arith, l)) in
-                ap (λ b. if b then shown.Detached else shown.Leaving ticket stage.mode false) e.0
+                ap (λ b. if b then shown.Detached else shown.Leaving ticket stage.mode stage.ats) e.0
                 ∙ sym (ap (λ b. shown_attachment (if b then Detached else Leaving ticket stage)) gone)
             | inr ne ↦
                 let over : first + suc n < ticket = (let far = over_next (first + n) ticket high.1 ne.1 in omega (arith, far)) in
                 let waits : nat_le ticket (first + suc n) ≡ false = lt-leb ticket (first + suc n) over in
-                ap (λ b. if b then shown.Detached else shown.Leaving ticket stage.mode false) ne.0
+                ap (λ b. if b then shown.Detached else shown.Leaving ticket stage.mode stage.ats) ne.0
                 ∙ sym (ap (λ b. shown_attachment (if b then Detached else Leaving ticket stage)) waits)
           ]
     ]
@@ -89,7 +96,7 @@ left_leaving first (suc n) f d ticket stage is above =
 pub left_is : (first n : ℕ) (f : ℕ → machine.Attachment) (d : ℕ) (a : Attachment) → f d ≡ shown_attachment a
     → ((ticket : ℕ) (stage : Stages) → a ≡ Leaving ticket stage → first < ticket) → left_after first n f d ≡ shown_attachment (after (first + n) a)
 left_is first n f d Detached is later = left_still first n f d shown.Detached is (λ ticket. refl)
-left_is first n f d (Attached stage) is later = left_still first n f d (shown.Attached stage.mode false) is (λ ticket. refl)
+left_is first n f d (Attached stage) is later = left_still first n f d (shown.Attached stage.mode stage.ats) is (λ ticket. refl)
 left_is first n f d (Leaving ticket stage) is later = left_leaving first n f d ticket stage is (later ticket stage refl)
 
 -- one device is attached so
@@ -111,6 +118,25 @@ device_set (device ∷ others) id a other = elim (eqb_tells device.id id) [
 
 pub plugged_set : (devices : List Device) (id : ℕ) (a : Attachment) (other : ℕ) → is_plugged (with_attachment devices id a) other ≡ is_plugged devices other
 plugged_set devices id a other = device_set devices id a other
+
+pub trusted_set : (devices : List Device) (id : ℕ) (a : Attachment) (other : ℕ) → is_trusted (with_attachment devices id a) other ≡ is_trusted devices other
+trusted_set [] id a other = refl
+trusted_set (device ∷ others) id a other = by (device.id == id) (trusted_set others id a other)
+  where
+    by : (b : Bool) → is_trusted (with_attachment others id a) other ≡ is_trusted others other
+        → is_trusted (if b then (record device { attachment = a }) ∷ others else device ∷ with_attachment others id a) other ≡ is_trusted (device ∷ others) other
+    by true rest = first_alike (device.id == other)
+      where
+        first_alike : (d : Bool) → option_map_or (λ (e : Device). e.trusted) (if d then Some (record device { attachment = a }) else device_of others other) false
+            ≡ option_map_or (λ (e : Device). e.trusted) (if d then Some device else device_of others other) false
+        first_alike true = refl
+        first_alike false = refl
+    by false rest = later_alike (device.id == other)
+      where
+        later_alike : (d : Bool) → option_map_or (λ (e : Device). e.trusted) (if d then Some device else device_of (with_attachment others id a) other) false
+            ≡ option_map_or (λ (e : Device). e.trusted) (if d then Some device else device_of others other) false
+        later_alike true = refl
+        later_alike false = rest
 
 pub ids_set : (devices : List Device) (id : ℕ) (a : Attachment) → known_ids (with_attachment devices id a) ≡ known_ids devices
 ids_set [] id a = refl

@@ -1,10 +1,9 @@
 -- What stays true of a world when its driver is asked to attach a device, to grant a frame, and to poll.
-use Rattle.std.proofs.Common.{zero, suc, ◌≡◌, ◌≢◌, ◌^◌, ◌<◌, ◌≤◌, ◌||◌, ◌++◌, ◌∙◌, ◌==◌, not, is_some, if◌then◌else◌, All, ℕ, Bool, true, false, List, [], ◌∷◌, length, Option, Some, None, Result, Ok, Err, slice_get, inl, inr, refl, sym, ap, subst, arith}
+use Rattle.std.proofs.Common.{zero, suc, ◌≡◌, ◌≢◌, ◌^◌, ◌<◌, ◌≤◌, ◌||◌, ◌&&◌, ◌++◌, ◌∙◌, ◌==◌, not, is_some, if◌then◌else◌, All, ℕ, Bool, true, false, List, [], ◌∷◌, length, Option, Some, None, Result, Ok, Err, slice_get, inl, inr, refl, sym, ap, subst, arith}
 use Rattle.std.specs.Option.{option_map}
 use Rattle.std.proofs.Math.Logic.{∥∥₁_map}
 use Rattle.std.proofs.lemmas.Bool.{false≢true, leb-false}
 use Rattle.std.proofs.lemmas.Bool.Decides.{eqb_tells}
-use Rattle.std.proofs.lemmas.List.{length-set}
 use Rattle.iom_base.specs.declared.grant_rights.GrantRights.{GrantRights}
 use Rattle.iom_base.specs.declared.mode.Mode.{Mode}
 use Rattle.iom_base.specs.declared.owner.Owner.{Owner}
@@ -19,7 +18,7 @@ use Rattle.iom_driver.specs.declared.device.Stages.{Stages}
 use Rattle.iom_driver.specs.Attaching.{AnswersAttach, TakesRoot, root_frames}
 use Rattle.iom_driver.specs.Calls.{AnswersGrant, TakesTables, IsSame}
 use Rattle.iom_driver.specs.Choices.{AreHighestFree, marked_for, cleared}
-use Rattle.iom_driver.specs.Devices.{attachment_of, is_plugged, attached_stages, owned_stages, owned_stages_of}
+use Rattle.iom_driver.specs.Devices.{attachment_of, is_plugged, attached_stages, owned_stages, owned_stages_of, is_trusted}
 use Rattle.iom_driver.specs.Directory.{context_for, DirectoryStands}
 use Rattle.iom_driver.specs.Layout.{IsLevels, id_limit, command_frame, completion_frame, directory_frame, completion_address}
 use Rattle.iom_driver.specs.Ready.{IsReady}
@@ -31,7 +30,7 @@ use Rattle.iom_driver.proofs.Marks.{NotAmong, Among, not_among, mark_stays, leng
 use Rattle.iom_iommu.specs.Parts.{registers_of, contexts_of, flights_of}
 use Rattle.iom_ledger.specs.declared.ledger.Ledger.{Ledger}
 use Rattle.iom_ledger.specs.declared.refusal.Refusal.{Refusal}
-use Rattle.iom_ledger.specs.declared.refusal.Refusal.TheVariants.{NoSuchDevice, AlreadyAttached, IdTooWide, IovaBusy}
+use Rattle.iom_ledger.specs.declared.refusal.Refusal.TheVariants.{NoSuchDevice, AlreadyAttached, IdTooWide, NotTrusted, IovaBusy}
 use Rattle.iom_ledger.specs.Refusals.{NoneApplies}
 use Rattle.iom_ledger.specs.Shown.{Agrees, held_in, lingering_in}
 use Rattle.iom_machine.specs.declared.outcome.Outcome.{Outcome}
@@ -46,14 +45,16 @@ use Rattle.iom_tlb.specs.declared.space.Space.{Space}
 use Rattle.iom_world.specs.Read.{space_in, space_at, values_of, accesses_of}
 use Rattle.iom_world.specs.Sound.{AreSound, ContextsAreTrue, known_ids, row_ids}
 use Rattle.iom_world.proofs.CachedLemmas.{same_cached, spaces_same, none_spaced}
-use Rattle.iom_world.proofs.DeviceLemmas.{shown_set, plugged_set, ids_set, attachment_other, owns_nothing}
+use Rattle.iom_world.proofs.DeviceLemmas.{shown_set, trusted_set, ids_set, attachment_other, owns_nothing}
 use Rattle.iom_world.proofs.DriverLemmas.{IsSoundDriver}
 use Rattle.iom_world.proofs.HungKeeps.{AreZeros, AreOnce, hung_keeps}
 use Rattle.iom_world.proofs.PollKeeps as polling
 use Rattle.iom_world.proofs.PollKeeps.{same_known}
 use Rattle.iom_world.proofs.SceneCalls.{AreSameValues, same_scene, AttachesDetached, attach_scene, GrantsOne, grant_scene}
 use Rattle.iom_world.proofs.TakenLemmas.{taken_all}
-use Rattle.iom_world.proofs.SoundLemmas.{same_completed, LeavesWord, same_iommu, sound_from, same_waiting, fixed_frames, none_at}
+use Rattle.iom_world.proofs.SoundLemmas.{same_completed, LeavesWord, same_iommu, sound_from, same_waiting, fixed_frames, none_at, kinds_kept, same_epochs}
+use Rattle.iom_copies.specs.Attachments.{caches_translations}
+use Rattle.iom_world.specs.Caches.{kind_in}
 
 -- small facts of tests
 pub none_of : {A : Type 0} (o : Option A) → is_some o ≡ false → o ≡ None
@@ -126,15 +127,15 @@ room_for_ids levels range = by levels range.0 range.1
     by (suc (suc (suc (suc n)))) one three = absurd (omega arith)
 
 -- ATTACH: a frame of the system's that is no page of the directory keeps its bytes
-pub root_keeps : (d : DriverState) (memory : List (List ℕ)) (id : ℕ) (mode : Mode) (d' : DriverState) (memory' : List (List ℕ)) → length memory ≡ length d.marks → IsLevels d.levels
-    → NoneApplies (why_not_attach d id) → DirectoryStands memory d.marks d.devices d.levels → TakesRoot d memory id mode d' memory'
+pub root_keeps : (d : DriverState) (memory : List (List ℕ)) (id : ℕ) (mode : Mode) (ats : Bool) (d' : DriverState) (memory' : List (List ℕ)) → length memory ≡ length d.marks → IsLevels d.levels
+    → NoneApplies (why_not_attach d id ats) → DirectoryStands memory d.marks d.devices d.levels → TakesRoot d memory id mode ats d' memory'
     → (f : ℕ) → slice_get d.marks f ≡ Some (Some System) → ((g : ℕ) → HasPage memory (root_level d.levels) (directory_frame (length memory)) g → f ≢ g)
     → slice_get memory' f ≡ slice_get memory f
-root_keeps d memory id mode d' memory' size range admitted stands takes f system apart =
+root_keeps d memory id mode ats d' memory' size range admitted stands takes f system apart =
     let top = root_level d.levels in
     let roots = root_frames mode takes.stage.root in
     let taken = takes.pages ++ roots in
-    let low : id < id_limit d.levels = leb-false (id_limit d.levels) id (none_at (why_not_attach d id) 3 _ IdTooWide refl admitted) in
+    let low : id < id_limit d.levels = leb-false (id_limit d.levels) id (none_at (why_not_attach d id ats) 3 _ IdTooWide refl admitted) in
     let below : id < ids_below top = subst (λ n. id < n) (room_for_ids d.levels range) low in
     let free = taken_all d memory id takes.stage.root mode takes.pages takes.chosen takes.root in
     let inside : All (λ n. n < length memory) taken = λ k n lt. (free k n lt).0 in
@@ -153,35 +154,35 @@ root_keeps d memory id mode d' memory' size range admitted stands takes f system
     (among_before f takes.pages roots (not_taken f system))
     ∙ bytes_stay f taken memory (not_taken f system)
 
-module _ (old new : Parts) (events id : ℕ) (sound : AreSound old events) (own : IsSoundDriver old.driver) (admitted : NoneApplies (why_not_attach old.driver id))
-    (mode : Mode) (takes : TakesRoot old.driver old.memory id mode new.driver new.memory) where
+module _ (old new : Parts) (events id : ℕ) (sound : AreSound old events) (own : IsSoundDriver old.driver) (ats : Bool)
+    (admitted : NoneApplies (why_not_attach old.driver id ats)) (mode : Mode) (takes : TakesRoot old.driver old.memory id mode ats new.driver new.memory) where
   pub attach_keeps_ring : slice_get new.memory (command_frame (length old.memory)) ≡ slice_get old.memory (command_frame (length old.memory))
   attach_keeps_ring =
       let stands = sound.ready.stand.directory sound.started in
-      root_keeps old.driver old.memory id mode new.driver new.memory sound.ready.stand.size own.sizes.in_range admitted stands takes
+      root_keeps old.driver old.memory id mode ats new.driver new.memory sound.ready.stand.size own.sizes.in_range admitted stands takes
       (command_frame (length old.memory)) (fixed_frames old events sound own).command (λ g page same. (stands.own g page).no_command (sym same))
 
   pub attach_keeps_word : slice_get new.memory (completion_frame (length old.memory)) ≡ slice_get old.memory (completion_frame (length old.memory))
   attach_keeps_word =
       let stands = sound.ready.stand.directory sound.started in
-      root_keeps old.driver old.memory id mode new.driver new.memory sound.ready.stand.size own.sizes.in_range admitted stands takes
+      root_keeps old.driver old.memory id mode ats new.driver new.memory sound.ready.stand.size own.sizes.in_range admitted stands takes
       (completion_frame (length old.memory)) (fixed_frames old events sound own).completion (λ g page same. (stands.own g page).no_completion (sym same))
 
 module _ (old new : Parts) (events id : ℕ) (sound : AreSound old events) (own : IsSoundDriver old.driver) (ready : IsReady new.driver new.memory (registers_of new.iommu))
-    (admitted : NoneApplies (why_not_attach old.driver id)) (mode : Mode) (takes : TakesRoot old.driver old.memory id mode new.driver new.memory)
-    (iommu : new.iommu ≡ old.iommu) (devices : new.devices ≡ old.devices) where
+    (ats : Bool) (admitted : NoneApplies (why_not_attach old.driver id ats)) (mode : Mode) (takes : TakesRoot old.driver old.memory id mode ats new.driver new.memory)
+    (iommu : new.iommu ≡ old.iommu) (devices : new.devices ≡ old.devices) (fabric : new.fabric ≡ old.fabric) where
   leaves_attached : LeavesWord old new
   leaves_attached = record {
     size = ready.stand.size ∙ ap (λ (d : DriverState). length d.marks) takes.driver ∙ length-marked_for (OneDevice id) (root_frames mode takes.stage.root) (marked_for System takes.pages old.driver.marks)
         ∙ length-marked_for System takes.pages old.driver.marks ∙ sym sound.ready.stand.size;
-    word = attach_keeps_word old new events id sound own admitted mode takes;
+    word = attach_keeps_word old new events id sound own ats admitted mode takes;
   }
 
   plugged : is_plugged old.driver.devices id ≡ true
-  plugged = not_false (is_plugged old.driver.devices id) (none_at (why_not_attach old.driver id) 1 _ NoSuchDevice refl admitted)
+  plugged = not_false (is_plugged old.driver.devices id) (none_at (why_not_attach old.driver id ats) 1 _ NoSuchDevice refl admitted)
 
   owns_none : owned_stages_of old.driver.devices id ≡ None
-  owns_none = none_of (owned_stages_of old.driver.devices id) (none_at (why_not_attach old.driver id) 2 _ AlreadyAttached refl admitted)
+  owns_none = none_of (owned_stages_of old.driver.devices id) (none_at (why_not_attach old.driver id ats) 2 _ AlreadyAttached refl admitted)
 
   -- who has an address space keeps it
   spaces_attached : (other : ℕ) (space : Space) → space_at old.driver.devices other ≡ Some space → space_at new.driver.devices other ≡ Some space
@@ -191,22 +192,30 @@ module _ (old new : Parts) (events id : ℕ) (sound : AreSound old events) (own 
         ∙ ap (λ a. option_map (λ (stage : Stages). space_in stage.mode stage.number) (owned_stages a)) (attachment_other old.driver.devices id other (Attached takes.stage) ne.1) ∙ at
   ]
 
-  attaches_detached : AttachesDetached (values_of old) (values_of new) id mode
+  -- with ATS only a device that has a cache of its own
+  trusted_if : ats ≡ true → caches_translations (kind_in old.devices id) ≡ true
+  trusted_if with =
+      let tested : (ats && not (is_trusted old.driver.devices id)) ≡ false = none_at (why_not_attach old.driver id ats) 4 _ NotTrusted refl admitted in
+      sym (sound.known.trusted id) ∙ not_false (is_trusted old.driver.devices id) (ap (λ (b : Bool). b && not (is_trusted old.driver.devices id)) (sym with) ∙ tested)
+
+  attaches_detached : AttachesDetached (values_of old) (values_of new) id mode ats
   attaches_detached = record {
+    trusted = trusted_if;
     detached = ap shown_attachment (owns_nothing (attachment_of old.driver.devices id) owns_none);
     attached = λ d. ap (λ (s : DriverState). shown_attachment (attachment_of s.devices d)) takes.driver ∙ shown_set old.driver.devices id (Attached takes.stage) plugged d
-        ∙ ap (λ m. if id == d then shown.Attached m false else shown_attachment (attachment_of old.driver.devices d)) takes.in_mode;
+        ∙ ap (λ m. if id == d then shown.Attached m takes.stage.ats else shown_attachment (attachment_of old.driver.devices d)) takes.in_mode
+        ∙ ap (λ a. if id == d then shown.Attached mode a else shown_attachment (attachment_of old.driver.devices d)) takes.with_ats;
     agrees = λ h agrees. subst (λ (s : DriverState). Agrees s.ledger h) (sym takes.driver) agrees;
     address = ap completion_address leaves_attached.size;
-    waiting = same_waiting old new events sound (ap registers_of iommu) (attach_keeps_ring old new events id sound own admitted mode takes);
+    waiting = same_waiting old new events sound (ap registers_of iommu) (attach_keeps_ring old new events id sound own ats admitted mode takes);
     completed = same_completed old.memory new.memory leaves_attached.size leaves_attached.word;
     given = ap (λ (d : DriverState). d.given) takes.driver;
     confirmed = ap (λ (d : DriverState). d.confirmed) takes.driver;
     so_far = ap (λ i. (flights_of i).so_far) iommu;
     in_flight = ap (λ i. accesses_of (flights_of i).rows) iommu;
-    unplugged = λ d none. sym (ap (λ (s : DriverState). is_plugged s.devices d) takes.driver ∙ plugged_set old.driver.devices id (Attached takes.stage) d) ∙ none;
+    kinds = kinds_kept old new devices;
     contexts = λ d is. ap (λ i. is_some (contexts_of i d)) (sym iommu) ∙ is;
-    cached = same_cached old new iommu spaces_attached;
+    cached = same_cached old new iommu devices fabric spaces_attached;
   }
 
   -- nothing was cached for a device that had no stage
@@ -225,19 +234,21 @@ module _ (old new : Parts) (events id : ℕ) (sound : AreSound old events) (own 
   pub attached_sound : AreSound new events
   attached_sound =
       sound_from old new events sound leaves_attached (same_iommu old new iommu) (ap (λ (d : DriverState). d.started) takes.driver) ready
-      (same_known old new devices (ap (λ (d : DriverState). known_ids d.devices) takes.driver ∙ ids_set old.driver.devices id (Attached takes.stage)) (ap (λ i. row_ids (flights_of i).rows) iommu) sound.known)
+      (same_known old new devices fabric (ap (λ (d : DriverState). known_ids d.devices) takes.driver ∙ ids_set old.driver.devices id (Attached takes.stage))
+      (λ d. ap (λ (s : DriverState). is_trusted s.devices d) takes.driver ∙ trusted_set old.driver.devices id (Attached takes.stage) d) (ap (λ i. row_ids (flights_of i).rows) iommu) sound.known)
+      (same_epochs old new events sound devices)
       (subst (λ (d : DriverState). d.confirmed ≤ completed_in old.memory) (sym takes.driver) sound.confirmed)
       (subst (λ (d : DriverState). d.given < 2 ^ 32) (sym takes.driver) sound.small)
       contexts_attached
-      (∥∥₁_map sound.copies (attach_scene (values_of old) (values_of new) id mode attaches_detached))
+      (∥∥₁_map sound.copies (attach_scene (values_of old) (values_of new) id mode ats attaches_detached))
 
-pub keeps_attached : (old new : Parts) (events id : ℕ) (mode : Mode) (told : Outcome) → AreSound old events → IsSoundDriver old.driver → IsReady new.driver new.memory (registers_of new.iommu)
-    → AttachesDevice old id mode told new → AreSound new events
-keeps_attached old new events id mode told sound own ready attaches = by attaches.answer attaches.call
+pub keeps_attached : (old new : Parts) (events id : ℕ) (mode : Mode) (ats : Bool) (told : Outcome) → AreSound old events → IsSoundDriver old.driver → IsReady new.driver new.memory (registers_of new.iommu)
+    → AttachesDevice old id mode ats told new → AreSound new events
+keeps_attached old new events id mode ats told sound own ready attaches = by attaches.answer attaches.call
   where
-    by : (answer : Result (Unit {0}) Refusal) → AnswersAttach old.driver old.memory id mode answer new.driver new.memory → AreSound new events
-    by (Ok done) (admitted, takes) = attached_sound old new events id sound own ready admitted mode takes attaches.iommu attaches.devices
-    by (Err why) (refused, driver_stays, memory_stays) = rw (memory_stays, attaches.iommu, driver_stays, attaches.devices) sound
+    by : (answer : Result (Unit {0}) Refusal) → AnswersAttach old.driver old.memory id mode ats answer new.driver new.memory → AreSound new events
+    by (Ok done) (admitted, takes) = attached_sound old new events id sound own ready ats admitted mode takes attaches.iommu attaches.devices attaches.fabric
+    by (Err why) (refused, driver_stays, memory_stays) = rw (memory_stays, attaches.iommu, driver_stays, attaches.devices, attaches.fabric) sound
 
 -- a page that isn't busy
 nothing_there : {A : Type 0} (held lingering : Option A) → (is_some held || is_some lingering) ≡ false → (held ≡ None) × (lingering ≡ None)
@@ -260,7 +271,7 @@ tables_keep_system d memory id page frame rights d' memory' size takes n system 
 
 module _ (old new : Parts) (events id page frame : ℕ) (rights : GrantRights) (sound : AreSound old events) (own : IsSoundDriver old.driver)
     (ready : IsReady new.driver new.memory (registers_of new.iommu)) (admitted : NoneApplies (why_not_grant old.driver id page frame))
-    (takes : TakesTables old.driver old.memory id page frame rights new.driver new.memory) (iommu : new.iommu ≡ old.iommu) (devices : new.devices ≡ old.devices) where
+    (takes : TakesTables old.driver old.memory id page frame rights new.driver new.memory) (iommu : new.iommu ≡ old.iommu) (devices : new.devices ≡ old.devices) (fabric : new.fabric ≡ old.fabric) where
   grant_keeps_system : (n : ℕ) → slice_get old.driver.marks n ≡ Some (Some System) → slice_get new.memory n ≡ slice_get old.memory n
   grant_keeps_system = tables_keep_system old.driver old.memory id page frame rights new.driver new.memory sound.ready.stand.size takes
 
@@ -275,6 +286,7 @@ module _ (old new : Parts) (events id page frame : ℕ) (rights : GrantRights) (
       let vacant = vacant_where old.driver id page frame admitted in
       record {
         mode = takes.stage.mode;
+        ats = takes.stage.ats;
         attached = ap shown_attachment (attached_is (attachment_of old.driver.devices id) takes.stage takes.attached);
         not_held = vacant.0;
         not_lingering = vacant.1;
@@ -286,16 +298,18 @@ module _ (old new : Parts) (events id page frame : ℕ) (rights : GrantRights) (
         confirmed = ap (λ (d : DriverState). d.confirmed) takes.driver;
         so_far = ap (λ i. (flights_of i).so_far) iommu;
         in_flight = ap (λ i. accesses_of (flights_of i).rows) iommu;
-        unplugged = λ d none. sym (ap (λ (s : DriverState). is_plugged s.devices d) takes.driver) ∙ none;
+        kinds = kinds_kept old new devices;
         attachments = λ d. ap (λ (s : DriverState). shown_attachment (attachment_of s.devices d)) takes.driver;
         contexts = λ d is. ap (λ i. is_some (contexts_of i d)) (sym iommu) ∙ is;
-        cached = same_cached old new iommu (spaces_same old.driver.devices new.driver.devices (ap (λ (d : DriverState). d.devices) takes.driver));
+        cached = same_cached old new iommu devices fabric (spaces_same old.driver.devices new.driver.devices (ap (λ (d : DriverState). d.devices) takes.driver));
       }
 
   pub granted_sound : AreSound new events
   granted_sound =
       sound_from old new events sound leaves_granted (same_iommu old new iommu) (ap (λ (d : DriverState). d.started) takes.driver) ready
-      (same_known old new devices (ap (λ (d : DriverState). known_ids d.devices) takes.driver) (ap (λ i. row_ids (flights_of i).rows) iommu) sound.known)
+      (same_known old new devices fabric (ap (λ (d : DriverState). known_ids d.devices) takes.driver) (λ d. ap (λ (s : DriverState). is_trusted s.devices d) takes.driver)
+      (ap (λ i. row_ids (flights_of i).rows) iommu) sound.known)
+      (same_epochs old new events sound devices)
       (subst (λ n. n ≤ completed_in old.memory) (sym (ap (λ (d : DriverState). d.confirmed) takes.driver)) sound.confirmed)
       (subst (λ n. n < 2 ^ 32) (sym (ap (λ (d : DriverState). d.given) takes.driver)) sound.small)
       (λ other context cached.
@@ -304,8 +318,8 @@ module _ (old new : Parts) (events id page frame : ℕ) (rights : GrantRights) (
 
 -- nothing changes but what room the driver's ledger has
 pub roomy_sound : (old new : Parts) (events : ℕ) → AreSound old events → IsReady new.driver new.memory (registers_of new.iommu) → IsSame old.driver new.driver
-    → new.memory ≡ old.memory → new.iommu ≡ old.iommu → new.devices ≡ old.devices → AreSound new events
-roomy_sound old new events sound ready same memory iommu devices =
+    → new.memory ≡ old.memory → new.iommu ≡ old.iommu → new.devices ≡ old.devices → new.fabric ≡ old.fabric → AreSound new events
+roomy_sound old new events sound ready same memory iommu devices fabric =
     let size : length new.memory ≡ length old.memory = ap (λ m. length m) memory in
     let word : slice_get new.memory (completion_frame (length old.memory)) ≡ slice_get old.memory (completion_frame (length old.memory)) = ap (λ m. slice_get m (completion_frame (length old.memory))) memory in
     let alike : AreSameValues (values_of old) (values_of new) = record {
@@ -317,13 +331,15 @@ roomy_sound old new events sound ready same memory iommu devices =
       confirmed = ap (λ (d : DriverState). d.confirmed) same.rest;
       so_far = ap (λ i. (flights_of i).so_far) iommu;
       in_flight = ap (λ i. accesses_of (flights_of i).rows) iommu;
-      unplugged = λ d none. sym (ap (λ (s : DriverState). is_plugged s.devices d) same.rest) ∙ none;
+      kinds = kinds_kept old new devices;
       attachments = λ d. ap (λ (s : DriverState). shown_attachment (attachment_of s.devices d)) same.rest;
       contexts = λ d is. ap (λ i. is_some (contexts_of i d)) (sym iommu) ∙ is;
-      cached = same_cached old new iommu (spaces_same old.driver.devices new.driver.devices (ap (λ (d : DriverState). d.devices) same.rest));
+      cached = same_cached old new iommu devices fabric (spaces_same old.driver.devices new.driver.devices (ap (λ (d : DriverState). d.devices) same.rest));
     } in
     sound_from old new events sound (record { size = size; word = word }) (same_iommu old new iommu) (ap (λ (d : DriverState). d.started) same.rest) ready
-    (same_known old new devices (ap (λ (d : DriverState). known_ids d.devices) same.rest) (ap (λ i. row_ids (flights_of i).rows) iommu) sound.known)
+    (same_known old new devices fabric (ap (λ (d : DriverState). known_ids d.devices) same.rest) (λ d. ap (λ (s : DriverState). is_trusted s.devices d) same.rest)
+    (ap (λ i. row_ids (flights_of i).rows) iommu) sound.known)
+    (same_epochs old new events sound devices)
     (subst (λ n. n ≤ completed_in old.memory) (sym (ap (λ (d : DriverState). d.confirmed) same.rest)) sound.confirmed)
     (subst (λ n. n < 2 ^ 32) (sym (ap (λ (d : DriverState). d.given) same.rest)) sound.small)
     (λ other context cached.
@@ -335,8 +351,8 @@ pub keeps_granted : (old new : Parts) (events id page frame : ℕ) (rights : Gra
 keeps_granted old new events id page frame rights told sound own ready grants = by grants.answer grants.call
   where
     by : (answer : Result (Unit {0}) Refusal) → AnswersGrant old.driver old.memory id page frame rights answer new.driver new.memory → AreSound new events
-    by (Ok done) (admitted, takes) = granted_sound old new events id page frame rights sound own ready admitted takes grants.iommu grants.devices
-    by (Err why) (refused, same, memory_stays) = roomy_sound old new events sound ready same memory_stays grants.iommu grants.devices
+    by (Ok done) (admitted, takes) = granted_sound old new events id page frame rights sound own ready admitted takes grants.iommu grants.devices grants.fabric
+    by (Err why) (refused, same, memory_stays) = roomy_sound old new events sound ready same memory_stays grants.iommu grants.devices grants.fabric
 
 pub keeps_polled : (old new : Parts) (events : ℕ) (told : Outcome) → AreSound old events → IsSoundDriver old.driver → IsReady new.driver new.memory (registers_of new.iommu)
     → PollsTickets old told new → AreSound new events

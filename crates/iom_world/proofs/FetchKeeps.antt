@@ -1,5 +1,5 @@
 -- What stays true of a world when the IOMMU takes a command: a fence is done only while nothing is in flight, and stores its number.
-use Rattle.std.proofs.Common.{inl, inr, ◌≡◌, ◌==◌, ◌/◌, ◌^◌, ◌<◌, ◌≤◌, ◌&&◌, ◌||◌, ◌∙◌, ℕ, Bool, true, false, not, nat_lt, nat_le, is_some, List, [], ◌∷◌, length, Option, Some, None, slice_get, suc, refl, sym, ap, subst, arith, if◌then◌else◌}
+use Rattle.std.proofs.Common.{inl, inr, ◌≡◌, ◌==◌, ◌/◌, ◌^◌, ◌<◌, ◌≤◌, ◌&&◌, ◌||◌, ◌∙◌, ℕ, Bool, true, false, not, nat_lt, nat_le, is_some, List, [], ◌∷◌, ◌+◌, length, map, Contains, Option, Some, None, slice_get, suc, refl, sym, ap, subst, arith, if◌then◌else◌}
 use Rattle.std.specs.Option.{option_map_or}
 use Rattle.std.proofs.Math.Logic.{∥∥₁_map}
 use Rattle.std.proofs.lemmas.Bool.{false≢true, and_parts, eqb-true, eq-eqb, leb-true, le-leb}
@@ -17,20 +17,20 @@ use Rattle.iom_copies.specs.ToCome.{FencesRise}
 use Rattle.iom_device_dir.specs.declared.context.Context.{Context}
 use Rattle.iom_device_dir.specs.Contents.{Content}
 use Rattle.iom_driver.specs.Appends.{fence}
-use Rattle.iom_driver.specs.Devices.{attachment_of, is_plugged}
+use Rattle.iom_driver.specs.Devices.{attachment_of}
 use Rattle.iom_driver.specs.Laws.{KeepsReserved, KeepsRing}
 use Rattle.iom_driver.specs.Layout.{completion_frame, completion_address}
 use Rattle.iom_driver.specs.Ready.{IsRing}
 use Rattle.iom_driver.specs.State.{DriverState}
-use Rattle.iom_driver.proofs.Lists.{get_there}
+use Rattle.iom_driver.proofs.Lists.{get_there, differs}
 use Rattle.iom_driver.proofs.Ring.{in_ring}
 use Rattle.iom_base.specs.declared.access.AccessKind.TheVariants.{Read, Write}
 use Rattle.iom_inflight.specs.Flights.{Flights, are_drained}
 use Rattle.iom_iommu.specs.declared.fetched.Fetched.{Fetched}
 use Rattle.iom_iommu.specs.declared.fetched.Fetched.TheVariants.{Did, Waiting, Empty, Stopped}
 use Rattle.iom_world.specs.OwnIommu.{Iommu}
-use Rattle.iom_iommu.specs.Fetches.{FetchesCommand, DropsContexts, DropsTranslations, counted_in, waits_for_accesses, is_held, slots_by, after_none, stock_at, WaitsAt, store_of, with_store, with_done, IsStorable, IsStoredIn, IsOffRing, StopsAtEntry, StopsFetching, head_entry}
-use Rattle.iom_iommu.specs.Parts.{registers_of, contexts_of, translations_of, flights_of, stock_of, slots_of}
+use Rattle.iom_iommu.specs.Fetches.{FetchesCommand, DropsContexts, DropsTranslations, counted_in, waits_for_accesses, waits_for_slots, is_held, slots_by, request_by, after_none, stock_at, WaitsAt, store_of, with_store, with_done, IsStorable, IsStoredIn, IsOffRing, StopsAtEntry, StopsFetching, head_entry}
+use Rattle.iom_iommu.specs.Parts.{registers_of, contexts_of, translations_of, flights_of, stock_of, slots_of, opened_of}
 use Rattle.iom_iommu.proofs.FetchLemmas.{takes_first, leaves_frames}
 use Rattle.iom_machine.specs.declared.outcome.Outcome.{Outcome}
 use Rattle.iom_phys_mem.specs.Words.{word_at, with_word}
@@ -48,12 +48,22 @@ use Rattle.iom_tlb.specs.Invalidations.{covers_of}
 use Rattle.iom_tlb.specs.declared.space.Space.{Space}
 use Rattle.iom_world.specs.Read.{space_at, values_of, accesses_of}
 use Rattle.iom_world.specs.Scenes.{HasFaithfulScene}
-use Rattle.iom_world.specs.Sound.{AreSound, row_ids}
+use Rattle.iom_world.specs.Sound.{AreSound, row_ids, HasAsker}
 use Rattle.iom_world.proofs.DriverLemmas.{IsSoundDriver}
 use Rattle.iom_world.proofs.PartsLemmas.{parts_are, StaysReady}
 use Rattle.iom_world.proofs.QueuedLemmas.{queued_first}
 use Rattle.iom_world.proofs.RowLemmas.{drained_after}
-use Rattle.iom_world.proofs.SceneSteps.{KeepsGrants, DoesFirst, CountsAtHead, done_after, CachedAfter, TranslationsAfter, DoneIfFence, fetch_scene, count_scene}
+use Rattle.iom_world.proofs.SceneSteps.{KeepsGrants, DoesFirst, CountsAtHead, done_after, CachedAfter, TranslationsAfter, TrafficAfter, DoneIfFence, ClosedIfFence, fetch_scene, count_scene}
+use Rattle.std.proofs.lemmas.List.{map-append}
+use Rattle.iom_fabric.specs.declared.fabric.OnLink.{OnLink}
+use Rattle.iom_world.specs.Messages.{range_of, with_fetched}
+use Rattle.iom_world.specs.Traffic.{invalidation_of, entries_in, messages_in}
+use Rattle.iom_world.proofs.MessageLemmas.{requested, askers_sent}
+use Rattle.iom_world.proofs.SoundLemmas.{kinds_kept, same_epochs, traffic_kept}
+use Rattle.iom_world.specs.Caches.{epoch_in}
+use Rattle.std.specs.List.{All}
+use Rattle.iom_command_queue.specs.declared.slot.Slot.{Slot}
+use Rattle.iom_fabric.specs.declared.message.Message.TheVariants as sent
 
 -- whether what waits is a command of the driver's, a fence with a number from above the one to the other
 abbrev is_ours : ℕ → ℕ → ℕ → QueueEntry → Bool
@@ -62,6 +72,7 @@ is_ours address low given (Command (IotinvalGvma gscid page)) = true
 is_ours address low given (Command (IofenceC (Some store) wsi pr pw)) =
     (store.address == address) && (nat_lt low store.data && (nat_le store.data given && (not wsi && (pr && pw))))
 is_ours address low given (Command (IodirInvalDdt (Some id))) = true
+is_ours address low given (Command (AtsInval id range)) = true
 is_ours address low given _ = false
 
 rise_le : (low : ℕ) (queued : List QueuedCommand) (high : ℕ) → FencesRise low queued high → low ≤ high
@@ -81,6 +92,7 @@ ours_queued address low given spaces (Command (IofenceC store wsi pr pw)) (Fence
     subst (λ c. is_ours address low given (Command c) ≡ true) (sym is)
     (rw (eq-eqb address address refl, le-leb (suc low) number above, le-leb number given (rise_le number later given rise.1)) refl)
 ours_queued address low given spaces (Command (IodirInvalDdt (Some id))) (DropContext device) later is rise = refl
+ours_queued address low given spaces (Command (AtsInval id range)) (Invalidate device extent) later is rise = refl
 ours_queued address low given spaces entry queued later is rise = absurd is
 
 -- what a command of the driver's is
@@ -90,7 +102,7 @@ IsNext address low given (IofenceC store wsi pr pw) = (number : ℕ) × (Iofence
 IsNext address low given (IodirInvalDdt None) = ⊥
 IsNext address low given (IodirInvalDdt (Some id)) = Unit {0}
 IsNext address low given (IotinvalGvma gscid page) = Unit {0}
-IsNext address low given (AtsInval device range) = ⊥
+IsNext address low given (AtsInval device range) = Unit {0}
 
 not_true : (b : Bool) → not b ≡ true → b ≡ false
 not_true true it = absurd (false≢true it)
@@ -116,7 +128,7 @@ next_of address low given (IofenceC (Some store) wsi pr pw) ours =
 next_of address low given (IodirInvalDdt None) ours = absurd (false≢true ours)
 next_of address low given (IodirInvalDdt (Some id)) ours = tt
 next_of address low given (IotinvalGvma gscid page) ours = tt
-next_of address low given (AtsInval device range) ours = absurd (false≢true ours)
+next_of address low given (AtsInval device range) ours = tt
 
 -- what stands first in a list
 first_there : {X : Type 0} (xs : List X) (x : X) → slice_get xs 0 ≡ Some x → (rest : List X) × (xs ≡ x ∷ rest)
@@ -164,7 +176,7 @@ is_storable memory low given (IofenceC store wsi pr pw) many next =
 is_storable memory low given (IodirInvalDdt None) many next = absurd next
 is_storable memory low given (IodirInvalDdt (Some id)) many next = tt
 is_storable memory low given (IotinvalGvma gscid page) many next = tt
-is_storable memory low given (AtsInval device range) many next = absurd next
+is_storable memory low given (AtsInval device range) many next = tt
 
 -- it lies in the frame of the completion word alone
 pub stored_there : (frames low given : ℕ) (command : Commanded) (n : ℕ) → IsNext (completion_address frames) low given command → IsStoredIn (store_of command) n → n ≡ completion_frame frames
@@ -207,7 +219,7 @@ completed_after memory low given (IofenceC store wsi pr pw) many small next size
 completed_after memory low given (IodirInvalDdt None) many small next size = absurd next
 completed_after memory low given (IodirInvalDdt (Some id)) many small next size = refl
 completed_after memory low given (IotinvalGvma gscid page) many small next size = refl
-completed_after memory low given (AtsInval device range) many small next size = absurd next
+completed_after memory low given (AtsInval device range) many small next size = refl
 
 -- the registers once it is done: ring and directory are where they were, and processing goes on
 ring_kept : (r : Registers) (command : Commanded) (address low given : ℕ) → IsNext address low given command → KeepsRing r (with_done r command) × (is_processing_commands (with_done r command) ≡ is_processing_commands r)
@@ -216,7 +228,7 @@ ring_kept r (IofenceC store wsi pr pw) address low given next =
     subst (λ c. KeepsRing r (with_done r c) × (is_processing_commands (with_done r c) ≡ is_processing_commands r)) (sym next.1) (record { on = refl; base = refl; entries = refl; faults_on = refl; faults_base = refl; faults_head = refl; faults_tail = refl; mode = refl; root = refl }, refl)
 ring_kept r (IodirInvalDdt device) address low given next = (record { on = refl; base = refl; entries = refl; faults_on = refl; faults_base = refl; faults_head = refl; faults_tail = refl; mode = refl; root = refl }, refl)
 ring_kept r (IotinvalGvma gscid page) address low given next = (record { on = refl; base = refl; entries = refl; faults_on = refl; faults_base = refl; faults_head = refl; faults_tail = refl; mode = refl; root = refl }, refl)
-ring_kept r (AtsInval device range) address low given next = absurd next
+ring_kept r (AtsInval device range) address low given next = (record { on = refl; base = refl; entries = refl; faults_on = refl; faults_base = refl; faults_head = refl; faults_tail = refl; mode = refl; root = refl }, refl)
 
 -- the number doesn't fall
 more_done : (address low given before : ℕ) (command : Commanded) → low ≡ before → IsNext address low given command → before ≤ number_after before command
@@ -226,7 +238,7 @@ more_done address low given before (IofenceC store wsi pr pw) same next =
     subst (λ c. before ≤ number_after before c) (sym next.1) (omega (arith, same, above))
 more_done address low given before (IodirInvalDdt device) same next = omega arith
 more_done address low given before (IotinvalGvma gscid page) same next = omega arith
-more_done address low given before (AtsInval device range) same next = absurd next
+more_done address low given before (AtsInval device range) same next = omega arith
 
 -- what it does to the completion word, as scenes say it
 done_as : (address low given before after : ℕ) (command : Commanded) → IsNext address low given command → after ≡ number_after before command → done_after before command after
@@ -234,7 +246,7 @@ done_as address low given before after (IotinvalVma gscid pscid page) next is = 
 done_as address low given before after (IofenceC store wsi pr pw) next is = λ place number same. is ∙ ap (λ c. number_after before c) same
 done_as address low given before after (IodirInvalDdt device) next is = is
 done_as address low given before after (IotinvalGvma gscid page) next is = is
-done_as address low given before after (AtsInval device range) next is = absurd next
+done_as address low given before after (AtsInval device range) next is = is
 
 -- contexts that are cached after it were cached before
 still_cached : (o : Option Context) (covered : Bool) (context : Context) → (if covered then None else o) ≡ Some context → o ≡ Some context
@@ -284,17 +296,46 @@ done_if (IodirInvalDdt device) flights before free = tt
 done_if (IotinvalGvma gscid page) flights before free = tt
 done_if (AtsInval device range) flights before free = tt
 
-second_not : (a b : Bool) → (a || b) ≡ false → b ≡ false
-second_not true b it = absurd (false≢true (sym it))
-second_not false b it = it
+neither : (a b : Bool) → (a || b) ≡ false → (a ≡ false) × (b ≡ false)
+neither true b it = absurd (false≢true (sym it))
+neither false b it = (refl, it)
 
--- a command of the driver's opens no invalidation request
-opens_none : (address low given : ℕ) (command : Commanded) (slots : OpenSlots) → IsNext address low given command → slots_by command slots ≡ slots
-opens_none address low given (IotinvalVma gscid pscid page) slots next = refl
-opens_none address low given (IofenceC store wsi pr pw) slots next = refl
-opens_none address low given (IodirInvalDdt device) slots next = refl
-opens_none address low given (IotinvalGvma gscid page) slots next = refl
-opens_none address low given (AtsInval device range) slots next = absurd next
+-- a fence is done only where no slot is open
+none_open : {X : Type 0} (xs : List X) → not (length xs == 0) ≡ false → xs ≡ []
+none_open [] it = refl
+none_open (x ∷ xs) it = absurd (false≢true (sym it ∙ ap not (differs (length (x ∷ xs)) 0 (λ none. absurd (omega (arith, none))))))
+
+closed_if : (command : Commanded) (slots : OpenSlots) → waits_for_slots command slots ≡ false → ClosedIfFence command (map invalidation_of slots.open_slots)
+closed_if (IotinvalVma gscid pscid page) slots free = tt
+closed_if (IofenceC store wsi pr pw) slots free = ap (map invalidation_of) (none_open slots.open_slots free)
+closed_if (IodirInvalDdt device) slots free = tt
+closed_if (IotinvalGvma gscid page) slots free = tt
+closed_if (AtsInval device range) slots free = tt
+
+-- no serial is given but that of a request that is opened
+last_after : (command : Commanded) (slots : OpenSlots) → (slots_by command slots).last ≤ slots.last + 1
+last_after (IotinvalVma gscid pscid page) slots = omega arith
+last_after (IofenceC store wsi pr pw) slots = omega arith
+last_after (IodirInvalDdt device) slots = omega arith
+last_after (IotinvalGvma gscid page) slots = omega arith
+last_after (AtsInval device range) slots = omega arith
+
+-- what is under way then
+module _ (old new : Parts) (devices : new.devices ≡ old.devices) where
+  traffic_done : (command : Commanded) → slots_of new.iommu ≡ slots_by command (slots_of old.iommu)
+      → new.fabric ≡ with_fetched (Did command) (request_by command (slots_of old.iommu)) old.fabric → TrafficAfter command (values_of old).traffic (values_of new).traffic
+  traffic_done (IotinvalVma gscid pscid page) slots fabric = traffic_kept old new devices fabric slots
+  traffic_done (IofenceC store wsi pr pw) slots fabric = traffic_kept old new devices fabric slots
+  traffic_done (IodirInvalDdt device) slots fabric = traffic_kept old new devices fabric slots
+  traffic_done (IotinvalGvma gscid page) slots fabric = traffic_kept old new devices fabric slots
+  traffic_done (AtsInval device range) slots fabric = record {
+    entries = ap entries_in devices;
+    epochs = ap epoch_in devices;
+    messages = λ x there. requested old.fabric device ((slots_of old.iommu).last + 1) (range_of range) x (subst (λ (ms : List OnLink). Contains (messages_in ms) x) fabric there);
+    slots = ap (λ (s : OpenSlots). map invalidation_of s.open_slots) slots
+        ∙ map-append invalidation_of (slots_of old.iommu).open_slots (record { serial = (slots_of old.iommu).last + 1; device = device } ∷ []);
+    last_serial = ap (λ (s : OpenSlots). s.last) slots;
+  }
 
 -- processing doesn't stop
 pub never_stops : (old : Parts) (events : ℕ) (next : Iommu) → AreSound old events → 64 ≤ length old.memory → StopsFetching (is_processing_commands (registers_of old.iommu)) old.memory old.iommu next → ⊥
@@ -308,10 +349,22 @@ never_stops old events next sound many stops =
     by (Some (Illegal reason)) at stopped = false≢true (head_ours old events sound (Illegal reason) at)
     by (Some Outside) at stopped = false≢true (head_ours old events sound Outside at)
 
+-- no question is sent by it
+askers_fetched : (old : Parts) (events : ℕ) → AreSound old events → (command : Commanded) (opened : Option Slot) (fabric : List OnLink)
+    → fabric ≡ with_fetched (Did command) opened old.fabric → All (HasAsker old.devices) fabric
+askers_fetched old events sound command None fabric is = rw is sound.known.askers
+askers_fetched old events sound (IotinvalVma gscid pscid page) (Some slot) fabric is = rw is sound.known.askers
+askers_fetched old events sound (IotinvalGvma gscid page) (Some slot) fabric is = rw is sound.known.askers
+askers_fetched old events sound (IofenceC store wsi pr pw) (Some slot) fabric is = rw is sound.known.askers
+askers_fetched old events sound (IodirInvalDdt device) (Some slot) fabric is = rw is sound.known.askers
+askers_fetched old events sound (AtsInval device range) (Some slot) fabric is =
+    rw is (askers_sent old.devices old.fabric slot.device (sent.InvReq slot.serial (range_of range)) sound.known.askers tt)
+
 -- a command is done
 keeps_done : (old new : Parts) (events : ℕ) (command : Commanded) → AreSound old events → IsSoundDriver old.driver → StaysReady old.driver
-    → FetchesCommand old.memory old.iommu (Did command) new.memory new.iommu → new.driver ≡ old.driver → new.devices ≡ old.devices → AreSound new events
-keeps_done old new events command sound own stays fetches driver devices =
+    → (slots_of old.iommu).last < events → FetchesCommand old.memory old.iommu (Did command) new.memory new.iommu → new.driver ≡ old.driver → new.devices ≡ old.devices
+    → new.fabric ≡ with_fetched (Did command) (opened_of new.iommu) old.fabric → AreSound new events
+keeps_done old new events command sound own stays below fetches driver devices fabric =
     let r = registers_of old.iommu in
     let size : length old.memory ≡ length old.driver.marks = sound.ready.stand.size in
     let many : 64 ≤ length old.memory = let m = own.sizes.size.0 in omega (arith, size, m) in
@@ -326,6 +379,8 @@ keeps_done old new events command sound own stays fetches driver devices =
     let list = takes_first old.memory new.memory old.iommu new.iommu command fetches off in
     let frames = leaves_frames old.memory new.memory old.iommu new.iommu command fetches in
     let left = fetches.5 in
+    let free = neither (waits_for_slots command (slots_of old.iommu)) (waits_for_accesses command (flights_of old.iommu) (counted_in old.iommu)) fetches.2 in
+    let last = last_after command (slots_of old.iommu) in
     let after : completed_in new.memory ≡ number_after done command =
     ap completed_in fetches.4 ∙ completed_after old.memory done given command many sound.small next (ap (λ m. length m) (sym fetches.4) ∙ frames.1) in
     let kept = ring_kept r command address done given next in
@@ -340,7 +395,7 @@ keeps_done old new events command sound own stays fetches driver devices =
       address = ap completion_address frames.1;
       given = ap (λ (d : DriverState). d.given) driver;
       confirmed = ap (λ (d : DriverState). d.confirmed) driver;
-      plugged = λ id. ap (λ (d : DriverState). is_plugged d.devices id) driver;
+      kinds = kinds_kept old new devices;
       attachments = λ id. ap (λ (d : DriverState). shown_attachment (attachment_of d.devices id)) driver;
       spaces = λ id. ap (λ (d : DriverState). space_at d.devices id) driver;
     } in
@@ -353,7 +408,9 @@ keeps_done old new events command sound own stays fetches driver devices =
       contexts = cached_as command (contexts_of old.iommu) (contexts_of new.iommu) left.contexts;
       translations = translations_as command (translations_of old.iommu) (translations_of new.iommu) left.translations;
       stock = left.stock;
-      done = done_if command (flights_of old.iommu) (counted_in old.iommu) (second_not _ _ fetches.2);
+      done = done_if command (flights_of old.iommu) (counted_in old.iommu) free.1;
+      closed = closed_if command (slots_of old.iommu) free.0;
+      traffic = traffic_done old new devices command left.slots (fabric ∙ ap (λ opened. with_fetched (Did command) opened old.fabric) left.opened);
     } in
     record {
       ready = rw driver (stays old.memory new.memory r (registers_of new.iommu) sound.ready keeps (subst (λ s. KeepsRing r s) (sym left.registers) kept.0));
@@ -364,8 +421,12 @@ keeps_done old new events command sound own stays fetches driver devices =
         own_ids = rw devices sound.known.own_ids;
         driver = rw (driver, devices) sound.known.driver;
         iommu = ap (λ (f : Flights). row_ids f.rows) left.flights ∙ rw devices sound.known.iommu;
+        caches = rw devices sound.known.caches;
+        trusted = rw (driver, devices) sound.known.trusted;
+        askers = rw devices (askers_fetched old events sound command (opened_of new.iommu) new.fabric fabric);
       };
-      slots = left.slots ∙ opens_none address done given command (slots_of old.iommu) next ∙ sound.slots;
+      serials = subst (λ (s : OpenSlots). s.last ≤ events) (sym left.slots) (omega (arith, last, below));
+      epochs = same_epochs old new events sound devices;
       confirmed = rw (after, driver) (omega (arith, confirmed, more));
       small = rw driver sound.small;
       counted = subst (λ (f : Flights). f.so_far ≤ events) (sym left.flights) sound.counted;
@@ -373,93 +434,107 @@ keeps_done old new events command sound own stays fetches driver devices =
       copies = ∥∥₁_map sound.copies (λ has. fetch_scene (values_of old) (values_of new) command does has);
     }
 
--- what waits at the head is a fence of the driver's
-waits_fence : (old : Parts) (events : ℕ) → AreSound old events → (command : Commanded) → head_entry old.memory (registers_of old.iommu) ≡ Some (Command command)
-    → is_held command old.iommu ≡ true
-    → (number : ℕ) × (later : List QueueEntry) × (commands_in old.memory (registers_of old.iommu) ≡ Command (fence (completion_address (length old.memory)) number) ∷ later)
-waits_fence old events sound (IotinvalVma gscid pscid page) at waits = absurd (false≢true waits)
-waits_fence old events sound (IofenceC store wsi pr pw) at waits =
-    let next = head_next old events sound (IofenceC store wsi pr pw) at in
-    let list = first_there (commands_in old.memory (registers_of old.iommu)) (Command (IofenceC store wsi pr pw)) at in
-    (next.0, list.0, list.1 ∙ ap (λ c. Command c ∷ list.0) next.1)
-waits_fence old events sound (IodirInvalDdt device) at waits = absurd (false≢true waits)
-waits_fence old events sound (IotinvalGvma gscid page) at waits = absurd (false≢true waits)
-waits_fence old events sound (AtsInval device range) at waits = absurd (head_next old events sound (AtsInval device range) at)
+-- who waits at the head
+module _ (old : Parts) (events : ℕ) (sound : AreSound old events) where
+  -- where it counts, the IOMMU is this
+  abbrev counting : Parts
+  counting = record old { iommu = after_none old.iommu (registers_of old.iommu) (Some (counted_in old.iommu)) }
 
--- a fence that waits has counted, since no invalidation request is open
-keeps_counted : (old : Parts) (events : ℕ) → AreSound old events → WaitsAt (head_entry old.memory (registers_of old.iommu)) old.iommu
-    → AreSound (record old { iommu = after_none old.iommu (registers_of old.iommu) (stock_at (head_entry old.memory (registers_of old.iommu)) old.iommu) }) events
-keeps_counted old events sound waits = subst (λ stock. AreSound (record old { iommu = after_none old.iommu (registers_of old.iommu) stock }) events) (sym counted) (record {
-  ready = sound.ready;
-  started = sound.started;
-  processing = sound.processing;
-  size = sound.size;
-  known = record { own_ids = sound.known.own_ids; driver = sound.known.driver; iommu = sound.known.iommu };
-  slots = sound.slots;
-  confirmed = sound.confirmed;
-  small = sound.small;
-  counted = sound.counted;
-  contexts = sound.contexts;
-  copies = ∥∥₁_map sound.copies
-      (count_scene (values_of old) (values_of (record old { iommu = after_none old.iommu (registers_of old.iommu) (Some (counted_in old.iommu)) })) counts);
-})
-  where
-    head : (number : ℕ) × (later : List QueueEntry) × (commands_in old.memory (registers_of old.iommu) ≡ Command (fence (completion_address (length old.memory)) number) ∷ later)
-    head = by (head_entry old.memory (registers_of old.iommu)) refl waits
-      where
-        by : (entry : Option QueueEntry) → head_entry old.memory (registers_of old.iommu) ≡ entry → WaitsAt entry old.iommu
-            → (number : ℕ) × (later : List QueueEntry) × (commands_in old.memory (registers_of old.iommu) ≡ Command (fence (completion_address (length old.memory)) number) ∷ later)
-        by None at it = absurd it
-        by (Some (Command command)) at it = waits_fence old events sound command at it
-        by (Some (Illegal reason)) at it = absurd it
-        by (Some Outside) at it = absurd it
+  -- where no command is done, and none counts, all that is kept stays
+  pub keeps_unopened : AreSound (record old { iommu = after_none old.iommu (registers_of old.iommu) (stock_of old.iommu) }) events
+  keeps_unopened = record {
+    ready = sound.ready;
+    started = sound.started;
+    processing = sound.processing;
+    size = sound.size;
+    known = record { own_ids = sound.known.own_ids; driver = sound.known.driver; iommu = sound.known.iommu; caches = sound.known.caches; trusted = sound.known.trusted; askers = sound.known.askers };
+    confirmed = sound.confirmed;
+    small = sound.small;
+    counted = sound.counted;
+    serials = sound.serials;
+    epochs = sound.epochs;
+    contexts = sound.contexts;
+    copies = sound.copies;
+  }
 
-    counted : stock_at (head_entry old.memory (registers_of old.iommu)) old.iommu ≡ Some (counted_in old.iommu)
-    counted =
-        ap (λ (l : List QueueEntry). stock_at (slice_get l 0) old.iommu) head.2
-        ∙ ap (λ (slots : OpenSlots). if not (length slots.open_slots == 0) then stock_of old.iommu else Some (counted_in old.iommu)) sound.slots
+  -- a fence counts, since no invalidation request is open
+  keeps_counted : (store : Option FenceStore) (wsi pr pw : Bool) → head_entry old.memory (registers_of old.iommu) ≡ Some (Command (IofenceC store wsi pr pw))
+      → waits_for_slots (IofenceC store wsi pr pw) (slots_of old.iommu) ≡ false → AreSound counting events
+  keeps_counted store wsi pr pw at free =
+      let next = head_next old events sound (IofenceC store wsi pr pw) at in
+      let list = first_there (commands_in old.memory (registers_of old.iommu)) (Command (IofenceC store wsi pr pw)) at in
+      let counts : CountsAtHead (values_of old) (values_of counting) = record {
+        keeps = record { ledger = refl; address = refl; given = refl; confirmed = refl; kinds = λ d. refl; attachments = λ d. refl; spaces = λ d. refl };
+        waiting = refl;
+        head = (next.0, list.0, list.1 ∙ ap (λ c. Command c ∷ list.0) next.1);
+        completed = refl;
+        so_far = refl;
+        in_flight = refl;
+        contexts = λ d is. is;
+        translations = λ key translation there. there;
+        stock = refl;
+        closed = ap (map invalidation_of) (none_open (slots_of old.iommu).open_slots free);
+        traffic = refl;
+      } in
+      record {
+        ready = sound.ready;
+        started = sound.started;
+        processing = sound.processing;
+        size = sound.size;
+        known = record { own_ids = sound.known.own_ids; driver = sound.known.driver; iommu = sound.known.iommu; caches = sound.known.caches; trusted = sound.known.trusted; askers = sound.known.askers };
+        confirmed = sound.confirmed;
+        small = sound.small;
+        counted = sound.counted;
+        serials = sound.serials;
+        epochs = sound.epochs;
+        contexts = sound.contexts;
+        copies = ∥∥₁_map sound.copies (count_scene (values_of old) (values_of counting) counts);
+      }
 
-    counts : CountsAtHead (values_of old) (values_of (record old { iommu = after_none old.iommu (registers_of old.iommu) (Some (counted_in old.iommu)) }))
-    counts = record {
-      keeps = record { ledger = refl; address = refl; given = refl; confirmed = refl; plugged = λ d. refl; attachments = λ d. refl; spaces = λ d. refl };
-      waiting = refl;
-      head = head;
-      completed = refl;
-      so_far = refl;
-      in_flight = refl;
-      contexts = λ d is. is;
-      translations = λ key translation at. at;
-      stock = refl;
-    }
+  -- whether it waits for slots, or for accesses
+  abbrev waiting : Bool → Parts
+  waiting slots = record old { iommu = after_none old.iommu (registers_of old.iommu) (if slots then stock_of old.iommu else Some (counted_in old.iommu)) }
 
--- where no command is done, and none waits, all that is kept stays
-keeps_unopened : (old : Parts) (events : ℕ) → AreSound old events → AreSound (record old { iommu = after_none old.iommu (registers_of old.iommu) (stock_of old.iommu) }) events
-keeps_unopened old events sound = record {
-  ready = sound.ready;
-  started = sound.started;
-  processing = sound.processing;
-  size = sound.size;
-  known = record { own_ids = sound.known.own_ids; driver = sound.known.driver; iommu = sound.known.iommu };
-  slots = sound.slots;
-  confirmed = sound.confirmed;
-  small = sound.small;
-  counted = sound.counted;
-  contexts = sound.contexts;
-  copies = sound.copies;
-}
+  keeps_command : (command : Commanded) → head_entry old.memory (registers_of old.iommu) ≡ Some (Command command) → is_held command old.iommu ≡ true
+      → AreSound (waiting (waits_for_slots command (slots_of old.iommu))) events
+  keeps_command (IotinvalVma gscid pscid page) at held = absurd (false≢true held)
+  keeps_command (IotinvalGvma gscid page) at held = absurd (false≢true held)
+  keeps_command (IodirInvalDdt device) at held = absurd (false≢true held)
+  keeps_command (IofenceC store wsi pr pw) at held = by (waits_for_slots (IofenceC store wsi pr pw) (slots_of old.iommu)) refl
+    where
+      by : (b : Bool) → waits_for_slots (IofenceC store wsi pr pw) (slots_of old.iommu) ≡ b → AreSound (waiting b) events
+      by true waits = keeps_unopened
+      by false free = keeps_counted store wsi pr pw at free
+  keeps_command (AtsInval device range) at held = by (waits_for_slots (AtsInval device range) (slots_of old.iommu)) held
+    where
+      by : (b : Bool) → (b || false) ≡ true → AreSound (waiting b) events
+      by true waits = keeps_unopened
+      by false none = absurd (false≢true none)
 
-pub keeps_fetched : (old new : Parts) (events : ℕ) (told : Outcome) → AreSound old events → IsSoundDriver old.driver → StaysReady old.driver → FetchesNext old told new → AreSound new events
-keeps_fetched old new events told sound own stays fetches = by fetches.answer fetches.call
+  pub keeps_waiting : WaitsAt (head_entry old.memory (registers_of old.iommu)) old.iommu
+      → AreSound (record old { iommu = after_none old.iommu (registers_of old.iommu) (stock_at (head_entry old.memory (registers_of old.iommu)) old.iommu) }) events
+  keeps_waiting waits = by (head_entry old.memory (registers_of old.iommu)) refl waits
+    where
+      by : (entry : Option QueueEntry) → head_entry old.memory (registers_of old.iommu) ≡ entry → WaitsAt entry old.iommu
+          → AreSound (record old { iommu = after_none old.iommu (registers_of old.iommu) (stock_at entry old.iommu) }) events
+      by None at it = absurd it
+      by (Some (Command command)) at it = keeps_command command at it
+      by (Some (Illegal reason)) at it = absurd it
+      by (Some Outside) at it = absurd it
+
+pub keeps_fetched : (old new : Parts) (events : ℕ) (told : Outcome) → AreSound old events → IsSoundDriver old.driver → StaysReady old.driver → (slots_of old.iommu).last < events
+    → FetchesNext old told new → AreSound new events
+keeps_fetched old new events told sound own stays below fetches = by fetches.answer fetches.call fetches.fabric
   where
     many : 64 ≤ length old.memory
     many = let m = own.sizes.size.0 in let size = sound.ready.stand.size in omega (arith, size, m)
 
-    left : (iommu : Iommu) → AreSound (record old { iommu = iommu }) events → new.memory ≡ old.memory → new.iommu ≡ iommu → AreSound new events
-    left iommu kept memory is =
-        subst (λ parts. AreSound parts events) (sym (parts_are new old.memory iommu old.driver old.devices memory is fetches.driver fetches.devices)) kept
+    left : (iommu : Iommu) → AreSound (record old { iommu = iommu }) events → new.memory ≡ old.memory → new.iommu ≡ iommu → new.fabric ≡ old.fabric → AreSound new events
+    left iommu kept memory is fabric =
+        subst (λ parts. AreSound parts events) (sym (parts_are new old.memory iommu old.driver old.devices old.fabric memory is fetches.driver fetches.devices fabric)) kept
 
-    by : (answer : Fetched) → FetchesCommand old.memory old.iommu answer new.memory new.iommu → AreSound new events
-    by (Did command) call = keeps_done old new events command sound own stays call fetches.driver fetches.devices
-    by Waiting call = left _ (keeps_counted old events sound call.1) call.2 call.3
-    by Empty call = left _ (keeps_unopened old events sound) call.2 call.3
-    by Stopped call = absurd (never_stops old events new.iommu sound many call.0)
+    by : (answer : Fetched) → FetchesCommand old.memory old.iommu answer new.memory new.iommu → new.fabric ≡ with_fetched answer (opened_of new.iommu) old.fabric → AreSound new events
+    by (Did command) call fabric = keeps_done old new events command sound own stays below call fetches.driver fetches.devices fabric
+    by Waiting call fabric = left _ (keeps_waiting old events sound call.1) call.2 call.3 fabric
+    by Empty call fabric = left _ (keeps_unopened old events sound) call.2 call.3 fabric
+    by Stopped call fabric = absurd (never_stops old events new.iommu sound many call.0)

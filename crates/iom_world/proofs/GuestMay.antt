@@ -1,11 +1,9 @@
 -- A guest's own tables are read from frames that the device may read.
-use Rattle.std.proofs.Common.{◌≡◌, ◌*◌, ◌/◌, ◌%◌, ◌^◌, ◌<◌, ◌≤◌, ◌⊎◌, ◌∙◌, ℕ, true, length, All, get_or, Option, Some, None, Result, Ok, Err, option_map, refl, sym, ap, subst, arith, inl, inr}
+use Rattle.std.proofs.Common.{◌≡◌, ◌*◌, ◌/◌, ◌%◌, ◌^◌, ◌<◌, ◌⊎◌, ◌∙◌, ℕ, Bool, get_or, Option, Some, None, Ok, option_map, refl, sym, ap, subst, arith, inl, inr}
 use Rattle.iom_base.specs.declared.access.Access.{Access}
 use Rattle.iom_base.specs.declared.access.AccessKind.TheVariants.{Read}
-use Rattle.iom_base.specs.declared.cause.Cause.{Cause}
 use Rattle.iom_base.specs.declared.mode.Mode.{Mode}
 use Rattle.iom_base.specs.declared.mode.Mode.TheVariants.{First, Second, Both}
-use Rattle.iom_base.specs.declared.rights.Rights.{Rights}
 use Rattle.iom_base.specs.Accesses.{read_of, write_of}
 use Rattle.iom_base.specs.declared.ppn.Ppn.{Ppn}
 use Rattle.iom_device_dir.specs.declared.context.Context.{Context}
@@ -17,24 +15,20 @@ use Rattle.iom_device_dir.specs.declared.values.GuestRoot.{GuestRoot}
 use Rattle.iom_driver.specs.declared.device.Attachment.{Attachment}
 use Rattle.iom_driver.specs.declared.device.Attachment.TheVariants.{Detached, Attached, Leaving}
 use Rattle.iom_driver.specs.declared.device.Stages.{Stages}
-use Rattle.iom_driver.specs.Devices.{attachment_of, attached_stages, owned_stages, owned_stages_of}
+use Rattle.iom_driver.specs.Devices.{attachment_of, attached_stages, owned_stages}
 use Rattle.iom_driver.specs.Directory.{context_in, context_for}
 use Rattle.iom_driver.specs.Tables.{AreTablesOf}
-use Rattle.iom_iommu.specs.Parts.{registers_of, contexts_of}
+use Rattle.iom_iommu.specs.Parts.{contexts_of}
 use Rattle.iom_iommu.specs.Service.{found_context}
-use Rattle.iom_ledger.specs.History.{May}
-use Rattle.iom_ledger.specs.Shown.{held_in}
 use Rattle.iom_machine.specs.declared.event.Event.{Event}
 use Rattle.iom_machine.specs.declared.event.Event.TheVariants as events
 use Rattle.iom_machine.specs.declared.state.State.{State}
-use Rattle.iom_stage_walk.specs.declared.walked.Walked.{Walked}
 use Rattle.iom_stage_walk.specs.Laws.{IsLed}
 use Rattle.iom_stage_walk.specs.Paths.{first_levels}
 use Rattle.iom_stage_walk.specs.Second.{second_levels}
-use Rattle.iom_stage_walk.specs.Both.{ReachesBoth}
 use Rattle.iom_world.specs.Happens.{ReadsGuestTablesFor}
 use Rattle.iom_world.specs.Parts.{Parts}
-use Rattle.iom_world.specs.Requests.{IsInBoth, MayReadFrom, ReadsGuestTables}
+use Rattle.iom_world.specs.Requests.{MayReadFrom, ReadsGuestTables}
 use Rattle.iom_world.specs.Shows.{PartsShow}
 use Rattle.iom_world.specs.Sound.{AreSound}
 use Rattle.iom_world.proofs.DriverLemmas.{IsSoundDriver}
@@ -51,12 +45,12 @@ second_number second.Bare = 0
 second_number (second.Sv39x4 root) = root.number
 
 -- a context with both stages is that of a device in both, and has its roots
-in_both : (mode : Mode) (root number : ℕ) (guest : Ppn) (host : GuestRoot) → root < 2 ^ 44 → (mode ≡ First) ⊎ (root % 4 ≡ 0) → (context_in mode root number).first_stage ≡ first.Sv39 guest
-    → (context_in mode root number).second_stage ≡ second.Sv39x4 host → (mode ≡ Both) × (guest.number ≡ 0) × (host.number ≡ root)
-in_both First root number guest host low aligned one other = cc
-in_both Second root number guest host low aligned one other = cc
-in_both Both root number guest host low (inl first) one other = cc
-in_both Both root number guest host low (inr aligned) one other =
+in_both : (mode : Mode) (root number : ℕ) (ats : Bool) (guest : Ppn) (host : GuestRoot) → root < 2 ^ 44 → (mode ≡ First) ⊎ (root % 4 ≡ 0) → (context_in mode root number ats).first_stage ≡ first.Sv39 guest
+    → (context_in mode root number ats).second_stage ≡ second.Sv39x4 host → (mode ≡ Both) × (guest.number ≡ 0) × (host.number ≡ root)
+in_both First root number ats guest host low aligned one other = cc
+in_both Second root number ats guest host low aligned one other = cc
+in_both Both root number ats guest host low (inl first) one other = cc
+in_both Both root number ats guest host low (inr aligned) one other =
     let at : 4 * (root / 4 % 2 ^ 42) ≡ root = omega (arith, low, aligned) in
     (refl, sym (ap first_number one), sym (ap second_number other) ∙ at)
 
@@ -96,7 +90,7 @@ module _ (laws : ServiceLaws) (parts : Parts) (events : ℕ) (sound : AreSound p
       let below = root_low parts.memory parts.driver.marks parts.driver.ledger id stage.mode stage.root tables in
       let many = own.sizes.size.1 in
       let low : stage.root < 2 ^ 44 = omega (arith, below, many) in
-      let roots = in_both stage.mode stage.root stage.number is.guest is.host low (root_aligned parts.memory parts.driver.marks parts.driver.ledger id stage.mode stage.root tables)
+      let roots = in_both stage.mode stage.root stage.number stage.ats is.guest is.host low (root_aligned parts.memory parts.driver.marks parts.driver.ledger id stage.mode stage.root tables)
       (sym (ap (λ (c : Context). c.first_stage) owner.2) ∙ is.first_stage) (sym (ap (λ (c : Context). c.second_stage) owner.2) ∙ is.second_stage) in
       let at_root : at_second ≡ stage.root = sym is.host_is ∙ roots.2 in
       let led = (laws.walks.led first_levels second_levels parts.memory at_first at_second access.address access.kind walked reaches).0 in
@@ -116,6 +110,15 @@ guest_tables_for laws parts counted events.Fetch sound own state shows = tt
 guest_tables_for laws parts counted events.Poll sound own state shows = tt
 guest_tables_for laws parts counted events.Faults sound own state shows = tt
 guest_tables_for laws parts counted (events.Commit id) sound own state shows = tt
+guest_tables_for laws parts counted (events.ReadTranslated id address len) sound own state shows = tt
+guest_tables_for laws parts counted (events.WriteTranslated id address bytes) sound own state shows = tt
+guest_tables_for laws parts counted (events.ReadThroughCache id address len) sound own state shows = tt
+guest_tables_for laws parts counted (events.WriteThroughCache id address bytes) sound own state shows = tt
+guest_tables_for laws parts counted (events.Ask id page) sound own state shows = tt
+guest_tables_for laws parts counted (events.Forge id serial) sound own state shows = tt
+guest_tables_for laws parts counted (events.Deliver place) sound own state shows = tt
+guest_tables_for laws parts counted (events.Drop place) sound own state shows = tt
+guest_tables_for laws parts counted (events.Repeat place) sound own state shows = tt
 guest_tables_for laws parts counted (events.Poke address bytes) sound own state shows = tt
 guest_tables_for laws parts counted (events.Peek address len) sound own state shows = tt
 guest_tables_for laws parts counted (events.Free frame) sound own state shows = tt

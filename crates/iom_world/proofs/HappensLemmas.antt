@@ -9,7 +9,7 @@ use Rattle.iom_machine.specs.Machine.{Step, IsEvent}
 use Rattle.iom_world.specs.declared.world.World.{World}
 use Rattle.iom_world.specs.Below.{LawsBelow, AddressFits}
 use Rattle.iom_world.specs.Does.{Does}
-use Rattle.iom_world.specs.Happens.{Happens, SameIfRefused}
+use Rattle.iom_world.specs.Happens.{Happens}
 use Rattle.iom_world.specs.Parts.{Parts}
 use Rattle.iom_world.specs.Seen.{parts_of}
 use Rattle.iom_world.specs.Shows.{PartsShow}
@@ -41,7 +41,7 @@ module _ (laws : ServiceLaws) (old new : Parts) (counted before : ℕ) (sound : 
   steps (events.Plug id kind) told may fits does state shows =
       let step = plug_step old new before id kind told sound does state shows in (step.0, (no_choice, step.1), step.2)
   steps (events.Attach id mode ats) told may fits does state shows =
-      let step = attach_step old new before id mode told sound own does state shows in (step.2, (pages_taken step.0 step.1, rw may step.3), step.4)
+      let step = attach_step old new before id mode ats told sound own does state shows in (step.2, (pages_taken step.0 step.1, step.3), step.4)
   steps (events.Detach id) told may fits does state shows =
       let step = detach_step old new before id told sound own does state shows in (step.0, (no_choice, step.1), step.2)
   steps (events.Grant id page frame rights) told may fits does state shows =
@@ -66,6 +66,7 @@ module _ (laws : ServiceLaws) (old new : Parts) (counted before : ℕ) (sound : 
       (state, (no_choice, peeked_step old before address len told sound does.0 state shows), rw does.1 shows)
   steps (events.Free frame) told may fits does state shows =
       (state, (no_choice, asked_free_step old before frame told sound does.0 state shows), rw does.1 shows)
+  steps event told may fits does state shows = absurd may
 
 -- WHAT HAPPENS
 pub happens : LawsBelow → (old new : World) (event : Event) (told : Outcome) → IsEvent event → AddressFits event → Does (parts_of old) event told (parts_of new) → new.events ≡ old.events + 1 → Happens old event told new
@@ -75,8 +76,8 @@ happens laws old new event told may fits does counted =
     record {
       step = steps service (parts_of old) (parts_of new) new.events old.events old.sound (sound_driver old.driver) reported new.sound event told may fits does;
       does = does;
-      commands = commands_stay (parts_of old) (parts_of new) old.events event told old.sound (sound_driver old.driver) reported does;
+      commands = commands_stay (parts_of old) (parts_of new) old.events event told may old.sound (sound_driver old.driver) reported does;
       guest = λ state shows. guest_tables_for service (parts_of old) old.events event old.sound (sound_driver old.driver) state shows;
-      refused = refused_same (parts_of old) (parts_of new) event told does;
+      refused = refused_same (parts_of old) (parts_of new) event told may does;
       events = counted;
     }

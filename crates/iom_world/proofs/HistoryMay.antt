@@ -1,5 +1,5 @@
 -- The facts on copies are of each history with which the ledger agrees; and what may be reached merely, may be.
-use Rattle.std.proofs.Common.{◌≡◌, ◌≤◌, ◌<◌, ◌∙◌, ℕ, Bool, true, false, Option, None, Some, refl, sym, ap, subst, arith, nat_le}
+use Rattle.std.proofs.Common.{◌≡◌, ◌≤◌, ◌<◌, ◌∙◌, ℕ, Bool, true, false, refl, sym, nat_le}
 use Rattle.std.proofs.lemmas.Bool.{false≢true, leb-false, leb-true}
 use Rattle.std.proofs.lemmas.Grind.{not_there}
 use Rattle.iom_base.specs.declared.access.AccessKind.{AccessKind}

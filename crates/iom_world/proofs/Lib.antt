@@ -6,6 +6,7 @@ pub mod ChoiceLemmas
 pub mod CommandsStay
 pub mod CommitKeeps
 pub mod CommitStep
+pub mod CacheLemmas
 pub mod CachedLemmas
 pub mod CachedMay
 pub mod ConfirmScenes
@@ -27,6 +28,7 @@ pub mod HistoryMay
 pub mod HungKeeps
 pub mod HungLemmas
 pub mod MadeFrames
+pub mod MessageLemmas
 pub mod MissingLemmas
 pub mod PartsLemmas
 pub mod PlaceLemmas
@@ -53,7 +55,6 @@ pub mod RunLemmas
 pub mod SceneCalls
 pub mod SceneSteps
 pub mod ServedLemmas
-pub mod SlotLemmas
 pub mod SoundFrom
 pub mod SoundLemmas
 pub mod StartLemmas

@@ -1,24 +1,22 @@
 -- An access that is made is on a frame that isn't reserved; and what a commit tells.
-use Rattle.std.proofs.Common.{◌≡◌, ◌⊎◌, inl, inr, ◌∙◌, ℕ, Bool, true, false, List, [], ◌∷◌, Contains, Option, None, Some, IfSome, is_some, slice_get, refl, sym, ap, subst}
+use Rattle.std.proofs.Common.{◌≡◌, inl, inr, ◌∙◌, ℕ, Bool, false, List, [], Contains, Option, None, Some, IfSome, is_some, sym, ap, subst}
 use Rattle.std.specs.Option.{option_map, option_map_or, option_to_list}
 use mathlib.Core.Logic.{∥∥₁_elim}
 use Rattle.std.proofs.Props.{props}
 use Rattle.iom_base.specs.declared.access.AccessKind.{AccessKind}
-use Rattle.iom_base.specs.declared.access.AccessKind.TheVariants.{Read, Write}
+use Rattle.iom_base.specs.declared.access.AccessKind.TheVariants.{Read}
 use Rattle.iom_base.specs.declared.owner.Owner.{Owner}
-use Rattle.iom_base.specs.declared.rights.Rights.{Rights}
 use Rattle.iom_copies.specs.Scene.{AccessInFlight}
 use Rattle.iom_copies.proofs.ListLemmas.{cons_cases, contains_head, contains_map, in_none}
 use Rattle.iom_copies.proofs.SourceLemmas.{accesses_may}
 use Rattle.iom_driver.specs.Sound.{IsGrant}
 use Rattle.iom_inflight.specs.declared.made.MadeAt.{MadeAt}
 use Rattle.iom_inflight.specs.Calls.{IsMade, Makes, Performs}
-use Rattle.iom_inflight.specs.Flights.{NumberedAccess, FlightRow, Flights, row_of, made_at}
+use Rattle.iom_inflight.specs.Flights.{Flights}
 use Rattle.iom_iommu.specs.Parts.{flights_of}
-use Rattle.iom_iommu.specs.Requests.{CommitsOldest}
 use Rattle.iom_ledger.specs.declared.ledger.Ledger.{Ledger}
-use Rattle.iom_ledger.specs.History.{History, Pair, Holds, Lingers, May}
-use Rattle.iom_ledger.specs.Shown.{Agrees, held_in, lingering_in, released_in}
+use Rattle.iom_ledger.specs.History.{History, Pair, Lingers, May}
+use Rattle.iom_ledger.specs.Shown.{Agrees, lingering_in, released_in}
 use Rattle.iom_machine.specs.declared.outcome.Outcome.{Outcome}
 use Rattle.iom_table_frames.specs.Marks.{is_marked}
 use Rattle.iom_world.specs.Commits.{TellsRead, TellsKind}

@@ -12,18 +12,20 @@ use Rattle.iom_world.specs.OwnIommu.{Iommu}
 use Rattle.iom_registers.specs.declared.registers.Registers.{Registers}
 use Rattle.iom_world.specs.declared.device.Device.{Device}
 use Rattle.iom_world.specs.Parts.{Parts}
+use Rattle.iom_fabric.specs.declared.fabric.OnLink.{OnLink}
 
 -- the parts that are these
-abbrev pub of_parts : List (List ℕ) → Iommu → DriverState → List Device → Parts
-of_parts memory iommu driver devices = record { memory = memory; iommu = iommu; driver = driver; devices = devices }
+abbrev pub of_parts : List (List ℕ) → Iommu → DriverState → List Device → List OnLink → Parts
+of_parts memory iommu driver devices fabric = record { memory = memory; iommu = iommu; driver = driver; devices = devices; fabric = fabric }
 
-pub parts_are : (new : Parts) (memory : List (List ℕ)) (iommu : Iommu) (driver : DriverState) (devices : List Device)
-    → new.memory ≡ memory → new.iommu ≡ iommu → new.driver ≡ driver → new.devices ≡ devices → new ≡ of_parts memory iommu driver devices
-parts_are new memory iommu driver devices same_memory same_iommu same_driver same_devices =
-    ap (λ m. of_parts m new.iommu new.driver new.devices) same_memory
-    ∙ ap (λ i. of_parts memory i new.driver new.devices) same_iommu
-    ∙ ap (λ d. of_parts memory iommu d new.devices) same_driver
-    ∙ ap (λ ds. of_parts memory iommu driver ds) same_devices
+pub parts_are : (new : Parts) (memory : List (List ℕ)) (iommu : Iommu) (driver : DriverState) (devices : List Device) (fabric : List OnLink)
+    → new.memory ≡ memory → new.iommu ≡ iommu → new.driver ≡ driver → new.devices ≡ devices → new.fabric ≡ fabric → new ≡ of_parts memory iommu driver devices fabric
+parts_are new memory iommu driver devices fabric same_memory same_iommu same_driver same_devices same_fabric =
+    ap (λ m. of_parts m new.iommu new.driver new.devices new.fabric) same_memory
+    ∙ ap (λ i. of_parts memory i new.driver new.devices new.fabric) same_iommu
+    ∙ ap (λ d. of_parts memory iommu d new.devices new.fabric) same_driver
+    ∙ ap (λ ds. of_parts memory iommu driver ds new.fabric) same_devices
+    ∙ ap (λ ms. of_parts memory iommu driver devices ms) same_fabric
 
 -- the driver's law, of one state
 abbrev pub StaysReady : DriverState → Type 0

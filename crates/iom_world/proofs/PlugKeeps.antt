@@ -1,12 +1,12 @@
 -- What stays true of a world when a device is plugged in: it is one more in all three lists.
-use Rattle.std.proofs.Common.{suc, zero, ◌≡◌, ◌≢◌, ◌^◌, ◌<◌, ◌≤◌, ◌==◌, ◌⊎◌, inl, inr, ◌++◌, ◌∙◌, ℕ, Bool, true, false, List, [], ◌∷◌, length, map, Some, None, is_some, Result, Ok, Err, slice_get, refl, sym, ap, subst, if◌then◌else◌}
+use Rattle.std.proofs.Common.{suc, zero, ◌≡◌, ◌≢◌, ◌^◌, ◌<◌, ◌≤◌, ◌==◌, ◌⊎◌, inl, inr, ◌++◌, ◌∙◌, ℕ, Bool, true, false, List, [], ◌∷◌, length, map, Some, is_some, Result, Ok, Err, slice_get, get_or, refl, sym, ap, subst, if◌then◌else◌}
 use Rattle.std.specs.Option.{option_map}
 use Rattle.std.proofs.Math.Logic.{∥∥₁_map}
 use Rattle.std.proofs.lemmas.Bool.{false≢true, eq-eqb}
 use Rattle.iom_driver.specs.declared.device.Device as driver
 use Rattle.iom_driver.specs.Calls.{AnswersPlug}
 use Rattle.iom_driver.specs.declared.device.Stages.{Stages}
-use Rattle.iom_driver.specs.Devices.{device_of, is_plugged, attachment_of, owned_stages, detached}
+use Rattle.iom_driver.specs.Devices.{device_of, is_plugged, attachment_of, owned_stages, detached, is_trusted}
 use Rattle.iom_driver.specs.Directory.{context_for}
 use Rattle.iom_driver.specs.Layout.{command_frame, completion_frame, completion_address}
 use Rattle.iom_driver.specs.Ready.{IsReady}
@@ -14,7 +14,7 @@ use Rattle.iom_driver.specs.Reasons.{why_not_plug}
 use Rattle.iom_driver.specs.State.{DriverState}
 use Rattle.iom_driver.proofs.Places.{attachment_plugged}
 use Rattle.iom_inflight.specs.Flights.{FlightRow, Flights, new_row}
-use Rattle.iom_iommu.specs.Parts.{registers_of, contexts_of, flights_of, AddsDevice}
+use Rattle.iom_iommu.specs.Parts.{registers_of, contexts_of, flights_of, slots_of, AddsDevice}
 use Rattle.iom_device_dir.specs.Cached.{cached_contexts}
 use Rattle.iom_ledger.specs.declared.refusal.Refusal.{Refusal}
 use Rattle.iom_ledger.specs.declared.refusal.Refusal.TheVariants.{AlreadyPlugged}
@@ -33,6 +33,17 @@ use Rattle.iom_world.specs.Read.{space_in, values_of, access_of, accesses_of}
 use Rattle.iom_world.specs.Sound.{AreSound, AreKnown, HaveOwnIds, known_ids, ids_of, row_ids}
 use Rattle.iom_world.proofs.SceneCalls.{PlugsOne, plug_scene}
 use Rattle.iom_world.proofs.SoundLemmas.{same_completed, LeavesWord, sound_from, same_waiting, none_at}
+use Rattle.std.proofs.lemmas.List.Elements.{All-push}
+use Rattle.iom_copies.specs.Attachments.{caches_translations}
+use Rattle.iom_copies.specs.Scene.{Copy}
+use Rattle.iom_copies.proofs.ListLemmas.{same_function}
+use Rattle.iom_fabric.specs.declared.fabric.OnLink.{OnLink}
+use Rattle.iom_machine.specs.Refusals.{has_cache}
+use Rattle.iom_world.specs.Caches.{kind_in}
+use Rattle.iom_world.specs.Traffic.{traffic_of}
+use Rattle.iom_world.proofs.CacheLemmas.{HaveNot, asker_pushed, kind_absent, kind_pushed, epoch_pushed, entries_pushed, its_cache, trusted_pushed}
+use Rattle.iom_world.specs.Caches.{epoch_in}
+use Rattle.iom_world.specs.Caches.{HasItsCache}
 
 -- the ids of two lists agree at their first, and behind it
 first_ids : (a b : ℕ) (xs ys : List ℕ) → a ∷ xs ≡ b ∷ ys → (a ≡ b) × (xs ≡ ys)
@@ -80,24 +91,9 @@ accesses_pushed : (rows : List FlightRow) (id : ℕ) → accesses_of (rows ++ ne
 accesses_pushed [] id = refl
 accesses_pushed (row ∷ rows) id = ap (λ l. map (access_of row.device) row.waiting ++ l) (accesses_pushed rows id)
 
--- where a device isn't there with one more, it wasn't, and isn't that one
-plugged_one : (devices : List driver.Device) (id other : ℕ) → is_plugged (devices ++ detached id ∷ []) other ≡ false → (is_plugged devices other ≡ false) × ((id == other) ≡ false)
-plugged_one [] id other none = (refl, by (id == other) none)
-  where
-    by : (b : Bool) → is_some (if b then Some (detached id) else None) ≡ false → b ≡ false
-    by true none = absurd (false≢true (sym none))
-    by false none = refl
-plugged_one (device ∷ others) id other none = by (device.id == other) none (plugged_one others id other)
-  where
-    by : (b : Bool) → is_some (if b then Some device else device_of (others ++ detached id ∷ []) other) ≡ false
-        → (is_plugged (others ++ detached id ∷ []) other ≡ false → (is_plugged others other ≡ false) × ((id == other) ≡ false))
-        → (is_some (if b then Some device else device_of others other) ≡ false) × ((id == other) ≡ false)
-    by true none later = absurd (false≢true (sym none))
-    by false none later = later none
-
 module _ (old new : Parts) (events id : ℕ) (kind : DeviceKind) (sound : AreSound old events) (ready : IsReady new.driver new.memory (registers_of new.iommu))
-    (admitted : NoneApplies (why_not_plug old.driver id)) (driver_now : new.driver ≡ record old.driver { devices = old.driver.devices ++ detached id ∷ [] })
-    (row : AddsDevice old.iommu id true new.iommu) (devices : new.devices ≡ old.devices ++ new_device id kind ∷ []) (memory : new.memory ≡ old.memory) where
+    (admitted : NoneApplies (why_not_plug old.driver id)) (driver_now : new.driver ≡ record old.driver { devices = old.driver.devices ++ detached id (has_cache kind) ∷ [] })
+    (row : AddsDevice old.iommu id true new.iommu) (devices : new.devices ≡ old.devices ++ new_device id kind ∷ []) (memory : new.memory ≡ old.memory) (fabric : new.fabric ≡ old.fabric) where
   leaves : LeavesWord old new
   leaves = record { size = ap (λ m. length m) memory; word = ap (λ m. slice_get m (completion_frame (length old.memory))) memory }
 
@@ -113,22 +109,45 @@ module _ (old new : Parts) (events id : ℕ) (kind : DeviceKind) (sound : AreSou
   free : is_plugged old.driver.devices id ≡ false
   free = none_at (why_not_plug old.driver id) 0 (is_plugged old.driver.devices id) AlreadyPlugged refl admitted
 
+  absent : HaveNot old.devices id
+  absent = absent_known old.driver.devices old.devices id sound.known.driver free
+
+  trusts_as : (b : Bool) (one : Bool) (d : ℕ) → one ≡ caches_translations (kind_in old.devices d)
+      → (if b then has_cache kind else one) ≡ caches_translations (if b then Some kind else kind_in old.devices d)
+  trusts_as true one d same = refl
+  trusts_as false one d same = same
+
   known_now : AreKnown new
   known_now = record {
-    own_ids = rw devices (own_ids_new old.devices (new_device id kind) id sound.known.own_ids (absent_known old.driver.devices old.devices id sound.known.driver free) refl);
-    driver = ap (λ (d : DriverState). known_ids d.devices) driver_now ∙ map_pushed (λ (d : driver.Device). d.id) old.driver.devices (detached id)
+    own_ids = rw devices (own_ids_new old.devices (new_device id kind) id sound.known.own_ids absent refl);
+    driver = ap (λ (d : DriverState). known_ids d.devices) driver_now ∙ map_pushed (λ (d : driver.Device). d.id) old.driver.devices (detached id (has_cache kind))
         ∙ ap (λ ids. ids ++ id ∷ []) sound.known.driver ∙ sym (ap ids_of devices ∙ map_pushed (λ (d : Device). d.id) old.devices (new_device id kind));
     iommu = ap row_ids rows_now ∙ map_pushed (λ (r : FlightRow). r.device) (flights_of old.iommu).rows (new_row id)
         ∙ ap (λ ids. ids ++ id ∷ []) sound.known.iommu ∙ sym (ap ids_of devices ∙ map_pushed (λ (d : Device). d.id) old.devices (new_device id kind));
+    caches = rw devices (All-push HasItsCache old.devices (new_device id kind) sound.known.caches (its_cache id kind));
+    askers = rw (devices, fabric) (λ k d lt. asker_pushed old.devices (new_device id kind) (get_or old.fabric k d) (sound.known.askers k d lt));
+    trusted = λ d.
+        ap (λ (s : DriverState). is_trusted s.devices d) driver_now ∙ trusted_pushed old.driver.devices id (has_cache kind) d free
+        ∙ trusts_as (id == d) (is_trusted old.driver.devices d) d (sound.known.trusted d)
+        ∙ sym (ap (λ (ds : List Device). caches_translations (kind_in ds d)) devices ∙ ap caches_translations (kind_pushed old.devices id kind d absent));
   }
 
-  attachments_now : (other : ℕ) → attachment_of new.driver.devices other ≡ attachment_of old.driver.devices other
-  attachments_now other = ap (λ (d : DriverState). attachment_of d.devices other) driver_now ∙ attachment_plugged old.driver.devices id other
+  traffic_now : (values_of new).traffic ≡ (values_of old).traffic
+  traffic_now =
+      ap (λ (ds : List Device). traffic_of ds new.fabric (slots_of new.iommu)) devices
+      ∙ ap (λ (es : List Copy). record (traffic_of (old.devices ++ new_device id kind ∷ []) new.fabric (slots_of new.iommu)) { entries = es }) (entries_pushed old.devices id kind)
+      ∙ ap (λ (es : ℕ → ℕ). record (traffic_of old.devices new.fabric (slots_of new.iommu)) { epoch_of = es })
+      (same_function (epoch_in (old.devices ++ new_device id kind ∷ [])) (epoch_in old.devices) (epoch_pushed old.devices id kind))
+      ∙ ap (λ (ms : List OnLink). traffic_of old.devices ms (slots_of new.iommu)) fabric
+      ∙ ap (traffic_of old.devices old.fabric) row.slots
 
-  plugs_one : PlugsOne (values_of old) (values_of new) id
+  attachments_now : (other : ℕ) → attachment_of new.driver.devices other ≡ attachment_of old.driver.devices other
+  attachments_now other = ap (λ (d : DriverState). attachment_of d.devices other) driver_now ∙ attachment_plugged old.driver.devices id (has_cache kind) other
+
+  plugs_one : PlugsOne (values_of old) (values_of new) id kind
   plugs_one = record {
-    free = free;
-    unplugged = λ d none. plugged_one old.driver.devices id d (sym (ap (λ (s : DriverState). is_plugged s.devices d) driver_now) ∙ none);
+    free = kind_absent old.devices id absent;
+    kinds = λ d. ap (λ (ds : List Device). kind_in ds d) devices ∙ kind_pushed old.devices id kind d absent;
     agrees = λ h agrees. subst (λ (s : DriverState). Agrees s.ledger h) (sym driver_now) agrees;
     address = ap completion_address leaves.size;
     waiting = same_waiting old new events sound row.registers (ap (λ m. slice_get m (command_frame (length old.memory))) memory);
@@ -143,14 +162,16 @@ module _ (old new : Parts) (events id : ℕ) (kind : DeviceKind) (sound : AreSou
       spaces = λ other space at. ap (λ a. option_map (λ (stage : Stages). space_in stage.mode stage.number) (owned_stages a)) (attachments_now other) ∙ at;
       translations = λ key translation at. sym (ap (λ c. ioatc.content c key) row.translations) ∙ at;
       stock = row.stock;
+      traffic = traffic_now;
     };
   }
 
   pub plugged_sound : AreSound new events
   plugged_sound =
       sound_from old new events sound leaves
-      (record { processing = ap is_processing_commands row.registers; frames = row.frames; so_far = counted_now; slots = λ none. row.slots ∙ none })
+      (record { processing = ap is_processing_commands row.registers; frames = row.frames; so_far = counted_now; slots = row.slots })
       (ap (λ (d : DriverState). d.started) driver_now) ready known_now
+      (λ d. subst (λ (n : ℕ). n ≤ events) (sym (ap (λ (ds : List Device). epoch_in ds d) devices ∙ epoch_pushed old.devices id kind d)) (sound.epochs d))
       (subst (λ (d : DriverState). d.confirmed ≤ completed_in old.memory) (sym driver_now) sound.confirmed)
       (subst (λ (d : DriverState). d.given < 2 ^ 32) (sym driver_now) sound.small)
       (λ other context cached. ap (λ a. option_map context_for (owned_stages a)) (attachments_now other) ∙ sound.contexts other context (sym (contexts_now other) ∙ cached))
@@ -160,6 +181,6 @@ pub keeps_plugged : (old new : Parts) (events id : ℕ) (kind : DeviceKind) (tol
     → PlugsDevice old id kind told new → AreSound new events
 keeps_plugged old new events id kind told sound ready plugs = by plugs.answer plugs.call plugs.row plugs.devices
   where
-    by : (answer : Result (Unit {0}) Refusal) → AnswersPlug old.driver id answer new.driver → AddsRow answer old.iommu id new.iommu → new.devices ≡ devices_after answer old.devices id kind → AreSound new events
-    by (Ok done) (admitted, driver_now) row devices = plugged_sound old new events id kind sound ready admitted driver_now row devices plugs.memory
-    by (Err why) (refused, driver_stays) row devices = rw (plugs.memory, row, driver_stays, devices) sound
+    by : (answer : Result (Unit {0}) Refusal) → AnswersPlug old.driver id (has_cache kind) answer new.driver → AddsRow answer old.iommu id new.iommu → new.devices ≡ devices_after answer old.devices id kind → AreSound new events
+    by (Ok done) (admitted, driver_now) row devices = plugged_sound old new events id kind sound ready admitted driver_now row devices plugs.memory plugs.fabric
+    by (Err why) (refused, driver_stays) row devices = rw (plugs.memory, row, driver_stays, devices, plugs.fabric) sound

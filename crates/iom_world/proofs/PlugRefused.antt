@@ -1,7 +1,6 @@
 -- Why a device isn't plugged in, before the driver is asked; and that the IOMMU adds one that is.
-use Rattle.std.proofs.Common.{◌≡◌, ◌<◌, ◌≤◌, ◌⊎◌, ◌∙◌, inl, inr, subst, nat_le, ℕ, Bool, true, false, List, length, Option, None, IsSome, Err, refl, sym, ap, arith}
+use Rattle.std.proofs.Common.{◌≡◌, ◌<◌, ◌≤◌, ◌⊎◌, ◌∙◌, inl, inr, subst, nat_le, ℕ, Bool, true, false, List, length, Option, None, IsSome, Err, refl, sym, arith}
 use Rattle.std.proofs.lemmas.Bool.{false≢true, le-leb, lt-leb}
-use Rattle.iom_driver.specs.declared.device.Device as driver
 use Rattle.iom_driver.specs.Calls.{AnswersPlug}
 use Rattle.iom_driver.specs.State.{DriverState}
 use Rattle.iom_inflight.specs.Flights.{FlightRow, row_of}
@@ -14,16 +13,16 @@ use Rattle.iom_world.specs.Places.{IsAbsent, IsPresent}
 use Rattle.iom_world.specs.Sound.{ids_of, known_ids, row_ids}
 use Rattle.iom_world.proofs.PresentLemmas.{row_absent, known_present, known_absent, length-rows, length-known}
 
-pub already_plugged : (d : DriverState) (devices : List Device) (id : ℕ) → known_ids d.devices ≡ ids_of devices → IsPresent devices id → AnswersPlug d id (Err AlreadyPlugged) d
-already_plugged d devices id known present = (rw (known_present d.devices devices id known present) refl, refl)
+pub already_plugged : (d : DriverState) (devices : List Device) (id : ℕ) (trusted : Bool) → known_ids d.devices ≡ ids_of devices → IsPresent devices id → AnswersPlug d id trusted (Err AlreadyPlugged) d
+already_plugged d devices id trusted known present = (rw (known_present d.devices devices id known present) refl, refl)
 
-pub too_many : (d : DriverState) (devices : List Device) (id : ℕ) → known_ids d.devices ≡ ids_of devices → IsAbsent devices id → 16 ≤ length devices → AnswersPlug d id (Err TooManyDevices) d
-too_many d devices id known absent many =
+pub too_many : (d : DriverState) (devices : List Device) (id : ℕ) (trusted : Bool) → known_ids d.devices ≡ ids_of devices → IsAbsent devices id → 16 ≤ length devices → AnswersPlug d id trusted (Err TooManyDevices) d
+too_many d devices id trusted known absent many =
     let full : nat_le 16 (length d.devices) ≡ true = le-leb 16 (length d.devices) (rw (length-known d.devices devices known) many) in
     (rw (known_absent d.devices devices id known absent, full) refl, refl)
 
-pub no_memory : (d : DriverState) (devices : List Device) (id : ℕ) → known_ids d.devices ≡ ids_of devices → IsAbsent devices id → length devices < 16 → AnswersPlug d id (Err Memory) d
-no_memory d devices id known absent few =
+pub no_memory : (d : DriverState) (devices : List Device) (id : ℕ) (trusted : Bool) → known_ids d.devices ≡ ids_of devices → IsAbsent devices id → length devices < 16 → AnswersPlug d id trusted (Err Memory) d
+no_memory d devices id trusted known absent few =
     let room : nat_le 16 (length d.devices) ≡ false = lt-leb 16 (length d.devices) (rw (length-known d.devices devices known) few) in
     (rw (known_absent d.devices devices id known absent, room) refl, refl)
 

@@ -32,6 +32,7 @@ use Rattle.iom_world.specs.Shows.{PartsShow}
 use Rattle.iom_world.specs.Sound.{AreSound}
 use Rattle.iom_world.proofs.ReasonLemmas.{plug_first, none_known, refused_as}
 use Rattle.iom_world.proofs.StayLemmas.{shows_same}
+use Rattle.iom_machine.specs.Refusals.{has_cache}
 
 -- THE ROWS
 
@@ -119,15 +120,15 @@ unplugged_then true many none = cc
 abbrev plugged_state : State → ℕ → DeviceKind → State
 plugged_state state id kind = record state { devices = state.devices ++ plugged_device id kind ∷ [] }
 
-shows_plugged : (old new : Parts) (id : ℕ) (kind : DeviceKind) → NoneApplies (why_not_plug old.driver id) → new.driver ≡ record old.driver { devices = old.driver.devices ++ detached id ∷ [] }
+shows_plugged : (old new : Parts) (id : ℕ) (kind : DeviceKind) → NoneApplies (why_not_plug old.driver id) → new.driver ≡ record old.driver { devices = old.driver.devices ++ detached id (has_cache kind) ∷ [] }
     → row_of (flights_of old.iommu).rows id ≡ None → (flights_of new.iommu).rows ≡ (flights_of old.iommu).rows ++ new_row id ∷ []
     → new.memory ≡ old.memory → new.devices ≡ old.devices ++ new_device id kind ∷ [] → (state : State) → PartsShow old state → PartsShow new (plugged_state state id kind)
 shows_plugged old new id kind none driver no_row row memory devices state shows =
     let d = old.driver in
     let rows = (flights_of old.iommu).rows in
     let unplugged = unplugged_then (is_plugged d.devices id) (nat_le 16 (length d.devices)) none in
-    let plugged = shown_plugged d.devices (d.devices ++ detached id ∷ []) rows (rows ++ new_row id ∷ []) old.devices id kind
-    (record { attachment = λ other. attachment_plugged d.devices id other; accepted = λ other. accepted_plugged rows id other; in_flight = λ other. in_flight_plugged rows id other })
+    let plugged = shown_plugged d.devices (d.devices ++ detached id (has_cache kind) ∷ []) rows (rows ++ new_row id ∷ []) old.devices id kind
+    (record { attachment = λ other. attachment_plugged d.devices id (has_cache kind) other; accepted = λ other. accepted_plugged rows id other; in_flight = λ other. in_flight_plugged rows id other })
     (none_known d.devices id unplugged) no_row in
     record {
       ledger = rw (ap (λ (x : DriverState). x.ledger) driver) shows.ledger;
@@ -143,7 +144,7 @@ pub plug_step : (old new : Parts) (events id : ℕ) (kind : DeviceKind) (told : 
     → (state : State) → PartsShow old state → (next : State) × machine.Plugs state id kind told next × PartsShow new next
 plug_step old new events id kind told sound does state shows = by does.answer does.told_so does.call does.row does.devices
   where
-    by : (answer : Result (Unit {0}) Refusal) → told ≡ told_of answer → AnswersPlug old.driver id answer new.driver → AddsRow answer old.iommu id new.iommu
+    by : (answer : Result (Unit {0}) Refusal) → told ≡ told_of answer → AnswersPlug old.driver id (has_cache kind) answer new.driver → AddsRow answer old.iommu id new.iommu
         → new.devices ≡ devices_after answer old.devices id kind → (next : State) × machine.Plugs state id kind told next × PartsShow new next
     by (Ok done) is call row devices = (
       plugged_state state id kind,

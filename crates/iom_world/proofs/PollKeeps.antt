@@ -11,13 +11,13 @@ use Rattle.iom_driver.specs.declared.device.Attachment.{Attachment}
 use Rattle.iom_driver.specs.declared.device.Attachment.TheVariants.{Detached, Attached, Leaving}
 use Rattle.iom_driver.specs.declared.device.Stages.{Stages}
 use Rattle.iom_driver.specs.Confirmed.{has_left, is_gone}
-use Rattle.iom_driver.specs.Devices.{attachment_of, is_plugged, owned_stages, owned_stages_of}
+use Rattle.iom_driver.specs.Devices.{attachment_of, is_trusted, owned_stages, owned_stages_of}
 use Rattle.iom_driver.specs.Directory.{context_for}
 use Rattle.iom_driver.specs.Layout.{command_frame, completion_frame, completion_address}
 use Rattle.iom_driver.specs.Polling.{AnswersPoll, ConfirmsDone, done_after}
 use Rattle.iom_driver.specs.Ready.{IsReady}
 use Rattle.iom_driver.specs.State.{DriverState}
-use Rattle.iom_iommu.specs.Parts.{registers_of, contexts_of, translations_of, flights_of, stock_of}
+use Rattle.iom_iommu.specs.Parts.{registers_of, contexts_of, translations_of, flights_of, stock_of, slots_of}
 use Rattle.iom_ledger.specs.declared.refusal.Refusal.{Refusal}
 use Rattle.iom_machine.specs.declared.outcome.Outcome.{Outcome}
 use Rattle.iom_world.specs.Devices.{shown_attachment}
@@ -28,19 +28,26 @@ use Rattle.iom_tlb.specs.declared.space.Space.{Space}
 use Rattle.iom_world.specs.Read.{space_in, space_at, values_of, accesses_of}
 use Rattle.iom_world.specs.Scenes.{HasFaithfulScene}
 use Rattle.iom_world.specs.Sound.{AreSound, AreKnown, ContextsAreTrue, known_ids, ids_of, row_ids}
-use Rattle.iom_world.proofs.DeviceLemmas.{after, attachment_confirmed, plugged_confirmed, ids_confirmed, left_is}
+use Rattle.iom_world.proofs.DeviceLemmas.{after, attachment_confirmed, trusted_confirmed, ids_confirmed, left_is}
 use Rattle.iom_world.proofs.DriverLemmas.{IsSoundDriver}
 use Rattle.iom_world.proofs.CachedLemmas.{none_spaced}
 use Rattle.iom_world.proofs.SceneCalls.{HasLeft, ConfirmsSome, poll_scene}
-use Rattle.iom_world.proofs.SoundLemmas.{completed_given, detached_uncached, same_completed, LeavesWord, same_iommu, sound_from, same_waiting, fixed_frames}
+use Rattle.iom_world.proofs.SoundLemmas.{completed_given, detached_uncached, same_completed, LeavesWord, same_iommu, sound_from, same_waiting, fixed_frames, kinds_kept, same_epochs, traffic_kept}
+use Rattle.iom_copies.specs.Attachments.{caches_translations}
+use Rattle.iom_world.specs.Caches.{kind_in}
+use Rattle.iom_world.specs.declared.device.Device.{Device}
 
--- driver and world and IOMMU have the same ids as before
-pub same_known : (old new : Parts) → new.devices ≡ old.devices → known_ids new.driver.devices ≡ known_ids old.driver.devices → row_ids (flights_of new.iommu).rows ≡ row_ids (flights_of old.iommu).rows
+-- driver and world and IOMMU have the same ids as before, and the driver trusts the same devices
+pub same_known : (old new : Parts) → new.devices ≡ old.devices → new.fabric ≡ old.fabric → known_ids new.driver.devices ≡ known_ids old.driver.devices
+    → ((id : ℕ) → is_trusted new.driver.devices id ≡ is_trusted old.driver.devices id) → row_ids (flights_of new.iommu).rows ≡ row_ids (flights_of old.iommu).rows
     → AreKnown old → AreKnown new
-same_known old new devices driver rows known = record {
+same_known old new devices fabric driver trusted rows known = record {
   own_ids = rw devices known.own_ids;
   driver = driver ∙ known.driver ∙ ap ids_of (sym devices);
   iommu = rows ∙ known.iommu ∙ ap ids_of (sym devices);
+  caches = rw devices known.caches;
+  trusted = λ id. trusted id ∙ known.trusted id ∙ sym (ap (λ (ds : List Device). caches_translations (kind_in ds id)) devices);
+  askers = rw (devices, fabric) known.askers;
 }
 
 -- how many tickets a poll confirms: all that wait and whose fences are done
@@ -52,7 +59,7 @@ polled_count old events polled new memory sound confirms =
     confirms.count ∙ ap (λ w. min w old.driver.given - old.driver.confirmed) (sym completed) ∙ ap (λ m. m - old.driver.confirmed) (min-eq_left given)
 
 module _ (old new : Parts) (events : ℕ) (polled : Polled) (sound : AreSound old events) (own : IsSoundDriver old.driver) (ready : IsReady new.driver new.memory (registers_of new.iommu))
-    (confirms : ConfirmsDone (registers_of old.iommu) old.driver old.memory polled new.driver new.memory) (iommu : new.iommu ≡ old.iommu) (devices : new.devices ≡ old.devices) where
+    (confirms : ConfirmsDone (registers_of old.iommu) old.driver old.memory polled new.driver new.memory) (iommu : new.iommu ≡ old.iommu) (devices : new.devices ≡ old.devices) (fabric : new.fabric ≡ old.fabric) where
   done : ℕ
   done = done_after old.driver polled
 
@@ -68,9 +75,6 @@ module _ (old new : Parts) (events : ℕ) (polled : Polled) (sound : AreSound ol
 
   attachment_now : (id : ℕ) → attachment_of new.driver.devices id ≡ after (done_after old.driver polled) (attachment_of old.driver.devices id)
   attachment_now id = ap (λ (d : DriverState). attachment_of d.devices id) confirms.driver ∙ attachment_confirmed (done_after old.driver polled) old.driver.devices id
-
-  plugged_now : (id : ℕ) → is_plugged new.driver.devices id ≡ is_plugged old.driver.devices id
-  plugged_now id = ap (λ (d : DriverState). is_plugged d.devices id) confirms.driver ∙ plugged_confirmed (done_after old.driver polled) old.driver.devices id
 
   -- who has an address space keeps it, or has left
   spaces_polled : (id : ℕ) (space : Space) (a : Attachment) → attachment_of old.driver.devices id ≡ a → space_at old.driver.devices id ≡ Some space
@@ -111,11 +115,12 @@ module _ (old new : Parts) (events : ℕ) (polled : Polled) (sound : AreSound ol
         confirmed = ap (λ (d : DriverState). d.confirmed) confirms.driver;
         so_far = ap (λ i. (flights_of i).so_far) iommu;
         in_flight = ap (λ i. accesses_of (flights_of i).rows) iommu;
-        unplugged = λ d none. sym (plugged_now d) ∙ none;
+        kinds = kinds_kept old new devices;
         contexts = λ d is. ap (λ i. is_some (contexts_of i d)) (sym iommu) ∙ is;
         spaces = λ d space at. spaces_polled d space (attachment_of old.driver.devices d) refl at;
         translations = ap translations_of iommu;
         stock = ap stock_of iommu;
+        traffic = traffic_kept old new devices fabric (ap slots_of iommu);
       }
 
   contexts_true : ∥ HasFaithfulScene (values_of new) ∥₁ → ContextsAreTrue new
@@ -139,7 +144,10 @@ module _ (old new : Parts) (events : ℕ) (polled : Polled) (sound : AreSound ol
       let small = sound.small in
       let copies = ∥∥₁_map sound.copies (poll_scene (values_of old) (values_of new) polled.count (old.driver.given - completed_in old.memory) confirms_some) in
       sound_from old new events sound leaves (same_iommu old new iommu) (ap (λ (d : DriverState). d.started) confirms.driver) ready
-      (same_known old new devices (ap (λ (d : DriverState). known_ids d.devices) confirms.driver ∙ ids_confirmed (done_after old.driver polled) old.driver.devices) (ap (λ i. row_ids (flights_of i).rows) iommu) sound.known)
+      (same_known old new devices fabric (ap (λ (d : DriverState). known_ids d.devices) confirms.driver ∙ ids_confirmed (done_after old.driver polled) old.driver.devices)
+      (λ d. ap (λ (s : DriverState). is_trusted s.devices d) confirms.driver ∙ trusted_confirmed (done_after old.driver polled) old.driver.devices d)
+      (ap (λ i. row_ids (flights_of i).rows) iommu) sound.known)
+      (same_epochs old new events sound devices)
       (omega (arith, last, count, before)) (omega (arith, given, small)) (contexts_true copies) copies
 
 pub keeps_polled : (old new : Parts) (events : ℕ) (told : Outcome) → AreSound old events → IsSoundDriver old.driver → IsReady new.driver new.memory (registers_of new.iommu)
@@ -147,8 +155,8 @@ pub keeps_polled : (old new : Parts) (events : ℕ) (told : Outcome) → AreSoun
 keeps_polled old new events told sound own ready polls = by polls.answer polls.call
   where
     by : (answer : Result Polled Refusal) → AnswersPoll (registers_of old.iommu) old.driver old.memory answer new.driver new.memory → AreSound new events
-    by (Ok polled) (admitted, confirms) = polled_sound old new events polled sound own ready confirms polls.iommu polls.devices
-    by (Err why) (refused, driver_stays, memory_stays) = rw (memory_stays, polls.iommu, driver_stays, polls.devices) sound
+    by (Ok polled) (admitted, confirms) = polled_sound old new events polled sound own ready confirms polls.iommu polls.devices polls.fabric
+    by (Err why) (refused, driver_stays, memory_stays) = rw (memory_stays, polls.iommu, driver_stays, polls.devices, polls.fabric) sound
 
 -- the tickets that a poll tells are 32 bits wide
 pub polled_low : (old : Parts) (events : ℕ) (polled : Polled) (next : DriverState) (memory : List (List ℕ)) → AreSound old events

@@ -104,9 +104,9 @@ left_as h done (attached.Leaving ticket stage) same = same
 once_as : (h : History) (done : ℕ) (how : owned.Attachment) → ConfirmsAs h done how → once_confirmed h (shown_attachment how) ≡ shown_attachment (after done how)
 once_as h done attached.Detached same = refl
 once_as h done (attached.Attached stage) same = refl
-once_as h done (attached.Leaving ticket stage) same = ap (λ (b : Bool). if b then Detached else Leaving ticket stage.mode false) same ∙ by (nat_le ticket done)
+once_as h done (attached.Leaving ticket stage) same = ap (λ (b : Bool). if b then Detached else Leaving ticket stage.mode stage.ats) same ∙ by (nat_le ticket done)
   where
-    by : (b : Bool) → ◌≡◌ {A = Attachment} (if b then Detached else Leaving ticket stage.mode false) (shown_attachment (if b then attached.Detached else attached.Leaving ticket stage))
+    by : (b : Bool) → ◌≡◌ {A = Attachment} (if b then Detached else Leaving ticket stage.mode stage.ats) (shown_attachment (if b then attached.Detached else attached.Leaving ticket stage))
     by true = refl
     by false = refl
 

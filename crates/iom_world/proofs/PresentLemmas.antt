@@ -1,16 +1,17 @@
 -- A device that is plugged in has a row of its own in the IOMMU, and no other has.
-use Rattle.std.proofs.Common.{◌≡◌, ◌≢◌, ◌==◌, ◌<◌, ◌≤◌, ◌⊎◌, inl, inr, ◌∙◌, ℕ, Bool, true, false, List, [], ◌∷◌, length, map, Contains, Option, None, Some, IsSome, refl, sym, ap, subst, arith, if◌then◌else◌}
-use Rattle.std.proofs.lemmas.Bool.{eq-eqb, eqb-true, false≢true}
+use Rattle.std.proofs.Common.{◌≡◌, ◌≢◌, inl, inr, ◌∙◌, ℕ, true, false, List, [], ◌∷◌, length, Option, None, Some, IsSome, refl, sym, ap, subst}
 use Rattle.std.proofs.lemmas.Bool.Decides.{eqb_tells}
 use Rattle.std.proofs.lemmas.List.{length-map}
 use Rattle.iom_copies.proofs.ListLemmas.{cons_cases, contains_head, contains_tail, in_none}
 use Rattle.iom_driver.specs.declared.device.Device as driver
-use Rattle.iom_driver.specs.Devices.{device_of, is_plugged}
+use Rattle.iom_driver.specs.Devices.{is_plugged}
 use Rattle.iom_driver.proofs.Lists.{differs}
-use Rattle.iom_inflight.specs.Flights.{FlightRow, row_of, IsAdded}
+use Rattle.iom_inflight.specs.Flights.{FlightRow, row_of}
 use Rattle.iom_world.specs.declared.device.Device.{Device}
 use Rattle.iom_world.specs.Places.{IsAbsent, IsPresent}
 use Rattle.iom_world.specs.Sound.{ids_of, known_ids, row_ids}
+use Rattle.iom_machine.specs.declared.state.DeviceKind.{DeviceKind}
+use Rattle.iom_world.specs.Caches.{kind_in}
 
 -- the two lists of ids have the same first id, and the same others
 heads : (x y : ℕ) (xs ys : List ℕ) → x ∷ xs ≡ y ∷ ys → (x ≡ y) × (xs ≡ ys)
@@ -72,3 +73,26 @@ length-rows rows devices same = sym (length-map rows (λ (row : FlightRow). row.
 
 pub length-known : (known : List driver.Device) (devices : List Device) → known_ids known ≡ ids_of devices → length known ≡ length devices
 length-known known devices same = sym (length-map known (λ (device : driver.Device). device.id)) ∙ ap (λ (ids : List ℕ). length ids) same ∙ length-map devices (λ (device : Device). device.id)
+
+-- a device whose kind is known is there, and one whose kind isn't, isn't
+pub kind_present : (devices : List Device) (id : ℕ) (kind : DeviceKind) → kind_in devices id ≡ Some kind → IsPresent devices id
+kind_present [] id kind is = cc
+kind_present (device ∷ others) id kind is = elim (eqb_tells device.id id) [
+  | inl e ↦ (device, contains_head device others, e.1)
+  | inr ne ↦
+      let later : IsPresent others id = kind_present others id kind (rw ne.0 at is) in
+      (later.0, contains_tail device others later.0 later.1, later.2)
+]
+
+pub kind_absent : (devices : List Device) (id : ℕ) → kind_in devices id ≡ None → IsAbsent devices id
+kind_absent [] id is device there = absurd (in_none device there)
+kind_absent (first ∷ others) id is device there = elim (eqb_tells first.id id) [
+  | inl e ↦ let none : kind_in (first ∷ others) id ≡ Some first.kind = rw e.0 refl in absurd (none_some first.kind (sym is ∙ none))
+  | inr ne ↦ elim (cons_cases first others device there) [
+    | inl same ↦ subst (λ (d : Device). d.id ≢ id) same ne.1
+    | inr later ↦ kind_absent others id (rw ne.0 at is) device later
+  ]
+]
+  where
+    none_some : (kind : DeviceKind) → ◌≡◌ {A = Option DeviceKind} None (Some kind) → ⊥
+    none_some kind same = cc

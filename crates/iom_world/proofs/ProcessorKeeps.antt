@@ -47,12 +47,13 @@ keeps_stored old frame bytes events sound own stays free =
       reserved = λ n owner at. get_set_other old.memory frame n bytes (owned_differs old.driver.marks n frame owner at free);
       registers = refl;
       frames = refl;
-      slots = λ none. none;
+      slots = refl;
       rows = refl;
       driver = refl;
       devices = refl;
+      fabric = refl;
     } in
-    sound_from old new events sound own leaves events stays sound.counted sound.contexts
+    sound_from old new events sound own leaves stays sound.counted sound.contexts
     (λ has. make_scene (values_of old) (values_of new) (grants_kept old new events sound own leaves) (queue_kept old new events sound own leaves refl)
     refl (λ x there. there) (λ d there. there) (λ key translation at. at) has)
 
@@ -67,5 +68,5 @@ keeps_if_any old events address bytes _ memory sound own stays stores = absurd s
 
 pub keeps_poked : (old new : Parts) (events address : ℕ) (bytes : List ℕ) (told : Outcome) → AreSound old events → IsSoundDriver old.driver → StaysReady old.driver → PokesBytes old address bytes told new → AreSound new events
 keeps_poked old new events address bytes told sound own stays pokes =
-    let same : new ≡ record old { memory = new.memory } = parts_are new new.memory old.iommu old.driver old.devices refl pokes.iommu pokes.driver pokes.devices in
+    let same : new ≡ record old { memory = new.memory } = parts_are new new.memory old.iommu old.driver old.devices old.fabric refl pokes.iommu pokes.driver pokes.devices pokes.fabric in
     subst (λ parts. AreSound parts events) (sym same) (keeps_if_any old events address bytes told new.memory sound own stays pokes.memory)

@@ -105,7 +105,7 @@ pub poked_step : (old new : Parts) (events address : ℕ) (bytes : List ℕ) (to
     → (state : State) → PartsShow old state → (next : State) × Pokes state address bytes told next × PartsShow new next
 poked_step old new events address bytes told sound pokes state shows =
     let step = step_if_any old state shows events address bytes told new.memory sound pokes.memory in
-    (step.0, step.1, shows_same (record old { memory = new.memory }) new step.0 (parts_are new new.memory old.iommu old.driver old.devices refl pokes.iommu pokes.driver pokes.devices) step.2)
+    (step.0, step.1, shows_same (record old { memory = new.memory }) new step.0 (parts_are new new.memory old.iommu old.driver old.devices old.fabric refl pokes.iommu pokes.driver pokes.devices pokes.fabric) step.2)
 
 pub peeked_step : (old : Parts) (events address len : ℕ) (told : Outcome) → AreSound old events → PeeksBytes old address len told
     → (state : State) → PartsShow old state → Peeks state address len told state

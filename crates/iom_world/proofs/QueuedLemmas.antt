@@ -1,22 +1,24 @@
 -- What waits: queues one after the other, their first command, and the tickets up to a number.
-use Rattle.std.proofs.Common.{◌≡◌, ◌+◌, ◌-◌, ◌≤◌, ◌<◌, ◌∙◌, ℕ, zero, suc, List, [], ◌∷◌, ◌++◌, inl, inr, Contains, Option, None, Some, refl, sym, ap, subst, arith, slice_get}
+use Rattle.std.proofs.Common.{◌≡◌, ◌+◌, ◌-◌, ◌≤◌, ◌<◌, ◌∙◌, ℕ, Bool, true, false, zero, suc, List, [], ◌∷◌, ◌++◌, inl, inr, Contains, Option, None, Some, refl, ap, subst, arith, map, if◌then◌else◌}
 use Rattle.std.proofs.lemmas.List.Elements.{Contains-append_left, Contains-append_right}
 use Rattle.iom_command_queue.specs.declared.command.Command.{Command as Commanded}
 use Rattle.iom_command_queue.specs.declared.command.Command.TheVariants.{IotinvalVma, IotinvalGvma, IofenceC, IodirInvalDdt, AtsInval}
 use Rattle.iom_command_queue.specs.declared.entry.QueueEntry.{QueueEntry}
-use Rattle.iom_command_queue.specs.declared.entry.QueueEntry.TheVariants.{Command, Illegal, Outside}
-use Rattle.iom_copies.specs.DriverCalls.{released_extent}
+use Rattle.iom_command_queue.specs.declared.entry.QueueEntry.TheVariants.{Command}
+use Rattle.iom_copies.specs.DriverCalls.{released_extent, release_commands}
 use Rattle.iom_copies.specs.Queue.{Extent, WholeSpace, QueuedCommand, DropTranslations, DropContext, Invalidate, Fence}
-use Rattle.iom_copies.specs.Scene.{PendingTicket}
 use Rattle.iom_copies.specs.ToCome.{FencesRise}
 use Rattle.iom_copies.proofs.ListLemmas.{in_none, cons_cases, contains_head, contains_tail}
 use Rattle.iom_base.specs.declared.mode.Mode.{Mode}
 use Rattle.iom_base.specs.declared.mode.Mode.TheVariants.{First, Second, Both}
-use Rattle.iom_driver.specs.Appends.{invalidation, space_invalidation}
+use Rattle.iom_driver.specs.Appends.{invalidation, space_invalidation, fence, dropped_range, device_invalidation, release_commands as driver_commands}
+use Rattle.iom_driver.specs.declared.device.Stages.{Stages}
 use Rattle.iom_tlb.specs.declared.space.Space.{Space}
 use Rattle.iom_tlb.specs.declared.space.Space.TheVariants as space
 use Rattle.iom_world.specs.Read.{space_in}
 use Rattle.iom_world.specs.Queued.{IsInvalidation, IsQueuedAs, AreQueuedAs, ComeBefore, pending_after}
+use Rattle.iom_world.specs.Messages.{range_of}
+use Rattle.iom_world.specs.Traffic.{pages_of}
 
 pub queued_append : (address : ℕ) (spaces : ℕ → Option Space) (entries more : List QueueEntry) (queued added : List QueuedCommand) → AreQueuedAs address spaces entries queued
     → AreQueuedAs address spaces more added → AreQueuedAs address spaces (entries ++ more) (queued ++ added)
@@ -54,6 +56,7 @@ one_still address before after (Command (IotinvalGvma gscid page)) (DropTranslat
     invalidates_still before after (IotinvalGvma gscid page) device extent later stay is
 one_still address before after (Command (IofenceC store wsi pr pw)) (Fence number) later stay is = is
 one_still address before after (Command (IodirInvalDdt (Some id))) (DropContext device) later stay is = is
+one_still address before after (Command (AtsInval id range)) (Invalidate device extent) later stay is = is
 one_still address before after entry command later stay is = absurd is
 
 pub queued_still : (address : ℕ) (before after : ℕ → Option Space) (entries : List QueueEntry) (queued : List QueuedCommand) → SpacesStay before after queued
@@ -78,6 +81,35 @@ pub queued_space : (address : ℕ) (spaces : ℕ → Option Space) (mode : Mode)
 queued_space address spaces First number device own = record { space = space.First number; page = None; own = own; named = refl; about = refl }
 queued_space address spaces Second number device own = record { space = space.Second number; page = None; own = own; named = refl; about = refl }
 queued_space address spaces Both number device own = record { space = space.Both number number; page = None; own = own; named = refl; about = refl }
+
+-- with ATS the device is asked to drop what the IOMMU dropped
+queued_device : (mode : Mode) (page : ℕ) → released_extent mode page ≡ pages_of (range_of (dropped_range mode page))
+queued_device First page = refl
+queued_device Second page = refl
+queued_device Both page = refl
+
+-- what a release queues in front of its fence
+pub queued_release : (address : ℕ) (spaces : ℕ → Option Space) (id page : ℕ) (stage : Stages) → spaces id ≡ Some (space_in stage.mode stage.number)
+    → AreQueuedAs address spaces (Command (invalidation stage.mode stage.number page) ∷ map Command (device_invalidation id stage page))
+    (release_commands id (released_extent stage.mode page) stage.ats)
+queued_release address spaces id page stage own = by stage.ats
+  where
+    by : (ats : Bool) → AreQueuedAs address spaces
+        (Command (invalidation stage.mode stage.number page) ∷ map Command (if ats then AtsInval id (dropped_range stage.mode page) ∷ [] else []))
+        (release_commands id (released_extent stage.mode page) ats)
+    by true = (queued_page address spaces stage.mode stage.number page id own, ((refl, queued_device stage.mode page), tt))
+    by false = (queued_page address spaces stage.mode stage.number page id own, tt)
+
+-- its fence is the last
+pub released_last : (id page address ticket : ℕ) (stage : Stages) → map Command (driver_commands id stage page address ticket)
+    ≡ (Command (invalidation stage.mode stage.number page) ∷ map Command (device_invalidation id stage page)) ++ Command (fence address ticket) ∷ []
+released_last id page address ticket stage = by stage.ats
+  where
+    by : (ats : Bool)
+        → map Command (invalidation stage.mode stage.number page ∷ (if ats then AtsInval id (dropped_range stage.mode page) ∷ [] else []) ++ fence address ticket ∷ [])
+        ≡ (Command (invalidation stage.mode stage.number page) ∷ map Command (if ats then AtsInval id (dropped_range stage.mode page) ∷ [] else [])) ++ Command (fence address ticket) ∷ []
+    by true = refl
+    by false = refl
 
 -- what comes in front of a fence still does, where more is queued: with none of the device's, or up to the fence itself
 pub come_on : (device fence : ℕ) (queued more : List QueuedCommand) → ComeBefore device fence queued → ComeBefore device fence more → ComeBefore device fence (queued ++ more)

@@ -10,7 +10,7 @@ use Rattle.iom_driver.specs.declared.device.Attachment.TheVariants as attached
 use Rattle.iom_driver.specs.Devices as as_known
 use Rattle.iom_driver.specs.Devices.{device_of, is_plugged, attached_stages, owned_stages}
 use Rattle.iom_driver.specs.Layout.{id_limit}
-use Rattle.iom_driver.specs.Reasons.{why_not_plug, why_not_attach, why_not_grant, granting_reasons, why_not_release, releasing_reasons, why_not_detach, detaching_reasons, is_busy, lacks_two_places, lacks_three_places, HasGrants}
+use Rattle.iom_driver.specs.Reasons.{why_not_plug, why_not_attach, why_not_grant, granting_reasons, why_not_release, releasing_reasons, why_not_detach, detaching_reasons, is_busy, lacks_places, release_places, HasGrants}
 use Rattle.iom_inflight.specs.Flights.{FlightRow}
 use Rattle.iom_iommu.specs.Parts.{registers_of, flights_of}
 use Rattle.iom_ledger.specs.declared.ledger.Ledger.{Ledger}
@@ -23,7 +23,7 @@ use Rattle.iom_ledger.specs.Refusals.{first_that_applies, NoneApplies, IsRefused
 use Rattle.iom_ledger.specs.Shown.{Agrees, held_in, released_in, lingering_in}
 use Rattle.iom_machine.specs.Frames.{is_reserved}
 use Rattle.iom_machine.specs.Refusals as machine
-use Rattle.iom_machine.specs.Refusals.{attachment_of, is_detached, is_leaving, is_quarantined, is_held, is_lingering, has_grants, is_too_wide, is_trusted, MayFindNoPlace}
+use Rattle.iom_machine.specs.Refusals.{attachment_of, is_detached, is_leaving, is_quarantined, is_held, is_lingering, has_grants, is_too_wide, is_trusted, has_cache, MayFindNoPlace}
 use Rattle.iom_machine.proofs.GrantLemmas.{grants_are_at_pages}
 use Rattle.iom_machine.specs.Tickets.{last_confirmed, pending_tickets}
 use Rattle.iom_machine.specs.declared.state.Attachment.{Attachment}
@@ -38,6 +38,8 @@ use Rattle.iom_world.specs.Shows.{PartsShow}
 use Rattle.iom_world.specs.Sound.{AreSound, known_ids, ids_of}
 use Rattle.iom_world.proofs.FrameLemmas.{reserved_shown}
 use Rattle.iom_world.proofs.PlaceLemmas.{shown_of}
+use Rattle.iom_copies.specs.Attachments.{caches_translations}
+use Rattle.iom_world.specs.Caches.{kind_in}
 
 -- THE DEVICES
 
@@ -142,19 +144,21 @@ plug_tests : (there there' many many' : Bool) → there ≡ there' → many ≡ 
     → first_that_applies ((there, AlreadyPlugged) ∷ (many, TooManyDevices) ∷ []) ≡ first_that_applies ((there', AlreadyPlugged) ∷ (many', TooManyDevices) ∷ [])
 plug_tests there there' many many' same as_many = rw (same, as_many) refl
 
-attach_tests : (there wide trusted : Bool) (how : owned.Attachment)
-    → first_that_applies ((not there, NoSuchDevice) ∷ (not (is_detached (shown_attachment how)), AlreadyAttached) ∷ (wide, IdTooWide) ∷ (false && not trusted, NotTrusted) ∷ [])
-    ≡ first_that_applies ((false, NotStarted) ∷ (not there, NoSuchDevice) ∷ (is_some (owned_stages how), AlreadyAttached) ∷ (wide, IdTooWide) ∷ [])
-attach_tests false wide trusted how = refl
-attach_tests true wide trusted (attached.Attached stage) = refl
-attach_tests true wide trusted (attached.Leaving ticket stage) = refl
-attach_tests true true trusted attached.Detached = refl
-attach_tests true false trusted attached.Detached = refl
+attach_tests : (there wide untrusted : Bool) (how : owned.Attachment)
+    → first_that_applies ((not there, NoSuchDevice) ∷ (not (is_detached (shown_attachment how)), AlreadyAttached) ∷ (wide, IdTooWide) ∷ (untrusted, NotTrusted) ∷ [])
+    ≡ first_that_applies ((false, NotStarted) ∷ (not there, NoSuchDevice) ∷ (is_some (owned_stages how), AlreadyAttached) ∷ (wide, IdTooWide) ∷ (untrusted, NotTrusted) ∷ [])
+attach_tests false wide untrusted how = refl
+attach_tests true wide untrusted (attached.Attached stage) = refl
+attach_tests true wide untrusted (attached.Leaving ticket stage) = refl
+attach_tests true true untrusted attached.Detached = refl
+attach_tests true false untrusted attached.Detached = refl
 
-attach_same : (there there' wide wide' trusted started : Bool) (attachment : Attachment) (how : owned.Attachment) → there ≡ there' → attachment ≡ shown_attachment how → wide ≡ wide' → started ≡ true
-    → first_that_applies ((not there, NoSuchDevice) ∷ (not (is_detached attachment), AlreadyAttached) ∷ (wide, IdTooWide) ∷ (false && not trusted, NotTrusted) ∷ [])
-    ≡ first_that_applies ((not started, NotStarted) ∷ (not there', NoSuchDevice) ∷ (is_some (owned_stages how), AlreadyAttached) ∷ (wide', IdTooWide) ∷ [])
-attach_same there there' wide wide' trusted started attachment how same attached width on = rw (same, attached, width, on) (attach_tests there' wide' trusted how)
+attach_same : (there there' wide wide' ats trusted trusted' started : Bool) (attachment : Attachment) (how : owned.Attachment) → there ≡ there' → attachment ≡ shown_attachment how → wide ≡ wide'
+    → trusted ≡ trusted' → started ≡ true
+    → first_that_applies ((not there, NoSuchDevice) ∷ (not (is_detached attachment), AlreadyAttached) ∷ (wide, IdTooWide) ∷ (ats && not trusted, NotTrusted) ∷ [])
+    ≡ first_that_applies ((not started, NotStarted) ∷ (not there', NoSuchDevice) ∷ (is_some (owned_stages how), AlreadyAttached) ∷ (wide', IdTooWide) ∷ (ats && not trusted', NotTrusted) ∷ [])
+attach_same there there' wide wide' ats trusted trusted' started attachment how same attached width as_trusted on =
+    rw (same, attached, width, as_trusted, on) (attach_tests there' wide' (ats && not trusted') how)
 
 -- a call for an attached device, in the machine and in the driver
 abbrev machine_first : Bool → Attachment → List (Bool × Refusal) → Option Refusal
@@ -246,14 +250,26 @@ pub how_shown : (parts : Parts) (events : ℕ) (state : State) (id : ℕ) → Ar
     → attachment_of state id ≡ shown_attachment (as_known.attachment_of parts.driver.devices id)
 how_shown parts events state id sound shows = attachment_shown parts.driver.devices (flights_of parts.iommu).rows parts.devices state id sound.known.driver shows.devices
 
-pub attach_first : (parts : Parts) (events : ℕ) (state : State) (id : ℕ) → AreSound parts events → PartsShow parts state
-    → first_that_applies (machine.attach_reasons state id false) ≡ first_that_applies (why_not_attach parts.driver id)
-attach_first parts events state id sound shows =
+-- whether it has a cache of its own
+kind_shown : (known : List driver.Device) (rows : List FlightRow) (devices : List Device) (id : ℕ)
+    → option_map_or (λ (device : declared.Device). has_cache device.kind) (shown_of known rows devices id) false ≡ caches_translations (kind_in devices id)
+kind_shown known rows [] id = refl
+kind_shown known rows (device ∷ others) id = elim (eqb_tells device.id id) [ inl e ↦ rw e.0 refl | inr ne ↦ rw ne.0 (kind_shown known rows others id) ]
+
+trusted_shown : (parts : Parts) (events : ℕ) (state : State) (id : ℕ) → AreSound parts events → PartsShow parts state → is_trusted state id ≡ as_known.is_trusted parts.driver.devices id
+trusted_shown parts events state id sound shows =
+    ap (λ (ds : List declared.Device). option_map_or (λ (device : declared.Device). has_cache device.kind) (find (λ (d : declared.Device). d.id == id) ds) false) shows.devices
+    ∙ kind_shown parts.driver.devices (flights_of parts.iommu).rows parts.devices id ∙ sym (sound.known.trusted id)
+
+pub attach_first : (parts : Parts) (events : ℕ) (state : State) (id : ℕ) (ats : Bool) → AreSound parts events → PartsShow parts state
+    → first_that_applies (machine.attach_reasons state id ats) ≡ first_that_applies (why_not_attach parts.driver id ats)
+attach_first parts events state id ats sound shows =
     let d = parts.driver in
-    attach_same (machine.is_plugged state id) (is_plugged d.devices id) (is_too_wide state id) (nat_le (id_limit d.levels) id) (is_trusted state id) d.started
+    attach_same (machine.is_plugged state id) (is_plugged d.devices id) (is_too_wide state id) (nat_le (id_limit d.levels) id) ats (is_trusted state id)
+    (as_known.is_trusted d.devices id) d.started
     (attachment_of state id) (as_known.attachment_of d.devices id)
     (there_shown parts events state id sound shows) (how_shown parts events state id sound shows)
-    (ap (λ levels. nat_le (id_limit levels) id) shows.levels) sound.started
+    (ap (λ levels. nat_le (id_limit levels) id) shows.levels) (trusted_shown parts events state id sound shows) sound.started
 
 pub grant_first : (parts : Parts) (events : ℕ) (state : State) (id page frame : ℕ) → AreSound parts events → PartsShow parts state
     → first_that_applies (machine.grant_reasons state id page frame) ≡ first_that_applies (why_not_grant parts.driver id page frame)
@@ -301,8 +317,8 @@ release_refused_by parts events state id page why sound shows first =
     let r = registers_of parts.iommu in
     let how = as_known.attachment_of d.devices id in
     subst (λ o. MatchOption o (MayFindNoPlace why) (λ one. why ≡ one)) (sym (release_first parts events state id page sound shows))
-    (place_refused (is_plugged d.devices id) how (is_none (held_in d.ledger id page)) (nat_le pending_limit (d.given - d.confirmed)) (lacks_two_places r) (nat_le 4294967295 d.given) NotGranted why
-    (started_first d.started (is_plugged d.devices id) how (releasing_reasons d r id page) (Some why) sound.started first))
+    (place_refused (is_plugged d.devices id) how (is_none (held_in d.ledger id page)) (nat_le pending_limit (d.given - d.confirmed)) (lacks_places (release_places (as_known.stages_of d.devices id)) r) (nat_le 4294967295 d.given) NotGranted why
+    (started_first d.started (is_plugged d.devices id) how (releasing_reasons d r (release_places (as_known.stages_of d.devices id)) id page) (Some why) sound.started first))
 
 pub may_release : (parts : Parts) (events : ℕ) (state : State) (id page : ℕ) → AreSound parts events → PartsShow parts state
     → NoneApplies (why_not_release parts.driver (registers_of parts.iommu) id page) → NoneApplies (machine.release_reasons state id page)
@@ -311,8 +327,8 @@ may_release parts events state id page sound shows none =
     let r = registers_of parts.iommu in
     let how = as_known.attachment_of d.devices id in
     release_first parts events state id page sound shows
-    ∙ place_none (is_plugged d.devices id) how (is_none (held_in d.ledger id page)) (nat_le pending_limit (d.given - d.confirmed)) (lacks_two_places r) (nat_le 4294967295 d.given) NotGranted
-    (started_first d.started (is_plugged d.devices id) how (releasing_reasons d r id page) None sound.started none)
+    ∙ place_none (is_plugged d.devices id) how (is_none (held_in d.ledger id page)) (nat_le pending_limit (d.given - d.confirmed)) (lacks_places (release_places (as_known.stages_of d.devices id)) r) (nat_le 4294967295 d.given) NotGranted
+    (started_first d.started (is_plugged d.devices id) how (releasing_reasons d r (release_places (as_known.stages_of d.devices id)) id page) None sound.started none)
 
 -- the machine finds that a device has grants exactly where the ledger has some
 pub grants_shown : (ledger : Ledger) (state : State) (id : ℕ) → Agrees ledger state.history → IsTrue (has_grants state id) ↔ HasGrants ledger id
@@ -338,7 +354,7 @@ detach_refused_by parts events state id why sound shows first =
     let r = registers_of parts.iommu in
     let how = as_known.attachment_of d.devices id in
     subst (λ o. MatchOption o (MayFindNoPlace why) (λ one. why ≡ one)) (sym (place_first parts events state id (has_grants state id) (has_grants state id) StillGranted sound shows refl))
-    (place_refused (is_plugged d.devices id) how (has_grants state id) (nat_le pending_limit (d.given - d.confirmed)) (lacks_three_places r) (nat_le 4294967295 d.given) StillGranted why
+    (place_refused (is_plugged d.devices id) how (has_grants state id) (nat_le pending_limit (d.given - d.confirmed)) (lacks_places 3 r) (nat_le 4294967295 d.given) StillGranted why
     (started_first d.started (is_plugged d.devices id) how (detaching_reasons d r (has_grants state id)) (Some why) sound.started first))
 
 pub may_detach : (parts : Parts) (events : ℕ) (state : State) (id : ℕ) → AreSound parts events → PartsShow parts state
@@ -348,7 +364,7 @@ may_detach parts events state id sound shows none =
     let r = registers_of parts.iommu in
     let how = as_known.attachment_of d.devices id in
     place_first parts events state id (has_grants state id) (has_grants state id) StillGranted sound shows refl
-    ∙ place_none (is_plugged d.devices id) how (has_grants state id) (nat_le pending_limit (d.given - d.confirmed)) (lacks_three_places r) (nat_le 4294967295 d.given) StillGranted
+    ∙ place_none (is_plugged d.devices id) how (has_grants state id) (nat_le pending_limit (d.given - d.confirmed)) (lacks_places 3 r) (nat_le 4294967295 d.given) StillGranted
     (started_first d.started (is_plugged d.devices id) how (detaching_reasons d r (has_grants state id)) None sound.started none)
 
 -- a refusal of the driver is one of the machine's, where what may come of the driver's after the reasons may come of the machine's

@@ -21,6 +21,7 @@ use Rattle.iom_world.specs.Processor.{PokesBytes, StoresIfAny}
 use Rattle.iom_world.specs.Requests.{AsksAccess, reply_told_of}
 use Rattle.iom_world.proofs.CallRefused.{same_of, plug_refused, attach_refused, grant_refused, release_refused, detach_refused, fetch_refused, poll_refused}
 use Rattle.iom_world.proofs.ReportKeeps.{taken_refused}
+use Rattle.iom_machine.specs.Machine.{IsEvent}
 
 -- parts that are the same
 pub same_parts : (old new : Parts) → new ≡ old → AreSame old new
@@ -28,6 +29,7 @@ same_parts old new same = subst (λ parts. AreSame old parts) (sym same) (record
   memory = refl;
   iommu = refl;
   devices = refl;
+  fabric = refl;
   ledger = record { held = λ device page. refl; lingering = λ device page. refl; pending = refl };
   driver = refl;
 })
@@ -42,7 +44,8 @@ never_answered (Fault cause) told why is refused = cc
 pub asked_refused : (old new : Parts) (id : ℕ) (access : Access) (told : Outcome) → AsksAccess old id access told new → SameIfRefused told old new
 asked_refused old new id access told asks why refused = elim asks [
   | inl unknown ↦ same_parts old new unknown.same
-  | inr answered ↦ absurd (never_answered answered.reply told why answered.told_so refused)
+  | inr (inl unable) ↦ same_parts old new unable.same
+  | inr (inr answered) ↦ absurd (never_answered answered.1.reply told why answered.1.told_so refused)
 ]
 
 -- nor is what is told of an access that was made
@@ -72,21 +75,22 @@ committed_refused old new id told commits why refused = elim commits [
 pub poked_refused : (old new : Parts) (address : ℕ) (bytes : List ℕ) (told : Outcome) → PokesBytes old address bytes told new → SameIfRefused told old new
 poked_refused old new address bytes told pokes why refused =
     let same = subst (λ t. StoresIfAny old address bytes t new.memory) refused pokes.memory in
-    same_of old new same.2 pokes.iommu pokes.devices pokes.driver
+    same_of old new same.2 pokes.iommu pokes.devices pokes.fabric pokes.driver
 
 -- EACH EVENT
-pub refused_same : (old new : Parts) (event : Event) (told : Outcome) → Does old event told new → SameIfRefused told old new
-refused_same old new (events.Plug id kind) told does = plug_refused old new id kind told does
-refused_same old new (events.Attach id mode ats) told does = attach_refused old new id mode told does
-refused_same old new (events.Grant id page frame rights) told does = grant_refused old new id page frame rights told does
-refused_same old new (events.Release id page) told does = release_refused old new id page told does
-refused_same old new (events.Detach id) told does = detach_refused old new id told does
-refused_same old new events.Fetch told does = fetch_refused old new told does
-refused_same old new events.Poll told does = poll_refused old new told does
-refused_same old new events.Faults told does = taken_refused old new told does
-refused_same old new (events.Read id address len) told does = asked_refused old new id (read_of address len) told does
-refused_same old new (events.Write id address bytes) told does = asked_refused old new id (write_of address bytes) told does
-refused_same old new (events.Commit id) told does = committed_refused old new id told does
-refused_same old new (events.Poke address bytes) told does = poked_refused old new address bytes told does
-refused_same old new (events.Peek address len) told does = λ why refused. same_parts old new does.1
-refused_same old new (events.Free frame) told does = λ why refused. same_parts old new does.1
+pub refused_same : (old new : Parts) (event : Event) (told : Outcome) → IsEvent event → Does old event told new → SameIfRefused told old new
+refused_same old new (events.Plug id kind) told may does = plug_refused old new id kind told does
+refused_same old new (events.Attach id mode ats) told may does = attach_refused old new id mode ats told does
+refused_same old new (events.Grant id page frame rights) told may does = grant_refused old new id page frame rights told does
+refused_same old new (events.Release id page) told may does = release_refused old new id page told does
+refused_same old new (events.Detach id) told may does = detach_refused old new id told does
+refused_same old new events.Fetch told may does = fetch_refused old new told does
+refused_same old new events.Poll told may does = poll_refused old new told does
+refused_same old new events.Faults told may does = taken_refused old new told does
+refused_same old new (events.Read id address len) told may does = asked_refused old new id (read_of address len) told does
+refused_same old new (events.Write id address bytes) told may does = asked_refused old new id (write_of address bytes) told does
+refused_same old new (events.Commit id) told may does = committed_refused old new id told does
+refused_same old new (events.Poke address bytes) told may does = poked_refused old new address bytes told does
+refused_same old new (events.Peek address len) told may does = λ why refused. same_parts old new does.1
+refused_same old new (events.Free frame) told may does = λ why refused. same_parts old new does.1
+refused_same old new event told may does = absurd may

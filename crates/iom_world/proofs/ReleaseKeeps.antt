@@ -1,21 +1,18 @@
--- What stays true of a world when what a device holds at a page is released: two more commands wait, an invalidation and the ticket's fence.
-use Rattle.std.proofs.Common.{◌≡◌, ◌≢◌, ◌+◌, ◌^◌, ◌<◌, ◌≤◌, ◌++◌, ◌∙◌, nat_le, is_some, ℕ, Bool, true, false, not, List, [], ◌∷◌, length, Option, None, Some, Result, Ok, Err, slice_get, refl, sym, ap, subst, arith, if◌then◌else◌}
+-- What stays true of a world when what a device holds at a page is released: its commands wait, the ticket's fence the last of them.
+use Rattle.std.proofs.Common.{◌≡◌, ◌≢◌, ◌+◌, ◌^◌, ◌<◌, ◌≤◌, ◌++◌, ◌∙◌, nat_le, is_some, ℕ, Bool, true, false, not, List, [], ◌∷◌, length, map, Option, None, Some, Result, Ok, Err, slice_get, refl, sym, ap, subst, arith, if◌then◌else◌}
 use Rattle.std.specs.Option.{option_map}
 use Rattle.std.proofs.Math.Logic.{∥∥₁_map}
 use Rattle.std.proofs.lemmas.Bool.{leb-false, and_parts}
-use Rattle.iom_world.proofs.SlotLemmas.{none_written}
-use Rattle.iom_command_queue.specs.OpenSlots.{no_slots}
 use Rattle.iom_base.specs.declared.owner.Owner.{Owner}
 use Rattle.iom_base.specs.declared.owner.Owner.TheVariants.{System, OneDevice}
 use Rattle.iom_command_queue.specs.declared.command.Command.{Command}
 use Rattle.iom_command_queue.specs.declared.entry.QueueEntry.TheVariants as stands
 use Rattle.iom_command_queue.specs.Waiting.{commands_in}
-use Rattle.iom_copies.specs.Queue.{OnePage, DropTranslations}
 use Rattle.iom_driver.specs.declared.answers.Ticket as answers
-use Rattle.iom_driver.specs.Appends.{invalidation, fence, Appends, AppendsTwo}
+use Rattle.iom_driver.specs.Appends.{invalidation, device_invalidation, release_commands, Appends, AppendsAll}
 use Rattle.iom_driver.specs.Calls.{AnswersRelease, QueuesRelease}
 use Rattle.iom_driver.specs.declared.device.Stages.{Stages}
-use Rattle.iom_driver.specs.Devices.{attachment_of, is_plugged, owned_stages, owned_stages_of}
+use Rattle.iom_driver.specs.Devices.{attachment_of, owned_stages, owned_stages_of}
 use Rattle.iom_driver.specs.Directory.{context_for}
 use Rattle.iom_driver.specs.Layout.{completion_frame, completion_address}
 use Rattle.iom_driver.specs.Ready.{IsReady}
@@ -43,11 +40,15 @@ use Rattle.iom_world.specs.Sound.{AreSound, known_ids, row_ids}
 use Rattle.iom_world.proofs.DriverKeeps.{attached_is}
 use Rattle.iom_world.proofs.DriverLemmas.{IsSoundDriver}
 use Rattle.iom_world.proofs.PollKeeps.{same_known}
-use Rattle.iom_copies.specs.DriverCalls.{released_extent}
+use Rattle.iom_copies.specs.DriverCalls.{released_extent, release_commands as queued_commands}
 use Rattle.iom_world.proofs.CachedLemmas.{spaces_same}
-use Rattle.iom_world.proofs.QueuedLemmas.{queued_page}
+use Rattle.iom_world.proofs.QueuedLemmas.{queued_release, released_last}
 use Rattle.iom_world.proofs.SceneCalls.{KeepsCached, QueuesTicket, release_scene}
 use Rattle.iom_world.proofs.SoundLemmas.{completed_given, same_completed, LeavesWord, LeavesIommu, sound_from, fixed_frames, none_at}
+use Rattle.iom_command_queue.specs.declared.entry.QueueEntry.{QueueEntry}
+use Rattle.iom_iommu.specs.Parts.{slots_of}
+use Rattle.iom_driver.specs.Devices.{is_trusted}
+use Rattle.iom_world.proofs.SoundLemmas.{traffic_kept, kinds_kept, same_epochs}
 
 -- a frame of the system's isn't a device's
 pub not_of_device : (marks : List (Option Owner)) (n id : ℕ) → slice_get marks n ≡ Some (Some System) → slice_get marks n ≢ Some (Some (OneDevice id))
@@ -60,7 +61,7 @@ pub record IsRung (old new : Iommu) : Type 0 where
   pub contexts : (id : ℕ) → contexts_of new id ≡ contexts_of old id
   pub translations : translations_of new ≡ translations_of old
   pub stock : is_command_queue_on (registers_of old) ≡ true → stock_of new ≡ stock_of old
-  pub slots : slots_of old ≡ no_slots → slots_of new ≡ no_slots
+  pub slots : is_command_queue_on (registers_of old) ≡ true → slots_of new ≡ slots_of old
   pub flights : flights_of new ≡ flights_of old
   pub frames : frames_of new ≡ frames_of old
 
@@ -71,7 +72,7 @@ rung_once memory memory' old new command appends = record {
   contexts = λ id. ap (λ i. contexts_of i id) appends.rung;
   translations = ap translations_of appends.rung;
   stock = λ is_on. ap stock_of appends.rung ∙ ap (λ (b : Bool). if b then stock_of old else None) is_on;
-  slots = λ none. ap slots_of appends.rung ∙ none_written _ (slots_of old) none;
+  slots = λ is_on. ap slots_of appends.rung ∙ ap (λ (b : Bool). if b then slots_of old else record (slots_of old) { open_slots = [] }) is_on;
   flights = ap flights_of appends.rung;
   frames = ap frames_of appends.rung;
 }
@@ -83,31 +84,48 @@ rung_both old mid new one other = record {
   contexts = λ id. other.contexts id ∙ one.contexts id;
   translations = other.translations ∙ one.translations;
   stock = λ is_on. other.stock (one.on ∙ is_on) ∙ one.stock is_on;
-  slots = λ none. other.slots (one.slots none);
+  slots = λ is_on. other.slots (one.on ∙ is_on) ∙ one.slots is_on;
   flights = other.flights ∙ one.flights;
   frames = other.frames ∙ one.frames;
 }
 
-pub rung_twice : (memory memory' : List (List ℕ)) (old new : Iommu) (one other : Command) → AppendsTwo mmio memory old one other memory' new → IsRung old new
-rung_twice memory memory' old new one other two =
-    rung_both old two.between_io new (rung_once memory two.between_memory old two.between_io one two.first) (rung_once two.between_memory memory' two.between_io new other two.second)
+rung_none : (iommu : Iommu) → IsRung iommu iommu
+rung_none iommu = record {
+  processing = refl;
+  on = refl;
+  contexts = λ id. refl;
+  translations = refl;
+  stock = λ is_on. refl;
+  slots = λ is_on. refl;
+  flights = refl;
+  frames = refl;
+}
 
-pub rung_again : (memory mid memory' : List (List ℕ)) (old between new : Iommu) (one two three : Command) → Appends mmio memory old one mid between → AppendsTwo mmio mid between two three memory' new → IsRung old new
-rung_again memory mid memory' old between new one two three first rest = rung_both old between new (rung_once memory mid old between one first) (rung_twice mid memory' between new two three rest)
-
-pub rung_leaves : (old new : Parts) → IsRung old.iommu new.iommu → LeavesIommu old new
-rung_leaves old new rung = record { processing = rung.processing; frames = rung.frames; so_far = ap (λ f. f.so_far) rung.flights; slots = rung.slots }
+-- so often as there are commands
+pub rung_all : (commands : List Command) (memory memory' : List (List ℕ)) (old new : Iommu) → AppendsAll mmio memory old commands memory' new → IsRung old new
+rung_all [] memory memory' old new all = subst (IsRung old) (sym all.1) (rung_none old)
+rung_all (command ∷ later) memory memory' old new (mid, between, first, rest) =
+    rung_both old between new (rung_once memory mid old between command first) (rung_all later mid memory' between new rest)
 
 -- a queue from which commands are taken is on
 processing_on : (r : Registers) → is_processing_commands r ≡ true → is_command_queue_on r ≡ true
 processing_on r is = (and_parts (is_command_queue_on r) (not (is_command_queue_stopped r)) is).0
 
-pub rung_cached : (old new : Parts) → is_processing_commands (registers_of old.iommu) ≡ true → IsRung old.iommu new.iommu
+pub rung_leaves : (old new : Parts) → is_processing_commands (registers_of old.iommu) ≡ true → IsRung old.iommu new.iommu → LeavesIommu old new
+rung_leaves old new processing rung = record {
+  processing = rung.processing;
+  frames = rung.frames;
+  so_far = ap (λ f. f.so_far) rung.flights;
+  slots = rung.slots (processing_on (registers_of old.iommu) processing);
+}
+
+pub rung_cached : (old new : Parts) → is_processing_commands (registers_of old.iommu) ≡ true → IsRung old.iommu new.iommu → new.devices ≡ old.devices → new.fabric ≡ old.fabric
     → ((id : ℕ) (space : Space) → space_at old.driver.devices id ≡ Some space → space_at new.driver.devices id ≡ Some space) → KeepsCached (values_of old) (values_of new)
-rung_cached old new processing rung spaces = record {
+rung_cached old new processing rung devices fabric spaces = record {
   spaces = spaces;
   translations = λ key translation at. sym (ap (λ (c : Content). c key) rung.translations) ∙ at;
   stock = rung.stock (processing_on (registers_of old.iommu) processing);
+  traffic = traffic_kept old new devices fabric (rung.slots (processing_on (registers_of old.iommu) processing));
 }
 
 -- a ticket that is given is one of 32 bits
@@ -116,9 +134,12 @@ next_small given numbers = let below : given < 4294967295 = leb-false 4294967295
 
 module _ (old new : Parts) (events id page ticket : ℕ) (sound : AreSound old events) (own : IsSoundDriver old.driver) (ready : IsReady new.driver new.memory (registers_of new.iommu))
     (numbers : nat_le 4294967295 old.driver.given ≡ false) (queues : QueuesRelease mmio old.driver old.memory old.iommu id page ticket new.driver new.memory new.iommu)
-    (devices : new.devices ≡ old.devices) where
+    (devices : new.devices ≡ old.devices) (fabric : new.fabric ≡ old.fabric) where
   rung : IsRung old.iommu new.iommu
-  rung = rung_twice (unmapped old.memory queues.stage.root page) new.memory old.iommu new.iommu (invalidation queues.stage.mode queues.stage.number page) (fence (completion_address (length old.memory)) ticket) queues.queued
+  rung = rung_all (release_commands id queues.stage page (completion_address (length old.memory)) ticket) (unmapped old.memory queues.stage.root page) new.memory old.iommu new.iommu queues.queued
+
+  abbrev commands : List QueueEntry
+  commands = stands.Command (invalidation queues.stage.mode queues.stage.number page) ∷ map stands.Command (device_invalidation id queues.stage page)
 
   leaves : LeavesWord old new
   leaves = record {
@@ -132,40 +153,40 @@ module _ (old new : Parts) (events id page ticket : ℕ) (sound : AreSound old e
   given_now : new.driver.given ≡ old.driver.given + 1
   given_now = ap (λ (d : DriverState). d.given) queues.driver ∙ queues.next
 
-  queues_ticket : QueuesTicket (values_of old) (values_of new) (stands.Command (invalidation queues.stage.mode queues.stage.number page) ∷ []) (DropTranslations id (released_extent queues.stage.mode page) ∷ [])
+  queues_ticket : QueuesTicket (values_of old) (values_of new) commands (queued_commands id (released_extent queues.stage.mode page) queues.stage.ats)
   queues_ticket =
       let low = completed_given old events sound in
       let before = sound.confirmed in
       record {
         ordered = omega (arith, low, before);
-        appended = (
-          queued_page (completion_address (length old.memory)) (space_at old.driver.devices) queues.stage.mode queues.stage.number page id
-              (ap (option_map (λ (stage : Stages). space_in stage.mode stage.number)) (ap owned_stages (attached_is (attachment_of old.driver.devices id) queues.stage queues.attached))),
-          tt,
-        );
+        appended = queued_release (completion_address (length old.memory)) (space_at old.driver.devices) id page queues.stage
+            (ap (option_map (λ (stage : Stages). space_in stage.mode stage.number)) (ap owned_stages (attached_is (attachment_of old.driver.devices id) queues.stage queues.attached)));
         waiting = queues.list
-            ∙ ap (λ t. commands_in old.memory (registers_of old.iommu) ++ stands.Command (invalidation queues.stage.mode queues.stage.number page) ∷ stands.Command (fence (completion_address (length old.memory)) t) ∷ []) queues.next;
+            ∙ ap (λ t. commands_in old.memory (registers_of old.iommu) ++ map stands.Command (release_commands id queues.stage page (completion_address (length old.memory)) t)) queues.next
+            ∙ ap (λ l. commands_in old.memory (registers_of old.iommu) ++ l) (released_last id page (completion_address (length old.memory)) (old.driver.given + 1) queues.stage);
         address = ap completion_address leaves.size;
         completed = same_completed old.memory new.memory leaves.size leaves.word;
         given = given_now;
         confirmed = ap (λ (d : DriverState). d.confirmed) queues.driver;
         so_far = ap (λ f. f.so_far) rung.flights;
         in_flight = ap (λ f. accesses_of f.rows) rung.flights;
-        unplugged = λ d none. sym (ap (λ (s : DriverState). is_plugged s.devices d) queues.driver) ∙ none;
+        kinds = kinds_kept old new devices;
         contexts = λ d is. sym (ap is_some (rung.contexts d)) ∙ is;
-        cached = rung_cached old new sound.processing rung (spaces_same old.driver.devices new.driver.devices (ap (λ (d : DriverState). d.devices) queues.driver));
+        cached = rung_cached old new sound.processing rung devices fabric (spaces_same old.driver.devices new.driver.devices (ap (λ (d : DriverState). d.devices) queues.driver));
       }
 
   pub released_sound : AreSound new events
   released_sound =
-      sound_from old new events sound leaves (rung_leaves old new rung) (ap (λ (d : DriverState). d.started) queues.driver) ready
-      (same_known old new devices (ap (λ (d : DriverState). known_ids d.devices) queues.driver) (ap (λ f. row_ids f.rows) rung.flights) sound.known)
+      sound_from old new events sound leaves (rung_leaves old new sound.processing rung) (ap (λ (d : DriverState). d.started) queues.driver) ready
+      (same_known old new devices fabric (ap (λ (d : DriverState). known_ids d.devices) queues.driver) (λ d. ap (λ (s : DriverState). is_trusted s.devices d) queues.driver)
+      (ap (λ f. row_ids f.rows) rung.flights) sound.known)
+      (same_epochs old new events sound devices)
       (subst (λ n. n ≤ completed_in old.memory) (sym (ap (λ (d : DriverState). d.confirmed) queues.driver)) sound.confirmed)
       (subst (λ n. n < 2 ^ 32) (sym given_now) (next_small old.driver.given numbers))
       (λ other context cached.
       ap (λ (s : DriverState). option_map context_for (owned_stages_of s.devices other)) queues.driver ∙ sound.contexts other context (sym (rung.contexts other) ∙ cached))
       (∥∥₁_map sound.copies
-      (release_scene (values_of old) (values_of new) id page queues.stage.mode (stands.Command (invalidation queues.stage.mode queues.stage.number page) ∷ []) queues_ticket
+      (release_scene (values_of old) (values_of new) id page queues.stage.mode queues.stage.ats commands queues_ticket
       (ap shown_attachment (attached_is (attachment_of old.driver.devices id) queues.stage queues.attached))
       (λ d. ap (λ (s : DriverState). shown_attachment (attachment_of s.devices d)) queues.driver)
       (subst (λ t. (h : History) → Agrees old.driver.ledger h → confirms h t ≡ false → Agrees new.driver.ledger (Released id page t ∷ h)) queues.next queues.agrees)))
@@ -177,5 +198,5 @@ keeps_released old new events id page told sound own ready releases = by release
     by : (answer : Result answers.Ticket Refusal) → AnswersRelease mmio old.driver old.memory old.iommu id page answer new.driver new.memory new.iommu → AreSound new events
     by (Ok ticket) (admitted, queues) =
         released_sound old new events id page ticket.0 sound own ready
-        (none_at (why_not_release old.driver (registers_of old.iommu) id page) 6 (nat_le 4294967295 old.driver.given) NumbersUsedUp refl admitted) queues releases.devices
-    by (Err why) (refused, driver_stays, memory_stays, iommu_stays) = rw (driver_stays, memory_stays, iommu_stays, releases.devices) sound
+        (none_at (why_not_release old.driver (registers_of old.iommu) id page) 6 (nat_le 4294967295 old.driver.given) NumbersUsedUp refl admitted) queues releases.devices releases.fabric
+    by (Err why) (refused, driver_stays, memory_stays, iommu_stays) = rw (driver_stays, memory_stays, iommu_stays, releases.devices, releases.fabric) sound

@@ -1,16 +1,16 @@
 -- A release of the driver is one of the ledger machine.
-use Rattle.std.proofs.Common.{◌≡◌, ◌≢◌, ◌+◌, ◌∙◌, ℕ, List, ◌∷◌, length, Option, Some, None, Result, Ok, Err, slice_get, refl, sym, ap, subst, arith}
+use Rattle.std.proofs.Common.{◌≡◌, ◌≢◌, ◌+◌, ◌∙◌, ℕ, List, [], ◌∷◌, length, Option, Some, None, Result, Ok, Err, slice_get, refl, sym, ap, subst, arith}
 use Rattle.iom_base.specs.declared.owner.Owner.{Owner}
 use Rattle.iom_base.specs.declared.owner.Owner.TheVariants.{System, OneDevice}
 use Rattle.iom_driver.specs.declared.answers.Ticket.{Ticket}
 use Rattle.iom_driver.specs.Calls.{AnswersRelease, QueuesRelease}
-use Rattle.iom_driver.specs.Layout.{command_frame}
+use Rattle.iom_driver.specs.Layout.{command_frame, completion_address}
 use Rattle.iom_driver.specs.State.{DriverState}
 use Rattle.iom_world.specs.OwnIommu.{Iommu}
 use Rattle.iom_iommu.specs.Parts.{mmio, flights_of}
 use Rattle.iom_inflight.specs.Flights.{Flights}
 use Rattle.iom_command_queue.specs.declared.command.Command.{Command}
-use Rattle.iom_driver.specs.Appends.{Appends, AppendsTwo, AppendsThree}
+use Rattle.iom_driver.specs.Appends.{AppendsAll, release_commands}
 use Rattle.iom_page_table.specs.Sv39.{unmapped}
 use Rattle.iom_ledger.specs.declared.entry.HistoryEntry.TheVariants as entry
 use Rattle.iom_ledger.specs.declared.refusal.Refusal.{Refusal}
@@ -27,22 +27,22 @@ use Rattle.iom_world.proofs.FrameLemmas.{shows_kept}
 use Rattle.iom_world.proofs.ReasonLemmas.{release_refused_by, may_release}
 use Rattle.iom_world.proofs.StayLemmas.{shows_same, not_owned, length-unmapped}
 
--- memory has as many frames after a release
+-- memory has as many frames after commands are appended
+pub size_appended : (commands : List Command) (memory memory' : List (List ℕ)) (io io' : Iommu) → AppendsAll mmio memory io commands memory' io' → length memory' ≡ length memory
+size_appended [] memory memory' io io' all = ap (λ m. length m) all.0
+size_appended (command ∷ later) memory memory' io io' (mid, between, first, rest) = size_appended later mid memory' between io' rest ∙ first.written.frames
+
+-- and after a release
 size_released : (d d' : DriverState) (memory memory' : List (List ℕ)) (io io' : Iommu) (id page ticket : ℕ) → QueuesRelease mmio d memory io id page ticket d' memory' io' → length memory' ≡ length memory
 size_released d d' memory memory' io io' id page ticket queues =
-    queues.queued.second.written.frames ∙ queues.queued.first.written.frames ∙ length-unmapped memory queues.stage.root page
+    size_appended (release_commands id queues.stage page (completion_address (length memory)) ticket) (unmapped memory queues.stage.root page) memory' io io' queues.queued
+    ∙ length-unmapped memory queues.stage.root page
 
 -- the accesses in flight stay, through writes of registers
-flights_rung : (memory memory' : List (List ℕ)) (io io' : Iommu) (command : Command) → Appends mmio memory io command memory' io' → flights_of io' ≡ flights_of io
-flights_rung memory memory' io io' command appends = ap (λ (i : Iommu). flights_of i) appends.rung
-
-pub flights_two : (memory memory' : List (List ℕ)) (io io' : Iommu) (one other : Command) → AppendsTwo mmio memory io one other memory' io' → flights_of io' ≡ flights_of io
-flights_two memory memory' io io' one other two =
-    flights_rung two.between_memory memory' two.between_io io' other two.second ∙ flights_rung memory two.between_memory io two.between_io one two.first
-
-pub flights_three : (memory memory' : List (List ℕ)) (io io' : Iommu) (one two three : Command) → AppendsThree mmio memory io one two three memory' io' → flights_of io' ≡ flights_of io
-flights_three memory memory' io io' one two three all =
-    flights_two all.between_memory memory' all.between_io io' two three all.rest ∙ flights_rung memory all.between_memory io all.between_io one all.first
+pub flights_appended : (commands : List Command) (memory memory' : List (List ℕ)) (io io' : Iommu) → AppendsAll mmio memory io commands memory' io' → flights_of io' ≡ flights_of io
+flights_appended [] memory memory' io io' all = ap flights_of all.1
+flights_appended (command ∷ later) memory memory' io io' (mid, between, first, rest) =
+    flights_appended later mid memory' between io' rest ∙ ap (λ (i : Iommu). flights_of i) first.rung
 
 -- a frame that is nobody's isn't the ring's
 pub not_ring : (marks : List (Option Owner)) (frame frames : ℕ) → slice_get marks (command_frame frames) ≡ Some (Some System) → slice_get marks frame ≡ Some None → frame ≢ command_frame frames
@@ -57,7 +57,7 @@ shows_released : (old new : Parts) (id page ticket : ℕ) → length old.memory 
     → (state : State) → PartsShow old state → PartsShow new (released state id page ticket)
 shows_released old new id page ticket many sound queues devices state shows =
     let d = old.driver in
-    let flights = flights_two (unmapped old.memory queues.stage.root page) new.memory old.iommu new.iommu _ _ queues.queued in
+    let flights = flights_appended (release_commands id queues.stage page (completion_address (length old.memory)) ticket) (unmapped old.memory queues.stage.root page) new.memory old.iommu new.iommu queues.queued in
     let next : ticket ≡ d.given + 1 = queues.next in
     let ordered = sound.tickets.ordered in
     let ring = subst (λ n. slice_get d.marks (command_frame n) ≡ Some (Some System)) (sym many) sound.fixed.command in

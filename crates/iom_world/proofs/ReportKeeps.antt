@@ -1,11 +1,9 @@
 -- The driver takes a fault record: what stays true of a world, and that it is a step of the ledger machine.
-use Rattle.std.proofs.Common.{◌≡◌, ◌∙◌, ℕ, Bool, true, false, not, is_some, List, [], ◌∷◌, length, slice_get, Option, Some, None, Result, Ok, Err, refl, sym, ap, subst, if◌then◌else◌}
+use Rattle.std.proofs.Common.{◌≡◌, ◌∙◌, ℕ, Bool, true, not, is_some, List, [], ◌∷◌, length, slice_get, Option, Some, None, Result, Ok, Err, refl, sym, ap, subst, if◌then◌else◌}
 use Rattle.std.proofs.lemmas.Bool.{and_parts}
-use Rattle.iom_world.proofs.SlotLemmas.{none_written}
-use Rattle.iom_command_queue.specs.OpenSlots.{no_slots}
 use Rattle.iom_command_queue.specs.Waiting.{commands_in}
 use Rattle.iom_copies.specs.Among.{AreAmong}
-use Rattle.iom_driver.specs.Laws.{LeavesCommands, LeavesAllElse}
+use Rattle.iom_driver.specs.Laws.{LeavesCommands}
 use Rattle.iom_driver.specs.Ready.{IsReady}
 use Rattle.iom_driver.specs.Reasons.{why_not_poll}
 use Rattle.iom_driver.specs.Reports.{AnswersFaults, cleared_marks}
@@ -20,12 +18,10 @@ use Rattle.iom_machine.specs.declared.outcome.Outcome.{Outcome}
 use Rattle.iom_machine.specs.declared.outcome.Outcome.TheVariants as outcome
 use Rattle.iom_machine.specs.declared.state.State.{State}
 use Rattle.iom_machine.specs.Machine as machine
-use Rattle.iom_registers.specs.declared.register.Register.{Register}
 use Rattle.iom_registers.specs.declared.register.Register.TheVariants.{Fqh, Fqcsr}
 use Rattle.iom_registers.specs.declared.registers.Registers.{Registers}
 use Rattle.iom_registers.specs.Queues.{is_processing_commands, is_command_queue_on, is_command_queue_stopped}
-use Rattle.iom_tlb.specs.declared.trans_cache.Translation.{Translation}
-use Rattle.iom_tlb.specs.Content.{Key, Content}
+use Rattle.iom_tlb.specs.Content.{Content}
 use Rattle.iom_world.specs.Does.{TakesReport, report_told_of}
 use Rattle.iom_world.specs.Happens.{AreSame, SameIfRefused, waiting_in}
 use Rattle.iom_world.specs.OwnIommu.{Iommu}
@@ -47,7 +43,7 @@ record WritesReports (old new : Iommu) : Type 0 where
   flights : flights_of new ≡ flights_of old
   frames : frames_of new ≡ frames_of old
   stock : is_command_queue_on (registers_of old) ≡ true → stock_of new ≡ stock_of old
-  slots : slots_of old ≡ no_slots → slots_of new ≡ no_slots
+  slots : is_command_queue_on (registers_of old) ≡ true → slots_of new ≡ slots_of old
 
 wrote_head : (old new : Iommu) (value : ℕ) → new ≡ mmio.after old Fqh value → WritesReports old new
 wrote_head old new value is = subst (WritesReports old) (sym is) (record {
@@ -57,7 +53,7 @@ wrote_head old new value is = subst (WritesReports old) (sym is) (record {
   flights = refl;
   frames = refl;
   stock = λ on. ap (λ (b : Bool). if b then stock_of old else None) on;
-  slots = λ none. none_written _ (slots_of old) none;
+  slots = λ on. ap (λ (b : Bool). if b then slots_of old else record (slots_of old) { open_slots = [] }) on;
 })
 
 wrote_status : (old new : Iommu) (value : ℕ) → new ≡ mmio.after old Fqcsr value → WritesReports old new
@@ -68,7 +64,7 @@ wrote_status old new value is = subst (WritesReports old) (sym is) (record {
   flights = refl;
   frames = refl;
   stock = λ on. ap (λ (b : Bool). if b then stock_of old else None) on;
-  slots = λ none. none_written _ (slots_of old) none;
+  slots = λ on. ap (λ (b : Bool). if b then slots_of old else record (slots_of old) { open_slots = [] }) on;
 })
 
 wrote_nothing : (old new : Iommu) → new ≡ old → WritesReports old new
@@ -79,7 +75,7 @@ wrote_nothing old new is = subst (WritesReports old) (sym is) (record {
   flights = refl;
   frames = refl;
   stock = λ on. refl;
-  slots = λ none. none;
+  slots = λ on. refl;
 })
 
 wrote : (d : DriverState) (memory : List (List ℕ)) (old new : Iommu) (answer : Result (Option Fields) Refusal) → AnswersFaults mmio d memory old answer new → WritesReports old new
@@ -91,17 +87,18 @@ wrote d memory old new (Err why) (refused, is) = wrote_nothing old new is
 processing_on : (r : Registers) → is_processing_commands r ≡ true → is_command_queue_on r ≡ true
 processing_on r is = (and_parts (is_command_queue_on r) (not (is_command_queue_stopped r)) is).0
 
-leaves_taken : (old new : Parts) (told : Outcome) → IsReady new.driver new.memory (registers_of new.iommu) → TakesReport old told new → LeavesReport old new
-leaves_taken old new told ready takes =
+leaves_taken : (old new : Parts) (told : Outcome) → is_command_queue_on (registers_of old.iommu) ≡ true → IsReady new.driver new.memory (registers_of new.iommu) → TakesReport old told new → LeavesReport old new
+leaves_taken old new told on ready takes =
     let writes = wrote old.driver old.memory old.iommu new.iommu takes.answer takes.call in
     record {
       ready = ready;
       else_same = record { size = ap (λ m. length m) takes.memory; frames = λ frame other. ap (λ m. slice_get m frame) takes.memory; registers = writes.commands };
       frames = writes.frames;
-      slots = writes.slots;
+      slots = writes.slots on;
       flights = writes.flights;
       driver = takes.driver;
       devices = takes.devices;
+      fabric = takes.fabric;
     }
 
 -- A FAULT RECORD IS TAKEN
@@ -109,10 +106,10 @@ pub keeps_taken : (old new : Parts) (events : ℕ) (told : Outcome) → AreSound
     → TakesReport old told new → AreSound new events
 keeps_taken old new events told sound own ready takes =
     let writes = wrote old.driver old.memory old.iommu new.iommu takes.answer takes.call in
-    let leaves = leaves_taken old new told ready takes in
     let on = processing_on (registers_of old.iommu) sound.processing in
+    let leaves = leaves_taken old new told on ready takes in
     let contexts : ContextsAreTrue new = λ id context at. rw takes.driver (sound.contexts id context (sym (writes.contexts id) ∙ at)) in
-    report_sound old new events sound own leaves events (rw writes.flights sound.counted) contexts
+    report_sound old new events sound own leaves (rw writes.flights sound.counted) contexts
     (λ has. make_scene (values_of old) (values_of new) (report_grants old new events sound own leaves) (report_queue old new events sound own leaves (writes.stock on))
     (ap (λ (f : Flights). f.so_far) writes.flights)
     (subst (λ (f : Flights). AreAmong (accesses_of f.rows) (accesses_of (flights_of old.iommu).rows)) (sym writes.flights) (λ x there. there))
@@ -149,4 +146,4 @@ taken_refused old new told takes why is = by takes.answer (sym takes.told_so ∙
     by : (answer : Result (Option Fields) Refusal) → report_told_of answer ≡ outcome.Refused why → AnswersFaults mmio old.driver old.memory old.iommu answer new.iommu → AreSame old new
     by (Ok (Some fields)) refused call = cc
     by (Ok None) refused call = cc
-    by (Err reason) refused call = same_of old new takes.memory call.1 takes.devices takes.driver
+    by (Err reason) refused call = same_of old new takes.memory call.1 takes.devices takes.fabric takes.driver

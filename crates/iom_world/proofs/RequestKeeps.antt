@@ -1,5 +1,5 @@
 -- What stays true of a world when a device asks for an access: what is translated is held, and so no copy outlives it.
-use Rattle.std.proofs.Common.{◌≡◌, ◌+◌, ◌/◌, ◌^◌, ◌<◌, ◌≤◌, ◌⊎◌, ◌∙◌, inl, inr, ℕ, Bool, true, false, is_some, length, Option, Some, None, option_map, Result, Ok, Err, slice_get, refl, sym, ap, subst, arith}
+use Rattle.std.proofs.Common.{◌≡◌, ◌+◌, ◌/◌, ◌^◌, ◌<◌, ◌≤◌, ◌⊎◌, ◌∙◌, inl, inr, ℕ, Bool, true, is_some, length, Option, Some, None, option_map, Result, Ok, Err, slice_get, refl, sym, ap, subst, arith}
 use Rattle.iom_base.specs.declared.access.Access.{Access}
 use Rattle.iom_base.specs.declared.cause.Cause.{Cause}
 use Rattle.iom_base.specs.Rights.{allows}
@@ -11,7 +11,7 @@ use Rattle.iom_inflight.specs.Calls.{with_access}
 use Rattle.iom_inflight.specs.Flights.{Flights}
 use Rattle.iom_iommu.specs.declared.reply.Reply.{Reply}
 use Rattle.iom_iommu.specs.declared.reply.Reply.TheVariants.{Accepted, Busy, BadSpan, Fault}
-use Rattle.iom_iommu.specs.Parts.{registers_of, contexts_of, translations_of, flights_of, stock_of, frames_of, slots_of}
+use Rattle.iom_iommu.specs.Parts.{registers_of, contexts_of, translations_of, flights_of, frames_of, slots_of}
 use Rattle.iom_fault_queue.specs.Fields.{untranslated_of}
 use Rattle.iom_iommu.specs.Requests.{faulted_of, fault_of, AnswersRequest, AcceptsRequest, RefusesRequest}
 use Rattle.iom_machine.specs.declared.outcome.Outcome.{Outcome}
@@ -38,41 +38,25 @@ use Rattle.iom_world.proofs.SceneSteps.{KeepsGrants, KeepsQueue, KeepsWalked, Is
 use Rattle.iom_world.proofs.ServedLemmas.{ServiceLaws, IsAnswered, served}
 use Rattle.iom_world.proofs.SoundFrom.{Leaves, sound_from, queue_kept, grants_kept, LeavesReport, report_grants, report_queue, report_sound}
 
--- what is sound stays so where one more event is counted
-pub sound_counted : (parts : Parts) (events : ℕ) → AreSound parts events → AreSound parts (events + 1)
-sound_counted parts events sound = record {
-  ready = sound.ready;
-  started = sound.started;
-  processing = sound.processing;
-  size = sound.size;
-  known = sound.known;
-  slots = sound.slots;
-  confirmed = sound.confirmed;
-  small = sound.small;
-  counted = (let count = sound.counted in omega (arith, count));
-  contexts = sound.contexts;
-  copies = sound.copies;
-}
-
 -- the values of a world where these contexts and translations are cached, and else nothing changed
 abbrev cached_so : Values → (ℕ → Bool) → Translations → Values
 cached_so values cached translations = record values { is_cached = cached; translations = translations }
 
 grants_same : (values : Values) (cached : ℕ → Bool) (translations : Translations) → KeepsGrants values (cached_so values cached translations)
-grants_same values cached translations = record { ledger = refl; address = refl; given = refl; confirmed = refl; plugged = λ d. refl; attachments = λ d. refl; spaces = λ d. refl }
+grants_same values cached translations = record { ledger = refl; address = refl; given = refl; confirmed = refl; kinds = λ d. refl; attachments = λ d. refl; spaces = λ d. refl }
 
 queue_same : (values : Values) (cached : ℕ → Bool) (translations : Translations) → KeepsQueue values (cached_so values cached translations)
-queue_same values cached translations = record { waiting = refl; completed = refl; stock = refl }
+queue_same values cached translations = record { waiting = refl; completed = refl; stock = refl; traffic = refl }
 
 -- a scene of a world stays one where a request kept a context
 kept_scene : (values : Values) (cached : ℕ → Bool) (id : ℕ) → (((d : ℕ) → cached d ≡ true → values.is_cached d ≡ true)
-    ⊎ ((mode : Mode) × (values.attachment_of id ≡ shown.Attached mode false) × ((d : ℕ) → cached d ≡ true → (values.is_cached d ≡ true) ⊎ (d ≡ id))))
+    ⊎ ((mode : Mode) × (ats : Bool) × (values.attachment_of id ≡ shown.Attached mode ats) × ((d : ℕ) → cached d ≡ true → (values.is_cached d ≡ true) ⊎ (d ≡ id))))
     → HasFaithfulScene values → HasFaithfulScene (cached_so values cached values.translations)
 kept_scene values cached id (inl before) has =
     make_scene values (cached_so values cached values.translations) (grants_same values cached values.translations) (queue_same values cached values.translations)
     refl (λ x there. there) before (λ key translation at. at) has
-kept_scene values cached id (inr (mode, attached, either)) has =
-    keep_scene values (cached_so values cached values.translations) id mode (grants_same values cached values.translations) (queue_same values cached values.translations)
+kept_scene values cached id (inr (mode, ats, attached, either)) has =
+    keep_scene values (cached_so values cached values.translations) id mode ats (grants_same values cached values.translations) (queue_same values cached values.translations)
     refl refl (λ key translation at. at) attached either has
 
 -- and one where it kept a translation
@@ -109,22 +93,23 @@ kept_or sure old new at translation (inl sets) key other there = elim (one_or_ot
     none_some same = cc
 
 -- where a fault is reported, memory changes in the fault queue's frame alone
-pub report_leaves : (old new : Parts) (events id : ℕ) (access : Access) → AreSound old events → StaysReported old.driver → new.driver ≡ old.driver → new.devices ≡ old.devices
+pub report_leaves : (old new : Parts) (events id : ℕ) (access : Access) → AreSound old events → StaysReported old.driver → new.driver ≡ old.driver → new.devices ≡ old.devices → new.fabric ≡ old.fabric
     → (cause : Cause) → RefusesRequest old.memory old.iommu id access cause new.memory new.iommu → LeavesReport old new
-report_leaves old new events id access sound reported driver devices cause call =
+report_leaves old new events id access sound reported driver devices fabric cause call =
     let after = reported old.memory new.memory (registers_of old.iommu) (registers_of new.iommu) (record_of (faulted_of id (untranslated_of access.kind) access.address) (fault_of call.fault)) call.answer sound.ready sound.started call.recorded in
     record {
       ready = rw driver after.0;
       else_same = after.1;
       frames = call.frames;
-      slots = λ none. call.slots ∙ none;
+      slots = call.slots;
       flights = call.flights;
       driver = driver;
       devices = devices;
+      fabric = fabric;
     }
 
 module _ (laws : ServiceLaws) (old new : Parts) (events id : ℕ) (access : Access) (sound : AreSound old events) (own : IsSoundDriver old.driver) (stays_ready : StaysReady old.driver) (report_ready : StaysReported old.driver)
-    (driver : new.driver ≡ old.driver) (devices : new.devices ≡ old.devices) where
+    (driver : new.driver ≡ old.driver) (devices : new.devices ≡ old.devices) (fabric : new.fabric ≡ old.fabric) (below : (flights_of old.iommu).so_far < events) where
   abbrev cached : ℕ → Bool
   cached d = is_some (contexts_of new.iommu d)
 
@@ -140,11 +125,12 @@ module _ (laws : ServiceLaws) (old new : Parts) (events id : ℕ) (access : Acce
     where
       by : KeepsAttached (attachment_of old.driver.devices id) id (contexts_of old.iommu) (contexts_of new.iommu)
           → ((d : ℕ) → is_some (contexts_of new.iommu d) ≡ true → is_some (contexts_of old.iommu d) ≡ true)
-          ⊎ ((mode : Mode) × (shown_attachment (attachment_of old.driver.devices id) ≡ shown.Attached mode false)
+          ⊎ ((mode : Mode) × (ats : Bool) × (shown_attachment (attachment_of old.driver.devices id) ≡ shown.Attached mode ats)
           × ((d : ℕ) → is_some (contexts_of new.iommu d) ≡ true → (is_some (contexts_of old.iommu d) ≡ true) ⊎ (d ≡ id)))
       by (inl same) = inl (λ d there. ap is_some (sym (same d)) ∙ there)
       by (inr (stage, is, one)) = inr (
         stage.mode,
+        stage.ats,
         ap shown_attachment is,
         cached_or (attachment_of old.driver.devices id) id (contexts_of old.iommu) (contexts_of new.iommu) (inr (stage, is, one)),
       )
@@ -155,10 +141,11 @@ module _ (laws : ServiceLaws) (old new : Parts) (events id : ℕ) (access : Acce
     reserved = λ frame owner mark. ap (λ m. slice_get m frame) memory;
     registers = registers;
     frames = frames;
-    slots = λ none. slots ∙ none;
+    slots = slots;
     rows = rows;
     driver = driver;
     devices = devices;
+    fabric = fabric;
   }
 
   -- between the values and those of the new world little lies
@@ -169,13 +156,13 @@ module _ (laws : ServiceLaws) (old new : Parts) (events id : ℕ) (access : Acce
         address = grants.address;
         given = grants.given;
         confirmed = grants.confirmed;
-        plugged = grants.plugged;
+        kinds = grants.kinds;
         attachments = grants.attachments;
         spaces = grants.spaces;
       }
 
   queue_on : KeepsQueue (values_of old) (values_of new) → KeepsQueue between (values_of new)
-  queue_on queue = record { waiting = queue.waiting; completed = queue.completed; stock = queue.stock }
+  queue_on queue = record { waiting = queue.waiting; completed = queue.completed; stock = queue.stock; traffic = queue.traffic }
 
   -- the answer that the service gives, with the translations before and after
   abbrev Answers : Result Translation WalkFault → Type 0
@@ -190,6 +177,7 @@ module _ (laws : ServiceLaws) (old new : Parts) (events id : ℕ) (access : Acce
     reaches.translation,
     record {
       mode = reaches.stage.mode;
+      ats = reaches.stage.ats;
       attached = ap shown_attachment reaches.attached;
       own = ap (λ a. option_map (λ (stage : Stages). space_in stage.mode stage.number) (owned_stages a)) reaches.attached;
       held = reaches.held;
@@ -207,7 +195,7 @@ module _ (laws : ServiceLaws) (old new : Parts) (events id : ℕ) (access : Acce
     reaches.translation,
     ap (λ (t : Translation). t.frame) reaches.answer_is,
     reaches.allowed,
-    inl (reaches.stage.mode, ap shown_attachment reaches.attached, reaches.held),
+    inl (reaches.stage.mode, reaches.stage.ats, ap shown_attachment reaches.attached, reaches.held),
   )
   served_from answer (inr finds) = (
     space_in finds.stage.mode finds.stage.number,
@@ -220,21 +208,19 @@ module _ (laws : ServiceLaws) (old new : Parts) (events id : ℕ) (access : Acce
     ),
   )
 
-  keeps_fault : access.address < 2 ^ 64 → (cause : Cause) → RefusesRequest old.memory old.iommu id access cause new.memory new.iommu → AreSound new (events + 1)
+  keeps_fault : access.address < 2 ^ 64 → (cause : Cause) → RefusesRequest old.memory old.iommu id access cause new.memory new.iommu → AreSound new events
   keeps_fault fits cause call =
       let keeps = keeps_attached laws old events sound own id (contexts_of new.iommu) call.contexts in
-      let leaves = report_leaves old new events id access sound report_ready driver devices cause call in
+      let leaves = report_leaves old new events id access sound report_ready driver devices fabric cause call in
       let stays = served laws old events sound own id access.address access.kind ioatc.SURE (translations_of old.iommu) (translations_of new.iommu) (Err call.fault) fits call.served in
-      let count = sound.counted in
-      let more : (flights_of old.iommu).so_far ≤ events + 1 = omega (arith, count) in
-      report_sound old new events sound own leaves (events + 1) (subst (λ (f : Flights). f.so_far ≤ events + 1) (sym call.flights) more)
+      report_sound old new events sound own leaves (subst (λ (f : Flights). f.so_far ≤ events) (sym call.flights) sound.counted)
       (contexts_kept old new id sound.contexts keeps driver)
       (λ has. make_scene between (values_of new) (grants_on (report_grants old new events sound own leaves)) (queue_on (report_queue old new events sound own leaves call.stock))
       (ap (λ (f : Flights). f.so_far) call.flights)
       (subst (λ (f : Flights). AreAmong (accesses_of f.rows) (accesses_of (flights_of old.iommu).rows)) (sym call.flights) (λ x there. there))
       (λ d there. there) (λ key translation at. at) (between_scene keeps (inl (λ key translation at. sym (stays.1 key) ∙ at)) has))
 
-  keeps_accept : access.address < 2 ^ 64 → new.memory ≡ old.memory → (number : ℕ) → AcceptsRequest old.memory old.iommu id access number new.iommu → AreSound new (events + 1)
+  keeps_accept : access.address < 2 ^ 64 → new.memory ≡ old.memory → (number : ℕ) → AcceptsRequest old.memory old.iommu id access number new.iommu → AreSound new events
   keeps_accept fits memory number call =
       let keeps = keeps_attached laws old events sound own id (contexts_of new.iommu) call.contexts in
       let is = call.accepted in
@@ -244,9 +230,8 @@ module _ (laws : ServiceLaws) (old new : Parts) (events id : ℕ) (access : Acce
       let answer : Translation = record { frame = call.frame; rights = call.rights } in
       let answers = served laws old events sound own id access.address access.kind ioatc.SURE (translations_of old.iommu) (translations_of new.iommu) (Ok answer) fits call.served in
       let from = served_from answer answers in
-      let count = sound.counted in
-      let more : so_far + 1 ≤ events + 1 = omega (arith, count) in
-      sound_from old new events sound own leaves (events + 1) stays_ready (subst (λ (f : Flights). f.so_far ≤ events + 1) (sym is.after) more)
+      let more : so_far + 1 ≤ events = omega (arith, below) in
+      sound_from old new events sound own leaves stays_ready (subst (λ (f : Flights). f.so_far ≤ events) (sym is.after) more)
       (contexts_kept old new id sound.contexts keeps driver)
       (λ has. accept_scene between (values_of new) id (access.address / 4096) from.0 from.1 access.kind (grants_on (grants_kept old new events sound own leaves))
       (queue_on (queue_kept old new events sound own leaves call.stock)) (ap (λ (f : Flights). f.so_far) is.after)
@@ -255,19 +240,20 @@ module _ (laws : ServiceLaws) (old new : Parts) (events id : ℕ) (access : Acce
       (accepted_among (flights_of old.iommu).rows id is.row (record { access = access; frame = call.frame }) (so_far + 1) is.stands)))
       (λ d there. there) (λ key translation at. at) from.4 from.3 (between_scene keeps (change_of answer answers) has))
 
-  keeps_same : new.memory ≡ old.memory → new.iommu ≡ old.iommu → AreSound new (events + 1)
+  keeps_same : new.memory ≡ old.memory → new.iommu ≡ old.iommu → AreSound new events
   keeps_same memory iommu =
-      subst (λ parts. AreSound parts (events + 1)) (sym (parts_are new old.memory old.iommu old.driver old.devices memory iommu driver devices)) (sound_counted old events sound)
+      subst (λ parts. AreSound parts events) (sym (parts_are new old.memory old.iommu old.driver old.devices old.fabric memory iommu driver devices fabric)) sound
 
-  keeps_replied : access.address < 2 ^ 64 → (reply : Reply) → AnswersRequest old.memory old.iommu id access reply new.memory new.iommu → AreSound new (events + 1)
+  keeps_replied : access.address < 2 ^ 64 → (reply : Reply) → AnswersRequest old.memory old.iommu id access reply new.memory new.iommu → AreSound new events
   keeps_replied fits (Accepted number) call = keeps_accept fits call.1 number call.0
   keeps_replied fits Busy call = keeps_same call.3 call.2
   keeps_replied fits BadSpan call = keeps_same call.2 call.1
   keeps_replied fits (Fault cause) call = keeps_fault fits cause call
 
 pub keeps_asked : ServiceLaws → (old new : Parts) (events id : ℕ) (access : Access) (told : Outcome) → AreSound old events → IsSoundDriver old.driver → StaysReady old.driver
-    → StaysReported old.driver → access.address < 2 ^ 64 → AsksAccess old id access told new → AreSound new (events + 1)
-keeps_asked laws old new events id access told sound own stays reported fits asks = elim asks [
-  | inl unknown ↦ subst (λ parts. AreSound parts (events + 1)) (sym unknown.same) (sound_counted old events sound)
-  | inr answered ↦ keeps_replied laws old new events id access sound own stays reported answered.driver answered.devices fits answered.reply answered.call
+    → StaysReported old.driver → (flights_of old.iommu).so_far < events → access.address < 2 ^ 64 → AsksAccess old id access told new → AreSound new events
+keeps_asked laws old new events id access told sound own stays reported below fits asks = elim asks [
+  | inl unknown ↦ subst (λ parts. AreSound parts events) (sym unknown.same) sound
+  | inr (inl unable) ↦ subst (λ parts. AreSound parts events) (sym unable.same) sound
+  | inr (inr answered) ↦ keeps_replied laws old new events id access sound own stays reported answered.1.driver answered.1.devices answered.1.fabric below fits answered.1.reply answered.1.call
 ]

@@ -1,5 +1,5 @@
 -- A request is a lawful step of the ledger machine.
-use Rattle.std.proofs.Common.{◌≡◌, ◌+◌, ◌/◌, ◌^◌, ◌<◌, ◌∙◌, ◌∷◌, ◌++◌, inl, inr, ℕ, Bool, true, false, List, [], length, map, Some, Ok, Err, slice_get, refl, sym, ap, subst, arith}
+use Rattle.std.proofs.Common.{◌≡◌, ◌+◌, ◌/◌, ◌^◌, ◌<◌, ◌∙◌, ◌∷◌, ◌++◌, inl, inr, ℕ, Bool, true, false, List, [], length, map, Some, Ok, Err, option_map, slice_get, refl, sym, ap, subst, arith}
 use Rattle.std.proofs.lemmas.List.{length-map}
 use Rattle.iom_base.specs.declared.access.AcceptedAccess.{AcceptedAccess}
 use Rattle.iom_base.specs.declared.access.Access.{Access}
@@ -7,9 +7,9 @@ use Rattle.iom_base.specs.declared.cause.Cause.{Cause}
 use Rattle.iom_base.specs.Rights.{allows}
 use Rattle.iom_driver.specs.declared.device.Attachment.{Attachment}
 use Rattle.iom_driver.specs.declared.device.Attachment.TheVariants as driver
+use Rattle.iom_driver.specs.declared.device.Device as known
 use Rattle.iom_driver.specs.Devices.{attachment_of}
 use Rattle.iom_driver.specs.Layout.{fault_frame}
-use Rattle.iom_driver.specs.State.{DriverState}
 use Rattle.iom_inflight.specs.Calls.{with_access}
 use Rattle.iom_inflight.specs.Flights.{NumberedAccess, FlightRow, row_of, with_row}
 use Rattle.iom_inflight.proofs.Rows.{row_is_own}
@@ -18,7 +18,7 @@ use Rattle.iom_iommu.specs.declared.reply.Reply.TheVariants.{Accepted, Busy, Bad
 use Rattle.iom_iommu.specs.Parts.{translations_of, flights_of}
 use Rattle.iom_iommu.specs.Requests.{AnswersRequest, AcceptsRequest, RefusesRequest}
 use Rattle.iom_ledger.specs.declared.ledger.Ledger.{Ledger}
-use Rattle.iom_ledger.specs.declared.refusal.Refusal.TheVariants.{NoSuchDevice}
+use Rattle.iom_ledger.specs.declared.refusal.Refusal.TheVariants.{NoSuchDevice, WrongKind}
 use Rattle.iom_machine.specs.declared.outcome.Outcome.{Outcome}
 use Rattle.iom_machine.specs.declared.outcome.Outcome.TheVariants as outcome
 use Rattle.iom_machine.specs.declared.state.Attachment.TheVariants as shown
@@ -55,30 +55,49 @@ use Rattle.iom_world.proofs.SoundFrom.{LeavesReport}
 use Rattle.iom_world.proofs.StayLemmas.{not_owned}
 use Rattle.iom_world.proofs.WalkLemmas.{NoneIsHeldFor, FaultsBy}
 use Rattle.iom_world.proofs.CachedMay.{cached_accept}
+use Rattle.iom_machine.specs.declared.state.DeviceKind.{DeviceKind}
+use Rattle.iom_machine.specs.Kinds.{sends_untranslated}
+use Rattle.iom_world.specs.declared.device.Device.{Device}
+use Rattle.iom_world.specs.Caches.{kind_in}
+use Rattle.iom_world.proofs.PresentLemmas.{kind_present}
 
 -- a device acts where it is found; one that isn't there is refused
-pub acts_at : (IfPlugged : machine.Device → Type 0) (old : Parts) (state : State) (id : ℕ) (told : Outcome) (next : State)
+pub acts_at : (can : DeviceKind → Bool) (IfPlugged : machine.Device → Type 0) (old : Parts) (state : State) (id : ℕ) (told : Outcome) (next : State)
     → state.devices ≡ shown_devices old.driver.devices (flights_of old.iommu).rows old.devices → (is : IsFound old.driver.devices (flights_of old.iommu).rows old.devices id)
-    → IfPlugged (shown_device old.driver.devices (flights_of old.iommu).rows is.device) → Acts IfPlugged state id told next
-acts_at IfPlugged old state id told next shows is acts = rw (shows, is.shown) acts
+    → can is.device.kind ≡ true → IfPlugged (shown_device old.driver.devices (flights_of old.iommu).rows is.device) → Acts can IfPlugged state id told next
+acts_at can IfPlugged old state id told next shows is able acts = rw (shows, is.shown, able) acts
 
-pub acts_absent : (IfPlugged : machine.Device → Type 0) (old : Parts) (state : State) (id : ℕ) (told : Outcome)
-    → state.devices ≡ shown_devices old.driver.devices (flights_of old.iommu).rows old.devices → IsAbsent old.devices id → told ≡ outcome.Refused NoSuchDevice → Acts IfPlugged state id told state
-acts_absent IfPlugged old state id told shows absent is = rw (shows, absent_shown old.driver.devices (flights_of old.iommu).rows old.devices id absent) (is, refl)
+-- one of a kind that can't is refused
+pub acts_unable : (can : DeviceKind → Bool) (IfPlugged : machine.Device → Type 0) (old : Parts) (state : State) (id : ℕ) (told : Outcome)
+    → state.devices ≡ shown_devices old.driver.devices (flights_of old.iommu).rows old.devices → (is : IsFound old.driver.devices (flights_of old.iommu).rows old.devices id)
+    → can is.device.kind ≡ false → told ≡ outcome.Refused WrongKind → Acts can IfPlugged state id told state
+acts_unable can IfPlugged old state id told shows is unable refused = rw (shows, is.shown, unable) (refused, refl)
+
+-- the device that is found is of the kind that stands there
+pub kind_found : (drivers : List known.Device) (rows : List FlightRow) (devices : List Device) (id : ℕ) (kind : DeviceKind) → (is : IsFound drivers rows devices id) → kind_in devices id ≡ Some kind
+    → is.device.kind ≡ kind
+kind_found drivers rows devices id kind is there = some_same is.device.kind kind (sym (ap (option_map (λ (device : Device). device.kind)) is.found) ∙ there)
+  where
+    some_same : (x y : DeviceKind) → Some x ≡ Some y → x ≡ y
+    some_same x y same = cc
+
+pub acts_absent : (can : DeviceKind → Bool) (IfPlugged : machine.Device → Type 0) (old : Parts) (state : State) (id : ℕ) (told : Outcome)
+    → state.devices ≡ shown_devices old.driver.devices (flights_of old.iommu).rows old.devices → IsAbsent old.devices id → told ≡ outcome.Refused NoSuchDevice → Acts can IfPlugged state id told state
+acts_absent can IfPlugged old state id told shows absent is = rw (shows, absent_shown old.driver.devices (flights_of old.iommu).rows old.devices id absent) (is, refl)
 
 -- the state stays, and the parts
 pub shows_same : (old new : Parts) (state : State) → new ≡ old → PartsShow old state → PartsShow new state
 shows_same old new state same shows = subst (λ parts. PartsShow parts state) (sym same) shows
 
 -- what a walk gives is held by the history: in one stage at the page itself, in both at some page
-held_shown : (state : State) (ledger : Ledger) (mode : Mode) (id : ℕ) (access : Access) (translation : Translation) → Agrees ledger state.history
+held_shown : (state : State) (ledger : Ledger) (mode : Mode) (ats : Bool) (id : ℕ) (access : Access) (translation : Translation) → Agrees ledger state.history
     → HoldsWalked ledger mode id (access.address / 4096) translation → allows translation.rights access.kind ≡ true
-    → MayAccept (shown.Attached mode false) state id access translation.frame
-held_shown state ledger First id access translation agrees (granted, rights, (at, same), held) allowed =
+    → MayAccept (shown.Attached mode ats) state id access translation.frame
+held_shown state ledger First ats id access translation agrees (granted, rights, (at, same), held) allowed =
     inl (rights, (agrees.pages id (access.address / 4096)).holds ∙ ap (held_in ledger id) (sym at) ∙ held, ap (λ r. allows r access.kind) same ∙ allowed)
-held_shown state ledger Second id access translation agrees (granted, rights, (at, same), held) allowed =
+held_shown state ledger Second ats id access translation agrees (granted, rights, (at, same), held) allowed =
     inl (rights, (agrees.pages id (access.address / 4096)).holds ∙ ap (held_in ledger id) (sym at) ∙ held, ap (λ r. allows r access.kind) same ∙ allowed)
-held_shown state ledger Both id access translation agrees (granted, rights, no_less, held) allowed =
+held_shown state ledger Both ats id access translation agrees (granted, rights, no_less, held) allowed =
     (granted, rights, inl ((agrees.pages id granted).holds ∙ held), no_less access.kind allowed)
 
 none_held_shown : (state : State) (ledger : Ledger) (id : ℕ) (access : Access) → Agrees ledger state.history
@@ -92,23 +111,23 @@ may_accept : (parts : Parts) (events : ℕ) (state : State) (id : ℕ) (answer :
     → MayAccept (shown_attachment (attachment_of parts.driver.devices id)) state id access answer.frame
 may_accept parts events state id answer access sure old new sound own shows same (inl reaches) =
     subst (λ a. MayAccept (shown_attachment a) state id access answer.frame) (sym reaches.attached)
-    (subst (λ n. MayAccept (shown.Attached reaches.stage.mode false) state id access n) (sym (ap (λ (t : Translation). t.frame) reaches.answer_is))
-    (held_shown state parts.driver.ledger reaches.stage.mode id access reaches.translation shows.ledger reaches.held reaches.allowed))
+    (subst (λ n. MayAccept (shown.Attached reaches.stage.mode reaches.stage.ats) state id access n) (sym (ap (λ (t : Translation). t.frame) reaches.answer_is))
+    (held_shown state parts.driver.ledger reaches.stage.mode reaches.stage.ats id access reaches.translation shows.ledger reaches.held reaches.allowed))
 may_accept parts events state id answer access sure old new sound own shows same (inr finds) =
     subst (λ n. MayAccept (shown_attachment (attachment_of parts.driver.devices id)) state id access n) (sym (ap (λ (t : Translation). t.frame) finds.answer_is))
     (cached_accept parts events state id access finds.stage finds.translation sound own shows finds.owned
     (ap (λ (c : Translations). c (space_in finds.stage.mode finds.stage.number, access.address / 4096)) (sym same) ∙ finds.cached) finds.allowed)
 
-attached_fault : (mode : Mode) (state : State) (ledger : Ledger) (id : ℕ) (access : Access) (cause : Cause) → Agrees ledger state.history
-    → FaultsBy mode ledger id (access.address / 4096) access.kind cause → MayFault (shown.Attached mode false) state id access cause
-attached_fault First state ledger id access cause agrees faults = (none_held_shown state ledger id access agrees faults.1, faults.0)
-attached_fault Second state ledger id access cause agrees faults = (none_held_shown state ledger id access agrees faults.1, faults.0)
-attached_fault Both state ledger id access cause agrees faults = faults
+attached_fault : (mode : Mode) (ats : Bool) (state : State) (ledger : Ledger) (id : ℕ) (access : Access) (cause : Cause) → Agrees ledger state.history
+    → FaultsBy mode ledger id (access.address / 4096) access.kind cause → MayFault (shown.Attached mode ats) state id access cause
+attached_fault First ats state ledger id access cause agrees faults = (none_held_shown state ledger id access agrees faults.1, faults.0)
+attached_fault Second ats state ledger id access cause agrees faults = (none_held_shown state ledger id access agrees faults.1, faults.0)
+attached_fault Both ats state ledger id access cause agrees faults = faults
 
 may_fault : (a : Attachment) (parts : Parts) (state : State) (id : ℕ) (access : Access) (cause : Cause) → IsSoundDriver parts.driver → PartsShow parts state
     → attachment_of parts.driver.devices id ≡ a → FaultsAs a parts.driver id access.address access.kind cause → MayFault (shown_attachment a) state id access cause
 may_fault driver.Detached parts state id access cause own shows is faults = faults ∙ ap (λ l. cause_at l id) (sym shows.levels)
-may_fault (driver.Attached stage) parts state id access cause own shows is faults = attached_fault stage.mode state parts.driver.ledger id access cause shows.ledger faults
+may_fault (driver.Attached stage) parts state id access cause own shows is faults = attached_fault stage.mode stage.ats state parts.driver.ledger id access cause shows.ledger faults
 may_fault (driver.Leaving ticket stage) parts state id access cause own shows is (inl page) = inr (shows.none_later ticket (own.leaving id ticket stage is).0, page)
 may_fault (driver.Leaving ticket stage) parts state id access cause own shows is (inr none) = inl (none ∙ ap (λ l. cause_at l id) (sym shows.levels))
 
@@ -152,7 +171,7 @@ shows_flights old new state memory driver devices flights shows = record {
 
 module _ (laws : ServiceLaws) (old new : Parts) (events id : ℕ) (access : Access) (sound : AreSound old events) (own : IsSoundDriver old.driver) (fits : access.address < 2 ^ 64)
     (reported : StaysReported old.driver) (driver : new.driver ≡ old.driver) (devices : new.devices ≡ old.devices) (state : State) (shows : PartsShow old state)
-    (is : IsFound old.driver.devices (flights_of old.iommu).rows old.devices id) where
+    (is : IsFound old.driver.devices (flights_of old.iommu).rows old.devices id) (able : sends_untranslated is.device.kind ≡ true) (fabric : new.fabric ≡ old.fabric) where
   abbrev rows : List FlightRow
   rows = (flights_of old.iommu).rows
 
@@ -175,7 +194,7 @@ module _ (laws : ServiceLaws) (old new : Parts) (events id : ℕ) (access : Acce
   step_same told may stays frames flights = (
     0,
     state,
-    acts_at (MayTell 0 state told) old state id told state shows.devices is (may, stays),
+    acts_at sends_untranslated (MayTell 0 state told) old state id told state shows.devices is able (may, stays),
     shows_where old new state frames driver devices flights shows,
   )
 
@@ -186,7 +205,7 @@ module _ (laws : ServiceLaws) (old new : Parts) (events id : ℕ) (access : Acce
   step_fault cause call =
       let room = call.room in
       let faults = (served laws old events sound own id access.address access.kind ioatc.SURE (translations_of old.iommu) (translations_of new.iommu) (Err call.fault) fits call.served).0 in
-      let leaves = report_leaves old new events id access sound reported driver devices cause call in
+      let leaves = report_leaves old new events id access sound reported driver devices fabric cause call in
       let count = room.room in
       let many = long room.row room.stands in
       step_same (outcome.Fault cause) (
@@ -222,7 +241,7 @@ module _ (laws : ServiceLaws) (old new : Parts) (events id : ℕ) (access : Acce
       ∙ row_shown old.driver.devices rows old.devices id is.device it.row after sound.known.own_ids is.found is.own it.stands mine in (
         call.frame,
         next,
-        acts_at (MayTell call.frame next (outcome.Accepted number)) old state id (outcome.Accepted number) next shows.devices is (
+        acts_at sends_untranslated (MayTell call.frame next (outcome.Accepted number)) old state id (outcome.Accepted number) next shows.devices is able (
           (
             (call.within, (λ busy. absurd (omega (arith, count, many, busy)))),
             subst (λ n. MayAccept (shown_attachment (attachment_of old.driver.devices n)) state n access call.frame) (sym is.own)
@@ -258,11 +277,22 @@ request_step laws old new events id access told sound own reported fits asks sta
   | inl unknown ↦ (
     0,
     state,
-    acts_absent (λ device. MayAnswer state device access 0 told × (state ≡ state_after state device access 0 told)) old state id told shows.devices unknown.absent unknown.told_so,
+    acts_absent sends_untranslated (λ device. MayAnswer state device access 0 told × (state ≡ state_after state device access 0 told)) old state id told shows.devices unknown.absent unknown.told_so,
     shows_same old new state unknown.same shows,
   )
-  | inr answered ↦
-      let step = step_replied laws old new events id access sound own fits reported answered.driver answered.devices state shows
-      (present_found old.driver.devices (flights_of old.iommu).rows old.devices id answered.present) answered.reply answered.call in
-      (step.0, step.1, subst (λ t. Requests step.0 state id access t step.1) (sym answered.told_so) step.2, step.3)
+  | inr (inl unable) ↦
+      let is = present_found old.driver.devices (flights_of old.iommu).rows old.devices id (kind_present old.devices id unable.kind unable.there) in (
+        0,
+        state,
+        acts_unable sends_untranslated (λ device. MayAnswer state device access 0 told × (state ≡ state_after state device access 0 told)) old state id told shows.devices is
+            (ap sends_untranslated (kind_found old.driver.devices (flights_of old.iommu).rows old.devices id unable.kind is unable.there) ∙ unable.cannot) unable.told_so,
+        shows_same old new state unable.same shows,
+      )
+  | inr (inr answered) ↦
+      let kind = answered.0.0 in
+      let is = present_found old.driver.devices (flights_of old.iommu).rows old.devices id (kind_present old.devices id kind answered.0.1) in
+      let reply = answered.1 in
+      let step = step_replied laws old new events id access sound own fits reported reply.driver reply.devices state shows is
+      (ap sends_untranslated (kind_found old.driver.devices (flights_of old.iommu).rows old.devices id kind is answered.0.1) ∙ answered.0.2) reply.fabric reply.reply reply.call in
+      (step.0, step.1, subst (λ t. Requests step.0 state id access t step.1) (sym reply.told_so) step.2, step.3)
 ]

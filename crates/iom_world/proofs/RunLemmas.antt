@@ -1,5 +1,5 @@
 -- Runs that go on by one event, where the outcomes go to a sink.
-use Rattle.std.proofs.Common.{suc, ◌≡◌, ◌+◌, ◌<◌, ◌≤◌, ◌++◌, ◌∙◌, ℕ, List, [], ◌∷◌, length, take, get_or, refl, sym, ap, subst, arith}
+use Rattle.std.proofs.Common.{suc, ◌≡◌, ◌+◌, ◌<◌, ◌++◌, ◌∙◌, ℕ, List, [], ◌∷◌, length, take, get_or, refl, sym, ap, subst, arith}
 use Rattle.std.proofs.lemmas.List.{take_more, length-take-le}
 use Rattle.iom_machine.specs.declared.choice.Choice.{Choice}
 use Rattle.iom_machine.specs.declared.event.Event.{Event}
@@ -10,26 +10,26 @@ use Rattle.iom_machine.proofs.ReclaimLemmas.{reclaims}
 use Rattle.iom_world.specs.declared.world.World.{World}
 use Rattle.iom_world.specs.Happens.{Happens}
 use Rattle.iom_world.specs.Parts.{Parts}
-use Rattle.iom_iommu.specs.Parts.{flights_of}
+use Rattle.iom_iommu.specs.Parts.{flights_of, slots_of}
 use Rattle.iom_world.specs.Runs.{TakesAll, GoesThrough, AreOutcomes, RunsTo, FailsAfter}
 use Rattle.iom_world.specs.Shows.{Shows}
 use Rattle.iom_world.specs.Sound.{AreSound}
 
 -- nothing is left free
 abbrev pub no_choice : Choice
-no_choice = record { directory = []; taken = []; frame = 0 }
+no_choice = record { directory = []; taken = []; frame = 0; device = 0; page = 0 }
 
 -- a frame is chosen
 abbrev pub frame_chosen : ℕ → Choice
-frame_chosen frame = record { directory = []; taken = []; frame = frame }
+frame_chosen frame = record { directory = []; taken = []; frame = frame; device = 0; page = 0 }
 
 -- frames are taken
 abbrev pub frames_taken : List ℕ → Choice
-frames_taken taken = record { directory = []; taken = taken; frame = 0 }
+frames_taken taken = record { directory = []; taken = taken; frame = 0; device = 0; page = 0 }
 
 -- pages of the directory and frames are taken
 abbrev pub pages_taken : List ℕ → List ℕ → Choice
-pages_taken pages taken = record { directory = pages; taken = taken; frame = 0 }
+pages_taken pages taken = record { directory = pages; taken = taken; frame = 0; device = 0; page = 0 }
 
 -- what is sound stays so where one more event is counted
 pub sound_counted : (parts : Parts) (events : ℕ) → AreSound parts events → AreSound parts (events + 1)
@@ -39,10 +39,11 @@ sound_counted parts events sound = record {
   processing = sound.processing;
   size = sound.size;
   known = sound.known;
-  slots = sound.slots;
   confirmed = sound.confirmed;
   small = sound.small;
   counted = (let count = sound.counted in omega (arith, count));
+  serials = (let last = sound.serials in omega (arith, last));
+  epochs = λ id. let epoch = sound.epochs id in omega (arith, epoch);
   contexts = sound.contexts;
   copies = sound.copies;
 }
@@ -50,6 +51,10 @@ sound_counted parts events sound = record {
 -- no more accesses were accepted than events came before the one that is counted
 pub below_counted : (parts : Parts) (events : ℕ) → AreSound parts events → (flights_of parts.iommu).so_far < events + 1
 below_counted parts events sound = let count = sound.counted in omega (arith, count)
+
+-- nor were more serials given
+pub serials_counted : (parts : Parts) (events : ℕ) → AreSound parts events → (slots_of parts.iommu).last < events + 1
+serials_counted parts events sound = let last = sound.serials in omega (arith, last)
 
 -- a run has an outcome for each event
 pub run_length : (old new : State) (events : List Event) (outcomes : List Outcome) → Run old events outcomes new → length outcomes ≡ length events

@@ -1,18 +1,16 @@
 -- What the driver's calls do to a scene: the facts on copies stay.
-use Rattle.std.proofs.Common.{◌≡◌, ◌≢◌, ◌+◌, ◌-◌, ◌≤◌, ◌<◌, ◌==◌, ◌⊎◌, inl, inr, ◌∙◌, ℕ, zero, suc, Bool, true, false, List, [], ◌∷◌, ◌++◌, Contains, Option, None, Some, refl, sym, ap, subst, arith, if◌then◌else◌}
-use Rattle.std.proofs.lemmas.Bool.{false≢true, eqb-true}
+use Rattle.std.proofs.Common.{◌≡◌, ◌+◌, ◌-◌, ◌≤◌, ◌<◌, ◌==◌, ◌⊎◌, inl, inr, ◌∙◌, ℕ, zero, suc, Bool, true, false, List, [], ◌∷◌, ◌++◌, Contains, Option, None, Some, refl, sym, ap, subst, arith, if◌then◌else◌}
+use Rattle.std.proofs.lemmas.Bool.{eqb-true}
 use Rattle.std.specs.Option.{option_map, option_to_list}
 use Rattle.iom_base.specs.declared.rights.Rights.{Rights}
-use Rattle.iom_command_queue.specs.declared.command.Command.TheVariants.{IotinvalVma, IodirInvalDdt}
 use Rattle.iom_command_queue.specs.declared.entry.QueueEntry.{QueueEntry}
 use Rattle.iom_command_queue.specs.declared.entry.QueueEntry.TheVariants.{Command}
-use Rattle.iom_copies.specs.Attachments.{IsAttached}
+use Rattle.iom_copies.specs.Attachments.{IsAttached, caches_translations}
 use Rattle.iom_copies.specs.DriverCalls.{with_attachment, with_kind, with_ticket, released_extent, release_commands, leave_commands, once_confirmed}
 use Rattle.iom_copies.proofs.ListLemmas.{in_none, contains_head, contains_tail}
 use Rattle.iom_ledger.specs.Confirmations.{confirmed_from}
 use Rattle.iom_copies.specs.Faithful.{GrantsFit, IsFaithful}
-use Rattle.iom_copies.specs.Holdings.{HoldsNothing, LingersOnNothing}
-use Rattle.iom_copies.specs.Queue.{Extent, OnePage, WholeSpace, QueuedCommand, DropTranslations, DropContext, Fence}
+use Rattle.iom_copies.specs.Queue.{Extent, WholeSpace, QueuedCommand, DropTranslations, DropContext, Fence}
 use Rattle.iom_copies.specs.Occurrences.{Plug, Attach, Grant, Release, Detach}
 use Rattle.iom_copies.specs.Scene.{Copy, Scene}
 use Rattle.iom_copies.proofs.OccurrenceLemmas.{occurrences_keep_facts}
@@ -32,11 +30,13 @@ use Rattle.iom_world.specs.Scenes.{Values, copy_of, IsSomebodys, GoesInOrder, Is
 use Rattle.iom_world.proofs.QueuedLemmas.{SpacesStay, queued_append, queued_still, come_on, come_up_to, none_left, pending_next}
 use Rattle.iom_world.proofs.ConfirmScenes.{left_after, confirmed_scene, confirm_all}
 
--- what is cached of translations is as it was, or less; the fence at the head counted as many; and who has a number keeps it
+-- what is cached of translations is as it was, or less; the fence at the head counted as many; who has a number keeps it; and the same is under way to
+-- and from the devices' caches
 pub record KeepsCached (old new : Values) : Type 0 where
   pub spaces : (device : ℕ) (space : Space) → old.space_of device ≡ Some space → new.space_of device ≡ Some space
   pub translations : (key : Key) (translation : Translation) → new.translations key ≡ Some translation → old.translations key ≡ Some translation
   pub stock : new.stock ≡ old.stock
+  pub traffic : new.traffic ≡ old.traffic
 
 -- each cached translation is still somebody's
 somebodys_still : (old new : Values) (scene : Scene) → KeepsCached old new → IsSceneOf old scene
@@ -67,7 +67,7 @@ pub record AreSameValues (old new : Values) : Type 0 where
   pub confirmed : new.confirmed ≡ old.confirmed
   pub so_far : new.so_far ≡ old.so_far
   pub in_flight : new.in_flight ≡ old.in_flight
-  pub unplugged : (id : ℕ) → new.is_plugged id ≡ false → old.is_plugged id ≡ false
+  pub kinds : (id : ℕ) → new.kind_of id ≡ old.kind_of id
   pub attachments : (id : ℕ) → new.attachment_of id ≡ old.attachment_of id
   pub contexts : (id : ℕ) → new.is_cached id ≡ true → old.is_cached id ≡ true
   pub cached : KeepsCached old new
@@ -83,13 +83,14 @@ same_scene_of old new scene same shows = record {
   confirmed = shows.confirmed ∙ sym same.confirmed;
   accepted = shows.accepted ∙ sym same.so_far;
   in_flight = shows.in_flight ∙ sym same.in_flight;
-  unplugged = λ id none. shows.unplugged id (same.unplugged id none);
+  kinds = λ id. shows.kinds id ∙ sym (same.kinds id);
   attachments = λ id. shows.attachments id ∙ sym (same.attachments id);
   contexts = λ id is. shows.contexts id (same.contexts id is);
   translations = somebodys_still old new scene same.cached shows;
   stock = rw same.cached.stock shows.stock;
   leaving = leaves_still old new scene shows same.attachments;
-  alone = shows.alone;
+  traffic = shows.traffic ∙ sym same.cached.traffic;
+  goes_on = shows.goes_on;
 }
 
 pub same_scene : (old new : Values) → AreSameValues old new → HasFaithfulScene old → HasFaithfulScene new
@@ -104,9 +105,9 @@ nothing_lingers : (values : Values) (scene : Scene) (device page : ℕ) → IsSc
 nothing_lingers values scene device page shows none = (shows.ledger.pages device page).lingers ∙ lingers_none (released_in values.ledger device page) none
 
 -- PLUG
-pub record PlugsOne (old new : Values) (id : ℕ) : Type 0 where
-  pub free : old.is_plugged id ≡ false
-  pub unplugged : (d : ℕ) → new.is_plugged d ≡ false → (old.is_plugged d ≡ false) × ((id == d) ≡ false)
+pub record PlugsOne (old new : Values) (id : ℕ) (kind : DeviceKind) : Type 0 where
+  pub free : old.kind_of id ≡ None
+  pub kinds : (d : ℕ) → new.kind_of d ≡ with_kind old.kind_of id kind d
   pub agrees : (h : History) → Agrees old.ledger h → Agrees new.ledger h
   pub address : new.address ≡ old.address
   pub waiting : new.waiting ≡ old.waiting
@@ -119,7 +120,7 @@ pub record PlugsOne (old new : Values) (id : ℕ) : Type 0 where
   pub contexts : (d : ℕ) → new.is_cached d ≡ true → old.is_cached d ≡ true
   pub cached : KeepsCached old new
 
-pub plug_scene : (old new : Values) (id : ℕ) (kind : DeviceKind) → PlugsOne old new id → HasFaithfulScene old → HasFaithfulScene new
+pub plug_scene : (old new : Values) (id : ℕ) (kind : DeviceKind) → PlugsOne old new id kind → HasFaithfulScene old → HasFaithfulScene new
 plug_scene old new id kind plugs (scene, shows, facts) =
     let next : Scene = record scene { kind_of = with_kind scene.kind_of id kind } in (
       next,
@@ -133,15 +134,16 @@ plug_scene old new id kind plugs (scene, shows, facts) =
         confirmed = shows.confirmed ∙ sym plugs.confirmed;
         accepted = shows.accepted ∙ sym plugs.so_far;
         in_flight = shows.in_flight ∙ sym plugs.in_flight;
-        unplugged = λ d none. ap (λ b. if b then Some kind else scene.kind_of d) (plugs.unplugged d none).1 ∙ shows.unplugged d (plugs.unplugged d none).0;
+        kinds = λ d. ap (λ k. if id == d then Some kind else k) (shows.kinds d) ∙ sym (plugs.kinds d);
         attachments = λ d. shows.attachments d ∙ sym (plugs.attachments d);
         contexts = λ d is. shows.contexts d (plugs.contexts d is);
         translations = somebodys_still old new scene plugs.cached shows;
         stock = rw plugs.cached.stock shows.stock;
         leaving = leaves_still old new scene shows plugs.attachments;
-        alone = record { goes_on = shows.alone.goes_on; entries = shows.alone.entries; messages = shows.alone.messages; slots = shows.alone.slots };
+        traffic = shows.traffic ∙ sym plugs.cached.traffic;
+        goes_on = shows.goes_on;
       },
-      occurrences_keep_facts (Plug id kind) scene next facts (shows.unplugged id plugs.free, refl),
+      occurrences_keep_facts (Plug id kind) scene next facts (shows.kinds id ∙ plugs.free, refl),
     )
 
 -- the attachments, where this device is attached so now
@@ -153,17 +155,18 @@ attached_as : (old new : Values) (scene : Scene) (id : ℕ) (now : Attachment) �
 attached_as old new scene id now shows attaches d = ap (λ before. if id == d then now else before) (shows.attachments d) ∙ sym (attaches d)
 
 -- a device that is attached leaves no more, and others leave as before
-attached_leaves : (old new : Values) (scene : Scene) (id : ℕ) (mode : Mode) → IsSceneOf old scene → AttachesOne old new id (Attached mode false) → (d : ℕ) → GoesInOrder d (new.attachment_of d) scene.waiting
-attached_leaves old new scene id mode shows attaches d = subst (λ a. GoesInOrder d a scene.waiting) (sym (attaches d)) (by (id == d))
+attached_leaves : (old new : Values) (scene : Scene) (id : ℕ) (mode : Mode) (ats : Bool) → IsSceneOf old scene → AttachesOne old new id (Attached mode ats) → (d : ℕ) → GoesInOrder d (new.attachment_of d) scene.waiting
+attached_leaves old new scene id mode ats shows attaches d = subst (λ a. GoesInOrder d a scene.waiting) (sym (attaches d)) (by (id == d))
   where
-    by : (b : Bool) → GoesInOrder d (if b then Attached mode false else old.attachment_of d) scene.waiting
+    by : (b : Bool) → GoesInOrder d (if b then Attached mode ats else old.attachment_of d) scene.waiting
     by true = tt
     by false = shows.leaving d
 
--- ATTACH, without ATS
-pub record AttachesDetached (old new : Values) (id : ℕ) (mode : Mode) : Type 0 where
+-- ATTACH, with ATS only a device with a cache of its own
+pub record AttachesDetached (old new : Values) (id : ℕ) (mode : Mode) (ats : Bool) : Type 0 where
   pub detached : old.attachment_of id ≡ Detached
-  pub attached : AttachesOne old new id (Attached mode false)
+  pub trusted : ats ≡ true → caches_translations (old.kind_of id) ≡ true
+  pub attached : AttachesOne old new id (Attached mode ats)
   pub agrees : (h : History) → Agrees old.ledger h → Agrees new.ledger h
   pub address : new.address ≡ old.address
   pub waiting : new.waiting ≡ old.waiting
@@ -172,13 +175,13 @@ pub record AttachesDetached (old new : Values) (id : ℕ) (mode : Mode) : Type 0
   pub confirmed : new.confirmed ≡ old.confirmed
   pub so_far : new.so_far ≡ old.so_far
   pub in_flight : new.in_flight ≡ old.in_flight
-  pub unplugged : (d : ℕ) → new.is_plugged d ≡ false → old.is_plugged d ≡ false
+  pub kinds : (d : ℕ) → new.kind_of d ≡ old.kind_of d
   pub contexts : (d : ℕ) → new.is_cached d ≡ true → old.is_cached d ≡ true
   pub cached : KeepsCached old new
 
-pub attach_scene : (old new : Values) (id : ℕ) (mode : Mode) → AttachesDetached old new id mode → HasFaithfulScene old → HasFaithfulScene new
-attach_scene old new id mode attaches (scene, shows, facts) =
-    let next : Scene = record scene { attachment_of = with_attachment scene.attachment_of id (Attached mode false) } in (
+pub attach_scene : (old new : Values) (id : ℕ) (mode : Mode) (ats : Bool) → AttachesDetached old new id mode ats → HasFaithfulScene old → HasFaithfulScene new
+attach_scene old new id mode ats attaches (scene, shows, facts) =
+    let next : Scene = record scene { attachment_of = with_attachment scene.attachment_of id (Attached mode ats) } in (
       next,
       record {
         ledger = attaches.agrees scene.history shows.ledger;
@@ -190,21 +193,24 @@ attach_scene old new id mode attaches (scene, shows, facts) =
         confirmed = shows.confirmed ∙ sym attaches.confirmed;
         accepted = shows.accepted ∙ sym attaches.so_far;
         in_flight = shows.in_flight ∙ sym attaches.in_flight;
-        unplugged = λ d none. shows.unplugged d (attaches.unplugged d none);
-        attachments = attached_as old new scene id (Attached mode false) shows attaches.attached;
+        kinds = λ d. shows.kinds d ∙ sym (attaches.kinds d);
+        attachments = attached_as old new scene id (Attached mode ats) shows attaches.attached;
         contexts = λ d is. shows.contexts d (attaches.contexts d is);
         translations = somebodys_still old new scene attaches.cached shows;
         stock = rw attaches.cached.stock shows.stock;
-        leaving = attached_leaves old new scene id mode shows attaches.attached;
-        alone = record { goes_on = shows.alone.goes_on; entries = shows.alone.entries; messages = shows.alone.messages; slots = shows.alone.slots };
+        leaving = attached_leaves old new scene id mode ats shows attaches.attached;
+        traffic = shows.traffic ∙ sym attaches.cached.traffic;
+        goes_on = shows.goes_on;
       },
-      occurrences_keep_facts (Attach id mode false) scene next facts (shows.attachments id ∙ attaches.detached, (λ ats. absurd (false≢true ats)), refl),
+      occurrences_keep_facts (Attach id mode ats) scene next facts
+          (shows.attachments id ∙ attaches.detached, (λ with. ap caches_translations (shows.kinds id) ∙ attaches.trusted with), refl),
     )
 
 -- GRANT
 pub record GrantsOne (old new : Values) (id page frame : ℕ) (rights : Rights) : Type 0 where
   pub mode : Mode
-  pub attached : old.attachment_of id ≡ Attached mode false
+  pub ats : Bool
+  pub attached : old.attachment_of id ≡ Attached mode ats
   pub not_held : held_in old.ledger id page ≡ None
   pub not_lingering : lingering_in old.ledger id page ≡ None
   pub agrees : (h : History) → Agrees old.ledger h → Agrees new.ledger (Granted id page frame rights ∷ h)
@@ -215,13 +221,13 @@ pub record GrantsOne (old new : Values) (id page frame : ℕ) (rights : Rights) 
   pub confirmed : new.confirmed ≡ old.confirmed
   pub so_far : new.so_far ≡ old.so_far
   pub in_flight : new.in_flight ≡ old.in_flight
-  pub unplugged : (d : ℕ) → new.is_plugged d ≡ false → old.is_plugged d ≡ false
+  pub kinds : (d : ℕ) → new.kind_of d ≡ old.kind_of d
   pub attachments : (d : ℕ) → new.attachment_of d ≡ old.attachment_of d
   pub contexts : (d : ℕ) → new.is_cached d ≡ true → old.is_cached d ≡ true
   pub cached : KeepsCached old new
 
-is_attached_so : (attachment : Attachment) (mode : Mode) → attachment ≡ Attached mode false → IsAttached attachment
-is_attached_so attachment mode is = rw is refl
+is_attached_so : (attachment : Attachment) (mode : Mode) (ats : Bool) → attachment ≡ Attached mode ats → IsAttached attachment
+is_attached_so attachment mode ats is = rw is refl
 
 none_in : {X : Type 0} (xs : List X) (x : X) → xs ≡ [] → ¬ Contains xs x
 none_in xs x none there = in_none x (subst (λ l. Contains l x) none there)
@@ -240,16 +246,17 @@ grant_scene old new id page frame rights grants (scene, shows, facts) =
         confirmed = shows.confirmed ∙ sym grants.confirmed;
         accepted = shows.accepted ∙ sym grants.so_far;
         in_flight = shows.in_flight ∙ sym grants.in_flight;
-        unplugged = λ d none. shows.unplugged d (grants.unplugged d none);
+        kinds = λ d. shows.kinds d ∙ sym (grants.kinds d);
         attachments = λ d. shows.attachments d ∙ sym (grants.attachments d);
         contexts = λ d is. shows.contexts d (grants.contexts d is);
         translations = somebodys_still old new scene grants.cached shows;
         stock = rw grants.cached.stock shows.stock;
         leaving = leaves_still old new scene shows grants.attachments;
-        alone = record { goes_on = shows.alone.goes_on; entries = shows.alone.entries; messages = shows.alone.messages; slots = shows.alone.slots };
+        traffic = shows.traffic ∙ sym grants.cached.traffic;
+        goes_on = shows.goes_on;
       },
       occurrences_keep_facts (Grant id page frame rights) scene next facts (
-        is_attached_so (scene.attachment_of id) grants.mode (shows.attachments id ∙ grants.attached),
+        is_attached_so (scene.attachment_of id) grants.mode grants.ats (shows.attachments id ∙ grants.attached),
         (shows.ledger.pages id page).holds ∙ grants.not_held,
         (λ released. none_in (lingering_at scene.history id page) released (nothing_lingers old scene id page shows grants.not_lingering)),
         refl,
@@ -267,7 +274,7 @@ pub record QueuesTicket (old new : Values) (commands : List QueueEntry) (queued 
   pub confirmed : new.confirmed ≡ old.confirmed
   pub so_far : new.so_far ≡ old.so_far
   pub in_flight : new.in_flight ≡ old.in_flight
-  pub unplugged : (d : ℕ) → new.is_plugged d ≡ false → old.is_plugged d ≡ false
+  pub kinds : (d : ℕ) → new.kind_of d ≡ old.kind_of d
   pub contexts : (d : ℕ) → new.is_cached d ≡ true → old.is_cached d ≡ true
   pub cached : KeepsCached old new
 
@@ -299,13 +306,14 @@ module _ (old new : Values) (scene : Scene) (commands : List QueueEntry) (queued
     confirmed = shows.confirmed ∙ sym queues.confirmed;
     accepted = shows.accepted ∙ sym queues.so_far;
     in_flight = shows.in_flight ∙ sym queues.in_flight;
-    unplugged = λ d none. shows.unplugged d (queues.unplugged d none);
+    kinds = λ d. shows.kinds d ∙ sym (queues.kinds d);
     attachments = attachments;
     contexts = λ d is. shows.contexts d (queues.contexts d is);
     translations = somebodys_still old new scene queues.cached shows;
     stock = rw queues.cached.stock shows.stock;
     leaving = leaving;
-    alone = record { goes_on = shows.alone.goes_on; entries = shows.alone.entries; messages = shows.alone.messages; slots = shows.alone.slots };
+    traffic = shows.traffic ∙ sym queues.cached.traffic;
+    goes_on = shows.goes_on;
   }
 
 -- a ticket above the last that is confirmed isn't confirmed
@@ -317,21 +325,24 @@ unconfirmed_next values scene ticket shows facts above = by (confirms scene.hist
     by true is = let low = facts.order.confirmed ticket is in let same = shows.confirmed in absurd (omega (arith, low, above, same))
 
 -- no invalidation of an attached device is one of a leaving device
-release_goes : (old : Values) (scene : Scene) (id number d : ℕ) (extent : Extent) (mode : Mode) (a : Attachment) → old.attachment_of id ≡ Attached mode false → old.attachment_of d ≡ a → GoesInOrder d a scene.waiting
-    → GoesInOrder d a (scene.waiting ++ (release_commands id extent false ++ Fence number ∷ []))
-release_goes old scene id number d extent mode Detached attached is goes = tt
-release_goes old scene id number d extent mode (Attached own ats) attached is goes = tt
-release_goes old scene id number d extent mode (Quarantined ticket own ats) attached is goes = tt
-release_goes old scene id number d extent mode (Leaving ticket own ats) attached is goes =
-    come_on d ticket scene.waiting (release_commands id extent false ++ Fence number ∷ []) goes
-    ((λ same. let both = sym attached ∙ ap old.attachment_of same ∙ is in cc), tt)
+release_goes : (old : Values) (scene : Scene) (id number d : ℕ) (extent : Extent) (mode : Mode) (ats : Bool) (a : Attachment) → old.attachment_of id ≡ Attached mode ats → old.attachment_of d ≡ a → GoesInOrder d a scene.waiting
+    → GoesInOrder d a (scene.waiting ++ (release_commands id extent ats ++ Fence number ∷ []))
+release_goes old scene id number d extent mode with Detached attached is goes = tt
+release_goes old scene id number d extent mode with (Attached own ats) attached is goes = tt
+release_goes old scene id number d extent mode with (Quarantined ticket own ats) attached is goes = tt
+release_goes old scene id number d extent mode with (Leaving ticket own ats) attached is goes =
+    come_on d ticket scene.waiting (release_commands id extent with ++ Fence number ∷ []) goes (by with (λ same. let both = sym attached ∙ ap old.attachment_of same ∙ is in cc))
+  where
+    by : (b : Bool) → (id ≡ d → ⊥) → ComeBefore d ticket (release_commands id extent b ++ Fence number ∷ [])
+    by true other = ((λ same. absurd (other same)), tt)
+    by false other = ((λ same. absurd (other same)), tt)
 
-detach_goes : (old : Values) (scene : Scene) (id number d : ℕ) (mode : Mode) (a : Attachment) → old.attachment_of id ≡ Attached mode false → old.attachment_of d ≡ a → GoesInOrder d a scene.waiting
+detach_goes : (old : Values) (scene : Scene) (id number d : ℕ) (mode : Mode) (ats : Bool) (a : Attachment) → old.attachment_of id ≡ Attached mode ats → old.attachment_of d ≡ a → GoesInOrder d a scene.waiting
     → GoesInOrder d a (scene.waiting ++ (leave_commands id ++ Fence number ∷ []))
-detach_goes old scene id number d mode Detached attached is goes = tt
-detach_goes old scene id number d mode (Attached own ats) attached is goes = tt
-detach_goes old scene id number d mode (Quarantined ticket own ats) attached is goes = tt
-detach_goes old scene id number d mode (Leaving ticket own ats) attached is goes =
+detach_goes old scene id number d mode with Detached attached is goes = tt
+detach_goes old scene id number d mode with (Attached own ats) attached is goes = tt
+detach_goes old scene id number d mode with (Quarantined ticket own ats) attached is goes = tt
+detach_goes old scene id number d mode with (Leaving ticket own ats) attached is goes =
     come_on d ticket scene.waiting (leave_commands id ++ Fence number ∷ []) goes
     ((λ same. let both = sym attached ∙ ap old.attachment_of same ∙ is in cc), tt)
 
@@ -344,12 +355,13 @@ detached_goes scene id number =
     ((λ same. last), tt)
 
 -- RELEASE
-pub release_scene : (old new : Values) (id page : ℕ) (mode : Mode) (commands : List QueueEntry) → QueuesTicket old new commands (DropTranslations id (released_extent mode page) ∷ [])
-    → old.attachment_of id ≡ Attached mode false → ((d : ℕ) → new.attachment_of d ≡ old.attachment_of d)
+pub release_scene : (old new : Values) (id page : ℕ) (mode : Mode) (ats : Bool) (commands : List QueueEntry)
+    → QueuesTicket old new commands (release_commands id (released_extent mode page) ats)
+    → old.attachment_of id ≡ Attached mode ats → ((d : ℕ) → new.attachment_of d ≡ old.attachment_of d)
     → ((h : History) → Agrees old.ledger h → confirms h (old.given + 1) ≡ false → Agrees new.ledger (Released id page (old.given + 1) ∷ h))
     → HasFaithfulScene old → HasFaithfulScene new
-release_scene old new id page mode commands queues attached same agrees (scene, shows, facts) =
-    let queued = release_commands id (released_extent mode page) false in
+release_scene old new id page mode ats commands queues attached same agrees (scene, shows, facts) =
+    let queued = release_commands id (released_extent mode page) ats in
     let ordered = queues.ordered in
     let next : Scene = record (with_ticket scene queued) { history = Released id page (scene.given + 1) ∷ scene.history } in
     let agreed : Agrees new.ledger (Released id page (scene.given + 1) ∷ scene.history) =
@@ -357,25 +369,25 @@ release_scene old new id page mode commands queues attached same agrees (scene, 
       next,
       ticket_shows old new scene commands queued shows queues (Released id page (scene.given + 1) ∷ scene.history) scene.attachment_of agreed (λ d. shows.attachments d ∙ sym (same d))
           (λ d. subst (λ a. GoesInOrder d a (scene.waiting ++ (queued ++ Fence (scene.last_fence + 1) ∷ []))) (sym (same d))
-          (release_goes old scene id (scene.last_fence + 1) d (released_extent mode page) mode (old.attachment_of d) attached refl (shows.leaving d))),
-      occurrences_keep_facts (Release id page) scene next facts (mode, false, shows.attachments id ∙ attached, refl),
+          (release_goes old scene id (scene.last_fence + 1) d (released_extent mode page) mode ats (old.attachment_of d) attached refl (shows.leaving d))),
+      occurrences_keep_facts (Release id page) scene next facts (mode, ats, shows.attachments id ∙ attached, refl),
     )
 
 -- DETACH
-pub detach_scene : (old new : Values) (id : ℕ) (mode : Mode) (commands : List QueueEntry) → QueuesTicket old new commands (leave_commands id)
-    → old.attachment_of id ≡ Attached mode false → AttachesOne old new id (Leaving (old.given + 1) mode false)
+pub detach_scene : (old new : Values) (id : ℕ) (mode : Mode) (ats : Bool) (commands : List QueueEntry) → QueuesTicket old new commands (leave_commands id)
+    → old.attachment_of id ≡ Attached mode ats → AttachesOne old new id (Leaving (old.given + 1) mode ats)
     → ((page : ℕ) → (held_in old.ledger id page ≡ None) × (lingering_in old.ledger id page ≡ None))
     → ((h : History) → Agrees old.ledger h → Agrees new.ledger h) → HasFaithfulScene old → HasFaithfulScene new
-detach_scene old new id mode commands queues attached leaves nothing agrees (scene, shows, facts) =
-    let now = with_attachment scene.attachment_of id (Leaving (scene.given + 1) mode false) in
+detach_scene old new id mode ats commands queues attached leaves nothing agrees (scene, shows, facts) =
+    let now = with_attachment scene.attachment_of id (Leaving (scene.given + 1) mode ats) in
     let next : Scene = record (with_ticket scene (leave_commands id)) { attachment_of = now } in
-    let leaves_so : AttachesOne old new id (Leaving (scene.given + 1) mode false) = rw shows.given leaves in (
+    let leaves_so : AttachesOne old new id (Leaving (scene.given + 1) mode ats) = rw shows.given leaves in (
       next,
-      ticket_shows old new scene commands (leave_commands id) shows queues scene.history now (agrees scene.history shows.ledger) (attached_as old new scene id (Leaving (scene.given + 1) mode false) shows leaves_so)
+      ticket_shows old new scene commands (leave_commands id) shows queues scene.history now (agrees scene.history shows.ledger) (attached_as old new scene id (Leaving (scene.given + 1) mode ats) shows leaves_so)
           (λ d. subst (λ a. GoesInOrder d a (scene.waiting ++ (leave_commands id ++ Fence (scene.last_fence + 1) ∷ []))) (sym (leaves d)) (goes d (id == d) refl)),
       occurrences_keep_facts (Detach id) scene next facts (
         mode,
-        false,
+        ats,
         shows.attachments id ∙ attached,
         (λ page. (shows.ledger.pages id page).holds ∙ (nothing page).0),
         (λ page ticket pair. none_in (lingering_at scene.history id page) (ticket, pair) (nothing_lingers old scene id page shows (nothing page).1)),
@@ -384,13 +396,13 @@ detach_scene old new id mode commands queues attached leaves nothing agrees (sce
     )
   where
     goes : (d : ℕ) (b : Bool) → (id == d) ≡ b
-        → GoesInOrder d (if b then Leaving (old.given + 1) mode false else old.attachment_of d) (scene.waiting ++ (leave_commands id ++ Fence (scene.last_fence + 1) ∷ []))
+        → GoesInOrder d (if b then Leaving (old.given + 1) mode ats else old.attachment_of d) (scene.waiting ++ (leave_commands id ++ Fence (scene.last_fence + 1) ∷ []))
     goes d true is =
         let same : id ≡ d = eqb-true id d is in
         let ticket : scene.last_fence + 1 ≡ old.given + 1 = ap (λ n. n + 1) shows.last_fence in
         subst (λ n. ComeBefore d n (scene.waiting ++ (leave_commands id ++ Fence (scene.last_fence + 1) ∷ []))) ticket
         (subst (λ e. ComeBefore e (scene.last_fence + 1) (scene.waiting ++ (leave_commands id ++ Fence (scene.last_fence + 1) ∷ []))) same (detached_goes scene id (scene.last_fence + 1)))
-    goes d false is = detach_goes old scene id (scene.last_fence + 1) d mode (old.attachment_of d) attached refl (shows.leaving d)
+    goes d false is = detach_goes old scene id (scene.last_fence + 1) d mode ats (old.attachment_of d) attached refl (shows.leaving d)
 
 -- POLL, which confirms so many tickets
 
@@ -453,12 +465,13 @@ pub record ConfirmsSome (old new : Values) (n rest : ℕ) : Type 0 where
   pub confirmed : new.confirmed ≡ old.confirmed + n
   pub so_far : new.so_far ≡ old.so_far
   pub in_flight : new.in_flight ≡ old.in_flight
-  pub unplugged : (d : ℕ) → new.is_plugged d ≡ false → old.is_plugged d ≡ false
+  pub kinds : (d : ℕ) → new.kind_of d ≡ old.kind_of d
   pub contexts : (d : ℕ) → new.is_cached d ≡ true → old.is_cached d ≡ true
   pub spaces : (device : ℕ) (space : Space) → old.space_of device ≡ Some space
       → (new.space_of device ≡ Some space) ⊎ HasLeft (old.attachment_of device) (old.confirmed + n)
   pub translations : new.translations ≡ old.translations
   pub stock : new.stock ≡ old.stock
+  pub traffic : new.traffic ≡ old.traffic
 
 left_alike : (first n : ℕ) (one other : ℕ → Attachment) (d : ℕ) → ((e : ℕ) → one e ≡ other e) → left_after first n one d ≡ left_after first n other d
 left_alike first zero one other d same = same d
@@ -481,13 +494,14 @@ poll_scene old new n rest confirms_some (scene, shows, facts) =
         confirmed = ap (λ k. k + n) c ∙ sym confirms_some.confirmed;
         accepted = shows.accepted ∙ sym confirms_some.so_far;
         in_flight = shows.in_flight ∙ sym confirms_some.in_flight;
-        unplugged = λ d none. shows.unplugged d (confirms_some.unplugged d none);
+        kinds = λ d. shows.kinds d ∙ sym (confirms_some.kinds d);
         attachments = λ d. ap (λ k. left_after k n scene.attachment_of d) c ∙ left_alike old.confirmed n scene.attachment_of old.attachment_of d shows.attachments ∙ sym (confirms_some.attachments d);
         contexts = λ d is. shows.contexts d (confirms_some.contexts d is);
         translations = still;
         stock = rw confirms_some.stock shows.stock;
         leaving = λ d. subst (λ a. GoesInOrder d a scene.waiting) (sym (confirms_some.attachments d)) (goes_after old.confirmed n d old.attachment_of scene.waiting (shows.leaving d));
-        alone = record { goes_on = shows.alone.goes_on; entries = shows.alone.entries; messages = shows.alone.messages; slots = shows.alone.slots };
+        traffic = shows.traffic ∙ sym confirms_some.traffic;
+        goes_on = shows.goes_on;
       },
       confirm_all scene n rest facts pending done,
     )

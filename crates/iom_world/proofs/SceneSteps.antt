@@ -1,30 +1,31 @@
 -- What requests, commits and fetches do to a scene: the facts on copies stay.
-use Rattle.std.proofs.Common.{◌≡◌, ◌≢◌, ◌+◌, ◌≤◌, ◌<◌, ◌==◌, ◌&&◌, ◌⊎◌, inl, inr, ◌∙◌, ℕ, Bool, true, false, not, List, [], ◌∷◌, ◌++◌, filter, Contains, Option, None, Some, refl, sym, ap, subst, arith}
+use Rattle.std.proofs.Common.{◌≡◌, ◌≢◌, ◌+◌, ◌<◌, ◌==◌, ◌&&◌, ◌⊎◌, inl, inr, ◌∙◌, ℕ, Bool, true, false, not, List, [], ◌∷◌, ◌++◌, filter, Contains, Option, None, Some, refl, sym, ap, subst}
 use Rattle.std.specs.Bool.{⊤}
 use Rattle.std.proofs.lemmas.Bool.{false≢true, eqb-true, eq-eqb}
 use Rattle.iom_base.specs.declared.access.AccessKind.{AccessKind}
 use Rattle.iom_base.specs.declared.rights.Rights.{Rights}
 use Rattle.iom_base.specs.Rights.{allows}
+use Rattle.iom_command_queue.specs.declared.command.AtsRange.{AtsRange}
 use Rattle.iom_command_queue.specs.declared.command.Command.{Command as Commanded}
 use Rattle.iom_command_queue.specs.declared.command.Command.TheVariants.{IotinvalVma, IotinvalGvma, IofenceC, IodirInvalDdt, AtsInval}
 use Rattle.iom_command_queue.specs.declared.command.FenceStore.{FenceStore}
 use Rattle.iom_command_queue.specs.declared.entry.QueueEntry.{QueueEntry}
-use Rattle.iom_command_queue.specs.declared.entry.QueueEntry.TheVariants.{Command, Illegal, Outside}
+use Rattle.iom_command_queue.specs.declared.entry.QueueEntry.TheVariants.{Command}
 use Rattle.iom_copies.specs.Among.{AreAmong, AreAmongWith}
 use Rattle.iom_copies.specs.Attachments.{is_both, in_both_stages, IsAttached}
 use Rattle.iom_copies.specs.Backing.{ComesFrom}
 use Rattle.iom_copies.specs.Faithful.{IsFaithful}
-use Rattle.iom_copies.specs.Fetches.{TranslationsAreDropped, ContextIsDropped, FenceTakesStock, FenceIsDone}
-use Rattle.iom_copies.specs.Queue.{Extent, OnePage, WholeSpace, covers, QueuedCommand, DropTranslations, DropContext, Invalidate, Fence}
-use Rattle.iom_copies.specs.Occurrences.{KeepContext, KeepTranslation, Accept, Make, FetchIotinval, FetchIodir, TakeStock, CompleteFence}
+use Rattle.iom_copies.specs.Fetches.{next_invalidation}
+use Rattle.iom_copies.specs.Queue.{Extent, covers, QueuedCommand, DropTranslations, DropContext, Invalidate, Fence}
+use Rattle.iom_copies.specs.Occurrences.{KeepContext, KeepTranslation, Accept, Make, FetchIotinval, FetchIodir, FetchAtsInval, TakeStock, CompleteFence}
 use Rattle.iom_copies.specs.Requests.{IsWalked, IsSource, next_access}
-use Rattle.iom_copies.specs.Scene.{Copy, AccessInFlight, Scene, Stock}
+use Rattle.iom_copies.specs.Scene.{Copy, AccessInFlight, AtsMessage, InvalidateRequest, Invalidation, Scene, Stock}
 use Rattle.iom_copies.proofs.ListLemmas.{in_none, cons_cases, contains_head, contains_tail, contains_filter, contains_from_filter}
 use Rattle.iom_copies.proofs.OccurrenceLemmas.{occurrences_keep_facts}
 use Rattle.iom_driver.specs.Appends.{fence}
 use Rattle.iom_driver.proofs.Lists.{differs}
 use Rattle.iom_ledger.specs.declared.ledger.Ledger.{Ledger}
-use Rattle.iom_ledger.specs.Shown.{Agrees, held_in}
+use Rattle.iom_ledger.specs.Shown.{held_in}
 use Rattle.iom_machine.specs.declared.state.Attachment.{Attachment}
 use Rattle.iom_machine.specs.declared.state.Attachment.TheVariants.{Detached, Attached, Quarantined, Leaving}
 use Rattle.iom_base.specs.declared.mode.Mode.{Mode}
@@ -35,9 +36,11 @@ use Rattle.iom_tlb.specs.declared.trans_cache.Translation.{Translation}
 use Rattle.iom_tlb.specs.Content.{Key, Content as Translations}
 use Rattle.iom_tlb.specs.Covers.{are_covering}
 use Rattle.iom_tlb.specs.Invalidations.{covers_of}
-use Rattle.iom_world.specs.Queued.{invalidation_in, extent_in, IsInvalidation, IsQueuedAs, AreQueuedAs, pending_after}
+use Rattle.iom_world.specs.Queued.{invalidation_in, extent_in, IsInvalidation, IsQueuedAs, AreQueuedAs}
 use Rattle.iom_world.proofs.QueuedLemmas.{SpacesStay, queued_first, queued_still, come_after}
 use Rattle.iom_world.specs.Scenes.{Values, copy_of, IsSomebodys, IsStockOf, GoesInOrder, IsSceneOf, HasFaithfulScene}
+use Rattle.iom_world.specs.Messages.{range_of}
+use Rattle.iom_world.specs.Traffic.{Traffic, under_way, pages_of, invalidation_by}
 
 -- what neither a request nor a commit nor a fetch changes
 pub record KeepsGrants (old new : Values) : Type 0 where
@@ -45,15 +48,16 @@ pub record KeepsGrants (old new : Values) : Type 0 where
   pub address : new.address ≡ old.address
   pub given : new.given ≡ old.given
   pub confirmed : new.confirmed ≡ old.confirmed
-  pub plugged : (d : ℕ) → new.is_plugged d ≡ old.is_plugged d
+  pub kinds : (d : ℕ) → new.kind_of d ≡ old.kind_of d
   pub attachments : (d : ℕ) → new.attachment_of d ≡ old.attachment_of d
   pub spaces : (d : ℕ) → new.space_of d ≡ old.space_of d
 
--- what a request or a commit leaves of the queue, and what the fence at the head counted
+-- what a request or a commit leaves of the queue, what the fence at the head counted, and what is under way to and from the devices' caches
 pub record KeepsQueue (old new : Values) : Type 0 where
   pub waiting : new.waiting ≡ old.waiting
   pub completed : new.completed ≡ old.completed
   pub stock : new.stock ≡ old.stock
+  pub traffic : new.traffic ≡ old.traffic
 
 -- what is cached of translations is cached before too
 abbrev pub CachesNoMore : Values → Values → Type 0
@@ -69,6 +73,7 @@ pub record IsNext (new : Values) (old : Values) (next : Scene) : Type 0 where
   pub translations : (key : Key) (translation : Translation) → new.translations key ≡ Some translation → IsSomebodys old.space_of next.translations key translation
   pub stock : IsStockOf new.stock next.stock
   pub leaving : (d : ℕ) → GoesInOrder d (old.attachment_of d) next.waiting
+  pub traffic : under_way next ≡ new.traffic
 
 spaces_alike : (old new : ℕ → Option Space) (queued : List QueuedCommand) → ((d : ℕ) → new d ≡ old d) → SpacesStay old new queued
 spaces_alike old new queued same device space extent there own = same device ∙ own
@@ -83,6 +88,11 @@ scene_from : (old new : Values) (scene next : Scene) → KeepsGrants old new →
       in_flight = next.in_flight;
       contexts = next.contexts;
       translations = next.translations;
+      entries = next.entries;
+      epoch_of = next.epoch_of;
+      messages = next.messages;
+      slots = next.slots;
+      last_serial = next.last_serial;
     }
     → IsNext new old next → IsSceneOf new next
 scene_from old new scene next keeps shows same is = record {
@@ -95,7 +105,7 @@ scene_from old new scene next keeps shows same is = record {
   confirmed = ap (λ (s : Scene). s.confirmed) same ∙ shows.confirmed ∙ sym keeps.confirmed;
   accepted = is.accepted;
   in_flight = is.in_flight;
-  unplugged = λ d none. ap (λ (s : Scene). s.kind_of d) same ∙ shows.unplugged d (sym (keeps.plugged d) ∙ none);
+  kinds = λ d. ap (λ (s : Scene). s.kind_of d) same ∙ shows.kinds d ∙ sym (keeps.kinds d);
   attachments = λ d. ap (λ (s : Scene). s.attachment_of d) same ∙ shows.attachments d ∙ sym (keeps.attachments d);
   contexts = is.contexts;
   translations = λ key translation at.
@@ -103,12 +113,8 @@ scene_from old new scene next keeps shows same is = record {
       record { device = one.device; own = keeps.spaces one.device ∙ one.own; there = one.there };
   stock = is.stock;
   leaving = λ d. subst (λ a. GoesInOrder d a next.waiting) (sym (keeps.attachments d)) (is.leaving d);
-  alone = record {
-    goes_on = ap (λ (s : Scene). s.is_stopped) same ∙ shows.alone.goes_on;
-    entries = ap (λ (s : Scene). s.entries) same ∙ shows.alone.entries;
-    messages = ap (λ (s : Scene). s.messages) same ∙ shows.alone.messages;
-    slots = ap (λ (s : Scene). s.slots) same ∙ shows.alone.slots;
-  };
+  traffic = is.traffic;
+  goes_on = ap (λ (s : Scene). s.is_stopped) same ∙ shows.goes_on;
 }
 
 -- a scene's own values
@@ -123,15 +129,16 @@ own_next old new scene queue so_far in_flight cached less shows = record {
   translations = λ key translation at. shows.translations key translation (less key translation at);
   stock = rw queue.stock shows.stock;
   leaving = shows.leaving;
+  traffic = shows.traffic ∙ sym queue.traffic;
 }
 
-is_attached : (attachment : Attachment) (mode : Mode) → attachment ≡ Attached mode false → IsAttached attachment
-is_attached attachment mode is = rw is refl
+is_attached : (attachment : Attachment) (mode : Mode) (ats : Bool) → attachment ≡ Attached mode ats → IsAttached attachment
+is_attached attachment mode ats is = rw is refl
 
 -- A CONTEXT IS KEPT: that of an attached device; of what was cached nothing else comes
-pub keep_scene : (old new : Values) (id : ℕ) (mode : Mode) → KeepsGrants old new → KeepsQueue old new → new.so_far ≡ old.so_far → new.in_flight ≡ old.in_flight → CachesNoMore old new
-    → old.attachment_of id ≡ Attached mode false → ((d : ℕ) → new.is_cached d ≡ true → (old.is_cached d ≡ true) ⊎ (d ≡ id)) → HasFaithfulScene old → HasFaithfulScene new
-keep_scene old new id mode keeps queue so_far in_flight less attached cached (scene, shows, facts) =
+pub keep_scene : (old new : Values) (id : ℕ) (mode : Mode) (ats : Bool) → KeepsGrants old new → KeepsQueue old new → new.so_far ≡ old.so_far → new.in_flight ≡ old.in_flight → CachesNoMore old new
+    → old.attachment_of id ≡ Attached mode ats → ((d : ℕ) → new.is_cached d ≡ true → (old.is_cached d ≡ true) ⊎ (d ≡ id)) → HasFaithfulScene old → HasFaithfulScene new
+keep_scene old new id mode ats keeps queue so_far in_flight less attached cached (scene, shows, facts) =
     let next : Scene = record scene { contexts = id ∷ scene.contexts } in (
       next,
       scene_from old new scene next keeps shows refl (record {
@@ -146,10 +153,11 @@ keep_scene old new id mode keeps queue so_far in_flight less attached cached (sc
         translations = λ key translation at. shows.translations key translation (less key translation at);
         stock = rw queue.stock shows.stock;
         leaving = shows.leaving;
+        traffic = shows.traffic ∙ sym queue.traffic;
       }),
       occurrences_keep_facts (KeepContext id) scene next facts (
         id ∷ scene.contexts,
-        is_attached (scene.attachment_of id) mode (shows.attachments id ∙ attached),
+        is_attached (scene.attachment_of id) mode ats (shows.attachments id ∙ attached),
         (λ d there. elim (cons_cases id scene.contexts d there) [ inl same ↦ inl (sym same) | inr before ↦ inr before ]),
         refl,
       ),
@@ -161,9 +169,9 @@ HoldsWalked ledger mode id page translation =
     (granted : ℕ) × (rights : Rights) × ComesFrom (is_both mode) granted rights page translation.rights
     × (held_in ledger id granted ≡ Some (translation.frame, rights))
 
-walked_there : (values : Values) (scene : Scene) (id page : ℕ) (mode : Mode) (translation : Translation) → IsSceneOf values scene → values.attachment_of id ≡ Attached mode false
+walked_there : (values : Values) (scene : Scene) (id page : ℕ) (mode : Mode) (ats : Bool) (translation : Translation) → IsSceneOf values scene → values.attachment_of id ≡ Attached mode ats
     → HoldsWalked values.ledger mode id page translation → IsWalked scene (copy_of id page translation)
-walked_there values scene id page mode translation shows attached (granted, rights, from, held) =
+walked_there values scene id page mode ats translation shows attached (granted, rights, from, held) =
     let stages : in_both_stages (scene.attachment_of id) ≡ is_both mode = ap in_both_stages (shows.attachments id ∙ attached) in (
       granted,
       rights,
@@ -174,7 +182,8 @@ walked_there values scene id page mode translation shows attached (granted, righ
 -- A TRANSLATION IS KEPT: that of a page which the device holds; of what was cached nothing else comes
 pub record KeepsWalked (old new : Values) (id page : ℕ) (space : Space) (translation : Translation) : Type 0 where
   pub mode : Mode
-  pub attached : old.attachment_of id ≡ Attached mode false
+  pub ats : Bool
+  pub attached : old.attachment_of id ≡ Attached mode ats
   pub own : old.space_of id ≡ Some space
   pub held : HoldsWalked old.ledger mode id page translation
   pub either : (key : Key) (other : Translation) → new.translations key ≡ Some other
@@ -195,10 +204,11 @@ walk_scene old new id page space translation keeps queue so_far in_flight cached
         translations = somebodys;
         stock = rw queue.stock shows.stock;
         leaving = shows.leaving;
+        traffic = shows.traffic ∙ sym queue.traffic;
       }),
       occurrences_keep_facts (KeepTranslation copy) scene next facts (
         copy ∷ scene.translations,
-        walked_there old scene id page walks.mode translation shows walks.attached walks.held,
+        walked_there old scene id page walks.mode walks.ats translation shows walks.attached walks.held,
         (λ other there. elim (cons_cases copy scene.translations other there) [ inl same ↦ inl (sym same) | inr before ↦ inr before ]),
         refl,
       ),
@@ -226,12 +236,12 @@ walk_scene old new id page space translation keeps queue so_far in_flight cached
 -- AN ACCESS IS ACCEPTED, on the frame of what the device holds at the page, or of a cached translation of the page
 abbrev pub IsServedFrom : Values → ℕ → ℕ → Space → Translation → Type 0
 IsServedFrom values id page space translation =
-    ((mode : Mode) × (values.attachment_of id ≡ Attached mode false) × HoldsWalked values.ledger mode id page translation)
+    ((mode : Mode) × (ats : Bool) × (values.attachment_of id ≡ Attached mode ats) × HoldsWalked values.ledger mode id page translation)
     ⊎ ((values.translations (space, page) ≡ Some translation) × ((d : ℕ) → values.space_of d ≡ Some space → d ≡ id))
 
 source_there : (values : Values) (scene : Scene) (id page : ℕ) (space : Space) (translation : Translation) → IsSceneOf values scene → IsServedFrom values id page space translation
     → IsSource scene (copy_of id page translation)
-source_there values scene id page space translation shows (inl (mode, attached, held)) = inl (walked_there values scene id page mode translation shows attached held)
+source_there values scene id page space translation shows (inl (mode, ats, attached, held)) = inl (walked_there values scene id page mode ats translation shows attached held)
 source_there values scene id page space translation shows (inr (cached, alone)) =
     let was = shows.translations (space, page) translation cached in
     let same : was.device ≡ id = alone was.device was.own in
@@ -256,6 +266,7 @@ accept_scene old new id page space translation kind keeps queue so_far among cac
         translations = λ key other at. shows.translations key other (less key other at);
         stock = rw queue.stock shows.stock;
         leaving = shows.leaving;
+        traffic = shows.traffic ∙ sym queue.traffic;
       }),
       occurrences_keep_facts (Accept copy kind) scene next facts (
         new.in_flight,
@@ -281,6 +292,7 @@ make_scene old new keeps queue so_far among cached less (scene, shows, facts) =
         translations = λ key other at. shows.translations key other (less key other at);
         stock = rw queue.stock shows.stock;
         leaving = shows.leaving;
+        traffic = shows.traffic ∙ sym queue.traffic;
       }),
       occurrences_keep_facts Make scene next facts (new.in_flight, subst (AreAmong new.in_flight) (sym shows.in_flight) among, refl),
     )
@@ -315,6 +327,30 @@ DoneIfFence (IotinvalGvma gscid page) before in_flight = ⊤
 DoneIfFence (IodirInvalDdt device) before in_flight = ⊤
 DoneIfFence (AtsInval device range) before in_flight = ⊤
 
+-- a fence is done only where no slot is open
+abbrev pub ClosedIfFence : Commanded → List Invalidation → Type 0
+ClosedIfFence (IofenceC store wsi pr pw) slots = slots ≡ []
+ClosedIfFence (IotinvalVma gscid pscid page) slots = ⊤
+ClosedIfFence (IotinvalGvma gscid page) slots = ⊤
+ClosedIfFence (IodirInvalDdt device) slots = ⊤
+ClosedIfFence (AtsInval device range) slots = ⊤
+
+-- a slot is opened for the device, and the request to drop what is in the extent is sent, or lost
+pub record OpensSlot (device : ℕ) (extent : Extent) (before after : Traffic) : Type 0 where
+  pub entries : after.entries ≡ before.entries
+  pub epochs : after.epoch_of ≡ before.epoch_of
+  pub messages : AreAmongWith after.messages (InvalidateRequest (invalidation_by (before.last_serial + 1) device) extent) before.messages
+  pub slots : after.slots ≡ before.slots ++ invalidation_by (before.last_serial + 1) device ∷ []
+  pub last_serial : after.last_serial ≡ before.last_serial + 1
+
+-- what is under way after a command: ATS.INVAL opens a slot
+abbrev pub TrafficAfter : Commanded → Traffic → Traffic → Type 0
+TrafficAfter (AtsInval device range) before after = OpensSlot device (pages_of (range_of range)) before after
+TrafficAfter (IotinvalVma gscid pscid page) before after = after ≡ before
+TrafficAfter (IotinvalGvma gscid page) before after = after ≡ before
+TrafficAfter (IofenceC store wsi pr pw) before after = after ≡ before
+TrafficAfter (IodirInvalDdt device) before after = after ≡ before
+
 -- what is cached after a command was cached before, and isn't covered by it
 abbrev pub TranslationsAfter : Commanded → Translations → Translations → Type 0
 TranslationsAfter command before after = (key : Key) (translation : Translation) → after key ≡ Some translation
@@ -330,6 +366,8 @@ pub record DoesFirst (old new : Values) (command : Commanded) : Type 0 where
   pub translations : TranslationsAfter command old.translations new.translations
   pub stock : new.stock ≡ None
   pub done : DoneIfFence command (accepted_before old.stock old.so_far) old.in_flight
+  pub closed : ClosedIfFence command old.traffic.slots
+  pub traffic : TrafficAfter command old.traffic new.traffic
 
 -- what an invalidation of translations does: nothing else changes
 record DropsAlone (old new : Values) (command : Commanded) : Type 0 where
@@ -340,6 +378,7 @@ record DropsAlone (old new : Values) (command : Commanded) : Type 0 where
   pub contexts : (d : ℕ) → new.is_cached d ≡ true → old.is_cached d ≡ true
   pub translations : TranslationsAfter command old.translations new.translations
   pub stock : new.stock ≡ None
+  pub traffic : new.traffic ≡ old.traffic
 
 none_there : {X : Type 0} (xs : List X) (x : X) → xs ≡ [] → ¬ Contains xs x
 none_there xs x none there = in_none x (subst (λ l. Contains l x) none there)
@@ -356,6 +395,19 @@ covered_there (space.Second gscid) None page is = rw (eq-eqb gscid gscid refl) r
 covered_there (space.Second gscid) (Some own) page is = rw (eq-eqb gscid gscid refl, is) refl
 covered_there (space.Both gscid pscid) None page is = rw (eq-eqb gscid gscid refl) refl
 covered_there (space.Both gscid pscid) (Some own) page is = rw (eq-eqb gscid gscid refl) refl
+
+-- the scene's slots are those of its values
+slots_as : (values : Values) (scene : Scene) → IsSceneOf values scene → values.traffic.slots ≡ [] → scene.slots ≡ []
+slots_as values scene shows none = ap (λ (t : Traffic). t.slots) shows.traffic ∙ none
+
+same_traffic : (one other : Traffic) → one.entries ≡ other.entries → one.epoch_of ≡ other.epoch_of → one.messages ≡ other.messages → one.slots ≡ other.slots
+    → one.last_serial ≡ other.last_serial → one ≡ other
+same_traffic one other entries epochs messages slots last_serial =
+    ap (λ (e : List Copy). record one { entries = e }) entries
+    ∙ ap (λ (e : ℕ → ℕ). record one { entries = other.entries; epoch_of = e }) epochs
+    ∙ ap (λ (m : List AtsMessage). record other { messages = m; slots = one.slots; last_serial = one.last_serial }) messages
+    ∙ ap (λ (s : List Invalidation). record other { slots = s; last_serial = one.last_serial }) slots
+    ∙ ap (λ (n : ℕ). record other { last_serial = n }) last_serial
 
 -- the fence at the head alone has taken stock
 stock_none : (scene : Scene) (command : QueuedCommand) (later : List QueuedCommand) (stock : Option Stock) → IsFaithful scene → scene.waiting ≡ command ∷ later
@@ -409,6 +461,7 @@ module _ (old new : Values) (scene : Scene) (shows : IsSceneOf old scene) (facts
           translations = somebodys;
           stock = rw (does.stock, none) tt;
           leaving = λ d. goes_later d (old.attachment_of d) (DropTranslations device extent) later (subst (GoesInOrder d (old.attachment_of d)) waiting (shows.leaving d));
+          traffic = shows.traffic ∙ sym does.traffic;
         }),
         occurrences_keep_facts (FetchIotinval device extent) scene next facts (
           later,
@@ -464,12 +517,52 @@ module _ (old new : Values) (scene : Scene) (shows : IsSceneOf old scene) (facts
           translations = λ key translation at. shows.translations key translation (does.translations key translation at).0;
           stock = rw (does.stock, none) tt;
           leaving = λ d. goes_later d (old.attachment_of d) (DropContext device) later (subst (GoesInOrder d (old.attachment_of d)) waiting (shows.leaving d));
+          traffic = shows.traffic ∙ sym does.traffic;
         }),
         occurrences_keep_facts (FetchIodir device) scene next facts (
           later,
           left,
           waiting,
           (λ d there. let kept = contains_from_filter (λ e. not (device == e)) scene.contexts d there in (kept.0, not_true (device == d) kept.1)),
+          refl,
+        ),
+      )
+
+  -- a slot is opened, and its request is sent or lost
+  opens : (device id : ℕ) (range : AtsRange) (extent : Extent) (later : List QueuedCommand) → DoesFirst old new (AtsInval id range) → scene.waiting ≡ Invalidate device extent ∷ later
+      → (id ≡ device) × (extent ≡ pages_of (range_of range)) → AreQueuedAs old.address old.space_of new.waiting later → HasFaithfulScene new
+  opens device id range extent later does waiting is queued =
+      let opened : OpensSlot device extent old.traffic new.traffic =
+      subst (λ e. OpensSlot device e old.traffic new.traffic) (sym is.1) (subst (λ d. OpensSlot d (pages_of (range_of range)) old.traffic new.traffic) is.0 does.traffic) in
+      let serial : scene.last_serial ≡ old.traffic.last_serial = ap (λ (t : Traffic). t.last_serial) shows.traffic in
+      let next : Scene = record scene {
+        waiting = later;
+        slots = scene.slots ++ next_invalidation scene device ∷ [];
+        last_serial = scene.last_serial + 1;
+        messages = new.traffic.messages;
+      } in
+      let none = stock_none scene (Invalidate device extent) later scene.stock facts waiting (λ number same. cc) refl in (
+        next,
+        scene_from old new scene next does.keeps shows refl (record {
+          waiting = queued;
+          completed = shows.completed ∙ sym does.completed;
+          accepted = shows.accepted ∙ sym does.so_far;
+          in_flight = shows.in_flight ∙ sym does.in_flight;
+          contexts = λ d cached. shows.contexts d (does.contexts d cached);
+          translations = λ key translation at. shows.translations key translation (does.translations key translation at).0;
+          stock = rw (does.stock, none) tt;
+          leaving = λ d. goes_later d (old.attachment_of d) (Invalidate device extent) later (subst (GoesInOrder d (old.attachment_of d)) waiting (shows.leaving d));
+          traffic = same_traffic (under_way next) new.traffic (ap (λ (t : Traffic). t.entries) shows.traffic ∙ sym opened.entries) (ap (λ (t : Traffic). t.epoch_of) shows.traffic ∙ sym opened.epochs)
+              refl
+              (ap (λ (t : Traffic). t.slots ++ invalidation_by (t.last_serial + 1) device ∷ []) shows.traffic ∙ sym opened.slots)
+              (ap (λ (t : Traffic). t.last_serial + 1) shows.traffic ∙ sym opened.last_serial);
+        }),
+        occurrences_keep_facts (FetchAtsInval device extent) scene next facts (
+          later,
+          new.traffic.messages,
+          waiting,
+          subst (λ n. AreAmongWith new.traffic.messages (InvalidateRequest (invalidation_by (n + 1) device) extent) scene.messages) (sym serial)
+              (subst (λ ms. AreAmongWith new.traffic.messages (InvalidateRequest (invalidation_by (old.traffic.last_serial + 1) device) extent) ms) (sym (ap (λ (t : Traffic). t.messages) shows.traffic)) opened.messages),
           refl,
         ),
       )
@@ -481,6 +574,9 @@ module _ (old new : Values) (scene : Scene) (shows : IsSceneOf old scene) (facts
     where
       next : Scene
       next = record scene { waiting = later; completed = number; stock = None }
+
+      none_open : scene.slots ≡ []
+      none_open = slots_as old scene shows does.closed
 
       none_before : NoneBefore (accepted_before old.stock old.so_far) scene.in_flight
       none_before = rw shows.in_flight (does.done old.address number is)
@@ -495,6 +591,7 @@ module _ (old new : Values) (scene : Scene) (shows : IsSceneOf old scene) (facts
         translations = λ key translation at. shows.translations key translation (does.translations key translation at).0;
         stock = rw does.stock tt;
         leaving = λ d. goes_later d (old.attachment_of d) (Fence number) later (subst (GoesInOrder d (old.attachment_of d)) waiting (shows.leaving d));
+        traffic = shows.traffic ∙ sym does.traffic;
       })
 
       by : (stock : Option Stock) → scene.stock ≡ stock → HasFaithfulScene new
@@ -503,7 +600,7 @@ module _ (old new : Values) (scene : Scene) (shows : IsSceneOf old scene) (facts
           let counted : old.stock ≡ None = counted_none old.stock scene.stock shows.stock none in
           let before : accepted_before old.stock old.so_far ≡ scene.accepted = ap (λ s. accepted_before s old.so_far) counted ∙ sym shows.accepted in
           let stock_facts = occurrences_keep_facts (TakeStock number) scene stocked facts
-          (later, waiting, (λ slot there. none_there scene.slots slot shows.alone.slots there), shows.alone.goes_on, refl) in (
+          (later, waiting, (λ slot there. none_there scene.slots slot none_open there), shows.goes_on, refl) in (
             next,
             shows_next,
             occurrences_keep_facts (CompleteFence number) stocked next stock_facts
@@ -523,14 +620,15 @@ module _ (old new : Values) (scene : Scene) (shows : IsSceneOf old scene) (facts
   done_first : (command : Commanded) → DoesFirst old new command → (queued : QueuedCommand) (later : List QueuedCommand) → scene.waiting ≡ queued ∷ later
       → IsQueuedAs old.address old.space_of (Command command) queued → AreQueuedAs old.address old.space_of new.waiting later → HasFaithfulScene new
   done_first (IotinvalVma gscid pscid page) does (DropTranslations device extent) later waiting is rest =
-      drops_translations device extent later (IotinvalVma gscid pscid page) (record { keeps = does.keeps; so_far = does.so_far; in_flight = does.in_flight; completed = does.completed; contexts = does.contexts; translations = does.translations; stock = does.stock }) waiting is rest
+      drops_translations device extent later (IotinvalVma gscid pscid page) (record { keeps = does.keeps; so_far = does.so_far; in_flight = does.in_flight; completed = does.completed; contexts = does.contexts; translations = does.translations; stock = does.stock; traffic = does.traffic }) waiting is rest
   done_first (IotinvalGvma gscid page) does (DropTranslations device extent) later waiting is rest =
-      drops_translations device extent later (IotinvalGvma gscid page) (record { keeps = does.keeps; so_far = does.so_far; in_flight = does.in_flight; completed = does.completed; contexts = does.contexts; translations = does.translations; stock = does.stock }) waiting is rest
+      drops_translations device extent later (IotinvalGvma gscid page) (record { keeps = does.keeps; so_far = does.so_far; in_flight = does.in_flight; completed = does.completed; contexts = does.contexts; translations = does.translations; stock = does.stock; traffic = does.traffic }) waiting is rest
   done_first (IofenceC store wsi pr pw) does (Fence number) later waiting is rest = completes number later store wsi pr pw does waiting is rest
   done_first (IodirInvalDdt (Some id)) does (DropContext device) later waiting is rest = by is does
     where
       by : id ≡ device → DoesFirst old new (IodirInvalDdt (Some id)) → HasFaithfulScene new
       by same it = drops_context device later (subst (λ d. DoesFirst old new (IodirInvalDdt (Some d))) same it) waiting rest
+  done_first (AtsInval id range) does (Invalidate device extent) later waiting is rest = opens device id range extent later does waiting is rest
   done_first command does queued later waiting is rest = absurd is
 
 -- A COMMAND IS DONE: it stood first in the scene's queue
@@ -551,6 +649,8 @@ pub record CountsAtHead (old new : Values) : Type 0 where
   pub contexts : (d : ℕ) → new.is_cached d ≡ true → old.is_cached d ≡ true
   pub translations : CachesNoMore old new
   pub stock : new.stock ≡ Some (accepted_before old.stock old.so_far)
+  pub closed : old.traffic.slots ≡ []
+  pub traffic : new.traffic ≡ old.traffic
 
 -- what a fence stands for in a scene
 fence_queued : (address number : ℕ) (spaces : ℕ → Option Space) (command : QueuedCommand) → IsQueuedAs address spaces (Command (fence address number)) command → (n : ℕ) × (command ≡ Fence n)
@@ -584,9 +684,10 @@ count_scene old new counts (scene, shows, facts) = by scene.stock refl
             translations = λ key translation at. shows.translations key translation (counts.translations key translation at);
             stock = rw (counts.stock, counted) shows.accepted;
             leaving = shows.leaving;
+            traffic = shows.traffic ∙ sym counts.traffic;
           }),
           occurrences_keep_facts (TakeStock own.0) scene next facts
-              (first.1, first.2 ∙ ap (λ c. c ∷ first.1) own.1, (λ slot there. none_there scene.slots slot shows.alone.slots there), shows.alone.goes_on, refl),
+              (first.1, first.2 ∙ ap (λ c. c ∷ first.1) own.1, (λ slot there. none_there scene.slots slot (slots_as old scene shows counts.closed) there), shows.goes_on, refl),
         )
     by (Some taken) at =
         let was : IsStockOf old.stock (Some taken) = subst (IsStockOf old.stock) at shows.stock in (
@@ -600,6 +701,7 @@ count_scene old new counts (scene, shows, facts) = by scene.stock refl
             translations = λ key translation at. shows.translations key translation (counts.translations key translation at);
             stock = rw (counts.stock, at) (sym (counted_as old.stock old.so_far taken was));
             leaving = shows.leaving;
+            traffic = shows.traffic ∙ sym counts.traffic;
           }),
           facts,
         )

@@ -36,7 +36,6 @@ use Rattle.iom_ledger.specs.Shown.{held_in}
 use Rattle.iom_machine.specs.Requests.{IsPageFaultOf}
 use Rattle.iom_page_table.specs.Sv39.{HasTable}
 use Rattle.iom_registers.specs.declared.registers.Registers.{Registers}
-use Rattle.iom_stage_walk.specs.declared.walked.Walked.{Walked}
 use Rattle.iom_stage_walk.specs.declared.walked.WalkFault.{WalkFault}
 use Rattle.iom_stage_walk.specs.Both.{ReachesBoth, StopsBoth, plain}
 use Rattle.iom_stage_walk.specs.Paths.{first_levels, ReachesFirst, StopsFirst}
@@ -118,23 +117,23 @@ IsLookedIn sure mode memory root number address kind old answer new =
     LooksOrWalks sure (cached_for (old (space_in mode number, address / 4096)) kind) (ReachesBy mode memory root address kind) (StopsBy mode memory root address kind)
     (space_in mode number, address / 4096) old answer new
 
-looked_by : (sure : Bool) (mode : Mode) (memory : List (List ℕ)) (root number address : ℕ) (kind : AccessKind) (old : Translations) (answer : Result Translation WalkFault) (new : Translations)
-    → root < 2 ^ 44 → number < 2 ^ 20 → (mode ≡ First) ⊎ (root % 4 ≡ 0) → ServesBy sure (Ok (context_in mode root number)) memory address kind old answer new
+looked_by : (sure : Bool) (mode : Mode) (ats : Bool) (memory : List (List ℕ)) (root number address : ℕ) (kind : AccessKind) (old : Translations) (answer : Result Translation WalkFault) (new : Translations)
+    → root < 2 ^ 44 → number < 2 ^ 20 → (mode ≡ First) ⊎ (root % 4 ≡ 0) → ServesBy sure (Ok (context_in mode root number ats)) memory address kind old answer new
     → IsLookedIn sure mode memory root number address kind old answer new
-looked_by sure First memory root number address kind old answer new low few aligned served =
+looked_by sure First ats memory root number address kind old answer new low few aligned served =
     let at : root / 2 ^ 0 % 2 ^ 44 ≡ root = omega (arith, low) in
     let named : number / 2 ^ 0 % 2 ^ 20 ≡ number = omega (arith, few) in
     subst (λ n. LooksOrWalks sure (cached_for (old (space.First number, address / 4096)) kind) (ReachesFirst first_levels memory n address kind) (StopsFirst first_levels memory n address kind)
     (space.First number, address / 4096) old answer new) at
     (subst (λ n. LooksOrWalks sure (cached_for (old (space.First n, address / 4096)) kind) (ReachesFirst first_levels memory (root / 2 ^ 0 % 2 ^ 44) address kind)
     (StopsFirst first_levels memory (root / 2 ^ 0 % 2 ^ 44) address kind) (space.First n, address / 4096) old answer new) named served)
-looked_by sure Second memory root number address kind old answer new low few (inl first) served = cc
-looked_by sure Second memory root number address kind old answer new low few (inr aligned) served =
+looked_by sure Second ats memory root number address kind old answer new low few (inl first) served = cc
+looked_by sure Second ats memory root number address kind old answer new low few (inr aligned) served =
     let at : 4 * (root / 4 % 2 ^ 42) ≡ root = omega (arith, low, aligned) in
     subst (λ n. LooksOrWalks sure (cached_for (old (space.Second number, address / 4096)) kind) (ReachesSecond second_levels memory n address kind) (StopsSecond second_levels memory n address kind)
     (space.Second number, address / 4096) old answer new) at served
-looked_by sure Both memory root number address kind old answer new low few (inl first) served = cc
-looked_by sure Both memory root number address kind old answer new low few (inr aligned) served =
+looked_by sure Both ats memory root number address kind old answer new low few (inl first) served = cc
+looked_by sure Both ats memory root number address kind old answer new low few (inr aligned) served =
     let at : 4 * (root / 4 % 2 ^ 42) ≡ root = omega (arith, low, aligned) in
     let named : number / 2 ^ 0 % 2 ^ 20 ≡ number = omega (arith, few) in
     subst (λ n. LooksOrWalks sure (cached_for (old (space.Both number number, address / 4096)) kind) (ReachesBoth first_levels second_levels memory 0 n address kind)
@@ -262,7 +261,7 @@ module _ (laws : ServiceLaws) (parts : Parts) (events : ℕ) (sound : AreSound p
         let below = root_low parts.memory d.marks d.ledger id stage.mode stage.root tables in
         let many = own.sizes.size.1 in
         let few = (own.numbers.small id stage owned).1 in
-        looked_by sure stage.mode parts.memory stage.root stage.number address kind old answer new (omega (arith, below, many)) (omega (arith, few))
+        looked_by sure stage.mode stage.ats parts.memory stage.root stage.number address kind old answer new (omega (arith, below, many)) (omega (arith, few))
         (root_aligned parts.memory d.marks d.ledger id stage.mode stage.root tables) served
 
     by_tables : (stage : Stages) (answer : Result Translation WalkFault) → attachment_of d.devices id ≡ Attached stage → IsWalked stage answer → IsAnswered sure d id address kind old answer new

@@ -3,11 +3,11 @@ use Rattle.std.proofs.Common.{◌≡◌, ◌≢◌, ◌*◌, ◌/◌, ◌<◌, �
 use Rattle.std.specs.Option.{option_map_or}
 use Rattle.std.proofs.Math.Logic.{∥∥₁_map}
 use Rattle.std.proofs.lemmas.Bool.{false≢true}
-use Rattle.iom_command_queue.specs.OpenSlots.{no_slots}
+use Rattle.iom_command_queue.specs.OpenSlots.{OpenSlots}
 use Rattle.iom_base.specs.declared.owner.Owner.{Owner}
 use Rattle.iom_base.specs.declared.owner.Owner.TheVariants.{System}
 use Rattle.iom_command_queue.specs.Waiting.{commands_in}
-use Rattle.iom_driver.specs.Devices.{attachment_of, is_plugged}
+use Rattle.iom_driver.specs.Devices.{attachment_of}
 use Rattle.iom_driver.specs.Laws.{KeepsReserved, KeepsRing, LeavesCommands, LeavesAllElse}
 use Rattle.iom_driver.specs.Layout.{AreFixed, command_frame, completion_frame, completion_address}
 use Rattle.iom_driver.specs.Ready.{IsReady}
@@ -29,6 +29,7 @@ use Rattle.iom_world.specs.Sound.{AreSound, ContextsAreTrue, row_ids}
 use Rattle.iom_world.proofs.DriverLemmas.{IsSoundDriver}
 use Rattle.iom_world.proofs.PartsLemmas.{StaysReady}
 use Rattle.iom_world.proofs.SceneSteps.{KeepsGrants, KeepsQueue}
+use Rattle.iom_world.proofs.SoundLemmas.{same_epochs, traffic_kept, kinds_kept}
 
 -- a frame that isn't marked is nobody's, and none that is somebody's
 pub unmarked : (marks : List (Option Owner)) (frame : ℕ) → frame < length marks → is_marked marks frame ≡ false → slice_get marks frame ≡ Some None
@@ -54,16 +55,17 @@ same_completed m n size same =
     ap (λ k. option_map_or (λ word. word) (word_at 4 n (completion_address k)) 0) size
     ∙ ap (λ o. option_map_or (λ word. word) o 0) (word_of_frame m n (completion_frame (length m)) same)
 
--- reserved frames, registers, driver and devices stay, and so do the ids of the rows
+-- reserved frames, registers, driver, devices and messages stay, and so do the ids of the rows
 pub record Leaves (old new : Parts) : Type 0 where
   pub size : length new.memory ≡ length old.memory
   pub reserved : (frame : ℕ) (owner : Owner) → slice_get old.driver.marks frame ≡ Some (Some owner) → slice_get new.memory frame ≡ slice_get old.memory frame
   pub registers : registers_of new.iommu ≡ registers_of old.iommu
   pub frames : frames_of new.iommu ≡ frames_of old.iommu
-  pub slots : slots_of old.iommu ≡ no_slots → slots_of new.iommu ≡ no_slots
+  pub slots : slots_of new.iommu ≡ slots_of old.iommu
   pub rows : row_ids (flights_of new.iommu).rows ≡ row_ids (flights_of old.iommu).rows
   pub driver : new.driver ≡ old.driver
   pub devices : new.devices ≡ old.devices
+  pub fabric : new.fabric ≡ old.fabric
 
 module _ (old new : Parts) (events : ℕ) (sound : AreSound old events) (own : IsSoundDriver old.driver) (leaves : Leaves old new) where
   fixed : AreFixed old.driver.marks (length old.memory)
@@ -83,17 +85,17 @@ module _ (old new : Parts) (events : ℕ) (sound : AreSound old events) (own : I
     address = ap completion_address leaves.size;
     given = ap (λ (d : DriverState). d.given) leaves.driver;
     confirmed = ap (λ (d : DriverState). d.confirmed) leaves.driver;
-    plugged = λ id. ap (λ (d : DriverState). is_plugged d.devices id) leaves.driver;
+    kinds = kinds_kept old new leaves.devices;
     attachments = λ id. ap (λ (d : DriverState). shown_attachment (attachment_of d.devices id)) leaves.driver;
     spaces = λ id. ap (λ (d : DriverState). space_at d.devices id) leaves.driver;
   }
 
   pub queue_kept : stock_of new.iommu ≡ stock_of old.iommu → KeepsQueue (values_of old) (values_of new)
-  queue_kept stock = record { waiting = same_waiting; completed = same_done; stock = stock }
+  queue_kept stock = record { waiting = same_waiting; completed = same_done; stock = stock; traffic = traffic_kept old new leaves.devices leaves.fabric leaves.slots }
 
-  pub sound_from : (count : ℕ) → StaysReady old.driver → (flights_of new.iommu).so_far ≤ count → ContextsAreTrue new
-      → (HasFaithfulScene (values_of old) → HasFaithfulScene (values_of new)) → AreSound new count
-  sound_from count stays counted contexts scene =
+  pub sound_from : StaysReady old.driver → (flights_of new.iommu).so_far ≤ events → ContextsAreTrue new
+      → (HasFaithfulScene (values_of old) → HasFaithfulScene (values_of new)) → AreSound new events
+  sound_from stays counted contexts scene =
       let keeps : KeepsReserved old.driver old.memory new.memory = record { size = leaves.size; bytes = λ frame owner mark other. leaves.reserved frame owner mark } in
       let ring : KeepsRing (registers_of old.iommu) (registers_of old.iommu) = record { on = refl; base = refl; entries = refl; faults_on = refl; faults_base = refl; faults_head = refl; faults_tail = refl; mode = refl; root = refl } in
       record {
@@ -106,8 +108,12 @@ module _ (old new : Parts) (events : ℕ) (sound : AreSound old events) (own : I
           own_ids = rw leaves.devices sound.known.own_ids;
           driver = rw (leaves.driver, leaves.devices) sound.known.driver;
           iommu = leaves.rows ∙ rw leaves.devices sound.known.iommu;
+          caches = rw leaves.devices sound.known.caches;
+          trusted = rw (leaves.driver, leaves.devices) sound.known.trusted;
+          askers = rw (leaves.devices, leaves.fabric) sound.known.askers;
         };
-        slots = leaves.slots sound.slots;
+        serials = subst (λ (s : OpenSlots). s.last ≤ events) (sym leaves.slots) sound.serials;
+        epochs = same_epochs old new events sound leaves.devices;
         confirmed = rw (same_done, leaves.driver) sound.confirmed;
         small = rw leaves.driver sound.small;
         counted = counted;
@@ -120,10 +126,11 @@ pub record LeavesReport (old new : Parts) : Type 0 where
   pub ready : IsReady new.driver new.memory (registers_of new.iommu)
   pub else_same : LeavesAllElse old.memory new.memory (registers_of old.iommu) (registers_of new.iommu)
   pub frames : frames_of new.iommu ≡ frames_of old.iommu
-  pub slots : slots_of old.iommu ≡ no_slots → slots_of new.iommu ≡ no_slots
+  pub slots : slots_of new.iommu ≡ slots_of old.iommu
   pub flights : flights_of new.iommu ≡ flights_of old.iommu
   pub driver : new.driver ≡ old.driver
   pub devices : new.devices ≡ old.devices
+  pub fabric : new.fabric ≡ old.fabric
 
 -- the same registers of the command queue give the same commands
 pub commands_by : (memory : List (List ℕ)) (r s : Registers) → LeavesCommands r s → commands_in memory s ≡ commands_in memory r
@@ -152,16 +159,16 @@ module _ (old new : Parts) (events : ℕ) (sound : AreSound old events) (own : I
     address = ap completion_address leaves.else_same.size;
     given = ap (λ (d : DriverState). d.given) leaves.driver;
     confirmed = ap (λ (d : DriverState). d.confirmed) leaves.driver;
-    plugged = λ id. ap (λ (d : DriverState). is_plugged d.devices id) leaves.driver;
+    kinds = kinds_kept old new leaves.devices;
     attachments = λ id. ap (λ (d : DriverState). shown_attachment (attachment_of d.devices id)) leaves.driver;
     spaces = λ id. ap (λ (d : DriverState). space_at d.devices id) leaves.driver;
   }
 
   pub report_queue : stock_of new.iommu ≡ stock_of old.iommu → KeepsQueue (values_of old) (values_of new)
-  report_queue stock = record { waiting = report_waiting; completed = report_done; stock = stock }
+  report_queue stock = record { waiting = report_waiting; completed = report_done; stock = stock; traffic = traffic_kept old new leaves.devices leaves.fabric leaves.slots }
 
-  pub report_sound : (count : ℕ) → (flights_of new.iommu).so_far ≤ count → ContextsAreTrue new → (HasFaithfulScene (values_of old) → HasFaithfulScene (values_of new)) → AreSound new count
-  report_sound count counted contexts scene = record {
+  pub report_sound : (flights_of new.iommu).so_far ≤ events → ContextsAreTrue new → (HasFaithfulScene (values_of old) → HasFaithfulScene (values_of new)) → AreSound new events
+  report_sound counted contexts scene = record {
     ready = leaves.ready;
     started = rw leaves.driver sound.started;
     processing = rw leaves.else_same.registers.status sound.processing;
@@ -170,8 +177,12 @@ module _ (old new : Parts) (events : ℕ) (sound : AreSound old events) (own : I
       own_ids = rw leaves.devices sound.known.own_ids;
       driver = rw (leaves.driver, leaves.devices) sound.known.driver;
       iommu = ap (λ (f : Flights). row_ids f.rows) leaves.flights ∙ rw leaves.devices sound.known.iommu;
+      caches = rw leaves.devices sound.known.caches;
+      trusted = rw (leaves.driver, leaves.devices) sound.known.trusted;
+      askers = rw (leaves.devices, leaves.fabric) sound.known.askers;
     };
-    slots = leaves.slots sound.slots;
+    serials = subst (λ (s : OpenSlots). s.last ≤ events) (sym leaves.slots) sound.serials;
+    epochs = same_epochs old new events sound leaves.devices;
     confirmed = rw (report_done, leaves.driver) sound.confirmed;
     small = rw leaves.driver sound.small;
     counted = counted;

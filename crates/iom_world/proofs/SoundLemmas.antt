@@ -3,7 +3,8 @@ use Rattle.std.proofs.Common.{zero, suc, ◌≡◌, ◌*◌, ◌/◌, ◌^◌, �
 use Rattle.std.specs.Option.{option_map_or}
 use Rattle.std.proofs.Math.Logic.{∥∥₁_elim}
 use Rattle.std.proofs.Props.{props}
-use Rattle.iom_command_queue.specs.OpenSlots.{no_slots}
+use Rattle.iom_command_queue.specs.OpenSlots.{OpenSlots}
+use Rattle.iom_fabric.specs.declared.fabric.OnLink.{OnLink}
 use Rattle.iom_command_queue.specs.Waiting.{commands_in}
 use Rattle.iom_copies.specs.Copies.{ContextFits}
 use Rattle.iom_copies.specs.Faithful.{IsFaithful}
@@ -27,6 +28,10 @@ use Rattle.iom_world.specs.Read.{values_of}
 use Rattle.iom_world.specs.Scenes.{IsSceneOf, HasFaithfulScene}
 use Rattle.iom_world.specs.Sound.{AreSound, AreKnown, ContextsAreTrue}
 use Rattle.iom_world.proofs.DriverLemmas.{IsSoundDriver}
+use Rattle.iom_world.specs.declared.device.Device.{Device}
+use Rattle.iom_world.specs.Caches.{kind_in}
+use Rattle.iom_world.specs.Traffic.{traffic_of}
+use Rattle.iom_world.specs.Caches.{epoch_in}
 
 le_prop : (a b : ℕ) → IsProp (a ≤ b)
 le_prop a b = hlevel props
@@ -69,30 +74,46 @@ pub record LeavesWord (old new : Parts) : Type 0 where
   pub size : length new.memory ≡ length old.memory
   pub word : slice_get new.memory (completion_frame (length old.memory)) ≡ slice_get old.memory (completion_frame (length old.memory))
 
--- and of the IOMMU all stays but its rows, and the index that software writes; no invalidation request is opened
+-- and of the IOMMU all stays but its rows, and the index that software writes
 pub record LeavesIommu (old new : Parts) : Type 0 where
   pub processing : is_processing_commands (registers_of new.iommu) ≡ is_processing_commands (registers_of old.iommu)
   pub frames : frames_of new.iommu ≡ frames_of old.iommu
   pub so_far : (flights_of new.iommu).so_far ≡ (flights_of old.iommu).so_far
-  pub slots : slots_of old.iommu ≡ no_slots → slots_of new.iommu ≡ no_slots
+  pub slots : slots_of new.iommu ≡ slots_of old.iommu
 
 -- so the facts stay, where these do
 pub sound_from : (old new : Parts) (events : ℕ) → AreSound old events → LeavesWord old new → LeavesIommu old new → new.driver.started ≡ old.driver.started
-    → IsReady new.driver new.memory (registers_of new.iommu) → AreKnown new → new.driver.confirmed ≤ completed_in old.memory → new.driver.given < 2 ^ 32
+    → IsReady new.driver new.memory (registers_of new.iommu) → AreKnown new → ((id : ℕ) → epoch_in new.devices id ≤ events) → new.driver.confirmed ≤ completed_in old.memory → new.driver.given < 2 ^ 32
     → ContextsAreTrue new → ∥ HasFaithfulScene (values_of new) ∥₁ → AreSound new events
-sound_from old new events sound leaves iommu started ready known confirmed small contexts copies = record {
+sound_from old new events sound leaves iommu started ready known epochs confirmed small contexts copies = record {
   ready = ready;
   started = started ∙ sound.started;
   processing = iommu.processing ∙ sound.processing;
   size = iommu.frames ∙ sound.size ∙ sym leaves.size;
   known = known;
-  slots = iommu.slots sound.slots;
   confirmed = subst (λ done. new.driver.confirmed ≤ done) (sym (same_completed old.memory new.memory leaves.size leaves.word)) confirmed;
   small = small;
   counted = subst (λ n. n ≤ events) (sym iommu.so_far) sound.counted;
+  serials = subst (λ (s : OpenSlots). s.last ≤ events) (sym iommu.slots) sound.serials;
+  epochs = epochs;
   contexts = contexts;
   copies = copies;
 }
+
+-- the epochs of devices that are the same
+pub same_epochs : (old new : Parts) (events : ℕ) → AreSound old events → new.devices ≡ old.devices → (id : ℕ) → epoch_in new.devices id ≤ events
+same_epochs old new events sound same id = subst (λ (ds : List Device). epoch_in ds id ≤ events) (sym same) (sound.epochs id)
+
+-- what is under way between devices that are the same, by the same messages and slots
+pub traffic_kept : (old new : Parts) → new.devices ≡ old.devices → new.fabric ≡ old.fabric → slots_of new.iommu ≡ slots_of old.iommu
+    → (values_of new).traffic ≡ (values_of old).traffic
+traffic_kept old new devices fabric slots =
+    ap (λ (ds : List Device). traffic_of ds new.fabric (slots_of new.iommu)) devices
+    ∙ ap (λ (ms : List OnLink). traffic_of old.devices ms (slots_of new.iommu)) fabric
+    ∙ ap (traffic_of old.devices old.fabric) slots
+
+pub kinds_kept : (old new : Parts) → new.devices ≡ old.devices → (id : ℕ) → kind_in new.devices id ≡ kind_in old.devices id
+kinds_kept old new same id = ap (λ (ds : List Device). kind_in ds id) same
 
 -- the IOMMU is the same
 pub same_iommu : (old new : Parts) → new.iommu ≡ old.iommu → LeavesIommu old new
@@ -100,7 +121,7 @@ same_iommu old new same = record {
   processing = ap (λ i. is_processing_commands (registers_of i)) same;
   frames = ap frames_of same;
   so_far = ap (λ i. (flights_of i).so_far) same;
-  slots = λ none. ap slots_of same ∙ none;
+  slots = ap slots_of same;
 }
 
 -- the ring has its bytes, and the registers are the same: the same commands wait

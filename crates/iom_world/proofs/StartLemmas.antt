@@ -4,8 +4,7 @@ use Rattle.std.specs.Option.{option_map_or}
 use Rattle.std.proofs.lemmas.Bool.{false≢true}
 use Rattle.std.proofs.lemmas.List.{length-set, length-replicate, set-append_right, replicate-append-replicate}
 use Rattle.byteorder.specs.Endian.{little_bytes}
-use Rattle.iom_world.proofs.SlotLemmas.{none_written}
-use Rattle.iom_command_queue.specs.OpenSlots.{no_slots}
+use Rattle.iom_command_queue.specs.OpenSlots.{OpenSlots, no_slots}
 use Rattle.iom_base.specs.Bytes.{with_bytes}
 use Rattle.iom_base.specs.declared.owner.Owner.{Owner}
 use Rattle.iom_base.specs.declared.owner.Owner.TheVariants.{System}
@@ -42,8 +41,14 @@ use Rattle.iom_world.specs.Read.{space_at, values_of, accesses_of}
 use Rattle.iom_world.specs.Scenes.{IsSceneOf}
 use Rattle.iom_world.specs.Frames.{ShowsFrames}
 use Rattle.iom_world.specs.Shows.{PartsShow}
-use Rattle.iom_world.specs.Sound.{AreSound, known_ids, ids_of, row_ids}
+use Rattle.iom_world.specs.Sound.{AreSound, known_ids, ids_of, row_ids, HasAsker}
 use Rattle.iom_world.proofs.FrameLemmas.{shows_reserved}
+use Rattle.iom_copies.specs.Attachments.{caches_translations}
+use Rattle.iom_fabric.specs.declared.fabric.OnLink.{OnLink}
+use Rattle.iom_world.specs.Caches.{kind_in, HasItsCache}
+use Rattle.iom_world.specs.Traffic.{traffic_of}
+use Rattle.std.proofs.lemmas.List.Elements.{All-nil}
+use Rattle.iom_driver.specs.Devices.{is_trusted}
 
 -- there is nothing in an empty list
 none_there : {X : Type 0} (k : ℕ) (x : X) → slice_get [] k ≡ Some x → ⊥
@@ -170,8 +175,16 @@ none_still r stock none = by (is_command_queue_on r)
     by true = none
     by false = refl
 
+-- no invalidation request is open after a write, where none was ever opened
+none_written : (stay : Bool) (slots : OpenSlots) → slots ≡ no_slots → (if stay then slots else record slots { open_slots = [] }) ≡ no_slots
+none_written stay slots none = ap (λ (s : OpenSlots). if stay then s else record s { open_slots = [] }) none ∙ by stay
+  where
+    by : (b : Bool) → (if b then no_slots else record no_slots { open_slots = [] }) ≡ no_slots
+    by true = refl
+    by false = refl
+
 -- the parts of a world whose driver has just been started
-pub record IsStarted (n levels : ℕ) (first next : DriverState) (before memory : List (List ℕ)) (power iommu : Iommu) (devices : List Device) : Type 0 where
+pub record IsStarted (n levels : ℕ) (first next : DriverState) (before memory : List (List ℕ)) (power iommu : Iommu) (devices : List Device) (fabric : List OnLink) : Type 0 where
   pub size : IsMemorySize n
   pub opening_driver : IsOpening n levels first
   pub zeros : before ≡ replicate n zeroed
@@ -179,10 +192,12 @@ pub record IsStarted (n levels : ℕ) (first next : DriverState) (before memory 
   pub starts : Starts mmio first before power next memory iommu
   pub ready : IsReady next memory (registers_of iommu)
   pub unplugged : devices ≡ []
+  pub quiet : fabric ≡ []
 
-module _ (n levels : ℕ) (first next : DriverState) (before memory : List (List ℕ)) (power iommu : Iommu) (devices : List Device) (started : IsStarted n levels first next before memory power iommu devices) where
+module _ (n levels : ℕ) (first next : DriverState) (before memory : List (List ℕ)) (power iommu : Iommu) (devices : List Device) (fabric : List OnLink)
+    (started : IsStarted n levels first next before memory power iommu devices fabric) where
   abbrev parts : Parts
-  parts = record { memory = memory; iommu = iommu; driver = next; devices = devices }
+  parts = record { memory = memory; iommu = iommu; driver = next; devices = devices; fabric = fabric }
 
   long : length before ≡ n
   long = ap (λ m. length m) started.zeros ∙ length-replicate n zeroed
@@ -266,13 +281,17 @@ module _ (n levels : ℕ) (first next : DriverState) (before memory : List (List
     confirmed = sym confirmed_none;
     accepted = sym none_accepted;
     in_flight = sym (ap accesses_of rows_none);
-    unplugged = λ id none. refl;
+    kinds = λ id. sym (ap (λ (ds : List Device). kind_in ds id) started.unplugged);
     attachments = λ id. sym (ap (λ (d : DriverState). shown_attachment (attachment_of d.devices id)) driver_is);
     contexts = λ id is. absurd (false≢true (sym (ap is_some (none_cached id)) ∙ is));
     translations = λ key translation at. absurd (no_translation key translation at);
     stock = rw none_counted tt;
     leaving = λ id. rw driver_is tt;
-    alone = record { goes_on = refl; entries = refl; messages = refl; slots = refl };
+    traffic = sym (
+        ap (λ (ds : List Device). traffic_of ds fabric (slots_of iommu)) started.unplugged
+        ∙ ap (λ (ms : List OnLink). traffic_of [] ms (slots_of iommu)) started.quiet
+        ∙ ap (traffic_of [] []) none_open);
+    goes_on = refl;
   }
 
   no_context : (id : ℕ) (context : Context) → contexts_of iommu id ≡ Some context → ⊥
@@ -288,8 +307,12 @@ module _ (n levels : ℕ) (first next : DriverState) (before memory : List (List
       own_ids = λ j k one other at at' same. absurd (none_there j one (subst (λ ds. slice_get ds j ≡ Some one) started.unplugged at));
       driver = ap (λ (d : DriverState). known_ids d.devices) driver_is ∙ sym (ap ids_of started.unplugged);
       iommu = ap row_ids rows_none ∙ sym (ap ids_of started.unplugged);
+      caches = rw started.unplugged (All-nil HasItsCache);
+      askers = rw started.quiet (All-nil (HasAsker devices));
+      trusted = λ id. ap (λ (d : DriverState). is_trusted d.devices id) driver_is ∙ sym (ap (λ (ds : List Device). caches_translations (kind_in ds id)) started.unplugged);
     };
-    slots = none_open;
+    serials = rw none_open (omega arith);
+    epochs = λ id. rw started.unplugged (omega arith);
     confirmed = rw confirmed_none (omega arith);
     small = rw given_none (omega arith);
     counted = rw none_accepted (omega arith);

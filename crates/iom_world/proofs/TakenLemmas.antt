@@ -1,5 +1,5 @@
 -- The frames that an attach takes: pages of the directory, and those of a root.
-use Rattle.std.proofs.Common.{◌≡◌, ◌≢◌, ◌+◌, ◌*◌, ◌<◌, ◌≤◌, ◌⊎◌, inl, inr, ◌∙◌, ◌++◌, ℕ, zero, suc, false, List, [], ◌∷◌, length, All, nat_eq, get_or, Option, Some, None, slice_get, Contains, refl, sym, ap, subst, arith}
+use Rattle.std.proofs.Common.{◌≡◌, ◌≢◌, ◌+◌, ◌*◌, ◌<◌, ◌≤◌, ◌⊎◌, inl, inr, ◌∙◌, ◌++◌, ℕ, zero, suc, List, [], ◌∷◌, length, All, nat_eq, get_or, Option, Some, None, slice_get, Contains, refl, sym, ap, subst, arith}
 use Rattle.std.specs.List.{IsDistinct}
 use Rattle.std.proofs.lemmas.Bool.{false≢true, cases_lt, eq-eqb}
 use Rattle.std.proofs.lemmas.Bool.Decides.{eqb_tells}
@@ -10,10 +10,10 @@ use Rattle.iom_base.specs.declared.owner.Owner.TheVariants.{System, OneDevice}
 use Rattle.iom_driver.specs.Attaching.{ArePages, IsRootBelow, limit_below, root_frames}
 use Rattle.iom_driver.specs.Choices.{AreHighestFree, marked_for}
 use Rattle.iom_driver.specs.State.{DriverState}
-use Rattle.iom_driver.proofs.Marks.{Among, NotAmong, all_head, among_contained, among_get, marked_among, marked_still, mark_stays, not_among, length-marked_for}
+use Rattle.iom_driver.proofs.Marks.{Among, NotAmong, among_contained, among_get, marked_among, marked_still, mark_stays, length-marked_for}
 use Rattle.iom_ledger.specs.declared.ledger.Ledger.{Ledger}
-use Rattle.iom_table_frames.specs.Fours.{AreFourFree, IsHighestFour}
-use Rattle.iom_table_frames.specs.Marks.{IsFreeForTable, IsHighestFree}
+use Rattle.iom_table_frames.specs.Fours.{IsHighestFour}
+use Rattle.iom_table_frames.specs.Marks.{IsFreeForTable}
 use Rattle.iom_world.proofs.StayLemmas.{not_owned}
 
 -- below the lowest page there are no more frames than below the first limit

@@ -1,5 +1,5 @@
 -- What a walk means, by how its device is attached: what it reaches is held, and where it stops nothing is.
-use Rattle.std.proofs.Common.{◌≡◌, ◌+◌, ◌*◌, ◌/◌, ◌%◌, ◌^◌, ◌<◌, ◌≤◌, ◌&&◌, ◌∙◌, ◌⊎◌, inl, inr, ℕ, Bool, true, false, List, length, replicate, Option, Some, None, option_map, refl, sym, ap, subst, arith, if◌then◌else◌}
+use Rattle.std.proofs.Common.{◌≡◌, ◌/◌, ◌^◌, ◌<◌, ◌≤◌, ◌&&◌, ◌∙◌, ◌⊎◌, ℕ, Bool, true, false, List, length, replicate, Option, Some, None, option_map, refl, sym, ap, if◌then◌else◌}
 use Rattle.iom_base.specs.declared.access.AccessKind.{AccessKind}
 use Rattle.iom_base.specs.declared.access.AccessKind.TheVariants.{Read, Write}
 use Rattle.iom_base.specs.declared.cause.Cause.{Cause}
@@ -10,8 +10,6 @@ use Rattle.iom_base.specs.declared.rights.Rights.{Rights}
 use Rattle.iom_base.specs.Causes.{page_fault_of, guest_page_fault_of}
 use Rattle.iom_base.specs.Rights.{allows, r, rw}
 use Rattle.iom_base.specs.Sizes.{page_limit}
-use Rattle.iom_copies.specs.Attachments.{is_both}
-use Rattle.iom_copies.specs.Backing.{ComesFrom}
 use Rattle.iom_driver.specs.Tables.{AreTablesOf, leaf_for}
 use Rattle.iom_iommu.specs.Service.{translation_of}
 use Rattle.iom_ledger.specs.declared.ledger.Ledger.{Ledger}
@@ -25,10 +23,10 @@ use Rattle.iom_page_table.specs.Sv39.{IsRoot}
 use Rattle.iom_page_table.specs.Sv39x4.{IsGuestRoot, guest_leaf_of}
 use Rattle.iom_stage_walk.specs.declared.walked.Walked.{Walked}
 use Rattle.iom_stage_walk.specs.declared.walked.WalkFault.{WalkFault}
-use Rattle.iom_stage_walk.specs.Laws.{OneEnd, OneEndSecond, WritesAsReadsSecond, WritesAsReadsBoth, IsLed, GuestFramesAreLed}
+use Rattle.iom_stage_walk.specs.Laws.{OneEnd, OneEndSecond, WritesAsReadsSecond, WritesAsReadsBoth, GuestFramesAreLed}
 use Rattle.iom_stage_walk.specs.Paths.{first_levels, ReachesFirst, StopsFirst}
 use Rattle.iom_stage_walk.specs.Second.{second_levels, LeadsTo, ReachesSecond, StopsSecond, reported}
-use Rattle.iom_stage_walk.specs.Both.{ReachesBoth, StopsBoth, rights_of_both}
+use Rattle.iom_stage_walk.specs.Both.{ReachesBoth, StopsBoth}
 use Rattle.iom_world.proofs.SceneSteps.{HoldsWalked}
 
 -- the laws of walks and of tables

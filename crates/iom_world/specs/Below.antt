@@ -1,6 +1,6 @@
 -- What the layers below promise, of which a step of the world makes use.
 -- For the calls inside this crate alone; no public contract cites these.
-use Rattle.std.specs.Prelude.{ℕ, ◌^◌, ◌<◌}
+use Rattle.std.specs.Prelude.{◌^◌, ◌<◌}
 use Rattle.iom_directory.specs.Laws.{LawfulEnds}
 use Rattle.iom_driver.specs.Laws.{ReadyStays, ReadyAfterRecord}
 use Rattle.iom_page_table.specs.Laws.{WalkReachesLeaf, WalkFaultsElse}

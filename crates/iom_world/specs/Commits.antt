@@ -9,7 +9,7 @@ use Rattle.iom_machine.specs.declared.outcome.Outcome.TheVariants as outcome
 use Rattle.iom_table_frames.specs.Marks.{is_marked}
 use Rattle.iom_world.specs.Parts.{Parts}
 use Rattle.iom_world.specs.Places.{IsPresent}
-use Rattle.iom_world.specs.Requests.{IsUnknown}
+use Rattle.iom_world.specs.Unable.{IsUnknown}
 use Rattle.iom_world.specs.Told.{TellsBytes}
 
 -- the bytes that stand in the frame where the access was made are told
@@ -37,6 +37,7 @@ pub record MakesOldest (old : Parts) (id : ℕ) (told : Outcome) (new : Parts) :
   pub unreserved : IfSome made (λ it. is_marked old.driver.marks it.frame ≡ false)
   pub driver : new.driver ≡ old.driver
   pub devices : new.devices ≡ old.devices
+  pub fabric : new.fabric ≡ old.fabric
 
 -- A COMMIT of the device with the id
 abbrev pub CommitsAccess : Parts → ℕ → Outcome → Parts → Type 0

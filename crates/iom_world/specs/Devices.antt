@@ -1,5 +1,5 @@
 -- What the ledger machine sees of the devices: their kinds are the world's, how they are attached the driver knows, and what is in flight the IOMMU.
-use Rattle.std.specs.Prelude.{ℕ, false, List, [], map}
+use Rattle.std.specs.Prelude.{ℕ, List, [], map}
 use Rattle.std.specs.Option.{option_map_or}
 use Rattle.iom_base.specs.declared.access.AcceptedAccess.{AcceptedAccess}
 use Rattle.iom_driver.specs.declared.device.Attachment as driver
@@ -12,11 +12,11 @@ use Rattle.iom_machine.specs.declared.state.Attachment.TheVariants.{Detached, At
 use Rattle.iom_machine.specs.declared.state.Device as machine
 use Rattle.iom_world.specs.declared.device.Device.{Device}
 
--- a device is attached in its mode, without ATS
+-- a device is attached in its mode, with ATS or without
 abbrev pub shown_attachment : driver.Attachment → Attachment
 shown_attachment attached.Detached = Detached
-shown_attachment (attached.Attached stage) = Attached stage.mode false
-shown_attachment (attached.Leaving ticket stage) = Leaving ticket stage.mode false
+shown_attachment (attached.Attached stage) = Attached stage.mode stage.ats
+shown_attachment (attached.Leaving ticket stage) = Leaving ticket stage.mode stage.ats
 
 -- what the device has in flight, the oldest first
 abbrev pub in_flight_of : List FlightRow → ℕ → List AcceptedAccess

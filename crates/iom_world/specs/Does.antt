@@ -2,6 +2,7 @@
 use Rattle.std.specs.Prelude.{◌≡◌, ℕ, ◌+◌, ◌-◌, ◌==◌, Bool, true, List, [], ◌∷◌, ◌++◌, Option, None, Some, Result, Ok, Err, if◌then◌else◌}
 use Rattle.iom_base.specs.declared.grant_rights.GrantRights.{GrantRights}
 use Rattle.iom_base.specs.declared.mode.Mode.{Mode}
+use Rattle.iom_ats_cache.specs.Cache.{Cache, empty_cache}
 use Rattle.iom_base.specs.Accesses.{read_of, write_of}
 use Rattle.iom_command_queue.specs.declared.command.Command.{Command}
 use Rattle.iom_command_queue.specs.declared.command.Command.TheVariants.{IotinvalVma, IotinvalGvma, IofenceC, IodirInvalDdt, AtsInval}
@@ -18,7 +19,7 @@ use Rattle.iom_iommu.specs.declared.fetched.Fetched.{Fetched}
 use Rattle.iom_iommu.specs.declared.fetched.Fetched.TheVariants.{Did, Waiting, Empty, Stopped}
 use Rattle.iom_world.specs.OwnIommu.{Iommu}
 use Rattle.iom_iommu.specs.Fetches.{FetchesCommand}
-use Rattle.iom_iommu.specs.Parts.{mmio, registers_of, AddsDevice}
+use Rattle.iom_iommu.specs.Parts.{mmio, registers_of, opened_of, AddsDevice}
 use Rattle.iom_ledger.specs.declared.refusal.Refusal.{Refusal}
 use Rattle.iom_machine.specs.declared.event.Event.{Event}
 use Rattle.iom_machine.specs.declared.event.Event.TheVariants as events
@@ -29,11 +30,15 @@ use Rattle.iom_machine.specs.declared.outcome.Fetched.TheVariants as tells
 use Rattle.iom_machine.specs.declared.outcome.Outcome.{Outcome}
 use Rattle.iom_machine.specs.declared.outcome.Outcome.TheVariants as outcome
 use Rattle.iom_machine.specs.declared.state.DeviceKind.{DeviceKind}
+use Rattle.iom_machine.specs.Refusals.{has_cache}
 use Rattle.iom_world.specs.declared.device.Device.{Device}
 use Rattle.iom_world.specs.Commits.{CommitsAccess}
+use Rattle.iom_world.specs.Deliveries.{DeliversMessage}
+use Rattle.iom_world.specs.Messages.{with_fetched, AsksQuestion, ForgesCompletion, DropsMessage, RepeatsMessage}
 use Rattle.iom_world.specs.Parts.{Parts}
 use Rattle.iom_world.specs.Processor.{PokesBytes, PeeksBytes, AsksFree}
-use Rattle.iom_world.specs.Requests.{AsksAccess}
+use Rattle.iom_world.specs.Requests.{AsksAccess, AsksTranslated}
+use Rattle.iom_world.specs.ThroughCache.{AsksThroughCache}
 
 -- what an answer of the driver is told as: of a call that gives nothing, of a release, and of a poll
 abbrev pub told_of : Result (Unit {0}) Refusal → Outcome
@@ -68,9 +73,13 @@ fetch_named Waiting = tells.Waiting
 fetch_named Empty = tells.Empty
 fetch_named Stopped = tells.Stopped
 
+-- the cache of a device of this kind that is plugged in, if it has one
+abbrev pub new_cache : DeviceKind → Option Cache
+new_cache kind = if has_cache kind then Some empty_cache else None
+
 -- a device as the world keeps it
 abbrev pub new_device : ℕ → DeviceKind → Device
-new_device id kind = record { id = id; kind = kind }
+new_device id kind = record { id = id; kind = kind; cache = new_cache kind }
 
 -- it stands behind the others, unless it was refused
 abbrev pub devices_after : Result (Unit {0}) Refusal → List Device → ℕ → DeviceKind → List Device
@@ -86,18 +95,20 @@ AddsRow (Err why) old id new = new ≡ old
 pub record PlugsDevice (old : Parts) (id : ℕ) (kind : DeviceKind) (told : Outcome) (new : Parts) : Type 0 where
   pub answer : Result (Unit {0}) Refusal
   pub told_so : told ≡ told_of answer
-  pub call : AnswersPlug old.driver id answer new.driver
+  pub call : AnswersPlug old.driver id (has_cache kind) answer new.driver
   pub row : AddsRow answer old.iommu id new.iommu
   pub devices : new.devices ≡ devices_after answer old.devices id kind
+  pub fabric : new.fabric ≡ old.fabric
   pub memory : new.memory ≡ old.memory
 
--- a device is attached
-pub record AttachesDevice (old : Parts) (id : ℕ) (mode : Mode) (told : Outcome) (new : Parts) : Type 0 where
+-- a device is attached, with ATS or without
+pub record AttachesDevice (old : Parts) (id : ℕ) (mode : Mode) (ats : Bool) (told : Outcome) (new : Parts) : Type 0 where
   pub answer : Result (Unit {0}) Refusal
   pub told_so : told ≡ told_of answer
-  pub call : AnswersAttach old.driver old.memory id mode answer new.driver new.memory
+  pub call : AnswersAttach old.driver old.memory id mode ats answer new.driver new.memory
   pub iommu : new.iommu ≡ old.iommu
   pub devices : new.devices ≡ old.devices
+  pub fabric : new.fabric ≡ old.fabric
 
 -- a device gets a frame at a page
 pub record GrantsPage (old : Parts) (id page frame : ℕ) (rights : GrantRights) (told : Outcome) (new : Parts) : Type 0 where
@@ -106,6 +117,7 @@ pub record GrantsPage (old : Parts) (id page frame : ℕ) (rights : GrantRights)
   pub call : AnswersGrant old.driver old.memory id page frame rights answer new.driver new.memory
   pub iommu : new.iommu ≡ old.iommu
   pub devices : new.devices ≡ old.devices
+  pub fabric : new.fabric ≡ old.fabric
 
 -- what it holds at a page is released
 pub record ReleasesPage (old : Parts) (id page : ℕ) (told : Outcome) (new : Parts) : Type 0 where
@@ -113,6 +125,7 @@ pub record ReleasesPage (old : Parts) (id page : ℕ) (told : Outcome) (new : Pa
   pub told_so : told ≡ ticket_told_of answer
   pub call : AnswersRelease mmio old.driver old.memory old.iommu id page answer new.driver new.memory new.iommu
   pub devices : new.devices ≡ old.devices
+  pub fabric : new.fabric ≡ old.fabric
 
 -- a device is detached, once a ticket is confirmed
 pub record DetachesDevice (old : Parts) (id : ℕ) (told : Outcome) (new : Parts) : Type 0 where
@@ -120,14 +133,16 @@ pub record DetachesDevice (old : Parts) (id : ℕ) (told : Outcome) (new : Parts
   pub told_so : told ≡ ticket_told_of answer
   pub call : AnswersDetach mmio old.driver old.memory old.iommu id answer new.driver new.memory new.iommu
   pub devices : new.devices ≡ old.devices
+  pub fabric : new.fabric ≡ old.fabric
 
--- the IOMMU takes a command
+-- the IOMMU takes a command; where that opened a request to invalidate, it is sent to its device
 pub record FetchesNext (old : Parts) (told : Outcome) (new : Parts) : Type 0 where
   pub answer : Fetched
   pub told_so : told ≡ outcome.Fetched (fetch_named answer)
   pub call : FetchesCommand old.memory old.iommu answer new.memory new.iommu
   pub driver : new.driver ≡ old.driver
   pub devices : new.devices ≡ old.devices
+  pub fabric : new.fabric ≡ with_fetched answer (opened_of new.iommu) old.fabric
 
 -- the driver reads the completion word
 pub record PollsTickets (old : Parts) (told : Outcome) (new : Parts) : Type 0 where
@@ -136,6 +151,7 @@ pub record PollsTickets (old : Parts) (told : Outcome) (new : Parts) : Type 0 wh
   pub call : AnswersPoll (registers_of old.iommu) old.driver old.memory answer new.driver new.memory
   pub iommu : new.iommu ≡ old.iommu
   pub devices : new.devices ≡ old.devices
+  pub fabric : new.fabric ≡ old.fabric
 
 -- the driver takes a fault record
 pub record TakesReport (old : Parts) (told : Outcome) (new : Parts) : Type 0 where
@@ -145,11 +161,12 @@ pub record TakesReport (old : Parts) (told : Outcome) (new : Parts) : Type 0 whe
   pub driver : new.driver ≡ old.driver
   pub memory : new.memory ≡ old.memory
   pub devices : new.devices ≡ old.devices
+  pub fabric : new.fabric ≡ old.fabric
 
 -- THE RELATION of an event
 abbrev pub Does : Parts → Event → Outcome → Parts → Type 0
 Does old (events.Plug id kind) told new = PlugsDevice old id kind told new
-Does old (events.Attach id mode ats) told new = AttachesDevice old id mode told new
+Does old (events.Attach id mode ats) told new = AttachesDevice old id mode ats told new
 Does old (events.Grant id page frame rights) told new = GrantsPage old id page frame rights told new
 Does old (events.Release id page) told new = ReleasesPage old id page told new
 Does old (events.Detach id) told new = DetachesDevice old id told new
@@ -159,6 +176,15 @@ Does old events.Faults told new = TakesReport old told new
 Does old (events.Read id address len) told new = AsksAccess old id (read_of address len) told new
 Does old (events.Write id address bytes) told new = AsksAccess old id (write_of address bytes) told new
 Does old (events.Commit id) told new = CommitsAccess old id told new
+Does old (events.ReadTranslated id address len) told new = AsksTranslated old id (read_of address len) told new
+Does old (events.WriteTranslated id address bytes) told new = AsksTranslated old id (write_of address bytes) told new
+Does old (events.ReadThroughCache id address len) told new = AsksThroughCache old id (read_of address len) told new
+Does old (events.WriteThroughCache id address bytes) told new = AsksThroughCache old id (write_of address bytes) told new
+Does old (events.Ask id page) told new = AsksQuestion old id page told new
+Does old (events.Forge id serial) told new = ForgesCompletion old id serial told new
+Does old (events.Deliver place) told new = DeliversMessage old place told new
+Does old (events.Drop place) told new = DropsMessage old place told new
+Does old (events.Repeat place) told new = RepeatsMessage old place told new
 Does old (events.Poke address bytes) told new = PokesBytes old address bytes told new
 Does old (events.Peek address len) told new = PeeksBytes old address len told × (new ≡ old)
 Does old (events.Free frame) told new = AsksFree old frame told × (new ≡ old)

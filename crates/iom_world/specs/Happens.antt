@@ -25,6 +25,7 @@ pub record AreSame (old new : Parts) : Type 0 where
   pub memory : new.memory ≡ old.memory
   pub iommu : new.iommu ≡ old.iommu
   pub devices : new.devices ≡ old.devices
+  pub fabric : new.fabric ≡ old.fabric
   pub ledger : IsUnchanged old.driver.ledger new.driver.ledger
   pub driver : new.driver ≡ record old.driver { ledger = new.driver.ledger }
 
@@ -49,6 +50,15 @@ KeepsCommands events.Faults old new = waiting_in new ≡ waiting_in old
 KeepsCommands (events.Read device address len) old new = waiting_in new ≡ waiting_in old
 KeepsCommands (events.Write device address bytes) old new = waiting_in new ≡ waiting_in old
 KeepsCommands (events.Commit device) old new = waiting_in new ≡ waiting_in old
+KeepsCommands (events.ReadTranslated id address len) old new = waiting_in new ≡ waiting_in old
+KeepsCommands (events.WriteTranslated id address bytes) old new = waiting_in new ≡ waiting_in old
+KeepsCommands (events.ReadThroughCache id address len) old new = waiting_in new ≡ waiting_in old
+KeepsCommands (events.WriteThroughCache id address bytes) old new = waiting_in new ≡ waiting_in old
+KeepsCommands (events.Ask id page) old new = waiting_in new ≡ waiting_in old
+KeepsCommands (events.Forge id serial) old new = waiting_in new ≡ waiting_in old
+KeepsCommands (events.Deliver place) old new = waiting_in new ≡ waiting_in old
+KeepsCommands (events.Drop place) old new = waiting_in new ≡ waiting_in old
+KeepsCommands (events.Repeat place) old new = waiting_in new ≡ waiting_in old
 KeepsCommands (events.Poke address bytes) old new = waiting_in new ≡ waiting_in old
 KeepsCommands (events.Peek address len) old new = waiting_in new ≡ waiting_in old
 KeepsCommands (events.Free frame) old new = waiting_in new ≡ waiting_in old
@@ -66,6 +76,15 @@ ReadsGuestTablesFor events.Fetch old history = ⊤
 ReadsGuestTablesFor events.Poll old history = ⊤
 ReadsGuestTablesFor events.Faults old history = ⊤
 ReadsGuestTablesFor (events.Commit id) old history = ⊤
+ReadsGuestTablesFor (events.ReadTranslated id address len) old history = ⊤
+ReadsGuestTablesFor (events.WriteTranslated id address bytes) old history = ⊤
+ReadsGuestTablesFor (events.ReadThroughCache id address len) old history = ⊤
+ReadsGuestTablesFor (events.WriteThroughCache id address bytes) old history = ⊤
+ReadsGuestTablesFor (events.Ask id page) old history = ⊤
+ReadsGuestTablesFor (events.Forge id serial) old history = ⊤
+ReadsGuestTablesFor (events.Deliver place) old history = ⊤
+ReadsGuestTablesFor (events.Drop place) old history = ⊤
+ReadsGuestTablesFor (events.Repeat place) old history = ⊤
 ReadsGuestTablesFor (events.Poke address bytes) old history = ⊤
 ReadsGuestTablesFor (events.Peek address len) old history = ⊤
 ReadsGuestTablesFor (events.Free frame) old history = ⊤

@@ -1,6 +1,5 @@
 -- Whether a device is among those that are plugged in.
 use Rattle.std.specs.Prelude.{◌≡◌, ◌≢◌, ℕ, List, Contains}
-use Rattle.std.specs.List.{All}
 use Rattle.iom_world.specs.declared.device.Device.{Device}
 
 -- no device has this id

@@ -40,6 +40,7 @@ pub record PokesBytes (old : Parts) (address : ℕ) (bytes : List ℕ) (told : O
   pub iommu : new.iommu ≡ old.iommu
   pub driver : new.driver ≡ old.driver
   pub devices : new.devices ≡ old.devices
+  pub fabric : new.fabric ≡ old.fabric
 
 -- the bytes that stand there, so many
 pub record ShowsAt (old : Parts) (address len : ℕ) (shown : List ℕ) : Type 0 where

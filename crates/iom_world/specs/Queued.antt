@@ -5,12 +5,14 @@ use Rattle.std.specs.Option.{option_map_or}
 use Rattle.iom_command_queue.specs.declared.command.Command.{Command as Commanded}
 use Rattle.iom_command_queue.specs.declared.command.Command.TheVariants.{IotinvalVma, IotinvalGvma, IofenceC, IodirInvalDdt, AtsInval}
 use Rattle.iom_command_queue.specs.declared.entry.QueueEntry.{QueueEntry}
-use Rattle.iom_command_queue.specs.declared.entry.QueueEntry.TheVariants.{Command, Illegal, Outside}
+use Rattle.iom_command_queue.specs.declared.entry.QueueEntry.TheVariants.{Command}
 use Rattle.iom_copies.specs.Queue.{Extent, OnePage, WholeSpace, QueuedCommand, DropTranslations, DropContext, Invalidate, Fence}
 use Rattle.iom_copies.specs.Scene.{PendingTicket}
 use Rattle.iom_driver.specs.Appends.{fence}
 use Rattle.iom_driver.specs.Layout.{completion_address}
 use Rattle.iom_phys_mem.specs.Words.{word_at}
+use Rattle.iom_world.specs.Messages.{range_of}
+use Rattle.iom_world.specs.Traffic.{pages_of}
 use Rattle.iom_tlb.specs.declared.space.Space.{Space}
 use Rattle.iom_tlb.specs.declared.space.Space.TheVariants as space
 
@@ -49,6 +51,7 @@ IsQueuedAs address space_of (Command (IotinvalVma gscid pscid page)) (DropTransl
 IsQueuedAs address space_of (Command (IotinvalGvma gscid page)) (DropTranslations device extent) = IsInvalidation space_of device extent (IotinvalGvma gscid page)
 IsQueuedAs address space_of (Command (IofenceC store wsi pr pw)) (Fence number) = IofenceC store wsi pr pw ≡ fence address number
 IsQueuedAs address space_of (Command (IodirInvalDdt (Some id))) (DropContext device) = id ≡ device
+IsQueuedAs address space_of (Command (AtsInval id range)) (Invalidate device extent) = (id ≡ device) × (extent ≡ pages_of (range_of range))
 IsQueuedAs address space_of _ _ = ⊥
 
 -- what stands in the ring are these, one by one

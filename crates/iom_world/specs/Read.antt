@@ -7,16 +7,18 @@ use Rattle.iom_command_queue.specs.Waiting.{commands_in}
 use Rattle.iom_copies.specs.Scene.{AccessInFlight}
 use Rattle.iom_driver.specs.declared.device.Device.{Device}
 use Rattle.iom_driver.specs.declared.device.Stages.{Stages}
-use Rattle.iom_driver.specs.Devices.{attachment_of, owned_stages_of, is_plugged}
+use Rattle.iom_driver.specs.Devices.{attachment_of, owned_stages_of}
 use Rattle.iom_driver.specs.Layout.{completion_address}
 use Rattle.iom_inflight.specs.Flights.{NumberedAccess, FlightRow}
-use Rattle.iom_iommu.specs.Parts.{registers_of, contexts_of, translations_of, flights_of, stock_of}
+use Rattle.iom_iommu.specs.Parts.{registers_of, contexts_of, translations_of, flights_of, stock_of, slots_of}
 use Rattle.iom_tlb.specs.declared.space.Space.{Space}
 use Rattle.iom_tlb.specs.declared.space.Space.TheVariants as space
+use Rattle.iom_world.specs.Caches.{kind_in}
 use Rattle.iom_world.specs.Devices.{shown_attachment}
 use Rattle.iom_world.specs.Parts.{Parts}
 use Rattle.iom_world.specs.Queued.{completed_in}
 use Rattle.iom_world.specs.Scenes.{Values}
+use Rattle.iom_world.specs.Traffic.{traffic_of}
 
 -- an access in flight, as far as copies go
 abbrev pub access_of : ℕ → NumberedAccess → AccessInFlight
@@ -47,10 +49,11 @@ values_of parts = record {
   confirmed = parts.driver.confirmed;
   so_far = (flights_of parts.iommu).so_far;
   in_flight = accesses_of (flights_of parts.iommu).rows;
-  is_plugged = is_plugged parts.driver.devices;
+  kind_of = kind_in parts.devices;
   attachment_of = λ id. shown_attachment (attachment_of parts.driver.devices id);
   is_cached = λ id. is_some (contexts_of parts.iommu id);
   space_of = space_at parts.driver.devices;
   translations = translations_of parts.iommu;
   stock = stock_of parts.iommu;
+  traffic = traffic_of parts.devices parts.fabric (slots_of parts.iommu);
 }

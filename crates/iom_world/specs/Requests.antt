@@ -1,5 +1,5 @@
 -- What a device's request is answered, and what it leaves: by what the IOMMU finds in its caches and in memory.
-use Rattle.std.specs.Prelude.{◌≡◌, ℕ, ◌⊎◌, ⊤, All, Option, None, Some, Ok}
+use Rattle.std.specs.Prelude.{◌≡◌, ℕ, ◌⊎◌, ⊤, All, List, Option, None, Some, Ok}
 use Rattle.iom_base.specs.declared.access.Access.{Access}
 use Rattle.iom_base.specs.declared.access.AccessKind.TheVariants.{Read}
 use Rattle.iom_base.specs.declared.ppn.Ppn.{Ppn}
@@ -12,8 +12,8 @@ use Rattle.iom_iommu.specs.declared.reply.Reply.TheVariants.{Accepted, Busy, Bad
 use Rattle.iom_iommu.specs.Parts.{registers_of, contexts_of}
 use Rattle.iom_iommu.specs.Requests.{AnswersRequest}
 use Rattle.iom_iommu.specs.Service.{context_for}
+use Rattle.iom_iommu.specs.Translated.{AnswersTranslated}
 use Rattle.iom_ledger.specs.History.{History, May}
-use Rattle.iom_ledger.specs.declared.refusal.Refusal.TheVariants.{NoSuchDevice}
 use Rattle.iom_machine.specs.declared.outcome.Outcome.{Outcome}
 use Rattle.iom_machine.specs.declared.outcome.Outcome.TheVariants as outcome
 use Rattle.iom_stage_walk.specs.declared.walked.Walked.{Walked}
@@ -21,7 +21,10 @@ use Rattle.iom_stage_walk.specs.Both.{ReachesBoth}
 use Rattle.iom_stage_walk.specs.Paths.{first_levels}
 use Rattle.iom_stage_walk.specs.Second.{second_levels}
 use Rattle.iom_world.specs.Parts.{Parts}
-use Rattle.iom_world.specs.Places.{IsAbsent, IsPresent}
+use Rattle.iom_machine.specs.Kinds.{sends_untranslated, forges}
+use Rattle.iom_world.specs.Caches.{IsAble}
+use Rattle.iom_world.specs.OwnIommu.{Iommu}
+use Rattle.iom_world.specs.Unable.{IsUnknown, IsUnable}
 
 -- what an answer of the IOMMU is told as
 abbrev pub reply_told_of : Reply → Outcome
@@ -30,24 +33,26 @@ reply_told_of Busy = outcome.Busy
 reply_told_of BadSpan = outcome.BadSpan
 reply_told_of (Fault cause) = outcome.Fault cause
 
--- the IOMMU answers the device: the driver stays, and memory too, but for a fault, which is reported
-pub record IsAnswered (old : Parts) (id : ℕ) (access : Access) (told : Outcome) (new : Parts) : Type 0 where
-  pub present : IsPresent old.devices id
+-- the IOMMU answers so: driver and devices stay, and memory too, but for a fault, which is reported
+pub record IsReplied (Call : Reply → List (List ℕ) → Iommu → Type 0) (old : Parts) (told : Outcome) (new : Parts) : Type 0 where
   pub reply : Reply
   pub told_so : told ≡ reply_told_of reply
-  pub call : AnswersRequest old.memory old.iommu id access reply new.memory new.iommu
+  pub call : Call reply new.memory new.iommu
   pub driver : new.driver ≡ old.driver
   pub devices : new.devices ≡ old.devices
-
--- no device has the id, and nothing changes
-pub record IsUnknown (old : Parts) (id : ℕ) (told : Outcome) (new : Parts) : Type 0 where
-  pub absent : IsAbsent old.devices id
-  pub told_so : told ≡ outcome.Refused NoSuchDevice
-  pub same : new ≡ old
+  pub fabric : new.fabric ≡ old.fabric
 
 -- A DEVICE ASKS for an access
 abbrev pub AsksAccess : Parts → ℕ → Access → Outcome → Parts → Type 0
-AsksAccess old id access told new = IsUnknown old id told new ⊎ IsAnswered old id access told new
+AsksAccess old id access told new =
+    IsUnknown old id told new ⊎ IsUnable sends_untranslated old id told new
+    ⊎ (IsAble sends_untranslated old.devices id × IsReplied (AnswersRequest old.memory old.iommu id access) old told new)
+
+-- A DEVICE SAYS of a request that it is translated already
+abbrev pub AsksTranslated : Parts → ℕ → Access → Outcome → Parts → Type 0
+AsksTranslated old id access told new =
+    IsUnknown old id told new ⊎ IsUnable forges old id told new
+    ⊎ (IsAble forges old.devices id × IsReplied (AnswersTranslated old.memory old.iommu id access) old told new)
 
 -- the IOMMU finds for the device a context with both stages, whose tables have these roots
 pub record IsInBoth (parts : Parts) (id first second : ℕ) : Type 0 where

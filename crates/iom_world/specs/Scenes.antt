@@ -1,6 +1,6 @@
 -- What lies between the grants and memory, as values that are read off the parts of a world; and the scene of which the facts on copies speak.
 -- For the facts that a world carries alone; no public contract cites these.
-use Rattle.std.specs.Prelude.{◌≡◌, ℕ, ◌-◌, Bool, true, false, List, [], Contains, Option, None, Some, ⊤}
+use Rattle.std.specs.Prelude.{◌≡◌, ℕ, ◌-◌, Bool, true, false, List, Contains, Option, None, Some, ⊤}
 use Rattle.iom_command_queue.specs.declared.entry.QueueEntry.{QueueEntry}
 use Rattle.iom_copies.specs.Faithful.{IsFaithful}
 use Rattle.iom_copies.specs.Queue.{QueuedCommand}
@@ -9,10 +9,12 @@ use Rattle.iom_ledger.specs.declared.ledger.Ledger.{Ledger}
 use Rattle.iom_ledger.specs.Shown.{Agrees}
 use Rattle.iom_machine.specs.declared.state.Attachment.{Attachment}
 use Rattle.iom_machine.specs.declared.state.Attachment.TheVariants.{Detached, Attached, Quarantined, Leaving}
+use Rattle.iom_machine.specs.declared.state.DeviceKind.{DeviceKind}
 use Rattle.iom_tlb.specs.declared.space.Space.{Space}
 use Rattle.iom_tlb.specs.declared.trans_cache.Translation.{Translation}
 use Rattle.iom_tlb.specs.Content.{Key, Content as Translations}
 use Rattle.iom_world.specs.Queued.{AreQueuedAs, ComeBefore, pending_after}
+use Rattle.iom_world.specs.Traffic.{Traffic, under_way}
 
 pub record Values : Type 0 where
   -- what is held and what lingers
@@ -29,8 +31,8 @@ pub record Values : Type 0 where
   -- how many accesses were accepted, and those that aren't made yet
   pub so_far : ℕ
   pub in_flight : List AccessInFlight
-  -- whether a device is plugged in with this id, how it is attached, and whether its context is cached
-  pub is_plugged : ℕ → Bool
+  -- what the device with this id is, if one is plugged in, how it is attached, and whether its context is cached
+  pub kind_of : ℕ → Option DeviceKind
   pub attachment_of : ℕ → Attachment
   pub is_cached : ℕ → Bool
   -- the address space of a device that has one
@@ -39,6 +41,8 @@ pub record Values : Type 0 where
   pub translations : Translations
   -- how many accesses were accepted when the fence at the head was first fetched, if it was
   pub stock : Option ℕ
+  -- what is under way between the IOMMU and the devices' caches
+  pub traffic : Traffic
 
 -- what is remembered of a device's page by a cached translation
 abbrev pub copy_of : ℕ → ℕ → Translation → Copy
@@ -64,13 +68,6 @@ GoesInOrder device (Attached mode ats) waiting = ⊤
 GoesInOrder device (Quarantined ticket mode ats) waiting = ⊤
 GoesInOrder device (Leaving ticket mode ats) waiting = ComeBefore device ticket waiting
 
--- devices have no caches of their own, there are no messages, and no fence times out
-pub record HasNoMessages (scene : Scene) : Type 0 where
-  pub goes_on : scene.is_stopped ≡ false
-  pub entries : scene.entries ≡ []
-  pub messages : scene.messages ≡ []
-  pub slots : scene.slots ≡ []
-
 -- the scene is made of these values: of what is cached it may have more
 pub record IsSceneOf (values : Values) (scene : Scene) : Type 0 where
   pub ledger : Agrees values.ledger scene.history
@@ -82,14 +79,16 @@ pub record IsSceneOf (values : Values) (scene : Scene) : Type 0 where
   pub confirmed : scene.confirmed ≡ values.confirmed
   pub accepted : scene.accepted ≡ values.so_far
   pub in_flight : scene.in_flight ≡ values.in_flight
-  pub unplugged : (id : ℕ) → values.is_plugged id ≡ false → scene.kind_of id ≡ None
+  pub kinds : (id : ℕ) → scene.kind_of id ≡ values.kind_of id
   pub attachments : (id : ℕ) → scene.attachment_of id ≡ values.attachment_of id
   pub contexts : (id : ℕ) → values.is_cached id ≡ true → Contains scene.contexts id
   pub translations : (key : Key) (translation : Translation) → values.translations key ≡ Some translation
       → IsSomebodys values.space_of scene.translations key translation
   pub stock : IsStockOf values.stock scene.stock
   pub leaving : (id : ℕ) → GoesInOrder id (values.attachment_of id) scene.waiting
-  pub alone : HasNoMessages scene
+  pub traffic : under_way scene ≡ values.traffic
+  -- no fence times out
+  pub goes_on : scene.is_stopped ≡ false
 
 -- there is such a scene, of which the facts on copies hold
 abbrev pub HasFaithfulScene : Values → Type 0

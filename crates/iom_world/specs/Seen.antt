@@ -8,7 +8,7 @@ use Rattle.iom_world.specs.declared.world.World.{World}
 use Rattle.iom_world.specs.Parts.{Parts}
 
 abbrev pub parts_of : World → Parts
-parts_of world = record { memory = world.memory; iommu = world.iommu; driver = state_of world.driver; devices = world.devices.items }
+parts_of world = record { memory = world.memory; iommu = world.iommu; driver = state_of world.driver; devices = world.devices.items; fabric = world.fabric }
 
 abbrev pub commands_of : World → List QueueEntry
 commands_of world = commands_in world.memory (registers_of world.iommu)

@@ -1,20 +1,25 @@
 -- What stays true between the parts of a world, whatever happens.
 -- For the facts that a world carries alone; no public contract cites these.
-use Rattle.std.specs.Prelude.{◌≡◌, ℕ, ◌^◌, ◌≤◌, ◌<◌, true, List, length, map, Some, slice_get}
+use Rattle.std.specs.Prelude.{◌≡◌, ℕ, ◌^◌, ◌≤◌, ◌<◌, Bool, true, List, length, map, Some, slice_get, is_some, ⊤}
+use Rattle.std.specs.List.{All}
 use Rattle.std.specs.Option.{option_map}
 use Rattle.iom_device_dir.specs.declared.context.Context.{Context}
 use Rattle.iom_driver.specs.declared.device.Device as driver
 use Rattle.iom_driver.specs.declared.driver.Driver.{Driver}
-use Rattle.iom_driver.specs.Devices.{owned_stages_of}
+use Rattle.iom_driver.specs.Devices.{owned_stages_of, is_trusted}
 use Rattle.iom_driver.specs.Directory.{context_for}
 use Rattle.iom_driver.specs.Ready.{IsReady}
 use Rattle.iom_driver.specs.Seen.{state_of}
+use Rattle.iom_fabric.specs.declared.fabric.OnLink.{OnLink}
+use Rattle.iom_fabric.specs.declared.message.Message.{Message}
+use Rattle.iom_fabric.specs.declared.message.Message.TheVariants as sent
 use Rattle.iom_inflight.specs.Flights.{FlightRow}
 use Rattle.iom_world.specs.OwnIommu.{Iommu}
-use Rattle.iom_command_queue.specs.OpenSlots.{no_slots}
+use Rattle.iom_copies.specs.Attachments.{caches_translations}
 use Rattle.iom_iommu.specs.Parts.{registers_of, contexts_of, flights_of, slots_of, frames_of}
 use Rattle.iom_registers.specs.Queues.{is_processing_commands}
 use Rattle.iom_world.specs.declared.device.Device.{Device}
+use Rattle.iom_world.specs.Caches.{device_with, kind_in, epoch_in, HaveTheirCaches}
 use Rattle.iom_world.specs.Parts.{Parts}
 use Rattle.iom_world.specs.Queued.{completed_in}
 use Rattle.iom_world.specs.Read.{values_of}
@@ -30,39 +35,54 @@ known_ids devices = map (λ (device : driver.Device). device.id) devices
 abbrev pub row_ids : List FlightRow → List ℕ
 row_ids rows = map (λ (row : FlightRow). row.device) rows
 
+-- who asks is plugged in
+abbrev pub IsAsked : Bool → Message → Type 0
+IsAsked is_plugged (sent.Ask epoch page) = is_plugged ≡ true
+IsAsked is_plugged (sent.Answer epoch page translation) = ⊤
+IsAsked is_plugged (sent.InvReq serial range) = ⊤
+IsAsked is_plugged (sent.InvDone serial) = ⊤
+
 -- no two devices have the same id
 abbrev pub HaveOwnIds : List Device → Type 0
 HaveOwnIds devices =
     (j k : ℕ) (one other : Device) → slice_get devices j ≡ Some one → slice_get devices k ≡ Some other → one.id ≡ other.id → j ≡ k
 
--- driver and IOMMU have exactly the devices that are there, in their order
+-- a question is one of a device that is plugged in
+abbrev pub HasAsker : List Device → OnLink → Type 0
+HasAsker devices on = IsAsked (is_some (device_with devices on.device)) on.message
+
+-- driver and IOMMU have exactly the devices that are there, in their order; the driver trusts those with a cache of their own; and questions are theirs
 pub record AreKnown (parts : Parts) : Type 0 where
   pub own_ids : HaveOwnIds parts.devices
   pub driver : known_ids parts.driver.devices ≡ ids_of parts.devices
   pub iommu : row_ids (flights_of parts.iommu).rows ≡ ids_of parts.devices
+  pub caches : HaveTheirCaches parts.devices
+  pub trusted : (id : ℕ) → is_trusted parts.driver.devices id ≡ caches_translations (kind_in parts.devices id)
+  pub askers : All (HasAsker parts.devices) parts.fabric
 
 -- a context that is cached is that of an attached device, or of one that is leaving, with its root and its number
 abbrev pub ContextsAreTrue : Parts → Type 0
 ContextsAreTrue parts = (id : ℕ) (context : Context) → contexts_of parts.iommu id ≡ Some context
     → option_map context_for (owned_stages_of parts.driver.devices id) ≡ Some context
 
--- The driver is started and ready; the IOMMU takes commands, and was built for this memory; they know the devices; no invalidation request was
--- ever open, since the driver queues none; no ticket is confirmed whose fence isn't done; no more accesses were accepted than events came; cached
--- contexts are true; and no copy outlives what it copies.
+-- The driver is started and ready; the IOMMU takes commands, and was built for this memory; they know the devices; no ticket is confirmed whose fence
+-- isn't done; no more accesses were accepted, serials given and epochs begun than events came; cached contexts are true; and no copy outlives what it
+-- copies.
 pub record AreSound (parts : Parts) (events : ℕ) : Type 0 where
   pub ready : IsReady parts.driver parts.memory (registers_of parts.iommu)
   pub started : parts.driver.started ≡ true
   pub processing : is_processing_commands (registers_of parts.iommu) ≡ true
   pub size : frames_of parts.iommu ≡ length parts.memory
   pub known : AreKnown parts
-  pub slots : slots_of parts.iommu ≡ no_slots
   pub confirmed : parts.driver.confirmed ≤ completed_in parts.memory
   pub small : parts.driver.given < 2 ^ 32
   pub counted : (flights_of parts.iommu).so_far ≤ events
+  pub serials : (slots_of parts.iommu).last ≤ events
+  pub epochs : (id : ℕ) → epoch_in parts.devices id ≤ events
   pub contexts : ContextsAreTrue parts
   pub copies : ∥ HasFaithfulScene (values_of parts) ∥₁
 
 -- a world of these parts is so
-abbrev pub IsSoundWorld : List (List ℕ) → Iommu → Driver → List Device → ℕ → Type 0
-IsSoundWorld memory iommu driver devices events =
-    AreSound (record { memory = memory; iommu = iommu; driver = state_of driver; devices = devices }) events
+abbrev pub IsSoundWorld : List (List ℕ) → Iommu → Driver → List Device → List OnLink → ℕ → Type 0
+IsSoundWorld memory iommu driver devices fabric events =
+    AreSound (record { memory = memory; iommu = iommu; driver = state_of driver; devices = devices; fabric = fabric }) events

@@ -62,12 +62,12 @@ impl Told {
 }
 
 impl World {
-    /// A device is attached in the mode, without ATS.
-    pub(crate) fn attach(&mut self, id: DeviceId, mode: Mode) -> Told
-        ensures does { AttachesDevice (parts_of self.old) id mode (outcome_of result) (parts_of self.new) }
+    /// A device is attached in the mode, with ATS or without.
+    pub(crate) fn attach(&mut self, id: DeviceId, mode: Mode, ats: bool) -> Told
+        ensures does { AttachesDevice (parts_of self.old) id mode ats (outcome_of result) (parts_of self.new) }
         ensures events { self.new.events ≡ self.old.events }
     {
-        Told::of(self.driver.attach(&mut self.memory, id, mode))
+        Told::of(self.driver.attach(&mut self.memory, id, mode, ats))
     }
 
     /// A device gets a frame at a page.

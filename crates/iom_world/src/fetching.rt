@@ -1,10 +1,12 @@
 // What the IOMMU does with the driver's commands.
-ghost use Rattle.std.specs.Prelude.{◌≡◌};
+ghost use Rattle.std.specs.Prelude.{◌≡◌, ◌+◌, ◌<◌, ◌^◌};
+ghost use Rattle.iom_iommu.specs.Parts.{slots_of};
 ghost use Rattle.iom_world.specs.Does.{name_of_command, fetch_named, FetchesNext};
 ghost use Rattle.iom_world.specs.Seen.{parts_of};
 ghost use Rattle.iom_world.specs.Told.{outcome_of};
 
 use crate::below::laws_below;
+use crate::messages::send_opened;
 use crate::told::Told;
 use crate::world::World;
 use iom_command_queue::Command;
@@ -36,12 +38,17 @@ fn named(answer: iom_iommu::Fetched) -> Fetched
 }
 
 impl World {
-    /// The IOMMU takes its next command.
+    /// The IOMMU takes its next command. Where that is an invalidation of a device's own translations, the
+    /// device is asked for it.
     pub(crate) fn fetch(&mut self) -> Told
+        requires below { (slots_of self.old.iommu).last < self.old.events }
+        requires count { (slots_of self.old.iommu).last + 1 < 2 ^ 64 }
         ensures does { FetchesNext (parts_of self.old) (outcome_of result) (parts_of self.new) }
         ensures events { self.new.events ≡ self.old.events }
     {
         laws_below();
-        Told::Fetched(named(self.iommu.fetch(&mut self.memory)))
+        let answer = self.iommu.fetch(&mut self.memory);
+        send_opened(&mut self.fabric, &answer, self.iommu.opened());
+        Told::Fetched(named(answer))
     }
 }

@@ -15,6 +15,7 @@ mod device;
 mod driving;
 mod fetching;
 mod kept_outcomes;
+mod messages;
 mod plugging;
 mod processor;
 mod requests;

@@ -1,11 +1,12 @@
 // Which devices there are, and how one is plugged in.
 ghost use Rattle.std.specs.Prelude.{◌≡◌, ◌↔◌, IsTrue};
+ghost use Rattle.iom_world.specs.Caches.{kind_in};
 ghost use Rattle.iom_world.specs.Does.{PlugsDevice};
 ghost use Rattle.iom_world.specs.Seen.{parts_of};
 ghost use Rattle.iom_world.specs.Places.{IsPresent};
 ghost use Rattle.iom_world.specs.Told.{outcome_of};
 
-use crate::device::Device;
+use crate::device::{Device, new_cache};
 use crate::told::Told;
 use crate::world::World;
 use iom_base::{DeviceId, MAX_DEVICES};
@@ -18,6 +19,16 @@ impl World {
         ensures { IsTrue result ↔ IsPresent self.now.devices.items id }
     {
         self.devices.iter().any(|device| device.id == id)
+    }
+
+    /// What the device with this id is, if one is plugged in.
+    pub(crate) fn kind_of(&self, id: DeviceId) -> Option<DeviceKind>
+        ensures { result ≡ kind_in self.now.devices.items id }
+    {
+        self.devices
+            .iter()
+            .find(|device| device.id == id)
+            .map(|device| device.kind)
     }
 
     /// A device is plugged in, attached to nothing and with nothing in flight. The driver learns of it once
@@ -35,11 +46,12 @@ impl World {
         if self.devices.reserve(1).is_err() {
             return Told::Refused(Refusal::Memory);
         }
-        if let Err(why) = self.driver.plug(id) {
+        if let Err(why) = self.driver.plug(id, kind.has_cache()) {
             return Told::Refused(why);
         }
         self.iommu.add(id);
-        self.devices.push(Device { id, kind }).unwrap();
+        let cache = new_cache(kind);
+        self.devices.push(Device { id, kind, cache }).unwrap();
         Told::Done
     }
 }

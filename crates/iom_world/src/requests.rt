@@ -15,7 +15,7 @@ use iom_ledger::Refusal;
 
 impl Told {
     /// What an answer of the IOMMU is told as.
-    fn of_reply(reply: Reply) -> Told
+    pub(crate) fn of_reply(reply: Reply) -> Told
         ensures { outcome_of result ≡ reply_told_of reply }
     {
         match reply {
@@ -30,7 +30,7 @@ impl Told {
 impl World {
     /// A device asks for a read of so many bytes at the address. `Accepted`, with the access's number
     /// among the device's, where it is in flight now; else nothing is: `Refused(NoSuchDevice)`,
-    /// `BadSpan`, `Busy`, or `Fault` with its cause, whose record goes into the fault queue.
+    /// `Refused(WrongKind)` for a block device, `BadSpan`, `Busy`, or `Fault` with its cause, whose record goes into the fault queue.
     pub(crate) fn read(&mut self, id: DeviceId, address: u64, len: u64) -> Told
         requires below { (flights_of self.old.iommu).so_far < self.old.events }
         requires count { (flights_of self.old.iommu).so_far + 1 < 2 ^ 64 }
@@ -39,8 +39,11 @@ impl World {
         ensures events { self.new.events ≡ self.old.events }
     {
         laws_below();
-        if !self.is_plugged(id) {
+        let Some(kind) = self.kind_of(id) else {
             return Told::Refused(Refusal::NoSuchDevice);
+        };
+        if !kind.sends_untranslated() {
+            return Told::Refused(Refusal::WrongKind);
         }
         Told::of_reply(
             self.iommu
@@ -57,8 +60,11 @@ impl World {
         ensures events { self.new.events ≡ self.old.events }
     {
         laws_below();
-        if !self.is_plugged(id) {
+        let Some(kind) = self.kind_of(id) else {
             return Told::Refused(Refusal::NoSuchDevice);
+        };
+        if !kind.sends_untranslated() {
+            return Told::Refused(Refusal::WrongKind);
         }
         let len = bytes.len() as u64;
         Told::of_reply(

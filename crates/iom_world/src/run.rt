@@ -11,6 +11,7 @@ ghost use Rattle.iom_world.specs.Shows.{Shows};
 
 use crate::below::laws_below;
 use crate::kept_outcomes::KeptOutcomes;
+use crate::told::Told;
 use crate::world::World;
 use iom_machine::{Event, Outcome, Sink};
 use std::mem;
@@ -29,8 +30,7 @@ impl World {
         self.events += 1;
         match event {
             Event::Plug { device, kind } => kept.tell(self.plug(*device, *kind)),
-            // No ATS can come yet.
-            Event::Attach { device, mode, .. } => kept.tell(self.attach(*device, *mode)),
+            Event::Attach { device, mode, ats } => kept.tell(self.attach(*device, *mode, *ats)),
             Event::Grant {
                 device,
                 page,
@@ -56,6 +56,8 @@ impl World {
             Event::Poke { address, bytes } => kept.tell(self.poke(*address, bytes.as_slice())),
             Event::Peek { address, len } => self.peek(*address, *len, kept),
             Event::Free { frame } => kept.tell(self.free(*frame)),
+            // Requests, questions and messages of address translation services can't come yet.
+            _ => kept.tell(Told::Done),
         }
     }
 

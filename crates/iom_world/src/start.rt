@@ -9,6 +9,7 @@ ghost use Rattle.iom_world.specs.PowerOn.{BeginsAt};
 use crate::world::World;
 use iom_base::MAX_DEVICES;
 use iom_driver::Driver;
+use iom_fabric::Fabric;
 use iom_iommu::Iommu;
 use iom_phys_mem::{MemError, Memory};
 use iom_tlb::Ioatc;
@@ -24,9 +25,9 @@ fn iommu_at_power_on(alloc: Global, frames: u32) -> Result<Iommu<Ioatc>, AllocEr
 impl World {
     /// The world at power-on, with so many frames of memory and levels of the device directory: all bytes
     /// are zero, the last four frames are the system's, no device is plugged in, nothing is granted, the
-    /// driver is started, no command waits, and no event was counted. `BadSize` exactly where the frames
-    /// aren't 64 to 4,096 or the levels aren't 1 to 3 (IOMMU specification, section 2.1,
-    /// "Device-Directory-Table (DDT)"); else `OutOfMemory` where an allocation is refused.
+    /// driver is started, no command waits, no message is under way, and no event was counted. `BadSize`
+    /// exactly where the frames aren't 64 to 4,096 or the levels aren't 1 to 3 (IOMMU specification,
+    /// section 2.1, "Device-Directory-Table (DDT)"); else `OutOfMemory` where an allocation is refused.
     pub fn new(alloc: Global, frames: u32, levels: u8) -> Result<World, MemError>
         ensures begins { IfOk result (BeginsAt frames levels) }
         ensures size { IfOk result (λ world. IsMemorySize frames × IsLevels levels) }
@@ -41,11 +42,13 @@ impl World {
             return Err(MemError::OutOfMemory);
         };
         driver.start(&mut memory, &mut iommu);
+        let fabric = Fabric::new();
         Ok(World {
             memory,
             iommu,
             driver,
             devices,
+            fabric,
             events: 0,
         })
     }

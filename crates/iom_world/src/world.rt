@@ -3,11 +3,12 @@ ghost use Rattle.iom_world.specs.SoundIsFact.{sound_prop};
 
 use crate::device::Device;
 use iom_driver::Driver;
+use iom_fabric::Fabric;
 use iom_iommu::Iommu;
 use iom_phys_mem::Memory;
 use iom_tlb::Ioatc;
 
-/// Memory, the IOMMU, its driver and the devices.
+/// Memory, the IOMMU, its driver, the devices, and the messages between devices and IOMMU.
 #[derive(Drop)]
 pub struct World {
     pub(crate) memory: Memory,
@@ -15,7 +16,9 @@ pub struct World {
     pub(crate) driver: Driver,
     /// In the order of plugging, at most 16.
     pub(crate) devices: Vec<Device>,
+    /// The messages under way.
+    pub(crate) fabric: Fabric,
     /// How many events there were.
     pub(crate) events: u64,
-    ghost sound: { IsSoundWorld memory iommu driver devices.items events } by { sound_prop memory iommu driver devices.items events },
+    ghost sound: { IsSoundWorld memory iommu driver devices.items fabric events } by { sound_prop memory iommu driver devices.items fabric events },
 }

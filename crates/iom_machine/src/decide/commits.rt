@@ -10,9 +10,9 @@ ghost use Rattle.iom_base.specs.Accesses.{offset_of};
 ghost use Rattle.iom_machine.specs.Judging.{StandsAt};
 ghost use Rattle.iom_machine.specs.Machine.{GivesBytes, MakesWrite, Makes, Commits};
 
+use crate::decide::absent::{answers_absent, stays_if};
 use crate::decide::devices::{drop_oldest, place_of, take_oldest};
 use crate::decide::history::may;
-use crate::decide::requests::answers_absent;
 use crate::outcome::Outcome;
 use crate::state::{Device, Frame, State};
 use iom_base::{AcceptedAccess, AccessKind, DeviceId, PAGE_SIZE, Sequence};
@@ -238,13 +238,7 @@ pub(crate) fn judge_commit(
     ensures { IfOk result (λ next. (new : State) → (next ≡ Some new) ↔ Commits state id outcome.now new) }
 {
     match place_of(state.devices.as_slice(), id) {
-        None => {
-            if answers_absent(outcome) {
-                Ok(Some(state))
-            } else {
-                Ok(None)
-            }
-        }
+        None => Ok(stays_if(answers_absent(outcome), state)),
         Some(place) => judge_make(alloc, state, place, outcome),
     }
 }

@@ -50,7 +50,12 @@ pub(crate) fn pair_granted(entry: &HistoryEntry) -> Option<Pair>
 }
 
 /// What the device holds at the page after the entry, where it held this until then.
-fn pair_after(entry: &HistoryEntry, held: Option<Pair>, device: DeviceId, page: u64) -> Option<Pair>
+pub(crate) fn pair_after(
+    entry: &HistoryEntry,
+    held: Option<Pair>,
+    device: DeviceId,
+    page: u64,
+) -> Option<Pair>
     ensures { result ≡ (if is_about entry.now held device page then granted_by entry.now else held) }
 {
     if entry_is_about(entry, &held, device, page) {

@@ -1,10 +1,12 @@
 // Decides the machine: a plain and slow program, whose contract is the definition.
 ghost use Rattle.std.specs.Prelude.{◌≡◌, ◌↔◌, ◌^◌, ◌≤◌, Some, IfOk, IfSome, length};
 ghost use Rattle.iom_machine.specs.declared.state.State.{State};
-ghost use Rattle.iom_base.specs.Accesses.{read_of, write_of};
 ghost use Rattle.iom_machine.specs.Machine.{ChosenStep};
+ghost use Rattle.iom_machine.specs.Judging.{CallStep};
 ghost use Rattle.iom_machine.specs.Verdicts.{IsVerdict, RunsAreChosen};
 
+mod absent;
+mod accesses;
 mod calls;
 mod commits;
 pub(crate) mod cut_off;
@@ -12,54 +14,33 @@ pub(crate) mod devices;
 pub(crate) mod frames;
 pub(crate) mod history;
 mod leaving;
+mod messages;
+mod pairs;
 mod polls;
 mod processor;
+mod questions;
 pub(crate) mod reasons;
 pub(crate) mod requests;
+mod through_cache;
+mod translated;
 
 use crate::choice::Choice;
+use crate::decide::accesses::{decide_through_cache, decide_translated, decide_untranslated};
 use crate::decide::calls::{
     judge_attach, judge_detach, judge_faults, judge_fetch, judge_grant, judge_plug, judge_release,
 };
 use crate::decide::commits::judge_commit;
+use crate::decide::messages::{judge_ask, judge_deliver, judge_drop, judge_forge, judge_repeat};
 use crate::decide::polls::judge_poll;
 use crate::decide::processor::{judge_free, judge_peek, judge_poke};
-use crate::decide::requests::judge_request;
 use crate::event::Event;
 use crate::line::{Line, Verdict};
 use crate::outcome::Outcome;
 use crate::state::State;
-use iom_base::{Access, AccessKind, Sequence};
 use std::alloc::{AllocError, Global};
 
-/// The access that a read asks for.
-fn read_asked(alloc: Global, address: u64, len: u64) -> Access
-    ensures { result ≡ read_of address len }
-{
-    Access {
-        address,
-        len,
-        kind: AccessKind::Read,
-        bytes: Sequence::new(alloc),
-    }
-}
-
-/// The access that a write of these bytes asks for.
-fn write_asked(alloc: Global, address: u64, bytes: &[u8]) -> Result<Access, AllocError>
-    ensures { IfOk result (λ access. access ≡ write_of address bytes.now) }
-{
-    let mut items = Vec::new(alloc);
-    items.extend_from_slice(bytes)?;
-    Ok(Access {
-        address,
-        len: bytes.len() as u64,
-        kind: AccessKind::Write,
-        bytes: Sequence::from_vec(items),
-    })
-}
-
-/// The state after the event, where it may come so.
-fn decide(
+/// The state after a call of the driver, where it may come so.
+fn decide_call(
     alloc: Global,
     state: State,
     event: &Event,
@@ -67,7 +48,7 @@ fn decide(
     choice: &Choice,
 ) -> Result<Option<State>, AllocError>
     requires { length state.frames ≤ 2 ^ 32 }
-    ensures { IfOk result (λ next. (new : State) → (next ≡ Some new) ↔ ChosenStep choice.now state event.now outcome.now new) }
+    ensures { IfOk result (λ next. (new : State) → (next ≡ Some new) ↔ CallStep choice.now state event.now outcome.now new) }
 {
     let taken = choice.taken.as_slice();
     match event {
@@ -84,25 +65,44 @@ fn decide(
             rights,
         } => judge_grant(state, *device, *page, *frame, *rights, outcome, taken),
         Event::Release { device, page } => judge_release(state, *device, *page, outcome),
+        _ => Ok(None),
+    }
+}
+
+/// The state after the event, where it may come so.
+fn decide(
+    alloc: Global,
+    state: State,
+    event: &Event,
+    outcome: &Outcome,
+    choice: &Choice,
+) -> Result<Option<State>, AllocError>
+    requires { length state.frames ≤ 2 ^ 32 }
+    ensures { IfOk result (λ next. (new : State) → (next ≡ Some new) ↔ ChosenStep choice.now state event.now outcome.now new) }
+{
+    match event {
+        Event::Plug { .. }
+        | Event::Attach { .. }
+        | Event::Detach { .. }
+        | Event::Grant { .. }
+        | Event::Release { .. } => decide_call(alloc, state, event, outcome, choice),
         Event::Fetch => Ok(judge_fetch(state, outcome)),
         Event::Poll => judge_poll(alloc, state, outcome),
         Event::Faults => Ok(judge_faults(state, outcome)),
-        Event::Read {
-            device,
-            address,
-            len,
-        } => {
-            let access = read_asked(alloc, *address, *len);
-            judge_request(state, *device, access, outcome, choice.frame)
+        Event::Read { .. } | Event::Write { .. } => {
+            decide_untranslated(alloc, state, event, outcome, choice.frame)
         }
-        Event::Write {
-            device,
-            address,
-            bytes,
-        } => {
-            let access = write_asked(alloc, *address, bytes.as_slice())?;
-            judge_request(state, *device, access, outcome, choice.frame)
+        Event::ReadTranslated { .. } | Event::WriteTranslated { .. } => {
+            decide_translated(alloc, state, event, outcome)
         }
+        Event::ReadThroughCache { .. } | Event::WriteThroughCache { .. } => {
+            decide_through_cache(alloc, state, event, outcome, choice.frame)
+        }
+        Event::Ask { device, .. } => Ok(judge_ask(state, *device, outcome)),
+        Event::Forge { device, .. } => Ok(judge_forge(state, *device, outcome)),
+        Event::Deliver { .. } => Ok(judge_deliver(state, outcome, choice)),
+        Event::Drop { .. } => Ok(judge_drop(state, outcome)),
+        Event::Repeat { .. } => Ok(judge_repeat(state, outcome)),
         Event::Commit { device } => judge_commit(alloc, state, *device, outcome),
         Event::Poke { address, bytes } => {
             judge_poke(alloc, state, *address, bytes.as_slice(), outcome)

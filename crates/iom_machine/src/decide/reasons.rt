@@ -5,14 +5,14 @@ ghost use Rattle.iom_machine.specs.declared.state.Attachment.TheVariants.{Detach
 ghost use Rattle.iom_machine.specs.Tickets.{pending_tickets};
 ghost use Rattle.iom_ledger.specs.Refusals.{first_that_applies};
 ghost use Rattle.iom_machine.specs.Refusals.{plug_reasons, attach_reasons, detach_reasons, grant_reasons, release_reasons, frame_reasons, poke_reasons};
-ghost use Rattle.iom_machine.specs.Refusals.{is_plugged, attachment_of, is_detached, is_leaving, is_quarantined, has_cache};
+ghost use Rattle.iom_machine.specs.Refusals.{is_plugged, attachment_of, is_detached, is_leaving, is_quarantined};
 ghost use Rattle.iom_machine.specs.Refusals.{is_trusted, id_limit, is_too_wide, is_held, is_lingering, has_grants};
 ghost use Rattle.iom_machine.specs.Judging.{attachment_in};
 
 use crate::decide::devices::device_with;
 use crate::decide::frames::has_owner;
 use crate::decide::history::{grants_left, last_ticket_confirmed, lingers_at, pair_held};
-use crate::state::{Attachment, Device, DeviceKind, State};
+use crate::state::{Attachment, Device, State};
 use iom_base::{DeviceId, MAX_DEVICES, PAGE_LIMIT};
 use iom_ledger::{MAX_PENDING, Refusal};
 
@@ -57,24 +57,13 @@ fn quarantined(attachment: Attachment) -> bool
     matches!(attachment, Attachment::Quarantined { .. })
 }
 
-fn caches(kind: DeviceKind) -> bool
-    ensures { result ≡ has_cache kind }
-{
-    match kind {
-        DeviceKind::Raw => false,
-        DeviceKind::Ats => true,
-        DeviceKind::Block => false,
-        DeviceKind::CachedBlock => true,
-    }
-}
-
 /// Whether the device has a cache of translations.
 fn trusted(state: &State, id: DeviceId) -> bool
     ensures { result ≡ is_trusted state.now id }
 {
     match device_with(state.devices.as_slice(), id) {
         None => false,
-        Some(device) => caches(device.kind),
+        Some(device) => device.kind.has_cache(),
     }
 }
 

@@ -1,7 +1,5 @@
 // What a device's request may be answered.
 ghost use Rattle.std.specs.Prelude.{◌≡◌, ◌↔◌, ◌+◌, ◌<◌, IfOk, IsTrue, Some, slice_get, length};
-ghost use Rattle.iom_ledger.specs.declared.refusal.Refusal.TheVariants.{NoSuchDevice};
-ghost use Rattle.iom_machine.specs.declared.outcome.Outcome.TheVariants.{Refused};
 ghost use Rattle.iom_machine.specs.declared.state.Device.{Device};
 ghost use Rattle.iom_machine.specs.declared.state.State.{State};
 ghost use Rattle.iom_base.specs.Accesses.{IsWithinPage};
@@ -10,6 +8,7 @@ ghost use Rattle.iom_machine.specs.Requests.{MayFault, MayAcceptInOneStage, MayA
 ghost use Rattle.iom_machine.specs.Machine.{Requests};
 ghost use Rattle.iom_machine.specs.Judging.{StandsAt};
 
+use crate::decide::absent::{answers_absent, answers_unable, stays_if};
 use crate::decide::cut_off::{
     accepts_cut_off, cause_without_context, faults_cut_off, is_page_fault_of,
 };
@@ -18,10 +17,10 @@ use crate::decide::history::{is_held_for, lingers_in, may, pair_held};
 use crate::outcome::Outcome;
 use crate::state::{Attachment, Device, State};
 use iom_base::{Access, Cause, DeviceId, MAX_IN_FLIGHT, Mode, PAGE_SIZE, Span};
-use iom_ledger::{HistoryEntry, Refusal};
+use iom_ledger::HistoryEntry;
 use std::alloc::AllocError;
 
-fn is_within_page(access: &Access) -> bool
+pub(crate) fn is_within_page(access: &Access) -> bool
     ensures { IsTrue result ↔ IsWithinPage access.now }
 {
     Span::new(access.address, access.len).is_some()
@@ -34,7 +33,7 @@ fn is_busy(device: &Device) -> bool
 }
 
 /// Whether the request comes before the IOMMU.
-fn is_forwarded(device: &Device, access: &Access) -> bool
+pub(crate) fn is_forwarded(device: &Device, access: &Access) -> bool
     ensures { IsTrue result ↔ IsForwarded device.now.in_flight access.now.address access.now.len }
 {
     if !is_within_page(access) {
@@ -44,7 +43,7 @@ fn is_forwarded(device: &Device, access: &Access) -> bool
 }
 
 /// Whether the device holds the frame where the access is to, with a right that allows it.
-fn holds(history: &[HistoryEntry], id: DeviceId, access: &Access, frame: u32) -> bool
+pub(crate) fn holds(history: &[HistoryEntry], id: DeviceId, access: &Access, frame: u32) -> bool
     ensures { IsTrue result ↔ HoldsFor history.now id access.now frame }
 {
     is_held_for(
@@ -176,13 +175,20 @@ fn may_fault(
     }
 }
 
-fn answers_busy(device: &Device, access: &Access) -> bool
+pub(crate) fn answers_busy(device: &Device, access: &Access) -> bool
     ensures { IsTrue result ↔ (IsWithinPage access.now × IsBusy device.now.in_flight) }
 {
     if !is_within_page(access) {
         return false;
     }
     is_busy(device)
+}
+
+/// Whether the number is that of the device's next accepted access.
+pub(crate) fn is_next(device: &Device, number: u64) -> bool
+    ensures { IsTrue result ↔ (number ≡ device.now.accepted + 1) }
+{
+    u128::from(number) == u128::from(device.accepted) + 1
 }
 
 fn accepts(state: &State, device: &Device, access: &Access, frame: u32, number: u64) -> bool
@@ -192,7 +198,7 @@ fn accepts(state: &State, device: &Device, access: &Access, frame: u32, number: 
     if !is_forwarded(device, access) {
         return false;
     }
-    if u128::from(number) != u128::from(device.accepted) + 1 {
+    if !is_next(device, number) {
         return false;
     }
     may_accept(device.attachment, state, device.id, access, frame)
@@ -246,16 +252,6 @@ fn after_answer(
     Ok(next)
 }
 
-/// Whether a device that isn't plugged in is answered so.
-pub(crate) fn answers_absent(outcome: &Outcome) -> bool
-    ensures { IsTrue result ↔ (outcome.now ≡ Refused NoSuchDevice) }
-{
-    match outcome {
-        Outcome::Refused(why) => *why == Refusal::NoSuchDevice,
-        _ => false,
-    }
-}
-
 /// The state after a request, where it may be answered so, on this frame.
 pub(crate) fn judge_request(
     state: State,
@@ -266,21 +262,16 @@ pub(crate) fn judge_request(
 ) -> Result<Option<State>, AllocError>
     ensures { IfOk result (λ next. (new : State) → (next ≡ Some new) ↔ Requests frame state id access outcome.now new) }
 {
-    match place_of(state.devices.as_slice(), id) {
-        None => {
-            if answers_absent(outcome) {
-                Ok(Some(state))
-            } else {
-                Ok(None)
-            }
-        }
-        Some(place) => {
-            let device = &state.devices.as_slice()[place];
-            if !may_answer(&state, device, &access, frame, outcome) {
-                return Ok(None);
-            }
-            let next = after_answer(state, place, access, frame, outcome)?;
-            Ok(Some(next))
-        }
+    let Some(place) = place_of(state.devices.as_slice(), id) else {
+        return Ok(stays_if(answers_absent(outcome), state));
+    };
+    let device = &state.devices.as_slice()[place];
+    if !device.kind.sends_untranslated() {
+        return Ok(stays_if(answers_unable(outcome), state));
     }
+    if !may_answer(&state, device, &access, frame, outcome) {
+        return Ok(None);
+    }
+    let next = after_answer(state, place, access, frame, outcome)?;
+    Ok(Some(next))
 }

@@ -79,10 +79,10 @@ loop-place-preserved c =
       | then-has_left w ↦
           let left : has_left done device.attachment ≡ true = sym c.has_left.ensures ∙ w.if-has_left.true in
           let read : w.index_mut.result.now ≡ found.0 = read_is now place found.0 w.index_mut.result.now there w.index_mut.ensures.value in
-          let is : c.if-has_left.devices.items ≡ set now place (record { id = w.index_mut.result.now.id; attachment = Detached }) = ap (λ v. v.items) w.devices-is in
-          let gone : ◌≡◌ {A = Device} (record { id = w.index_mut.result.now.id; attachment = Detached }) (once_confirmed done device) =
+          let is : c.if-has_left.devices.items ≡ set now place (record { id = w.index_mut.result.now.id; trusted = w.index_mut.result.now.trusted; attachment = Detached }) = ap (λ v. v.items) w.devices-is in
+          let gone : ◌≡◌ {A = Device} (record { id = w.index_mut.result.now.id; trusted = w.index_mut.result.now.trusted; attachment = Detached }) (once_confirmed done device) =
           ap (λ (d : Device). record d { attachment = Detached }) (read ∙ sym same) ∙ rw left refl in
-          let all = one_left done old now c.if-has_left.devices.items place device (record { id = w.index_mut.result.now.id; attachment = Detached }) before at inside is gone in
+          let all = one_left done old now c.if-has_left.devices.items place device (record { id = w.index_mut.result.now.id; trusted = w.index_mut.result.now.trusted; attachment = Detached }) before at inside is gone in
           rw (w.marks-is, w.memory-is, more) record {
             many = all.many;
             so_far = all.so_far;

@@ -1,4 +1,4 @@
-use Rattle.std.proofs.Common.{◌≡◌, ◌+◌, ◌<◌, ◌≤◌, ◌≢◌, ◌∙◌, inl, ℕ, Bool, true, false, nat_lt, Option, Some, None, IsSome, IsTrue, refl, sym, arith}
+use Rattle.std.proofs.Common.{◌≡◌, ◌+◌, ◌<◌, ◌≤◌, ◌≢◌, ◌∙◌, inl, ℕ, Bool, true, false, nat_le, Option, Some, None, IsSome, IsTrue, refl, sym, arith}
 use Rattle.std.proofs.lemmas.Bool.{false≢true}
 use Rattle.std.proofs.lemmas.Bool.Decides.{nat_tests}
 use Rattle.std.proofs.lemmas.Result.{err_from_is_err_and}
@@ -18,8 +18,8 @@ not_true : (b : Bool) → b ≡ false → IsTrue b → ⊥
 not_true false same true_so = false≢true true_so
 not_true true same true_so = false≢true (sym same)
 
-fits : (size n : ℕ) → size ≡ 256 → nat_lt size n ≡ false → n ≤ 256
-fits size n same test = let room : n ≤ size = grind (arith, nat_tests) in omega (arith, room, same)
+fits : (size n : ℕ) → size ≡ 256 → nat_le size n ≡ false → n < 256
+fits size n same test = let room : n < size = grind (arith, nat_tests) in omega (arith, room, same)
 
 below_last : (n : ℕ) → n ≤ 4294967295 → n ≢ 4294967295 → n < 4294967295
 below_last n le ne = omega (arith, le, ne)
@@ -39,6 +39,6 @@ returns-clause-may g c =
       attached = c.in_ok-stage.ensures.attached;
       none_held = λ page. none_there (held_in driver.ledger c.args.id page) (λ some. none (page, inl some));
       few = c.if-self.false;
-      room = fits (command_entries r) (how_many r + 4) (c.requires c.in_ok-stage.ensures.started) (sym c.lacks_three_places.ensures ∙ c.if-lacks_three_places.false);
+      room = fits (command_entries r) (how_many r + 3) (c.requires c.in_ok-stage.ensures.started) (sym c.lacks_places.ensures ∙ c.if-lacks_places.false);
       number = omega (arith, c.if-self-2.false);
     }

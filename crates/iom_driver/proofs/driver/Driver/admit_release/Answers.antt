@@ -1,9 +1,11 @@
 use Rattle.std.proofs.lemmas.Result.{err_from_is_err_and}
-use Rattle.iom_driver.specs.Reasons.{releasing_reasons}
+use Rattle.iom_driver.specs.Reasons.{releasing_reasons, release_places}
+use Rattle.iom_driver.specs.Devices.{stages_of}
 use Rattle.iom_driver.specs.Seen.{state_of}
 use Rattle.iom_driver.proofs.driver.Driver.admit_release.Goals as goal
 
 pub returns-in_err-stage-clause-refused : goal.returns-in_err-stage-clause-refused
 returns-in_err-stage-clause-refused g c =
     let p = err_from_is_err_and c.from_residual.result c.from_residual.ensures.1 in
-    rw (p.1, p.2) (c.in_err-stage.ensures.refused (releasing_reasons (state_of c.args.self.now) (g.M.Mmio.registers c.args.io.now) c.args.id c.args.page))
+    rw (p.1, p.2) (c.in_err-stage.ensures.refused (releasing_reasons (state_of c.args.self.now) (g.M.Mmio.registers c.args.io.now)
+    (release_places (stages_of c.args.self.now.devices.items c.args.id)) c.args.id c.args.page))

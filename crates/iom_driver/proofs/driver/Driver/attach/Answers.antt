@@ -26,7 +26,7 @@ use Rattle.iom_driver.proofs.Keeps.{sound_attached}
 use Rattle.iom_driver.proofs.Lists.{read_is, get_within}
 use Rattle.iom_driver.proofs.Marks.{all_among, length-cleared, length-marked_for, cleared_append}
 use Rattle.iom_driver.proofs.Modes.{root_among}
-use Rattle.iom_driver.proofs.Places.{attachment_is, not_attached, attachment_set, attachment_other}
+use Rattle.iom_driver.proofs.Places.{attachment_is, trusted, not_attached, attachment_set, attachment_other}
 use Rattle.iom_driver.proofs.Stays.{ready_from}
 use Rattle.iom_driver.proofs.Taken.{taken_marks, length-taken}
 use Rattle.iom_driver.proofs.driver.Driver.attach.Goals as goal
@@ -65,8 +65,10 @@ returns-in_default-choose_with_root-clause-effect c =
     let nothing : owned_stages_of d.devices id ≡ None =
     ap owned_stages (attachment_is d.devices id place.0 place.2) ∙ ap (λ (d : Device). owned_stages d.attachment) (sym first)
     ∙ sym c.owned_stages.ensures ∙ missing c.owned_stages.result (sym c.is_some.ensures ∙ c.if-is_some.false) in
-    let narrow : id < id_limit driver.levels = rw c.id_limit.ensures at c.if-id-id_limit.false in (
-      rw (may_attach d id c.if-not-self.false plugged nothing narrow)
+    let narrow : id < id_limit driver.levels = rw c.id_limit.ensures at c.if-id-id_limit.false in
+    let second : c.index-2.result.now ≡ place.0 = read_is d.devices k place.0 c.index-2.result.now place.1 c.index-2.ensures in
+    let may_have = trusted d.devices id c.args.ats place.0 c.index-2.result.now place.2 second ∙ sym c.lacks_trust.ensures ∙ c.if-lacks_trust.false in (
+      rw (may_attach d id c.args.ats c.if-not-self.false plugged nothing narrow may_have)
           (lacks d memory id c.args.mode driver.frames c.missing-lacking.result many (c.missing-lacking.ensures ∙ ap (λ r. missing_pages memory (root_level driver.levels) r id) at_root)
           c.in_default-choose_with_root.ensures.none),
       refl,
@@ -266,10 +268,10 @@ invariant_of-self c =
     let narrow : id < id_limit driver.levels = rw c.id_limit.ensures at c.if-id-id_limit.false in
     let marks_is : c.reserve_root.new.marks ≡ taken_marks id pages roots driver.marks =
     c.reserve_root.ensures.marks ∙ ap (λ (ms : List (Option Owner)). marked_for (OneDevice id) roots ms) (c.reserve_all.ensures.marks ∙ ap (λ fs. marked_for System fs driver.marks) c.as_slice-pages.ensures.value) in
-    let stage : Stages = record { mode = mode; root = root; number = c.lowest_number-number.result } in
+    let stage : Stages = record { mode = mode; root = root; number = c.lowest_number-number.result; ats = c.args.ats } in
     let device = c.index_mut.result.now in
     let same : device ≡ place.0 = read_is d.devices k place.0 device place.1 c.index_mut.ensures.value in
-    let set : slice_set d.devices k (record { id = device.id; attachment = Attached stage }) ≡ with_attachment d.devices id (Attached stage) =
+    let set : slice_set d.devices k (record { id = device.id; trusted = device.trusted; attachment = Attached stage }) ≡ with_attachment d.devices id (Attached stage) =
     ap (λ (d : Device). slice_set driver.devices.items k (record d { attachment = Attached stage })) same ∙ place.3 (Attached stage) in
     let lowest : IsLowestNumber d.devices stage.number = subst (λ (ds : List Device). IsLowestNumber ds stage.number) c.deref-2.ensures.value c.lowest_number-number.ensures.lowest in
     record {
@@ -303,10 +305,10 @@ returns-clause-effect c =
     reserved_memory memory c.reserve_all.new.memory c.reserve_root.new.memory c.as_slice-pages.result.now pages roots c.as_slice-pages.ensures.value c.reserve_all.ensures.memory c.reserve_root.ensures.memory in
     let marks_is : c.reserve_root.new.marks ≡ taken_marks id pages roots driver.marks =
     c.reserve_root.ensures.marks ∙ ap (λ (ms : List (Option Owner)). marked_for (OneDevice id) roots ms) (c.reserve_all.ensures.marks ∙ ap (λ fs. marked_for System fs driver.marks) c.as_slice-pages.ensures.value) in
-    let stage : Stages = record { mode = mode; root = root; number = c.lowest_number-number.result } in
+    let stage : Stages = record { mode = mode; root = root; number = c.lowest_number-number.result; ats = c.args.ats } in
     let device = c.index_mut.result.now in
     let same : device ≡ place.0 = read_is d.devices k place.0 device place.1 c.index_mut.ensures.value in
-    let set : slice_set d.devices k (record { id = device.id; attachment = Attached stage }) ≡ with_attachment d.devices id (Attached stage) =
+    let set : slice_set d.devices k (record { id = device.id; trusted = device.trusted; attachment = Attached stage }) ≡ with_attachment d.devices id (Attached stage) =
     ap (λ (d : Device). slice_set driver.devices.items k (record d { attachment = Attached stage })) same ∙ place.3 (Attached stage) in
     let lowest : IsLowestNumber d.devices stage.number = subst (λ (ds : List Device). IsLowestNumber ds stage.number) c.deref-2.ensures.value c.lowest_number-number.ensures.lowest in
     let put : IsPut (cleared (pages ++ roots) memory) c.put_context.new.memory driver.levels (directory_frame driver.frames) id stage pages =
@@ -319,11 +321,14 @@ returns-clause-effect c =
       others = c.put_context.ensures.others;
       outside = c.put_context.ensures.outside;
     })) in
-    let at_root : c.directory_frame-directory.result ≡ directory_frame (length memory) = c.directory_frame-directory.ensures ∙ ap directory_frame (sym may.size) in (
-      may_attach d id c.if-not-self.false plugged nothing narrow,
+    let at_root : c.directory_frame-directory.result ≡ directory_frame (length memory) = c.directory_frame-directory.ensures ∙ ap directory_frame (sym may.size) in
+    let second : c.index-2.result.now ≡ place.0 = read_is d.devices k place.0 c.index-2.result.now place.1 c.index-2.ensures in
+    let may_have = trusted d.devices id c.args.ats place.0 c.index-2.result.now place.2 second ∙ sym c.lacks_trust.ensures ∙ c.if-lacks_trust.false in (
+      may_attach d id c.args.ats c.if-not-self.false plugged nothing narrow may_have,
       record {
         stage = stage;
         in_mode = refl;
+        with_ats = refl;
         pages = pages;
         chosen =
             subst (λ n. AreHighestFree d.marks d.ledger None n (lacking_pages d memory id) pages) (sym may.size)
@@ -365,10 +370,10 @@ returns-clause-stand c =
     reserved_memory memory c.reserve_all.new.memory c.reserve_root.new.memory c.as_slice-pages.result.now pages roots c.as_slice-pages.ensures.value c.reserve_all.ensures.memory c.reserve_root.ensures.memory in
     let marks_is : c.reserve_root.new.marks ≡ taken_marks id pages roots driver.marks =
     c.reserve_root.ensures.marks ∙ ap (λ (ms : List (Option Owner)). marked_for (OneDevice id) roots ms) (c.reserve_all.ensures.marks ∙ ap (λ fs. marked_for System fs driver.marks) c.as_slice-pages.ensures.value) in
-    let stage : Stages = record { mode = mode; root = root; number = c.lowest_number-number.result } in
+    let stage : Stages = record { mode = mode; root = root; number = c.lowest_number-number.result; ats = c.args.ats } in
     let device = c.index_mut.result.now in
     let same : device ≡ place.0 = read_is d.devices k place.0 device place.1 c.index_mut.ensures.value in
-    let set : slice_set d.devices k (record { id = device.id; attachment = Attached stage }) ≡ with_attachment d.devices id (Attached stage) =
+    let set : slice_set d.devices k (record { id = device.id; trusted = device.trusted; attachment = Attached stage }) ≡ with_attachment d.devices id (Attached stage) =
     ap (λ (d : Device). slice_set driver.devices.items k (record d { attachment = Attached stage })) same ∙ place.3 (Attached stage) in
     let lowest : IsLowestNumber d.devices stage.number = subst (λ (ds : List Device). IsLowestNumber ds stage.number) c.deref-2.ensures.value c.lowest_number-number.ensures.lowest in
     let put : IsPut (cleared (pages ++ roots) memory) c.put_context.new.memory driver.levels (directory_frame driver.frames) id stage pages =
@@ -419,10 +424,10 @@ returns-clause-ready c = λ r ready.
     ∙ sym c.owned_stages.ensures ∙ missing c.owned_stages.result (sym c.is_some.ensures ∙ c.if-is_some.false) in
     let cleared_is : c.reserve_root.new.memory ≡ cleared (pages ++ roots) memory =
     reserved_memory memory c.reserve_all.new.memory c.reserve_root.new.memory c.as_slice-pages.result.now pages roots c.as_slice-pages.ensures.value c.reserve_all.ensures.memory c.reserve_root.ensures.memory in
-    let stage : Stages = record { mode = mode; root = root; number = c.lowest_number-number.result } in
+    let stage : Stages = record { mode = mode; root = root; number = c.lowest_number-number.result; ats = c.args.ats } in
     let device = c.index_mut.result.now in
     let same : device ≡ place.0 = read_is d.devices k place.0 device place.1 c.index_mut.ensures.value in
-    let set : slice_set d.devices k (record { id = device.id; attachment = Attached stage }) ≡ with_attachment d.devices id (Attached stage) =
+    let set : slice_set d.devices k (record { id = device.id; trusted = device.trusted; attachment = Attached stage }) ≡ with_attachment d.devices id (Attached stage) =
     ap (λ (d : Device). slice_set driver.devices.items k (record d { attachment = Attached stage })) same ∙ place.3 (Attached stage) in
     let lowest : IsLowestNumber d.devices stage.number = subst (λ (ds : List Device). IsLowestNumber ds stage.number) c.deref-2.ensures.value c.lowest_number-number.ensures.lowest in
     let put : IsPut (cleared (pages ++ roots) memory) c.put_context.new.memory driver.levels (directory_frame driver.frames) id stage pages =

@@ -1,5 +1,4 @@
-use Rattle.std.proofs.Common.{◌≡◌, ◌≢◌, ◌<◌, ◌≤◌, ◌+◌, ◌-◌, ◌++◌, ◌∙◌, ◌^◌, ◌==◌, if◌then◌else◌, ℕ, Bool, true, false, List, [], ◌∷◌, Option, None, Some, Err, length, slice_get, refl, sym, ap, subst, arith}
-use Rattle.iom_command_queue.specs.declared.command.Command.{Command}
+use Rattle.std.proofs.Common.{◌≡◌, ◌≢◌, ◌<◌, ◌≤◌, ◌+◌, ◌-◌, ◌++◌, ◌∙◌, ℕ, List, map, Option, None, Some, Err, length, slice_get, refl, sym, ap, subst, arith}
 use Rattle.iom_command_queue.specs.declared.entry.QueueEntry.{QueueEntry}
 use Rattle.iom_command_queue.specs.declared.entry.QueueEntry.TheVariants as stands
 use Rattle.iom_base.specs.declared.cause.Cause.TheVariants.{DirectoryEntryNotValid}
@@ -11,18 +10,18 @@ use Rattle.iom_directory.specs.Pages.{IsDirectory, HasPage, root_level}
 use Rattle.iom_base.specs.declared.owner.Owner.TheVariants.{System, OneDevice}
 use Rattle.iom_driver.specs.declared.device.Attachment.TheVariants.{Leaving}
 use Rattle.iom_driver.specs.declared.device.Device.{Device}
-use Rattle.iom_driver.specs.Appends.{fence}
+use Rattle.iom_driver.specs.Appends.{detach_commands}
 use Rattle.iom_driver.specs.Devices.{attachment_of, attached_stages, stages_of, owned_stages_of, with_attachment}
 use Rattle.iom_driver.specs.Directory.{NamesDirectory}
-use Rattle.iom_driver.specs.Layout.{id_limit, command_frame, fault_frame, completion_address, directory_frame}
+use Rattle.iom_driver.specs.Layout.{command_frame, fault_frame, completion_address, directory_frame}
 use Rattle.iom_driver.specs.Ready.{IsRing}
 use Rattle.iom_driver.specs.Sound.{IsSound}
 use Rattle.iom_driver.specs.Tables.{HaveTables}
-use Rattle.iom_driver.proofs.Directories.{DirectoryIn, room_for_ids, in_stands, stands_in, directory_cleared, directory_stay}
+use Rattle.iom_driver.proofs.Directories.{DirectoryIn, low_id, room_for_ids, in_stands, stands_in, directory_cleared, directory_stay}
 use Rattle.iom_driver.proofs.FaultRings.{fault_ring_stays}
 use Rattle.iom_driver.proofs.Keeps.{sound_detached, owned_leaving}
 use Rattle.iom_driver.proofs.Places.{attached_owns, attached_there, attachment_set, attachment_other}
-use Rattle.iom_driver.proofs.Ring.{same_commands, three_last, stays_named}
+use Rattle.iom_driver.proofs.Ring.{same_commands, all_last, stays_named}
 use Rattle.iom_driver.proofs.Stays.{all_stay, of_one}
 use Rattle.iom_driver.proofs.driver.Driver.detach.Goals as goal
 
@@ -69,21 +68,13 @@ clear_context-requires-clause-directory g c =
     rw c.directory_frame-directory.ensures
     (in_stands driver.frames c.args.memory.now driver.marks driver.devices.items driver.levels (stand.size ∙ driver.sound.sizes.marked) (stand.directory c.in-Ok.ensures.may.started)).tree
 
-low_id : (levels id : ℕ) → id < id_limit levels → id < 16777216
-low_id levels id = by (levels == 1) (levels == 2)
-  where
-    by : (one two : Bool) → id < (if one then 2 ^ 7 else if two then 2 ^ 16 else 2 ^ 24) → id < 16777216
-    by true two lt = omega (arith, lt)
-    by false true lt = omega (arith, lt)
-    by false false lt = omega (arith, lt)
-
-pub context_invalidation-requires : goal.context_invalidation-requires
-context_invalidation-requires g c =
+pub append_detach-requires-clause-id : goal.append_detach-requires-clause-id
+append_detach-requires-clause-id g c =
     let driver = c.args.self.now in
     low_id driver.levels c.args.id (driver.sound.named c.args.id c.in-Ok.stage (attached_owns (attachment_of driver.devices.items c.args.id) c.in-Ok.stage c.in-Ok.ensures.may.attached))
 
-pub space_invalidation-requires : goal.space_invalidation-requires
-space_invalidation-requires g c =
+pub append_detach-requires-clause-number : goal.append_detach-requires-clause-number
+append_detach-requires-clause-number g c =
     let driver = c.args.self.now in
     let small = driver.sound.numbers.small c.args.id c.in-Ok.stage (attached_owns (attachment_of driver.devices.items c.args.id) c.in-Ok.stage c.in-Ok.ensures.may.attached) in
     let le : c.in-Ok.stage.number ≤ 17 = small.1 in
@@ -103,7 +94,7 @@ returns-clause-effect g c =
     let outside : (f : ℕ) → (HasPage memory (root_level driver.levels) (directory_frame driver.frames) f → ⊥) → slice_get c.clear_context.new.memory f ≡ slice_get memory f =
     λ f apart. c.clear_context.ensures.outside f
     (λ at. apart (at_root f (subst (λ r. HasPage c.clear_context.new.memory (root_level driver.levels) r f) c.directory_frame-directory.ensures at))) in
-    let last : Command = fence (completion_address driver.frames) (driver.given + 1) in
+    let commands = detach_commands c.args.id c.in-Ok.stage (completion_address driver.frames) (driver.given + 1) in
     record {
       told = c.in-Ok.ensures.admitted;
       effect = record {
@@ -111,13 +102,13 @@ returns-clause-effect g c =
         attached = may.attached;
         next = refl;
         driver = rw c.set_attachment.ensures refl;
-        queued = rw (many, sym c.directory_frame-directory.ensures, sym c.clear_context.ensures.whole, sym c.context_invalidation.ensures, sym c.space_invalidation.ensures) c.append_detach.ensures.appended;
+        queued = rw (many, sym c.directory_frame-directory.ensures, sym c.clear_context.ensures.whole) c.append_detach.ensures.appended;
         list =
             let r = g.M.Mmio.registers io in
             let kept = outside (command_frame (length memory)) (λ at. (here.own (command_frame (length memory)) at).no_command (ap command_frame many)) in
-            rw (many, sym c.context_invalidation.ensures, sym c.space_invalidation.ensures)
-            (three_last g.M.Mmio c.clear_context.new.memory c.append_detach.new.memory io c.append_detach.new.io c.context_invalidation.result c.space_invalidation.result last c.append_detach.ensures.appended
-            ∙ ap (λ (xs : List QueueEntry). xs ++ stands.Command c.context_invalidation.result ∷ stands.Command c.space_invalidation.result ∷ stands.Command last ∷ [])
+            rw many
+            (all_last g.M.Mmio c.clear_context.new.memory c.append_detach.new.memory io c.append_detach.new.io commands c.append_detach.ensures.appended
+            ∙ ap (λ (xs : List QueueEntry). xs ++ map stands.Command commands)
             (same_commands memory c.clear_context.new.memory r (c.requires.ready.ring may.started) kept));
         others = λ f apart differs.
             c.append_detach.ensures.other_frames f (λ same. differs (same ∙ ap command_frame (sym many)))

@@ -22,11 +22,11 @@ invariant_of-self c =
     let driver = c.args.self.now in
     record {
       sound = by_test (λ (devices : List Device). IsSound driver.ledger driver.marks devices driver.frames driver.levels driver.started driver.given driver.confirmed) _ _ _ _ c.push.ensures.items
-          (sound_plugged driver.ledger driver.marks driver.devices.items driver.frames driver.levels driver.started driver.given driver.confirmed c.args.id driver.sound (sym c.device_of.ensures ∙ absent_device c.device_of.result (sym c.is_some.ensures ∙ c.if-is_some.false)) (omega arith))
+          (sound_plugged driver.ledger driver.marks driver.devices.items driver.frames driver.levels driver.started driver.given driver.confirmed c.args.id c.args.trusted driver.sound (sym c.device_of.ensures ∙ absent_device c.device_of.result (sym c.is_some.ensures ∙ c.if-is_some.false)) (omega arith))
           driver.sound;
     }
 
 pub returns-in-Ok-clause-ready : goal.returns-in-Ok-clause-ready
 returns-in-Ok-clause-ready c = λ memory r ready.
     let d = state_of c.args.self.now in
-    subst (λ (devices : List Device). IsReady (record d { devices = devices }) memory r) (sym c.in-Ok.ensures.items) (ready_plugged d memory r c.args.id ready)
+    subst (λ (devices : List Device). IsReady (record d { devices = devices }) memory r) (sym c.in-Ok.ensures.items) (ready_plugged d memory r c.args.id c.args.trusted ready)

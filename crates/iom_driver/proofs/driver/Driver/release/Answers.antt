@@ -1,24 +1,23 @@
-use Rattle.std.proofs.Common.{◌≡◌, ◌≤◌, ◌<◌, ◌+◌, ◌-◌, ◌++◌, ◌∙◌, inl, ℕ, List, [], ◌∷◌, slice_get, Option, Some, None, IsSome, length, refl, sym, ap, subst, arith}
+use Rattle.std.proofs.Common.{◌≡◌, ◌≤◌, ◌<◌, ◌+◌, ◌-◌, ◌++◌, ◌∙◌, inl, ℕ, List, map, slice_get, Option, Some, None, IsSome, length, refl, sym, ap, subst, arith}
 use Rattle.iom_base.specs.Sizes.{page_limit}
 use Rattle.iom_ledger.specs.Pending.{pending_limit}
 use Rattle.iom_ledger.specs.Shown.{pending_in}
 use Rattle.iom_base.specs.declared.owner.Owner.{Owner}
 use Rattle.iom_base.specs.declared.owner.Owner.TheVariants.{System, OneDevice}
-use Rattle.iom_command_queue.specs.declared.command.Command.{Command}
 use Rattle.iom_command_queue.specs.declared.entry.QueueEntry.{QueueEntry}
 use Rattle.iom_command_queue.specs.declared.entry.QueueEntry.TheVariants as stands
-use Rattle.iom_driver.specs.Appends.{fence}
+use Rattle.iom_driver.specs.Appends.{release_commands}
 use Rattle.iom_driver.specs.Devices.{attachment_of}
 use Rattle.iom_driver.specs.Directory.{NamesDirectory}
 use Rattle.iom_driver.specs.Layout.{command_frame, fault_frame, completion_address}
 use Rattle.iom_driver.specs.Ready.{IsRing}
-use Rattle.iom_driver.proofs.Directories.{directory_stay, in_stands, stands_in}
+use Rattle.iom_driver.proofs.Directories.{directory_stay, low_id, in_stands, stands_in}
 use Rattle.iom_driver.proofs.FaultRings.{fault_ring_stays}
 use Rattle.iom_driver.proofs.Keeps.{sound_released}
 use Rattle.iom_driver.proofs.Modes.{rooted, table_in}
 use Rattle.iom_driver.proofs.Places.{attached_owns}
 use Rattle.iom_driver.proofs.ReleaseTables.{IsUnmapped, other_frame, tables_released}
-use Rattle.iom_driver.proofs.Ring.{same_commands, two_last, stays_named}
+use Rattle.iom_driver.proofs.Ring.{same_commands, all_last, stays_named}
 use Rattle.iom_driver.proofs.Stays.{all_stay, of_one}
 use Rattle.iom_driver.proofs.Tickets.{few_rise}
 use Rattle.iom_driver.proofs.driver.Driver.release.Goals as goal
@@ -57,14 +56,19 @@ unmap-requires-clause-page g c =
     let held = there _ c.in-Ok.ensures.may.held in
     (c.args.self.now.sound.grants.held c.args.id c.args.page held.0.0 held.0.1 held.1).page_low
 
-pub invalidation-requires-clause-number : goal.invalidation-requires-clause-number
-invalidation-requires-clause-number g c =
+pub append_release-requires-clause-id : goal.append_release-requires-clause-id
+append_release-requires-clause-id g c =
+    let driver = c.args.self.now in
+    low_id driver.levels c.args.id (driver.sound.named c.args.id c.in-Ok.stage (attached_owns (attachment_of driver.devices.items c.args.id) c.in-Ok.stage c.in-Ok.ensures.may.attached))
+
+pub append_release-requires-clause-number : goal.append_release-requires-clause-number
+append_release-requires-clause-number g c =
     let small = c.args.self.now.sound.numbers.small c.args.id c.in-Ok.stage (attached_owns (attachment_of c.args.self.now.devices.items c.args.id) c.in-Ok.stage c.in-Ok.ensures.may.attached) in
     let le : c.in-Ok.stage.number ≤ 17 = small.1 in
     omega arith
 
-pub invalidation-requires-clause-page : goal.invalidation-requires-clause-page
-invalidation-requires-clause-page g c =
+pub append_release-requires-clause-page : goal.append_release-requires-clause-page
+append_release-requires-clause-page g c =
     let held = there _ c.in-Ok.ensures.may.held in
     let low : c.args.page < page_limit = (c.args.self.now.sound.grants.held c.args.id c.args.page held.0.0 held.0.1 held.1).page_low in
     omega arith
@@ -91,17 +95,17 @@ returns-clause-effect g c =
         shown = c.release.ensures.released;
         agrees = c.release.ensures.agrees;
         driver = refl;
-        queued = rw (many, sym c.unmap.ensures.whole, sym c.invalidation.ensures) c.append_release.ensures.appended;
+        queued = rw (many, sym c.unmap.ensures.whole) c.append_release.ensures.appended;
         list =
             let io = c.args.io.now in
             let r = g.M.Mmio.registers io in
             let kept = other_frame memory c.unmap.new.memory c.in-Ok.stage.root c.args.page (command_frame (length memory)) unmapped_so
             (λ at. not_of_device driver.marks (command_frame (length memory)) c.args.id (rw many driver.sound.fixed.command)
             (tables.own (command_frame (length memory)) (table_in c.in-Ok.stage.mode memory c.in-Ok.stage.root (command_frame (length memory)) (inl at)))) in
-            let last : Command = fence (completion_address driver.frames) (driver.given + 1) in
-            rw (many, sym c.invalidation.ensures)
-            (two_last g.M.Mmio c.unmap.new.memory c.append_release.new.memory io c.append_release.new.io c.invalidation.result last c.append_release.ensures.appended
-            ∙ ap (λ (xs : List QueueEntry). xs ++ stands.Command c.invalidation.result ∷ stands.Command last ∷ []) (same_commands memory c.unmap.new.memory r (c.requires.ready.ring c.in-Ok.ensures.may.started) kept));
+            let commands = release_commands c.args.id c.in-Ok.stage c.args.page (completion_address driver.frames) (driver.given + 1) in
+            rw many
+            (all_last g.M.Mmio c.unmap.new.memory c.append_release.new.memory io c.append_release.new.io commands c.append_release.ensures.appended
+            ∙ ap (λ (xs : List QueueEntry). xs ++ map stands.Command commands) (same_commands memory c.unmap.new.memory r (c.requires.ready.ring c.in-Ok.ensures.may.started) kept));
         others = λ f differs apart.
             c.append_release.ensures.other_frames f (λ same. apart (same ∙ ap command_frame (sym many)))
             ∙ other_frame memory c.unmap.new.memory c.in-Ok.stage.root c.args.page f unmapped_so (λ at. differs (tables.own f (table_in c.in-Ok.stage.mode memory c.in-Ok.stage.root f (inl at))));

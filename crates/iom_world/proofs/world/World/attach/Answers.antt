@@ -10,8 +10,8 @@ use Rattle.iom_world.proofs.world.World.attach.Goals as goal
 pub invariant_of-self : goal.invariant_of-self
 invariant_of-self c =
     let world = c.args.self.now in
-    let new : Parts = record { memory = c.attach.new.memory; iommu = world.iommu; driver = state_of c.attach.new.self; devices = world.devices.items } in
+    let new : Parts = record { memory = c.attach.new.memory; iommu = world.iommu; driver = state_of c.attach.new.self; devices = world.devices.items; fabric = world.fabric } in
     record {
-      sound = keeps_attached (parts_of world) new world.events c.args.id c.args.mode (told_of c.attach.result) world.sound (sound_driver world.driver) (c.attach.ensures.ready _ world.sound.ready)
-          record { answer = c.attach.result; told_so = refl; call = c.attach.ensures.effect; iommu = refl; devices = refl };
+      sound = keeps_attached (parts_of world) new world.events c.args.id c.args.mode c.args.ats (told_of c.attach.result) world.sound (sound_driver world.driver) (c.attach.ensures.ready _ world.sound.ready)
+          record { answer = c.attach.result; told_so = refl; call = c.attach.ensures.effect; iommu = refl; devices = refl; fabric = refl };
     }

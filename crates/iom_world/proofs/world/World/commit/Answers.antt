@@ -1,7 +1,5 @@
-use Rattle.std.proofs.Common.{inr, refl, sym, Some, None, ap, subst}
-use Rattle.iom_base.specs.declared.access.AccessKind.TheVariants.{Read, Write}
+use Rattle.std.proofs.Common.{inr, refl, sym, Some, ap, subst}
 use Rattle.iom_driver.specs.Seen.{state_of}
-use Rattle.iom_inflight.specs.declared.made.MadeAt.{MadeAt}
 use Rattle.iom_iommu.specs.Parts.{flights_of}
 use Rattle.iom_machine.specs.declared.outcome.Outcome.TheVariants as outcome
 use Rattle.iom_world.specs.Commits.{TellsMade, TellsKind}
@@ -30,6 +28,7 @@ returns-in_default-clause-does c =
       unreserved = made_unreserved (parts_of world) world.events c.args.id c.commit.result c.commit.new.memory (flights_of c.commit.new.self) world.sound (sound_driver world.driver) c.commit.ensures.effect.makes;
       driver = refl;
       devices = refl;
+      fabric = refl;
     })
 
 pub returns-in-Read-clause-does : goal.returns-in-Read-clause-does
@@ -43,6 +42,7 @@ returns-in-Read-clause-does c =
       unreserved = made_unreserved (parts_of world) world.events c.args.id (Some c.in-Some.made) c.commit.new.memory (flights_of c.commit.new.self) world.sound (sound_driver world.driver) c.in-Some.ensures.effect.makes;
       driver = refl;
       devices = refl;
+      fabric = refl;
     })
 
 pub returns-in-Write-clause-does : goal.returns-in-Write-clause-does
@@ -57,14 +57,15 @@ returns-in-Write-clause-does c =
       unreserved = made_unreserved (parts_of world) world.events c.args.id (Some c.in-Some.made) c.commit.new.memory (flights_of c.commit.new.self) world.sound (sound_driver world.driver) c.in-Some.ensures.effect.makes;
       driver = refl;
       devices = refl;
+      fabric = refl;
     })
 
 pub invariant_of-self : goal.invariant_of-self
 invariant_of-self c =
     let world = c.args.self.now in
-    let new : Parts = record { memory = c.commit.new.memory; iommu = c.commit.new.self; driver = state_of world.driver; devices = world.devices.items } in
+    let new : Parts = record { memory = c.commit.new.memory; iommu = c.commit.new.self; driver = state_of world.driver; devices = world.devices.items; fabric = world.fabric } in
     record {
       sound = keeps_oldest (parts_of world) new world.events c.args.id c.commit.result world.sound (sound_driver world.driver) (stays_of c.laws_below.ensures.stays world.driver) c.commit.ensures.effect
           (made_unreserved (parts_of world) world.events c.args.id c.commit.result c.commit.new.memory (flights_of c.commit.new.self) world.sound (sound_driver world.driver) c.commit.ensures.effect.makes)
-          refl refl;
+          refl refl refl;
     }

@@ -10,8 +10,8 @@ use Rattle.iom_world.proofs.world.World.detach.Goals as goal
 pub invariant_of-self : goal.invariant_of-self
 invariant_of-self c =
     let world = c.args.self.now in
-    let new : Parts = record { memory = c.detach-answer.new.memory; iommu = c.detach-answer.new.io; driver = state_of c.detach-answer.new.self; devices = world.devices.items } in
+    let new : Parts = record { memory = c.detach-answer.new.memory; iommu = c.detach-answer.new.io; driver = state_of c.detach-answer.new.self; devices = world.devices.items; fabric = world.fabric } in
     record {
       sound = keeps_detached (parts_of world) new world.events c.args.id (ticket_told_of c.detach-answer.result) world.sound (sound_driver world.driver) c.detach-answer.ensures.ready
-          record { answer = c.detach-answer.result; told_so = refl; call = c.detach-answer.ensures.effect; devices = refl };
+          record { answer = c.detach-answer.result; told_so = refl; call = c.detach-answer.ensures.effect; devices = refl; fabric = refl };
     }

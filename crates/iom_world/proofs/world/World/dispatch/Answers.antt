@@ -1,6 +1,6 @@
-use Rattle.std.proofs.Common.{◌+◌, ◌<◌, arith}
+use Rattle.std.proofs.Common.{arith}
 use Rattle.iom_world.specs.Seen.{parts_of}
-use Rattle.iom_world.proofs.RunLemmas.{sound_counted, below_counted}
+use Rattle.iom_world.proofs.RunLemmas.{sound_counted, below_counted, serials_counted}
 use Rattle.iom_world.proofs.world.World.dispatch.Goals as goal
 
 pub invariant_of-self : goal.invariant_of-self
@@ -17,3 +17,9 @@ read-requires-clause-count c = let world = c.args.self.now in let below = below_
 
 pub write-requires-clause-count : goal.write-requires-clause-count
 write-requires-clause-count c = let world = c.args.self.now in let below = below_counted (parts_of world) world.events world.sound in let room = c.requires.count in omega (arith, below, room)
+
+pub fetch-requires-clause-below : goal.fetch-requires-clause-below
+fetch-requires-clause-below c = let world = c.args.self.now in serials_counted (parts_of world) world.events world.sound
+
+pub fetch-requires-clause-count : goal.fetch-requires-clause-count
+fetch-requires-clause-count c = let world = c.args.self.now in let below = serials_counted (parts_of world) world.events world.sound in let room = c.requires.count in omega (arith, below, room)

@@ -10,8 +10,8 @@ use Rattle.iom_world.proofs.world.World.faults.Goals as goal
 pub invariant_of-self : goal.invariant_of-self
 invariant_of-self c =
     let world = c.args.self.now in
-    let new : Parts = record { memory = world.memory; iommu = c.faults.new.io; driver = state_of world.driver; devices = world.devices.items } in
+    let new : Parts = record { memory = world.memory; iommu = c.faults.new.io; driver = state_of world.driver; devices = world.devices.items; fabric = world.fabric } in
     record {
       sound = keeps_taken (parts_of world) new world.events (report_told_of c.faults.result) world.sound (sound_driver world.driver) c.faults.ensures.ready
-          record { answer = c.faults.result; told_so = refl; call = c.faults.ensures.effect; driver = refl; memory = refl; devices = refl };
+          record { answer = c.faults.result; told_so = refl; call = c.faults.ensures.effect; driver = refl; memory = refl; devices = refl; fabric = refl };
     }

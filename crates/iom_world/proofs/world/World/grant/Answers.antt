@@ -10,9 +10,9 @@ use Rattle.iom_world.proofs.world.World.grant.Goals as goal
 pub invariant_of-self : goal.invariant_of-self
 invariant_of-self c =
     let world = c.args.self.now in
-    let new : Parts = record { memory = c.grant.new.memory; iommu = world.iommu; driver = state_of c.grant.new.self; devices = world.devices.items } in
+    let new : Parts = record { memory = c.grant.new.memory; iommu = world.iommu; driver = state_of c.grant.new.self; devices = world.devices.items; fabric = world.fabric } in
     record {
       sound = keeps_granted (parts_of world) new world.events c.args.id c.args.page c.args.frame c.args.rights (told_of c.grant.result) world.sound (sound_driver world.driver)
           (c.grant.ensures.ready _ world.sound.ready)
-          record { answer = c.grant.result; told_so = refl; call = c.grant.ensures.effect; iommu = refl; devices = refl };
+          record { answer = c.grant.result; told_so = refl; call = c.grant.ensures.effect; iommu = refl; devices = refl; fabric = refl };
     }

@@ -5,7 +5,7 @@ use Rattle.iom_world.proofs.world.World.new.Goals as goal
 
 pub invariant_of-result : goal.invariant_of-result
 invariant_of-result c =
-    let started : IsStarted c.args.frames c.args.levels (state_of c.in_ok-driver.driver) (state_of c.start.new.self) c.in_ok-memory.memory c.start.new.memory c.in-Ok-iommu_at_power_on.iommu c.start.new.io c.in-Ok.devices.items = record {
+    let started : IsStarted c.args.frames c.args.levels (state_of c.in_ok-driver.driver) (state_of c.start.new.self) c.in_ok-memory.memory c.start.new.memory c.in-Ok-iommu_at_power_on.iommu c.start.new.io c.in-Ok.devices.items c.new-fabric.result = record {
       size = c.in_ok-memory.ensures.size;
       opening_driver = c.in_ok-driver.ensures.opening;
       zeros = c.in_ok-memory.ensures.zero;
@@ -13,12 +13,13 @@ invariant_of-result c =
       starts = c.start.ensures.effect;
       ready = c.start.ensures.ready;
       unplugged = c.in-Ok.ensures.items;
+      quiet = c.new-fabric.ensures;
     } in
-    record { sound = sound_started _ _ _ _ _ _ _ _ _ started }
+    record { sound = sound_started _ _ _ _ _ _ _ _ _ _ started }
 
 pub returns-clause-begins : goal.returns-clause-begins
 returns-clause-begins c =
-    let started : IsStarted c.args.frames c.args.levels (state_of c.in_ok-driver.driver) (state_of c.start.new.self) c.in_ok-memory.memory c.start.new.memory c.in-Ok-iommu_at_power_on.iommu c.start.new.io c.in-Ok.devices.items = record {
+    let started : IsStarted c.args.frames c.args.levels (state_of c.in_ok-driver.driver) (state_of c.start.new.self) c.in_ok-memory.memory c.start.new.memory c.in-Ok-iommu_at_power_on.iommu c.start.new.io c.in-Ok.devices.items c.new-fabric.result = record {
       size = c.in_ok-memory.ensures.size;
       opening_driver = c.in_ok-driver.ensures.opening;
       zeros = c.in_ok-memory.ensures.zero;
@@ -26,11 +27,13 @@ returns-clause-begins c =
       starts = c.start.ensures.effect;
       ready = c.start.ensures.ready;
       unplugged = c.in-Ok.ensures.items;
+      quiet = c.new-fabric.ensures;
     } in
     record {
-      shows = shows_started _ _ _ _ _ _ _ _ _ started;
-      memory = memory_is _ _ _ _ _ _ _ _ _ started;
-      iommu = iommu_started _ _ _ _ _ _ _ _ _ started;
+      shows = shows_started _ _ _ _ _ _ _ _ _ _ started;
+      memory = memory_is _ _ _ _ _ _ _ _ _ _ started;
+      iommu = iommu_started _ _ _ _ _ _ _ _ _ _ started;
       commands = c.start.ensures.effect.empty;
+      fabric = c.new-fabric.ensures;
       events = refl;
     }

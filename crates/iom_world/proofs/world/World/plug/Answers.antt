@@ -1,4 +1,6 @@
-use Rattle.std.proofs.Common.{rules, ◌∙◌, refl, sym, arith, Ok, Err}
+use Rattle.std.proofs.Common.{rules, refl, subst, arith, Ok, Err}
+use Rattle.iom_driver.specs.Calls.{AnswersPlug}
+use Rattle.iom_machine.specs.Refusals.{has_cache}
 use Rattle.iom_driver.specs.Seen.{state_of}
 use Rattle.iom_ledger.specs.declared.refusal.Refusal.TheVariants.{AlreadyPlugged, TooManyDevices, Memory}
 use Rattle.iom_machine.specs.declared.outcome.Outcome.TheVariants.{Done}
@@ -15,10 +17,11 @@ returns-then-is_plugged-clause-does c =
     record {
       answer = Err AlreadyPlugged;
       told_so = refl;
-      call = already_plugged (state_of world.driver) world.devices.items c.args.id world.sound.known.driver (c.is_plugged.ensures.0 c.if-is_plugged.true);
+      call = already_plugged (state_of world.driver) world.devices.items c.args.id (has_cache c.args.kind) world.sound.known.driver (c.is_plugged.ensures.0 c.if-is_plugged.true);
       row = refl;
       devices = refl;
       memory = refl;
+      fabric = refl;
     }
 
 pub returns-then-len-ge-MAX_DEVICES-clause-does : goal.returns-then-len-ge-MAX_DEVICES-clause-does
@@ -28,10 +31,11 @@ returns-then-len-ge-MAX_DEVICES-clause-does c =
     record {
       answer = Err TooManyDevices;
       told_so = refl;
-      call = too_many (state_of world.driver) world.devices.items c.args.id world.sound.known.driver absent (omega arith);
+      call = too_many (state_of world.driver) world.devices.items c.args.id (has_cache c.args.kind) world.sound.known.driver absent (omega arith);
       row = refl;
       devices = refl;
       memory = refl;
+      fabric = refl;
     }
 
 pub returns-then-is_err-clause-does : goal.returns-then-is_err-clause-does
@@ -41,19 +45,20 @@ returns-then-is_err-clause-does c =
     record {
       answer = Err Memory;
       told_so = refl;
-      call = no_memory (state_of world.driver) world.devices.items c.args.id world.sound.known.driver absent (omega arith);
+      call = no_memory (state_of world.driver) world.devices.items c.args.id (has_cache c.args.kind) world.sound.known.driver absent (omega arith);
       row = refl;
       devices = c.reserve.ensures.items;
       memory = refl;
+      fabric = refl;
     }
 
 pub invariant_of-self-2 : goal.invariant_of-self-2
 invariant_of-self-2 c =
     let world = c.args.self.now in
     let absent : IsAbsent world.devices.items c.args.id = absent_if_not world.devices.items c.args.id c.is_plugged.result c.if-is_plugged.false c.is_plugged.ensures.1 in
-    let new : Parts = record { memory = world.memory; iommu = c.add.new.self; driver = state_of c.plug.new.self; devices = c.push.new.self.items } in
+    let new : Parts = record { memory = world.memory; iommu = c.add.new.self; driver = state_of c.plug.new.self; devices = c.push.new.self.items; fabric = world.fabric } in
     let ready = c.plug.ensures.ready _ _ world.sound.ready in
     record {
       sound = keeps_plugged (parts_of world) new world.events c.args.id c.args.kind Done world.sound (ready_still (state_of c.plug.new.self) world.memory world.iommu c.add.new.self c.args.id c.add.result c.add.ensures ready)
-          record { answer = Ok tt; told_so = refl; call = c.in_default.ensures.effect; row = added_new world.iommu world.devices.items c.args.id c.add.result c.add.new.self world.sound.known.iommu absent (omega arith) c.add.ensures; devices = search rules; memory = refl };
+          record { answer = Ok tt; told_so = refl; call = subst (λ trusted. AnswersPlug (state_of world.driver) c.args.id trusted (Ok tt) (state_of c.plug.new.self)) c.has_cache.ensures c.in_default.ensures.effect; row = added_new world.iommu world.devices.items c.args.id c.add.result c.add.new.self world.sound.known.iommu absent (omega arith) c.add.ensures; devices = search rules; memory = refl; fabric = refl };
     }

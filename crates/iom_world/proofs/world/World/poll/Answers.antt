@@ -10,10 +10,10 @@ use Rattle.iom_world.proofs.world.World.poll.Goals as goal
 pub invariant_of-self : goal.invariant_of-self
 invariant_of-self c =
     let world = c.args.self.now in
-    let new : Parts = record { memory = c.poll.new.memory; iommu = world.iommu; driver = state_of c.poll.new.self; devices = world.devices.items } in
+    let new : Parts = record { memory = c.poll.new.memory; iommu = world.iommu; driver = state_of c.poll.new.self; devices = world.devices.items; fabric = world.fabric } in
     record {
       sound = keeps_polled (parts_of world) new world.events (polled_told_of c.poll.result) world.sound (sound_driver world.driver) c.poll.ensures.ready
-          record { answer = c.poll.result; told_so = refl; call = c.poll.ensures.effect; iommu = refl; devices = refl };
+          record { answer = c.poll.result; told_so = refl; call = c.poll.ensures.effect; iommu = refl; devices = refl; fabric = refl };
     }
 
 pub of_poll-requires : goal.of_poll-requires

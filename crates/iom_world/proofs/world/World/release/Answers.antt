@@ -10,8 +10,8 @@ use Rattle.iom_world.proofs.world.World.release.Goals as goal
 pub invariant_of-self : goal.invariant_of-self
 invariant_of-self c =
     let world = c.args.self.now in
-    let new : Parts = record { memory = c.release-answer.new.memory; iommu = c.release-answer.new.io; driver = state_of c.release-answer.new.self; devices = world.devices.items } in
+    let new : Parts = record { memory = c.release-answer.new.memory; iommu = c.release-answer.new.io; driver = state_of c.release-answer.new.self; devices = world.devices.items; fabric = world.fabric } in
     record {
       sound = keeps_released (parts_of world) new world.events c.args.id c.args.page (ticket_told_of c.release-answer.result) world.sound (sound_driver world.driver) c.release-answer.ensures.ready
-          record { answer = c.release-answer.result; told_so = refl; call = c.release-answer.ensures.effect; devices = refl };
+          record { answer = c.release-answer.result; told_so = refl; call = c.release-answer.ensures.effect; devices = refl; fabric = refl };
     }
