@@ -19,5 +19,9 @@ pub struct Device {
 pub(crate) fn new_cache(kind: DeviceKind) -> Option<Atc>
     ensures { result ≡ new_cache kind }
 {
-    if kind.has_cache() { Some(Atc::new()) } else { None }
+    if kind.has_cache() {
+        Some(Atc::new())
+    } else {
+        None
+    }
 }
