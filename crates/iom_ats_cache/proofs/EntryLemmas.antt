@@ -1,11 +1,13 @@
 -- The entries of a cache when some go out and when one is kept: what is true of each stays true of each, at most 32 stay, and no page gets two.
-use Rattle.std.proofs.Common.{◌≡◌, ◌≢◌, ◌≤◌, ℕ, Bool, true, false, not, nat_eq, nat_lt, List, [], ◌∷◌, refl, sym, length, drop, length-append, length-drop, arith, if◌then◌else◌}
-use Rattle.std.specs.List.{All}
-use Rattle.std.proofs.lemmas.List.Elements.{All-drop, All-filter, All-push, filter_passes}
+use Rattle.std.proofs.Common.{◌≡◌, ◌≢◌, ◌≤◌, ◌<◌, ◌∙◌, ℕ, zero, suc, Bool, true, false, not, nat_eq, nat_lt, List, [], ◌∷◌, Some, None, refl, sym, ap, length, get_or, drop, length-append, length-drop, arith, if◌then◌else◌}
+use Rattle.std.specs.List.{All, position, position_or_len, remove}
+use Rattle.std.proofs.lemmas.List.Elements.{All-drop, All-filter, All-push, All-head, All-tail, filter_passes}
 use Rattle.std.proofs.lemmas.List.Filters.{length-filter_both}
 use Rattle.std.proofs.lemmas.List.Kept.{AllPairs-filter}
-use Rattle.std.proofs.lemmas.List.Quantifiers.{all_pairs_push, all_pairs_remove}
-use Rattle.std.proofs.lemmas.Bool.{eq-eqb}
+use Rattle.std.proofs.lemmas.List.Quantifiers.{all_pairs_push, all_pairs_remove, position-Some}
+use Rattle.std.proofs.lemmas.List.Sums.{fails_before_first}
+use Rattle.std.proofs.lemmas.Bool.{eq-eqb, eqb-true}
+use Rattle.std.proofs.lemmas.Grind.{common_steps}
 use Rattle.iom_fabric.specs.declared.message.Range.{Range}
 use Rattle.iom_fabric.specs.declared.message.Range.TheVariants as range
 use Rattle.iom_ats_cache.specs.declared.entry.Entry.{Entry}
@@ -68,6 +70,55 @@ distinct_with_entry entries entry distinct =
     (distinct_with_room left (distinct_outside (range.Page entry.page) entries distinct))
     (all_with_room (λ other. other.page ≢ entry.page) left (λ k d below same.
     another_page entry.page _ (all_outside (λ other. Unit {0}) (range.Page entry.page) entries (λ j o low. tt) k d below).0 (sym same)))
+
+-- where no entry is of the page, nothing goes out with it
+none_goes_out : (page : ℕ) (entries : List Entry) → All (λ entry. nat_eq page entry.page ≡ false) entries → outside (range.Page page) entries ≡ entries
+none_goes_out page [] others = refl
+none_goes_out page (entry ∷ entries) others =
+    let other : nat_eq page entry.page ≡ false = All-head (λ e. nat_eq page e.page ≡ false) entry entries others in
+    rw other (ap (λ rest. entry ∷ rest) (none_goes_out page entries (All-tail (λ e. nat_eq page e.page ≡ false) entry entries others)))
+
+-- where two entries aren't of one page, at most one is of this page
+of_another : (page : ℕ) (one other : Entry) → nat_eq page one.page ≡ true → one.page ≢ other.page → nat_eq page other.page ≡ false
+of_another page one other own two = by (nat_eq page other.page) refl
+  where
+    by : (b : Bool) → nat_eq page other.page ≡ b → b ≡ false
+    by true same = absurd (two (sym (eqb-true page one.page own) ∙ eqb-true page other.page same))
+    by false apart = refl
+
+-- where no page has two entries, and one of the page stands at this place, it goes out alone
+one_goes_out : (page : ℕ) (entries : List Entry) (place : ℕ) (d : Entry) → AreOfDistinctPages entries → place < length entries
+    → nat_eq page (get_or entries place d).page ≡ true → outside (range.Page page) entries ≡ remove entries place
+one_goes_out page [] place d distinct inside own = absurd (omega arith)
+one_goes_out page (entry ∷ entries) zero d distinct inside own =
+    rw own (none_goes_out page entries (λ k e below. of_another page entry (get_or entries k e) own (distinct 0 (suc k) e (omega arith) (omega arith))))
+one_goes_out page (entry ∷ entries) (suc place) d distinct inside own =
+    let two : (get_or entries place d).page ≢ entry.page = λ same. distinct 0 (suc place) d (omega arith) inside (sym same) in
+    let other : nat_eq page entry.page ≡ false = of_another page (get_or entries place d) entry own two in
+    let rest : AreOfDistinctPages entries = λ i j e before below. distinct (suc i) (suc j) e (omega arith) (omega arith) in
+    rw other (ap (λ left. entry ∷ left) (one_goes_out page entries place d rest (omega arith) own))
+
+-- whether an entry is of the page
+abbrev pub IsOf : ℕ → Entry → Bool
+IsOf page entry = covers (range.Page page) entry.page
+
+-- where no place is found, nothing goes out
+pub outside_without_place : (page : ℕ) (entries : List Entry) → position (IsOf page) entries ≡ None → outside (range.Page page) entries ≡ entries
+outside_without_place page entries none =
+    let behind : length entries ≤ position_or_len (IsOf page) entries = grind (arith, common_steps) in
+    none_goes_out page entries (λ k d below. fails_before_first (IsOf page) entries k d (omega arith))
+
+-- where a place is found, the entry there goes out alone
+pub outside_at_place : (page : ℕ) (entries : List Entry) (place : ℕ) (d : Entry) → AreOfDistinctPages entries → position (IsOf page) entries ≡ Some place
+    → outside (range.Page page) entries ≡ remove entries place
+outside_at_place page entries place d distinct found =
+    let at = position-Some (IsOf page) entries place d found in
+    one_goes_out page entries place d distinct at.0 at.1
+
+-- nothing is outside of everything
+pub outside_everything : (entries : List Entry) → outside range.Everything entries ≡ []
+outside_everything [] = refl
+outside_everything (entry ∷ entries) = outside_everything entries
 
 few_with_room : (entries : List Entry) → length entries ≤ 32 → length (with_room entries) ≤ 31
 few_with_room entries few = by (nat_lt (length entries) 32) refl

@@ -1,4 +1,6 @@
 ghost use Rattle.std.specs.Prelude.{◌≡◌, ◌+◌, ◌<◌, ◌^◌, option_map};
+ghost use Rattle.std.specs.List.{position};
+ghost use Rattle.iom_fabric.specs.declared.message.Range.TheVariants.{Page};
 ghost use Rattle.iom_ats_cache.specs.Cache.{empty_cache, covers, entry_of, outside, with_entry, frame_for, AreOfDistinctPages, AreEntries};
 ghost use Rattle.iom_ats_cache.specs.Calls.{Asks, TakesAnswer, Invalidates, Resets};
 
@@ -29,16 +31,6 @@ impl Model for Atc {
     ghost invariant = { λ atc. AreOfDistinctPages atc.entries.items };
 }
 
-// Whether the range covers the page.
-fn covers(range: Range, page: PageNumber) -> bool
-    ensures { result ≡ covers range page }
-{
-    match range {
-        Range::Page(own) => own == page,
-        Range::Everything => true,
-    }
-}
-
 // The entry of the page.
 fn entry_of(entries: &[Entry], page: PageNumber) -> Option<&Entry>
     ensures { option_map (λ entry. entry.now) result ≡ entry_of entries.now page }
@@ -46,20 +38,42 @@ fn entry_of(entries: &[Entry], page: PageNumber) -> Option<&Entry>
     entries.iter().find(|entry| entry.page == page)
 }
 
+// The place of the page's entry.
+fn place_of(entries: &[Entry], page: PageNumber) -> Option<usize>
+    ensures { result ≡ position (λ entry. covers (Page page) entry.page) entries.now }
+{
+    entries.iter().position(|entry| page == entry.page)
+}
+
+// Takes out the page's entry, of which there is at most one; the others stay in their order.
+fn take_page(entries: &mut ArrayVec<Entry, MAX_ENTRIES>, page: PageNumber)
+    requires { AreOfDistinctPages entries.old.items }
+    ensures { entries.new.items ≡ outside (Page page) entries.old.items }
+{
+    if let Some(place) = place_of(entries.as_slice(), page) {
+        entries.remove(place);
+    }
+}
+
 // Takes out the entries of the pages that are covered; the others stay in their order.
 fn take_out(entries: &mut ArrayVec<Entry, MAX_ENTRIES>, range: Range)
+    requires { AreOfDistinctPages entries.old.items }
     ensures left { entries.new.items ≡ outside range entries.old.items }
     ensures distinct { AreOfDistinctPages entries.old.items → AreOfDistinctPages entries.new.items }
 {
-    entries.retain(|entry| !covers(range, entry.page));
+    match range {
+        Range::Page(page) => take_page(entries, page),
+        Range::Everything => entries.clear(),
+    }
 }
 
 // Puts an entry last, in place of its page's old one. Where there are 32 others the oldest goes out.
 fn keep(entries: &mut ArrayVec<Entry, MAX_ENTRIES>, entry: Entry)
+    requires { AreOfDistinctPages entries.old.items }
     ensures kept { entries.new.items ≡ with_entry entries.old.items entry }
     ensures distinct { AreOfDistinctPages entries.old.items → AreOfDistinctPages entries.new.items }
 {
-    take_out(entries, Range::Page(entry.page));
+    take_page(entries, entry.page);
     if entries.is_full() {
         entries.remove(0);
     }

@@ -9,7 +9,7 @@ use std::alloc::Global;
 use std::fs;
 
 /// The examples, in the order in which they are best read.
-const NAMES: [&str; 13] = [
+const NAMES: [&str; 15] = [
     "first-path",
     "stale-read",
     "draining",
@@ -23,6 +23,8 @@ const NAMES: [&str; 13] = [
     "guest-tables",
     "guest-rewrites",
     "fault-storm",
+    "late-answer",
+    "lost-invalidation",
 ];
 
 /// The number of the first line that differs, counted from 1; None where the texts are the same.

@@ -33,6 +33,8 @@ fn find_in_directory(
 }
 
 /// The context of the device: the cached one, or else the one that the directory has, which is kept.
+// Written into its callers, as `translate_by` and `accept` are: these are the way of each request.
+#[inline(always)]
 pub(crate) fn find_context(
     memory: &Memory,
     registers: &Registers,

@@ -21,6 +21,7 @@ use iom_tlb::TransCache;
 
 /// The access of the device, whose row stands at this place and has room, is accepted: its number among the
 /// device's.
+#[inline(always)]
 pub(crate) fn accept(
     in_flight: &mut InFlight,
     device: DeviceId,

@@ -151,6 +151,7 @@ fn translate<C: TransCache>(
 }
 
 /// The same by the context that was found, if one was.
+#[inline(always)]
 pub(crate) fn translate_by<C: TransCache>(
     memory: &Memory,
     found: Result<Context, Cause>,

@@ -5,7 +5,7 @@
 //! and the line that was changed to make it unlawful, if one was. Its first line names the columns. Lines of an
 //! output count from 1, and the first is that of `world`. A judge that decides the machine exactly refuses an
 //! output at its first unlawful line: never before the changed one, and never after the checker's. A line that
-//! tells no outcome yet, as `miss`, is refused as one that isn't read.
+//! tells no outcome is refused as one that isn't read.
 #![tactic(auto)]
 
 mod index;

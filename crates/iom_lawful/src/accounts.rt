@@ -8,6 +8,7 @@ ghost use Rattle.std.specs.Prelude.{◌↔◌, ◌^◌, ◌<◌, ◌≤◌, IfSo
 
 use crate::driver::Driver;
 use crate::reaches::{Reach, frames_of, reaches_after, reaches_of};
+use crate::requests::asked_by;
 use crate::states::copy_state;
 use iom_base::{AccessKind, DeviceId, Mode, PAGE_SIZE};
 use iom_machine::{Attachment, Choice, Device, Event, Outcome, State, judge};
@@ -85,7 +86,8 @@ fn place_of(devices: &[Device], id: DeviceId) -> Option<usize>
     None
 }
 
-/// The access in flight of the device that is the one with this index has this frame.
+/// The access in flight of the device that is the one with this index has this frame. Of its address the place in the
+/// page alone counts from here on, so that stays also where it is a physical one.
 fn set_frame(state: &mut State, id: DeviceId, index: usize, frame: u32) {
     let Some(place) = place_of(state.devices.as_slice(), id) else {
         return;
@@ -107,23 +109,6 @@ fn has_bytes(state: &State, frame: u32, address: u64, bytes: &[u8]) -> bool {
         .as_slice()
         .get(from..from.saturating_add(bytes.len()));
     named == Some(bytes)
-}
-
-/// The device, the address and the kind that the event asks for.
-fn asked_by(event: &Event) -> Option<(DeviceId, u64, AccessKind)> {
-    match event {
-        Event::Read {
-            device,
-            address,
-            ..
-        } => Some((*device, *address, AccessKind::Read)),
-        Event::Write {
-            device,
-            address,
-            ..
-        } => Some((*device, *address, AccessKind::Write)),
-        _ => None,
-    }
 }
 
 /// Whether a request of the device is translated in both stages.
@@ -148,9 +133,9 @@ fn possible_frames(
     event: &Event,
     outcome: &Outcome,
 ) -> Result<Vec<u32>, AllocError> {
-    if let (Some((device, _, kind)), Outcome::Accepted(_)) = (asked_by(event), outcome) {
-        if has_both_stages(state, device) {
-            return frames_of(alloc, reaches, device, kind);
+    if let (Some(asked), Outcome::Accepted(_)) = (asked_by(event), outcome) {
+        if has_both_stages(state, asked.device) {
+            return frames_of(alloc, reaches, asked.device, asked.kind);
         }
     }
     Ok(Vec::new(alloc))
@@ -189,16 +174,16 @@ impl Account {
         let Some(frame) = told.possible.first().copied() else {
             return Ok(());
         };
-        let Some((device, address, kind)) = asked_by(told.event) else {
+        let Some(asked) = asked_by(told.event) else {
             return Ok(());
         };
         if let Some(known) = self.frames.get_mut(told.number) {
             *known = Some(frame);
         }
         self.flights.push(Flight {
-            device,
-            kind,
-            address,
+            device: asked.device,
+            kind: asked.kind,
+            address: asked.address,
             asked: told.number,
             possible: Vec::from_slice(alloc, told.possible)?,
         })?;

@@ -6,7 +6,9 @@ ghost use Rattle.iom_lawful.specs.declared.reaches.Reach.{Reach};
 ghost use Rattle.iom_lawful.specs.Tables.{is_reached_by, MayBecomeTable, NoneMayBecomeTable, IsHighestForTable, AreHighestForTables, named_by, WantsFrames, TakesHighest};
 ghost use Rattle.iom_lawful.specs.Tables.{is_among, MayBecomeRoot, AreFourForRoot, NoFourForRoot, IsHighestForRoot, TakesRoot, takes_root};
 
+use crate::messages::Messages;
 use crate::reaches::{Reach, frame_at};
+use crate::requests::asked_by;
 use iom_base::{DeviceId, Mode, PAGE_SIZE, Sequence};
 use iom_machine::{Choice, Event, Outcome, State};
 use std::alloc::{AllocError, Global};
@@ -197,28 +199,18 @@ struct Needs {
 
 /// The frame of the page that a request names, if the event is one.
 fn frame_of_page(reaches: &[Reach], event: &Event) -> Option<u32> {
-    match event {
-        Event::Read {
-            device,
-            address,
-            ..
-        } => frame_at(reaches, *device, *address / PAGE_SIZE),
-        Event::Write {
-            device,
-            address,
-            ..
-        } => frame_at(reaches, *device, *address / PAGE_SIZE),
-        _ => None,
-    }
+    let access = asked_by(event)?;
+    frame_at(reaches, access.device, access.address / PAGE_SIZE)
 }
 
-/// The driver, as far as a run shows it: which tables each device has, which pages the device directory has, and which
-/// devices are leaving.
+/// What a run shows of what the machine doesn't know: which tables each device has, which pages the device directory
+/// has, which devices are leaving, and which messages are under way.
 #[derive(Drop)]
 pub(crate) struct Driver {
     tables: Vec<Table>,
     pages: Vec<DirectoryPage>,
     leaving: Vec<Leaving>,
+    messages: Messages,
 }
 
 impl Driver {
@@ -227,6 +219,7 @@ impl Driver {
             tables: Vec::new(alloc),
             pages: Vec::new(alloc),
             leaving: Vec::new(alloc),
+            messages: Messages::new(alloc),
         }
     }
 
@@ -320,7 +313,7 @@ impl Driver {
             .retain(|leaving| leaving.ticket < first || last < leaving.ticket);
     }
 
-    /// Notes which devices are leaving, and which have left.
+    /// Notes which devices are leaving, which have left, and which messages are under way.
     fn note(&mut self, event: &Event, outcome: &Outcome) -> Result<(), AllocError> {
         match (event, outcome) {
             (Event::Detach { device }, Outcome::Ticket(ticket)) => {
@@ -332,11 +325,12 @@ impl Driver {
             (Event::Poll, Outcome::Confirmed { first, last }) => self.forget(*first, *last),
             _ => {}
         }
-        Ok(())
+        self.messages.note(event, outcome)
     }
 
     /// What the driver and the IOMMU choose where this comes of the event. The pages of the device directory come
-    /// before the tables. A request is on the frame that was guessed, or, where none was, on that of its page.
+    /// before the tables. A request is on the frame that was guessed, or, where none was, on that of its page; a
+    /// delivery is that of the question at its place.
     pub(crate) fn choose(
         &mut self,
         alloc: Global,
@@ -363,14 +357,15 @@ impl Driver {
         } else {
             tables
         };
+        let asked = self.messages.delivered_by(event);
         self.note(event, outcome)?;
         let frame = guessed.or(frame_of_page(reaches, event));
         Ok(Choice {
             directory,
             taken,
             frame: frame.unwrap_or(0),
-            device: 0,
-            page: 0,
+            device: asked.map_or(0, |question| question.device),
+            page: asked.map_or(0, |question| question.page),
         })
     }
 }

@@ -153,8 +153,8 @@ pub fn judge_output(
     let Some(text) = without_prefix(output.as_bytes(), b"ok\n") else {
         return Ok(Found::Unlawful { line: 1 });
     };
-    let (outcomes, rest) = read_outcomes(alloc, printed, output, text)?;
     let events = script.events.as_slice();
+    let (outcomes, rest) = read_outcomes(alloc, printed, events, output, text)?;
     match judge_outcomes(alloc, size, events, &outcomes)? {
         Found::Lawful if !rest.is_empty() => Ok(Found::Unread {
             line: events.len() as u64 + 2,

@@ -9,8 +9,10 @@
 mod accounts;
 mod driver;
 mod judging;
+mod messages;
 mod outcomes;
 mod reaches;
+mod requests;
 mod states;
 
 pub use judging::{Found, judge_output};

@@ -2,9 +2,10 @@ ghost use Rattle.std.specs.Prelude.{◌≡◌, ◌++◌, IfSome, IfOk};
 ghost use Rattle.iom_script.specs.Lines.{lines_of};
 
 use arrayvec::ArrayVec;
-use iom_base::Cause;
+use iom_base::{Cause, Rights};
+use iom_fabric::Translation;
 use iom_ledger::Refusal;
-use iom_machine::{CommandName, FaultRecord, Fetched, Outcome};
+use iom_machine::{CommandName, Event, FaultRecord, Fetched, Outcome};
 use iom_script::LineBuffer;
 use std::alloc::{AllocError, Global};
 
@@ -129,8 +130,64 @@ fn answer_of(text: &str) -> Option<bool> {
     }
 }
 
-/// An outcome that the line may tell. Whether it does is seen by printing it.
-fn outcome_of(line: &str) -> Option<Outcome> {
+/// The rights that the word says.
+fn rights_of(text: &str) -> Option<Rights> {
+    match text {
+        "r" => Some(Rights::R),
+        "rw" => Some(Rights::RW),
+        _ => None,
+    }
+}
+
+/// The answer to a question that `FRAME RIGHT` or `fault C` says.
+fn translation_of(text: &str) -> Option<Translation> {
+    let (word, rest) = text.split_once(' ')?;
+    if word == "fault" {
+        return cause_of(rest).map(Translation::Refused);
+    }
+    Some(Translation::Page {
+        frame: word.parse().ok()?,
+        rights: rights_of(rest)?,
+    })
+}
+
+/// What `ignored` says, alone or before the number of a request to invalidate.
+fn ignored_of(text: &str) -> Option<Outcome> {
+    if text.is_empty() {
+        return Some(Outcome::Ignored);
+    }
+    text.parse().ok().map(Outcome::NotClosed)
+}
+
+/// What `none` says of the event: that there is no such message, or nothing in flight.
+fn none_of(event: &Event) -> Outcome {
+    match event {
+        Event::Deliver { .. } | Event::Drop { .. } | Event::Repeat { .. } => Outcome::NoMessage,
+        _ => Outcome::NothingInFlight,
+    }
+}
+
+/// An outcome of a message, or of an access through a cache, that the word and the rest may tell.
+fn outcome_of_message(word: &str, rest: &str) -> Option<Outcome> {
+    match word {
+        "miss" => Some(Outcome::Miss),
+        "sent" => Some(Outcome::Sent),
+        "lost" => Some(Outcome::Lost),
+        "answer" => translation_of(rest).map(Outcome::Answered),
+        "kept" => Some(Outcome::Kept),
+        "stale" => Some(Outcome::Stale),
+        "refusal" => Some(Outcome::AnswerRefused),
+        "ignored" => ignored_of(rest),
+        "invalidated" => rest.parse().ok().map(Outcome::Invalidated),
+        "closed" => rest.parse().ok().map(Outcome::Closed),
+        "dropped" => Some(Outcome::Dropped),
+        "repeated" => Some(Outcome::Repeated),
+        _ => None,
+    }
+}
+
+/// An outcome that the line may tell of the event. Whether it does is seen by printing it.
+fn outcome_of(event: &Event, line: &str) -> Option<Outcome> {
     let (word, rest) = line.split_once(' ').unwrap_or((line, ""));
     match word {
         "ok" => Some(Outcome::Done),
@@ -149,10 +206,10 @@ fn outcome_of(line: &str) -> Option<Outcome> {
         "fault" => cause_of(rest).map(Outcome::Fault),
         "read" => bytes_of(rest).map(Outcome::Read),
         "wrote" => rest.parse().ok().map(Outcome::Wrote),
-        "none" => Some(Outcome::NothingInFlight),
+        "none" => Some(none_of(event)),
         "bytes" => bytes_of(rest).map(Outcome::Bytes),
         "free" => answer_of(rest).map(Outcome::Free),
-        _ => None,
+        _ => outcome_of_message(word, rest),
     }
 }
 
@@ -167,13 +224,14 @@ pub(crate) fn without_prefix<'a>(text: &'a [u8], prefix: &[u8]) -> Option<&'a [u
     if first == prefix { Some(rest) } else { None }
 }
 
-/// The outcomes that the lines of an output tell, up to the first line that tells none; and the text from that line
-/// on. What precedes the text is the output's first line.
+/// The outcomes that the lines of an output tell of the events, up to the first line that tells none, or that follows
+/// the last event's; and the text from that line on. What precedes the text is the output's first line.
 ///
 /// Each line is read, and then printed anew.
 pub(crate) fn read_outcomes<'a>(
     alloc: Global,
     printed: &mut LineBuffer,
+    events: &[Event],
     output: &str,
     text: &'a [u8],
 ) -> Result<(Vec<Outcome>, &'a [u8]), AllocError>
@@ -181,8 +239,8 @@ pub(crate) fn read_outcomes<'a>(
 {
     let mut outcomes = Vec::new(alloc);
     let mut rest = text;
-    for line in output.lines().skip(1) {
-        let Some(outcome) = outcome_of(line) else {
+    for (line, event) in output.lines().skip(1).zip(events.iter()) {
+        let Some(outcome) = outcome_of(event, line) else {
             break;
         };
         printed.clear();

@@ -1,9 +1,11 @@
 //! Calls of `judge_output` of `iom_lawful`, on outputs of small scripts that were worked out by hand: each form of a
-//! line, a detach, accesses in both stages, and too many ways to be followed.
+//! line, a detach, accesses in both stages, too many ways to be followed, messages, and accesses through caches.
 //!
 //! The crate has tests alone, and nothing stands on it. It stands apart from the library because a crate with tests of
 //! its own is proved twice, without them and with them.
 #![tactic(auto)]
 
+#[cfg(test)]
+mod messages;
 #[cfg(test)]
 mod outputs;

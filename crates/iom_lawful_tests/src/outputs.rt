@@ -25,7 +25,7 @@ fn is_found(
 
 /// Ends the test where the judge finds something else of an output of the script than its row says. All of them begin
 /// with the same lines.
-fn are_found(
+pub(crate) fn are_found(
     rt: &(impl Abort + AllocGlobal),
     script: &[u8],
     first: &str,
@@ -41,7 +41,7 @@ fn are_found(
 }
 
 /// Each form of a line.
-static LINES: [&str; 25] = [
+static LINES: [&str; 40] = [
     "ok",
     "refused 12 TooManyPending",
     "ticket 4294967295",
@@ -67,10 +67,25 @@ static LINES: [&str; 25] = [
     "bytes 00af",
     "free yes",
     "free no",
+    "miss",
+    "sent",
+    "lost",
+    "answer 5 rw",
+    "answer 4294967295 r",
+    "answer fault 260",
+    "kept",
+    "stale",
+    "refusal",
+    "ignored",
+    "ignored 0",
+    "invalidated 1",
+    "closed 18446744073709551615",
+    "dropped",
+    "repeated",
 ];
 
 /// Lines that tell no outcome.
-static NO_LINES: [&str; 27] = [
+static NO_LINES: [&str; 41] = [
     "",
     "Ok",
     "ok ",
@@ -98,6 +113,20 @@ static NO_LINES: [&str; 27] = [
     "none\r",
     "free",
     "free maybe",
+    "miss ",
+    "sent 1",
+    "answer",
+    "answer 5",
+    "answer 5 w",
+    "answer 05 r",
+    "answer 4294967296 r",
+    "answer fault",
+    "answer fault 14",
+    "ignored ",
+    "ignored 01",
+    "invalidated",
+    "closed",
+    "closed 18446744073709551616",
 ];
 
 /// A script of one event, of which each line of an outcome is read, though most aren't lawful.

@@ -17,7 +17,7 @@ use Rattle.iom_base.specs.declared.access.Access.{Access}
 use Rattle.iom_machine.specs.declared.state.Attachment.TheVariants.{Detached, Attached}
 use Rattle.iom_machine.specs.declared.state.Device.{Device}
 use Rattle.iom_machine.specs.declared.state.DeviceKind.{DeviceKind}
-use Rattle.iom_machine.specs.declared.state.DeviceKind.TheVariants.{Raw}
+use Rattle.iom_machine.specs.declared.state.DeviceKind.TheVariants.{Raw, Ats, Block, CachedBlock}
 use Rattle.iom_base.specs.declared.access.AcceptedAccess.{AcceptedAccess}
 use Rattle.iom_base.specs.declared.mode.Mode.{Mode}
 use Rattle.iom_base.specs.declared.owner.Owner.TheVariants.{System, OneDevice}
@@ -35,11 +35,18 @@ use Rattle.iom_machine.specs.ThroughCache.{MayAnswerThroughCache, state_after_ca
 use Rattle.iom_machine.specs.Messages.{Sends, Delivers, Drops, Repeats}
 use Rattle.iom_machine.specs.Leaving.{leaving_under, with_left}
 
--- The event can come, so far: of devices raw ones alone, of attachments those without ATS, in any mode, and none that is for address translation
--- services. The steps below say what the others lead to all the same; nothing that asks for this takes them yet.
+-- whether there are devices of this kind, so far: block devices come later
+abbrev pub is_built : DeviceKind → Bool
+is_built Raw = true
+is_built Ats = true
+is_built Block = false
+is_built CachedBlock = false
+
+-- The event can come, so far: all but the plugging in of a block device. The steps below say what that leads to all the same; nothing that asks for
+-- this takes it yet.
 abbrev pub IsEvent : Event → Type 0
-IsEvent (events.Plug id kind) = kind ≡ Raw
-IsEvent (events.Attach id mode ats) = ats ≡ false
+IsEvent (events.Plug id kind) = is_built kind ≡ true
+IsEvent (events.Attach id mode ats) = ⊤
 IsEvent (events.Detach id) = ⊤
 IsEvent (events.Grant id page frame rights) = ⊤
 IsEvent (events.Release id page) = ⊤
@@ -48,15 +55,15 @@ IsEvent events.Poll = ⊤
 IsEvent events.Faults = ⊤
 IsEvent (events.Read id address len) = ⊤
 IsEvent (events.Write id address bytes) = ⊤
-IsEvent (events.ReadTranslated id address len) = ⊥
-IsEvent (events.WriteTranslated id address bytes) = ⊥
-IsEvent (events.ReadThroughCache id address len) = ⊥
-IsEvent (events.WriteThroughCache id address bytes) = ⊥
-IsEvent (events.Ask id page) = ⊥
-IsEvent (events.Forge id serial) = ⊥
-IsEvent (events.Deliver place) = ⊥
-IsEvent (events.Drop place) = ⊥
-IsEvent (events.Repeat place) = ⊥
+IsEvent (events.ReadTranslated id address len) = ⊤
+IsEvent (events.WriteTranslated id address bytes) = ⊤
+IsEvent (events.ReadThroughCache id address len) = ⊤
+IsEvent (events.WriteThroughCache id address bytes) = ⊤
+IsEvent (events.Ask id page) = ⊤
+IsEvent (events.Forge id serial) = ⊤
+IsEvent (events.Deliver place) = ⊤
+IsEvent (events.Drop place) = ⊤
+IsEvent (events.Repeat place) = ⊤
 IsEvent (events.Commit id) = ⊤
 IsEvent (events.Poke address bytes) = ⊤
 IsEvent (events.Peek address len) = ⊤

@@ -3,7 +3,7 @@ use arrayvec::ArrayVec;
 use iom_base::{Cause, GrantRights, Mode, Rights};
 use iom_fabric::Translation;
 use iom_ledger::Refusal;
-use iom_machine::{CommandName, Event, FaultRecord, Fetched, Outcome};
+use iom_machine::{CommandName, DeviceKind, Event, FaultRecord, Fetched, Outcome};
 use iom_script::{LineBuffer, ScriptFault, WorldSize, parse};
 use std::process::Abort;
 use std::test::Fail;
@@ -270,6 +270,111 @@ fn modes_and_faults_are_read(rt: HostRuntime) -> Result<(), Fail> {
     }
 }
 
+/// The lines of address translation services.
+const ATS: &[u8] = b"\
+    world 64 1\n\
+    device 00000a ats\n\
+    attach 00000a second ats\n\
+    ask 00000a 4503599627370495\n\
+    forge 00000b 18446744073709551615\n\
+    deliver 0\n\
+    drop 1\n\
+    repeat 18446744073709551615\n\
+    aread 00000a 0x3ffc 4\n\
+    awrite 00000a 0x3ffe 00f1\n\
+    tread 00000b 0x5000 5\n\
+    twrite 00000b 0x5001 f1\n";
+
+/// Whether the events plug in, attach and ask as those lines say.
+fn asks_as_said(events: &[Event]) -> bool {
+    match events {
+        [
+            Event::Plug {
+                device: 10,
+                kind: DeviceKind::Ats,
+            },
+            Event::Attach {
+                device: 10,
+                mode: Mode::Second,
+                ats: true,
+            },
+            Event::Ask { device: 10, page },
+            Event::Forge {
+                device: 11,
+                serial: u64::MAX,
+            },
+        ] => page.number() == 4503599627370495,
+        _ => false,
+    }
+}
+
+/// Whether the events are those of the messages.
+fn moves_as_said(events: &[Event]) -> bool {
+    match events {
+        [
+            Event::Deliver { place: 0 },
+            Event::Drop { place: 1 },
+            Event::Repeat { place: u64::MAX },
+        ] => true,
+        _ => false,
+    }
+}
+
+/// Whether the events are the reads.
+fn reads_as_said(through_cache: &Event, translated: &Event) -> bool {
+    match (through_cache, translated) {
+        (
+            Event::ReadThroughCache {
+                device: 10,
+                address: 0x3ffc,
+                len: 4,
+            },
+            Event::ReadTranslated {
+                device: 11,
+                address: 0x5000,
+                len: 5,
+            },
+        ) => true,
+        _ => false,
+    }
+}
+
+/// Whether the events are the writes.
+fn writes_as_said(through_cache: &Event, translated: &Event) -> bool {
+    match (through_cache, translated) {
+        (
+            Event::WriteThroughCache {
+                device: 10,
+                address: 0x3ffe,
+                bytes: cached,
+            },
+            Event::WriteTranslated {
+                device: 11,
+                address: 0x5001,
+                bytes: forged,
+            },
+        ) => cached.as_slice() == [0u8, 0xf1].as_slice() && forged.as_slice() == [0xf1].as_slice(),
+        _ => false,
+    }
+}
+
+#[test]
+fn lines_of_ats_are_read(rt: HostRuntime) -> Result<(), Fail> {
+    let script = parse(rt.alloc(), ATS)?;
+    let events = script.events.as_slice();
+    expect_eq(&rt, &events.len(), &11);
+    expect(&rt, events.get(..4).is_some_and(asks_as_said));
+    expect(&rt, events.get(4..7).is_some_and(moves_as_said));
+    match events.get(7..) {
+        Some([read, write, other_read, other_write]) => {
+            expect(&rt, reads_as_said(read, other_read));
+            expect(&rt, writes_as_said(write, other_write));
+            Ok(())
+        }
+        _ => Err(Fail::new("other lines")),
+    }
+}
+
 const BOUNDARIES: &[u8] = b"\
     world 4096 1\n\
     \n\
@@ -377,7 +482,11 @@ const BAD_SECOND: &[u8] = b"\
     |world 64 1\nFetch\n\
     |world 64 1\nfetc\n\
     |world 64 1\npoll 1\n\
-    |world 64 1\ndevice 000001 ats\n\
+    |world 64 1\ndevice 000001 Ats\n\
+    |world 64 1\ndevice 000001 atss\n\
+    |world 64 1\ndevice 000001 blk\n\
+    |world 64 1\ndevice 000001 blk 0\n\
+    |world 64 1\ndevice 000001 ablk 0\n\
     |world 64 1\ndevice 00001 raw\n\
     |world 64 1\ndevice 0000001 raw\n\
     |world 64 1\ndevice 00000A raw\n\
@@ -393,7 +502,11 @@ const BAD_SECOND: &[u8] = b"\
     |world 64 1\nattach 000001 firs\n\
     |world 64 1\nattach 000001 seconds\n\
     |world 64 1\nattach 000001 Both\n\
-    |world 64 1\nattach 000001 both ats\n\
+    |world 64 1\nattach 000001 ats\n\
+    |world 64 1\nattach 000001 both at\n\
+    |world 64 1\nattach 000001 both  ats\n\
+    |world 64 1\nattach 000001 both ats \n\
+    |world 64 1\nattach 000001 ats both\n\
     |world 64 1\nattach 000001 both first\n\
     |world 64 1\ndetach\n\
     |world 64 1\ndetach 1\n\
@@ -424,7 +537,26 @@ const BAD_SECOND: &[u8] = b"\
     |world 64 1\nfree\n\
     |world 64 1\nfree \n\
     |world 64 1\nfree 05\n\
-    |world 64 1\nfree 0x5\n";
+    |world 64 1\nfree 0x5\n\
+    |world 64 1\naread 000001 3000 4\n\
+    |world 64 1\naread 000001 0x3000\n\
+    |world 64 1\nawrite 000001 0x3000 0\n\
+    |world 64 1\ntread 000001 0x3000 04\n\
+    |world 64 1\ntwrite 000001 0x3000 \n\
+    |world 64 1\nask 000001\n\
+    |world 64 1\nask 000001 0x3\n\
+    |world 64 1\nask 000001 4503599627370496\n\
+    |world 64 1\nask 000001 18446744073709551615\n\
+    |world 64 1\nask 000001 3 3\n\
+    |world 64 1\nforge 000001\n\
+    |world 64 1\nforge 000001 18446744073709551616\n\
+    |world 64 1\ndeliver\n\
+    |world 64 1\ndeliver 00\n\
+    |world 64 1\ndeliver -1\n\
+    |world 64 1\ndrop \n\
+    |world 64 1\ndrop 1 2\n\
+    |world 64 1\nrepeat 0x1\n\
+    |world 64 1\nrepeats 1\n";
 
 #[test]
 fn bad_second_lines_are_named(rt: HostRuntime) {

@@ -9,7 +9,7 @@
 use std::alloc::Global;
 use std::fs;
 
-const ROWS: [&str; 22] = [
+const ROWS: [&str; 27] = [
     "empty-script",
     "first-path",
     "grant-boundaries",
@@ -32,6 +32,11 @@ const ROWS: [&str; 22] = [
     "fault-queue-overflow",
     "guest-table-changes",
     "frame-granted-twice",
+    "late-answer",
+    "repeated-completion",
+    "forged-completion",
+    "question-between-invalidations",
+    "translated-request-record",
 ];
 
 /// The number of the first line that differs, counted from 1.

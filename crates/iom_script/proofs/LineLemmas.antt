@@ -1,15 +1,20 @@
 -- A line is read by its first word.
-use Rattle.std.proofs.Common.{◌≡◌, inl, inr, ◌++◌, ℕ, List, Contains, MatchOption, Option, Some, None, codes, ap, sym, subst, refl, ◌∙◌, arith}
+use Rattle.std.specs.Prelude.{◌==◌, if◌then◌else◌, IfOk, Result}
+use Rattle.std.specs.declared.alloc.AllocError.{AllocError}
+use Rattle.std.proofs.Common.{◌≡◌, get_or, [], ◌∷◌, inl, inr, ◌++◌, ℕ, List, Contains, MatchOption, Option, Some, None, codes, ap, sym, subst, refl, ◌∙◌, arith}
+use Rattle.std.specs.List.{slice_get}
+use Rattle.std.proofs.lemmas.Option.{get_or_from_slice_get}
+use Rattle.std.proofs.lemmas.Result.{IfOk-weaker}
 use Rattle.std.proofs.lemmas.List.Elements.{Contains-append_left, Contains-append_right, Contains-append_cases}
 use Rattle.iom_machine.specs.declared.event.Event.{Event}
 use Rattle.iom_machine.specs.declared.event.Event.TheVariants as events
 use Rattle.iom_script.specs.declared.script.WorldSize.{WorldSize}
 use Rattle.iom_script.specs.Words.{Reads, ◌␣◌, IsNumber}
-use Rattle.iom_script.specs.Cuts.{start_of, IsLineOf, IsLineWith, device_starts, driver_starts, processor_starts, single_starts}
+use Rattle.iom_script.specs.Cuts.{start_of, IsLineOf, IsLineWith, starts_under_a, starts_under_d, starts_under_f, starts_under_p, starts_under_r, starts_under_t}
 use Rattle.iom_script.specs.Grammar.{IsEventLine, IsWorldSize, IsWorldLine}
 use Rattle.iom_script.proofs.ReadsLemmas.{reads_some, reads_none, read_holds, read_only, read_nothing}
 use Rattle.iom_script.proofs.FieldLemmas.{Followed}
-use Rattle.iom_script.proofs.EventLemmas.{only_start}
+use Rattle.iom_script.proofs.EventLemmas.{line_begins, only_start}
 use Rattle.iom_script.proofs.SameLemmas.{event_same, numbers_of, same_size, world_words}
 
 -- what is read of a line that begins in one of some ways, and if nothing of one that begins in one of others, is read of one that begins in any of them
@@ -33,35 +38,63 @@ found_line starts start line event one reads =
     let q = read_holds (IsLineWith start line) event reads in
     reads_some (IsLineOf starts line) event (subst (Contains starts) (sym (only_start start (start_of event) q.0)) one, q.1) (λ other r. event_same line event other q.1 r.1)
 
--- each line begins in one of the ways that there are
-begins_somehow : (line : List ℕ) (event : Event) → IsEventLine line event → IsLineOf (single_starts ++ (device_starts ++ (driver_starts ++ processor_starts))) line event
-begins_somehow line events.Poll q = ((0, omega arith, refl), q)
-begins_somehow line events.Fetch q = ((1, omega arith, refl), q)
-begins_somehow line events.Faults q = ((2, omega arith, refl), q)
-begins_somehow line (events.Read device address len) q = ((3, omega arith, refl), q)
-begins_somehow line (events.Commit device) q = ((4, omega arith, refl), q)
-begins_somehow line (events.Write device address bytes) q = ((5, omega arith, refl), q)
-begins_somehow line (events.Grant device page frame rights) q = ((6, omega arith, refl), q)
-begins_somehow line (events.Release device page) q = ((7, omega arith, refl), q)
-begins_somehow line (events.Plug device kind) q = ((8, omega arith, refl), q)
-begins_somehow line (events.Attach device mode ats) q = ((9, omega arith, refl), q)
-begins_somehow line (events.Detach device) q = ((10, omega arith, refl), q)
-begins_somehow line (events.Free frame) q = ((11, omega arith, refl), q)
-begins_somehow line (events.Peek address len) q = ((12, omega arith, refl), q)
-begins_somehow line (events.Poke address bytes) q = ((13, omega arith, refl), q)
-begins_somehow line (events.ReadTranslated device address len) q = absurd q
-begins_somehow line (events.WriteTranslated device address bytes) q = absurd q
-begins_somehow line (events.ReadThroughCache device address len) q = absurd q
-begins_somehow line (events.WriteThroughCache device address bytes) q = absurd q
-begins_somehow line (events.Ask device page) q = absurd q
-begins_somehow line (events.Forge device serial) q = absurd q
-begins_somehow line (events.Deliver place) q = absurd q
-begins_somehow line (events.Drop place) q = absurd q
-begins_somehow line (events.Repeat place) q = absurd q
+-- how the lines begin whose first byte is this one
+abbrev pub starts_under : ℕ → List (List ℕ)
+starts_under byte =
+    if byte == 97 then starts_under_a
+    else (if byte == 99 then codes "commit " ∷ []
+    else (if byte == 100 then starts_under_d
+    else (if byte == 102 then starts_under_f
+    else (if byte == 103 then codes "grant " ∷ []
+    else (if byte == 112 then starts_under_p
+    else (if byte == 114 then starts_under_r
+    else (if byte == 116 then starts_under_t
+    else (if byte == 119 then codes "write " ∷ []
+    else []))))))))
 
--- so what is read of a line that begins in any of them is read of the line
-pub any_line : (line : List ℕ) (result : Option Event) → Reads result (IsLineOf (single_starts ++ (device_starts ++ (driver_starts ++ processor_starts))) line) → Reads result (IsEventLine line)
-any_line line result reads = λ event. (λ e. ((reads event).0 e).1, λ q. (reads event).1 (begins_somehow line event q))
+-- each line begins in one of the ways of its first byte
+found_under : (event : Event) (more : List ℕ) → Contains (starts_under (get_or (start_of event ++ more) 0 0)) (start_of event)
+found_under (events.ReadThroughCache device address len) more = (0, omega arith, refl)
+found_under (events.Ask device page) more = (1, omega arith, refl)
+found_under (events.Attach device mode ats) more = (2, omega arith, refl)
+found_under (events.WriteThroughCache device address bytes) more = (3, omega arith, refl)
+found_under (events.Commit device) more = (0, omega arith, refl)
+found_under (events.Deliver place) more = (0, omega arith, refl)
+found_under (events.Drop place) more = (1, omega arith, refl)
+found_under (events.Plug device kind) more = (2, omega arith, refl)
+found_under (events.Detach device) more = (3, omega arith, refl)
+found_under events.Fetch more = (0, omega arith, refl)
+found_under events.Faults more = (1, omega arith, refl)
+found_under (events.Free frame) more = (2, omega arith, refl)
+found_under (events.Forge device serial) more = (3, omega arith, refl)
+found_under (events.Grant device page frame rights) more = (0, omega arith, refl)
+found_under events.Poll more = (0, omega arith, refl)
+found_under (events.Peek address len) more = (1, omega arith, refl)
+found_under (events.Poke address bytes) more = (2, omega arith, refl)
+found_under (events.Read device address len) more = (0, omega arith, refl)
+found_under (events.Release device page) more = (1, omega arith, refl)
+found_under (events.Repeat place) more = (2, omega arith, refl)
+found_under (events.ReadTranslated device address len) more = (0, omega arith, refl)
+found_under (events.WriteTranslated device address bytes) more = (1, omega arith, refl)
+found_under (events.Write device address bytes) more = (0, omega arith, refl)
+
+-- so what is read of a line that begins in any of those ways is read of the line
+pub under_first : (line : List ℕ) (first byte : ℕ) (result : Option Event) → Some first ≡ slice_get line 0 → first ≡ byte → Reads result (IsLineOf (starts_under byte) line)
+    → Reads result (IsEventLine line)
+under_first line first byte result here is reads = λ event. (
+  λ e. ((reads event).0 e).1,
+  λ q. (
+      let begins = line_begins line event q in
+      let same : get_or (start_of event ++ begins.0) 0 0 ≡ byte = sym (ap (λ l. get_or l 0 0) begins.1) ∙ get_or_from_slice_get line 0 first 0 (sym here) ∙ is in
+      (reads event).1 (subst (λ b. Contains (starts_under b) (start_of event)) same (found_under event begins.0), q)
+      ),
+)
+
+-- the same where the bytes take memory
+pub under_first_ok : (line : List ℕ) (first byte : ℕ) (result : Result (Option Event) AllocError) → Some first ≡ slice_get line 0 → first ≡ byte
+    → IfOk result (λ event. Reads event (IsLineOf (starts_under byte) line)) → IfOk result (λ event. Reads event (IsEventLine line))
+under_first_ok line first byte result here is reads =
+    IfOk-weaker result (λ event. Reads event (IsLineOf (starts_under byte) line)) (λ event. Reads event (IsEventLine line)) (λ event. under_first line first byte event here is) reads
 
 -- what stands behind the first word of the line that says how large the world is
 abbrev pub BehindWorld : List ℕ → List ℕ → Type 0

@@ -1,17 +1,19 @@
 -- A text says one thing.
-use Rattle.std.proofs.Common.{◌≡◌, ℕ, ◌^◌, ◌<◌, inl, inr, List, [], ◌∷◌, ◌++◌, length, drop, Option, None, Some, codes, ap, sym, subst, refl, ◌∙◌, arith}
+use Rattle.std.proofs.Common.{◌≡◌, ℕ, ◌^◌, ◌<◌, Bool, true, false, inl, inr, List, [], ◌∷◌, ◌++◌, length, drop, Option, None, Some, codes, ap, sym, subst, refl, ◌∙◌, arith, ◌≤◌}
 use Rattle.std.specs.Str.Parse.{AllDigits, digits_value}
 use Rattle.std.proofs.lemmas.Str.Parse.{IsNumeralModel, numerals_by_value, tells_digits}
 use Rattle.std.proofs.lemmas.Fmt.{digits_value-decimal}
-use Rattle.std.proofs.lemmas.List.{append_cancel_left}
+use Rattle.std.proofs.lemmas.List.{append_cancel_left, length-append}
 use Rattle.iom_machine.specs.declared.event.Event.{Event}
 use Rattle.iom_machine.specs.declared.event.Event.TheVariants.{Plug, Attach, Detach, Grant, Release, Fetch, Poll, Faults, Read, Write, Commit, Poke, Peek, Free}
 use Rattle.iom_machine.specs.declared.event.Event.TheVariants.{ReadTranslated, WriteTranslated, ReadThroughCache, WriteThroughCache, Ask, Forge, Deliver, Drop, Repeat}
+use Rattle.iom_machine.specs.declared.state.DeviceKind.TheVariants.{Raw, Ats, Block, CachedBlock}
+use Rattle.iom_base.specs.declared.mode.Mode.{Mode}
 use Rattle.iom_base.specs.declared.mode.Mode.TheVariants.{First, Second, Both}
 use Rattle.iom_script.specs.declared.script.WorldSize.{WorldSize}
 use Rattle.iom_script.specs.declared.script.Script.{Script}
 use Rattle.iom_script.specs.Digits.{hex_digits}
-use Rattle.iom_script.specs.Words.{◌␣◌, IsDevice, IsNumber, IsAddress, IsRight, IsMode, IsHex}
+use Rattle.iom_script.specs.Words.{◌␣◌, IsWithout, IsDevice, IsNumber, IsPage, IsAddress, IsRight, IsMode, IsKind, IsHex}
 use Rattle.iom_script.specs.Grammar.{IsEventLine, IsWorldLine, SayEvents, Says}
 use Rattle.iom_script.proofs.CutLemmas.{cut_is_one}
 use Rattle.iom_script.proofs.HexLemmas.{same_hex, length_hex}
@@ -19,7 +21,8 @@ use Rattle.iom_script.proofs.HexBytesLemmas.{same_hex_of}
 use Rattle.iom_script.proofs.DecimalLemmas.{number_without_space}
 use Rattle.iom_script.proofs.WordLemmas.{device_without_space, address_without_space}
 use Rattle.iom_script.proofs.FieldLemmas.{HasNoSpace, Followed}
-use Rattle.iom_script.proofs.EventLemmas.{IsWord, other_line, device_event, device_from, PlugWords, attach_event, attach_from, AttachWords, grant_event, grant_from, GrantWords, release_event, release_from, ReleaseWords, read_event, read_from, ReadWords, write_event, write_from, WriteWords, commit_event, commit_from, detach_event, detach_from, poke_event, poke_from, PokeWords, peek_event, peek_from, PeekWords, free_event, free_from, faults_only}
+use Rattle.iom_script.proofs.EventLemmas.{AttachingOf, never_both, other_line, device_event, device_from, PlugWords, attach_event, attach_from, AttachWords, grant_event, grant_from, GrantWords, release_event, release_from, ReleaseWords, read_event, read_from, ReadWords, write_event, write_from, WriteWords, commit_event, commit_from, detach_event, detach_from, poke_event, poke_from, PokeWords, peek_event, peek_from, PeekWords, free_event, free_from, faults_only}
+use Rattle.iom_script.proofs.AtsEventLemmas.{aread_event, aread_from, awrite_event, awrite_from, tread_event, tread_from, twrite_event, twrite_from, ask_event, ask_from, AskWords, forge_event, forge_from, ForgeWords, deliver_event, deliver_from, drop_event, drop_from, repeat_event, repeat_from}
 
 -- the text says one value
 abbrev SaysOne : {X : Type 0} → (List ℕ → X → Type 0) → Type 0
@@ -57,11 +60,50 @@ mode_same text Both First p q = absurd (omega (arith, ap length (sym p ∙ q)))
 mode_same text Both Second p q = absurd (omega (arith, ap length (sym p ∙ q)))
 mode_same text Both Both p q = refl
 
+-- a mode is one word
+pub mode_without_space : (text : List ℕ) (mode : Mode) → IsMode text mode → IsWithout 32 text
+mode_without_space text First p = subst (IsWithout 32) (sym p) ((λ e. omega (arith, e)), ((λ e. omega (arith, e)), ((λ e. omega (arith, e)), ((λ e. omega (arith, e)), ((λ e. omega (arith, e)), tt)))))
+mode_without_space text Second p = subst (IsWithout 32) (sym p) ((λ e. omega (arith, e)), ((λ e. omega (arith, e)), ((λ e. omega (arith, e)), ((λ e. omega (arith, e)), ((λ e. omega (arith, e)), ((λ e. omega (arith, e)), tt))))))
+mode_without_space text Both p = subst (IsWithout 32) (sym p) ((λ e. omega (arith, e)), ((λ e. omega (arith, e)), ((λ e. omega (arith, e)), ((λ e. omega (arith, e)), tt))))
+
+-- of four to six letters
+mode_length : (text : List ℕ) (mode : Mode) → IsMode text mode → (4 ≤ length text) × (length text ≤ 6)
+mode_length text First p = (omega (arith, ap length p), omega (arith, ap length p))
+mode_length text Second p = (omega (arith, ap length p), omega (arith, ap length p))
+mode_length text Both p = (omega (arith, ap length p), omega (arith, ap length p))
+
+-- so a mode alone isn't one with `ats` behind it
+one_word : (text word : List ℕ) (m n : Mode) → IsMode text m → IsMode word n → text ≡ word ␣ codes "ats" → ⊥
+one_word text word m n p q e =
+    let short = mode_length text m p in
+    let long = mode_length word n q in
+    omega (arith, short.1, long.0, ap length e, length-append word (codes " ats"))
+
+pub attaching_same : SaysOne AttachingOf
+attaching_same text (m, false) (n, false) p q = ap (λ (mode : Mode). let how : Mode × Bool = (mode, false) in how) (mode_same text m n p q)
+attaching_same text (m, false) (n, true) p q = absurd (one_word text q.0 m n p q.1 q.2)
+attaching_same text (m, true) (n, false) p q = absurd (one_word text p.0 n m q p.1 p.2)
+attaching_same text (m, true) (n, true) p q =
+    let words = cut_is_one 32 p.0 q.0 (codes "ats") (codes "ats") (mode_without_space p.0 m p.1) (mode_without_space q.0 n q.1) (sym p.2 ∙ q.2) in
+    ap (λ (mode : Mode). let how : Mode × Bool = (mode, true) in how) (mode_same q.0 m n (subst (λ w. IsMode w m) words.0 p.1) q.1)
+
+kind_same : SaysOne IsKind
+kind_same text Raw Raw p q = refl
+kind_same text Ats Ats p q = refl
+kind_same text Raw Ats p q = absurd (never_both (codes "raw") (codes "ats") [] [] refl (sym p ∙ q))
+kind_same text Ats Raw p q = absurd (never_both (codes "ats") (codes "raw") [] [] refl (sym p ∙ q))
+kind_same text Block y p q = absurd p
+kind_same text CachedBlock y p q = absurd p
+kind_same text Raw Block p q = absurd q
+kind_same text Raw CachedBlock p q = absurd q
+kind_same text Ats Block p q = absurd q
+kind_same text Ats CachedBlock p q = absurd q
+
+pub page_same : SaysOne IsPage
+page_same text x y p q = number_same text x y p.0 q.0
+
 hex_same : SaysOne IsHex
 hex_same text x y p q = same_hex_of x y p.2 q.2 (sym p.3 ∙ q.3)
-
-nothing_same : (word : List ℕ) → SaysOne (IsWord word)
-nothing_same word text x y p q = refl
 
 -- words one after another
 followed_same : {B : Type 0} (Says : List ℕ → ℕ → Type 0) (More : List ℕ → B → Type 0) → HasNoSpace Says → SaysOne Says → SaysOne More → SaysOne (Followed Says More)
@@ -87,13 +129,13 @@ poll_same b q = absurd (other_line (codes "poll") [] b refl q)
 -- a line says one event
 pub event_same : (line : List ℕ) (a b : Event) → IsEventLine line a → IsEventLine line b → a ≡ b
 event_same line (Plug device kind) b p q =
-    let text = p.0 ␣ codes "raw" in
-    event_by_words device_event (PlugWords text) (Plug device kind) b (followed_same IsDevice (IsWord (codes "raw")) device_without_space device_same (nothing_same (codes "raw")) text)
-    (device_from text (Plug device kind) (p.0, p.1, p.2, refl)) (device_from text b (subst (λ l. IsEventLine l b) p.3 q))
+    let text = p.0 ␣ p.1 in
+    event_by_words device_event (PlugWords text) (Plug device kind) b (followed_same IsDevice IsKind device_without_space device_same kind_same text)
+    (device_from text (Plug device kind) (p.0, p.1, p.2, p.3, refl)) (device_from text b (subst (λ l. IsEventLine l b) p.4 q))
 event_same line (Attach device mode ats) b p q =
     let text = p.0 ␣ p.1 in
-    event_by_words attach_event (AttachWords text) (Attach device mode ats) b (followed_same IsDevice IsMode device_without_space device_same mode_same text)
-    (attach_from text (Attach device mode ats) (p.0, p.1, p.2, p.3, p.4, refl)) (attach_from text b (subst (λ l. IsEventLine l b) p.5 q))
+    event_by_words attach_event (AttachWords text) (Attach device mode ats) b (followed_same IsDevice AttachingOf device_without_space device_same attaching_same text)
+    (attach_from text (Attach device mode ats) (p.0, p.1, p.2, p.3, refl)) (attach_from text b (subst (λ l. IsEventLine l b) p.4 q))
 event_same line (Grant device page frame rights) b p q =
     let text = p.0 ␣ p.1 ␣ p.2 ␣ p.3 in
     event_by_words grant_event (GrantWords text) (Grant device page frame rights) b
@@ -134,15 +176,43 @@ event_same line (Peek address len) b p q =
 event_same line (Free frame) b p q =
     event_by_words free_event (IsNumber p.0) (Free frame) b (number_same p.0)
     (free_from p.0 (Free frame) (p.0, p.1, refl)) (free_from p.0 b (subst (λ l. IsEventLine l b) p.2 q))
-event_same line (ReadTranslated device address len) b p q = absurd p
-event_same line (WriteTranslated device address bytes) b p q = absurd p
-event_same line (ReadThroughCache device address len) b p q = absurd p
-event_same line (WriteThroughCache device address bytes) b p q = absurd p
-event_same line (Ask device page) b p q = absurd p
-event_same line (Forge device serial) b p q = absurd p
-event_same line (Deliver place) b p q = absurd p
-event_same line (Drop place) b p q = absurd p
-event_same line (Repeat place) b p q = absurd p
+event_same line (ReadTranslated device address len) b p q =
+    let text = p.0 ␣ p.1 ␣ p.2 in
+    event_by_words tread_event (ReadWords text) (ReadTranslated device address len) b
+    (followed_same IsDevice (Followed IsAddress IsNumber) device_without_space device_same (followed_same IsAddress IsNumber address_without_space address_same number_same) text)
+    (tread_from text (ReadTranslated device address len) (p.0, p.1, p.2, p.3, p.4, p.5, refl)) (tread_from text b (subst (λ l. IsEventLine l b) p.6 q))
+event_same line (WriteTranslated device address bytes) b p q =
+    let text = p.0 ␣ p.1 ␣ p.2 in
+    event_by_words twrite_event (WriteWords text) (WriteTranslated device address bytes) b
+    (followed_same IsDevice (Followed IsAddress IsHex) device_without_space device_same (followed_same IsAddress IsHex address_without_space address_same hex_same) text)
+    (twrite_from text (WriteTranslated device address bytes) (p.0, p.1, p.2, p.3, p.4, p.5, refl)) (twrite_from text b (subst (λ l. IsEventLine l b) p.6 q))
+event_same line (ReadThroughCache device address len) b p q =
+    let text = p.0 ␣ p.1 ␣ p.2 in
+    event_by_words aread_event (ReadWords text) (ReadThroughCache device address len) b
+    (followed_same IsDevice (Followed IsAddress IsNumber) device_without_space device_same (followed_same IsAddress IsNumber address_without_space address_same number_same) text)
+    (aread_from text (ReadThroughCache device address len) (p.0, p.1, p.2, p.3, p.4, p.5, refl)) (aread_from text b (subst (λ l. IsEventLine l b) p.6 q))
+event_same line (WriteThroughCache device address bytes) b p q =
+    let text = p.0 ␣ p.1 ␣ p.2 in
+    event_by_words awrite_event (WriteWords text) (WriteThroughCache device address bytes) b
+    (followed_same IsDevice (Followed IsAddress IsHex) device_without_space device_same (followed_same IsAddress IsHex address_without_space address_same hex_same) text)
+    (awrite_from text (WriteThroughCache device address bytes) (p.0, p.1, p.2, p.3, p.4, p.5, refl)) (awrite_from text b (subst (λ l. IsEventLine l b) p.6 q))
+event_same line (Ask device page) b p q =
+    let text = p.0 ␣ p.1 in
+    event_by_words ask_event (AskWords text) (Ask device page) b (followed_same IsDevice IsPage device_without_space device_same page_same text)
+    (ask_from text (Ask device page) (p.0, p.1, p.2, p.3, refl)) (ask_from text b (subst (λ l. IsEventLine l b) p.4 q))
+event_same line (Forge device serial) b p q =
+    let text = p.0 ␣ p.1 in
+    event_by_words forge_event (ForgeWords text) (Forge device serial) b (followed_same IsDevice IsNumber device_without_space device_same number_same text)
+    (forge_from text (Forge device serial) (p.0, p.1, p.2, p.3, refl)) (forge_from text b (subst (λ l. IsEventLine l b) p.4 q))
+event_same line (Deliver place) b p q =
+    event_by_words deliver_event (IsNumber p.0) (Deliver place) b (number_same p.0)
+    (deliver_from p.0 (Deliver place) (p.0, p.1, refl)) (deliver_from p.0 b (subst (λ l. IsEventLine l b) p.2 q))
+event_same line (Drop place) b p q =
+    event_by_words drop_event (IsNumber p.0) (Drop place) b (number_same p.0)
+    (drop_from p.0 (Drop place) (p.0, p.1, refl)) (drop_from p.0 b (subst (λ l. IsEventLine l b) p.2 q))
+event_same line (Repeat place) b p q =
+    event_by_words repeat_event (IsNumber p.0) (Repeat place) b (number_same p.0)
+    (repeat_from p.0 (Repeat place) (p.0, p.1, refl)) (repeat_from p.0 b (subst (λ l. IsEventLine l b) p.2 q))
 
 -- the two numbers of a world
 abbrev pub numbers_of : WorldSize → ℕ × ℕ

@@ -68,16 +68,15 @@ start_of (Commit device) = codes "commit "
 start_of (Poke address bytes) = codes "poke "
 start_of (Peek address len) = codes "peek "
 start_of (Free frame) = codes "free "
--- no line says these yet: a beginning that no line has
-start_of (ReadTranslated device address len) = codes "?"
-start_of (WriteTranslated device address bytes) = codes "?"
-start_of (ReadThroughCache device address len) = codes "?"
-start_of (WriteThroughCache device address bytes) = codes "?"
-start_of (Ask device page) = codes "?"
-start_of (Forge device serial) = codes "?"
-start_of (Deliver place) = codes "?"
-start_of (Drop place) = codes "?"
-start_of (Repeat place) = codes "?"
+start_of (ReadTranslated device address len) = codes "tread "
+start_of (WriteTranslated device address bytes) = codes "twrite "
+start_of (ReadThroughCache device address len) = codes "aread "
+start_of (WriteThroughCache device address bytes) = codes "awrite "
+start_of (Ask device page) = codes "ask "
+start_of (Forge device serial) = codes "forge "
+start_of (Deliver place) = codes "deliver "
+start_of (Drop place) = codes "drop "
+start_of (Repeat place) = codes "repeat "
 
 -- the line begins with one of these, and says the event
 abbrev pub IsLineOf : List (List ℕ) → List ℕ → Event → Type 0
@@ -87,22 +86,29 @@ IsLineOf starts line event = Contains starts (start_of event) × IsEventLine lin
 abbrev pub IsLineWith : List ℕ → List ℕ → Event → Type 0
 IsLineWith start line event = IsLineOf (start ∷ []) line event
 
--- how the lines begin that say what a device does
-abbrev pub device_starts : List (List ℕ)
-device_starts = codes "read " ∷ codes "commit " ∷ codes "write " ∷ []
+-- how the lines begin whose first letter is `a`
+abbrev pub starts_under_a : List (List ℕ)
+starts_under_a = codes "aread " ∷ codes "ask " ∷ codes "attach " ∷ codes "awrite " ∷ []
 
--- how the lines begin that say what the processor does
-abbrev pub processor_starts : List (List ℕ)
-processor_starts = codes "peek " ∷ codes "poke " ∷ []
+-- how those under `d` begin
+abbrev pub starts_under_d : List (List ℕ)
+starts_under_d = codes "deliver " ∷ codes "drop " ∷ codes "device " ∷ codes "detach " ∷ []
 
--- how the lines begin that say what the driver is asked
-abbrev pub driver_starts : List (List ℕ)
-driver_starts =
-    codes "grant " ∷ codes "release " ∷ codes "device " ∷ codes "attach " ∷ codes "detach " ∷ codes "free " ∷ []
+-- how those under `f` begin
+abbrev pub starts_under_f : List (List ℕ)
+starts_under_f = codes "fetch" ∷ codes "faults" ∷ codes "free " ∷ codes "forge " ∷ []
 
--- the lines of a single word: a step of the IOMMU, or a look of the driver
-abbrev pub single_starts : List (List ℕ)
-single_starts = codes "poll" ∷ codes "fetch" ∷ codes "faults" ∷ []
+-- how those under `p` begin
+abbrev pub starts_under_p : List (List ℕ)
+starts_under_p = codes "poll" ∷ codes "peek " ∷ codes "poke " ∷ []
+
+-- how those under `r` begin
+abbrev pub starts_under_r : List (List ℕ)
+starts_under_r = codes "read " ∷ codes "release " ∷ codes "repeat " ∷ []
+
+-- how those under `t` begin
+abbrev pub starts_under_t : List (List ℕ)
+starts_under_t = codes "tread " ∷ codes "twrite " ∷ []
 
 -- the value of a byte as a lower-case hexadecimal digit, or 255
 abbrev pub value_of : ℕ → ℕ

@@ -1,14 +1,14 @@
 ghost use Rattle.std.specs.Prelude.{◌≡◌, ◌≤◌, ◌↔◌, codes, IfOk, IsTrue};
 ghost use Rattle.iom_script.specs.Words.{Reads};
-ghost use Rattle.iom_script.specs.Cuts.{IsLineWith, IsLineOf, device_starts, driver_starts, processor_starts, single_starts};
+ghost use Rattle.iom_script.specs.Cuts.{IsLineWith, IsLineOf, starts_under_a, starts_under_d, starts_under_f, starts_under_p, starts_under_r, starts_under_t};
 ghost use Rattle.iom_script.specs.Grammar.{IsEventLine, IsWorldLine};
 
 use crate::script::WorldSize;
 use crate::words::{
-    address_and, after, bytes_of, device_and, device_of, is_word, mode_of, number_and, number_of,
-    right_of,
+    address_and, after, attaching_of, bytes_of, device_and, device_of, is_word, kind_of,
+    number_and, number_of, page_of, right_of,
 };
-use iom_machine::{DeviceKind, Event};
+use iom_machine::Event;
 use std::alloc::{AllocError, Global};
 
 /// The event of the first of these that gives one; those behind it aren't tried.
@@ -71,17 +71,6 @@ fn write(alloc: Global, line: &[u8]) -> Result<Option<Event>, AllocError>
     }))
 }
 
-/// A line on what a device does, the commonest first.
-fn act_of_device(alloc: Global, line: &[u8]) -> Result<Option<Event>, AllocError>
-    ensures { IfOk result (λ event. Reads event (IsLineOf device_starts line.now)) }
-{
-    let first = first_of!(read(line), commit(line));
-    match first {
-        Some(event) => Ok(Some(event)),
-        None => write(alloc, line),
-    }
-}
-
 /// `grant ID PAGE FRAME RIGHT`
 fn grant(line: &[u8]) -> Option<Event>
     ensures { Reads result (IsLineWith (codes "grant ") line.now) }
@@ -109,33 +98,24 @@ fn release(line: &[u8]) -> Option<Event>
     Some(Event::Release { device, page })
 }
 
-/// `device ID raw`
+/// `device ID KIND`
 fn plug(line: &[u8]) -> Option<Event>
     ensures { Reads result (IsLineWith (codes "device ") line.now) }
 {
     let arguments = after(line, b"device ")?;
-    let (device, kind) = device_and(arguments)?;
-    if kind != b"raw".as_slice() {
-        return None;
-    }
-    Some(Event::Plug {
-        device,
-        kind: DeviceKind::Raw,
-    })
+    let (device, rest) = device_and(arguments)?;
+    let kind = kind_of(rest)?;
+    Some(Event::Plug { device, kind })
 }
 
-/// `attach ID MODE`
+/// `attach ID MODE`, with `ats` behind it or not
 fn attach(line: &[u8]) -> Option<Event>
     ensures { Reads result (IsLineWith (codes "attach ") line.now) }
 {
     let arguments = after(line, b"attach ")?;
     let (device, rest) = device_and(arguments)?;
-    let mode = mode_of(rest)?;
-    Some(Event::Attach {
-        device,
-        mode,
-        ats: false,
-    })
+    let (mode, ats) = attaching_of(rest)?;
+    Some(Event::Attach { device, mode, ats })
 }
 
 /// `detach ID`
@@ -156,18 +136,127 @@ fn free(line: &[u8]) -> Option<Event>
     Some(Event::Free { frame })
 }
 
-/// A line on what the driver is asked, the commonest first.
-fn call_of_driver(line: &[u8]) -> Option<Event>
-    ensures { Reads result (IsLineOf driver_starts line.now) }
+/// `deliver K`
+fn deliver(line: &[u8]) -> Option<Event>
+    ensures { Reads result (IsLineWith (codes "deliver ") line.now) }
 {
-    first_of!(
-        grant(line),
-        release(line),
-        plug(line),
-        attach(line),
-        detach(line),
-        free(line)
-    )
+    let arguments = after(line, b"deliver ")?;
+    let place = number_of(arguments)?;
+    Some(Event::Deliver { place })
+}
+
+/// `ask ID PAGE`
+fn ask(line: &[u8]) -> Option<Event>
+    ensures { Reads result (IsLineWith (codes "ask ") line.now) }
+{
+    let arguments = after(line, b"ask ")?;
+    let (device, rest) = device_and(arguments)?;
+    let page = page_of(rest)?;
+    Some(Event::Ask { device, page })
+}
+
+/// `drop K`
+fn lose(line: &[u8]) -> Option<Event>
+    ensures { Reads result (IsLineWith (codes "drop ") line.now) }
+{
+    let arguments = after(line, b"drop ")?;
+    let place = number_of(arguments)?;
+    Some(Event::Drop { place })
+}
+
+/// `repeat K`
+fn repeat(line: &[u8]) -> Option<Event>
+    ensures { Reads result (IsLineWith (codes "repeat ") line.now) }
+{
+    let arguments = after(line, b"repeat ")?;
+    let place = number_of(arguments)?;
+    Some(Event::Repeat { place })
+}
+
+/// `forge ID SERIAL`
+fn forge(line: &[u8]) -> Option<Event>
+    ensures { Reads result (IsLineWith (codes "forge ") line.now) }
+{
+    let arguments = after(line, b"forge ")?;
+    let (device, rest) = device_and(arguments)?;
+    let serial = number_of(rest)?;
+    Some(Event::Forge { device, serial })
+}
+
+/// `aread ID ADDR LEN`
+fn read_through_cache(line: &[u8]) -> Option<Event>
+    ensures { Reads result (IsLineWith (codes "aread ") line.now) }
+{
+    let arguments = after(line, b"aread ")?;
+    let (device, rest) = device_and(arguments)?;
+    let (address, rest) = address_and(rest)?;
+    let len = number_of(rest)?;
+    Some(Event::ReadThroughCache {
+        device,
+        address,
+        len,
+    })
+}
+
+/// `tread ID ADDR LEN`
+fn read_translated(line: &[u8]) -> Option<Event>
+    ensures { Reads result (IsLineWith (codes "tread ") line.now) }
+{
+    let arguments = after(line, b"tread ")?;
+    let (device, rest) = device_and(arguments)?;
+    let (address, rest) = address_and(rest)?;
+    let len = number_of(rest)?;
+    Some(Event::ReadTranslated {
+        device,
+        address,
+        len,
+    })
+}
+
+/// `awrite ID ADDR HEX`. The bytes take memory.
+fn write_through_cache(alloc: Global, line: &[u8]) -> Result<Option<Event>, AllocError>
+    ensures { IfOk result (λ event. Reads event (IsLineWith (codes "awrite ") line.now)) }
+{
+    let Some(arguments) = after(line, b"awrite ") else {
+        return Ok(None);
+    };
+    let Some((device, rest)) = device_and(arguments) else {
+        return Ok(None);
+    };
+    let Some((address, rest)) = address_and(rest) else {
+        return Ok(None);
+    };
+    let Some(bytes) = bytes_of(alloc, rest)? else {
+        return Ok(None);
+    };
+    Ok(Some(Event::WriteThroughCache {
+        device,
+        address,
+        bytes,
+    }))
+}
+
+/// `twrite ID ADDR HEX`. The bytes take memory.
+fn write_translated(alloc: Global, line: &[u8]) -> Result<Option<Event>, AllocError>
+    ensures { IfOk result (λ event. Reads event (IsLineWith (codes "twrite ") line.now)) }
+{
+    let Some(arguments) = after(line, b"twrite ") else {
+        return Ok(None);
+    };
+    let Some((device, rest)) = device_and(arguments) else {
+        return Ok(None);
+    };
+    let Some((address, rest)) = address_and(rest) else {
+        return Ok(None);
+    };
+    let Some(bytes) = bytes_of(alloc, rest)? else {
+        return Ok(None);
+    };
+    Ok(Some(Event::WriteTranslated {
+        device,
+        address,
+        bytes,
+    }))
 }
 
 /// `peek ADDR LEN`
@@ -196,45 +285,111 @@ fn poke(alloc: Global, line: &[u8]) -> Result<Option<Event>, AllocError>
     Ok(Some(Event::Poke { address, bytes }))
 }
 
-/// A line on what the processor does.
-fn act_of_processor(alloc: Global, line: &[u8]) -> Result<Option<Event>, AllocError>
-    ensures { IfOk result (λ event. Reads event (IsLineOf processor_starts line.now)) }
-{
-    match peek(line) {
-        Some(event) => Ok(Some(event)),
-        None => poke(alloc, line),
-    }
-}
-
-/// `poll`, `fetch` or `faults`
-fn single(line: &[u8]) -> Option<Event>
-    ensures { Reads result (IsLineOf single_starts line.now) }
+/// `poll`
+fn poll(line: &[u8]) -> Option<Event>
+    ensures { Reads result (IsLineWith (codes "poll") line.now) }
 {
     if is_word(line, b"poll") {
         Some(Event::Poll)
-    } else if is_word(line, b"fetch") {
+    } else {
+        None
+    }
+}
+
+/// `fetch`
+fn fetch(line: &[u8]) -> Option<Event>
+    ensures { Reads result (IsLineWith (codes "fetch") line.now) }
+{
+    if is_word(line, b"fetch") {
         Some(Event::Fetch)
-    } else if is_word(line, b"faults") {
+    } else {
+        None
+    }
+}
+
+/// `faults`
+fn faults(line: &[u8]) -> Option<Event>
+    ensures { Reads result (IsLineWith (codes "faults") line.now) }
+{
+    if is_word(line, b"faults") {
         Some(Event::Faults)
     } else {
         None
     }
 }
 
-/// The event that a line says; the shortest lines are tried first. Only the bytes of a write or a
-/// poke take memory.
+/// A line under `r`, the commonest first, as those under other letters.
+fn under_r(line: &[u8]) -> Option<Event>
+    ensures { Reads result (IsLineOf starts_under_r line.now) }
+{
+    first_of!(read(line), release(line), repeat(line))
+}
+
+/// A line under `p`.
+fn under_p(alloc: Global, line: &[u8]) -> Result<Option<Event>, AllocError>
+    ensures { IfOk result (λ event. Reads event (IsLineOf starts_under_p line.now)) }
+{
+    let first = first_of!(poll(line), peek(line));
+    match first {
+        Some(event) => Ok(Some(event)),
+        None => poke(alloc, line),
+    }
+}
+
+/// A line under `f`.
+fn under_f(line: &[u8]) -> Option<Event>
+    ensures { Reads result (IsLineOf starts_under_f line.now) }
+{
+    first_of!(fetch(line), faults(line), free(line), forge(line))
+}
+
+/// A line under `a`.
+fn under_a(alloc: Global, line: &[u8]) -> Result<Option<Event>, AllocError>
+    ensures { IfOk result (λ event. Reads event (IsLineOf starts_under_a line.now)) }
+{
+    let first = first_of!(read_through_cache(line), ask(line), attach(line));
+    match first {
+        Some(event) => Ok(Some(event)),
+        None => write_through_cache(alloc, line),
+    }
+}
+
+/// A line under `d`.
+fn under_d(line: &[u8]) -> Option<Event>
+    ensures { Reads result (IsLineOf starts_under_d line.now) }
+{
+    first_of!(deliver(line), lose(line), plug(line), detach(line))
+}
+
+/// A line under `t`.
+fn under_t(alloc: Global, line: &[u8]) -> Result<Option<Event>, AllocError>
+    ensures { IfOk result (λ event. Reads event (IsLineOf starts_under_t line.now)) }
+{
+    match read_translated(line) {
+        Some(event) => Ok(Some(event)),
+        None => write_translated(alloc, line),
+    }
+}
+
+/// The event that a line says. The line is looked up as in a dictionary, under its first letter. Only
+/// the bytes of a write or a poke take memory.
 pub(crate) fn event_of(alloc: Global, line: &[u8]) -> Result<Option<Event>, AllocError>
     ensures { IfOk result (λ event. Reads event (IsEventLine line.now)) }
 {
-    if let Some(event) = single(line) {
-        return Ok(Some(event));
-    }
-    if let Some(event) = act_of_device(alloc, line)? {
-        return Ok(Some(event));
-    }
-    match call_of_driver(line) {
-        Some(event) => Ok(Some(event)),
-        None => act_of_processor(alloc, line),
+    let Some(first) = line.first() else {
+        return Ok(None);
+    };
+    match *first {
+        b'r' => Ok(under_r(line)),
+        b'c' => Ok(commit(line)),
+        b'p' => under_p(alloc, line),
+        b'f' => Ok(under_f(line)),
+        b'a' => under_a(alloc, line),
+        b'd' => Ok(under_d(line)),
+        b'g' => Ok(grant(line)),
+        b'w' => write(alloc, line),
+        b't' => under_t(alloc, line),
+        _ => Ok(None),
     }
 }
 

@@ -1,12 +1,14 @@
 ghost use Rattle.std.specs.Prelude.{◌≡◌, ◌/◌, ◌%◌, ◌^◌, ◌*◌, ◌<◌, ◌≤◌, ◌++◌, ◌↔◌, length, IfOk, IsTrue, MatchOption, None};
 ghost use Rattle.memchr.specs.Find.{IsFirstByte, is_byte};
 ghost use Rattle.iom_script.specs.Digits.{hex_digit, hex_digits};
-ghost use Rattle.iom_script.specs.Words.{Reads, IsDevice, IsNumber, IsAddress, IsRight, IsMode, IsHex};
+ghost use Rattle.iom_script.specs.Words.{Reads, IsDevice, IsNumber, IsPage, IsAddress, IsRight, IsMode, IsAttaching, IsKind, IsHex};
 ghost use Rattle.iom_script.specs.Cuts.{shown, shown_rest, with_rest, IsCut, Begins, LeadsWithHex, LeadsWithDecimal, LeadsWithNumber, SaysFirst};
 
 use crate::lanes::eight_bytes;
 use iom_base::{DeviceId, GrantRights, Mode, Sequence};
-use memchr::memchr_iter;
+use iom_fabric::PageNumber;
+use iom_machine::DeviceKind;
+use memchr::{memchr, memchr_iter};
 use std::alloc::{AllocError, Global};
 
 /// Where the byte first is. The iterator looks near at hand first, and lines are short.
@@ -152,6 +154,14 @@ pub(crate) fn number_of(text: &[u8]) -> Option<u64>
     Some(number)
 }
 
+/// The page that the word says.
+pub(crate) fn page_of(text: &[u8]) -> Option<PageNumber>
+    ensures { Reads result (IsPage text.now) }
+{
+    let number = number_of(text)?;
+    PageNumber::new(number)
+}
+
 /// The right that the word says.
 pub(crate) fn right_of(text: &[u8]) -> Option<GrantRights>
     ensures { Reads result (IsRight text.now) }
@@ -166,7 +176,7 @@ pub(crate) fn right_of(text: &[u8]) -> Option<GrantRights>
 }
 
 /// The mode that the word says.
-pub(crate) fn mode_of(text: &[u8]) -> Option<Mode>
+fn mode_of(text: &[u8]) -> Option<Mode>
     ensures { Reads result (IsMode text.now) }
 {
     if text == b"first".as_slice() {
@@ -175,6 +185,43 @@ pub(crate) fn mode_of(text: &[u8]) -> Option<Mode>
         Some(Mode::Second)
     } else if text == b"both".as_slice() {
         Some(Mode::Both)
+    } else {
+        None
+    }
+}
+
+/// The word before the first space, and what is behind it. For short texts: `cut` is for whole scripts, and is
+/// fast since it is called there alone.
+fn first_word(text: &[u8]) -> Option<(&[u8], &[u8])>
+    ensures { Reads (shown result) (λ parts. IsCut text.now 32 parts.0 parts.1) }
+{
+    let place = memchr(b' ', text)?;
+    Some((&text[..place], &text[place + 1..]))
+}
+
+/// The mode, and whether `ats` follows it.
+pub(crate) fn attaching_of(text: &[u8]) -> Option<(Mode, bool)>
+    ensures { Reads result (λ read. IsAttaching text.now read.0 read.1) }
+{
+    if let Some(mode) = mode_of(text) {
+        return Some((mode, false));
+    }
+    let (word, rest) = first_word(text)?;
+    if !is_word(rest, b"ats") {
+        return None;
+    }
+    let mode = mode_of(word)?;
+    Some((mode, true))
+}
+
+/// The kind of device that the word says.
+pub(crate) fn kind_of(text: &[u8]) -> Option<DeviceKind>
+    ensures { Reads result (IsKind text.now) }
+{
+    if text == b"raw".as_slice() {
+        Some(DeviceKind::Raw)
+    } else if text == b"ats".as_slice() {
+        Some(DeviceKind::Ats)
     } else {
         None
     }

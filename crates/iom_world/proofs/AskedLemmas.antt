@@ -1,4 +1,4 @@
--- A request keeps the facts, where fewer accesses were accepted than events are counted.
+-- A request keeps the facts, be it translated or not, or through a device's own cache, where fewer accesses were accepted than events are counted.
 use Rattle.std.proofs.Common.{◌≡◌, ◌^◌, ◌<◌, ℕ, sym, subst}
 use Rattle.iom_base.specs.declared.access.Access.{Access}
 use Rattle.iom_driver.specs.declared.driver.Driver.{Driver}
@@ -7,12 +7,15 @@ use Rattle.iom_iommu.specs.Parts.{flights_of}
 use Rattle.iom_machine.specs.declared.outcome.Outcome.{Outcome}
 use Rattle.iom_world.specs.Below.{LawsBelow}
 use Rattle.iom_world.specs.Parts.{Parts}
-use Rattle.iom_world.specs.Requests.{AsksAccess}
+use Rattle.iom_world.specs.Requests.{AsksAccess, AsksTranslated}
 use Rattle.iom_world.specs.Sound.{AreSound}
+use Rattle.iom_world.specs.ThroughCache.{AsksThroughCache}
 use Rattle.iom_world.proofs.DriverLemmas.{IsSoundDriver}
 use Rattle.iom_world.proofs.PartsLemmas.{StaysReady, stays_of, StaysReported, reported_of}
 use Rattle.iom_world.proofs.RequestKeeps.{keeps_asked}
 use Rattle.iom_world.proofs.ServedLemmas.{ServiceLaws}
+use Rattle.iom_world.proofs.ThroughCacheKeeps.{keeps_through_cache}
+use Rattle.iom_world.proofs.TranslatedKeeps.{keeps_translated}
 
 -- the laws of the layers below, as the service has them
 pub service_laws : LawsBelow → ServiceLaws
@@ -38,3 +41,15 @@ pub keeps_asked_counted : LawsBelow → (driver : Driver) (old new : Parts) (eve
 keeps_asked_counted laws driver old new events id access told sound own is below fits asks =
     keeps_asked (service_laws laws) old new events id access told sound own
     (subst StaysReady (sym is) (stays_of laws.stays driver)) (subst StaysReported (sym is) (reported_of laws.reported driver)) below fits asks
+
+pub keeps_translated_counted : LawsBelow → (driver : Driver) (old new : Parts) (events id : ℕ) (access : Access) (told : Outcome) → AreSound old events → IsSoundDriver old.driver → old.driver ≡ state_of driver
+    → (flights_of old.iommu).so_far < events → AsksTranslated old id access told new → AreSound new events
+keeps_translated_counted laws driver old new events id access told sound own is below asks =
+    keeps_translated (service_laws laws) old new events id access told sound own
+    (subst StaysReady (sym is) (stays_of laws.stays driver)) (subst StaysReported (sym is) (reported_of laws.reported driver)) below asks
+
+pub keeps_through_cache_counted : LawsBelow → (driver : Driver) (old new : Parts) (events id : ℕ) (access : Access) (told : Outcome) → AreSound old events → IsSoundDriver old.driver → old.driver ≡ state_of driver
+    → (flights_of old.iommu).so_far < events → AsksThroughCache old id access told new → AreSound new events
+keeps_through_cache_counted laws driver old new events id access told sound own is below asks =
+    keeps_through_cache (service_laws laws) old new events id access told sound own
+    (subst StaysReady (sym is) (stays_of laws.stays driver)) (subst StaysReported (sym is) (reported_of laws.reported driver)) below asks

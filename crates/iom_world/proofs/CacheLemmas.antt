@@ -120,8 +120,10 @@ asker_pushed devices one on has = by on.message has
     still None other there = absurd (false≢true there)
 
     by : (message : Message) → IsAsked (is_some (device_with devices on.device)) message → IsAsked (is_some (device_with (devices ++ one ∷ []) on.device)) message
-    by (sent.Ask epoch page) there =
-        ap is_some (pushed_device devices one on.device) ∙ still (device_with devices on.device) (if one.id == on.device then Some one else None) there
+    by (sent.Ask epoch page) (there, fits) = (
+      ap is_some (pushed_device devices one on.device) ∙ still (device_with devices on.device) (if one.id == on.device then Some one else None) there,
+      fits,
+    )
     by (sent.Answer epoch page translation) there = tt
     by (sent.InvReq serial range) there = tt
     by (sent.InvDone serial) there = tt

@@ -83,36 +83,58 @@ one_space d own id other stage owned at = by (owned_stages_of d.devices other) r
     by (Some s) is named =
         own.numbers.own other id s stage is owned (same_number s.mode stage.mode s.number stage.number (some_same (space_in s.mode s.number) (space_in stage.mode stage.number) named))
 
-module _ (parts : Parts) (events : ℕ) (state : State) (id : ℕ) (access : Access) (stage : Stages) (translation : Translation) (sound : AreSound parts events)
-    (own : IsSoundDriver parts.driver) (shows : PartsShow parts state) (owned : owned_stages_of parts.driver.devices id ≡ Some stage)
-    (cached : translations_of parts.iommu (space_in stage.mode stage.number, access.address / 4096) ≡ Some translation) (allowed : allows translation.rights access.kind ≡ true) where
+-- a translation that is cached of a page of the device
+module _ (parts : Parts) (events : ℕ) (state : State) (id page : ℕ) (stage : Stages) (translation : Translation) (sound : AreSound parts events) (own : IsSoundDriver parts.driver)
+    (shows : PartsShow parts state) (owned : owned_stages_of parts.driver.devices id ≡ Some stage)
+    (cached : translations_of parts.iommu (space_in stage.mode stage.number, page) ≡ Some translation) where
   -- the scene has the translation as one of the device's
-  there_in : (scene : Scene) → IsSceneOf (values_of parts) scene → Contains scene.translations (copy_of id (access.address / 4096) translation)
+  there_in : (scene : Scene) → IsSceneOf (values_of parts) scene → Contains scene.translations (copy_of id page translation)
   there_in scene is =
-      let was = is.translations (space_in stage.mode stage.number, access.address / 4096) translation cached in
-      subst (λ d. Contains scene.translations (copy_of d (access.address / 4096) translation)) (one_space parts.driver own id was.device stage owned was.own) was.there
+      let was = is.translations (space_in stage.mode stage.number, page) translation cached in
+      subst (λ d. Contains scene.translations (copy_of d page translation)) (one_space parts.driver own id was.device stage owned was.own) was.there
 
   -- of a history with which the ledger agrees
-  in_history : (scene : Scene) → IsSceneOf (values_of parts) scene → IsFaithful scene → IsFaithful (record scene { history = state.history })
+  pub in_history : (scene : Scene) → IsSceneOf (values_of parts) scene → IsFaithful scene → IsFaithful (record scene { history = state.history })
   in_history scene is facts =
       facts_of_history parts.driver.ledger scene state.history is.ledger shows.ledger (λ ticket later. shows.none_later ticket (subst (λ n. n < ticket) is.confirmed later)) facts
 
   -- what the facts on copies say of it
-  reachable_in : (both_stages : Bool) → in_both_stages (shown_attachment (attachment_of parts.driver.devices id)) ≡ both_stages → (scene : Scene) → IsSceneOf (values_of parts) scene
-      → IsFaithful scene → IsReachable both_stages state.history (copy_of id (access.address / 4096) translation)
+  pub reachable_in : (both_stages : Bool) → in_both_stages (shown_attachment (attachment_of parts.driver.devices id)) ≡ both_stages → (scene : Scene) → IsSceneOf (values_of parts) scene
+      → IsFaithful scene → IsReachable both_stages state.history (copy_of id page translation)
   reachable_in both_stages is scene shown facts =
-      let copy : Copy = copy_of id (access.address / 4096) translation in
+      let copy : Copy = copy_of id page translation in
       let kept = in_history scene shown facts in
       subst (λ b. IsReachable b state.history copy) (ap in_both_stages (shown.attachments id) ∙ is) (translations_reachable (record scene { history = state.history }) copy kept (there_in scene shown))
+
+  -- none is cached of a device that leaves
+  pub leaves_none : (ticket : ℕ) (s : Stages) → attachment_of parts.driver.devices id ≡ driver.Leaving ticket s → ⊥
+  leaves_none ticket s is =
+      not_there sound.copies (λ (scene, shown, facts).
+      none_cached scene (copy_of id page translation) (Leaving ticket s.mode s.ats) ticket facts (shown.attachments id ∙ ap shown_attachment is) (omega arith) (there_in scene shown))
+
+  -- nor of one that is detached
+  pub detached_none : attachment_of parts.driver.devices id ≡ driver.Detached → ⊥
+  detached_none is = none_some (sym (ap owned_stages is) ∙ owned)
+    where
+      none_some : ◌≡◌ {A = Option Stages} None (Some stage) → ⊥
+      none_some same = cc
+
+module _ (parts : Parts) (events : ℕ) (state : State) (id : ℕ) (access : Access) (stage : Stages) (translation : Translation) (sound : AreSound parts events)
+    (own : IsSoundDriver parts.driver) (shows : PartsShow parts state) (owned : owned_stages_of parts.driver.devices id ≡ Some stage)
+    (cached : translations_of parts.iommu (space_in stage.mode stage.number, access.address / 4096) ≡ Some translation) (allowed : allows translation.rights access.kind ≡ true) where
+  reach_in : (both_stages : Bool) → in_both_stages (shown_attachment (attachment_of parts.driver.devices id)) ≡ both_stages → (scene : Scene) → IsSceneOf (values_of parts) scene
+      → IsFaithful scene → IsReachable both_stages state.history (copy_of id (access.address / 4096) translation)
+  reach_in both_stages is scene shown facts = reachable_in parts events state id (access.address / 4096) stage translation sound own shows owned cached both_stages is scene shown facts
 
   -- in one stage it is what is held at the page, or what lingers there
   accept_in : in_both_stages (shown_attachment (attachment_of parts.driver.devices id)) ≡ false → (scene : Scene) → IsSceneOf (values_of parts) scene → IsFaithful scene
       → MayAcceptInOneStage state.history id access translation.frame
   accept_in one scene shown facts =
-      elim (reachable_in false one scene shown facts) [
+      elim (reach_in false one scene shown facts) [
         | inl held ↦ inl (translation.rights, held, allowed)
         | inr lingers ↦ inr (
-          (λ other holds. (in_history scene shown facts).order.apart id (access.address / 4096) lingers.0 (other, holds.0) (translation.frame, translation.rights) holds.1 lingers.1),
+          (λ other holds. (in_history parts events state id (access.address / 4096) stage translation sound own shows owned cached scene shown facts).order.apart id (access.address / 4096) lingers.0
+              (other, holds.0) (translation.frame, translation.rights) holds.1 lingers.1),
           (translation.rights, lingers, allowed),
         )
       ]
@@ -120,13 +142,7 @@ module _ (parts : Parts) (events : ℕ) (state : State) (id : ℕ) (access : Acc
   -- in both its frame may be reached
   may_in : in_both_stages (shown_attachment (attachment_of parts.driver.devices id)) ≡ true → (scene : Scene) → IsSceneOf (values_of parts) scene → IsFaithful scene
       → May state.history id translation.frame access.kind
-  may_in both scene shown facts = reachable_in true both scene shown facts access.kind allowed
-
-  -- no translation is cached of a device that leaves
-  leaves_none : (ticket : ℕ) (s : Stages) → attachment_of parts.driver.devices id ≡ driver.Leaving ticket s → ⊥
-  leaves_none ticket s is =
-      not_there sound.copies (λ (scene, shown, facts).
-      none_cached scene (copy_of id (access.address / 4096) translation) (Leaving ticket s.mode s.ats) ticket facts (shown.attachments id ∙ ap shown_attachment is) (omega arith) (there_in scene shown))
+  may_in both scene shown facts = reach_in true both scene shown facts access.kind allowed
 
   by_mode : (mode : Mode) (ats : Bool) → in_both_stages (shown_attachment (attachment_of parts.driver.devices id)) ≡ is_both mode → MayAccept (Attached mode ats) state id access translation.frame
   by_mode First ats is = accept_merely state.history id translation.frame access (∥∥₁_map sound.copies (λ (scene, shown, facts). accept_in is scene shown facts))
@@ -134,12 +150,9 @@ module _ (parts : Parts) (events : ℕ) (state : State) (id : ℕ) (access : Acc
   by_mode Both ats is = may_merely state.history id translation.frame access.kind (∥∥₁_map sound.copies (λ (scene, shown, facts). may_in is scene shown facts))
 
   by_attachment : (a : Attachment) → attachment_of parts.driver.devices id ≡ a → MayAccept (shown_attachment a) state id access translation.frame
-  by_attachment driver.Detached is = absurd (none_some (sym (ap owned_stages is) ∙ owned))
-    where
-      none_some : ◌≡◌ {A = Option Stages} None (Some stage) → ⊥
-      none_some same = cc
+  by_attachment driver.Detached is = absurd (detached_none parts events state id (access.address / 4096) stage translation sound own shows owned cached is)
   by_attachment (driver.Attached s) is = by_mode s.mode s.ats (ap (λ a. in_both_stages (shown_attachment a)) is)
-  by_attachment (driver.Leaving ticket s) is = absurd (leaves_none ticket s is)
+  by_attachment (driver.Leaving ticket s) is = absurd (leaves_none parts events state id (access.address / 4096) stage translation sound own shows owned cached ticket s is)
 
 pub cached_accept : (parts : Parts) (events : ℕ) (state : State) (id : ℕ) (access : Access) (stage : Stages) (translation : Translation) → AreSound parts events → IsSoundDriver parts.driver
     → PartsShow parts state → owned_stages_of parts.driver.devices id ≡ Some stage → translations_of parts.iommu (space_in stage.mode stage.number, access.address / 4096) ≡ Some translation

@@ -32,6 +32,17 @@ same_of old new memory iommu devices fabric driver = record {
   driver = driver ∙ ap (λ l. record old.driver { ledger = l }) (sym (ap (λ (d : DriverState). d.ledger) driver));
 }
 
+-- parts that are the same
+pub same_parts : (old new : Parts) → new ≡ old → AreSame old new
+same_parts old new same = subst (λ parts. AreSame old parts) (sym same) (record {
+  memory = refl;
+  iommu = refl;
+  devices = refl;
+  fabric = refl;
+  ledger = record { held = λ device page. refl; lingering = λ device page. refl; pending = refl };
+  driver = refl;
+})
+
 -- what is done isn't refused
 done_refused : (why : Refusal) → outcome.Done ≡ outcome.Refused why → ⊥
 done_refused why same = cc

@@ -1,5 +1,5 @@
 -- Nothing but a release, a detach and a fetch changes the commands that wait: the ring lies in a frame of the system's.
-use Rattle.std.proofs.Common.{◌≡◌, ◌<◌, ◌∙◌, inl, inr, ℕ, Bool, false, List, length, Option, Some, None, IfSome, Result, Ok, Err, slice_get, slice_set, refl, sym, ap, subst}
+use Rattle.std.proofs.Common.{◌≡◌, ◌<◌, ◌*◌, ◌⊎◌, ◌∙◌, inl, inr, ℕ, Bool, true, false, List, length, remove, Option, Some, None, IfSome, Result, Ok, Err, slice_get, slice_set, refl, sym, ap, subst}
 use Rattle.iom_base.specs.declared.grant_rights.GrantRights.{GrantRights}
 use Rattle.iom_base.specs.declared.owner.Owner.TheVariants.{System}
 use Rattle.iom_base.specs.Accesses.{read_of, write_of}
@@ -20,7 +20,10 @@ use Rattle.iom_inflight.specs.declared.made.MadeAt.{MadeAt}
 use Rattle.iom_inflight.specs.Calls.{Performs, Makes}
 use Rattle.iom_iommu.specs.declared.reply.Reply.{Reply}
 use Rattle.iom_iommu.specs.declared.reply.Reply.TheVariants as reply
-use Rattle.iom_iommu.specs.Requests.{AnswersRequest}
+use Rattle.iom_iommu.specs.Questions.{AnswersQuestion, RefusesQuestion, RecordsUnless, is_page_fault}
+use Rattle.iom_iommu.specs.Requests.{Answers, ServesRequest, faulted_of, fault_of}
+use Rattle.iom_iommu.specs.Translated.{ServesTranslated}
+use Rattle.iom_fault_queue.specs.Fields.{untranslated_of, translated_of}
 use Rattle.iom_table_frames.specs.Marks.{is_marked}
 use Rattle.iom_machine.specs.declared.state.DeviceKind.{DeviceKind}
 use Rattle.iom_iommu.specs.Parts.{registers_of, flights_of}
@@ -28,12 +31,32 @@ use Rattle.iom_ledger.specs.declared.refusal.Refusal.{Refusal}
 use Rattle.iom_machine.specs.declared.event.Event.{Event}
 use Rattle.iom_machine.specs.declared.event.Event.TheVariants as events
 use Rattle.iom_machine.specs.declared.outcome.Outcome.{Outcome}
+use Rattle.iom_base.specs.declared.cause.Cause.{Cause}
+use Rattle.iom_base.specs.Sizes.{page_size}
+use Rattle.iom_fabric.specs.declared.fabric.OnLink.{OnLink}
+use Rattle.iom_fabric.specs.declared.message.Message.{Message}
+use Rattle.iom_fabric.specs.declared.message.Message.TheVariants as sent
+use Rattle.iom_fabric.specs.declared.message.Translation.{Translation as Told}
+use Rattle.iom_fabric.specs.declared.message.Translation.TheVariants.{Page, Refused}
+use Rattle.iom_fault_queue.specs.declared.transaction.Transaction.{Transaction}
+use Rattle.iom_fault_queue.specs.declared.transaction.Transaction.TheVariants.{AtsRequest}
+use Rattle.iom_fault_queue.specs.Records.{record_of}
+use Rattle.iom_machine.specs.Kinds.{asks_questions, forges}
+use Rattle.iom_machine.specs.ThroughCache.{at_frame}
+use Rattle.iom_stage_walk.specs.declared.walked.WalkFault.{WalkFault}
+use Rattle.iom_tlb.specs.declared.trans_cache.Translation.{Translation}
+use Rattle.iom_tlb.specs.Content.{Content as Translations}
+use Rattle.iom_world.specs.Caches.{IsAble, epoch_in}
 use Rattle.iom_world.specs.Commits.{CommitsAccess}
+use Rattle.iom_world.specs.Deliveries.{AnswersAsked, Arrives, ArrivesIfAny, DeliversMessage}
+use Rattle.iom_world.specs.Messages.{Sends}
 use Rattle.iom_world.specs.Does.{Does, PlugsDevice, AddsRow, AttachesDevice, GrantsPage, PollsTickets}
 use Rattle.iom_world.specs.Happens.{waiting_in, KeepsCommands}
 use Rattle.iom_world.specs.Parts.{Parts}
 use Rattle.iom_world.specs.Processor.{StoresIfAny}
-use Rattle.iom_world.specs.Requests.{AsksAccess}
+use Rattle.iom_world.specs.Requests.{AsksAccess, AsksTranslated}
+use Rattle.iom_world.specs.ThroughCache.{AsksThroughCache, TriesCache, FindsFrame, cached_frame}
+use Rattle.iom_world.specs.Unable.{IsUnknown, IsUnable}
 use Rattle.iom_base.specs.declared.mode.Mode.{Mode}
 use Rattle.iom_world.specs.Sound.{AreSound}
 use Rattle.iom_world.proofs.DriverKeeps.{owned_differs, unmarked, attach_keeps_ring, tables_keep_system}
@@ -41,10 +64,9 @@ use Rattle.iom_world.proofs.DriverLemmas.{IsSoundDriver}
 use Rattle.iom_world.proofs.ProcessorKeeps.{stores_keep}
 use Rattle.iom_world.proofs.PartsLemmas.{StaysReported}
 use Rattle.iom_world.proofs.ReportKeeps.{taken_waiting}
-use Rattle.iom_world.proofs.RequestKeeps.{report_leaves}
+use Rattle.iom_world.proofs.RequestKeeps.{report_leaves, record_leaves}
 use Rattle.iom_world.proofs.SoundFrom.{report_waiting}
 use Rattle.iom_world.proofs.SoundLemmas.{same_waiting, fixed_frames}
-use Rattle.iom_machine.specs.Machine.{IsEvent}
 
 -- the system's frames keep their bytes
 abbrev KeepsSystem : Parts → List (List ℕ) → Type 0
@@ -97,19 +119,89 @@ poll_keeps old new told does = by does.answer does.call
     by (Err why) (refused, driver, memory) = λ n system. ap (λ m. slice_get m n) memory
 
 -- the IOMMU's answer to a request leaves the registers of the command queue: a fault is reported in those of another queue
+answer_keeps : (Served : Result Translation WalkFault → Translations → Type 0) (transaction : Transaction) (old new : Parts) (events id : ℕ) (access : Access) → AreSound old events → IsSoundDriver old.driver
+    → StaysReported old.driver → new.driver ≡ old.driver → new.devices ≡ old.devices → new.fabric ≡ old.fabric → (reply : Reply) → Answers Served transaction old.memory old.iommu id access reply new.memory new.iommu
+    → waiting_in new ≡ waiting_in old
+answer_keeps Served transaction old new events id access sound own reported driver devices fabric reply.BadSpan answers = waits_same old new answers.2 (ap registers_of answers.1)
+answer_keeps Served transaction old new events id access sound own reported driver devices fabric reply.Busy answers = waits_same old new answers.3 (ap registers_of answers.2)
+answer_keeps Served transaction old new events id access sound own reported driver devices fabric (reply.Accepted number) answers = waits_same old new answers.1 answers.0.registers
+answer_keeps Served transaction old new events id access sound own reported driver devices fabric (reply.Fault cause) answers =
+    report_waiting old new events sound own (report_leaves old new events id access sound reported driver devices fabric cause answers)
+
 asks_keep : (old new : Parts) (events id : ℕ) (access : Access) (told : Outcome) → AreSound old events → IsSoundDriver old.driver → StaysReported old.driver
     → AsksAccess old id access told new → waiting_in new ≡ waiting_in old
 asks_keep old new events id access told sound own reported asks = elim asks [
   | inl unknown ↦ ap waiting_in unknown.same
   | inr (inl unable) ↦ ap waiting_in unable.same
-  | inr (inr answered) ↦ by answered.1.driver answered.1.devices answered.1.fabric answered.1.reply answered.1.call
+  | inr (inr (able, replied)) ↦ answer_keeps (ServesRequest old.memory old.iommu id access) (untranslated_of access.kind) old new events id access sound own reported replied.driver replied.devices replied.fabric replied.reply replied.call
 ]
+
+translated_keep : (old new : Parts) (events id : ℕ) (access : Access) (told : Outcome) → AreSound old events → IsSoundDriver old.driver → StaysReported old.driver
+    → AsksTranslated old id access told new → waiting_in new ≡ waiting_in old
+translated_keep old new events id access told sound own reported asks = elim asks [
+  | inl unknown ↦ ap waiting_in unknown.same
+  | inr (inl unable) ↦ ap waiting_in unable.same
+  | inr (inr (able, replied)) ↦ answer_keeps (ServesTranslated old.memory old.iommu id access) (translated_of access.kind) old new events id access sound own reported replied.driver replied.devices replied.fabric replied.reply replied.call
+]
+
+finds_keep : (found : Option ℕ) (old new : Parts) (events id : ℕ) (access : Access) (told : Outcome) → AreSound old events → IsSoundDriver old.driver → StaysReported old.driver
+    → FindsFrame found old id access told new → waiting_in new ≡ waiting_in old
+finds_keep None old new events id access told sound own reported missed = ap waiting_in missed.1
+finds_keep (Some frame) old new events id access told sound own reported replied =
+    answer_keeps (ServesTranslated old.memory old.iommu id (at_frame frame access)) (translated_of access.kind) old new events id (at_frame frame access) sound own reported
+    replied.driver replied.devices replied.fabric replied.reply replied.call
+
+tries_keep : (old new : Parts) (events id : ℕ) (access : Access) (told : Outcome) → AreSound old events → IsSoundDriver old.driver → StaysReported old.driver
+    → TriesCache old id access told new → waiting_in new ≡ waiting_in old
+tries_keep old new events id access told sound own reported (inl far) = ap waiting_in far.2
+tries_keep old new events id access told sound own reported (inr (inl full)) = ap waiting_in full.3
+tries_keep old new events id access told sound own reported (inr (inr finds)) = finds_keep (cached_frame old id access) old new events id access told sound own reported finds.2
+
+through_cache_keep : (old new : Parts) (events id : ℕ) (access : Access) (told : Outcome) → AreSound old events → IsSoundDriver old.driver → StaysReported old.driver
+    → AsksThroughCache old id access told new → waiting_in new ≡ waiting_in old
+through_cache_keep old new events id access told sound own reported (inl unknown) = ap waiting_in unknown.same
+through_cache_keep old new events id access told sound own reported (inr (inl unable)) = ap waiting_in unable.same
+through_cache_keep old new events id access told sound own reported (inr (inr tried)) = tries_keep old new events id access told sound own reported tried.1
+
+-- nor does a message change them, but for a question whose fault is reported
+sends_keep : (can : DeviceKind → Bool) (old new : Parts) (id : ℕ) (message : Message) (told : Outcome)
+    → IsUnknown old id told new ⊎ IsUnable can old id told new ⊎ (IsAble can old.devices id × Sends old id message told new) → waiting_in new ≡ waiting_in old
+sends_keep can old new id message told asks = elim asks [
+  | inl unknown ↦ ap waiting_in unknown.same
+  | inr (inl unable) ↦ ap waiting_in unable.same
+  | inr (inr (able, sends)) ↦ ap waiting_in sends.sent
+]
+
+answered_keep : (old new : Parts) (events device epoch page : ℕ) (others : List OnLink) (told : Outcome) → AreSound old events → IsSoundDriver old.driver → StaysReported old.driver
+    → AnswersAsked old device epoch page others told new → waiting_in new ≡ waiting_in old
+answered_keep old new events device epoch page others told sound own reported answers = by answers.answer answers.call
   where
-    by : new.driver ≡ old.driver → new.devices ≡ old.devices → new.fabric ≡ old.fabric → (reply : Reply) → AnswersRequest old.memory old.iommu id access reply new.memory new.iommu → waiting_in new ≡ waiting_in old
-    by driver devices fabric reply.BadSpan answers = waits_same old new answers.2 (ap registers_of answers.1)
-    by driver devices fabric reply.Busy answers = waits_same old new answers.3 (ap registers_of answers.2)
-    by driver devices fabric (reply.Accepted number) answers = waits_same old new answers.1 answers.0.registers
-    by driver devices fabric (reply.Fault cause) answers = report_waiting old new events sound own (report_leaves old new events id access sound reported driver devices fabric cause answers)
+    recorded : (cause : Cause) → (call : RefusesQuestion old.memory old.iommu device page cause new.memory new.iommu) → (b : Bool)
+        → RecordsUnless b old.memory (registers_of old.iommu) (record_of (faulted_of device AtsRequest (page * page_size)) (fault_of call.fault)) new.memory (registers_of new.iommu)
+        → waiting_in new ≡ waiting_in old
+    recorded cause call true (memory, registers) = waits_same old new memory registers
+    recorded cause call false (put, puts) =
+        report_waiting old (record old { memory = new.memory; iommu = new.iommu }) events sound own
+        (record_leaves old (record old { memory = new.memory; iommu = new.iommu }) events (record_of (faulted_of device AtsRequest (page * page_size)) (fault_of call.fault)) put sound reported refl refl refl
+        call.frames call.slots call.flights puts)
+
+    by : (answer : Told) → AnswersQuestion old.memory old.iommu device page answer new.memory new.iommu → waiting_in new ≡ waiting_in old
+    by (Page frame rights) call = waits_same old new call.1 call.0.registers
+    by (Refused cause) call = recorded cause call (is_page_fault call.fault.cause) call.recorded
+
+delivered_keep : (old new : Parts) (events place : ℕ) (told : Outcome) → AreSound old events → IsSoundDriver old.driver → StaysReported old.driver → DeliversMessage old place told new
+    → waiting_in new ≡ waiting_in old
+delivered_keep old new events place told sound own reported delivers = by (slice_get old.fabric place) delivers
+  where
+    arrived : (message : Message) (device : ℕ) → Arrives message old device (remove old.fabric place) told new → waiting_in new ≡ waiting_in old
+    arrived (sent.Ask epoch page) device arrives = answered_keep old new events device epoch page (remove old.fabric place) told sound own reported arrives
+    arrived (sent.Answer epoch page answer) device arrives = ap waiting_in arrives.rest
+    arrived (sent.InvReq serial range) device arrives = ap waiting_in arrives.rest
+    arrived (sent.InvDone serial) device arrives = waits_same old new arrives.memory (ap registers_of arrives.call.left)
+
+    by : (on : Option OnLink) → ArrivesIfAny on old (remove old.fabric place) told new → waiting_in new ≡ waiting_in old
+    by None none = ap waiting_in none.1
+    by (Some on) arrives = arrived on.message on.device arrives
 
 -- what an access that is made does to memory: a frame changes that is nobody's, or none
 performs_keep : (old : Parts) (accepted : AcceptedAccess) (memory : List (List ℕ)) → slice_get old.driver.marks accepted.frame ≡ Some None
@@ -138,19 +230,27 @@ commits_keep old new events id told sound own commits = elim commits [
 poke_keeps : (old : Parts) (events address : ℕ) (bytes : List ℕ) (told : Outcome) (memory : List (List ℕ)) → AreSound old events → StoresIfAny old address bytes told memory → KeepsSystem old memory
 poke_keeps old events address bytes told memory sound stores n system = (stores_keep old events address bytes told memory sound stores).1 n System system
 
-pub commands_stay : (old new : Parts) (before : ℕ) (event : Event) (told : Outcome) → IsEvent event → AreSound old before → IsSoundDriver old.driver → StaysReported old.driver → Does old event told new → KeepsCommands event old new
-commands_stay old new before (events.Release id page) told may sound own reported does = tt
-commands_stay old new before (events.Detach id) told may sound own reported does = tt
-commands_stay old new before events.Fetch told may sound own reported does = tt
-commands_stay old new before (events.Plug id kind) told may sound own reported does = plug_keeps old new id kind told does
-commands_stay old new before (events.Attach id mode ats) told may sound own reported does = attach_keeps old new before id mode ats told sound own does
-commands_stay old new before (events.Grant id page frame rights) told may sound own reported does = waits_still old new before sound own (ap registers_of does.iommu) (grant_keeps old new before id page frame rights told sound does)
-commands_stay old new before events.Poll told may sound own reported does = waits_still old new before sound own (ap registers_of does.iommu) (poll_keeps old new told does)
-commands_stay old new before events.Faults told may sound own reported does = taken_waiting old new before told sound own does
-commands_stay old new before (events.Read id address len) told may sound own reported does = asks_keep old new before id (read_of address len) told sound own reported does
-commands_stay old new before (events.Write id address bytes) told may sound own reported does = asks_keep old new before id (write_of address bytes) told sound own reported does
-commands_stay old new before (events.Commit id) told may sound own reported does = commits_keep old new before id told sound own does
-commands_stay old new before (events.Poke address bytes) told may sound own reported does = waits_still old new before sound own (ap registers_of does.iommu) (poke_keeps old before address bytes told new.memory sound does.memory)
-commands_stay old new before (events.Peek address len) told may sound own reported does = ap waiting_in does.1
-commands_stay old new before (events.Free frame) told may sound own reported does = ap waiting_in does.1
-commands_stay old new before event told may sound own reported does = absurd may
+pub commands_stay : (old new : Parts) (before : ℕ) (event : Event) (told : Outcome) → AreSound old before → IsSoundDriver old.driver → StaysReported old.driver → Does old event told new → KeepsCommands event old new
+commands_stay old new before (events.Release id page) told sound own reported does = tt
+commands_stay old new before (events.Detach id) told sound own reported does = tt
+commands_stay old new before events.Fetch told sound own reported does = tt
+commands_stay old new before (events.Plug id kind) told sound own reported does = plug_keeps old new id kind told does
+commands_stay old new before (events.Attach id mode ats) told sound own reported does = attach_keeps old new before id mode ats told sound own does
+commands_stay old new before (events.Grant id page frame rights) told sound own reported does = waits_still old new before sound own (ap registers_of does.iommu) (grant_keeps old new before id page frame rights told sound does)
+commands_stay old new before events.Poll told sound own reported does = waits_still old new before sound own (ap registers_of does.iommu) (poll_keeps old new told does)
+commands_stay old new before events.Faults told sound own reported does = taken_waiting old new before told sound own does
+commands_stay old new before (events.Read id address len) told sound own reported does = asks_keep old new before id (read_of address len) told sound own reported does
+commands_stay old new before (events.Write id address bytes) told sound own reported does = asks_keep old new before id (write_of address bytes) told sound own reported does
+commands_stay old new before (events.Commit id) told sound own reported does = commits_keep old new before id told sound own does
+commands_stay old new before (events.Poke address bytes) told sound own reported does = waits_still old new before sound own (ap registers_of does.iommu) (poke_keeps old before address bytes told new.memory sound does.memory)
+commands_stay old new before (events.Peek address len) told sound own reported does = ap waiting_in does.1
+commands_stay old new before (events.Free frame) told sound own reported does = ap waiting_in does.1
+commands_stay old new before (events.ReadTranslated id address len) told sound own reported does = translated_keep old new before id (read_of address len) told sound own reported does
+commands_stay old new before (events.WriteTranslated id address bytes) told sound own reported does = translated_keep old new before id (write_of address bytes) told sound own reported does
+commands_stay old new before (events.ReadThroughCache id address len) told sound own reported does = through_cache_keep old new before id (read_of address len) told sound own reported does
+commands_stay old new before (events.WriteThroughCache id address bytes) told sound own reported does = through_cache_keep old new before id (write_of address bytes) told sound own reported does
+commands_stay old new before (events.Ask id page) told sound own reported does = sends_keep asks_questions old new id (sent.Ask (epoch_in old.devices id) page) told does
+commands_stay old new before (events.Forge id serial) told sound own reported does = sends_keep forges old new id (sent.InvDone serial) told does
+commands_stay old new before (events.Deliver place) told sound own reported does = delivered_keep old new before place told sound own reported does
+commands_stay old new before (events.Drop place) told sound own reported does = ap waiting_in does.dropped
+commands_stay old new before (events.Repeat place) told sound own reported does = ap waiting_in does.repeated

@@ -5,7 +5,7 @@ use Rattle.iom_machine.specs.declared.event.Event.{Event}
 use Rattle.iom_machine.specs.declared.event.Event.TheVariants as events
 use Rattle.iom_machine.specs.declared.outcome.Outcome.{Outcome}
 use Rattle.iom_machine.specs.declared.state.State.{State}
-use Rattle.iom_machine.specs.Machine.{Step, IsEvent}
+use Rattle.iom_machine.specs.Machine.{Step}
 use Rattle.iom_world.specs.declared.world.World.{World}
 use Rattle.iom_world.specs.Below.{LawsBelow, AddressFits}
 use Rattle.iom_world.specs.Does.{Does}
@@ -17,18 +17,22 @@ use Rattle.iom_world.specs.Sound.{AreSound}
 use Rattle.iom_world.proofs.AttachStep.{attach_step}
 use Rattle.iom_world.proofs.CommandsStay.{commands_stay}
 use Rattle.iom_world.proofs.CommitStep.{commit_step}
+use Rattle.iom_world.proofs.DeliverStep.{delivered_step}
 use Rattle.iom_world.proofs.DetachStep.{detach_step}
 use Rattle.iom_world.proofs.DriverLemmas.{IsSoundDriver, sound_driver}
 use Rattle.iom_world.proofs.FetchStep.{fetch_step}
 use Rattle.iom_world.proofs.FlightMay.{each_may}
 use Rattle.iom_world.proofs.GrantStep.{grant_step}
+use Rattle.iom_world.proofs.MessageSteps.{question_step, forged_step, dropped_step, repeated_step}
 use Rattle.iom_world.proofs.PlugStep.{plug_step}
 use Rattle.iom_world.proofs.PollStep.{poll_step}
 use Rattle.iom_world.proofs.ProcessorSteps.{poked_step, peeked_step, asked_free_step}
 use Rattle.iom_world.proofs.RefusedSame.{refused_same}
 use Rattle.iom_world.proofs.ReleaseStep.{release_step}
 use Rattle.iom_world.proofs.RequestStep.{request_step}
-use Rattle.iom_world.proofs.RunLemmas.{no_choice, frame_chosen, frames_taken, pages_taken}
+use Rattle.iom_world.proofs.ThroughCacheStep.{through_cache_step}
+use Rattle.iom_world.proofs.TranslatedStep.{translated_step}
+use Rattle.iom_world.proofs.RunLemmas.{no_choice, frame_chosen, question_chosen, frames_taken, pages_taken}
 use Rattle.iom_world.proofs.ServedLemmas.{ServiceLaws}
 use Rattle.iom_world.proofs.AskedLemmas.{service_laws}
 use Rattle.iom_world.proofs.GuestMay.{guest_tables_for}
@@ -37,47 +41,60 @@ use Rattle.iom_world.proofs.ReportKeeps.{taken_step}
 
 -- a step by the event
 module _ (laws : ServiceLaws) (old new : Parts) (counted before : ℕ) (sound : AreSound old before) (own : IsSoundDriver old.driver) (reported : StaysReported old.driver) (sound' : AreSound new counted) where
-  steps : (event : Event) (told : Outcome) → IsEvent event → AddressFits event → Does old event told new → (state : State) → PartsShow old state → (next : State) × Step state event told next × PartsShow new next
-  steps (events.Plug id kind) told may fits does state shows =
+  steps : (event : Event) (told : Outcome) → AddressFits event → Does old event told new → (state : State) → PartsShow old state → (next : State) × Step state event told next × PartsShow new next
+  steps (events.Plug id kind) told fits does state shows =
       let step = plug_step old new before id kind told sound does state shows in (step.0, (no_choice, step.1), step.2)
-  steps (events.Attach id mode ats) told may fits does state shows =
+  steps (events.Attach id mode ats) told fits does state shows =
       let step = attach_step old new before id mode ats told sound own does state shows in (step.2, (pages_taken step.0 step.1, step.3), step.4)
-  steps (events.Detach id) told may fits does state shows =
+  steps (events.Detach id) told fits does state shows =
       let step = detach_step old new before id told sound own does state shows in (step.0, (no_choice, step.1), step.2)
-  steps (events.Grant id page frame rights) told may fits does state shows =
+  steps (events.Grant id page frame rights) told fits does state shows =
       let step = grant_step old new before id page frame rights told sound does state shows in (step.1, (frames_taken step.0, step.2), step.3)
-  steps (events.Release id page) told may fits does state shows =
+  steps (events.Release id page) told fits does state shows =
       let step = release_step old new before id page told sound own does state shows in (step.0, (no_choice, step.1), step.2)
-  steps events.Fetch told may fits does state shows =
+  steps events.Fetch told fits does state shows =
       let step = fetch_step old new before told sound own does state shows in (step.0, (no_choice, step.1), step.2)
-  steps events.Poll told may fits does state shows =
+  steps events.Poll told fits does state shows =
       let step = poll_step old new before counted told sound own sound' does (each_may new counted sound') state shows in (step.0, (no_choice, step.1), step.2)
-  steps events.Faults told may fits does state shows =
+  steps events.Faults told fits does state shows =
       let step = taken_step old new before told sound does state shows in (state, (no_choice, step.0), step.1)
-  steps (events.Read id address len) told may fits does state shows =
+  steps (events.Read id address len) told fits does state shows =
       let step = request_step laws old new before id (read_of address len) told sound own reported fits does state shows in (step.1, (frame_chosen step.0, step.2), step.3)
-  steps (events.Write id address bytes) told may fits does state shows =
+  steps (events.Write id address bytes) told fits does state shows =
       let step = request_step laws old new before id (write_of address bytes) told sound own reported fits does state shows in (step.1, (frame_chosen step.0, step.2), step.3)
-  steps (events.Commit id) told may fits does state shows =
+  steps (events.Commit id) told fits does state shows =
       let step = commit_step old new before id told sound does state shows in (step.0, (no_choice, step.1), step.2)
-  steps (events.Poke address bytes) told may fits does state shows =
+  steps (events.Poke address bytes) told fits does state shows =
       let step = poked_step old new before address bytes told sound does state shows in (step.0, (no_choice, step.1), step.2)
-  steps (events.Peek address len) told may fits does state shows =
+  steps (events.Peek address len) told fits does state shows =
       (state, (no_choice, peeked_step old before address len told sound does.0 state shows), rw does.1 shows)
-  steps (events.Free frame) told may fits does state shows =
+  steps (events.Free frame) told fits does state shows =
       (state, (no_choice, asked_free_step old before frame told sound does.0 state shows), rw does.1 shows)
-  steps event told may fits does state shows = absurd may
+  steps (events.ReadTranslated id address len) told fits does state shows =
+      let step = translated_step laws old new before id (read_of address len) told sound own reported does state shows in (state, (no_choice, step.0), step.1)
+  steps (events.WriteTranslated id address bytes) told fits does state shows =
+      let step = translated_step laws old new before id (write_of address bytes) told sound own reported does state shows in (state, (no_choice, step.0), step.1)
+  steps (events.ReadThroughCache id address len) told fits does state shows =
+      let step = through_cache_step laws old new before id (read_of address len) told sound own does state shows in (step.1, (frame_chosen step.0, step.2), step.3)
+  steps (events.WriteThroughCache id address bytes) told fits does state shows =
+      let step = through_cache_step laws old new before id (write_of address bytes) told sound own does state shows in (step.1, (frame_chosen step.0, step.2), step.3)
+  steps (events.Ask id page) told fits does state shows = let step = question_step old new id page told does state shows in (state, (no_choice, step.0), step.1)
+  steps (events.Forge id serial) told fits does state shows = let step = forged_step old new id serial told does state shows in (state, (no_choice, step.0), step.1)
+  steps (events.Deliver place) told fits does state shows =
+      let step = delivered_step laws old new before place told sound own reported does state shows in (state, (question_chosen step.0 step.1, step.2), step.3)
+  steps (events.Drop place) told fits does state shows = let step = dropped_step old new place told does state shows in (state, (no_choice, step.0), step.1)
+  steps (events.Repeat place) told fits does state shows = let step = repeated_step old new place told does state shows in (state, (no_choice, step.0), step.1)
 
 -- WHAT HAPPENS
-pub happens : LawsBelow → (old new : World) (event : Event) (told : Outcome) → IsEvent event → AddressFits event → Does (parts_of old) event told (parts_of new) → new.events ≡ old.events + 1 → Happens old event told new
-happens laws old new event told may fits does counted =
+pub happens : LawsBelow → (old new : World) (event : Event) (told : Outcome) → AddressFits event → Does (parts_of old) event told (parts_of new) → new.events ≡ old.events + 1 → Happens old event told new
+happens laws old new event told fits does counted =
     let service = service_laws laws in
     let reported = reported_of laws.reported old.driver in
     record {
-      step = steps service (parts_of old) (parts_of new) new.events old.events old.sound (sound_driver old.driver) reported new.sound event told may fits does;
+      step = steps service (parts_of old) (parts_of new) new.events old.events old.sound (sound_driver old.driver) reported new.sound event told fits does;
       does = does;
-      commands = commands_stay (parts_of old) (parts_of new) old.events event told may old.sound (sound_driver old.driver) reported does;
+      commands = commands_stay (parts_of old) (parts_of new) old.events event told old.sound (sound_driver old.driver) reported does;
       guest = λ state shows. guest_tables_for service (parts_of old) old.events event old.sound (sound_driver old.driver) state shows;
-      refused = refused_same (parts_of old) (parts_of new) event told may does;
+      refused = refused_same (parts_of old) (parts_of new) event told does;
       events = counted;
     }

@@ -27,7 +27,7 @@ use Rattle.iom_world.proofs.DriverLemmas.{IsSoundDriver}
 use Rattle.iom_world.proofs.RowLemmas.{row_accesses}
 
 -- what the history says to linger the ledger has as lingering
-lingers_in : (ledger : Ledger) (h : History) (device page : ℕ) (pair : Pair) → Agrees ledger h → Lingers h device page pair → lingering_in ledger device page ≡ Some pair
+pub lingers_in : (ledger : Ledger) (h : History) (device page : ℕ) (pair : Pair) → Agrees ledger h → Lingers h device page pair → lingering_in ledger device page ≡ Some pair
 lingers_in ledger h device page pair agrees (ticket, there) =
     by (released_in ledger device page) (subst (λ l. Contains l (ticket, pair)) ((agrees.pages device page).lingers) there)
   where

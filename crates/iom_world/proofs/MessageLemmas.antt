@@ -2,6 +2,7 @@
 use Rattle.std.proofs.Common.{◌≡◌, ◌⊎◌, ◌∙◌, inl, inr, ℕ, Bool, true, false, is_some, nat_lt, List, [], ◌∷◌, ◌++◌, length, Contains, sym, subst, ap, if◌then◌else◌}
 use Rattle.std.proofs.lemmas.Grind.{flat_map-append}
 use Rattle.std.proofs.lemmas.List.{append-nil}
+use Rattle.std.specs.Bool.{OnTrue, OnFalse}
 use Rattle.std.specs.List.{All}
 use Rattle.std.proofs.lemmas.List.Elements.{All-push, Contains-append_cases}
 use Rattle.iom_copies.specs.Scene.{AtsMessage, InvalidateRequest}
@@ -55,3 +56,13 @@ askers_sent devices fabric id message askers own = by (nat_lt (length fabric) 64
     by : (b : Bool) → All (HasAsker devices) (if b then fabric ++ (record { device = id; message = message }) ∷ [] else fabric)
     by false = askers
     by true = All-push (HasAsker devices) fabric (record { device = id; message = message }) askers own
+
+-- what a fabric sends
+pub sent_as : (fabric after : List OnLink) (device : ℕ) (message : Message) (result : Bool) → result ≡ nat_lt (length fabric) 64
+    → OnTrue result (after ≡ fabric ++ (record { device = device; message = message }) ∷ []) → OnFalse result (after ≡ fabric) → after ≡ with_sent fabric device message
+sent_as fabric after device message result is sent lost = subst (λ (b : Bool). after ≡ (if b then fabric ++ (record { device = device; message = message }) ∷ [] else fabric)) is (by result sent lost)
+  where
+    by : (b : Bool) → OnTrue b (after ≡ fabric ++ (record { device = device; message = message }) ∷ []) → OnFalse b (after ≡ fabric)
+        → after ≡ (if b then fabric ++ (record { device = device; message = message }) ∷ [] else fabric)
+    by true put lose = put
+    by false put lose = lose

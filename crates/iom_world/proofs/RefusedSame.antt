@@ -1,5 +1,5 @@
 -- A refusal changes nothing, whatever the event.
-use Rattle.std.proofs.Common.{◌≡◌, inl, inr, ℕ, List, Option, Some, None, refl, sym, subst}
+use Rattle.std.proofs.Common.{◌≡◌, ◌⊎◌, inl, inr, ℕ, Bool, List, Option, Some, None, subst}
 use Rattle.arrayvec.specs.ArrayVec.{ArrayVec}
 use Rattle.iom_base.specs.declared.access.Access.{Access}
 use Rattle.iom_base.specs.declared.access.AccessKind.{AccessKind}
@@ -15,24 +15,23 @@ use Rattle.iom_machine.specs.declared.outcome.Outcome.{Outcome}
 use Rattle.iom_machine.specs.declared.outcome.Outcome.TheVariants as outcome
 use Rattle.iom_world.specs.Commits.{CommitsAccess, TellsMade, TellsKind}
 use Rattle.iom_world.specs.Does.{Does}
-use Rattle.iom_world.specs.Happens.{AreSame, SameIfRefused}
+use Rattle.iom_world.specs.Happens.{SameIfRefused}
 use Rattle.iom_world.specs.Parts.{Parts}
 use Rattle.iom_world.specs.Processor.{PokesBytes, StoresIfAny}
-use Rattle.iom_world.specs.Requests.{AsksAccess, reply_told_of}
-use Rattle.iom_world.proofs.CallRefused.{same_of, plug_refused, attach_refused, grant_refused, release_refused, detach_refused, fetch_refused, poll_refused}
+use Rattle.iom_fabric.specs.declared.message.Message.TheVariants as sent
+use Rattle.iom_iommu.specs.Requests.{AnswersRequest}
+use Rattle.iom_iommu.specs.Translated.{AnswersTranslated}
+use Rattle.iom_machine.specs.declared.state.DeviceKind.{DeviceKind}
+use Rattle.iom_machine.specs.Kinds.{sends_untranslated, forges, asks_questions}
+use Rattle.iom_world.specs.Caches.{IsAble, epoch_in}
+use Rattle.iom_world.specs.OwnIommu.{Iommu}
+use Rattle.iom_world.specs.Requests.{AsksAccess, AsksTranslated, IsReplied, reply_told_of}
+use Rattle.iom_world.specs.ThroughCache.{AsksThroughCache, TriesCache, FindsFrame, cached_frame}
+use Rattle.iom_world.specs.Unable.{IsUnknown, IsUnable}
+use Rattle.iom_world.proofs.CallRefused.{same_of, same_parts, plug_refused, attach_refused, grant_refused, release_refused, detach_refused, fetch_refused, poll_refused}
+use Rattle.iom_world.proofs.DeliverStep.{delivered_refused}
+use Rattle.iom_world.proofs.MessageSteps.{sends_refused, dropped_refused, repeated_refused}
 use Rattle.iom_world.proofs.ReportKeeps.{taken_refused}
-use Rattle.iom_machine.specs.Machine.{IsEvent}
-
--- parts that are the same
-pub same_parts : (old new : Parts) → new ≡ old → AreSame old new
-same_parts old new same = subst (λ parts. AreSame old parts) (sym same) (record {
-  memory = refl;
-  iommu = refl;
-  devices = refl;
-  fabric = refl;
-  ledger = record { held = λ device page. refl; lingering = λ device page. refl; pending = refl };
-  driver = refl;
-})
 
 -- a reply isn't told as refused
 never_answered : (reply : Reply) (told : Outcome) (why : Refusal) → told ≡ reply_told_of reply → told ≡ outcome.Refused why → ⊥
@@ -41,12 +40,45 @@ never_answered Busy told why is refused = cc
 never_answered BadSpan told why is refused = cc
 never_answered (Fault cause) told why is refused = cc
 
-pub asked_refused : (old new : Parts) (id : ℕ) (access : Access) (told : Outcome) → AsksAccess old id access told new → SameIfRefused told old new
-asked_refused old new id access told asks why refused = elim asks [
+abbrev RepliesIfAble : (DeviceKind → Bool) → (Reply → List (List ℕ) → Iommu → Type 0) → Parts → ℕ → Outcome → Parts → Type 0
+RepliesIfAble can Call old id told new = IsUnknown old id told new ⊎ IsUnable can old id told new ⊎ (IsAble can old.devices id × IsReplied Call old told new)
+
+replied_refused : (can : DeviceKind → Bool) (Call : Reply → List (List ℕ) → Iommu → Type 0) (old new : Parts) (id : ℕ) (told : Outcome) → RepliesIfAble can Call old id told new → SameIfRefused told old new
+replied_refused can Call old new id told asks why refused = elim asks [
   | inl unknown ↦ same_parts old new unknown.same
   | inr (inl unable) ↦ same_parts old new unable.same
   | inr (inr answered) ↦ absurd (never_answered answered.1.reply told why answered.1.told_so refused)
 ]
+
+asked_refused : (old new : Parts) (id : ℕ) (access : Access) (told : Outcome) → AsksAccess old id access told new → SameIfRefused told old new
+asked_refused old new id access told asks = replied_refused sends_untranslated (AnswersRequest old.memory old.iommu id access) old new id told asks
+
+translated_refused : (old new : Parts) (id : ℕ) (access : Access) (told : Outcome) → AsksTranslated old id access told new → SameIfRefused told old new
+translated_refused old new id access told asks = replied_refused forges (AnswersTranslated old.memory old.iommu id access) old new id told asks
+
+-- nor is an access through a cache, but where the device can't have one
+not_missed : (told : Outcome) (why : Refusal) → told ≡ outcome.Miss → told ≡ outcome.Refused why → ⊥
+not_missed told why is refused = cc
+
+not_far : (told : Outcome) (why : Refusal) → told ≡ outcome.BadSpan → told ≡ outcome.Refused why → ⊥
+not_far told why is refused = cc
+
+not_busy : (told : Outcome) (why : Refusal) → told ≡ outcome.Busy → told ≡ outcome.Refused why → ⊥
+not_busy told why is refused = cc
+
+found_refused : (found : Option ℕ) (old new : Parts) (id : ℕ) (access : Access) (told : Outcome) (why : Refusal) → FindsFrame found old id access told new → told ≡ outcome.Refused why → ⊥
+found_refused None old new id access told why finds refused = not_missed told why finds.0 refused
+found_refused (Some frame) old new id access told why replied refused = never_answered replied.reply told why replied.told_so refused
+
+tries_refused : (old new : Parts) (id : ℕ) (access : Access) (told : Outcome) (why : Refusal) → TriesCache old id access told new → told ≡ outcome.Refused why → ⊥
+tries_refused old new id access told why (inl far) refused = not_far told why far.1 refused
+tries_refused old new id access told why (inr (inl full)) refused = not_busy told why full.2 refused
+tries_refused old new id access told why (inr (inr finds)) refused = found_refused (cached_frame old id access) old new id access told why finds.2 refused
+
+through_cache_refused : (old new : Parts) (id : ℕ) (access : Access) (told : Outcome) → AsksThroughCache old id access told new → SameIfRefused told old new
+through_cache_refused old new id access told (inl unknown) why refused = same_parts old new unknown.same
+through_cache_refused old new id access told (inr (inl unable)) why refused = same_parts old new unable.same
+through_cache_refused old new id access told (inr (inr tried)) why refused = absurd (tries_refused old new id access told why tried.1 refused)
 
 -- nor is what is told of an access that was made
 not_a_read : (told : Outcome) (held : ArrayVec ℕ) (why : Refusal) → told ≡ outcome.Read held → told ≡ outcome.Refused why → ⊥
@@ -78,19 +110,27 @@ poked_refused old new address bytes told pokes why refused =
     same_of old new same.2 pokes.iommu pokes.devices pokes.fabric pokes.driver
 
 -- EACH EVENT
-pub refused_same : (old new : Parts) (event : Event) (told : Outcome) → IsEvent event → Does old event told new → SameIfRefused told old new
-refused_same old new (events.Plug id kind) told may does = plug_refused old new id kind told does
-refused_same old new (events.Attach id mode ats) told may does = attach_refused old new id mode ats told does
-refused_same old new (events.Grant id page frame rights) told may does = grant_refused old new id page frame rights told does
-refused_same old new (events.Release id page) told may does = release_refused old new id page told does
-refused_same old new (events.Detach id) told may does = detach_refused old new id told does
-refused_same old new events.Fetch told may does = fetch_refused old new told does
-refused_same old new events.Poll told may does = poll_refused old new told does
-refused_same old new events.Faults told may does = taken_refused old new told does
-refused_same old new (events.Read id address len) told may does = asked_refused old new id (read_of address len) told does
-refused_same old new (events.Write id address bytes) told may does = asked_refused old new id (write_of address bytes) told does
-refused_same old new (events.Commit id) told may does = committed_refused old new id told does
-refused_same old new (events.Poke address bytes) told may does = poked_refused old new address bytes told does
-refused_same old new (events.Peek address len) told may does = λ why refused. same_parts old new does.1
-refused_same old new (events.Free frame) told may does = λ why refused. same_parts old new does.1
-refused_same old new event told may does = absurd may
+pub refused_same : (old new : Parts) (event : Event) (told : Outcome) → Does old event told new → SameIfRefused told old new
+refused_same old new (events.Plug id kind) told does = plug_refused old new id kind told does
+refused_same old new (events.Attach id mode ats) told does = attach_refused old new id mode ats told does
+refused_same old new (events.Grant id page frame rights) told does = grant_refused old new id page frame rights told does
+refused_same old new (events.Release id page) told does = release_refused old new id page told does
+refused_same old new (events.Detach id) told does = detach_refused old new id told does
+refused_same old new events.Fetch told does = fetch_refused old new told does
+refused_same old new events.Poll told does = poll_refused old new told does
+refused_same old new events.Faults told does = taken_refused old new told does
+refused_same old new (events.Read id address len) told does = asked_refused old new id (read_of address len) told does
+refused_same old new (events.Write id address bytes) told does = asked_refused old new id (write_of address bytes) told does
+refused_same old new (events.Commit id) told does = committed_refused old new id told does
+refused_same old new (events.Poke address bytes) told does = poked_refused old new address bytes told does
+refused_same old new (events.Peek address len) told does = λ why refused. same_parts old new does.1
+refused_same old new (events.Free frame) told does = λ why refused. same_parts old new does.1
+refused_same old new (events.ReadTranslated id address len) told does = translated_refused old new id (read_of address len) told does
+refused_same old new (events.WriteTranslated id address bytes) told does = translated_refused old new id (write_of address bytes) told does
+refused_same old new (events.ReadThroughCache id address len) told does = through_cache_refused old new id (read_of address len) told does
+refused_same old new (events.WriteThroughCache id address bytes) told does = through_cache_refused old new id (write_of address bytes) told does
+refused_same old new (events.Ask id page) told does = sends_refused asks_questions old new id (sent.Ask (epoch_in old.devices id) page) told does
+refused_same old new (events.Forge id serial) told does = sends_refused forges old new id (sent.InvDone serial) told does
+refused_same old new (events.Deliver place) told does = delivered_refused old new place told does
+refused_same old new (events.Drop place) told does = dropped_refused old new place told does
+refused_same old new (events.Repeat place) told does = repeated_refused old new place told does

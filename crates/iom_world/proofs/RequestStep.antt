@@ -10,7 +10,8 @@ use Rattle.iom_driver.specs.declared.device.Attachment.TheVariants as driver
 use Rattle.iom_driver.specs.declared.device.Device as known
 use Rattle.iom_driver.specs.Devices.{attachment_of}
 use Rattle.iom_driver.specs.Layout.{fault_frame}
-use Rattle.iom_inflight.specs.Calls.{with_access}
+use Rattle.iom_base.specs.Sizes.{in_flight_limit}
+use Rattle.iom_inflight.specs.Calls.{with_access, IsAccepted, IsFull}
 use Rattle.iom_inflight.specs.Flights.{NumberedAccess, FlightRow, row_of, with_row}
 use Rattle.iom_inflight.proofs.Rows.{row_is_own}
 use Rattle.iom_iommu.specs.declared.reply.Reply.{Reply}
@@ -136,7 +137,7 @@ abbrev Steps : State → ℕ → Access → Outcome → Parts → Type 0
 Steps state id access told new = (frame : ℕ) × (next : State) × Requests frame state id access told next × PartsShow new next
 
 -- nothing changes that the machine shows, though other contexts are cached, and reserved frames have other bytes
-shows_where : (old new : Parts) (state : State) → ShowsFrames new.memory old.driver.marks state.frames → new.driver ≡ old.driver → new.devices ≡ old.devices
+pub shows_where : (old new : Parts) (state : State) → ShowsFrames new.memory old.driver.marks state.frames → new.driver ≡ old.driver → new.devices ≡ old.devices
     → flights_of new.iommu ≡ flights_of old.iommu → PartsShow old state → PartsShow new state
 shows_where old new state frames driver devices flights shows = record {
   ledger = rw driver shows.ledger;
@@ -149,7 +150,7 @@ shows_where old new state frames driver devices flights shows = record {
 }
 
 -- a frame that is nobody's isn't the fault queue's, and keeps its bytes where a fault is reported
-shows_reported : (old new : Parts) (state : State) (leaves : LeavesReport old new) → length old.memory ≡ length old.driver.marks → IsSoundDriver old.driver
+pub shows_reported : (old new : Parts) (state : State) (leaves : LeavesReport old new) → length old.memory ≡ length old.driver.marks → IsSoundDriver old.driver
     → PartsShow old state → ShowsFrames new.memory old.driver.marks state.frames
 shows_reported old new state leaves size own shows =
     shows_kept old.memory new.memory old.driver.marks state.frames shows.frames
@@ -169,17 +170,13 @@ shows_flights old new state memory driver devices flights shows = record {
   levels = rw driver shows.levels;
 }
 
-module _ (laws : ServiceLaws) (old new : Parts) (events id : ℕ) (access : Access) (sound : AreSound old events) (own : IsSoundDriver old.driver) (fits : access.address < 2 ^ 64)
-    (reported : StaysReported old.driver) (driver : new.driver ≡ old.driver) (devices : new.devices ≡ old.devices) (state : State) (shows : PartsShow old state)
-    (is : IsFound old.driver.devices (flights_of old.iommu).rows old.devices id) (able : sends_untranslated is.device.kind ≡ true) (fabric : new.fabric ≡ old.fabric) where
+module _ (old new : Parts) (events id : ℕ) (sound : AreSound old events) (state : State) (shows : PartsShow old state)
+    (is : IsFound old.driver.devices (flights_of old.iommu).rows old.devices id) where
   abbrev rows : List FlightRow
   rows = (flights_of old.iommu).rows
 
   abbrev device : machine.Device
   device = shown_device old.driver.devices (flights_of old.iommu).rows is.device
-
-  abbrev MayTell : ℕ → State → Outcome → machine.Device → Type 0
-  MayTell frame next told device = MayAnswer state device access frame told × (next ≡ state_after state device access frame told)
 
   -- how many of the device are in flight
   row_at : (row : FlightRow) → row_of (flights_of old.iommu).rows id ≡ Some row → row_of (flights_of old.iommu).rows is.device.id ≡ Some row
@@ -187,6 +184,53 @@ module _ (laws : ServiceLaws) (old new : Parts) (events id : ℕ) (access : Acce
 
   long : (row : FlightRow) → row_of (flights_of old.iommu).rows id ≡ Some row → length (in_flight_of (flights_of old.iommu).rows is.device.id) ≡ length row.waiting
   long row at = ap (λ (l : List AcceptedAccess). length l) (in_flight_at rows is.device.id row (row_at row at)) ∙ length-map row.waiting (λ (flight : NumberedAccess). flight.accepted)
+
+  -- with eight it is busy, and else it isn't
+  pub is_busy : IsFull (flights_of old.iommu) id → IsBusy (in_flight_of (flights_of old.iommu).rows is.device.id)
+  is_busy full = let least = full.full in let many = long full.row full.stands in omega (arith, least, many)
+
+  pub not_busy : (row : FlightRow) → row_of (flights_of old.iommu).rows id ≡ Some row → length row.waiting < in_flight_limit → ¬ IsBusy (in_flight_of (flights_of old.iommu).rows is.device.id)
+  not_busy row at room busy = let many = long row at in absurd (omega (arith, room, many, busy))
+
+  -- an access is accepted: it has the next number among the device's, and is shown in flight
+  pub accepted_shown : (access : Access) (frame number : ℕ) → new.memory ≡ old.memory → new.driver ≡ old.driver → new.devices ≡ old.devices
+      → IsAccepted (flights_of old.iommu) id (record { access = access; frame = frame }) number (flights_of new.iommu)
+      → (number ≡ accepted_of (flights_of old.iommu).rows is.device.id + 1)
+      × PartsShow new (with_accepted state (shown_device old.driver.devices (flights_of old.iommu).rows is.device) access frame)
+  accepted_shown access frame number memory driver devices it =
+      let flight : AcceptedAccess = record { access = access; frame = frame } in
+      let so_far = (flights_of old.iommu).so_far in
+      let after = with_access it.row flight (so_far + 1) in
+      let accepted : accepted_of rows is.device.id ≡ it.row.accepted = accepted_at rows is.device.id it.row (row_at it.row it.stands) in
+      let waiting : in_flight_of rows is.device.id ≡ map (λ (f : NumberedAccess). f.accepted) it.row.waiting = in_flight_at rows is.device.id it.row (row_at it.row it.stands) in
+      let next = with_accepted state device access frame in
+      let now : with_own device after ≡ record device { accepted = device.accepted + 1; in_flight = device.in_flight ++ flight ∷ [] } =
+      ap (λ (n : ℕ). record device { accepted = n + 1; in_flight = map (λ (f : NumberedAccess). f.accepted) after.waiting }) (sym accepted)
+      ∙ ap (λ (l : List AcceptedAccess). record device { accepted = device.accepted + 1; in_flight = l })
+      (map_push (λ (f : NumberedAccess). f.accepted) it.row.waiting (record { accepted = flight; number = so_far + 1 }) ∙ ap (λ (l : List AcceptedAccess). l ++ flight ∷ []) (sym waiting)) in
+      let mine : it.row.device ≡ id = row_is_own rows id it.row it.stands in
+      let changed : next.devices ≡ shown_devices old.driver.devices (with_row rows after) old.devices =
+      ap (λ (ds : List machine.Device). replaced_device ds is.device.id (record device { accepted = device.accepted + 1; in_flight = device.in_flight ++ flight ∷ [] })) shows.devices
+      ∙ ap (λ (n : ℕ). replaced_device (shown_devices old.driver.devices rows old.devices) n (record device { accepted = device.accepted + 1; in_flight = device.in_flight ++ flight ∷ [] })) is.own
+      ∙ ap (λ (d : machine.Device). replaced_device (shown_devices old.driver.devices rows old.devices) id d) (sym now)
+      ∙ row_shown old.driver.devices rows old.devices id is.device it.row after sound.known.own_ids is.found is.own it.stands mine in (
+        it.counted ∙ ap (λ n. n + 1) (sym accepted),
+        record {
+          ledger = rw driver shows.ledger;
+          frames = rw (memory, driver) shows.frames;
+          devices = rw (driver, devices, it.after) changed;
+          given = rw driver shows.given;
+          confirmed = rw driver shows.confirmed;
+          none_later = rw driver shows.none_later;
+          levels = rw driver shows.levels;
+        },
+      )
+
+module _ (laws : ServiceLaws) (old new : Parts) (events id : ℕ) (access : Access) (sound : AreSound old events) (own : IsSoundDriver old.driver) (fits : access.address < 2 ^ 64)
+    (reported : StaysReported old.driver) (driver : new.driver ≡ old.driver) (devices : new.devices ≡ old.devices) (state : State) (shows : PartsShow old state)
+    (is : IsFound old.driver.devices (flights_of old.iommu).rows old.devices id) (able : sends_untranslated is.device.kind ≡ true) (fabric : new.fabric ≡ old.fabric) where
+  abbrev MayTell : ℕ → State → Outcome → machine.Device → Type 0
+  MayTell frame next told device = MayAnswer state device access frame told × (next ≡ state_after state device access frame told)
 
   step_same : (told : Outcome) → MayAnswer state (shown_device old.driver.devices (flights_of old.iommu).rows is.device) access 0 told
       → state ≡ state_after state (shown_device old.driver.devices (flights_of old.iommu).rows is.device) access 0 told
@@ -203,13 +247,10 @@ module _ (laws : ServiceLaws) (old new : Parts) (events id : ℕ) (access : Acce
 
   step_fault : (cause : Cause) → RefusesRequest old.memory old.iommu id access cause new.memory new.iommu → Steps state id access (outcome.Fault cause) new
   step_fault cause call =
-      let room = call.room in
       let faults = (served laws old events sound own id access.address access.kind ioatc.SURE (translations_of old.iommu) (translations_of new.iommu) (Err call.fault) fits call.served).0 in
       let leaves = report_leaves old new events id access sound reported driver devices fabric cause call in
-      let count = room.room in
-      let many = long room.row room.stands in
       step_same (outcome.Fault cause) (
-        (call.within, (λ busy. absurd (omega (arith, count, many, busy)))),
+        (call.within, not_busy old new events id sound state shows is call.room.row call.room.stands call.room.room),
         subst (λ n. MayFault (shown_attachment (attachment_of old.driver.devices n)) state n access cause) (sym is.own)
             (subst (λ c. MayFault (shown_attachment (attachment_of old.driver.devices id)) state id access c) (sym call.told)
             (may_fault (attachment_of old.driver.devices id) old state id access call.fault.cause own shows refl faults)),
@@ -219,54 +260,26 @@ module _ (laws : ServiceLaws) (old new : Parts) (events id : ℕ) (access : Acce
   step_accept : new.memory ≡ old.memory → (number : ℕ) → AcceptsRequest old.memory old.iommu id access number new.iommu → Steps state id access (outcome.Accepted number) new
   step_accept memory number call =
       let it = call.accepted in
-      let flight : AcceptedAccess = record { access = access; frame = call.frame } in
-      let so_far = (flights_of old.iommu).so_far in
-      let after = with_access it.row flight (so_far + 1) in
       let answers = served laws old events sound own id access.address access.kind ioatc.SURE (translations_of old.iommu) (translations_of new.iommu) (Ok (record { frame = call.frame; rights = call.rights })) fits call.served in
-      let accepted : accepted_of rows is.device.id ≡ it.row.accepted = accepted_at rows is.device.id it.row (row_at it.row it.stands) in
-      let waiting : in_flight_of rows is.device.id ≡ map (λ (f : NumberedAccess). f.accepted) it.row.waiting = in_flight_at rows is.device.id it.row (row_at it.row it.stands) in
-      let next = with_accepted state device access call.frame in
-      let counted : number ≡ accepted_of rows is.device.id + 1 = it.counted ∙ ap (λ n. n + 1) (sym accepted) in
-      let count = it.room in
-      let many = long it.row it.stands in
-      let now : with_own device after ≡ record device { accepted = device.accepted + 1; in_flight = device.in_flight ++ flight ∷ [] } =
-      ap (λ (n : ℕ). record device { accepted = n + 1; in_flight = map (λ (f : NumberedAccess). f.accepted) after.waiting }) (sym accepted)
-      ∙ ap (λ (l : List AcceptedAccess). record device { accepted = device.accepted + 1; in_flight = l })
-      (map_push (λ (f : NumberedAccess). f.accepted) it.row.waiting (record { accepted = flight; number = so_far + 1 }) ∙ ap (λ (l : List AcceptedAccess). l ++ flight ∷ []) (sym waiting)) in
-      let mine : it.row.device ≡ id = row_is_own rows id it.row it.stands in
-      let changed : next.devices ≡ shown_devices old.driver.devices (with_row rows after) old.devices =
-      ap (λ (ds : List machine.Device). replaced_device ds is.device.id (record device { accepted = device.accepted + 1; in_flight = device.in_flight ++ flight ∷ [] })) shows.devices
-      ∙ ap (λ (n : ℕ). replaced_device (shown_devices old.driver.devices rows old.devices) n (record device { accepted = device.accepted + 1; in_flight = device.in_flight ++ flight ∷ [] })) is.own
-      ∙ ap (λ (d : machine.Device). replaced_device (shown_devices old.driver.devices rows old.devices) id d) (sym now)
-      ∙ row_shown old.driver.devices rows old.devices id is.device it.row after sound.known.own_ids is.found is.own it.stands mine in (
+      let next = with_accepted state (shown_device old.driver.devices (flights_of old.iommu).rows is.device) access call.frame in
+      let after = accepted_shown old new events id sound state shows is access call.frame number memory driver devices it in (
         call.frame,
         next,
         acts_at sends_untranslated (MayTell call.frame next (outcome.Accepted number)) old state id (outcome.Accepted number) next shows.devices is able (
           (
-            (call.within, (λ busy. absurd (omega (arith, count, many, busy)))),
+            (call.within, not_busy old new events id sound state shows is it.row it.stands it.room),
             subst (λ n. MayAccept (shown_attachment (attachment_of old.driver.devices n)) state n access call.frame) (sym is.own)
                 (may_accept old events state id (record { frame = call.frame; rights = call.rights }) access ioatc.SURE (translations_of old.iommu) (translations_of new.iommu) sound own shows refl answers),
-            counted,
+            after.0,
           ),
           refl,
         ),
-        record {
-          ledger = rw driver shows.ledger;
-          frames = rw (memory, driver) shows.frames;
-          devices = rw (driver, devices, it.after) changed;
-          given = rw driver shows.given;
-          confirmed = rw driver shows.confirmed;
-          none_later = rw driver shows.none_later;
-          levels = rw driver shows.levels;
-        },
+        after.1,
       )
 
   step_replied : (reply : Reply) → AnswersRequest old.memory old.iommu id access reply new.memory new.iommu → Steps state id access (reply_told_of reply) new
   step_replied (Accepted number) call = step_accept call.1 number call.0
-  step_replied Busy call =
-      let full = call.1.full in
-      let many = long call.1.row call.1.stands in
-      step_same outcome.Busy (call.0, omega (arith, full, many)) refl (same_frames call.3) (ap flights_of call.2)
+  step_replied Busy call = step_same outcome.Busy (call.0, is_busy old new events id sound state shows is call.1) refl (same_frames call.3) (ap flights_of call.2)
   step_replied BadSpan call = step_same outcome.BadSpan call.0 refl (same_frames call.2) (ap flights_of call.1)
   step_replied (Fault cause) call = step_fault cause call
 

@@ -9,6 +9,7 @@ use Rattle.iom_machine.specs.Machine.{Step, Run}
 use Rattle.iom_machine.proofs.ReclaimLemmas.{reclaims}
 use Rattle.iom_world.specs.declared.world.World.{World}
 use Rattle.iom_world.specs.Happens.{Happens}
+use Rattle.iom_world.specs.Caches.{epoch_in}
 use Rattle.iom_world.specs.Parts.{Parts}
 use Rattle.iom_iommu.specs.Parts.{flights_of, slots_of}
 use Rattle.iom_world.specs.Runs.{TakesAll, GoesThrough, AreOutcomes, RunsTo, FailsAfter}
@@ -22,6 +23,10 @@ no_choice = record { directory = []; taken = []; frame = 0; device = 0; page = 0
 -- a frame is chosen
 abbrev pub frame_chosen : ℕ → Choice
 frame_chosen frame = record { directory = []; taken = []; frame = frame; device = 0; page = 0 }
+
+-- a device's question is chosen
+abbrev pub question_chosen : ℕ → ℕ → Choice
+question_chosen device page = record { directory = []; taken = []; frame = 0; device = device; page = page }
 
 -- frames are taken
 abbrev pub frames_taken : List ℕ → Choice
@@ -55,6 +60,9 @@ below_counted parts events sound = let count = sound.counted in omega (arith, co
 -- nor were more serials given
 pub serials_counted : (parts : Parts) (events : ℕ) → AreSound parts events → (slots_of parts.iommu).last < events + 1
 serials_counted parts events sound = let last = sound.serials in omega (arith, last)
+
+pub epochs_counted : (parts : Parts) (events : ℕ) → AreSound parts events → (id : ℕ) → epoch_in parts.devices id < events + 1
+epochs_counted parts events sound id = let low = sound.epochs id in omega (arith, low)
 
 -- a run has an outcome for each event
 pub run_length : (old new : State) (events : List Event) (outcomes : List Outcome) → Run old events outcomes new → length outcomes ≡ length events

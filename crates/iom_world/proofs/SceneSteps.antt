@@ -79,7 +79,7 @@ spaces_alike : (old new : ℕ → Option Space) (queued : List QueuedCommand) �
 spaces_alike old new queued same device space extent there own = same device ∙ own
 
 -- a scene of such values
-scene_from : (old new : Values) (scene next : Scene) → KeepsGrants old new → IsSceneOf old scene
+pub scene_from : (old new : Values) (scene next : Scene) → KeepsGrants old new → IsSceneOf old scene
     → next ≡ record scene {
       waiting = next.waiting;
       completed = next.completed;
@@ -233,25 +233,35 @@ walk_scene old new id page space translation keeps queue so_far in_flight cached
       }
     ]
 
--- AN ACCESS IS ACCEPTED, on the frame of what the device holds at the page, or of a cached translation of the page
+-- what serves an untranslated access: what the device holds at the page, or a cached translation of the page
 abbrev pub IsServedFrom : Values → ℕ → ℕ → Space → Translation → Type 0
 IsServedFrom values id page space translation =
     ((mode : Mode) × (ats : Bool) × (values.attachment_of id ≡ Attached mode ats) × HoldsWalked values.ledger mode id page translation)
     ⊎ ((values.translations (space, page) ≡ Some translation) × ((d : ℕ) → values.space_of d ≡ Some space → d ≡ id))
 
-source_there : (values : Values) (scene : Scene) (id page : ℕ) (space : Space) (translation : Translation) → IsSceneOf values scene → IsServedFrom values id page space translation
-    → IsSource scene (copy_of id page translation)
-source_there values scene id page space translation shows (inl (mode, ats, attached, held)) = inl (walked_there values scene id page mode ats translation shows attached held)
-source_there values scene id page space translation shows (inr (cached, alone)) =
+-- the scene has it from a walk, or among its cached translations
+pub served_there : (values : Values) (scene : Scene) (id page : ℕ) (space : Space) (translation : Translation) → IsSceneOf values scene → IsServedFrom values id page space translation
+    → IsWalked scene (copy_of id page translation) ⊎ Contains scene.translations (copy_of id page translation)
+served_there values scene id page space translation shows (inl (mode, ats, attached, held)) = inl (walked_there values scene id page mode ats translation shows attached held)
+served_there values scene id page space translation shows (inr (cached, alone)) =
     let was = shows.translations (space, page) translation cached in
     let same : was.device ≡ id = alone was.device was.own in
-    inr (inl (subst (λ d. Contains scene.translations (copy_of d page translation)) same was.there))
+    inr (subst (λ d. Contains scene.translations (copy_of d page translation)) same was.there)
 
-pub accept_scene : (old new : Values) (id page : ℕ) (space : Space) (translation : Translation) (kind : AccessKind) → KeepsGrants old new → KeepsQueue old new
+pub source_there : (values : Values) (scene : Scene) (id page : ℕ) (space : Space) (translation : Translation) → IsSceneOf values scene → IsServedFrom values id page space translation
+    → IsSource scene (copy_of id page translation)
+source_there values scene id page space translation shows served = elim (served_there values scene id page space translation shows served) [ inl walked ↦ inl walked | inr cached ↦ inr (inl cached) ]
+
+-- whatever scene there is of these values has the copy to serve an access from
+abbrev pub HasSource : Values → Copy → Type 0
+HasSource values copy = (scene : Scene) → IsSceneOf values scene → IsSource scene copy
+
+-- AN ACCESS IS ACCEPTED, on the frame of such a copy
+pub accept_scene : (old new : Values) (id page : ℕ) (translation : Translation) (kind : AccessKind) → KeepsGrants old new → KeepsQueue old new
     → new.so_far ≡ old.so_far + 1 → AreAmongWith new.in_flight (record { device = id; frame = translation.frame; kind = kind; number = old.so_far + 1 }) old.in_flight
     → ((d : ℕ) → new.is_cached d ≡ true → old.is_cached d ≡ true) → CachesNoMore old new
-    → IsServedFrom old id page space translation → allows translation.rights kind ≡ true → HasFaithfulScene old → HasFaithfulScene new
-accept_scene old new id page space translation kind keeps queue so_far among cached less served allowed (scene, shows, facts) =
+    → HasSource old (copy_of id page translation) → allows translation.rights kind ≡ true → HasFaithfulScene old → HasFaithfulScene new
+accept_scene old new id page translation kind keeps queue so_far among cached less source allowed (scene, shows, facts) =
     let copy : Copy = copy_of id page translation in
     let next : Scene = record scene { accepted = scene.accepted + 1; in_flight = new.in_flight } in
     let numbered : next_access scene copy kind ≡ record { device = id; frame = translation.frame; kind = kind; number = old.so_far + 1 } =
@@ -270,7 +280,7 @@ accept_scene old new id page space translation kind keeps queue so_far among cac
       }),
       occurrences_keep_facts (Accept copy kind) scene next facts (
         new.in_flight,
-        source_there old scene id page space translation shows served,
+        source scene shows,
         allowed,
         subst (λ a. AreAmongWith new.in_flight a scene.in_flight) (sym numbered) (subst (AreAmongWith new.in_flight _) (sym shows.in_flight) among),
         refl,

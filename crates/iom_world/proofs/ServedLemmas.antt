@@ -331,25 +331,31 @@ module _ (laws : ServiceLaws) (parts : Parts) (events : ℕ) (sound : AreSound p
         let c : fault ≡ plain (cause_at d.levels id) = cc in
         (subst (λ a. FaultsAs a d id address kind fault.cause) (sym (is ∙ leaving)) (inr (ap (λ (f : WalkFault). f.cause) c)), stays)
 
+    -- by the context of its stages, of a device that is attached, and of one that leaves
+    pub of_attached : (stage : Stages) (answer : Result Translation WalkFault) → attachment_of parts.driver.devices id ≡ Attached stage
+        → ServesBy sure (Ok (context_for stage)) parts.memory address kind old answer new → IsAnswered sure parts.driver id address kind old answer new
+    of_attached stage answer is served = by_cache stage answer (ap owned_stages is) (by_tables stage answer is) (from_tables stage answer (ap owned_stages is) served)
+
+    pub of_leaving : (ticket : ℕ) (stage : Stages) (answer : Result Translation WalkFault) → attachment_of parts.driver.devices id ≡ Leaving ticket stage
+        → ServesBy sure (Ok (context_for stage)) parts.memory address kind old answer new → IsAnswered sure parts.driver id address kind old answer new
+    of_leaving ticket stage answer is served = by_cache stage answer (ap owned_stages is) (none_reached ticket stage answer is) (from_tables stage answer (ap owned_stages is) served)
+
     -- by how it is attached, and what is cached
     by_attachment : (a : Attachment) (cached : Option Context) (answer : Result Translation WalkFault) → attachment_of d.devices id ≡ a
         → ((context : Context) → cached ≡ Some context → option_map context_for (owned_stages a) ≡ Some context)
         → ServesBy sure (found_context cached (located_as d.levels id (attached_stages a))) parts.memory address kind old answer new → IsAnswered sure d id address kind old answer new
     by_attachment Detached None answer is true_for served = no_context Detached answer is (inl refl) served.0 served.1
     by_attachment Detached (Some context) answer is true_for served = let never = true_for context refl in cc
-    by_attachment (Attached stage) None answer is true_for served =
-        by_cache stage answer (ap owned_stages is) (by_tables stage answer is) (from_tables stage answer (ap owned_stages is) served)
+    by_attachment (Attached stage) None answer is true_for served = of_attached stage answer is served
     by_attachment (Attached stage) (Some context) answer is true_for served =
         let both = true_for context refl in
         let same : context ≡ context_for stage = cc in
-        by_cache stage answer (ap owned_stages is) (by_tables stage answer is)
-        (from_tables stage answer (ap owned_stages is) (subst (λ c. ServesBy sure (Ok c) parts.memory address kind old answer new) same served))
+        of_attached stage answer is (subst (λ c. ServesBy sure (Ok c) parts.memory address kind old answer new) same served)
     by_attachment (Leaving ticket stage) None answer is true_for served = no_context (Leaving ticket stage) answer is (inr (ticket, stage, refl)) served.0 served.1
     by_attachment (Leaving ticket stage) (Some context) answer is true_for served =
         let both = true_for context refl in
         let same : context ≡ context_for stage = cc in
-        by_cache stage answer (ap owned_stages is) (none_reached ticket stage answer is)
-        (from_tables stage answer (ap owned_stages is) (subst (λ c. ServesBy sure (Ok c) parts.memory address kind old answer new) same served))
+        of_leaving ticket stage answer is (subst (λ c. ServesBy sure (Ok c) parts.memory address kind old answer new) same served)
 
     pub service : (answer : Result Translation WalkFault) → Serves sure parts.memory (registers_of parts.iommu) (contexts_of parts.iommu) id address kind old answer new → IsAnswered sure parts.driver id address kind old answer new
     service answer served =

@@ -6,7 +6,7 @@ use Rattle.iom_driver.specs.Laws.{ReadyStays, ReadyAfterRecord}
 use Rattle.iom_page_table.specs.Laws.{WalkReachesLeaf, WalkFaultsElse}
 use Rattle.iom_page_table.specs.GuestLaws.{GuestWalkReachesLeaf, GuestLeaves, GuestWalkFaultsElse, GuestTablesFault}
 use Rattle.iom_machine.specs.declared.event.Event.{Event}
-use Rattle.iom_machine.specs.declared.event.Event.TheVariants.{Read, Write}
+use Rattle.iom_machine.specs.declared.event.Event.TheVariants.{Read, Write, ReadTranslated, WriteTranslated, ReadThroughCache, WriteThroughCache, Ask, Forge, Deliver, Drop, Repeat}
 use Rattle.iom_stage_walk.specs.Laws.{OneEnd, OneEndSecond, WritesAsReadsSecond, WritesAsReadsBoth, GuestFramesAreLed}
 
 pub record LawsBelow : Type 0 where
@@ -30,3 +30,16 @@ abbrev pub AddressFits : Event → Type 0
 AddressFits (Read device address len) = address < 2 ^ 64
 AddressFits (Write device address bytes) = address < 2 ^ 64
 AddressFits _ = Unit {0}
+
+-- the event is one of address translation services: a request that is translated, an access through a cache, or a message
+abbrev pub IsOfAts : Event → Type 0
+IsOfAts (ReadTranslated device address len) = Unit {0}
+IsOfAts (WriteTranslated device address bytes) = Unit {0}
+IsOfAts (ReadThroughCache device address len) = Unit {0}
+IsOfAts (WriteThroughCache device address bytes) = Unit {0}
+IsOfAts (Ask device page) = Unit {0}
+IsOfAts (Forge device serial) = Unit {0}
+IsOfAts (Deliver place) = Unit {0}
+IsOfAts (Drop place) = Unit {0}
+IsOfAts (Repeat place) = Unit {0}
+IsOfAts _ = ⊥

@@ -1,5 +1,5 @@
 -- The devices by their ids: what each is, and its own cache of translations, if it has one.
-use Rattle.std.specs.Prelude.{◌≡◌, ℕ, ◌==◌, Bool, true, List, [], ◌∷◌, find, Option, None, Some, option_map, is_some, if◌then◌else◌}
+use Rattle.std.specs.Prelude.{◌≡◌, ℕ, ◌==◌, Bool, true, List, [], ◌∷◌, find, slice_get, slice_set, Option, None, Some, option_map, is_some, if◌then◌else◌}
 use Rattle.std.specs.List.{All}
 use Rattle.std.specs.Option.{option_map_or}
 use Rattle.iom_ats_cache.specs.Cache.{Cache}
@@ -28,14 +28,24 @@ cache_in (Some device) = device.cache
 abbrev pub cache_of : List Device → ℕ → Option Cache
 cache_of devices id = cache_in (device_with devices id)
 
--- its epoch; 0 where there is none
-abbrev pub epoch_in : List Device → ℕ → ℕ
-epoch_in devices id = option_map_or (λ (cache : Cache). cache.epoch) (cache_of devices id) 0
+-- a cache's epoch; 0 where there is none
+abbrev pub epoch_of : Option Cache → ℕ
+epoch_of cache = option_map_or (λ (own : Cache). own.epoch) cache 0
 
--- the devices, where the one with this id has this in its cache
-abbrev pub with_cache : List Device → ℕ → Cache → List Device
+-- that of the device with this id
+abbrev pub epoch_in : List Device → ℕ → ℕ
+epoch_in devices id = epoch_of (cache_of devices id)
+
+-- the devices, where this is the cache of the one with this id
+abbrev pub with_cache : List Device → ℕ → Option Cache → List Device
 with_cache [] id cache = []
-with_cache (device ∷ others) id cache = if device.id == id then (record device { cache = Some cache }) ∷ others else device ∷ with_cache others id cache
+with_cache (device ∷ others) id cache = if device.id == id then (record device { cache = cache }) ∷ others else device ∷ with_cache others id cache
+
+-- the device that stands there is the one with the id, and a cache that is set there is set for it
+abbrev pub IsPlaceOf : List Device → ℕ → ℕ → Type 0
+IsPlaceOf devices id place =
+    (device : Device) × (slice_get devices place ≡ Some device) × (device_with devices id ≡ Some device)
+    × ((cache : Option Cache) → slice_set devices place (record device { cache = cache }) ≡ with_cache devices id cache)
 
 -- a device has a cache exactly where its kind does
 abbrev pub HasItsCache : Device → Type 0

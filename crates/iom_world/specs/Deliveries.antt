@@ -13,7 +13,6 @@ use Rattle.iom_iommu.specs.Invalidations.{CompletesRequest}
 use Rattle.iom_iommu.specs.Questions.{AnswersQuestion}
 use Rattle.iom_machine.specs.declared.outcome.Outcome.{Outcome}
 use Rattle.iom_machine.specs.declared.outcome.Outcome.TheVariants as outcome
-use Rattle.iom_world.specs.declared.device.Device.{Device}
 use Rattle.iom_world.specs.Caches.{cache_of, with_cache}
 use Rattle.iom_world.specs.Messages.{with_sent}
 use Rattle.iom_world.specs.Parts.{Parts}
@@ -33,26 +32,24 @@ taken_told taken.Kept = outcome.Kept
 taken_told taken.Stale = outcome.Stale
 taken_told taken.Refused = outcome.AnswerRefused
 
--- A DEVICE TAKES AN ANSWER into its cache, where it has one, and ignores it else: what is told, and the devices then
-abbrev pub TakesInto : Option Cache → List Device → (device epoch page : ℕ) → Translation → Outcome → List Device → Type 0
-TakesInto None devices device epoch page answer told devices' = (told ≡ outcome.Ignored) × (devices' ≡ devices)
-TakesInto (Some cache) devices device epoch page answer told devices' = (taking : Taken) × (after : Cache)
-    × TakesAnswer cache epoch page answer taking after
-    × (told ≡ taken_told taking)
-    × (devices' ≡ with_cache devices device after)
+-- A DEVICE TAKES AN ANSWER into its cache, where it has one, and ignores it else: what is told, and its cache then
+abbrev pub TakesInto : Option Cache → (epoch page : ℕ) → Translation → Outcome → Option Cache → Type 0
+TakesInto None epoch page answer told after = (told ≡ outcome.Ignored) × (after ≡ None)
+TakesInto (Some cache) epoch page answer told after = (taking : Taken) × (kept : Cache)
+    × TakesAnswer cache epoch page answer taking kept × (told ≡ taken_told taking) × (after ≡ Some kept)
 
 -- and all else stays, but that the answer isn't under way any more
 pub record TakesAnswered (old : Parts) (device epoch page : ℕ) (answer : Translation) (others : List OnLink) (told : Outcome) (new : Parts) : Type 0 where
-  pub cache : TakesInto (cache_of old.devices device) old.devices device epoch page answer told new.devices
-  pub rest : new ≡ record old { devices = new.devices; fabric = others }
+  pub after : Option Cache
+  pub cache : TakesInto (cache_of old.devices device) epoch page answer told after
+  pub rest : new ≡ record old { devices = with_cache old.devices device after; fabric = others }
 
--- A DEVICE OBEYS a request to invalidate, where it has a cache, and ignores it else: its word that it is done, and the devices then
-abbrev pub Obeys : Option Cache → List Device → (device serial : ℕ) → Range → Option Message → List Device → Type 0
-Obeys None devices device serial range None devices' = devices' ≡ devices
-Obeys None devices device serial range (Some done) devices' = ⊥
-Obeys (Some cache) devices device serial range None devices' = ⊥
-Obeys (Some cache) devices device serial range (Some done) devices' = (after : Cache)
-    × Invalidates cache serial range done after × (devices' ≡ with_cache devices device after)
+-- A DEVICE OBEYS a request to invalidate, where it has a cache, and ignores it else: its word that it is done, and its cache then
+abbrev pub Obeys : Option Cache → (serial : ℕ) → Range → Option Message → Option Cache → Type 0
+Obeys None serial range None after = after ≡ None
+Obeys None serial range (Some done) after = ⊥
+Obeys (Some cache) serial range None after = ⊥
+Obeys (Some cache) serial range (Some done) after = (left : Cache) × Invalidates cache serial range done left × (after ≡ Some left)
 
 -- what is told of it
 abbrev pub obeyed_told : ℕ → Option Message → Outcome
@@ -67,9 +64,10 @@ with_done others device (Some done) = with_sent others device done
 -- and all else stays, but that the request isn't under way any more, and the word is
 pub record ObeysRequest (old : Parts) (device serial : ℕ) (range : Range) (others : List OnLink) (told : Outcome) (new : Parts) : Type 0 where
   pub done : Option Message
-  pub cache : Obeys (cache_of old.devices device) old.devices device serial range done new.devices
+  pub after : Option Cache
+  pub cache : Obeys (cache_of old.devices device) serial range done after
   pub told_so : told ≡ obeyed_told serial done
-  pub rest : new ≡ record old { devices = new.devices; fabric = with_done others device done }
+  pub rest : new ≡ record old { devices = with_cache old.devices device after; fabric = with_done others device done }
 
 -- THE IOMMU IS TOLD that a request is completed, by the device on whose link that comes
 pub record HearsCompletion (old : Parts) (device serial : ℕ) (others : List OnLink) (told : Outcome) (new : Parts) : Type 0 where

@@ -35,9 +35,9 @@ known_ids devices = map (λ (device : driver.Device). device.id) devices
 abbrev pub row_ids : List FlightRow → List ℕ
 row_ids rows = map (λ (row : FlightRow). row.device) rows
 
--- who asks is plugged in
+-- who asks is plugged in, and asks of a page of the 64-bit address space
 abbrev pub IsAsked : Bool → Message → Type 0
-IsAsked is_plugged (sent.Ask epoch page) = is_plugged ≡ true
+IsAsked is_plugged (sent.Ask epoch page) = (is_plugged ≡ true) × (page < 2 ^ 52)
 IsAsked is_plugged (sent.Answer epoch page translation) = ⊤
 IsAsked is_plugged (sent.InvReq serial range) = ⊤
 IsAsked is_plugged (sent.InvDone serial) = ⊤

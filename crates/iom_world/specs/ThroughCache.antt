@@ -22,16 +22,16 @@ abbrev pub cached_frame : Parts → ℕ → Access → Option ℕ
 cached_frame parts id access = option_and_then (λ (cache : Cache). frame_for cache (page_of access) access.kind) (cache_of parts.devices id)
 
 -- it misses exactly where the cache has none; else the device makes a translated request of it
-abbrev pub GoesThrough : Option ℕ → Parts → ℕ → Access → Outcome → Parts → Type 0
-GoesThrough None old id access told new = (told ≡ outcome.Miss) × (new ≡ old)
-GoesThrough (Some frame) old id access told new = IsReplied (AnswersTranslated old.memory old.iommu id (at_frame frame access)) old told new
+abbrev pub FindsFrame : Option ℕ → Parts → ℕ → Access → Outcome → Parts → Type 0
+FindsFrame None old id access told new = (told ≡ outcome.Miss) × (new ≡ old)
+FindsFrame (Some frame) old id access told new = IsReplied (AnswersTranslated old.memory old.iommu id (at_frame frame access)) old told new
 
 -- the first that applies: the bytes are none or too many or leave their page, eight accesses are in flight, or the cache is asked
 abbrev pub TriesCache : Parts → ℕ → Access → Outcome → Parts → Type 0
 TriesCache old id access told new =
     ((¬ IsWithinPage access) × (told ≡ outcome.BadSpan) × (new ≡ old))
     ⊎ (IsWithinPage access × IsFull (flights_of old.iommu) id × (told ≡ outcome.Busy) × (new ≡ old))
-    ⊎ (IsWithinPage access × HasRoom (flights_of old.iommu) id × GoesThrough (cached_frame old id access) old id access told new)
+    ⊎ (IsWithinPage access × HasRoom (flights_of old.iommu) id × FindsFrame (cached_frame old id access) old id access told new)
 
 -- A DEVICE ASKS for an access through its cache
 abbrev pub AsksThroughCache : Parts → ℕ → Access → Outcome → Parts → Type 0

@@ -5,7 +5,7 @@ use Rattle.arrayvec.specs.ArrayVec.{ArrayVec}
 use Rattle.iom_machine.specs.declared.outcome.Outcome.{Outcome}
 use Rattle.iom_machine.specs.declared.outcome.Outcome.TheVariants as outcome
 use Rattle.iom_world.specs.declared.told.Told.{Told}
-use Rattle.iom_world.specs.declared.told.Told.TheVariants.{Done, Refused, Ticket, Confirmed, NoneConfirmed, Record, NoRecord, Fetched, Accepted, Busy, BadSpan, Fault, Wrote, NothingInFlight, Free}
+use Rattle.iom_world.specs.declared.told.Told.TheVariants.{Done, Refused, Ticket, Confirmed, NoneConfirmed, Record, NoRecord, Fetched, Accepted, Busy, BadSpan, Fault, Wrote, NothingInFlight, Free, Miss, Sent, Lost, Answered, Kept, Stale, AnswerRefused, Ignored, Invalidated, Closed, NotClosed, Dropped, Repeated, NoMessage}
 
 -- the outcome that says the same
 abbrev pub outcome_of : Told → Outcome
@@ -24,6 +24,20 @@ outcome_of (Fault cause) = outcome.Fault cause
 outcome_of (Wrote count) = outcome.Wrote count
 outcome_of NothingInFlight = outcome.NothingInFlight
 outcome_of (Free is_free) = outcome.Free is_free
+outcome_of Miss = outcome.Miss
+outcome_of Sent = outcome.Sent
+outcome_of Lost = outcome.Lost
+outcome_of (Answered translation) = outcome.Answered translation
+outcome_of Kept = outcome.Kept
+outcome_of Stale = outcome.Stale
+outcome_of AnswerRefused = outcome.AnswerRefused
+outcome_of Ignored = outcome.Ignored
+outcome_of (Invalidated serial) = outcome.Invalidated serial
+outcome_of (Closed serial) = outcome.Closed serial
+outcome_of (NotClosed serial) = outcome.NotClosed serial
+outcome_of Dropped = outcome.Dropped
+outcome_of Repeated = outcome.Repeated
+outcome_of NoMessage = outcome.NoMessage
 
 -- a read was made, and gave these bytes
 abbrev pub TellsBytes : Outcome → List ℕ → Type 0

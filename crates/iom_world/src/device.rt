@@ -1,9 +1,16 @@
 //! A plugged device, as the world keeps it.
-ghost use Rattle.std.specs.Prelude.{◌≡◌};
+ghost use Rattle.std.specs.Prelude.{◌≡◌, ◌+◌, ◌<◌, ◌^◌, None, MatchOption};
+ghost use Rattle.std.specs.Option.{option_and_then};
+ghost use Rattle.iom_ats_cache.specs.Cache.{Cache, frame_for};
+ghost use Rattle.iom_world.specs.Caches.{epoch_of, device_with, IsPlaceOf};
+ghost use Rattle.iom_world.specs.Deliveries.{taken_told, TakesInto, Obeys};
 ghost use Rattle.iom_world.specs.Does.{new_cache};
+ghost use Rattle.iom_world.specs.Told.{outcome_of};
 
-use iom_ats_cache::Atc;
-use iom_base::DeviceId;
+use crate::told::Told;
+use iom_ats_cache::{Atc, Taken};
+use iom_base::{AccessKind, DeviceId};
+use iom_fabric::{Message, PageNumber, Range, Translation};
 use iom_machine::DeviceKind;
 
 /// A plugged device. How it is attached the driver knows, and what it has in flight the IOMMU.
@@ -23,5 +30,75 @@ pub(crate) fn new_cache(kind: DeviceKind) -> Option<Atc>
         Some(Atc::new())
     } else {
         None
+    }
+}
+
+/// Where the device with this id stands.
+pub(crate) fn place_of(devices: &[Device], id: DeviceId) -> Option<usize>
+    ensures { MatchOption result (device_with devices.now id ≡ None) (IsPlaceOf devices.now id) }
+{
+    for place in 0..devices.len() {
+        if devices[place].id == id {
+            return Some(place);
+        }
+    }
+    None
+}
+
+impl Told {
+    /// What is told of an answer, by what the device does with it.
+    fn of_taken(taken: Taken) -> Told
+        ensures { outcome_of result ≡ taken_told taken }
+    {
+        match taken {
+            Taken::Kept => Told::Kept,
+            Taken::Stale => Told::Stale,
+            Taken::Refused => Told::AnswerRefused,
+        }
+    }
+}
+
+impl Device {
+    /// The epoch of its cache; 0 where it has none.
+    pub(crate) fn epoch(&self) -> u64
+        ensures { result ≡ epoch_of self.now.cache }
+    {
+        match &self.cache {
+            Some(cache) => cache.epoch(),
+            None => 0,
+        }
+    }
+
+    /// The frame that its cache has for an access of this kind to the page.
+    pub(crate) fn look(&self, page: PageNumber, kind: AccessKind) -> Option<u32>
+        ensures { result ≡ option_and_then (λ (cache : Cache). frame_for cache page kind) self.now.cache }
+    {
+        match &self.cache {
+            Some(cache) => cache.look(page, kind),
+            None => None,
+        }
+    }
+
+    /// Takes an answer into its cache, and ignores it where it has none.
+    pub(crate) fn take(&mut self, epoch: u64, page: PageNumber, answer: Translation) -> Told
+        ensures taken { TakesInto self.old.cache epoch page answer (outcome_of result) self.new.cache }
+        ensures rest { self.new ≡ record self.old { cache = self.new.cache } }
+    {
+        match &mut self.cache {
+            Some(cache) => Told::of_taken(cache.answer(epoch, page, answer)),
+            None => Told::Ignored,
+        }
+    }
+
+    /// Obeys a request to invalidate, and ignores it where it has no cache: its word that it is done.
+    pub(crate) fn obey(&mut self, serial: u64, range: Range) -> Option<Message>
+        requires { epoch_of self.old.cache + 1 < 2 ^ 64 }
+        ensures obeyed { Obeys self.old.cache serial range result self.new.cache }
+        ensures rest { self.new ≡ record self.old { cache = self.new.cache } }
+    {
+        match &mut self.cache {
+            Some(cache) => Some(cache.invalidate(serial, range)),
+            None => None,
+        }
     }
 }

@@ -29,6 +29,20 @@ pub(crate) struct KeptOutcomes {
     wrote: Outcome,
     nothing_in_flight: Outcome,
     free: Outcome,
+    miss: Outcome,
+    sent: Outcome,
+    lost: Outcome,
+    answered: Outcome,
+    kept: Outcome,
+    stale: Outcome,
+    answer_refused: Outcome,
+    ignored: Outcome,
+    invalidated: Outcome,
+    closed: Outcome,
+    not_closed: Outcome,
+    dropped: Outcome,
+    repeated: Outcome,
+    no_message: Outcome,
 }
 
 impl KeptOutcomes {
@@ -51,6 +65,20 @@ impl KeptOutcomes {
             wrote: Outcome::Done,
             nothing_in_flight: Outcome::NothingInFlight,
             free: Outcome::Done,
+            miss: Outcome::Miss,
+            sent: Outcome::Sent,
+            lost: Outcome::Lost,
+            answered: Outcome::Done,
+            kept: Outcome::Kept,
+            stale: Outcome::Stale,
+            answer_refused: Outcome::AnswerRefused,
+            ignored: Outcome::Ignored,
+            invalidated: Outcome::Done,
+            closed: Outcome::Done,
+            not_closed: Outcome::Done,
+            dropped: Outcome::Dropped,
+            repeated: Outcome::Repeated,
+            no_message: Outcome::NoMessage,
         }
     }
 
@@ -73,6 +101,20 @@ impl KeptOutcomes {
             Told::Wrote(_) => &mut self.wrote,
             Told::NothingInFlight => &mut self.nothing_in_flight,
             Told::Free(_) => &mut self.free,
+            Told::Miss => &mut self.miss,
+            Told::Sent => &mut self.sent,
+            Told::Lost => &mut self.lost,
+            Told::Answered(_) => &mut self.answered,
+            Told::Kept => &mut self.kept,
+            Told::Stale => &mut self.stale,
+            Told::AnswerRefused => &mut self.answer_refused,
+            Told::Ignored => &mut self.ignored,
+            Told::Invalidated(_) => &mut self.invalidated,
+            Told::Closed(_) => &mut self.closed,
+            Told::NotClosed(_) => &mut self.not_closed,
+            Told::Dropped => &mut self.dropped,
+            Told::Repeated => &mut self.repeated,
+            Told::NoMessage => &mut self.no_message,
         }
     }
 

@@ -11,6 +11,7 @@
 
 mod below;
 mod commits;
+mod deliveries;
 mod device;
 mod driving;
 mod fetching;
@@ -21,7 +22,9 @@ mod processor;
 mod requests;
 mod run;
 mod start;
+mod through_cache;
 mod told;
+mod translated;
 mod world;
 
 pub use world::World;

@@ -1,6 +1,6 @@
 // Which devices there are, and how one is plugged in.
-ghost use Rattle.std.specs.Prelude.{◌≡◌, ◌↔◌, IsTrue};
-ghost use Rattle.iom_world.specs.Caches.{kind_in};
+ghost use Rattle.std.specs.Prelude.{◌≡◌, ◌↔◌, IsTrue, option_map};
+ghost use Rattle.iom_world.specs.Caches.{kind_in, device_with};
 ghost use Rattle.iom_world.specs.Does.{PlugsDevice};
 ghost use Rattle.iom_world.specs.Seen.{parts_of};
 ghost use Rattle.iom_world.specs.Places.{IsPresent};
@@ -19,6 +19,13 @@ impl World {
         ensures { IsTrue result ↔ IsPresent self.now.devices.items id }
     {
         self.devices.iter().any(|device| device.id == id)
+    }
+
+    /// The device with this id, if one is plugged in.
+    pub(crate) fn device_with(&self, id: DeviceId) -> Option<&Device>
+        ensures { option_map (λ device. device.now) result ≡ device_with self.now.devices.items id }
+    {
+        self.devices.iter().find(|device| device.id == id)
     }
 
     /// What the device with this id is, if one is plugged in.

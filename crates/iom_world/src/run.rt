@@ -1,8 +1,10 @@
 // Events, one after another, and what comes of them.
-ghost use Rattle.std.specs.Prelude.{◌≡◌, ◌+◌, ◌<◌, ◌≤◌, ◌^◌, length, All, OnOk, OnErr};
+ghost use Rattle.std.specs.Prelude.{◌≡◌, ◌+◌, ◌<◌, ◌≤◌, ◌^◌, ℕ, length, All, OnOk, OnErr};
+ghost use Rattle.iom_iommu.specs.Parts.{flights_of};
 ghost use Rattle.iom_machine.specs.declared.state.State.{State};
 ghost use Rattle.iom_machine.specs.Machine.{IsEvent};
-ghost use Rattle.iom_world.specs.Below.{AddressFits};
+ghost use Rattle.iom_world.specs.Below.{AddressFits, IsOfAts};
+ghost use Rattle.iom_world.specs.Caches.{epoch_in};
 ghost use Rattle.iom_world.specs.Does.{Does};
 ghost use Rattle.iom_world.specs.Happens.{Happens};
 ghost use Rattle.iom_world.specs.Runs.{RunsTo, FailsAfter};
@@ -17,6 +19,47 @@ use iom_machine::{Event, Outcome, Sink};
 use std::mem;
 
 impl World {
+    /// An event of address translation services goes to whom it is for; another does nothing.
+    // On its own, so that what is written into the loop of a run stays short.
+    #[inline(never)]
+    fn dispatch_ats<'a>(&mut self, event: &Event, kept: &'a mut KeptOutcomes) -> &'a mut Outcome
+        requires event { IsOfAts event.now }
+        requires count { self.old.events < 2 ^ 64 }
+        requires below { (flights_of self.old.iommu).so_far < self.old.events }
+        requires epochs { (id : ℕ) → epoch_in self.old.devices.items id < self.old.events }
+        ensures does { Does (parts_of self.old) event.now result.now (parts_of self.new) }
+        ensures counted { self.new.events ≡ self.old.events }
+    {
+        match event {
+            Event::ReadTranslated {
+                device,
+                address,
+                len,
+            } => kept.tell(self.read_translated(*device, *address, *len)),
+            Event::WriteTranslated {
+                device,
+                address,
+                bytes,
+            } => kept.tell(self.write_translated(*device, *address, bytes.as_slice())),
+            Event::ReadThroughCache {
+                device,
+                address,
+                len,
+            } => kept.tell(self.read_through_cache(*device, *address, *len)),
+            Event::WriteThroughCache {
+                device,
+                address,
+                bytes,
+            } => kept.tell(self.write_through_cache(*device, *address, bytes.as_slice())),
+            Event::Ask { device, page } => kept.tell(self.ask(*device, *page)),
+            Event::Forge { device, serial } => kept.tell(self.forge(*device, *serial)),
+            Event::Deliver { place } => kept.tell(self.deliver(*place)),
+            Event::Drop { place } => kept.tell(self.drop_message(*place)),
+            Event::Repeat { place } => kept.tell(self.repeat(*place)),
+            _ => kept.tell(Told::Done),
+        }
+    }
+
     /// The event is counted, and goes to whom it is for.
     // Written into the loop of a run, as `take` is: a call would save and restore registers for each event.
     #[inline(always)]
@@ -56,8 +99,7 @@ impl World {
             Event::Poke { address, bytes } => kept.tell(self.poke(*address, bytes.as_slice())),
             Event::Peek { address, len } => self.peek(*address, *len, kept),
             Event::Free { frame } => kept.tell(self.free(*frame)),
-            // Requests, questions and messages of address translation services can't come yet.
-            _ => kept.tell(Told::Done),
+            _ => self.dispatch_ats(event, kept),
         }
     }
 

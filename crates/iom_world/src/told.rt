@@ -5,6 +5,7 @@ ghost use Rattle.iom_world.specs.Told.{outcome_of, TellsBytes, TellsShown};
 
 use arrayvec::ArrayVec;
 use iom_base::Cause;
+use iom_fabric::Translation;
 use iom_ledger::Refusal;
 use iom_machine::{FaultRecord, Fetched, Outcome};
 
@@ -27,6 +28,20 @@ pub(crate) enum Told {
     Wrote(u64),
     NothingInFlight,
     Free(bool),
+    Miss,
+    Sent,
+    Lost,
+    Answered(Translation),
+    Kept,
+    Stale,
+    AnswerRefused,
+    Ignored,
+    Invalidated(u64),
+    Closed(u64),
+    NotClosed(u64),
+    Dropped,
+    Repeated,
+    NoMessage,
 }
 
 impl Told {
@@ -50,6 +65,20 @@ impl Told {
             Told::Wrote(count) => Outcome::Wrote(count),
             Told::NothingInFlight => Outcome::NothingInFlight,
             Told::Free(is_free) => Outcome::Free(is_free),
+            Told::Miss => Outcome::Miss,
+            Told::Sent => Outcome::Sent,
+            Told::Lost => Outcome::Lost,
+            Told::Answered(translation) => Outcome::Answered(translation),
+            Told::Kept => Outcome::Kept,
+            Told::Stale => Outcome::Stale,
+            Told::AnswerRefused => Outcome::AnswerRefused,
+            Told::Ignored => Outcome::Ignored,
+            Told::Invalidated(serial) => Outcome::Invalidated(serial),
+            Told::Closed(serial) => Outcome::Closed(serial),
+            Told::NotClosed(serial) => Outcome::NotClosed(serial),
+            Told::Dropped => Outcome::Dropped,
+            Told::Repeated => Outcome::Repeated,
+            Told::NoMessage => Outcome::NoMessage,
         }
     }
 
@@ -65,7 +94,17 @@ impl Told {
             | (Told::NoRecord, Outcome::NoRecord)
             | (Told::Busy, Outcome::Busy)
             | (Told::BadSpan, Outcome::BadSpan)
-            | (Told::NothingInFlight, Outcome::NothingInFlight) => {}
+            | (Told::NothingInFlight, Outcome::NothingInFlight)
+            | (Told::Miss, Outcome::Miss)
+            | (Told::Sent, Outcome::Sent)
+            | (Told::Lost, Outcome::Lost)
+            | (Told::Kept, Outcome::Kept)
+            | (Told::Stale, Outcome::Stale)
+            | (Told::AnswerRefused, Outcome::AnswerRefused)
+            | (Told::Ignored, Outcome::Ignored)
+            | (Told::Dropped, Outcome::Dropped)
+            | (Told::Repeated, Outcome::Repeated)
+            | (Told::NoMessage, Outcome::NoMessage) => {}
             (Told::Refused(why), Outcome::Refused(held)) => *held = why,
             (Told::Ticket(ticket), Outcome::Ticket(held)) => *held = ticket,
             (
@@ -84,6 +123,10 @@ impl Told {
             (Told::Fault(cause), Outcome::Fault(held)) => *held = cause,
             (Told::Wrote(count), Outcome::Wrote(held)) => *held = count,
             (Told::Free(is_free), Outcome::Free(held)) => *held = is_free,
+            (Told::Answered(translation), Outcome::Answered(held)) => *held = translation,
+            (Told::Invalidated(serial), Outcome::Invalidated(held)) => *held = serial,
+            (Told::Closed(serial), Outcome::Closed(held)) => *held = serial,
+            (Told::NotClosed(serial), Outcome::NotClosed(held)) => *held = serial,
             _ => *place = self.outcome(),
         }
     }

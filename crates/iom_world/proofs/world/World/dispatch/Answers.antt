@@ -1,6 +1,6 @@
 use Rattle.std.proofs.Common.{arith}
 use Rattle.iom_world.specs.Seen.{parts_of}
-use Rattle.iom_world.proofs.RunLemmas.{sound_counted, below_counted, serials_counted}
+use Rattle.iom_world.proofs.RunLemmas.{sound_counted, below_counted, serials_counted, epochs_counted}
 use Rattle.iom_world.proofs.world.World.dispatch.Goals as goal
 
 pub invariant_of-self : goal.invariant_of-self
@@ -23,3 +23,9 @@ fetch-requires-clause-below c = let world = c.args.self.now in serials_counted (
 
 pub fetch-requires-clause-count : goal.fetch-requires-clause-count
 fetch-requires-clause-count c = let world = c.args.self.now in let below = serials_counted (parts_of world) world.events world.sound in let room = c.requires.count in omega (arith, below, room)
+
+pub dispatch_ats-requires-clause-below : goal.dispatch_ats-requires-clause-below
+dispatch_ats-requires-clause-below c = let world = c.args.self.now in below_counted (parts_of world) world.events world.sound
+
+pub dispatch_ats-requires-clause-epochs : goal.dispatch_ats-requires-clause-epochs
+dispatch_ats-requires-clause-epochs c = let world = c.args.self.now in epochs_counted (parts_of world) world.events world.sound

@@ -1,0 +1,50 @@
+-- Where a device stands, by its id, and what changes where its cache is set.
+use Rattle.std.proofs.Common.{suc, zero, ◌≡◌, ◌≢◌, ◌<◌, ◌∙◌, ℕ, List, [], ◌∷◌, length, Option, Some, None, slice_get, refl, ap, inl, inr, arith}
+use Rattle.std.proofs.lemmas.Bool.Decides.{eqb_tells}
+use Rattle.std.proofs.lemmas.Bool.{eq-eqb}
+use Rattle.iom_ats_cache.specs.Cache.{Cache}
+use Rattle.iom_driver.proofs.Lists.{differs}
+use Rattle.iom_world.specs.declared.device.Device.{Device}
+use Rattle.iom_fabric.specs.declared.message.Range.{Range}
+use Rattle.iom_fabric.specs.declared.message.Translation.{Translation}
+use Rattle.iom_machine.specs.declared.outcome.Outcome.TheVariants.{Ignored}
+use Rattle.iom_world.specs.Caches.{device_with, cache_in, cache_of, with_cache, IsPlaceOf}
+use Rattle.iom_world.specs.Deliveries.{TakesInto, Obeys}
+
+-- an id that no device has
+pub no_place : (devices : List Device) (id : ℕ) → ((k : ℕ) (other : Device) → k < length devices → slice_get devices k ≡ Some other → other.id ≢ id) → device_with devices id ≡ None
+no_place [] id none = refl
+no_place (device ∷ others) id none =
+    rw (differs device.id id (none 0 device (omega arith) refl)) (no_place others id (λ k other lt at. none (suc k) other (omega arith) at))
+
+-- the first device with its id
+pub place_is : (devices : List Device) (id place : ℕ) (device : Device) → slice_get devices place ≡ Some device → device.id ≡ id
+    → ((k : ℕ) (other : Device) → k < place → slice_get devices k ≡ Some other → other.id ≢ id) → IsPlaceOf devices id place
+place_is [] id place device at own none = cc
+place_is (first ∷ others) id zero device at own none =
+    let same : first ≡ device = cc in
+    let own_first : first.id ≡ id = ap (λ (d : Device). d.id) same ∙ own in
+    (first, refl, rw (eq-eqb first.id id own_first) refl, (λ cache. rw (eq-eqb first.id id own_first) refl))
+place_is (first ∷ others) id (suc place) device at own none =
+    let other = differs first.id id (none 0 first (omega arith) refl) in
+    let rest = place_is others id place device at own (λ k d lt there. none (suc k) d (omega arith) there) in
+    (rest.0, rest.1, rw other rest.2, (λ cache. rw other (ap (λ ds. first ∷ ds) (rest.3 cache))))
+
+-- where there is no such device, nothing is set
+pub with_none : (devices : List Device) (id : ℕ) (cache : Option Cache) → device_with devices id ≡ None → with_cache devices id cache ≡ devices
+with_none [] id cache none = refl
+with_none (device ∷ others) id cache none = elim (eqb_tells device.id id) [
+  | inl e ↦ absurd (some_none (rw e.0 at none))
+  | inr ne ↦ rw ne.0 (ap (λ ds. device ∷ ds) (with_none others id cache (rw ne.0 at none)))
+]
+  where
+    some_none : ◌≡◌ {A = Option Device} (Some device) None → ⊥
+    some_none same = cc
+
+-- a device that isn't there has no cache, and ignores what comes for it
+pub takes_none : (devices : List Device) (id epoch page : ℕ) (answer : Translation) → device_with devices id ≡ None
+    → TakesInto (cache_of devices id) epoch page answer Ignored None
+takes_none devices id epoch page answer none = rw (ap cache_in none) (refl, refl)
+
+pub obeys_none : (devices : List Device) (id serial : ℕ) (range : Range) → device_with devices id ≡ None → Obeys (cache_of devices id) serial range None None
+obeys_none devices id serial range none = rw (ap cache_in none) refl

@@ -1,0 +1,8 @@
+use Rattle.iom_world.specs.Seen.{parts_of}
+use Rattle.iom_world.proofs.MessageKeeps.{dropped_sound}
+use Rattle.iom_world.proofs.world.World.drop_message.Goals as goal
+
+pub invariant_of-self : goal.invariant_of-self
+invariant_of-self c =
+    let world = c.args.self.now in
+    record { sound = rw c.drop.ensures.rest (dropped_sound (parts_of world) world.events c.args.place world.sound) }
