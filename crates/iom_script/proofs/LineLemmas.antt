@@ -1,7 +1,7 @@
 -- A line is read by its first word.
 use Rattle.std.specs.Prelude.{◌==◌, if◌then◌else◌, IfOk, Result}
 use Rattle.std.specs.declared.alloc.AllocError.{AllocError}
-use Rattle.std.proofs.Common.{◌≡◌, get_or, [], ◌∷◌, inl, inr, ◌++◌, ℕ, List, Contains, MatchOption, Option, Some, None, codes, ap, sym, subst, refl, ◌∙◌, arith}
+use Rattle.std.proofs.Common.{◌≡◌, ◌⊎◌, get_or, [], ◌∷◌, inl, inr, ◌++◌, ℕ, List, Contains, MatchOption, Option, Some, None, codes, ap, sym, subst, refl, ◌∙◌, arith}
 use Rattle.std.specs.List.{slice_get}
 use Rattle.std.proofs.lemmas.Option.{get_or_from_slice_get}
 use Rattle.std.proofs.lemmas.Result.{IfOk-weaker}
@@ -10,7 +10,7 @@ use Rattle.iom_machine.specs.declared.event.Event.{Event}
 use Rattle.iom_machine.specs.declared.event.Event.TheVariants as events
 use Rattle.iom_script.specs.declared.script.WorldSize.{WorldSize}
 use Rattle.iom_script.specs.Words.{Reads, ◌␣◌, IsNumber}
-use Rattle.iom_script.specs.Cuts.{start_of, IsLineOf, IsLineWith, starts_under_a, starts_under_d, starts_under_f, starts_under_p, starts_under_r, starts_under_t}
+use Rattle.iom_script.specs.Cuts.{start_of, IsLineOf, IsLineWith, single_starts, starts_under_a, starts_under_d, starts_under_f, starts_under_p, starts_under_r, starts_under_t}
 use Rattle.iom_script.specs.Grammar.{IsEventLine, IsWorldSize, IsWorldLine}
 use Rattle.iom_script.proofs.ReadsLemmas.{reads_some, reads_none, read_holds, read_only, read_nothing}
 use Rattle.iom_script.proofs.FieldLemmas.{Followed}
@@ -38,7 +38,7 @@ found_line starts start line event one reads =
     let q = read_holds (IsLineWith start line) event reads in
     reads_some (IsLineOf starts line) event (subst (Contains starts) (sym (only_start start (start_of event) q.0)) one, q.1) (λ other r. event_same line event other q.1 r.1)
 
--- how the lines begin whose first byte is this one
+-- how the lines of more than a word begin whose first byte is this one
 abbrev pub starts_under : ℕ → List (List ℕ)
 starts_under byte =
     if byte == 97 then starts_under_a
@@ -52,49 +52,58 @@ starts_under byte =
     else (if byte == 119 then codes "write " ∷ []
     else []))))))))
 
--- each line begins in one of the ways of its first byte
-found_under : (event : Event) (more : List ℕ) → Contains (starts_under (get_or (start_of event ++ more) 0 0)) (start_of event)
-found_under (events.ReadThroughCache device address len) more = (0, omega arith, refl)
-found_under (events.Ask device page) more = (1, omega arith, refl)
-found_under (events.Attach device mode ats) more = (2, omega arith, refl)
-found_under (events.WriteThroughCache device address bytes) more = (3, omega arith, refl)
-found_under (events.Commit device) more = (0, omega arith, refl)
-found_under (events.Deliver place) more = (0, omega arith, refl)
-found_under (events.Drop place) more = (1, omega arith, refl)
-found_under (events.Plug device kind) more = (2, omega arith, refl)
-found_under (events.Detach device) more = (3, omega arith, refl)
-found_under events.Fetch more = (0, omega arith, refl)
-found_under events.Faults more = (1, omega arith, refl)
-found_under (events.Free frame) more = (2, omega arith, refl)
-found_under (events.Forge device serial) more = (3, omega arith, refl)
-found_under (events.Grant device page frame rights) more = (0, omega arith, refl)
-found_under events.Poll more = (0, omega arith, refl)
-found_under (events.Peek address len) more = (1, omega arith, refl)
-found_under (events.Poke address bytes) more = (2, omega arith, refl)
-found_under (events.Read device address len) more = (0, omega arith, refl)
-found_under (events.Release device page) more = (1, omega arith, refl)
-found_under (events.Repeat place) more = (2, omega arith, refl)
-found_under (events.ReadTranslated device address len) more = (0, omega arith, refl)
-found_under (events.WriteTranslated device address bytes) more = (1, omega arith, refl)
-found_under (events.Write device address bytes) more = (0, omega arith, refl)
+-- each line is a single word, or begins in one of the ways of its first byte
+found_under : (event : Event) (more : List ℕ) → Contains single_starts (start_of event) ⊎ Contains (starts_under (get_or (start_of event ++ more) 0 0)) (start_of event)
+found_under (events.ReadThroughCache device address len) more = inr (0, omega arith, refl)
+found_under (events.Ask device page) more = inr (1, omega arith, refl)
+found_under (events.Attach device mode ats) more = inr (2, omega arith, refl)
+found_under (events.WriteThroughCache device address bytes) more = inr (3, omega arith, refl)
+found_under (events.Commit device) more = inr (0, omega arith, refl)
+found_under (events.Deliver place) more = inr (0, omega arith, refl)
+found_under (events.Drop place) more = inr (1, omega arith, refl)
+found_under (events.Plug device kind) more = inr (2, omega arith, refl)
+found_under (events.Detach device) more = inr (3, omega arith, refl)
+found_under events.Fetch more = inl (1, omega arith, refl)
+found_under events.Faults more = inl (2, omega arith, refl)
+found_under (events.Free frame) more = inr (0, omega arith, refl)
+found_under (events.Forge device serial) more = inr (1, omega arith, refl)
+found_under (events.Grant device page frame rights) more = inr (0, omega arith, refl)
+found_under events.Poll more = inl (0, omega arith, refl)
+found_under (events.Peek address len) more = inr (0, omega arith, refl)
+found_under (events.Poke address bytes) more = inr (1, omega arith, refl)
+found_under (events.Read device address len) more = inr (0, omega arith, refl)
+found_under (events.Release device page) more = inr (1, omega arith, refl)
+found_under (events.Repeat place) more = inr (2, omega arith, refl)
+found_under (events.ReadTranslated device address len) more = inr (0, omega arith, refl)
+found_under (events.WriteTranslated device address bytes) more = inr (1, omega arith, refl)
+found_under (events.Write device address bytes) more = inr (0, omega arith, refl)
 
--- so what is read of a line that begins in any of those ways is read of the line
-pub under_first : (line : List ℕ) (first byte : ℕ) (result : Option Event) → Some first ≡ slice_get line 0 → first ≡ byte → Reads result (IsLineOf (starts_under byte) line)
-    → Reads result (IsEventLine line)
-under_first line first byte result here is reads = λ event. (
+-- what is read of a line that begins in one of some ways is read of the line
+pub of_some_line : (line : List ℕ) (starts : List (List ℕ)) (event : Event) → Reads (Some event) (IsLineOf starts line) → Reads (Some event) (IsEventLine line)
+of_some_line line starts event reads =
+    let q = read_holds (IsLineOf starts line) event reads in
+    reads_some (IsEventLine line) event q.1 (λ other r. event_same line event other q.1 r)
+
+-- and so is what is read of a line that begins in one of the ways of its first byte, or nothing, where the line is no single word
+pub under_first : (line : List ℕ) (first byte : ℕ) (result : Option Event) → Reads None (IsLineOf single_starts line) → Some first ≡ slice_get line 0 → first ≡ byte
+    → Reads result (IsLineOf (starts_under byte) line) → Reads result (IsEventLine line)
+under_first line first byte result none here is reads = λ event. (
   λ e. ((reads event).0 e).1,
   λ q. (
       let begins = line_begins line event q in
       let same : get_or (start_of event ++ begins.0) 0 0 ≡ byte = sym (ap (λ l. get_or l 0 0) begins.1) ∙ get_or_from_slice_get line 0 first 0 (sym here) ∙ is in
-      (reads event).1 (subst (λ b. Contains (starts_under b) (start_of event)) same (found_under event begins.0), q)
+      elim (found_under event begins.0) [
+        | inl word ↦ absurd (read_nothing (IsLineOf single_starts line) event none (word, q))
+        | inr found ↦ (reads event).1 (subst (λ b. Contains (starts_under b) (start_of event)) same found, q)
+      ]
       ),
 )
 
 -- the same where the bytes take memory
-pub under_first_ok : (line : List ℕ) (first byte : ℕ) (result : Result (Option Event) AllocError) → Some first ≡ slice_get line 0 → first ≡ byte
+pub under_first_ok : (line : List ℕ) (first byte : ℕ) (result : Result (Option Event) AllocError) → Reads None (IsLineOf single_starts line) → Some first ≡ slice_get line 0 → first ≡ byte
     → IfOk result (λ event. Reads event (IsLineOf (starts_under byte) line)) → IfOk result (λ event. Reads event (IsEventLine line))
-under_first_ok line first byte result here is reads =
-    IfOk-weaker result (λ event. Reads event (IsLineOf (starts_under byte) line)) (λ event. Reads event (IsEventLine line)) (λ event. under_first line first byte event here is) reads
+under_first_ok line first byte result none here is reads =
+    IfOk-weaker result (λ event. Reads event (IsLineOf (starts_under byte) line)) (λ event. Reads event (IsEventLine line)) (λ event. under_first line first byte event none here is) reads
 
 -- what stands behind the first word of the line that says how large the world is
 abbrev pub BehindWorld : List ℕ → List ℕ → Type 0

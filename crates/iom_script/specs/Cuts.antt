@@ -86,7 +86,11 @@ IsLineOf starts line event = Contains starts (start_of event) × IsEventLine lin
 abbrev pub IsLineWith : List ℕ → List ℕ → Event → Type 0
 IsLineWith start line event = IsLineOf (start ∷ []) line event
 
--- how the lines begin whose first letter is `a`
+-- the lines of a single word: a step of the IOMMU, or a look of the driver
+abbrev pub single_starts : List (List ℕ)
+single_starts = codes "poll" ∷ codes "fetch" ∷ codes "faults" ∷ []
+
+-- how the lines of more than a word begin whose first letter is `a`
 abbrev pub starts_under_a : List (List ℕ)
 starts_under_a = codes "aread " ∷ codes "ask " ∷ codes "attach " ∷ codes "awrite " ∷ []
 
@@ -96,11 +100,11 @@ starts_under_d = codes "deliver " ∷ codes "drop " ∷ codes "device " ∷ code
 
 -- how those under `f` begin
 abbrev pub starts_under_f : List (List ℕ)
-starts_under_f = codes "fetch" ∷ codes "faults" ∷ codes "free " ∷ codes "forge " ∷ []
+starts_under_f = codes "free " ∷ codes "forge " ∷ []
 
 -- how those under `p` begin
 abbrev pub starts_under_p : List (List ℕ)
-starts_under_p = codes "poll" ∷ codes "peek " ∷ codes "poke " ∷ []
+starts_under_p = codes "peek " ∷ codes "poke " ∷ []
 
 -- how those under `r` begin
 abbrev pub starts_under_r : List (List ℕ)

@@ -1,6 +1,6 @@
 ghost use Rattle.std.specs.Prelude.{◌≡◌, ◌≤◌, ◌↔◌, codes, IfOk, IsTrue};
 ghost use Rattle.iom_script.specs.Words.{Reads};
-ghost use Rattle.iom_script.specs.Cuts.{IsLineWith, IsLineOf, starts_under_a, starts_under_d, starts_under_f, starts_under_p, starts_under_r, starts_under_t};
+ghost use Rattle.iom_script.specs.Cuts.{IsLineWith, IsLineOf, single_starts, starts_under_a, starts_under_d, starts_under_f, starts_under_p, starts_under_r, starts_under_t};
 ghost use Rattle.iom_script.specs.Grammar.{IsEventLine, IsWorldLine};
 
 use crate::script::WorldSize;
@@ -285,40 +285,22 @@ fn poke(alloc: Global, line: &[u8]) -> Result<Option<Event>, AllocError>
     Ok(Some(Event::Poke { address, bytes }))
 }
 
-/// `poll`
-fn poll(line: &[u8]) -> Option<Event>
-    ensures { Reads result (IsLineWith (codes "poll") line.now) }
+/// `poll`, `fetch` or `faults`
+fn single(line: &[u8]) -> Option<Event>
+    ensures { Reads result (IsLineOf single_starts line.now) }
 {
     if is_word(line, b"poll") {
         Some(Event::Poll)
-    } else {
-        None
-    }
-}
-
-/// `fetch`
-fn fetch(line: &[u8]) -> Option<Event>
-    ensures { Reads result (IsLineWith (codes "fetch") line.now) }
-{
-    if is_word(line, b"fetch") {
+    } else if is_word(line, b"fetch") {
         Some(Event::Fetch)
-    } else {
-        None
-    }
-}
-
-/// `faults`
-fn faults(line: &[u8]) -> Option<Event>
-    ensures { Reads result (IsLineWith (codes "faults") line.now) }
-{
-    if is_word(line, b"faults") {
+    } else if is_word(line, b"faults") {
         Some(Event::Faults)
     } else {
         None
     }
 }
 
-/// A line under `r`, the commonest first, as those under other letters.
+/// A line under `r` that has more than a word, the commonest first, as those under other letters.
 fn under_r(line: &[u8]) -> Option<Event>
     ensures { Reads result (IsLineOf starts_under_r line.now) }
 {
@@ -329,8 +311,7 @@ fn under_r(line: &[u8]) -> Option<Event>
 fn under_p(alloc: Global, line: &[u8]) -> Result<Option<Event>, AllocError>
     ensures { IfOk result (λ event. Reads event (IsLineOf starts_under_p line.now)) }
 {
-    let first = first_of!(poll(line), peek(line));
-    match first {
+    match peek(line) {
         Some(event) => Ok(Some(event)),
         None => poke(alloc, line),
     }
@@ -340,7 +321,7 @@ fn under_p(alloc: Global, line: &[u8]) -> Result<Option<Event>, AllocError>
 fn under_f(line: &[u8]) -> Option<Event>
     ensures { Reads result (IsLineOf starts_under_f line.now) }
 {
-    first_of!(fetch(line), faults(line), free(line), forge(line))
+    first_of!(free(line), forge(line))
 }
 
 /// A line under `a`.
@@ -371,24 +352,28 @@ fn under_t(alloc: Global, line: &[u8]) -> Result<Option<Event>, AllocError>
     }
 }
 
-/// The event that a line says. The line is looked up as in a dictionary, under its first letter. Only
-/// the bytes of a write or a poke take memory.
+/// The event that a line says. Lines of a single word are tried first, since a longer line is told from them by
+/// its length; the others are looked up as in a dictionary, under their first letter. Only the bytes of a write
+/// or a poke take memory.
 pub(crate) fn event_of(alloc: Global, line: &[u8]) -> Result<Option<Event>, AllocError>
     ensures { IfOk result (λ event. Reads event (IsEventLine line.now)) }
 {
+    if let Some(event) = single(line) {
+        return Ok(Some(event));
+    }
     let Some(first) = line.first() else {
         return Ok(None);
     };
     match *first {
         b'r' => Ok(under_r(line)),
         b'c' => Ok(commit(line)),
-        b'p' => under_p(alloc, line),
-        b'f' => Ok(under_f(line)),
-        b'a' => under_a(alloc, line),
-        b'd' => Ok(under_d(line)),
         b'g' => Ok(grant(line)),
+        b'd' => Ok(under_d(line)),
+        b'a' => under_a(alloc, line),
         b'w' => write(alloc, line),
+        b'p' => under_p(alloc, line),
         b't' => under_t(alloc, line),
+        b'f' => Ok(under_f(line)),
         _ => Ok(None),
     }
 }

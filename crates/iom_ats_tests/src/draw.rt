@@ -1,0 +1,287 @@
+// What happens next in a drawn run.
+
+ghost use Rattle.std.specs.Prelude.{◌<◌, IfOk};
+ghost use Rattle.iom_machine.specs.Machine.{IsEvent};
+
+use crate::run::{FIRST, OTHER, RAW};
+use iom_base::{DeviceId, GrantRights, Sequence};
+use iom_fabric::PageNumber;
+use iom_machine::Event;
+use std::alloc::{AllocError, Global};
+
+/// The first frame that is granted; the others follow.
+pub(crate) const FIRST_FRAME: u64 = 4;
+
+/// How many frames are granted.
+pub(crate) const FRAMES: u64 = 8;
+
+/// Where in a frame its own name stands, in eight bytes.
+pub(crate) const NAME_AT: u64 = 4088;
+
+/// Valid, readable, writable, for users, accessed and dirty: a leaf that lets everything through
+/// (Privileged Architecture, "Addressing and Memory Protection").
+const OPEN_LEAF: u64 = 0b1101_0111;
+
+/// The words, each with its lowest byte first.
+pub(crate) fn bytes_of(alloc: Global, words: &[u64]) -> Result<Sequence<u8>, AllocError> {
+    let mut bytes = Sequence::new(alloc);
+    for word in words {
+        for byte in &word.to_le_bytes() {
+            bytes.push(*byte)?;
+        }
+    }
+    Ok(bytes)
+}
+
+/// Numbers that look random: a linear congruential generator.
+#[derive(Drop)]
+pub(crate) struct Draw {
+    state: u64,
+}
+
+impl Draw {
+    pub(crate) fn new(seed: u64) -> Draw {
+        Draw { state: seed }
+    }
+
+    pub(crate) fn below(&mut self, limit: u64) -> u64
+        requires { 0 < limit }
+        ensures { result < limit }
+    {
+        self.state = self
+            .state
+            .wrapping_mul(6364136223846793005)
+            .wrapping_add(1442695040888963407);
+        (self.state >> 33) % limit
+    }
+
+    /// One of the three devices, mostly one with a cache.
+    fn device(&mut self) -> DeviceId {
+        match self.below(7) {
+            0 => RAW,
+            1..=3 => FIRST,
+            _ => OTHER,
+        }
+    }
+
+    /// A device for requests that only some kinds can make, mostly one that is given.
+    fn mostly(&mut self, able: DeviceId) -> DeviceId {
+        if self.below(16) == 0 {
+            self.device()
+        } else {
+            able
+        }
+    }
+
+    /// One of the two devices with a cache, seldom the raw one.
+    fn asker(&mut self) -> DeviceId {
+        let able = if self.below(2) == 0 { FIRST } else { OTHER };
+        self.mostly(able)
+    }
+
+    /// A page that a device may ask for, in bytes.
+    fn page(&mut self) -> u64
+        ensures { result < 32768 }
+    {
+        self.below(8) * 4096
+    }
+
+    /// An entry of the guest's tables at this level, which stand in its pages 0, 1 and 2: mostly the one that
+    /// leads on, or to one of eight pages; else a leaf with drawn flags, or anything.
+    pub(crate) fn entry(&mut self, level: u64) -> u64
+        requires { level < 3 }
+    {
+        let page = self.below(8);
+        match self.below(16) {
+            0 => self.below(1 << 30) << 30 | self.below(1 << 30),
+            1 => page << 10 | self.below(256),
+            _ => {
+                if level < 2 {
+                    (level + 1) << 10 | 1
+                } else {
+                    page << 10 | OPEN_LEAF
+                }
+            }
+        }
+    }
+
+    /// A grant of one of the frames at one of the pages, mostly for reading and writing.
+    fn grant(&mut self) -> Event
+        ensures { IsEvent result }
+    {
+        Event::Grant {
+            device: self.device(),
+            page: self.below(8),
+            frame: FIRST_FRAME + self.below(FRAMES),
+            rights: if self.below(4) == 0 {
+                GrantRights::ReadOnly
+            } else {
+                GrantRights::ReadWrite
+            },
+        }
+    }
+
+    /// A release of one of the pages, seldom of one of those in which a guest's tables stand.
+    fn release(&mut self) -> Event
+        ensures { IsEvent result }
+    {
+        Event::Release {
+            device: self.device(),
+            page: if self.below(4) == 0 {
+                self.below(8)
+            } else {
+                3 + self.below(5)
+            },
+        }
+    }
+
+    /// A device asks for the translation of a page.
+    fn ask(&mut self) -> Event
+        ensures { IsEvent result }
+    {
+        let page = self.below(8);
+        Event::Ask {
+            device: self.asker(),
+            page: PageNumber::new(page).unwrap(),
+        }
+    }
+
+    /// A place among the messages under way, mostly one of the first.
+    fn place(&mut self) -> u64 {
+        if self.below(3) == 0 {
+            self.below(12)
+        } else {
+            self.below(2)
+        }
+    }
+
+    /// The raw device says that one of the last requests to invalidate is done, of which there were so many.
+    fn forge(&mut self, requests: u64) -> Event
+        ensures { IsEvent result }
+    {
+        let back = self.below(4);
+        Event::Forge {
+            device: self.mostly(RAW),
+            serial: if back < requests {
+                requests - back
+            } else {
+                back
+            },
+        }
+    }
+
+    /// An untranslated read or one through a cache, up to the end of a page, so that it takes in the frame's name.
+    fn read(&mut self) -> Event
+        ensures { IsEvent result }
+    {
+        let before = self.below(8);
+        let address = self.page() + NAME_AT - before;
+        let len = 8 + before;
+        if self.below(3) == 0 {
+            let device = self.device();
+            Event::Read {
+                device,
+                address,
+                len,
+            }
+        } else {
+            let device = self.asker();
+            Event::ReadThroughCache {
+                device,
+                address,
+                len,
+            }
+        }
+    }
+
+    /// Such a write, of an entry of a table, and behind it of a word that no other write has.
+    fn write(&mut self, alloc: Global, own: u64) -> Result<Event, AllocError>
+        ensures { IfOk result (λ event. IsEvent event) }
+    {
+        let place = if self.below(2) == 0 {
+            self.below(8)
+        } else {
+            self.below(509)
+        };
+        let address = self.page() + 8 * place;
+        let entry = self.entry(2);
+        let bytes = bytes_of(alloc, &[entry, own])?;
+        if self.below(3) == 0 {
+            let device = self.device();
+            Ok(Event::Write {
+                device,
+                address,
+                bytes,
+            })
+        } else {
+            let device = self.asker();
+            Ok(Event::WriteThroughCache {
+                device,
+                address,
+                bytes,
+            })
+        }
+    }
+
+    /// A request at an address of one of the granted frames, that says it is translated.
+    fn translated(&mut self, alloc: Global, own: u64) -> Result<Event, AllocError>
+        ensures { IfOk result (λ event. IsEvent event) }
+    {
+        let device = self.mostly(RAW);
+        let address = (FIRST_FRAME + self.below(FRAMES)) * 4096;
+        if self.below(2) == 0 {
+            let len = 8;
+            Ok(Event::ReadTranslated {
+                device,
+                address,
+                len,
+            })
+        } else {
+            let bytes = bytes_of(alloc, &[own])?;
+            Ok(Event::WriteTranslated {
+                device,
+                address,
+                bytes,
+            })
+        }
+    }
+
+    /// What happens to a message: mostly it is delivered.
+    fn message(&mut self, requests: u64) -> Event
+        ensures { IsEvent result }
+    {
+        let place = self.place();
+        match self.below(24) {
+            0 => Event::Drop { place },
+            1 | 2 => Event::Repeat { place },
+            3 => self.forge(requests),
+            4..=7 => self.ask(),
+            _ => Event::Deliver { place },
+        }
+    }
+
+    /// An event that isn't a poke. A write of it ends with this word; so many requests to invalidate there were.
+    pub(crate) fn event(
+        &mut self,
+        alloc: Global,
+        own: u64,
+        requests: u64,
+    ) -> Result<Event, AllocError>
+        ensures { IfOk result (λ event. IsEvent event) }
+    {
+        match self.below(84) {
+            0..=6 => Ok(self.grant()),
+            7..=12 => Ok(self.release()),
+            13..=22 => Ok(Event::Fetch),
+            23..=25 => Ok(Event::Poll),
+            26 => Ok(Event::Faults),
+            27..=32 => Ok(self.read()),
+            33..=36 => self.write(alloc, own),
+            37 => self.translated(alloc, own),
+            38..=53 => Ok(Event::Commit {
+                device: self.device(),
+            }),
+            _ => Ok(self.message(requests)),
+        }
+    }
+}
