@@ -3,7 +3,6 @@
 ghost use Rattle.std.specs.Prelude.{◌<◌, IfOk};
 ghost use Rattle.iom_machine.specs.Machine.{IsEvent};
 
-use crate::run::{FIRST, OTHER, RAW};
 use iom_base::{DeviceId, GrantRights, Sequence};
 use iom_fabric::PageNumber;
 use iom_machine::Event;
@@ -33,15 +32,31 @@ pub(crate) fn bytes_of(alloc: Global, words: &[u64]) -> Result<Sequence<u8>, All
     Ok(bytes)
 }
 
-/// Numbers that look random: a linear congruential generator.
+/// The ids of the three devices.
+#[derive(Clone, Copy, PartialEq, Eq, Debug)]
+pub(crate) struct Ids {
+    /// That of the device with a cache in the first stage.
+    pub(crate) first: DeviceId,
+    /// That of the one in the second stage or in both.
+    pub(crate) other: DeviceId,
+    /// That of the device that forges.
+    pub(crate) raw: DeviceId,
+}
+
+/// Numbers that look random, a linear congruential generator, and events of these devices drawn by them.
 #[derive(Drop)]
 pub(crate) struct Draw {
     state: u64,
+    ids: Ids,
 }
 
 impl Draw {
-    pub(crate) fn new(seed: u64) -> Draw {
-        Draw { state: seed }
+    pub(crate) fn new(seed: u64, ids: Ids) -> Draw {
+        Draw { state: seed, ids }
+    }
+
+    pub(crate) fn ids(&self) -> Ids {
+        self.ids
     }
 
     pub(crate) fn below(&mut self, limit: u64) -> u64
@@ -56,11 +71,11 @@ impl Draw {
     }
 
     /// One of the three devices, mostly one with a cache.
-    fn device(&mut self) -> DeviceId {
+    pub(crate) fn device(&mut self) -> DeviceId {
         match self.below(7) {
-            0 => RAW,
-            1..=3 => FIRST,
-            _ => OTHER,
+            0 => self.ids.raw,
+            1..=3 => self.ids.first,
+            _ => self.ids.other,
         }
     }
 
@@ -75,7 +90,11 @@ impl Draw {
 
     /// One of the two devices with a cache, seldom the raw one.
     fn asker(&mut self) -> DeviceId {
-        let able = if self.below(2) == 0 { FIRST } else { OTHER };
+        let able = if self.below(2) == 0 {
+            self.ids.first
+        } else {
+            self.ids.other
+        };
         self.mostly(able)
     }
 
@@ -161,7 +180,7 @@ impl Draw {
     {
         let back = self.below(4);
         Event::Forge {
-            device: self.mostly(RAW),
+            device: self.mostly(self.ids.raw),
             serial: if back < requests {
                 requests - back
             } else {
@@ -227,7 +246,7 @@ impl Draw {
     fn translated(&mut self, alloc: Global, own: u64) -> Result<Event, AllocError>
         ensures { IfOk result (λ event. IsEvent event) }
     {
-        let device = self.mostly(RAW);
+        let device = self.mostly(self.ids.raw);
         let address = (FIRST_FRAME + self.below(FRAMES)) * 4096;
         if self.below(2) == 0 {
             let len = 8;

@@ -71,6 +71,12 @@ impl Messages {
         self.under_way.get(place as usize).copied()
     }
 
+    /// The place of the newest message, if there is one.
+    pub(crate) fn last_place(&self) -> Option<u64> {
+        let last = self.under_way.len().checked_sub(1)?;
+        Some(last as u64)
+    }
+
     /// The question whose delivery the event is, if it is one.
     pub(crate) fn delivered_by(&self, event: &Event) -> Option<Question> {
         let Event::Deliver { place } = event else {

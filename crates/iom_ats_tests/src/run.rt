@@ -3,7 +3,7 @@
 ghost use Rattle.std.specs.Prelude.{◌≡◌, ◌<◌, true};
 ghost use Rattle.iom_machine.specs.Machine.{IsEvent, is_built};
 
-use crate::draw::{Draw, FIRST_FRAME, FRAMES, NAME_AT, bytes_of};
+use crate::draw::{Draw, FIRST_FRAME, FRAMES, Ids, NAME_AT, bytes_of};
 use crate::messages::{Messages, Question, Said};
 use iom_base::{DeviceId, GrantRights, Mode};
 use iom_machine::{DeviceKind, Event, Outcome};
@@ -11,14 +11,28 @@ use iom_world::World;
 use std::alloc::Global;
 use std::test::Fail;
 
-/// The device with a cache in the first stage.
-pub(crate) const FIRST: DeviceId = 0;
+/// Ids that any device directory can name.
+const NARROW: Ids = Ids {
+    first: 0,
+    other: 1,
+    raw: 2,
+};
 
-/// That in the second stage or in both.
-pub(crate) const OTHER: DeviceId = 1;
+/// Ids that only one of three levels can name. Below its root the first two have one page in common.
+const WIDE: Ids = Ids {
+    first: 0x12_3401,
+    other: 0x12_5602,
+    raw: 0xff_ffff,
+};
 
-/// The device that forges.
-pub(crate) const RAW: DeviceId = 2;
+/// What is drawn beside accesses, messages and what the driver does about pages.
+#[derive(Clone, Copy, PartialEq, Eq, Debug)]
+pub(crate) enum Plan {
+    /// Nothing: the devices stay attached, and each message that an invalidation waits for comes, mostly.
+    Steady,
+    /// Devices come and go, and messages are lost for good.
+    Lifecycle,
+}
 
 /// An event, its outcome and what that doesn't show.
 #[derive(Drop)]
@@ -67,12 +81,15 @@ fn last_word(bytes: &[u8]) -> u64 {
 pub(crate) struct Run {
     alloc: Global,
     world: Box<World>,
-    messages: Messages,
+    pub(crate) messages: Messages,
+    plan: Plan,
+    pub(crate) ids: Ids,
+    pub(crate) levels: u8,
     pub(crate) steps: Vec<Step>,
 }
 
 impl Run {
-    fn happen(&mut self, event: Event) -> Result<(), Fail>
+    pub(crate) fn happen(&mut self, event: Event) -> Result<(), Fail>
         requires { IsEvent event }
     {
         if self.world.events() < 1000000 {
@@ -104,25 +121,33 @@ impl Run {
         self.happen(Event::Attach { device, mode, ats })
     }
 
-    /// A world of 64 frames, to which nothing has happened.
-    fn new(alloc: Global) -> Result<Box<Run>, Fail> {
-        let world = World::new(alloc, 64, 1)?;
+    /// A world of 64 frames, to which nothing has happened. Where it is wide its directory has three levels, else one.
+    fn new(alloc: Global, plan: Plan, is_wide: bool) -> Result<Box<Run>, Fail> {
+        let (ids, levels) = if is_wide { (WIDE, 3) } else { (NARROW, 1) };
+        let world = World::new(alloc, 64, levels)?;
         let run = Run {
             alloc,
             world: Box::new(alloc, world)?,
             messages: Messages::new(alloc),
+            plan,
+            ids,
+            levels,
             steps: Vec::new(alloc),
         };
         Ok(Box::new(alloc, run)?)
     }
 
-    fn grant(&mut self, page: u64, frame: u64) -> Result<(), Fail> {
-        self.happen(Event::Grant {
-            device: OTHER,
-            page,
-            frame,
-            rights: GrantRights::ReadWrite,
-        })
+    /// The device gets its first pages, so many of them. In the first three a guest's tables are to stand.
+    pub(crate) fn grant_first(&mut self, device: DeviceId, count: u64) -> Result<(), Fail> {
+        for page in 0..count {
+            self.happen(Event::Grant {
+                device,
+                page,
+                frame: FIRST_FRAME + page % FRAMES,
+                rights: GrantRights::ReadWrite,
+            })?;
+        }
+        Ok(())
     }
 
     /// The frame names itself: by twice its number, which is an entry that isn't valid.
@@ -136,12 +161,11 @@ impl Run {
 
     /// The three devices, the pages in which a guest's tables are to stand, and frames that name themselves.
     fn begin(&mut self, other: Mode) -> Result<(), Fail> {
-        self.plug_and_attach(FIRST, DeviceKind::Ats, Mode::First, true)?;
-        self.plug_and_attach(OTHER, DeviceKind::Ats, other, true)?;
-        self.plug_and_attach(RAW, DeviceKind::Raw, Mode::First, false)?;
-        for page in 0..3 {
-            self.grant(page, FIRST_FRAME + page)?;
-        }
+        let ids = self.ids;
+        self.plug_and_attach(ids.first, DeviceKind::Ats, Mode::First, true)?;
+        self.plug_and_attach(ids.other, DeviceKind::Ats, other, true)?;
+        self.plug_and_attach(ids.raw, DeviceKind::Raw, Mode::First, false)?;
+        self.grant_first(ids.other, 3)?;
         for frame in FIRST_FRAME..FIRST_FRAME + FRAMES {
             self.name(frame)?;
         }
@@ -220,7 +244,7 @@ impl Run {
                 Outcome::Done,
             ) = (&step.event, &step.outcome)
             {
-                if *device == OTHER && *page == asked {
+                if *device == self.ids.other && *page == asked {
                     found = *frame;
                 }
             }
@@ -238,20 +262,21 @@ impl Run {
         self.happen(Event::Poke { address, bytes })
     }
 
-    /// The message at the place is lost. Where an invalidation waits for it, a copy is sent first, mostly: the command
-    /// queue would stand still from then on.
+    /// The message at the place is lost. Where an invalidation waits for it, and nothing is done about that, a copy is
+    /// sent first, mostly: the command queue would stand still from then on.
     fn lose(&mut self, draw: &mut Draw, place: u64) -> Result<(), Fail> {
-        let is_waited_for = self
-            .messages
-            .at(place)
-            .is_some_and(|said| said.is_waited_for());
+        let is_waited_for = self.plan == Plan::Steady
+            && self
+                .messages
+                .at(place)
+                .is_some_and(|said| said.is_waited_for());
         if is_waited_for && draw.below(64) > 0 {
             self.happen(Event::Repeat { place })?;
         }
         self.happen(Event::Drop { place })
     }
 
-    /// A drawn event, other than a poke.
+    /// A drawn event, other than a poke, of accesses, messages and what the driver does about pages.
     fn happen_drawn(&mut self, draw: &mut Draw, own: u64) -> Result<(), Fail> {
         let event = draw.event(self.alloc, own, self.messages.requests())?;
         match event {
@@ -261,40 +286,54 @@ impl Run {
         }
     }
 
-    /// So many events drawn from the seed, beside those that show where accesses went.
-    fn go_on(&mut self, seed: u64, count: u64) -> Result<(), Fail> {
-        let mut draw = Draw::new(seed);
-        for number in 0..count {
-            if draw.below(10) == 0 {
-                self.poke(&mut draw)?;
-            } else {
-                self.happen_drawn(&mut draw, number + 1 << 32)?;
+    /// A drawn event.
+    fn go_on(&mut self, draw: &mut Draw, own: u64) -> Result<(), Fail> {
+        if draw.below(10) == 0 {
+            return self.poke(draw);
+        }
+        if self.plan == Plan::Lifecycle {
+            if let Some(event) = self.next_of_lifecycle(draw) {
+                return self.live(draw, event);
             }
         }
-        Ok(())
+        self.happen_drawn(draw, own)
     }
 
-    /// What is in flight is made.
+    /// What is in flight is made, and the driver says which frames are free.
     fn end(&mut self) -> Result<(), Fail> {
-        for device in 0..3 {
+        let ids = self.ids;
+        for device in [ids.first, ids.other, ids.raw] {
             for _made in 0..8 {
                 self.commit(device)?;
             }
+        }
+        for frame in 0..64 {
+            self.happen(Event::Free { frame })?;
         }
         Ok(())
     }
 
     /// A run of so many events drawn from the seed, beside those that show where accesses went; what is in
-    /// flight at its end is made. One device is in the second stage or, in every other run, in both.
-    pub(crate) fn drawn(alloc: Global, seed: u64, count: u64) -> Result<Box<Run>, Fail> {
-        let mut run = Run::new(alloc)?;
+    /// flight at its end is made. One device is in the second stage or, in every other run, in both. Of the
+    /// runs in which devices come and go, every other two have a directory of three levels.
+    pub(crate) fn drawn(
+        alloc: Global,
+        plan: Plan,
+        seed: u64,
+        count: u64,
+    ) -> Result<Box<Run>, Fail> {
+        let is_wide = plan == Plan::Lifecycle && seed / 2 % 2 == 1;
+        let mut run = Run::new(alloc, plan, is_wide)?;
         let other = if seed % 2 == 0 {
             Mode::Second
         } else {
             Mode::Both
         };
         run.begin(other)?;
-        run.go_on(seed, count)?;
+        let mut draw = Draw::new(seed, run.ids);
+        for number in 0..count {
+            run.go_on(&mut draw, number + 1 << 32)?;
+        }
         run.end()?;
         Ok(run)
     }

@@ -1,5 +1,5 @@
 -- The loop that hangs the missing pages on a path, level by level.
-use Rattle.std.proofs.Common.{zero, suc, ◌≡◌, ◌≢◌, ◌⊎◌, ◌+◌, ◌-◌, ◌^◌, ◌<◌, ◌≤◌, ◌∙◌, inl, inr, ℕ, List, ◌∷◌, length, drop, get_or, slice_get, slice_index, Option, Some, None, Ok, refl, sym, ap, subst, arith, add-one, drop-cons}
+use Rattle.std.proofs.Common.{zero, suc, ◌≡◌, ◌≢◌, ◌⊎◌, ◌+◌, ◌-◌, ◌^◌, ◌<◌, ◌≤◌, ◌∙◌, inl, inr, ℕ, List, ◌∷◌, length, drop, get_or, slice_get, slice_index, Option, Some, None, Ok, refl, sym, ap, subst, arith, add-one, drop-cons, is_some, IsSome}
 use Rattle.std.specs.Prelude.{◌↔◌}
 use Rattle.std.specs.List.{AllPairs, Contains}
 use Rattle.std.specs.Option.{option_and_then}
@@ -10,14 +10,14 @@ use Rattle.iom_phys_mem.specs.Words.{zeroed}
 use Rattle.iom_device_dir.specs.declared.context.Context.{Context}
 use Rattle.iom_device_dir.specs.Paths.{ddi, entry_place, ids_below}
 use Rattle.iom_device_dir.specs.Located.{path_end_from}
-use Rattle.iom_directory.specs.Pages.{next_page, page_at, HasPage, IsDirectory, missing_below, missing_pages, AreFresh}
+use Rattle.iom_directory.specs.Pages.{next_page, page_at, HasPage, HasWholePath, IsDirectory, missing_below, missing_pages, AreFresh}
 use Rattle.iom_directory.specs.Written.{entry_word, with_entry_at, with_context_at, hung_below, hung}
 use Rattle.iom_directory.specs.Changes.{Stores, WritesPlace, KeepsOthers, KeepsOutside}
-use Rattle.iom_directory.proofs.Paths.{at_root, goes_down, to_level, one_down}
+use Rattle.iom_directory.proofs.Paths.{at_root, goes_down, to_level, one_down, none_follows, past_root}
 use Rattle.iom_directory.proofs.Prefixes.{index_fits}
 use Rattle.iom_directory.proofs.Words.{zero_next}
 use Rattle.iom_directory.proofs.Places.{writes}
-use Rattle.iom_directory.proofs.Hangs.{Hangs, new_page_at, pages_hung, ends_hung, directory_hung, outside_hung, zero_hung}
+use Rattle.iom_directory.proofs.Hangs.{Hangs, pages_after, new_page_at, pages_hung, ends_hung, directory_hung, outside_hung, zero_hung}
 
 -- the pages that are used so far stand on the path down to a level, and every path ends as it did
 pub record Hung (old now : List (List ℕ)) (top root id : ℕ) (pages : List ℕ) (context : Context) (level page used : ℕ) : Type 0 where
@@ -31,6 +31,7 @@ pub record Hung (old now : List (List ℕ)) (top root id : ℕ) (pages : List �
   pub ends : (other : ℕ) → other < ids_below top → path_end_from now top root other ≡ path_end_from old top root other
   pub outside : KeepsOutside old now top root
   pub size : length now ≡ length old
+  pub paths : (other : ℕ) → other < ids_below top → HasWholePath old top root other → HasWholePath now top root other
   pub writes : hung now level page id (drop used pages) context ≡ hung old top root id pages context
 
 drop_at : (xs : List ℕ) (k d : ℕ) → k < length xs → drop k xs ≡ get_or xs k d ∷ drop (k + 1) xs
@@ -39,6 +40,20 @@ drop_at xs k d lt = rw (add-one) (drop-cons xs k d lt)
 -- what is missing from a page of a level above 0
 pub missing_at : (m : List (List ℕ)) (level page id : ℕ) (o : Option ℕ) → next_page m page (suc level) id ≡ o → missing_pages m (suc level) page id ≡ missing_below o (suc level) (λ next. missing_pages m level next id)
 missing_at m level page id o named = ap (λ x. missing_below x (suc level) (λ next. missing_pages m level next id)) named
+
+there : (o : Option ℕ) → IsSome o → (f : ℕ) × (o ≡ Some f)
+there None some = absurd (cc)
+there (Some f) some = (f, refl)
+
+-- a whole path lacks no page
+pub whole_path : (m : List (List ℕ)) (top root id f : ℕ) → page_at m top root 0 id ≡ Some f → missing_pages m top root id ≡ 0
+whole_path m zero root id f at = refl
+whole_path m (suc top) root id f at =
+    let on = none_follows (λ next. page_at m top next 0 id) (next_page m root (suc top) id) f (sym (past_root m top root 0 id (omega arith)) ∙ at) in
+    missing_at m top root id (Some on.0) on.1 ∙ whole_path m top on.0 id f on.2
+
+pub whole_path_there : (m : List (List ℕ)) (top root id : ℕ) → IsSome (page_at m top root 0 id) → missing_pages m top root id ≡ 0
+whole_path_there m top root id some = let at = there (page_at m top root 0 id) some in whole_path m top root id at.0 at.1
 
 missing_zeroed : (m : List (List ℕ)) (level page id : ℕ) → slice_get m page ≡ Some zeroed → missing_pages m level page id ≡ level
 missing_zeroed m zero page id here = refl
@@ -64,6 +79,7 @@ hung_start old top root id pages context d count fresh =
       ends = λ other lt. refl;
       outside = λ f out. refl;
       size = refl;
+      paths = λ other lt path. path;
       writes = refl;
     }
 
@@ -83,6 +99,7 @@ hung_down old now top root id pages context level page used next h named =
       ends = h.ends;
       outside = h.outside;
       size = h.size;
+      paths = h.paths;
       writes = sym (ap (λ o. hung_below o (drop used pages) (λ n left. hung now level n id left context) (λ n left. hung (with_entry_at now page (suc level) id n) level n id left context) now) named) ∙ h.writes;
     }
 
@@ -182,6 +199,8 @@ module _ (old mid new : List (List ℕ)) (top root id : ℕ) (pages : List ℕ) 
         ends = λ other lt. ends_hung mid new top root level id page f hangs other lt ∙ h.ends other lt;
         outside = λ g out. outside_hung mid new top root level id page f hangs g out ∙ h.outside g (λ was. out ((has_after g).1 (inl was)));
         size = stores.size ∙ h.size;
+        paths = λ other lt path. let was = there (page_at mid top root 0 other) (h.paths other lt path) in
+            ap is_some ((pages_after mid new top root level id page f hangs other lt 0 (omega arith) was.0).1 (inl was.1));
         writes = writes_after;
       }
 
@@ -193,6 +212,8 @@ pub record Puts (old new : List (List ℕ)) (top root id : ℕ) (pages : List �
   pub others : KeepsOthers old new top root id
   pub outside : KeepsOutside old new top root
   pub size : length new ≡ length old
+  pub path : HasWholePath new top root id
+  pub paths : (other : ℕ) → other < ids_below top → HasWholePath old top root other → HasWholePath new top root other
   pub whole : new ≡ hung old top root id pages context
 
 pub puts : (old mid new : List (List ℕ)) (top root id : ℕ) (pages : List ℕ) (context : Context) (page used : ℕ) → id < ids_below top → Hung old mid top root id pages context 0 page used
@@ -216,6 +237,8 @@ puts old mid new top root id pages context page used in_range h place whole =
       others = λ other lt ne. w.others other lt ne ∙ h.ends other lt;
       outside = λ f out. w.outside f out ∙ h.outside f (λ was. out ((w.pages f).1 was));
       size = w.size ∙ h.size;
+      path = w.paths id in_range (ap is_some h.at);
+      paths = λ other lt path. w.paths other lt (h.paths other lt path);
       whole = whole ∙ h.writes;
     }
 

@@ -1,5 +1,5 @@
 -- A context's place in a directory is written: it is found there, and all else is as it was.
-use Rattle.std.proofs.Common.{zero, suc, ◌≡◌, ◌≢◌, ◌+◌, ◌/◌, ◌<◌, ◌∙◌, inl, inr, ℕ, List, length, Option, Some, None, Result, Err, refl, sym, ap, subst, arith}
+use Rattle.std.proofs.Common.{zero, suc, ◌≡◌, ◌≢◌, ◌+◌, ◌/◌, ◌<◌, ◌∙◌, inl, inr, ℕ, List, length, Option, Some, None, is_some, Result, Err, refl, sym, ap, subst, arith}
 use Rattle.std.specs.Prelude.{◌↔◌}
 use Rattle.std.specs.Option.{option_and_then}
 use Rattle.std.proofs.lemmas.Bool.Decides.{eqb_tells}
@@ -9,7 +9,7 @@ use Rattle.iom_phys_mem.specs.Words.{word_at}
 use Rattle.iom_device_dir.specs.declared.context.Context.{Context}
 use Rattle.iom_device_dir.specs.Paths.{ddi, entry_place, context_place, ids_below}
 use Rattle.iom_device_dir.specs.Located.{loaded_entry, path_end_from}
-use Rattle.iom_directory.specs.Pages.{next_page, page_at, HasPage, IsDirectory, EndsLawfully}
+use Rattle.iom_directory.specs.Pages.{next_page, page_at, HasPage, HasWholePath, IsDirectory, EndsLawfully}
 use Rattle.iom_directory.specs.Changes.{WritesPlace, KeepsOthers, KeepsOutside}
 use Rattle.iom_directory.proofs.Paths.{past_root, end_past, stops_lawfully, same_end_from}
 use Rattle.iom_directory.proofs.Prefixes.{index_fits, context_index_fits, same_id}
@@ -24,6 +24,7 @@ pub record Writes (old new : List (List ℕ)) (top root id : ℕ) (found : Resul
   pub others : KeepsOthers old new top root id
   pub outside : KeepsOutside old new top root
   pub size : length new ≡ length old
+  pub paths : (other : ℕ) → other < ids_below top → HasWholePath old top root other → HasWholePath new top root other
 
 module _ (old new : List (List ℕ)) (top root page id : ℕ) (found : Result Context Cause) (d : IsDirectory old top root) (in_range : id < ids_below top) (at : page_at old top root 0 id ≡ Some page) (w : WritesPlace old new page id found) where
   -- an entry stands in another page
@@ -76,6 +77,7 @@ module _ (old new : List (List ℕ)) (top root page id : ℕ) (found : Result Co
         others = others_stay;
         outside = λ f out. w.frames f (λ e. out ((pages f).1 (0, id, omega arith, in_range, at ∙ ap (λ n. Some n) (sym e))));
         size = w.size;
+        paths = λ other other_in_range path. ap is_some (same_page old new top root other (entries_stay other other_in_range) 0 (omega arith)) ∙ path;
       }
 
 none_below : (m : List (List ℕ)) (top page id : ℕ) (o : Option ℕ) → next_page m page (suc top) id ≡ o → option_and_then (λ next. page_at m top next 0 id) o ≡ None → EndsLawfully (path_end_from m (suc top) page id)

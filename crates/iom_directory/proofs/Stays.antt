@@ -1,12 +1,12 @@
 -- What changes no page of a directory leaves it.
-use Rattle.std.proofs.Common.{zero, suc, ◌≡◌, ◌+◌, ◌/◌, ◌<◌, ◌≤◌, ◌∙◌, ℕ, List, Option, Some, None, slice_get, refl, sym, ap, subst, arith}
+use Rattle.std.proofs.Common.{zero, suc, ◌≡◌, ◌+◌, ◌/◌, ◌<◌, ◌≤◌, ◌∙◌, ℕ, List, Option, Some, None, is_some, slice_get, refl, sym, ap, subst, arith}
 use Rattle.iom_phys_mem.specs.Words.{word_at}
 use Rattle.iom_device_dir.specs.Paths.{ddi, entry_place, context_place, ids_below}
 use Rattle.iom_device_dir.specs.Located.{loaded_entry}
 use Rattle.iom_directory.specs.Pages.{page_named, next_page, page_at, HasPage, missing_below, missing_pages, EndsLawfully}
 use Rattle.iom_directory.proofs.Paths.{at_root, goes_down}
 use Rattle.iom_directory.proofs.Prefixes.{index_fits, context_index_fits}
-use Rattle.iom_directory.proofs.Same.{SameEntries, SameContextOf, same_pages, same_directory, same_end}
+use Rattle.iom_directory.proofs.Same.{SameEntries, SameContextOf, same_page, same_pages, same_directory, same_end}
 use Rattle.iom_directory.proofs.Words.{word_stays, words_stay}
 use Rattle.iom_directory.specs.Laws.{DirectoryStays}
 
@@ -51,4 +51,5 @@ stays =
       directory = same_directory old new top root d entries size (λ id in_range. subst EndsLawfully (sym (ends id in_range)) (d.lawful id in_range));
       pages = same_pages old new top root entries;
       ends = ends;
+      paths = λ id in_range path. ap is_some (same_page old new top root id (entries id in_range) 0 (omega arith)) ∙ path;
     }

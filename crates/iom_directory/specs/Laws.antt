@@ -7,13 +7,14 @@ use Rattle.iom_registers.specs.declared.directory.DirectoryMode.TheVariants.{Off
 use Rattle.iom_registers.specs.declared.directory.DirectoryPointer.{DirectoryPointer}
 use Rattle.iom_device_dir.specs.Paths.{ids_below}
 use Rattle.iom_device_dir.specs.Located.{path_end_from, located_context}
-use Rattle.iom_directory.specs.Pages.{HasPage, IsDirectory}
+use Rattle.iom_directory.specs.Pages.{HasPage, HasWholePath, IsDirectory, missing_pages}
 
 -- the root has a directory as before, of the same pages, and every path in it ends as it did
 pub record SameDirectory (old new : List (List ℕ)) (top root : ℕ) : Type 0 where
   pub directory : IsDirectory new top root
   pub pages : (f : ℕ) → HasPage new top root f ↔ HasPage old top root f
   pub ends : (id : ℕ) → id < ids_below top → path_end_from new top root id ≡ path_end_from old top root id
+  pub paths : (id : ℕ) → id < ids_below top → HasWholePath old top root id → HasWholePath new top root id
 
 -- what changes no page of a directory leaves it, and all that its paths find
 abbrev pub DirectoryStays : Type 0
@@ -26,6 +27,10 @@ ZeroedRoot = (memory : List (List ℕ)) (top root : ℕ) → top ≤ 2 → slice
     → IsDirectory memory top root
     × ((f : ℕ) → HasPage memory top root f ↔ (f ≡ root))
     × ((id : ℕ) → id < ids_below top → path_end_from memory top root id ≡ Err DirectoryEntryNotValid)
+
+-- a whole path lacks no page
+abbrev pub WholePaths : Type 0
+WholePaths = (memory : List (List ℕ)) (top root id : ℕ) → HasWholePath memory top root id → missing_pages memory top root id ≡ 0
 
 -- the mode of ddtp that says how many levels the directory has, by the level of its root
 abbrev pub IsModeOf : DirectoryMode → ℕ → Type 0

@@ -1,6 +1,6 @@
 -- The pages of a device directory, read off a memory (RISC-V IOMMU Architecture Specification, sections 2.1 and 2.3.1). A directory
 -- has one to three levels: `top` is the level of its root page, 0 to 2, and pages of level 0 hold contexts.
-use Rattle.std.specs.Prelude.{◌≡◌, ◌≢◌, ℕ, zero, suc, ◌-◌, ◌/◌, ◌==◌, ◌<◌, ◌≤◌, List, length, slice_get, Option, Some, None, Result, Ok, Err, if◌then◌else◌}
+use Rattle.std.specs.Prelude.{◌≡◌, ◌≢◌, ℕ, zero, suc, ◌-◌, ◌/◌, ◌==◌, ◌<◌, ◌≤◌, List, length, slice_get, Option, Some, None, IsSome, Result, Ok, Err, if◌then◌else◌}
 use Rattle.std.specs.List.{All, AllPairs}
 use Rattle.std.specs.Option.{option_and_then}
 use Rattle.iom_base.specs.declared.cause.Cause.{Cause}
@@ -29,6 +29,10 @@ abbrev pub page_at : List (List ℕ) → ℕ → ℕ → ℕ → ℕ → Option 
 page_at memory zero root level id = if level == 0 then Some root else None
 page_at memory (suc top) root level id =
     if level == suc top then Some root else option_and_then (λ next. page_at memory top next level id) (next_page memory root (suc top) id)
+
+-- the path of the id leads down to a page of contexts: none of its pages is missing
+abbrev pub HasWholePath : List (List ℕ) → ℕ → ℕ → ℕ → Type 0
+HasWholePath memory top root id = IsSome (page_at memory top root 0 id)
 
 -- the frame is a page of the directory
 abbrev pub HasPage : List (List ℕ) → ℕ → ℕ → ℕ → Type 0

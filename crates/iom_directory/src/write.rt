@@ -3,7 +3,7 @@ ghost use Rattle.std.specs.List.{Contains};
 ghost use Rattle.iom_base.specs.declared.cause.Cause.TheVariants.{DirectoryEntryNotValid};
 ghost use Rattle.iom_device_dir.specs.Paths.{ids_below};
 ghost use Rattle.iom_device_dir.specs.Located.{path_end_from};
-ghost use Rattle.iom_directory.specs.Pages.{root_level, page_at, HasPage, IsDirectory, missing_pages, AreFresh};
+ghost use Rattle.iom_directory.specs.Pages.{root_level, page_at, HasPage, HasWholePath, IsDirectory, missing_pages, AreFresh};
 ghost use Rattle.iom_directory.specs.Written.{hung, without_context};
 ghost use Rattle.iom_directory.specs.Changes.{KeepsOthers, KeepsOutside};
 
@@ -61,6 +61,10 @@ pub fn put_context<B: Bytes>(
     ensures pages { (f : ℕ) → HasPage (B.frames_of memory.new) (root_level levels) root f
         ↔ (HasPage (B.frames_of memory.old) (root_level levels) root f ⊎ Contains pages.now f) }
     ensures here { path_end_from (B.frames_of memory.new) (root_level levels) root id ≡ Ok context }
+    ensures path { HasWholePath (B.frames_of memory.new) (root_level levels) root id }
+    ensures paths { (other : ℕ) → other < ids_below (root_level levels)
+        → HasWholePath (B.frames_of memory.old) (root_level levels) root other
+        → HasWholePath (B.frames_of memory.new) (root_level levels) root other }
     ensures others { KeepsOthers (B.frames_of memory.old) (B.frames_of memory.new) (root_level levels) root id }
     ensures outside { KeepsOutside (B.frames_of memory.old) (B.frames_of memory.new) (root_level levels) root }
     ensures size { length (B.frames_of memory.new) ≡ length (B.frames_of memory.old) }
@@ -93,6 +97,9 @@ pub fn clear_context<B: Bytes>(memory: &mut B, levels: u8, root: u32, id: Device
     ensures pages { (f : ℕ) → HasPage (B.frames_of memory.new) (root_level levels) root f
         ↔ HasPage (B.frames_of memory.old) (root_level levels) root f }
     ensures here { path_end_from (B.frames_of memory.new) (root_level levels) root id ≡ Err DirectoryEntryNotValid }
+    ensures paths { (other : ℕ) → other < ids_below (root_level levels)
+        → HasWholePath (B.frames_of memory.old) (root_level levels) root other
+        → HasWholePath (B.frames_of memory.new) (root_level levels) root other }
     ensures others { KeepsOthers (B.frames_of memory.old) (B.frames_of memory.new) (root_level levels) root id }
     ensures outside { KeepsOutside (B.frames_of memory.old) (B.frames_of memory.new) (root_level levels) root }
     ensures size { length (B.frames_of memory.new) ≡ length (B.frames_of memory.old) }

@@ -8,13 +8,14 @@ use Rattle.iom_device_dir.specs.Located.{path_end_from}
 use Rattle.iom_device_dir.specs.Paths.{ids_below}
 use Rattle.iom_directory.proofs.Stays.{missing_stays}
 use Rattle.iom_directory.specs.Changes.{KeepsOthers, KeepsOutside}
-use Rattle.iom_directory.specs.Pages.{IsDirectory, HasPage, AreFresh, root_level, missing_pages}
+use Rattle.iom_directory.specs.Pages.{IsDirectory, HasPage, HasWholePath, AreFresh, root_level, missing_pages}
 use Rattle.iom_phys_mem.specs.Words.{zeroed}
 use Rattle.iom_driver.specs.declared.device.Device.{Device}
 use Rattle.iom_driver.specs.declared.device.Stages.{Stages}
 use Rattle.iom_driver.specs.Choices.{AreHighestFree, marked_for, cleared}
 use Rattle.iom_driver.specs.Attaching.{IsRootBelow, root_frames, limit_below}
-use Rattle.iom_driver.specs.Devices.{stages_of}
+use Rattle.iom_driver.specs.declared.device.Attachment.TheVariants.{Attached}
+use Rattle.iom_driver.specs.Devices.{attachment_of, stages_of}
 use Rattle.iom_driver.specs.Directory.{context_for, located_for, IsDirectoryFrame}
 use Rattle.iom_driver.specs.Layout.{IsLevels, AreFixed, directory_frame, fault_frame}
 use Rattle.iom_driver.specs.Ready.{TablesStand}
@@ -30,6 +31,8 @@ pub record IsPut (memory memory' : List (List ℕ)) (levels root id : ℕ) (stag
   pub tree : IsDirectory memory' (root_level levels) root
   pub has : (f : ℕ) → HasPage memory' (root_level levels) root f → HasPage memory (root_level levels) root f ⊎ Contains pages f
   pub here : path_end_from memory' (root_level levels) root id ≡ Ok (context_for stage)
+  pub path : HasWholePath memory' (root_level levels) root id
+  pub paths : (other : ℕ) → other < ids_below (root_level levels) → HasWholePath memory (root_level levels) root other → HasWholePath memory' (root_level levels) root other
   pub others : KeepsOthers memory memory' (root_level levels) root id
   pub outside : KeepsOutside memory memory' (root_level levels) root
 
@@ -43,7 +46,7 @@ pub record MayTake (d : DriverState) (frames : ℕ) (memory : List (List ℕ)) (
   pub taken : AreTaken d.marks d.ledger frames count pages roots
 
 pub may_take : (d : DriverState) (frames : ℕ) (memory : List (List ℕ)) (count : ℕ) (mode : Mode) (root : ℕ) (pages : List ℕ)
-    → IsSound d.ledger d.marks d.devices frames d.levels d.started d.given d.confirmed → TablesStand d memory → d.started ≡ true
+    → IsSound d.ledger d.marks d.devices frames d.levels d.started d.given d.confirmed d.restarts d.restarted → TablesStand d memory → d.started ≡ true
     → AreHighestFree d.marks d.ledger None frames count pages → IsRootBelow mode d (limit_below frames pages) root → MayTake d frames memory count pages (root_frames mode root)
 may_take d frames memory count mode root pages sound stand runs chose is =
     let many : length memory ≡ frames = stand.size ∙ sound.sizes.marked in
@@ -80,11 +83,11 @@ module _ (d : DriverState) (frames : ℕ) (memory : List (List ℕ)) (id count :
   -- the directory stands while the frames are cleared
   pub stands_between : DirectoryIn frames between d.marks d.devices d.levels
   stands_between = directory_stay frames memory between d.marks d.marks d.devices d.devices d.levels may.range (length-cleared (pages ++ roots) memory)
-      (λ n own. ((owned_kept n System own.system).0, refl)) (λ other. refl) may.stands
+      (λ n own. ((owned_kept n System own.system).0, refl)) (λ other. refl) (λ other s at. at) may.stands
 
   stands_marked : DirectoryIn frames between marks' d.devices d.levels
   stands_marked = directory_stay frames memory between d.marks marks' d.devices d.devices d.levels may.range (length-cleared (pages ++ roots) memory)
-      (λ n own. owned_kept n System own.system) (λ other. refl) may.stands
+      (λ n own. owned_kept n System own.system) (λ other. refl) (λ other s at. at) may.stands
 
   -- a page of the directory was not taken
   page_owned : (f : ℕ) → HasPage between (root_level d.levels) (directory_frame frames) f → slice_get d.marks f ≡ Some (Some System)
@@ -166,7 +169,7 @@ module _ (d : DriverState) (frames : ℕ) (memory : List (List ℕ)) (id count :
           no_completion = λ same. owned_differs d.marks (frames - 3) f System may.fixed.completion free (sym same);
         }
 
-    pub stands_after : (devices' : List Device) → stages_of devices' id ≡ Some stage → ((other : ℕ) → other ≢ id → stages_of devices' other ≡ stages_of d.devices other)
+    pub stands_after : (devices' : List Device) → attachment_of devices' id ≡ Attached stage → ((other : ℕ) → other ≢ id → attachment_of devices' other ≡ attachment_of d.devices other)
         → DirectoryIn frames memory' marks' devices' d.levels
     stands_after devices' now same =
-        directory_put frames between memory' marks' d.devices devices' d.levels id stage pages stands_marked put.tree put.has page_frame put.here put.others now same
+        directory_put frames between memory' marks' d.devices devices' d.levels id stage pages stands_marked put.tree put.has page_frame put.here put.others put.path put.paths now same

@@ -7,13 +7,14 @@ use Rattle.iom_device_dir.specs.Located.{path_end_from}
 use Rattle.iom_device_dir.specs.Paths.{ids_below}
 use Rattle.iom_directory.specs.Changes.{KeepsOthers}
 use Rattle.iom_directory.specs.Laws.{SameDirectory}
-use Rattle.iom_directory.specs.Pages.{IsDirectory, HasPage, root_level}
+use Rattle.iom_directory.specs.Pages.{IsDirectory, HasPage, HasWholePath, root_level}
 use Rattle.iom_directory.proofs.Stays.{stays}
 use Rattle.iom_directory.proofs.Zeroed.{zeroed_root}
 use Rattle.iom_phys_mem.specs.Words.{zeroed}
 use Rattle.iom_driver.specs.declared.device.Device.{Device}
 use Rattle.iom_driver.specs.declared.device.Stages.{Stages}
-use Rattle.iom_driver.specs.Devices.{stages_of}
+use Rattle.iom_driver.specs.declared.device.Attachment.TheVariants.{Detached, Attached}
+use Rattle.iom_driver.specs.Devices.{attachment_of, attached_stages, owned_stages, stages_of, owned_stages_of}
 use Rattle.iom_driver.specs.Directory.{context_for, located_for, IsDirectoryFrame, DirectoryStands}
 use Rattle.iom_driver.specs.Layout.{IsLevels, AreFixed, directory_frame, id_limit}
 
@@ -22,16 +23,17 @@ pub record DirectoryIn (frames : ℕ) (memory : List (List ℕ)) (marks : List (
   pub tree : IsDirectory memory (root_level levels) (directory_frame frames)
   pub own : (page : ℕ) → HasPage memory (root_level levels) (directory_frame frames) page → IsDirectoryFrame marks frames page
   pub contexts : (id : ℕ) → id < ids_below (root_level levels) → path_end_from memory (root_level levels) (directory_frame frames) id ≡ located_for (stages_of devices id)
+  pub places : (id : ℕ) (stage : Stages) → owned_stages_of devices id ≡ Some stage → id < ids_below (root_level levels) → HasWholePath memory (root_level levels) (directory_frame frames) id
 
 pub stands_in : (frames : ℕ) (memory : List (List ℕ)) (marks : List (Option Owner)) (devices : List Device) (levels : ℕ) → length memory ≡ frames → DirectoryIn frames memory marks devices levels
     → DirectoryStands memory marks devices levels
 stands_in frames memory marks devices levels size stands =
-    let here = subst (λ n. DirectoryIn n memory marks devices levels) (sym size) stands in record { tree = here.tree; own = here.own; contexts = here.contexts }
+    let here = subst (λ n. DirectoryIn n memory marks devices levels) (sym size) stands in record { tree = here.tree; own = here.own; contexts = here.contexts; places = here.places }
 
 pub in_stands : (frames : ℕ) (memory : List (List ℕ)) (marks : List (Option Owner)) (devices : List Device) (levels : ℕ) → length memory ≡ frames → DirectoryStands memory marks devices levels
     → DirectoryIn frames memory marks devices levels
 in_stands frames memory marks devices levels size stands =
-    subst (λ n. DirectoryIn n memory marks devices levels) size record { tree = stands.tree; own = stands.own; contexts = stands.contexts }
+    subst (λ n. DirectoryIn n memory marks devices levels) size record { tree = stands.tree; own = stands.own; contexts = stands.contexts; places = stands.places }
 
 pub low_levels : (levels : ℕ) → IsLevels levels → root_level levels ≤ 2
 low_levels levels range = let high : levels ≤ 3 = range.1 in omega (arith, high)
@@ -60,22 +62,24 @@ low_id levels id = by (levels == 1) (levels == 2)
 frame_stays : (marks marks' : List (Option Owner)) (frames page : ℕ) → slice_get marks' page ≡ slice_get marks page → IsDirectoryFrame marks frames page → IsDirectoryFrame marks' frames page
 frame_stays marks marks' frames page same own = record { system = same ∙ own.system; no_command = own.no_command; no_fault = own.no_fault; no_completion = own.no_completion }
 
--- while its own frames stay as they are, bytes and marks, and the same devices are attached
+-- while its own frames stay as they are, bytes and marks, the same devices are attached, and none owns what it didn't
 pub directory_stay : (frames : ℕ) (memory memory' : List (List ℕ)) (marks marks' : List (Option Owner)) (devices devices' : List Device) (levels : ℕ) → IsLevels levels → length memory' ≡ length memory
     → ((n : ℕ) → IsDirectoryFrame marks frames n → (slice_get memory' n ≡ slice_get memory n) × (slice_get marks' n ≡ slice_get marks n))
-    → ((id : ℕ) → stages_of devices' id ≡ stages_of devices id) → DirectoryIn frames memory marks devices levels → DirectoryIn frames memory' marks' devices' levels
-directory_stay frames memory memory' marks marks' devices devices' levels range size kept attached stands =
+    → ((id : ℕ) → stages_of devices' id ≡ stages_of devices id) → ((id : ℕ) (stage : Stages) → owned_stages_of devices' id ≡ Some stage → owned_stages_of devices id ≡ Some stage)
+    → DirectoryIn frames memory marks devices levels → DirectoryIn frames memory' marks' devices' levels
+directory_stay frames memory memory' marks marks' devices devices' levels range size kept attached owned stands =
     let same : SameDirectory memory memory' (root_level levels) (directory_frame frames) =
     stays memory memory' (root_level levels) (directory_frame frames) (low_levels levels range) stands.tree size (λ f at. (kept f (stands.own f at)).0) in
     record {
       tree = same.directory;
       own = λ page at. let was = stands.own page ((same.pages page).0 at) in frame_stays marks marks' frames page (kept page was).1 was;
       contexts = λ id low. same.ends id low ∙ stands.contexts id low ∙ ap located_for (sym (attached id));
+      places = λ id stage at low. same.paths id low (stands.places id stage (owned id stage at) low);
     }
 
 -- an empty one, of a zeroed root
 pub directory_starts : (frames : ℕ) (memory : List (List ℕ)) (marks : List (Option Owner)) (devices : List Device) (levels : ℕ) → IsLevels levels → 64 ≤ frames → AreFixed marks frames
-    → slice_get memory (directory_frame frames) ≡ Some zeroed → ((id : ℕ) → stages_of devices id ≡ None) → DirectoryIn frames memory marks devices levels
+    → slice_get memory (directory_frame frames) ≡ Some zeroed → ((id : ℕ) → attachment_of devices id ≡ Detached) → DirectoryIn frames memory marks devices levels
 directory_starts frames memory marks devices levels range many fixed cleared none =
     let new = zeroed_root memory (root_level levels) (directory_frame frames) (low_levels levels range) cleared in
     record {
@@ -86,22 +90,29 @@ directory_starts frames memory marks devices levels range many fixed cleared non
         no_fault = λ e. absurd (omega (arith, many, e));
         no_completion = λ e. absurd (omega (arith, many, e));
       };
-      contexts = λ id low. new.2 id low ∙ ap located_for (sym (none id));
+      contexts = λ id low. new.2 id low ∙ ap located_for (sym (ap attached_stages (none id)));
+      places = λ id stage at low. absurd (none_some stage (sym (ap owned_stages (none id)) ∙ at));
     }
+  where
+    none_some : (stage : Stages) → ◌≡◌ {A = Option Stages} None (Some stage) → ⊥
+    none_some stage same = cc
 
--- a device's context is cleared, and the device attached no more; no frame but the directory's changes
+-- a device's context is cleared, and the device attached no more, but it owns what it did; no frame but the directory's changes
 pub directory_cleared : (frames : ℕ) (memory memory' : List (List ℕ)) (marks : List (Option Owner)) (devices devices' : List Device) (levels id : ℕ)
     → DirectoryIn frames memory marks devices levels → IsDirectory memory' (root_level levels) (directory_frame frames)
     → ((f : ℕ) → HasPage memory' (root_level levels) (directory_frame frames) f → HasPage memory (root_level levels) (directory_frame frames) f)
     → path_end_from memory' (root_level levels) (directory_frame frames) id ≡ Err DirectoryEntryNotValid → KeepsOthers memory memory' (root_level levels) (directory_frame frames) id
-    → stages_of devices' id ≡ None → ((other : ℕ) → other ≢ id → stages_of devices' other ≡ stages_of devices other) → DirectoryIn frames memory' marks devices' levels
-directory_cleared frames memory memory' marks devices devices' levels id stands tree pages here others none same = record {
+    → ((other : ℕ) → other < ids_below (root_level levels) → HasWholePath memory (root_level levels) (directory_frame frames) other → HasWholePath memory' (root_level levels) (directory_frame frames) other)
+    → stages_of devices' id ≡ None → ((other : ℕ) → other ≢ id → stages_of devices' other ≡ stages_of devices other)
+    → ((other : ℕ) → owned_stages_of devices' other ≡ owned_stages_of devices other) → DirectoryIn frames memory' marks devices' levels
+directory_cleared frames memory memory' marks devices devices' levels id stands tree pages here others paths none same owned = record {
   tree = tree;
   own = λ page at. stands.own page (pages page at);
   contexts = λ other low. elim (eqb_tells other id) [
     | inl e ↦ ap (λ i. path_end_from memory' (root_level levels) (directory_frame frames) i) e.1 ∙ here ∙ ap located_for (sym (ap (λ i. stages_of devices' i) e.1 ∙ none))
     | inr ne ↦ others other low ne.1 ∙ stands.contexts other low ∙ ap located_for (sym (same other ne.1))
   ];
+  places = λ other stage at low. paths other low (stands.places other stage (sym (owned other) ∙ at) low);
 }
 
 -- a device's context is written, in the directory's pages and some more, and the device attached
@@ -110,12 +121,18 @@ pub directory_put : (frames : ℕ) (memory memory' : List (List ℕ)) (marks : L
     → ((f : ℕ) → HasPage memory' (root_level levels) (directory_frame frames) f → HasPage memory (root_level levels) (directory_frame frames) f ⊎ Contains pages f)
     → ((f : ℕ) → Contains pages f → IsDirectoryFrame marks frames f)
     → path_end_from memory' (root_level levels) (directory_frame frames) id ≡ Ok (context_for stage) → KeepsOthers memory memory' (root_level levels) (directory_frame frames) id
-    → stages_of devices' id ≡ Some stage → ((other : ℕ) → other ≢ id → stages_of devices' other ≡ stages_of devices other) → DirectoryIn frames memory' marks devices' levels
-directory_put frames memory memory' marks devices devices' levels id stage pages stands tree has fresh here others now same = record {
+    → HasWholePath memory' (root_level levels) (directory_frame frames) id
+    → ((other : ℕ) → other < ids_below (root_level levels) → HasWholePath memory (root_level levels) (directory_frame frames) other → HasWholePath memory' (root_level levels) (directory_frame frames) other)
+    → attachment_of devices' id ≡ Attached stage → ((other : ℕ) → other ≢ id → attachment_of devices' other ≡ attachment_of devices other) → DirectoryIn frames memory' marks devices' levels
+directory_put frames memory memory' marks devices devices' levels id stage pages stands tree has fresh here others path paths now same = record {
   tree = tree;
   own = λ page at. elim (has page at) [ inl was ↦ stands.own page was | inr new ↦ fresh page new ];
   contexts = λ other low. elim (eqb_tells other id) [
-    | inl e ↦ ap (λ i. path_end_from memory' (root_level levels) (directory_frame frames) i) e.1 ∙ here ∙ ap located_for (sym (ap (λ i. stages_of devices' i) e.1 ∙ now))
-    | inr ne ↦ others other low ne.1 ∙ stands.contexts other low ∙ ap located_for (sym (same other ne.1))
+    | inl e ↦ ap (λ i. path_end_from memory' (root_level levels) (directory_frame frames) i) e.1 ∙ here ∙ ap located_for (sym (ap (λ i. stages_of devices' i) e.1 ∙ ap attached_stages now))
+    | inr ne ↦ others other low ne.1 ∙ stands.contexts other low ∙ ap located_for (sym (ap attached_stages (same other ne.1)))
+  ];
+  places = λ other s at low. elim (eqb_tells other id) [
+    | inl e ↦ subst (λ i. HasWholePath memory' (root_level levels) (directory_frame frames) i) (sym e.1) path
+    | inr ne ↦ paths other low (stands.places other s (sym (ap owned_stages (same other ne.1)) ∙ at) low)
   ];
 }

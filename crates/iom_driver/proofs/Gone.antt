@@ -7,7 +7,7 @@ use Rattle.std.proofs.lemmas.Option.{slice_get-map}
 use Rattle.iom_base.specs.declared.owner.Owner.{Owner}
 use Rattle.iom_base.specs.declared.owner.Owner.TheVariants.{System, OneDevice}
 use Rattle.iom_driver.specs.declared.device.Attachment.{Attachment}
-use Rattle.iom_driver.specs.declared.device.Attachment.TheVariants.{Detached, Attached, Leaving}
+use Rattle.iom_driver.specs.declared.device.Attachment.TheVariants.{Detached, Attached, Quarantined, Leaving}
 use Rattle.iom_driver.specs.declared.device.Device.{Device}
 use Rattle.iom_driver.specs.declared.device.Stages.{Stages}
 use Rattle.iom_driver.specs.Confirmed.{has_left, once_confirmed, is_gone, given_back}
@@ -40,6 +40,7 @@ attachment_confirmed done devices id =
 pub stage_after : (done : ℕ) (a : Attachment) → attached_stages (after done a) ≡ attached_stages a
 stage_after done Detached = refl
 stage_after done (Attached stage) = refl
+stage_after done (Quarantined ticket stage) = refl
 stage_after done (Leaving ticket stage) = by (nat_le ticket done)
   where
     by : (b : Bool) → attached_stages (if b then Detached else Leaving ticket stage) ≡ None
@@ -68,6 +69,7 @@ still_owned done devices id stage at = owned_after done (attachment_of devices i
 leaving_after : (done ticket : ℕ) (stage : Stages) (a : Attachment) → after done a ≡ Leaving ticket stage → (a ≡ Leaving ticket stage) × (done < ticket)
 leaving_after done ticket stage Detached at = cc
 leaving_after done ticket stage (Attached own) at = cc
+leaving_after done ticket stage (Quarantined t own) at = cc
 leaving_after done ticket stage (Leaving t own) at = by (nat_le t done) refl at
   where
     by : (b : Bool) → nat_le t done ≡ b → ◌≡◌ {A = Attachment} (if b then Detached else Leaving t own) (Leaving ticket stage) → ◌≡◌ {A = Attachment} (Leaving t own) (Leaving ticket stage) × (done < ticket)
@@ -77,6 +79,21 @@ leaving_after done ticket stage (Leaving t own) at = by (nat_le t done) refl at
 pub still_leaving : (done : ℕ) (devices : List Device) (id ticket : ℕ) (stage : Stages) → attachment_of (map (once_confirmed done) devices) id ≡ Leaving ticket stage
     → (attachment_of devices id ≡ Leaving ticket stage) × (done < ticket)
 still_leaving done devices id ticket stage at = leaving_after done ticket stage (attachment_of devices id) (sym (attachment_confirmed done devices id) ∙ at)
+
+-- one that is still cut off was so
+quarantined_after : (done ticket : ℕ) (stage : Stages) (a : Attachment) → after done a ≡ Quarantined ticket stage → a ≡ Quarantined ticket stage
+quarantined_after done ticket stage Detached at = cc
+quarantined_after done ticket stage (Attached own) at = cc
+quarantined_after done ticket stage (Quarantined t own) at = at
+quarantined_after done ticket stage (Leaving t own) at = by (nat_le t done) at
+  where
+    by : (b : Bool) → ◌≡◌ {A = Attachment} (if b then Detached else Leaving t own) (Quarantined ticket stage) → ◌≡◌ {A = Attachment} (Leaving t own) (Quarantined ticket stage)
+    by true at = cc
+    by false at = at
+
+pub still_quarantined : (done : ℕ) (devices : List Device) (id ticket : ℕ) (stage : Stages) → attachment_of (map (once_confirmed done) devices) id ≡ Quarantined ticket stage
+    → attachment_of devices id ≡ Quarantined ticket stage
+still_quarantined done devices id ticket stage at = quarantined_after done ticket stage (attachment_of devices id) (sym (attachment_confirmed done devices id) ∙ at)
 
 pub detached_after : (done : ℕ) (a : Attachment) → a ≡ Detached → after done a ≡ Detached
 detached_after done a at = ap (after done) at
@@ -97,6 +114,7 @@ marked_back done devices marks n owner at stays = slice_get-map (given_back done
 stays_so : (done : ℕ) (a : Attachment) → ((ticket : ℕ) (stage : Stages) → a ≡ Leaving ticket stage → done < ticket) → has_left done a ≡ false
 stays_so done Detached late = refl
 stays_so done (Attached stage) late = refl
+stays_so done (Quarantined ticket stage) late = refl
 stays_so done (Leaving ticket stage) late = lt-leb ticket done (late ticket stage refl)
 
 pub none_left : (devices : List Device) (given done : ℕ) → LeaveUnderTickets devices given done → (id : ℕ) → has_left done (attachment_of devices id) ≡ false

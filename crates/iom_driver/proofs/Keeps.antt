@@ -14,15 +14,15 @@ use Rattle.iom_ledger.specs.History.{Pair}
 use Rattle.iom_ledger.specs.Shown.{held_in, released_in, pending_in}
 use Rattle.iom_table_frames.specs.Marks.{IsFreeForTable}
 use Rattle.iom_driver.specs.declared.device.Attachment.{Attachment}
-use Rattle.iom_driver.specs.declared.device.Attachment.TheVariants.{Attached, Leaving}
+use Rattle.iom_driver.specs.declared.device.Attachment.TheVariants.{Attached, Quarantined, Leaving}
 use Rattle.iom_driver.specs.declared.device.Device.{Device}
 use Rattle.iom_driver.specs.declared.device.Stages.{Stages}
 use Rattle.iom_driver.specs.Choices.{marked_for}
 use Rattle.iom_driver.specs.Confirmed.{once_confirmed, given_back}
 use Rattle.iom_driver.specs.Devices.{device_of, attachment_of, attached_stages, owned_stages, stages_of, owned_stages_of, is_plugged, detached, with_attachment, IsLowestNumber}
 use Rattle.iom_driver.specs.Layout.{AreFixed, id_limit}
-use Rattle.iom_driver.specs.Sound.{IsGrant, AreGrants, IsSound, RiseBetween}
-use Rattle.iom_driver.proofs.Gone.{attachment_confirmed, stage_confirmed, still_owned, still_leaving, detached_after, ids_confirmed, unmarked_back, marked_back}
+use Rattle.iom_driver.specs.Sound.{IsGrant, AreGrants, AreFences, IsSound, RiseBetween}
+use Rattle.iom_driver.proofs.Gone.{attachment_confirmed, stage_confirmed, still_owned, still_leaving, still_quarantined, detached_after, ids_confirmed, unmarked_back, marked_back}
 use Rattle.iom_driver.proofs.Ids.{ids_with, ids_plugged}
 use Rattle.iom_driver.proofs.Marks.{NotAmong, not_among, all_among, mark_stays, length-marked_for}
 use Rattle.iom_driver.proofs.Numbers.{numbers_attached}
@@ -32,10 +32,10 @@ use Rattle.iom_driver.proofs.Tickets.{rise_further, rise_more, rise_left}
 
 -- PLUG
 
-pub sound_plugged : (ledger : Ledger) (marks : List (Option Owner)) (devices : List Device) (frames levels : ℕ) (started : Bool) (given confirmed id : ℕ) (trusted : Bool)
-    → IsSound ledger marks devices frames levels started given confirmed → device_of devices id ≡ None → length devices < 16
-    → IsSound ledger marks (devices ++ detached id trusted ∷ []) frames levels started given confirmed
-sound_plugged ledger marks devices frames levels started given confirmed id trusted sound none few =
+pub sound_plugged : (ledger : Ledger) (marks : List (Option Owner)) (devices : List Device) (frames levels : ℕ) (started : Bool) (given confirmed restarts restarted id : ℕ) (trusted : Bool)
+    → IsSound ledger marks devices frames levels started given confirmed restarts restarted → device_of devices id ≡ None → length devices < 16
+    → IsSound ledger marks (devices ++ detached id trusted ∷ []) frames levels started given confirmed restarts restarted
+sound_plugged ledger marks devices frames levels started given confirmed restarts restarted id trusted sound none few =
     let same : (other : ℕ) → attachment_of (devices ++ detached id trusted ∷ []) other ≡ attachment_of devices other = λ other. attachment_plugged devices id trusted other in
     record {
       sizes = sound.sizes;
@@ -48,7 +48,9 @@ sound_plugged ledger marks devices frames levels started given confirmed id trus
       };
       named = λ other stage at. sound.named other stage (sym (ap owned_stages (same other)) ∙ at);
       tickets = sound.tickets;
+      fences = sound.fences;
       leaving = λ other ticket stage at. sound.leaving other ticket stage (sym (same other) ∙ at);
+      quarantined = λ other ticket stage at. sound.quarantined other ticket stage (sym (same other) ∙ at);
       ids = ids_plugged devices id trusted none sound.ids;
       few = omega (arith, length-append devices (detached id trusted ∷ []));
       idle = λ stopped other. same other ∙ sound.idle stopped other;
@@ -91,10 +93,10 @@ fixed_back marks done devices frames fixed = record {
   directory = marked_back done devices marks (frames - 4) System fixed.directory refl;
 }
 
-pub sound_polled : (old new : Ledger) (marks : List (Option Owner)) (devices : List Device) (frames levels : ℕ) (started : Bool) (given confirmed done : ℕ)
-    → IsSound old marks devices frames levels started given confirmed → ConfirmsFrom old new (confirmed + 1) (done - confirmed) → confirmed ≤ done → done ≤ given
-    → IsSound new (map (given_back done devices) marks) (map (once_confirmed done) devices) frames levels started given done
-sound_polled old new marks devices frames levels started given confirmed done sound shown low high = record {
+pub sound_polled : (old new : Ledger) (marks : List (Option Owner)) (devices : List Device) (frames levels : ℕ) (started : Bool) (given confirmed restarts restarted done : ℕ)
+    → IsSound old marks devices frames levels started given confirmed restarts restarted → ConfirmsFrom old new (confirmed + 1) (done - confirmed) → confirmed ≤ done → done ≤ given
+    → IsSound new (map (given_back done devices) marks) (map (once_confirmed done) devices) frames levels started given done restarts restarted
+sound_polled old new marks devices frames levels started given confirmed restarts restarted done sound shown low high = record {
   sizes = record { marked = length-map marks (given_back done devices) ∙ sound.sizes.marked; size = sound.sizes.size; in_range = sound.sizes.in_range };
   fixed = fixed_back marks done devices frames sound.fixed;
   grants = grants_back marks new done devices (grants_polled marks old new (confirmed + 1) (done - confirmed) shown sound.grants);
@@ -110,7 +112,9 @@ sound_polled old new marks devices frames levels started given confirmed done so
         (rise_left (confirmed + 1) (done - confirmed) done confirmed given (pending_in old) (omega arith) (omega (arith, low)) sound.tickets.pending);
     ordered = high;
   };
+  fences = sound.fences;
   leaving = λ id ticket stage at. let still = still_leaving done devices id ticket stage at in (still.1, (sound.leaving id ticket stage still.0).1);
+  quarantined = λ id ticket stage at. sound.quarantined id ticket stage (still_quarantined done devices id ticket stage at);
   ids = ids_confirmed done devices sound.ids;
   few = omega (arith, length-map devices (once_confirmed done), sound.few);
   idle = λ stopped id. attachment_confirmed done devices id ∙ detached_after done (attachment_of devices id) (sound.idle stopped id);
@@ -153,11 +157,11 @@ set_or_other devices id a other plugged = elim (eqb_tells other id) [
   | inr ne ↦ inr (ne.1, attachment_other devices id other a ne.1)
 ]
 
-pub sound_attached : (ledger : Ledger) (marks : List (Option Owner)) (devices : List Device) (frames levels : ℕ) (started : Bool) (given confirmed id count : ℕ) (stage : Stages) (pages roots : List ℕ)
-    → IsSound ledger marks devices frames levels started given confirmed → started ≡ true → is_plugged devices id ≡ true → id < id_limit levels
+pub sound_attached : (ledger : Ledger) (marks : List (Option Owner)) (devices : List Device) (frames levels : ℕ) (started : Bool) (given confirmed restarts restarted id count : ℕ) (stage : Stages) (pages roots : List ℕ)
+    → IsSound ledger marks devices frames levels started given confirmed restarts restarted → started ≡ true → is_plugged devices id ≡ true → id < id_limit levels
     → AreTaken marks ledger frames count pages roots → IsLowestNumber devices stage.number → stage.number ≤ 17
-    → IsSound ledger (taken_marks id pages roots marks) (with_attachment devices id (Attached stage)) frames levels started given confirmed
-sound_attached ledger marks devices frames levels started given confirmed id count stage pages roots sound runs plugged narrow taken lowest small =
+    → IsSound ledger (taken_marks id pages roots marks) (with_attachment devices id (Attached stage)) frames levels started given confirmed restarts restarted
+sound_attached ledger marks devices frames levels started given confirmed restarts restarted id count stage pages roots sound runs plugged narrow taken lowest small =
     let either : (other : ℕ) → ((other ≡ id) × (attachment_of (with_attachment devices id (Attached stage)) other ≡ Attached stage)) ⊎ ((other ≢ id) × (attachment_of (with_attachment devices id (Attached stage)) other ≡ attachment_of devices other)) =
     λ other. set_or_other devices id (Attached stage) other plugged in
     record {
@@ -180,6 +184,11 @@ sound_attached ledger marks devices frames levels started given confirmed id cou
         | inl now ↦ absurd (attached_leaving ticket s (sym now.1 ∙ at))
         | inr was ↦ sound.leaving other ticket s (sym was.1 ∙ at)
       ];
+      fences = sound.fences;
+      quarantined = λ other ticket s at. elim (either other) [
+        | inl now ↦ absurd (attached_cut_off ticket s (sym now.1 ∙ at))
+        | inr was ↦ sound.quarantined other ticket s (sym was.1 ∙ at)
+      ];
       ids = ids_with devices id (Attached stage) sound.ids;
       few = omega (arith, length-with_attachment devices id (Attached stage), sound.few);
       idle = λ stopped. absurd (false≢true (sym stopped ∙ runs));
@@ -191,7 +200,15 @@ sound_attached ledger marks devices frames levels started given confirmed id cou
     attached_leaving : (ticket : ℕ) (s : Stages) → ◌≡◌ {A = Attachment} (Attached stage) (Leaving ticket s) → ⊥
     attached_leaving ticket s same = cc
 
+    attached_cut_off : (ticket : ℕ) (s : Stages) → ◌≡◌ {A = Attachment} (Attached stage) (Quarantined ticket s) → ⊥
+    attached_cut_off ticket s same = cc
+
 -- DETACH
+
+-- one more fence has a number, where the last number isn't used up
+pub more_fences : (given restarts restarted : ℕ) → AreFences given restarts restarted → given + restarts < 4294967295 → AreFences (given + 1) restarts restarted
+more_fences given restarts restarted fences more =
+    let early : restarted ≤ given = fences.earlier in record { earlier = omega (arith, early); numbered = omega (arith, more) }
 
 -- a device that begins to leave owns what it owned
 pub owned_leaving : (devices : List Device) (id ticket : ℕ) (stage : Stages) → stages_of devices id ≡ Some stage → (other : ℕ)
@@ -201,10 +218,10 @@ owned_leaving devices id ticket stage attached other = elim (set_or_other device
   | inr was ↦ ap owned_stages was.1
 ]
 
-pub sound_detached : (ledger : Ledger) (marks : List (Option Owner)) (devices : List Device) (frames levels : ℕ) (started : Bool) (given confirmed id : ℕ) (stage : Stages)
-    → IsSound ledger marks devices frames levels started given confirmed → started ≡ true → stages_of devices id ≡ Some stage → ((page : ℕ) → held_in ledger id page ≡ None)
-    → IsSound ledger marks (with_attachment devices id (Leaving (given + 1) stage)) frames levels started (given + 1) confirmed
-sound_detached ledger marks devices frames levels started given confirmed id stage sound runs attached none =
+pub sound_detached : (ledger : Ledger) (marks : List (Option Owner)) (devices : List Device) (frames levels : ℕ) (started : Bool) (given confirmed restarts restarted id : ℕ) (stage : Stages)
+    → IsSound ledger marks devices frames levels started given confirmed restarts restarted → started ≡ true → stages_of devices id ≡ Some stage → ((page : ℕ) → held_in ledger id page ≡ None)
+    → given + restarts < 4294967295 → IsSound ledger marks (with_attachment devices id (Leaving (given + 1) stage)) frames levels started (given + 1) confirmed restarts restarted
+sound_detached ledger marks devices frames levels started given confirmed restarts restarted id stage sound runs attached none more =
     let either : (other : ℕ) → ((other ≡ id) × (attachment_of (with_attachment devices id (Leaving (given + 1) stage)) other ≡ Leaving (given + 1) stage))
     ⊎ ((other ≢ id) × (attachment_of (with_attachment devices id (Leaving (given + 1) stage)) other ≡ attachment_of devices other)) =
     λ other. set_or_other devices id (Leaving (given + 1) stage) other (attached_there devices id stage attached) in
@@ -228,6 +245,11 @@ sound_detached ledger marks devices frames levels started given confirmed id sta
         | inl now ↦ let same = own_ticket ticket s (sym now.1 ∙ at) in (omega (arith, same, le), omega (arith, same))
         | inr was ↦ let before = sound.leaving other ticket s (sym was.1 ∙ at) in let high : ticket ≤ given = before.1 in (before.0, omega (arith, high))
       ];
+      fences = more_fences given restarts restarted sound.fences more;
+      quarantined = λ other ticket s at. elim (either other) [
+        | inl now ↦ absurd (leaving_cut_off ticket s (sym now.1 ∙ at))
+        | inr was ↦ let before = sound.quarantined other ticket s (sym was.1 ∙ at) in let high : ticket ≤ given = before.1 in (before.0, omega (arith, high))
+      ];
       ids = ids_with devices id (Leaving (given + 1) stage) sound.ids;
       few = omega (arith, length-with_attachment devices id (Leaving (given + 1) stage), sound.few);
       idle = λ stopped. absurd (false≢true (sym stopped ∙ runs));
@@ -235,6 +257,9 @@ sound_detached ledger marks devices frames levels started given confirmed id sta
   where
     own_ticket : (ticket : ℕ) (s : Stages) → ◌≡◌ {A = Attachment} (Leaving (given + 1) stage) (Leaving ticket s) → given + 1 ≡ ticket
     own_ticket ticket s same = cc
+
+    leaving_cut_off : (ticket : ℕ) (s : Stages) → ◌≡◌ {A = Attachment} (Leaving (given + 1) stage) (Quarantined ticket s) → ⊥
+    leaving_cut_off ticket s same = cc
 
 -- GRANT
 
@@ -274,11 +299,11 @@ grants_more marks old new id page frame rights tables grants granted low unreser
         let grant = grants.held device p f r before in
         record { page_low = grant.page_low; unreserved = mark_stays (OneDevice id) f tables marks (not_among (λ t. IsFreeForTable marks old (Some frame) t) f tables free (λ is_free. (is_free.ungranted device p r).0 before)) ∙ grant.unreserved }
 
-pub sound_granted : (old new : Ledger) (marks : List (Option Owner)) (devices : List Device) (frames levels : ℕ) (started : Bool) (given confirmed id page frame : ℕ) (rights : Rights) (stage : Stages) (tables : List ℕ)
-    → IsSound old marks devices frames levels started given confirmed → ShowsGrant old new id page (frame, rights) → stages_of devices id ≡ Some stage
+pub sound_granted : (old new : Ledger) (marks : List (Option Owner)) (devices : List Device) (frames levels : ℕ) (started : Bool) (given confirmed restarts restarted id page frame : ℕ) (rights : Rights) (stage : Stages) (tables : List ℕ)
+    → IsSound old marks devices frames levels started given confirmed restarts restarted → ShowsGrant old new id page (frame, rights) → stages_of devices id ≡ Some stage
     → page < page_limit → slice_get marks frame ≡ Some None → All (λ f. f < length marks) tables → All (λ f. IsFreeForTable marks old (Some frame) f) tables
-    → IsSound new (marked_for (OneDevice id) tables marks) devices frames levels started given confirmed
-sound_granted old new marks devices frames levels started given confirmed id page frame rights stage tables sound granted attached low unreserved inside free = record {
+    → IsSound new (marked_for (OneDevice id) tables marks) devices frames levels started given confirmed restarts restarted
+sound_granted old new marks devices frames levels started given confirmed restarts restarted id page frame rights stage tables sound granted attached low unreserved inside free = record {
   sizes = record { marked = length-marked_for (OneDevice id) tables marks ∙ sound.sizes.marked; size = sound.sizes.size; in_range = sound.sizes.in_range };
   fixed = fixed_stay marks (marked_for (OneDevice id) tables marks) frames
       (λ n system. mark_stays (OneDevice id) n tables marks (not_among (λ t. (t < length marks) × IsFreeForTable marks old (Some frame) t) n tables (λ k d lt. (inside k d lt, free k d lt))
@@ -291,7 +316,9 @@ sound_granted old new marks devices frames levels started given confirmed id pag
   numbers = sound.numbers;
   named = sound.named;
   tickets = record { pending = subst (λ ts. RiseBetween confirmed given ts) (sym granted.pending) sound.tickets.pending; ordered = sound.tickets.ordered };
+  fences = sound.fences;
   leaving = sound.leaving;
+  quarantined = sound.quarantined;
   ids = sound.ids;
   few = sound.few;
   idle = sound.idle;
@@ -301,9 +328,9 @@ sound_granted old new marks devices frames levels started given confirmed id pag
     some_none same = cc
 
 -- where the ledger shows the same
-pub sound_unchanged : (old new : Ledger) (marks : List (Option Owner)) (devices : List Device) (frames levels : ℕ) (started : Bool) (given confirmed : ℕ)
-    → IsSound old marks devices frames levels started given confirmed → IsUnchanged old new → IsSound new marks devices frames levels started given confirmed
-sound_unchanged old new marks devices frames levels started given confirmed sound same = record {
+pub sound_unchanged : (old new : Ledger) (marks : List (Option Owner)) (devices : List Device) (frames levels : ℕ) (started : Bool) (given confirmed restarts restarted : ℕ)
+    → IsSound old marks devices frames levels started given confirmed restarts restarted → IsUnchanged old new → IsSound new marks devices frames levels started given confirmed restarts restarted
+sound_unchanged old new marks devices frames levels started given confirmed restarts restarted sound same = record {
   sizes = sound.sizes;
   fixed = sound.fixed;
   grants = record {
@@ -315,7 +342,9 @@ sound_unchanged old new marks devices frames levels started given confirmed soun
   numbers = sound.numbers;
   named = sound.named;
   tickets = record { pending = subst (λ ts. RiseBetween confirmed given ts) (sym same.pending) sound.tickets.pending; ordered = sound.tickets.ordered };
+  fences = sound.fences;
   leaving = sound.leaving;
+  quarantined = sound.quarantined;
   ids = sound.ids;
   few = sound.few;
   idle = sound.idle;
@@ -351,10 +380,10 @@ grants_released marks ledger ledger' id page ticket released grants = record {
       ];
 }
 
-pub sound_released : (old new : Ledger) (marks : List (Option Owner)) (devices : List Device) (frames levels : ℕ) (started : Bool) (given confirmed id page : ℕ)
-    → IsSound old marks devices frames levels started given confirmed → ShowsRelease old new id page (given + 1)
-    → IsSound new marks devices frames levels started (given + 1) confirmed
-sound_released old new marks devices frames levels started given confirmed id page sound released = record {
+pub sound_released : (old new : Ledger) (marks : List (Option Owner)) (devices : List Device) (frames levels : ℕ) (started : Bool) (given confirmed restarts restarted id page : ℕ)
+    → IsSound old marks devices frames levels started given confirmed restarts restarted → ShowsRelease old new id page (given + 1)
+    → given + restarts < 4294967295 → IsSound new marks devices frames levels started (given + 1) confirmed restarts restarted
+sound_released old new marks devices frames levels started given confirmed restarts restarted id page sound released more = record {
   sizes = sound.sizes;
   fixed = sound.fixed;
   grants = grants_released marks old new id page (given + 1) released sound.grants;
@@ -365,7 +394,9 @@ sound_released old new marks devices frames levels started given confirmed id pa
     pending = subst (λ ts. RiseBetween confirmed (given + 1) ts) (sym released.pending) (rise_more confirmed given (pending_in old) sound.tickets.ordered sound.tickets.pending);
     ordered = let le = sound.tickets.ordered in omega (arith, le);
   };
+  fences = more_fences given restarts restarted sound.fences more;
   leaving = λ other ticket stage at. let before = sound.leaving other ticket stage at in let high : ticket ≤ given = before.1 in (before.0, omega (arith, high));
+  quarantined = λ other ticket stage at. let before = sound.quarantined other ticket stage at in let high : ticket ≤ given = before.1 in (before.0, omega (arith, high));
   ids = sound.ids;
   few = sound.few;
   idle = sound.idle;

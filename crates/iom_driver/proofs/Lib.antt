@@ -3,6 +3,7 @@ pub mod Places
 pub mod Ids
 pub mod Numbers
 pub mod Confirms
+pub mod DoneTickets
 pub mod Tickets
 pub mod Gone
 pub mod GoneMore
@@ -24,3 +25,7 @@ pub mod AttachDirectory
 pub mod GrantTables
 pub mod ReleaseTables
 pub mod PollTables
+pub mod Again
+pub mod AppendLists
+pub mod Unmaps
+pub mod CuttingOff

@@ -1,4 +1,4 @@
--- The address-space numbers of attached and leaving devices: of more numbers than there are devices one is free.
+-- The address-space numbers of attached, quarantined and leaving devices: of more numbers than there are devices one is free.
 use Rattle.std.proofs.Common.{suc, zero, ◌≡◌, ◌≢◌, ◌==◌, ◌<◌, ◌≤◌, ◌||◌, ◌∙◌, ◌⊎◌, ℕ, Bool, true, false, List, [], ◌∷◌, length, eqb, Option, Some, None, refl, sym, ap, subst, inl, inr, arith}
 use Rattle.std.specs.List.{list_any}
 use Rattle.std.specs.Option.{option_map_or}
@@ -12,7 +12,7 @@ use Rattle.iom_driver.specs.Sound.{HaveNumbers}
 use Rattle.iom_driver.specs.declared.device.Attachment.TheVariants.{Attached}
 use Rattle.iom_driver.proofs.Places.{attachment_set, attachment_other}
 
--- the numbers of the attached and leaving devices
+-- the numbers of the attached, quarantined and leaving devices
 abbrev numbers_of : List Device → List ℕ
 numbers_of [] = []
 numbers_of (device ∷ others) = option_map_or (λ (stage : Stages). stage.number ∷ numbers_of others) (owned_stages device.attachment) (numbers_of others)
@@ -58,7 +58,7 @@ last_unused devices few used = by (is_used devices 17) refl
     by false e = e
     by true e = absurd (omega (arith, le-length_from_below (zero ∷ numbers_of devices) 18 (below e), few_numbers devices, few))
 
--- a device that is attached or leaving holds its number
+-- a device that is attached, quarantined or leaving holds its number
 pub holder_uses : (devices : List Device) (id : ℕ) (stage : Stages) → owned_stages_of devices id ≡ Some stage → is_used devices stage.number ≡ true
 holder_uses [] id stage at = cc
 holder_uses (device ∷ others) id stage at = elim (eqb_tells device.id id) [

@@ -59,7 +59,7 @@ fixed n le =
       directory = get_behind bare (replicate 4 (Some System)) (n - 4) 0 (omega arith);
     }
 
-sound_at_start : (ledger : Ledger) (n levels : ℕ) → IsMemorySize n → IsLevels levels → Agrees ledger [] → IsSound ledger (opening_marks n) [] n levels false 0 0
+sound_at_start : (ledger : Ledger) (n levels : ℕ) → IsMemorySize n → IsLevels levels → Agrees ledger [] → IsSound ledger (opening_marks n) [] n levels false 0 0 0 0
 sound_at_start ledger n levels size range agrees = record {
   sizes = record { marked = marked n size.0; size = size; in_range = range };
   fixed = fixed n size.0;
@@ -71,14 +71,16 @@ sound_at_start ledger n levels size range agrees = record {
   numbers = record { small = λ id stage at. cc; own = λ one other a b at_one at_other same. cc };
   named = λ id stage at. cc;
   tickets = record { pending = subst (λ ts. RiseBetween 0 0 ts) agrees.pending tt; ordered = omega arith };
+  fences = record { earlier = omega arith; numbered = omega arith };
   leaving = λ id ticket stage at. cc;
+  quarantined = λ id ticket stage at. cc;
   ids = tt;
   few = omega arith;
   idle = λ stopped id. refl;
 }
 
 pub sound_opening : (ledger : Ledger) (marks : List (Option Owner)) (devices : List Device) (n levels : ℕ) → marks ≡ opening_marks n → devices ≡ [] → IsMemorySize n → IsLevels levels → Agrees ledger []
-    → IsSound ledger marks devices n levels false 0 0
+    → IsSound ledger marks devices n levels false 0 0 0 0
 sound_opening ledger marks devices n levels opens none size range agrees = rw (opens, none) (sound_at_start ledger n levels size range agrees)
 
 -- and it is ready for a memory of its size, whatever the registers are

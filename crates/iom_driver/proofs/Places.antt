@@ -4,7 +4,7 @@ use Rattle.std.specs.Option.{option_map_or}
 use Rattle.std.proofs.lemmas.Bool.Decides.{eqb_tells}
 use Rattle.std.proofs.lemmas.Bool.{eq-eqb, false≢true}
 use Rattle.iom_driver.specs.declared.device.Attachment.{Attachment}
-use Rattle.iom_driver.specs.declared.device.Attachment.TheVariants.{Detached, Attached, Leaving}
+use Rattle.iom_driver.specs.declared.device.Attachment.TheVariants.{Detached, Attached, Quarantined, Leaving}
 use Rattle.iom_driver.specs.declared.device.Device.{Device}
 use Rattle.iom_driver.specs.declared.device.Stages.{Stages}
 use Rattle.iom_driver.specs.Devices.{device_of, is_plugged, is_trusted, attachment_of, attached_stages, owned_stages, stages_of, detached, with_attachment}
@@ -47,11 +47,13 @@ attachment_absent devices id at = ap (λ (o : Option Device). option_map_or (λ 
 pub attached_owns : (a : Attachment) (stage : Stages) → attached_stages a ≡ Some stage → owned_stages a ≡ Some stage
 attached_owns Detached stage at = at
 attached_owns (Attached own) stage at = at
+attached_owns (Quarantined ticket own) stage at = cc
 attached_owns (Leaving ticket own) stage at = cc
 
 pub owns_nothing : (a : Attachment) → owned_stages a ≡ None → a ≡ Detached
 owns_nothing Detached none = refl
 owns_nothing (Attached stage) none = cc
+owns_nothing (Quarantined ticket stage) none = cc
 owns_nothing (Leaving ticket stage) none = cc
 
 pub not_attached : (a : Attachment) → owned_stages a ≡ None → attached_stages a ≡ None
@@ -60,6 +62,7 @@ not_attached a none = ap attached_stages (owns_nothing a none)
 pub attached_is : (a : Attachment) (stage : Stages) → attached_stages a ≡ Some stage → a ≡ Attached stage
 attached_is Detached stage at = cc
 attached_is (Attached own) stage at = let same : own ≡ stage = cc in ap Attached same
+attached_is (Quarantined ticket own) stage at = cc
 attached_is (Leaving ticket own) stage at = cc
 
 -- an attached device is there

@@ -35,4 +35,4 @@ pub directory_polled : (frames done : ℕ) (memory memory' : List (List ℕ)) (m
     → DirectoryIn frames memory marks devices levels → DirectoryIn frames memory' (map (given_back done devices) marks) (map (once_confirmed done) devices) levels
 directory_polled frames done memory memory' marks devices levels range clears stands =
     directory_stay frames memory memory' marks (map (given_back done devices) marks) devices (map (once_confirmed done) devices) levels range clears.size
-    (λ n own. owned_stays done devices marks memory memory' n System clears own.system refl) (λ id. stage_confirmed done devices id) stands
+    (λ n own. owned_stays done devices marks memory memory' n System clears own.system refl) (λ id. stage_confirmed done devices id) (λ id stage at. (still_owned done devices id stage at).0) stands

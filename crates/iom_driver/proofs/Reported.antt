@@ -97,7 +97,7 @@ ready_reported d old new r s f put fixed range runs ready puts =
           directory = λ started.
               stands_in (length old) new d.marks d.devices d.levels size
               (directory_stay (length old) old new d.marks d.marks d.devices d.devices d.levels range size
-              (λ n own. (frames n own.no_fault, refl)) (λ id. refl)
+              (λ n own. (frames n own.no_fault, refl)) (λ id. refl) (λ id stage at. at)
               (in_stands (length old) old d.marks d.devices d.levels refl (ready.stand.directory started)));
         };
         ring = λ started.

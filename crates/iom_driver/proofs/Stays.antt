@@ -73,7 +73,7 @@ ready_stays d old new r s many fixed range ready keeps ring = record {
     directory = λ started.
         stands_in (length old) new d.marks d.devices d.levels keeps.size
         (directory_stay (length old) old new d.marks d.marks d.devices d.devices d.levels range keeps.size
-        (λ n own. (keeps.bytes n System own.system own.no_completion, refl)) (λ id. refl)
+        (λ n own. (keeps.bytes n System own.system own.no_completion, refl)) (λ id. refl) (λ id stage at. at)
         (in_stands (length old) old d.marks d.devices d.levels refl (ready.stand.directory started)));
   };
   ring = λ started.
@@ -114,6 +114,7 @@ ready_plugged d memory r id trusted ready = record {
           tree = stands.tree;
           own = stands.own;
           contexts = λ other low. stands.contexts other low ∙ ap located_for (sym (ap attached_stages (attachment_plugged d.devices id trusted other)));
+          places = λ other stage at low. stands.places other stage (sym (ap owned_stages (attachment_plugged d.devices id trusted other)) ∙ at) low;
         };
   };
   ring = ready.ring;

@@ -1,5 +1,5 @@
 -- What a call has found out when it wasn't refused: for the calls inside this crate alone.
-use Rattle.std.specs.Prelude.{◌≡◌, ℕ, ◌+◌, ◌-◌, ◌%◌, ◌<◌, ⊤, true, false, length, None, Some, IsSome}
+use Rattle.std.specs.Prelude.{◌≡◌, ℕ, ◌+◌, ◌-◌, ◌%◌, ◌<◌, ◌≤◌, ⊤, true, false, length, None, Some, IsSome}
 use Rattle.iom_base.specs.declared.mode.Mode.{Mode}
 use Rattle.iom_base.specs.declared.mode.Mode.TheVariants.{First, Second, Both}
 use Rattle.iom_base.specs.Sizes.{page_limit}
@@ -9,7 +9,9 @@ use Rattle.iom_ledger.specs.Shown.{held_in, lingering_in}
 use Rattle.iom_registers.specs.declared.registers.Registers.{Registers}
 use Rattle.iom_table_frames.specs.Marks.{is_marked}
 use Rattle.iom_driver.specs.declared.device.Stages.{Stages}
-use Rattle.iom_driver.specs.Devices.{stages_of}
+use Rattle.iom_driver.specs.declared.device.Attachment.TheVariants.{Quarantined}
+use Rattle.iom_driver.specs.Devices.{attachment_of, stages_of}
+use Rattle.iom_driver.specs.Fences.{last_fence}
 use Rattle.iom_driver.specs.Layout.{queue_entries}
 use Rattle.iom_driver.specs.Reasons.{release_places}
 use Rattle.iom_driver.specs.State.{DriverState}
@@ -28,7 +30,7 @@ pub record MayBeReleased (d : DriverState) (r : Registers) (id page : ℕ) (stag
   pub held : IsSome (held_in d.ledger id page)
   pub few : d.given - d.confirmed < pending_limit
   pub room : how_many r + release_places (Some stage) < queue_entries
-  pub number : d.given < 4294967295
+  pub number : last_fence d < 4294967295
 
 pub record MayBeDetached (d : DriverState) (r : Registers) (id : ℕ) (stage : Stages) : Type 0 where
   pub started : d.started ≡ true
@@ -36,7 +38,20 @@ pub record MayBeDetached (d : DriverState) (r : Registers) (id : ℕ) (stage : S
   pub none_held : (page : ℕ) → held_in d.ledger id page ≡ None
   pub few : d.given - d.confirmed < pending_limit
   pub room : how_many r + 3 < queue_entries
-  pub number : d.given < 4294967295
+  pub number : last_fence d < 4294967295
+
+pub record MayBeQuarantined (d : DriverState) (r : Registers) (id : ℕ) (stage : Stages) : Type 0 where
+  pub started : d.started ≡ true
+  pub attached : stages_of d.devices id ≡ Some stage
+  pub few : d.given - d.confirmed < pending_limit
+  pub room : how_many r + 3 < queue_entries
+  pub number : last_fence d < 4294967295
+
+pub record MayBeRevived (d : DriverState) (id : ℕ) (stage : Stages) : Type 0 where
+  pub started : d.started ≡ true
+  pub ticket : ℕ
+  pub cut_off : attachment_of d.devices id ≡ Quarantined ticket stage
+  pub over : ticket ≤ d.confirmed
 
 -- the root may be that of tables in the mode: a second stage's fills four frames, and is aligned to that
 abbrev pub IsAligned : Mode → ℕ → Type 0

@@ -48,14 +48,15 @@ dropped_range Both page = Everything
 abbrev pub device_invalidation : ℕ → Stages → ℕ → List Command
 device_invalidation id stage page = if stage.ats then AtsInval id (dropped_range stage.mode page) ∷ [] else []
 
--- The commands of a release, by the id of the device, its stages, the page, the address of the completion word, and the ticket: the IOMMU drops what it
--- has cached of the page; then the device does, which could else ask for that again; and then the ticket's fence.
+-- The commands of a release, by the id of the device, its stages, the page, the address of the completion word, and the fence's number: the IOMMU
+-- drops what it has cached of the page; then the device does, which could else ask for that again; and then the fence.
 abbrev pub release_commands : ℕ → Stages → ℕ → ℕ → ℕ → List Command
-release_commands id stage page address ticket = invalidation stage.mode stage.number page ∷ device_invalidation id stage page ++ fence address ticket ∷ []
+release_commands id stage page address number = invalidation stage.mode stage.number page ∷ device_invalidation id stage page ++ fence address number ∷ []
 
--- The commands of a detach: the device's context goes, so that it may ask for nothing more; then all of its address space; and then the ticket's fence.
+-- The commands of a detach, and of a quarantine: the device's context goes, so that it may ask for nothing more; then all of its address space; and
+-- then the fence.
 abbrev pub detach_commands : ℕ → Stages → ℕ → ℕ → List Command
-detach_commands id stage address ticket = context_invalidation id ∷ space_invalidation stage.mode stage.number ∷ fence address ticket ∷ []
+detach_commands id stage address number = context_invalidation id ∷ space_invalidation stage.mode stage.number ∷ fence address number ∷ []
 
 -- the command's bytes stand at the tail, and the tail moved on by one: so the command is the last that waits
 pub record Appends {M : Type 0} (g : Ghosts M) (memory : List (List ℕ)) (io : M) (command : Command) (memory' : List (List ℕ)) (io' : M) : Type 0 where

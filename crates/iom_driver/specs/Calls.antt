@@ -1,5 +1,5 @@
--- What each call answers, what it leaves, and what stays: over the driver, memory, and whatever has registers. Attach, detach and poll have files of
--- their own: Attaching, Leaving and Polling.
+-- What each call answers, what it leaves, and what stays: over the driver, memory, and whatever has registers. Attach, detach, quarantine, revive,
+-- restart and poll have files of their own.
 use Rattle.std.specs.Prelude.{◌≡◌, ◌≢◌, ℕ, ◌+◌, ◌<◌, Bool, true, false, List, [], ◌∷◌, ◌++◌, length, map, Some, Result, Ok, Err, Option, slice_get, slice_set}
 use Rattle.iom_base.specs.GrantRights.{rights_of}
 use Rattle.iom_base.specs.declared.grant_rights.GrantRights.{GrantRights}
@@ -28,6 +28,7 @@ use Rattle.iom_driver.specs.declared.device.Stages.{Stages}
 use Rattle.iom_driver.specs.Appends.{release_commands, AppendsAll}
 use Rattle.iom_driver.specs.Choices.{AreHighestFree, marked_for, cleared}
 use Rattle.iom_driver.specs.Devices.{stages_of, detached}
+use Rattle.iom_driver.specs.Fences.{last_fence}
 use Rattle.iom_driver.specs.Layout.{command_frame, directory_frame, completion_address, ddtp_of, cqb_of, fqb_of}
 use Rattle.iom_driver.specs.Reasons.{why_not_plug, why_not_grant, why_not_release}
 use Rattle.iom_driver.specs.State.{DriverState}
@@ -35,7 +36,7 @@ use Rattle.iom_driver.specs.State.{DriverState}
 -- NEW: nothing is held or waits, the last four frames are the system's, there is no device, and it isn't started
 pub record IsOpening (frames levels : ℕ) (d : DriverState) : Type 0 where
   pub ledger : Agrees d.ledger []
-  pub rest : d ≡ record d { marks = opening_marks frames; devices = []; levels = levels; started = false; given = 0; confirmed = 0 }
+  pub rest : d ≡ record d { marks = opening_marks frames; devices = []; levels = levels; started = false; given = 0; confirmed = 0; restarts = 0; restarted = 0 }
 
 -- both queues are off, and the indices that software writes are 0: at power-on it is so
 pub record IsOff (r : Registers) : Type 0 where
@@ -117,9 +118,9 @@ pub record QueuesRelease {M : Type 0} (g : Ghosts M) (d : DriverState) (memory :
   pub shown : ShowsRelease d.ledger d'.ledger id page ticket
   pub agrees : (h : History) → Agrees d.ledger h → confirms h ticket ≡ false → Agrees d'.ledger (entry.Released id page ticket ∷ h)
   pub driver : d' ≡ record d { ledger = d'.ledger; given = ticket }
-  pub queued : AppendsAll g (unmapped memory stage.root page) io (release_commands id stage page (completion_address (length memory)) ticket) memory' io'
+  pub queued : AppendsAll g (unmapped memory stage.root page) io (release_commands id stage page (completion_address (length memory)) (last_fence d + 1)) memory' io'
   pub list : commands_in memory' (g.registers io') ≡ commands_in memory (g.registers io)
-      ++ map stands.Command (release_commands id stage page (completion_address (length memory)) ticket)
+      ++ map stands.Command (release_commands id stage page (completion_address (length memory)) (last_fence d + 1))
   pub others : (f : ℕ) → slice_get d.marks f ≢ Some (Some (OneDevice id)) → f ≢ command_frame (length memory) → slice_get memory' f ≡ slice_get memory f
 
 -- RELEASE

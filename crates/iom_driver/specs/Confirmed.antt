@@ -5,7 +5,7 @@ use Rattle.iom_base.specs.declared.owner.Owner.{Owner}
 use Rattle.iom_base.specs.declared.owner.Owner.TheVariants.{System, OneDevice}
 use Rattle.iom_phys_mem.specs.Words.{zeroed}
 use Rattle.iom_driver.specs.declared.device.Attachment.{Attachment}
-use Rattle.iom_driver.specs.declared.device.Attachment.TheVariants.{Detached, Attached, Leaving}
+use Rattle.iom_driver.specs.declared.device.Attachment.TheVariants.{Detached, Attached, Quarantined, Leaving}
 use Rattle.iom_driver.specs.declared.device.Device.{Device}
 use Rattle.iom_driver.specs.Devices.{attachment_of}
 
@@ -13,6 +13,7 @@ use Rattle.iom_driver.specs.Devices.{attachment_of}
 abbrev pub has_left : ℕ → Attachment → Bool
 has_left done Detached = false
 has_left done (Attached stage) = false
+has_left done (Quarantined ticket stage) = false
 has_left done (Leaving ticket stage) = nat_le ticket done
 
 -- a device that leaves so is attached to nothing from then on; each other one stays

@@ -3,7 +3,7 @@ use Rattle.std.specs.Prelude.{◌≡◌, ◌==◌, ℕ, ◌<◌, ◌≤◌, ⊤,
 use Rattle.std.specs.List.{list_any}
 use Rattle.std.specs.Option.{option_map_or}
 use Rattle.iom_driver.specs.declared.device.Attachment.{Attachment}
-use Rattle.iom_driver.specs.declared.device.Attachment.TheVariants.{Detached, Attached, Leaving}
+use Rattle.iom_driver.specs.declared.device.Attachment.TheVariants.{Detached, Attached, Quarantined, Leaving}
 use Rattle.iom_driver.specs.declared.device.Device.{Device}
 use Rattle.iom_driver.specs.declared.device.Stages.{Stages}
 
@@ -28,19 +28,42 @@ attachment_of devices id = option_map_or (λ (device : Device). device.attachmen
 abbrev pub attached_stages : Attachment → Option Stages
 attached_stages Detached = None
 attached_stages (Attached stage) = Some stage
+attached_stages (Quarantined ticket stage) = None
 attached_stages (Leaving ticket stage) = None
 
--- those of an attached or a leaving one: its tables and its number are still its own
+-- those of an attached, a quarantined or a leaving one: its tables and its number are still its own
 abbrev pub owned_stages : Attachment → Option Stages
 owned_stages Detached = None
 owned_stages (Attached stage) = Some stage
+owned_stages (Quarantined ticket stage) = Some stage
 owned_stages (Leaving ticket stage) = Some stage
+
+-- whether a device that is attached so is attached with ATS
+abbrev pub has_ats : Attachment → Bool
+has_ats Detached = false
+has_ats (Attached stage) = stage.ats
+has_ats (Quarantined ticket stage) = false
+has_ats (Leaving ticket stage) = false
+
+-- whether it isn't attached, or not any longer: it was detached
+abbrev pub is_away : Attachment → Bool
+is_away Detached = true
+is_away (Attached stage) = false
+is_away (Quarantined ticket stage) = false
+is_away (Leaving ticket stage) = true
+
+-- whether it is cut off
+abbrev pub is_quarantined : Attachment → Bool
+is_quarantined Detached = false
+is_quarantined (Attached stage) = false
+is_quarantined (Quarantined ticket stage) = true
+is_quarantined (Leaving ticket stage) = false
 
 -- the stages of the device with this id, where it is attached
 abbrev pub stages_of : List Device → ℕ → Option Stages
 stages_of devices id = attached_stages (attachment_of devices id)
 
--- where it is attached, or leaving
+-- where it is attached, quarantined or leaving
 abbrev pub owned_stages_of : List Device → ℕ → Option Stages
 owned_stages_of devices id = owned_stages (attachment_of devices id)
 
@@ -59,15 +82,15 @@ abbrev pub HaveOwnIds : List Device → Type 0
 HaveOwnIds [] = ⊤
 HaveOwnIds (device ∷ others) = (device_of others device.id ≡ None) × HaveOwnIds others
 
--- whether the device, attached or leaving, has this address-space number
+-- whether the device, attached, quarantined or leaving, has this address-space number
 abbrev pub has_number : ℕ → Device → Bool
 has_number number device = option_map_or (λ (stage : Stages). stage.number == number) (owned_stages device.attachment) false
 
--- whether an attached or leaving device holds the number
+-- whether an attached, quarantined or leaving device holds the number
 abbrev pub is_used : List Device → ℕ → Bool
 is_used devices number = list_any (has_number number) devices
 
--- no attached or leaving device holds the number, and it is the lowest such from 1 on
+-- no attached, quarantined or leaving device holds the number, and it is the lowest such from 1 on
 pub record IsLowestNumber (devices : List Device) (number : ℕ) : Type 0 where
   pub from_one : 1 ≤ number
   pub unused : is_used devices number ≡ false

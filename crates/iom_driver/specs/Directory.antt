@@ -13,14 +13,14 @@ use Rattle.iom_base.specs.PageNumbers.{page_from}
 use Rattle.iom_base.specs.declared.mode.Mode.{Mode}
 use Rattle.iom_base.specs.declared.mode.Mode.TheVariants.{First, Second, Both}
 use Rattle.iom_device_dir.specs.Values.{address_space_from, guest_root_from}
-use Rattle.iom_directory.specs.Pages.{IsDirectory, HasPage, root_level}
+use Rattle.iom_directory.specs.Pages.{IsDirectory, HasPage, HasWholePath, root_level}
 use Rattle.iom_registers.specs.declared.directory.DirectoryMode.{DirectoryMode}
 use Rattle.iom_registers.specs.declared.directory.DirectoryMode.TheVariants.{OneLevel, TwoLevels, ThreeLevels}
 use Rattle.iom_registers.specs.declared.registers.Registers.{Registers}
 use Rattle.iom_registers.specs.Queues.{directory_mode, directory_root}
 use Rattle.iom_driver.specs.declared.device.Device.{Device}
 use Rattle.iom_driver.specs.declared.device.Stages.{Stages}
-use Rattle.iom_driver.specs.Devices.{stages_of}
+use Rattle.iom_driver.specs.Devices.{stages_of, owned_stages_of}
 use Rattle.iom_driver.specs.Layout.{command_frame, fault_frame, completion_frame, directory_frame}
 
 -- The context of a device that is attached in a mode, with a root and an address-space number, with ATS or without. In both stages the root of the
@@ -64,12 +64,15 @@ pub record IsDirectoryFrame (marks : List (Option Owner)) (frames page : ℕ) : 
   pub no_fault : page ≢ fault_frame frames
   pub no_completion : page ≢ completion_frame frames
 
--- the directory is a tree from its root down, in frames of its own, and has a context exactly for each attached device
+-- the directory is a tree from its root down, in frames of its own, and has a context exactly for each attached device; and a place for that of each device
+-- that is attached, quarantined or leaving
 pub record DirectoryStands (memory : List (List ℕ)) (marks : List (Option Owner)) (devices : List Device) (levels : ℕ) : Type 0 where
   pub tree : IsDirectory memory (root_level levels) (directory_frame (length memory))
   pub own : (page : ℕ) → HasPage memory (root_level levels) (directory_frame (length memory)) page → IsDirectoryFrame marks (length memory) page
   pub contexts : (id : ℕ) → id < ids_below (root_level levels)
       → path_end_from memory (root_level levels) (directory_frame (length memory)) id ≡ located_for (stages_of devices id)
+  pub places : (id : ℕ) (stage : Stages) → owned_stages_of devices id ≡ Some stage → id < ids_below (root_level levels)
+      → HasWholePath memory (root_level levels) (directory_frame (length memory)) id
 
 -- the mode of a directory of so many levels
 abbrev pub mode_of : ℕ → DirectoryMode

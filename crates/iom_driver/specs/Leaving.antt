@@ -13,6 +13,7 @@ use Rattle.iom_driver.specs.declared.device.Attachment.TheVariants as attachment
 use Rattle.iom_driver.specs.declared.device.Stages.{Stages}
 use Rattle.iom_driver.specs.Appends.{detach_commands, AppendsAll}
 use Rattle.iom_driver.specs.Devices.{stages_of, with_attachment}
+use Rattle.iom_driver.specs.Fences.{last_fence}
 use Rattle.iom_driver.specs.Layout.{command_frame, directory_frame, completion_address}
 use Rattle.iom_driver.specs.Reasons.{why_not_detach, HasGrants}
 use Rattle.iom_driver.specs.State.{DriverState}
@@ -25,9 +26,9 @@ pub record QueuesDetach {M : Type 0} (g : Ghosts M) (d : DriverState) (memory : 
   pub next : ticket ≡ d.given + 1
   pub driver : d' ≡ record d { devices = with_attachment d.devices id (attachment.Leaving ticket stage); given = ticket }
   pub queued : AppendsAll g (without_context memory (root_level d.levels) (directory_frame (length memory)) id) io
-      (detach_commands id stage (completion_address (length memory)) ticket) memory' io'
+      (detach_commands id stage (completion_address (length memory)) (last_fence d + 1)) memory' io'
   pub list : commands_in memory' (g.registers io') ≡ commands_in memory (g.registers io)
-      ++ map stands.Command (detach_commands id stage (completion_address (length memory)) ticket)
+      ++ map stands.Command (detach_commands id stage (completion_address (length memory)) (last_fence d + 1))
   pub others : (f : ℕ) → ¬ HasPage memory (root_level d.levels) (directory_frame (length memory)) f → f ≢ command_frame (length memory) → slice_get memory' f ≡ slice_get memory f
 
 -- why it is refused, or that it isn't, where the device holds or lingers on something or not

@@ -1,6 +1,7 @@
 pub mod Devices
 pub mod Places
 pub mod State
+pub mod Fences
 pub mod Layout
 pub mod Sound
 pub mod Seen
@@ -16,6 +17,9 @@ pub mod Appends
 pub mod Calls
 pub mod Attaching
 pub mod Leaving
+pub mod Quarantines
+pub mod Revivals
+pub mod Restarts
 pub mod Polling
 pub mod Reports
 pub mod Laws

@@ -1,5 +1,5 @@
 -- What a poll answers, what it leaves, and what stays.
-use Rattle.std.specs.Prelude.{◌≡◌, ℕ, ◌+◌, ◌-◌, ◌==◌, min, List, length, Some, Result, Ok, Err, if◌then◌else◌, map}
+use Rattle.std.specs.Prelude.{◌≡◌, ◌↔◌, ℕ, ◌+◌, ◌-◌, ◌<◌, ◌≤◌, ◌==◌, List, length, Some, Result, Ok, Err, if◌then◌else◌, map}
 use Rattle.iom_ledger.specs.Confirmations.{confirmed_from, ConfirmsFrom}
 use Rattle.iom_ledger.specs.declared.refusal.Refusal.{Refusal}
 use Rattle.iom_ledger.specs.History.{History}
@@ -10,6 +10,7 @@ use Rattle.iom_registers.specs.declared.registers.Registers.{Registers}
 use Rattle.iom_registers.specs.Queues.{command_status}
 use Rattle.iom_driver.specs.declared.answers.Polled.{Polled}
 use Rattle.iom_driver.specs.Confirmed.{once_confirmed, given_back, ClearsGone}
+use Rattle.iom_driver.specs.Fences.{fence_of, done_by}
 use Rattle.iom_driver.specs.Layout.{completion_address}
 use Rattle.iom_driver.specs.Reasons.{why_not_poll}
 use Rattle.iom_driver.specs.State.{DriverState}
@@ -18,12 +19,13 @@ use Rattle.iom_driver.specs.State.{DriverState}
 abbrev pub done_after : DriverState → Polled → ℕ
 done_after d polled = d.confirmed + polled.count
 
--- The completion word is a number. The tickets that wait and aren't above it are confirmed, from the oldest on, and no others. Each device that leaves
+-- The completion word is a number. The tickets that wait, and whose fence isn't above it, are confirmed, from the oldest on, and no others. Each device that leaves
 -- under one of them is attached to nothing from then on, and its frames have no owner any more and are zero: no other frame changes.
 pub record ConfirmsDone (r : Registers) (d : DriverState) (memory : List (List ℕ)) (polled : Polled) (d' : DriverState) (memory' : List (List ℕ)) : Type 0 where
   pub word : ℕ
   pub read : word_at 4 memory (completion_address (length memory)) ≡ Some word
-  pub count : polled.count ≡ min word d.given - d.confirmed
+  pub count : polled.count ≡ done_by d word - d.confirmed
+  pub exact : (ticket : ℕ) → d.confirmed < ticket → ticket ≤ d.given → (ticket ≤ done_after d polled) ↔ (fence_of d ticket ≤ word)
   pub first : polled.first ≡ (if polled.count == 0 then 0 else d.confirmed + 1)
   pub timed_out : polled.timed_out ≡ (command_status r).cmd_to
   pub shown : ConfirmsFrom d.ledger d'.ledger (d.confirmed + 1) polled.count

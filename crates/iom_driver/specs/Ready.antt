@@ -11,7 +11,7 @@ use Rattle.iom_driver.specs.Layout.{command_frame, queue_entries, fault_frame, r
 use Rattle.iom_driver.specs.State.{DriverState}
 use Rattle.iom_driver.specs.Tables.{HaveTables}
 
--- memory has a frame for each mark; the tables of each attached or leaving device stand in it, and once the driver was started its directory
+-- memory has a frame for each mark; the tables of each attached, quarantined or leaving device stand in it, and once the driver was started its directory
 pub record TablesStand (d : DriverState) (memory : List (List ℕ)) : Type 0 where
   pub size : length memory ≡ length d.marks
   pub tables : HaveTables memory d.marks d.ledger d.devices

@@ -1,7 +1,10 @@
 -- That a driver is sound, or ready, is a fact: it has one proof at most.
-use Rattle.std.specs.Prelude.{ℕ, Bool, Option, List, [], ◌∷◌, Result, Ok, Err}
-use Rattle.std.specs.Coded.{Unit-prop}
+use Rattle.std.specs.Prelude.{◌≡◌, ℕ, Bool, Option, Some, List, [], ◌∷◌, Result, Ok, Err}
+use Rattle.std.specs.Coded.{Unit-prop, Coded-set, coded_ℕ, coded_option}
+use Rattle.std.proofs.Common.{sym, ◌∙◌}
+use Rattle.std.proofs.Math.Path.{Σ_path, to_path_p}
 use Rattle.std.proofs.Props.{props}
+use Rattle.std.proofs.lemmas.Option.{same_Some}
 use Rattle.iom_base.specs.declared.cause.Cause.{Cause}
 use Rattle.iom_base.specs.declared.mode.Mode.{Mode}
 use Rattle.iom_base.specs.declared.mode.Mode.TheVariants.{First, Second, Both}
@@ -46,9 +49,9 @@ pub own_ids_prop : (devices : List Device) → IsProp (HaveOwnIds devices)
 own_ids_prop [] = hlevel props
 own_ids_prop (device ∷ others) = let rest = own_ids_prop others in hlevel (props, rest)
 
-pub sound_prop : (ledger : Ledger) (marks : List (Option Owner)) (devices : List Device) (frames levels : ℕ) (started : Bool) (given confirmed : ℕ)
-    → IsProp (IsSound ledger marks devices frames levels started given confirmed)
-sound_prop ledger marks devices frames levels started given confirmed = hlevel (props, rise_prop, own_ids_prop)
+pub sound_prop : (ledger : Ledger) (marks : List (Option Owner)) (devices : List Device) (frames levels : ℕ) (started : Bool) (given confirmed restarts restarted : ℕ)
+    → IsProp (IsSound ledger marks devices frames levels started given confirmed restarts restarted)
+sound_prop ledger marks devices frames levels started given confirmed restarts restarted = hlevel (props, rise_prop, own_ids_prop)
 
 pub root_prop : (mode : Mode) (memory : List (List ℕ)) (root : ℕ) → IsProp (IsRootIn mode memory root)
 root_prop First memory root = hlevel (props, upper_prop, lowest_prop)
@@ -60,8 +63,14 @@ report_prop (queue.Record fields) = Unit-prop
 report_prop queue.Illegal = hlevel props
 report_prop queue.Outside = hlevel props
 
+-- an option has one value at most
+pub some_prop : (o : Option ℕ) → IsProp ((f : ℕ) × (o ≡ Some f))
+some_prop o = λ x y.
+    let same : x.0 ≡ y.0 = same_Some x.0 y.0 (sym x.1 ∙ y.1) in
+    Σ_path same (to_path_p (λ i. o ≡ Some (same i)) (Coded-set (coded_option coded_ℕ) o (Some y.0) (coe 0 1 (k. o ≡ Some (same k)) x.1) y.1))
+
 pub stand_prop : (d : DriverState) (memory : List (List ℕ)) → IsProp (TablesStand d memory)
-stand_prop d memory = hlevel (props, root_prop, ends_prop)
+stand_prop d memory = hlevel (props, root_prop, ends_prop, some_prop)
 
 pub ready_prop : (d : DriverState) (memory : List (List ℕ)) (r : Registers) → IsProp (IsReady d memory r)
-ready_prop d memory r = hlevel (props, root_prop, ends_prop, report_prop)
+ready_prop d memory r = hlevel (props, root_prop, ends_prop, some_prop, report_prop)

@@ -1,18 +1,21 @@
 -- Why a call is refused: its reasons, in the order in which it tests them.
-use Rattle.std.specs.Prelude.{ℕ, ◌+◌, ◌-◌, Bool, not, ◌||◌, ◌&&◌, nat_le, List, [], ◌∷◌, length, Option, None, Some, is_some, is_none, IsSome, ◌⊎◌, if◌then◌else◌}
+use Rattle.std.specs.Prelude.{ℕ, ◌+◌, ◌-◌, Bool, not, ◌||◌, ◌&&◌, nat_le, nat_lt, false, List, [], ◌∷◌, length, Option, None, Some, is_some, is_none, IsSome, ◌⊎◌, if◌then◌else◌}
 use Rattle.iom_base.specs.Sizes.{page_limit}
 use Rattle.iom_command_queue.specs.Waiting.{how_many}
 use Rattle.iom_ledger.specs.declared.ledger.Ledger.{Ledger}
 use Rattle.iom_ledger.specs.declared.refusal.Refusal.{Refusal}
 use Rattle.iom_ledger.specs.declared.refusal.Refusal.TheVariants.{NotStarted, AlreadyPlugged, TooManyDevices, NoSuchDevice, AlreadyAttached, NotAttached, IdTooWide, NotTrusted}
-use Rattle.iom_ledger.specs.declared.refusal.Refusal.TheVariants.{FrameOutOfRange, FrameReserved, IovaOutOfRange, IovaBusy, NotGranted, StillGranted, TooManyPending, QueueFull, NumbersUsedUp}
+use Rattle.iom_ledger.specs.declared.refusal.Refusal.TheVariants.{FrameOutOfRange, FrameReserved, IovaOutOfRange, IovaBusy, NotGranted, StillGranted, TooManyPending, QueueFull, Quarantined, NumbersUsedUp}
 use Rattle.iom_ledger.specs.Pending.{pending_limit}
 use Rattle.iom_ledger.specs.Shown.{held_in, lingering_in}
 use Rattle.iom_registers.specs.declared.registers.Registers.{Registers}
 use Rattle.iom_registers.specs.Queues.{command_entries}
 use Rattle.iom_table_frames.specs.Marks.{is_marked}
 use Rattle.iom_driver.specs.declared.device.Stages.{Stages}
-use Rattle.iom_driver.specs.Devices.{is_plugged, is_trusted, stages_of, owned_stages_of}
+use Rattle.iom_driver.specs.declared.device.Attachment.{Attachment}
+use Rattle.iom_driver.specs.declared.device.Attachment.TheVariants as attachment
+use Rattle.iom_driver.specs.Devices.{is_plugged, is_trusted, is_away, is_quarantined, attachment_of, stages_of, owned_stages_of}
+use Rattle.iom_driver.specs.Fences.{last_fence}
 use Rattle.iom_driver.specs.Layout.{id_limit}
 use Rattle.iom_driver.specs.State.{DriverState}
 
@@ -46,12 +49,13 @@ why_not_attach d id ats =
     ∷ (ats && not (is_trusted d.devices id), NotTrusted)
     ∷ []
 
--- the driver isn't started, or the device isn't there, or isn't attached
+-- the driver isn't started, or the device isn't there, or isn't attached (any longer), or is quarantined
 abbrev pub why_not_attached : DriverState → ℕ → List (Bool × Refusal) → List (Bool × Refusal)
 why_not_attached d id later =
     (not d.started, NotStarted)
     ∷ (not (is_plugged d.devices id), NoSuchDevice)
-    ∷ (is_none (stages_of d.devices id), NotAttached)
+    ∷ (is_away (attachment_of d.devices id), NotAttached)
+    ∷ (is_quarantined (attachment_of d.devices id), Quarantined)
     ∷ later
 
 -- beyond that: a frame is granted at a page
@@ -72,7 +76,7 @@ releasing_reasons d r places id page =
     (is_none (held_in d.ledger id page), NotGranted)
     ∷ (nat_le pending_limit (d.given - d.confirmed), TooManyPending)
     ∷ (lacks_places places r, QueueFull)
-    ∷ (nat_le 4294967295 d.given, NumbersUsedUp)
+    ∷ (nat_le 4294967295 (last_fence d), NumbersUsedUp)
     ∷ []
 
 abbrev pub why_not_release : DriverState → Registers → ℕ → ℕ → List (Bool × Refusal)
@@ -84,11 +88,46 @@ detaching_reasons d r granted =
     (granted, StillGranted)
     ∷ (nat_le pending_limit (d.given - d.confirmed), TooManyPending)
     ∷ (lacks_places 3 r, QueueFull)
-    ∷ (nat_le 4294967295 d.given, NumbersUsedUp)
+    ∷ (nat_le 4294967295 (last_fence d), NumbersUsedUp)
     ∷ []
 
 abbrev pub why_not_detach : DriverState → Registers → Bool → ℕ → List (Bool × Refusal)
 why_not_detach d r granted id = why_not_attached d id (detaching_reasons d r granted)
+
+-- a device is quarantined
+abbrev pub quarantining_reasons : DriverState → Registers → List (Bool × Refusal)
+quarantining_reasons d r =
+    (nat_le pending_limit (d.given - d.confirmed), TooManyPending)
+    ∷ (lacks_places 3 r, QueueFull)
+    ∷ (nat_le 4294967295 (last_fence d), NumbersUsedUp)
+    ∷ []
+
+abbrev pub why_not_quarantine : DriverState → Registers → ℕ → List (Bool × Refusal)
+why_not_quarantine d r id = why_not_attached d id (quarantining_reasons d r)
+
+-- whether a device that is attached so is cut off under a ticket that isn't confirmed
+abbrev pub waits_for_its_ticket : ℕ → Attachment → Bool
+waits_for_its_ticket confirmed attachment.Detached = false
+waits_for_its_ticket confirmed (attachment.Attached stage) = false
+waits_for_its_ticket confirmed (attachment.Quarantined ticket stage) = nat_lt confirmed ticket
+waits_for_its_ticket confirmed (attachment.Leaving ticket stage) = false
+
+-- a quarantined device is attached again
+abbrev pub why_not_revive : DriverState → ℕ → List (Bool × Refusal)
+why_not_revive d id =
+    (not d.started, NotStarted)
+    ∷ (not (is_plugged d.devices id), NoSuchDevice)
+    ∷ (is_away (attachment_of d.devices id), NotAttached)
+    ∷ (is_some (stages_of d.devices id), AlreadyAttached)
+    ∷ (waits_for_its_ticket d.confirmed (attachment_of d.devices id), StillGranted)
+    ∷ []
+
+-- the command queue is emptied
+abbrev pub why_not_restart : DriverState → List (Bool × Refusal)
+why_not_restart d =
+    (not d.started, NotStarted)
+    ∷ (nat_le 4294967295 (last_fence d), NumbersUsedUp)
+    ∷ []
 
 -- the device holds something, or lingers on it
 abbrev pub HasGrants : Ledger → ℕ → Type 0

@@ -11,4 +11,6 @@ state_of driver = record {
   started = driver.started;
   given = driver.given;
   confirmed = driver.confirmed;
+  restarts = driver.restarts;
+  restarted = driver.restarted;
 }

@@ -1,5 +1,5 @@
 -- What stays true of a driver by itself, whatever its calls and whatever happens to memory and registers.
-use Rattle.std.specs.Prelude.{◌≡◌, ℕ, ◌<◌, ⊤, ◌≤◌, Bool, false, List, [], ◌∷◌, length, Option, None, Some, slice_get}
+use Rattle.std.specs.Prelude.{◌≡◌, ℕ, ◌+◌, ◌<◌, ⊤, ◌≤◌, Bool, false, List, [], ◌∷◌, length, Option, None, Some, slice_get}
 use Rattle.iom_base.specs.Sizes.{page_limit}
 use Rattle.iom_base.specs.declared.owner.Owner.{Owner}
 use Rattle.iom_base.specs.declared.rights.Rights.{Rights}
@@ -8,7 +8,7 @@ use Rattle.iom_ledger.specs.Shown.{held_in, lingering_in, pending_in}
 use Rattle.iom_phys_mem.specs.Sizes.{IsMemorySize}
 use Rattle.iom_driver.specs.declared.device.Device.{Device}
 use Rattle.iom_driver.specs.declared.device.Stages.{Stages}
-use Rattle.iom_driver.specs.declared.device.Attachment.TheVariants.{Detached, Leaving}
+use Rattle.iom_driver.specs.declared.device.Attachment.TheVariants.{Detached, Quarantined, Leaving}
 use Rattle.iom_driver.specs.Devices.{attachment_of, stages_of, owned_stages_of, HaveOwnIds}
 use Rattle.iom_driver.specs.Layout.{AreFixed, IsLevels, id_limit}
 
@@ -26,12 +26,12 @@ pub record AreGrants (marks : List (Option Owner)) (ledger : Ledger) : Type 0 wh
 abbrev pub HoldersAreAttached : Ledger → List Device → Type 0
 HoldersAreAttached ledger devices = (id page : ℕ) → stages_of devices id ≡ None → held_in ledger id page ≡ None
 
--- the address-space numbers of attached and leaving devices count from 1, there are no more than devices may be, and no two devices have the same
+-- the address-space numbers of attached, quarantined and leaving devices count from 1, there are no more than devices may be, and no two devices have the same
 pub record HaveNumbers (devices : List Device) : Type 0 where
   pub small : (id : ℕ) (stage : Stages) → owned_stages_of devices id ≡ Some stage → (1 ≤ stage.number) × (stage.number ≤ 17)
   pub own : (one other : ℕ) (a b : Stages) → owned_stages_of devices one ≡ Some a → owned_stages_of devices other ≡ Some b → a.number ≡ b.number → one ≡ other
 
--- the directory can name each attached or leaving device
+-- the directory can name each attached, quarantined or leaving device
 abbrev pub AreNamed : List Device → ℕ → Type 0
 AreNamed devices levels = (id : ℕ) (stage : Stages) → owned_stages_of devices id ≡ Some stage → id < id_limit levels
 
@@ -39,6 +39,11 @@ AreNamed devices levels = (id : ℕ) (stage : Stages) → owned_stages_of device
 abbrev pub LeaveUnderTickets : List Device → ℕ → ℕ → Type 0
 LeaveUnderTickets devices given confirmed =
     (id ticket : ℕ) (stage : Stages) → attachment_of devices id ≡ Leaving ticket stage → (confirmed < ticket) × (ticket ≤ given)
+
+-- a device is cut off under a ticket that was given
+abbrev pub AreCutOffUnderTickets : List Device → ℕ → Type 0
+AreCutOffUnderTickets devices given =
+    (id ticket : ℕ) (stage : Stages) → attachment_of devices id ≡ Quarantined ticket stage → (0 < ticket) × (ticket ≤ given)
 
 -- the tickets rise, from above the first number up to the last at most
 abbrev pub RiseBetween : ℕ → ℕ → List ℕ → Type 0
@@ -51,13 +56,18 @@ pub record AreTickets (ledger : Ledger) (given confirmed : ℕ) : Type 0 where
   pub pending : RiseBetween confirmed given (pending_in ledger)
   pub ordered : confirmed ≤ given
 
+-- the last restart was after some of the tickets, and fences have numbers of 32 bits
+pub record AreFences (given restarts restarted : ℕ) : Type 0 where
+  pub earlier : restarted ≤ given
+  pub numbered : given + restarts ≤ 4294967295
+
 -- memory has so many frames, each of which has a mark, and the directory so many levels
 pub record AreSizes (marks : List (Option Owner)) (frames levels : ℕ) : Type 0 where
   pub marked : length marks ≡ frames
   pub size : IsMemorySize frames
   pub in_range : IsLevels levels
 
-pub record IsSound (ledger : Ledger) (marks : List (Option Owner)) (devices : List Device) (frames levels : ℕ) (started : Bool) (given confirmed : ℕ) : Type 0 where
+pub record IsSound (ledger : Ledger) (marks : List (Option Owner)) (devices : List Device) (frames levels : ℕ) (started : Bool) (given confirmed restarts restarted : ℕ) : Type 0 where
   pub sizes : AreSizes marks frames levels
   pub fixed : AreFixed marks frames
   pub grants : AreGrants marks ledger
@@ -65,7 +75,9 @@ pub record IsSound (ledger : Ledger) (marks : List (Option Owner)) (devices : Li
   pub numbers : HaveNumbers devices
   pub named : AreNamed devices levels
   pub tickets : AreTickets ledger given confirmed
+  pub fences : AreFences given restarts restarted
   pub leaving : LeaveUnderTickets devices given confirmed
+  pub quarantined : AreCutOffUnderTickets devices given
   pub ids : HaveOwnIds devices
   pub few : length devices ≤ 16
   pub idle : started ≡ false → (id : ℕ) → attachment_of devices id ≡ Detached

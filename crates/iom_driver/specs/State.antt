@@ -5,7 +5,7 @@ use Rattle.iom_ledger.specs.declared.ledger.Ledger.{Ledger}
 use Rattle.iom_driver.specs.declared.device.Device.{Device}
 
 -- what is held and what lingers; whose each frame is; the devices in the order of plugging; the levels of the device directory; whether it was started;
--- and the last ticket that was given, and that was confirmed
+-- the last ticket that was given, and that was confirmed; how often the driver restarted; and the last ticket that was given when it did last
 pub record DriverState : Type 0 where
   pub ledger : Ledger
   pub marks : List (Option Owner)
@@ -14,3 +14,5 @@ pub record DriverState : Type 0 where
   pub started : Bool
   pub given : ℕ
   pub confirmed : ℕ
+  pub restarts : ℕ
+  pub restarted : ℕ

@@ -1,4 +1,4 @@
--- The page tables of attached and leaving devices.
+-- The page tables of attached, quarantined and leaving devices.
 use Rattle.std.specs.Prelude.{◌≡◌, ℕ, ◌^◌, ◌%◌, ◌<◌, List, Option, Some, option_map, slice_get}
 use Rattle.iom_base.specs.declared.mode.Mode.{Mode}
 use Rattle.iom_base.specs.declared.mode.Mode.TheVariants.{First, Second, Both}
@@ -39,7 +39,7 @@ pub record AreTablesOf (memory : List (List ℕ)) (marks : List (Option Owner)) 
   pub own : (f : ℕ) → HasTableIn mode memory root f → slice_get marks f ≡ Some (Some (OneDevice id))
   pub leaves : (page : ℕ) → page < 2 ^ 52 → leaf_of first_levels memory root page ≡ option_map leaf_for (held_in ledger id page)
 
--- each attached or leaving device has such tables
+-- each attached, quarantined or leaving device has such tables
 abbrev pub HaveTables : List (List ℕ) → List (Option Owner) → Ledger → List Device → Type 0
 HaveTables memory marks ledger devices =
     (id : ℕ) (stage : Stages) → owned_stages_of devices id ≡ Some stage → AreTablesOf memory marks ledger id stage.mode stage.root

@@ -4,14 +4,14 @@ ghost use Rattle.iom_base.specs.Sizes.{page_limit};
 ghost use Rattle.iom_ledger.specs.declared.refusal.Refusal.{Refusal};
 ghost use Rattle.iom_ledger.specs.Refusals.{first_that_applies, NoneApplies};
 ghost use Rattle.iom_registers.specs.Queues.{command_entries};
-ghost use Rattle.iom_driver.specs.Admitted.{MayBeGranted, MayBeReleased, MayBeDetached};
+ghost use Rattle.iom_driver.specs.Admitted.{MayBeGranted, MayBeReleased, MayBeDetached, MayBeQuarantined, MayBeRevived};
 ghost use Rattle.iom_driver.specs.Devices.{device_of, stages_of};
 ghost use Rattle.iom_driver.specs.Layout.{queue_entries};
-ghost use Rattle.iom_driver.specs.Reasons.{release_places, why_not_attached, why_not_grant, why_not_release, why_not_detach, HasGrants};
+ghost use Rattle.iom_driver.specs.Reasons.{release_places, why_not_attached, why_not_grant, why_not_release, why_not_detach, why_not_quarantine, why_not_revive, HasGrants};
 ghost use Rattle.iom_driver.specs.Seen.{state_of};
 
 use crate::access::lacks_places;
-use crate::device::Stages;
+use crate::device::{Attachment, Stages};
 use crate::driver::Driver;
 use iom_base::{DeviceId, PAGE_LIMIT};
 use iom_ledger::{MAX_PENDING, Refusal};
@@ -40,9 +40,10 @@ impl Driver {
         let Some(device) = self.device_of(id) else {
             return Err(Refusal::NoSuchDevice);
         };
-        match device.attachment.attached_stages() {
-            None => Err(Refusal::NotAttached),
-            Some(stage) => Ok(stage),
+        match device.attachment {
+            Attachment::Detached | Attachment::Leaving { .. } => Err(Refusal::NotAttached),
+            Attachment::Quarantined { .. } => Err(Refusal::Quarantined),
+            Attachment::Attached(stage) => Ok(stage),
         }
     }
 
@@ -93,7 +94,7 @@ impl Driver {
         if lacks_places(io, release_places(stage)) {
             return Err(Refusal::QueueFull);
         }
-        if self.given == u32::MAX {
+        if self.last_fence() == u32::MAX {
             return Err(Refusal::NumbersUsedUp);
         }
         Ok(stage)
@@ -128,9 +129,55 @@ impl Driver {
         if lacks_places(io, 3) {
             return Err(Refusal::QueueFull);
         }
-        if self.given == u32::MAX {
+        if self.last_fence() == u32::MAX {
             return Err(Refusal::NumbersUsedUp);
         }
         Ok(stage)
+    }
+
+    /// The stages of the device, where it may be quarantined, or why it may not.
+    pub(crate) fn admit_quarantine<M: Mmio>(&self, io: &M, id: DeviceId) -> Result<Stages, Refusal>
+        requires { self.now.started ≡ true → command_entries (M.registers io.now) ≡ queue_entries }
+        ensures admitted { IfOk result (λ stage. NoneApplies (why_not_quarantine (state_of self.now) (M.registers io.now) id)) }
+        ensures may { IfOk result (λ stage. MayBeQuarantined (state_of self.now) (M.registers io.now) id stage) }
+        ensures refused { IfErr result (λ why.
+            first_that_applies (why_not_quarantine (state_of self.now) (M.registers io.now) id) ≡ Some why) }
+    {
+        let stage = self.stages_of(id)?;
+        if self.given - self.confirmed >= MAX_PENDING as u32 {
+            return Err(Refusal::TooManyPending);
+        }
+        if lacks_places(io, 3) {
+            return Err(Refusal::QueueFull);
+        }
+        if self.last_fence() == u32::MAX {
+            return Err(Refusal::NumbersUsedUp);
+        }
+        Ok(stage)
+    }
+
+    /// The stages of the device, where it may be revived, or why it may not.
+    pub(crate) fn admit_revive(&self, id: DeviceId) -> Result<Stages, Refusal>
+        ensures admitted { IfOk result (λ stage. NoneApplies (why_not_revive (state_of self.now) id)) }
+        ensures may { IfOk result (λ stage. MayBeRevived (state_of self.now) id stage) }
+        ensures refused { IfErr result (λ why. first_that_applies (why_not_revive (state_of self.now) id) ≡ Some why) }
+    {
+        if !self.started {
+            return Err(Refusal::NotStarted);
+        }
+        let Some(device) = self.device_of(id) else {
+            return Err(Refusal::NoSuchDevice);
+        };
+        match device.attachment {
+            Attachment::Detached | Attachment::Leaving { .. } => Err(Refusal::NotAttached),
+            Attachment::Attached(_) => Err(Refusal::AlreadyAttached),
+            Attachment::Quarantined { ticket, stage } => {
+                if ticket > self.confirmed {
+                    Err(Refusal::StillGranted)
+                } else {
+                    Ok(stage)
+                }
+            }
+        }
     }
 }

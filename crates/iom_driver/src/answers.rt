@@ -1,5 +1,5 @@
-/// The ticket of a release: a number from 1 on, one above the last. It is also the number of the release's
-/// fence.
+/// The ticket of a release, a detach or a quarantine: a number from 1 on, one above the last. Until the driver
+/// restarts it is also the number of its fence.
 #[derive(Clone, Copy, PartialEq, Eq, Debug)]
 pub struct Ticket(pub u32);
 

@@ -1,16 +1,17 @@
-// The commands of a release and of a detach. Those of a release are made in place, so that the constant parts of
+// The commands of a release, of a detach or a quarantine, and of a restart. Those of a release are made in place, so that the constant parts of
 // their words are known when it is compiled.
-ghost use Rattle.std.specs.Prelude.{◌≡◌, ◌+◌, ◌*◌, ◌/◌, ◌%◌, ◌<◌, ◌≤◌, ◌^◌, ◌≢◌, ℕ, true, Some, length, slice_get, if◌then◌else◌};
+ghost use Rattle.std.specs.Prelude.{◌≡◌, ◌+◌, ◌*◌, ◌/◌, ◌%◌, ◌<◌, ◌≤◌, ◌^◌, ◌≢◌, ◌∷◌, [], ℕ, true, Some, length, slice_get, if◌then◌else◌};
 ghost use Rattle.iom_command_queue.specs.declared.command.Command.TheVariants.{AtsInval};
 ghost use Rattle.iom_command_queue.specs.Waiting.{how_many};
 ghost use Rattle.iom_driver.specs.Appends.{invalidation_of, invalidation, space_invalidation, context_invalidation, dropped_range, device_invalidation, fence};
 ghost use Rattle.iom_driver.specs.Appends.{release_commands, detach_commands, Appends, AppendsAll};
+ghost use Rattle.iom_driver.specs.Restarts.{device_reset, requeued, IsNamable};
 ghost use Rattle.iom_driver.specs.Layout.{command_frame, completion_address, queue_entries};
 ghost use Rattle.iom_driver.specs.Directory.{KeepsDirectory};
 ghost use Rattle.iom_driver.specs.Ready.{IsRing, KeepsFaults};
 ghost use Rattle.iom_driver.specs.Reasons.{release_places};
 
-use crate::device::Stages;
+use crate::device::{Device, Stages};
 use crate::layout::completion_address;
 use iom_base::{DeviceId, Mode};
 use iom_command_queue::{
@@ -153,7 +154,7 @@ fn append_device_invalidation<M: Mmio>(
 }
 
 /// Appends the commands of a release: the invalidation of its page, where the device has ATS the one that asks
-/// it to drop its own translations, and the fence of its ticket.
+/// it to drop its own translations, and the fence of this number.
 #[inline(always)]
 pub(crate) fn append_release<M: Mmio>(
     memory: &mut Memory,
@@ -162,7 +163,7 @@ pub(crate) fn append_release<M: Mmio>(
     id: DeviceId,
     stage: Stages,
     page: u64,
-    ticket: u32,
+    number: u32,
 )
     requires frames { length memory.old ≡ frames }
     requires many { 64 ≤ frames }
@@ -171,7 +172,7 @@ pub(crate) fn append_release<M: Mmio>(
     requires id { id < 2 ^ 24 }
     requires number { stage.number < 2 ^ 16 }
     requires page { page < 2 ^ 52 }
-    ensures appended { let commands = release_commands id stage page (completion_address frames) ticket in
+    ensures appended { let commands = release_commands id stage page (completion_address frames) number in
         AppendsAll M.Mmio memory.old io.old commands memory.new io.new }
     ensures ring { IsRing frames (M.registers io.new) }
     ensures named { KeepsDirectory (M.registers io.old) (M.registers io.new) }
@@ -181,18 +182,18 @@ pub(crate) fn append_release<M: Mmio>(
 {
     append(memory, io, invalidation(stage.mode, stage.number, page));
     append_device_invalidation(memory, io, id, stage, page);
-    append(memory, io, fence(completion_address(frames), ticket));
+    append(memory, io, fence(completion_address(frames), number));
 }
 
-/// Appends the commands of a detach: the invalidations of the device's context and of its address space, and
-/// the fence of its ticket.
+/// Appends the commands of a detach, or of a quarantine: the invalidations of the device's context and of its
+/// address space, and the fence of this number.
 pub(crate) fn append_detach<M: Mmio>(
     memory: &mut Memory,
     io: &mut M,
     frames: u32,
     id: DeviceId,
     stage: Stages,
-    ticket: u32,
+    number: u32,
 )
     requires frames { length memory.old ≡ frames }
     requires many { 64 ≤ frames }
@@ -200,7 +201,7 @@ pub(crate) fn append_detach<M: Mmio>(
     requires room { how_many (M.registers io.old) + 3 < queue_entries }
     requires id { id < 2 ^ 24 }
     requires number { stage.number < 2 ^ 16 }
-    ensures appended { let commands = detach_commands id stage (completion_address frames) ticket in
+    ensures appended { let commands = detach_commands id stage (completion_address frames) number in
         AppendsAll M.Mmio memory.old io.old commands memory.new io.new }
     ensures ring { IsRing frames (M.registers io.new) }
     ensures named { KeepsDirectory (M.registers io.old) (M.registers io.new) }
@@ -210,5 +211,71 @@ pub(crate) fn append_detach<M: Mmio>(
 {
     append(memory, io, context_invalidation(id));
     append(memory, io, space_invalidation(stage.mode, stage.number));
-    append(memory, io, fence(completion_address(frames), ticket));
+    append(memory, io, fence(completion_address(frames), number));
+}
+
+/// Where the device has ATS, appends the command that asks it to drop all its own translations.
+fn append_device_reset<M: Mmio>(memory: &mut Memory, io: &mut M, id: DeviceId, ats: bool)
+    requires many { 64 ≤ length memory.old }
+    requires ring { IsRing (length memory.old) (M.registers io.old) }
+    requires room { how_many (M.registers io.old) + 1 < queue_entries }
+    requires id { id < 2 ^ 24 }
+    ensures appended { AppendsAll M.Mmio memory.old io.old (device_reset id ats) memory.new io.new }
+    ensures count { how_many (M.registers io.new) ≤ how_many (M.registers io.old) + 1 }
+    ensures ring { IsRing (length memory.old) (M.registers io.new) }
+    ensures named { KeepsDirectory (M.registers io.old) (M.registers io.new) }
+    ensures faults { KeepsFaults (M.registers io.old) (M.registers io.new) }
+    ensures other_frames { (n : ℕ) → n ≢ command_frame (length memory.old) → slice_get memory.new n ≡ slice_get memory.old n }
+    ensures size { length memory.new ≡ length memory.old }
+{
+    if ats {
+        let device = DeviceNumber::new(id).unwrap();
+        let range = AtsRange::Everything;
+        append(memory, io, Command::AtsInval { device, range });
+    }
+}
+
+/// Appends the commands of a restart for one device: where it is attached, quarantined or leaving, those that drop
+/// all that the IOMMU has cached of it; where it is attached with ATS, one that asks it to drop its own
+/// translations.
+pub(crate) fn append_device<M: Mmio>(memory: &mut Memory, io: &mut M, device: Device)
+    requires many { 64 ≤ length memory.old }
+    requires ring { IsRing (length memory.old) (M.registers io.old) }
+    requires room { how_many (M.registers io.old) + 3 < queue_entries }
+    requires namable { IsNamable device }
+    ensures appended { AppendsAll M.Mmio memory.old io.old (requeued device) memory.new io.new }
+    ensures count { how_many (M.registers io.new) ≤ how_many (M.registers io.old) + 3 }
+    ensures ring { IsRing (length memory.old) (M.registers io.new) }
+    ensures named { KeepsDirectory (M.registers io.old) (M.registers io.new) }
+    ensures faults { KeepsFaults (M.registers io.old) (M.registers io.new) }
+    ensures other_frames { (n : ℕ) → n ≢ command_frame (length memory.old) → slice_get memory.new n ≡ slice_get memory.old n }
+    ensures size { length memory.new ≡ length memory.old }
+{
+    let Some(stage) = device.attachment.owned_stages() else {
+        return;
+    };
+    append(memory, io, context_invalidation(device.id));
+    append(memory, io, space_invalidation(stage.mode, stage.number));
+    append_device_reset(
+        memory,
+        io,
+        device.id,
+        device.attachment.asks_for_translations(),
+    );
+}
+
+/// Appends the fence of this number.
+pub(crate) fn append_fence<M: Mmio>(memory: &mut Memory, io: &mut M, frames: u32, number: u32)
+    requires frames { length memory.old ≡ frames }
+    requires many { 64 ≤ frames }
+    requires ring { IsRing frames (M.registers io.old) }
+    requires room { how_many (M.registers io.old) + 1 < queue_entries }
+    ensures appended { AppendsAll M.Mmio memory.old io.old (fence (completion_address frames) number ∷ []) memory.new io.new }
+    ensures ring { IsRing frames (M.registers io.new) }
+    ensures named { KeepsDirectory (M.registers io.old) (M.registers io.new) }
+    ensures faults { KeepsFaults (M.registers io.old) (M.registers io.new) }
+    ensures other_frames { (n : ℕ) → n ≢ command_frame frames → slice_get memory.new n ≡ slice_get memory.old n }
+    ensures size { length memory.new ≡ length memory.old }
+{
+    append(memory, io, fence(completion_address(frames), number));
 }

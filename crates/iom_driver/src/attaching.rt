@@ -26,19 +26,20 @@ use iom_directory::{missing, put_context};
 use iom_ledger::Refusal;
 use iom_phys_mem::Memory;
 
-/// Whether an attached or leaving device holds the address-space number.
+/// Whether an attached, quarantined or leaving device holds the address-space number.
 fn is_used(devices: &[Device], number: u32) -> bool
     ensures { result ≡ is_used devices.now number }
 {
     devices.iter().any(|device| match device.attachment {
         Attachment::Detached => false,
         Attachment::Attached(stage) => stage.number == number,
+        Attachment::Quarantined { stage, .. } => stage.number == number,
         Attachment::Leaving { stage, .. } => stage.number == number,
     })
 }
 
-/// The lowest address-space number from 1 on that no attached or leaving device holds. Of 17 numbers the
-/// devices, at most 16, leave one.
+/// The lowest address-space number from 1 on that no attached, quarantined or leaving device holds. Of 17
+/// numbers the devices, at most 16, leave one.
 fn lowest_number(devices: &[Device]) -> u32
     requires { length devices.now ≤ 16 }
     ensures lowest { IsLowestNumber devices.now result }
@@ -77,7 +78,7 @@ fn space(number: u32) -> Pscid
 
 /// The context of a device that is attached in these stages. In both the root of the first is the guest
 /// physical page 0.
-fn context_for(stages: Stages) -> Context
+pub(crate) fn context_for(stages: Stages) -> Context
     requires number { stages.number < 2 ^ 16 }
     requires root { IsAligned stages.mode stages.root }
     ensures { result ≡ context_for stages }
@@ -144,13 +145,13 @@ impl Driver {
         Some(Taken { pages, root })
     }
 
-    /// The device is attached in the mode, with ATS (it may ask for translations and keep them) or without:
-    /// the directory pages that its id's path lacks, from the root of the directory down, and then the root
-    /// of its tables take the highest free frames, a root of a second stage the highest four side by side;
-    /// its address space takes the lowest number from 1 on that no attached or leaving device holds; its
-    /// context is written. `NotStarted`, `NoSuchDevice`, `AlreadyAttached` (a leaving device too),
-    /// `IdTooWide`, `NotTrusted` where ATS is asked for a device that isn't trusted, `NoFrames`: the first
-    /// that applies, and then nothing changes. Takes no memory.
+    /// The device is attached in the mode, with ATS (it may ask for translations and keep them) or without: the
+    /// directory pages that its id's path lacks, from the root of the directory down, and then the root of its
+    /// tables take the highest free frames, a root of a second stage the highest four side by side; its address
+    /// space takes the lowest number from 1 on that no attached, quarantined or leaving device holds; its
+    /// context is written. `NotStarted`, `NoSuchDevice`, `AlreadyAttached` (a quarantined or leaving device
+    /// too), `IdTooWide`, `NotTrusted` where ATS is asked for a device that isn't trusted, `NoFrames`: the
+    /// first that applies, and then nothing changes. Takes no memory.
     pub fn attach(
         &mut self,
         memory: &mut Memory,

@@ -21,6 +21,8 @@ pub enum Attachment {
     Detached,
     /// In these stages.
     Attached(Stages),
+    /// It was cut off under the ticket. Its tables and its number stay its own.
+    Quarantined { ticket: u32, stage: Stages },
     /// It was detached under the ticket. Until that is confirmed, its tables and its number are still its own.
     Leaving { ticket: u32, stage: Stages },
 }
@@ -48,7 +50,7 @@ impl Device {
 impl Attachment {
     ghost use Rattle.std.specs.Prelude.{◌≡◌};
     ghost use Rattle.iom_driver.specs.Confirmed.{has_left};
-    ghost use Rattle.iom_driver.specs.Devices.{attached_stages, owned_stages};
+    ghost use Rattle.iom_driver.specs.Devices.{attached_stages, owned_stages, has_ats};
 
     // The stages of an attached device.
     pub(crate) fn attached_stages(self) -> Option<Stages>
@@ -60,14 +62,25 @@ impl Attachment {
         }
     }
 
-    // The stages of an attached or a leaving device.
+    // The stages of an attached, a quarantined or a leaving device.
     pub(crate) fn owned_stages(self) -> Option<Stages>
         ensures { result ≡ owned_stages self }
     {
         match self {
             Attachment::Detached => None,
             Attachment::Attached(stage) => Some(stage),
+            Attachment::Quarantined { ticket, stage } => Some(stage),
             Attachment::Leaving { ticket, stage } => Some(stage),
+        }
+    }
+
+    // Whether the device may keep translations of its own: it is attached with ATS.
+    pub(crate) fn asks_for_translations(self) -> bool
+        ensures { result ≡ has_ats self }
+    {
+        match self {
+            Attachment::Attached(stage) => stage.ats,
+            _ => false,
         }
     }
 

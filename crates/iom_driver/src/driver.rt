@@ -24,5 +24,9 @@ pub struct Driver {
     pub(crate) given: u32,
     /// The last ticket that was confirmed.
     pub(crate) confirmed: u32,
-    ghost sound: { IsSound ledger marks devices.items frames levels started given confirmed } by { sound_prop ledger marks devices.items frames levels started given confirmed },
+    /// How often it restarted. Each restart took a fence's number, as each ticket did.
+    pub(crate) restarts: u32,
+    /// The last ticket that was given when it restarted last: the ones up to it wait for the fence of that restart.
+    pub(crate) restarted: u32,
+    ghost sound: { IsSound ledger marks devices.items frames levels started given confirmed restarts restarted } by { sound_prop ledger marks devices.items frames levels started given confirmed restarts restarted },
 }

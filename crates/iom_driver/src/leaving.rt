@@ -17,11 +17,11 @@ use iom_registers::Mmio;
 
 impl Driver {
     /// The device leaves under the next ticket: its context is cleared, and three commands are queued, an
-    /// invalidation of its context, one of its address space, and the ticket's fence. Its frames and its
-    /// number are its own until a poll confirms the ticket. `NotStarted`, `NoSuchDevice`, `NotAttached` (a
-    /// leaving device too), `StillGranted` where it holds or lingers on something, `TooManyPending` where 256
-    /// tickets wait, `QueueFull` where the ring has fewer than three free places, `NumbersUsedUp` after the
-    /// last ticket: the first that applies, and then nothing changes. Takes no memory.
+    /// invalidation of its context, one of its address space, and the ticket's fence. Its frames and its number
+    /// are its own until a poll confirms the ticket. `NotStarted`, `NoSuchDevice`, `NotAttached` (a leaving
+    /// device too), `Quarantined`, `StillGranted` where it holds or lingers on something, `TooManyPending`
+    /// where 256 tickets wait, `QueueFull` where the ring has fewer than three free places, `NumbersUsedUp`
+    /// after the last fence's number: the first that applies, and then nothing changes. Takes no memory.
     pub fn detach<M: Mmio>(
         &mut self,
         memory: &mut Memory,
@@ -36,12 +36,13 @@ impl Driver {
             Ok(stage) => stage,
             Err(why) => return Err(why),
         };
+        let number = self.last_fence() + 1;
         self.given += 1;
         let ticket = self.given;
         set_attachment(&mut self.devices, id, Attachment::Leaving { ticket, stage });
         let directory = directory_frame(self.frames);
         clear_context(memory, self.levels, directory, id);
-        append_detach(memory, io, self.frames, id, stage, ticket);
+        append_detach(memory, io, self.frames, id, stage, number);
         Ok(Ticket(ticket))
     }
 }

@@ -13,13 +13,14 @@
 //!
 //! The layers above may rely on this. The whole effect of each call is one relation, over the
 //! driver, memory and whatever has registers, by the answer (`specs/Calls.antt`, and `Attaching`,
-//! `Leaving`, `Polling` and `Reports` beside it); a refusal is the first that applies, in the order
-//! of `specs/Reasons.antt`, and changes nothing. What ties a driver to memory and registers between
-//! its calls is `IsReady` (`specs/Ready.antt`): each call asks it and gives it back, and [`laws`]
-//! says what others may change meanwhile. The directory has a context for each attached device and
-//! for no other. A poll confirms the tickets that wait and aren't above the completion word, from
-//! the oldest on (`ConfirmsDone` in `specs/Polling.antt`). A device that was detached keeps its
-//! frames and its number until a poll confirms its ticket.
+//! `Leaving`, `Quarantines`, `Revivals`, `Restarts`, `Polling` and `Reports` beside it); a refusal
+//! is the first that applies, in the order of `specs/Reasons.antt`, and changes nothing. What ties
+//! a driver to memory and registers between its calls is `IsReady` (`specs/Ready.antt`): each call
+//! asks it and gives it back, and [`laws`] says what others may change meanwhile. The directory has
+//! a context for each attached device and for no other. A poll confirms the tickets that wait and
+//! whose fence isn't above the completion word, from the oldest on (`ConfirmsDone` in
+//! `specs/Polling.antt`). A device that was detached keeps its frames and its number until a poll
+//! confirms its ticket.
 //!
 //! [`Mode`]: iom_base::Mode
 #![tactic(auto)]
@@ -32,6 +33,7 @@ mod attaching;
 mod choosing;
 mod device;
 mod driver;
+mod fences;
 mod granting;
 pub mod laws;
 mod layout;
@@ -39,8 +41,10 @@ mod leaving;
 mod lookups;
 mod plugging;
 mod polling;
+mod quarantining;
 mod releasing;
 mod reporting;
+mod restarting;
 mod starting;
 
 pub use answers::{Polled, Ticket};

@@ -44,6 +44,8 @@ fn opening(alloc: Global, frames: u32, levels: u8) -> Result<Driver, AllocError>
         started: false,
         given: 0,
         confirmed: 0,
+        restarts: 0,
+        restarted: 0,
     })
 }
 

@@ -1,5 +1,5 @@
 // What the driver learns of its fences.
-ghost use Rattle.std.specs.Prelude.{◌≡◌, ◌+◌, ◌-◌, ◌≤◌, ◌<◌, ◌*◌, min, Some, length, map};
+ghost use Rattle.std.specs.Prelude.{◌≡◌, ◌+◌, ◌-◌, ◌≤◌, ◌<◌, ◌*◌, Some, length, map};
 ghost use Rattle.iom_base.specs.Sizes.{page_size};
 ghost use Rattle.iom_ledger.specs.Confirmations.{confirmed_from, ConfirmsFrom};
 ghost use Rattle.iom_ledger.specs.History.{History};
@@ -46,21 +46,6 @@ fn confirm_after(ledger: &mut Ledger, confirmed: u32, done: u32)
     }
 }
 
-/// The last ticket that is done by the completion word, of those from the last that was confirmed to the
-/// last that was given.
-fn last_done(word: u32, confirmed: u32, given: u32) -> u32
-    requires { confirmed ≤ given }
-    ensures { result ≡ confirmed + (min word given - confirmed) }
-{
-    if word <= confirmed {
-        confirmed
-    } else if word <= given {
-        word
-    } else {
-        given
-    }
-}
-
 /// Each device that leaves under a ticket up to this one is attached to nothing from now on; its frames have
 /// no owner any more, and are zero.
 fn let_go(devices: &mut Vec<Device>, marks: &mut TableFrames, memory: &mut Memory, done: u32)
@@ -80,8 +65,8 @@ fn let_go(devices: &mut Vec<Device>, marks: &mut TableFrames, memory: &mut Memor
 }
 
 impl Driver {
-    /// Reads the completion word, confirms each ticket that isn't above it, from the oldest on, and says
-    /// whether the IOMMU gave a command up. A device that leaves under one of them is attached to nothing from
+    /// Reads the completion word, confirms each ticket whose fence isn't above it, from the oldest on, and says
+    /// whether the IOMMU gave a fence up. A device that leaves under one of them is attached to nothing from
     /// then on, and its frames and its number are given back: devices are looked at only where something is
     /// confirmed. `NotStarted` is its one refusal, and then nothing changes. Takes no memory.
     pub fn poll<M: Mmio>(&mut self, memory: &mut Memory, io: &M) -> Result<Polled, Refusal>
@@ -94,7 +79,7 @@ impl Driver {
         }
         let timed_out = has_timed_out(io);
         let word = first_word(memory, completion_frame(self.frames));
-        let done = last_done(word, self.confirmed, self.given);
+        let done = self.last_done(word);
         if done == self.confirmed {
             return Ok(Polled {
                 first: 0,

@@ -15,10 +15,10 @@ use iom_registers::Mmio;
 impl Driver {
     /// What the device holds at the page is released under the next ticket: the page's leaf is cleared, and
     /// commands are queued, an invalidation of the page, where the device has ATS one that asks it to drop its
-    /// own copies, and the ticket's fence. `NotStarted`, `NoSuchDevice`, `NotAttached`, `NotGranted`,
-    /// `TooManyPending` where 256 tickets wait, `QueueFull` where the ring has fewer free places than these
-    /// commands take, two or with ATS three, `NumbersUsedUp` after the last ticket: the first that applies.
-    /// Takes no memory.
+    /// own copies, and the ticket's fence. `NotStarted`, `NoSuchDevice`, `NotAttached`, `Quarantined`,
+    /// `NotGranted`, `TooManyPending` where 256 tickets wait, `QueueFull` where the ring has fewer free places
+    /// than these commands take, two or with ATS three, `NumbersUsedUp` after the last fence's number: the
+    /// first that applies. Takes no memory.
     pub fn release<M: Mmio>(
         &mut self,
         memory: &mut Memory,
@@ -34,10 +34,11 @@ impl Driver {
             Ok(stage) => stage,
             Err(why) => return Err(why),
         };
+        let number = self.last_fence() + 1;
         self.given += 1;
         self.ledger.release(id, page, self.given);
         unmap(memory, stage.root, page);
-        append_release(memory, io, self.frames, id, stage, page, self.given);
+        append_release(memory, io, self.frames, id, stage, page, number);
         Ok(Ticket(self.given))
     }
 }

@@ -122,6 +122,22 @@ impl Bench {
         self.driver.detach(&mut self.memory, &mut self.io, id)
     }
 
+    pub(crate) fn quarantine(&mut self, id: DeviceId) -> Result<Ticket, Refusal> {
+        self.driver.quarantine(&mut self.memory, &mut self.io, id)
+    }
+
+    pub(crate) fn may_revive(&self, id: DeviceId) -> Result<(), Refusal> {
+        self.driver.may_revive(id)
+    }
+
+    pub(crate) fn revive(&mut self, id: DeviceId) -> Result<(), Refusal> {
+        self.driver.revive(&mut self.memory, id)
+    }
+
+    pub(crate) fn restart(&mut self) -> Result<(), Refusal> {
+        self.driver.restart(&mut self.memory, &mut self.io)
+    }
+
     pub(crate) fn poll(&mut self) -> Result<Polled, Refusal> {
         self.driver.poll(&mut self.memory, &self.io)
     }

@@ -1,6 +1,7 @@
 //! Tests of the driver: the bytes of its commands, tables and contexts in each mode against the standard's
-//! figures, with ATS and without, the order of its register writes, its refusals, what a poll confirms and gives back, and what it
-//! tells of faults.
+//! figures, with ATS and without, the order of its register writes, its refusals, for which fence a ticket
+//! waits, what a poll confirms and gives back, what it tells of faults, how a device is cut off and revived,
+//! and how the queue is restarted.
 //!
 //! The driver stands on memory and on registers with no IOMMU around them: a test takes its place, and
 //! writes what a fence would. The crate has tests alone, and nothing stands on it, since a crate with tests
@@ -18,10 +19,14 @@ mod detaches;
 #[cfg(test)]
 mod expect;
 #[cfg(test)]
+mod fences;
+#[cfg(test)]
 mod frames;
 #[cfg(test)]
 mod polls;
 mod recording;
+#[cfg(test)]
+mod recovery;
 #[cfg(test)]
 mod refusals;
 #[cfg(test)]

@@ -91,3 +91,17 @@ fn of_a_release(rt: HostRuntime) -> Result<(), Fail> {
     expect_eq(&rt, &bench.release(1, 3), &Err(Refusal::NotGranted));
     Ok(())
 }
+
+// A device that is cut off keeps its place, and is told apart from one that was detached.
+#[test]
+fn of_a_quarantined_device(rt: HostRuntime) -> Result<(), Fail> {
+    let mut bench = Bench::with_device(rt.alloc(), 1)?;
+    expect_eq(&rt, &bench.grant(1, 3, 5), &Ok(()));
+    expect_eq(&rt, &bench.quarantine(1), &Ok(Ticket(1)));
+    expect_eq(&rt, &bench.grant(1, 4, 64), &Err(Refusal::Quarantined));
+    expect_eq(&rt, &bench.release(1, 3), &Err(Refusal::Quarantined));
+    expect_eq(&rt, &bench.detach(1), &Err(Refusal::Quarantined));
+    expect_eq(&rt, &bench.quarantine(1), &Err(Refusal::Quarantined));
+    expect_eq(&rt, &bench.attach(1), &Err(Refusal::AlreadyAttached));
+    Ok(())
+}

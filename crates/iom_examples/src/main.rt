@@ -9,7 +9,7 @@ use std::alloc::Global;
 use std::fs;
 
 /// The examples, in the order in which they are best read.
-const NAMES: [&str; 15] = [
+const NAMES: [&str; 18] = [
     "first-path",
     "stale-read",
     "draining",
@@ -25,6 +25,9 @@ const NAMES: [&str; 15] = [
     "fault-storm",
     "late-answer",
     "lost-invalidation",
+    "no-answer",
+    "quarantine",
+    "revival",
 ];
 
 /// The number of the first line that differs, counted from 1; None where the texts are the same.

@@ -1,4 +1,4 @@
--- What a fetch does to the list of the commands that wait and to the frames of memory, and that it can answer in one way alone
+-- What a fetch does to the list of the commands that wait, to the frames of memory and to the fault queue, and what a timeout does to that list
 use Rattle.std.proofs.Common.{arith, ◌≡◌, ◌≢◌, ◌+◌, ◌/◌, ◌%◌, ◌<◌, ◌≤◌, ◌∙◌, ℕ, Bool, true, false, List, [], ◌∷◌, length, slice_get, Option, Some, None, refl, sym, ap, subst, if◌then◌else◌}
 use Rattle.std.specs.Prelude.{slice_set}
 use Rattle.std.specs.Option.{option_map_or}
@@ -8,7 +8,7 @@ use Rattle.iom_base.specs.Bytes.{with_bytes}
 use Rattle.iom_phys_mem.specs.Words.{with_word}
 use Rattle.iom_phys_mem.proofs.Stores.{frame_elsewhere}
 use Rattle.iom_registers.specs.declared.registers.Registers.{Registers}
-use Rattle.iom_registers.specs.Queues.{command_entries, command_head, command_tail, is_processing_commands, with_command_done, with_fence_w_ip, with_cqmf, with_cmd_ill}
+use Rattle.iom_registers.specs.Queues.{command_entries, command_head, command_tail, is_processing_commands, with_command_done, with_fence_w_ip, with_cqmf, with_cmd_to, with_cmd_ill}
 use Rattle.iom_command_queue.specs.declared.command.Command.{Command}
 use Rattle.iom_command_queue.specs.declared.command.Command.TheVariants.{IotinvalVma, IotinvalGvma, IofenceC, IodirInvalDdt, AtsInval}
 use Rattle.iom_command_queue.specs.declared.command.FenceStore.{FenceStore}
@@ -22,7 +22,8 @@ use Rattle.iom_iommu.specs.declared.fetched.Fetched.{Fetched}
 use Rattle.iom_iommu.specs.declared.fetched.Fetched.TheVariants.{Did, Waiting, Empty, Stopped}
 use Rattle.iom_tlb.specs.declared.trans_cache.TransCache.{Ghosts as Cache}
 use Rattle.iom_iommu.specs.Parts.{registers_of, stock_of, slots_of}
-use Rattle.iom_iommu.specs.Fetches.{counted_in, slots_by, after_none, stock_at, IsLeft, store_of, asks_for_interrupt, with_store, IsStoredIn, IsOffRing, head_entry, WaitsAt, StopsAtEntry, StopsFetching, FetchesCommand, LeavesFaultQueue}
+use Rattle.iom_iommu.specs.Timeouts.{TimesOut}
+use Rattle.iom_iommu.specs.Fetches.{counted_in, slots_by, is_waiting_fence, after_none, after_fetched, stock_at, waits_at, IsLeft, store_of, asks_for_interrupt, with_store, IsStoredIn, IsOffRing, head_entry, WaitsAt, StopsAtEntry, StopsFetching, FetchesCommand, LeavesFaultQueue}
 
 -- something stands at the head, so head and tail aren't the same
 pub apart : (m : List (List ℕ)) (r : Registers) (entry : QueueEntry) → head_entry m r ≡ Some entry → command_head r ≢ command_tail r
@@ -108,6 +109,10 @@ leaves_list m n i j Empty f not_done = ap (λ x. commands_in x (registers_of j))
 leaves_list m n i j Stopped f not_done =
     ap (λ x. commands_in x (registers_of j)) f.1 ∙ stop_list (is_processing_commands (registers_of i)) m i j f.0
 
+-- A TIMEOUT leaves the list
+pub timeout_list : {C : Type 0} {c : Cache C} (m : List (List ℕ)) (i j : Iommu C c) → TimesOut i true j → commands_in m (registers_of j) ≡ commands_in m (registers_of i)
+timeout_list m i j t = ap (λ x. commands_in m (registers_of x)) t.1 ∙ same_ring m (with_cmd_to (registers_of i)) (registers_of i) refl refl refl refl
+
 none_first : (xs : List QueueEntry) → slice_get xs 0 ≡ None → xs ≡ []
 none_first [] e = refl
 none_first (x ∷ xs) e = cc
@@ -176,6 +181,12 @@ module _ {C : Type 0} {c : Cache C} (i : Iommu C c) where
   counts_for (Some (stands.Illegal reason)) = refl
   counts_for (Some (stands.Command command)) = refl
 
+  waits_so_for : (entry : Option QueueEntry) → waits_at entry begun ≡ waits_at entry i
+  waits_so_for None = refl
+  waits_so_for (Some stands.Outside) = refl
+  waits_so_for (Some (stands.Illegal reason)) = refl
+  waits_so_for (Some (stands.Command command)) = refl
+
   stops_at_for : (m : List (List ℕ)) (entry : Option QueueEntry) (j : Iommu C c) → StopsAtEntry m entry begun j → StopsAtEntry m entry i j
   stops_at_for m None j s = s
   stops_at_for m (Some stands.Outside) j s = s
@@ -192,6 +203,7 @@ module _ {C : Type 0} {c : Cache C} (i : Iommu C c) where
     contexts = l.contexts;
     translations = l.translations;
     stock = l.stock;
+    waits = l.waits;
     slots = l.slots;
     opened = l.opened;
     flights = l.flights;
@@ -206,7 +218,8 @@ module _ {C : Type 0} {c : Cache C} (i : Iommu C c) where
       f.0,
       waits_for (head_entry m (registers_of i)) f.1,
       f.2,
-      f.3 ∙ ap (λ stock. after_none i (registers_of i) stock) (counts_for (head_entry m (registers_of i))),
+      f.3 ∙ ap (λ stock. after_fetched i (registers_of i) stock (waits_at (head_entry m (registers_of i)) begun)) (counts_for (head_entry m (registers_of i)))
+          ∙ ap (λ waits. after_fetched i (registers_of i) (stock_at (head_entry m (registers_of i)) i) waits) (waits_so_for (head_entry m (registers_of i))),
     )
     by Empty f = f
     by Stopped f = (stops_for m (is_processing_commands (registers_of i)) j f.0, f.1)
@@ -223,11 +236,15 @@ module _ {C : Type 0} {c : Cache C} (m : List (List ℕ)) (i j : Iommu C c) wher
   same_last : (r : Registers) (stock : Option ℕ) → j ≡ after_none i r stock → (slots_of j).last ≤ (slots_of i).last + 1
   same_last r stock left = subst (λ x. (slots_of x).last ≤ (slots_of i).last + 1) (sym left) (omega arith)
 
+  fetched_last : (r : Registers) (stock : Option ℕ) (waits : Bool) → j ≡ after_fetched i r stock waits → (slots_of j).last ≤ (slots_of i).last + 1
+  fetched_last r stock waits left = subst (λ x. (slots_of x).last ≤ (slots_of i).last + 1) (sym left) (omega arith)
+
   stops_at_last : (entry : Option QueueEntry) → StopsAtEntry m entry i j → (slots_of j).last ≤ (slots_of i).last + 1
   stops_at_last None s = absurd s
   stops_at_last (Some stands.Outside) s = same_last (with_cqmf (registers_of i)) (stock_of i) s
   stops_at_last (Some (stands.Illegal reason)) s = same_last (with_cmd_ill (registers_of i)) (stock_of i) s
-  stops_at_last (Some (stands.Command command)) s = same_last (with_cqmf (registers_of i)) (Some (counted_in i)) s.2
+  stops_at_last (Some (stands.Command command)) s =
+      fetched_last (with_cqmf (registers_of i)) (Some (counted_in i)) (is_waiting_fence command (slots_of i)) s.2
 
   stops_last : (on : Bool) → StopsFetching on m i j → (slots_of j).last ≤ (slots_of i).last + 1
   stops_last true s = stops_at_last (head_entry m (registers_of i)) s
@@ -235,6 +252,7 @@ module _ {C : Type 0} {c : Cache C} (m : List (List ℕ)) (i j : Iommu C c) wher
 
   pub opens_one : (n : List (List ℕ)) (answer : Fetched) → FetchesCommand m i answer n j → (slots_of j).last ≤ (slots_of i).last + 1
   opens_one n (Did command) f = subst (λ x. x.last ≤ (slots_of i).last + 1) (sym f.5.slots) (last_by command (slots_of i))
-  opens_one n Waiting f = same_last (registers_of i) (stock_at (head_entry m (registers_of i)) i) f.3
+  opens_one n Waiting f =
+      fetched_last (registers_of i) (stock_at (head_entry m (registers_of i)) i) (waits_at (head_entry m (registers_of i)) i) f.3
   opens_one n Empty f = same_last (registers_of i) (stock_of i) f.3
   opens_one n Stopped f = stops_last (is_processing_commands (registers_of i)) f.0

@@ -1,5 +1,6 @@
 pub mod CachedLemmas
 pub mod FetchLemmas
+pub mod OneFetch
 pub mod ServiceLemmas
 pub mod StageLemmas
 pub mod PartLemmas

@@ -1,11 +1,12 @@
 -- An IOMMU whose registers changed, what the fence at its head counted, and which requests are open: the facts that it carries have one proof each, so its parts say which it is
-use Rattle.std.proofs.Common.{◌≡◌, ℕ, Option, None, Some, Bool, true, false, ◌||◌, List, [], Result, Ok, if◌then◌else◌, refl, sym, ap, subst, ◌∙◌}
+use Rattle.std.proofs.Common.{◌≡◌, ℕ, Option, None, Some, Bool, true, false, ◌==◌, ◌&&◌, ◌||◌, not, length, List, [], ◌∷◌, Result, Ok, if◌then◌else◌, refl, sym, ap, subst, ◌∙◌}
+use Rattle.std.proofs.Math.Dec.{eqb-suc-zero}
 use Rattle.iom_registers.specs.declared.register.Register.{Register}
 use Rattle.iom_registers.specs.declared.register.RegFault.{RegFault}
 use Rattle.iom_registers.specs.declared.registers.Registers.{Registers}
 use Rattle.iom_registers.specs.Places.{changed_by}
 use Rattle.iom_registers.specs.Table.{written}
-use Rattle.iom_registers.specs.Queues.{is_command_queue_on, is_processing_commands}
+use Rattle.iom_registers.specs.Queues.{is_command_queue_on, is_processing_commands, with_cmd_to}
 use Rattle.iom_command_queue.specs.declared.command.Command.{Command}
 use Rattle.iom_command_queue.specs.declared.slot.Slot.{Slot}
 use Rattle.iom_command_queue.specs.OpenSlots.{OpenSlots}
@@ -16,18 +17,25 @@ use Rattle.iom_inflight.specs.IsFact.{rows_in_prop}
 use Rattle.iom_tlb.specs.declared.trans_cache.TransCache.{Ghosts as Cache}
 use Rattle.iom_iommu.specs.declared.iommu.Iommu.{Iommu}
 use Rattle.iom_iommu.specs.Cached.{AreTranslationsIn, translations_in_prop}
-use Rattle.iom_iommu.specs.Parts.{registers_of, flights_of, slots_of, stock_of, stock_after, slots_after, after_write}
-use Rattle.iom_iommu.specs.Fetches.{counted_in, waits_for_accesses, waits_for_slots, is_held, stock_at, after_none, head_entry, WaitsAt, StopsAtEntry, StopsFetching}
+use Rattle.iom_iommu.specs.Parts.{registers_of, flights_of, slots_of, stock_of, waits_of, stock_after, waits_after, slots_after, after_write}
+use Rattle.iom_iommu.specs.Timeouts.{can_time_out, timed_out}
+use Rattle.iom_iommu.specs.Fetches.{counted_in, waits_for_accesses, waits_for_slots, is_waiting_fence, is_held, stock_at, waits_at, after_none, after_fetched, head_entry, WaitsAt, StopsAtEntry, StopsFetching}
+
+some_open : (waits : Bool) (open_slots : List Slot) → waits ≡ true → ¬ (open_slots ≡ []) → (waits && not (length open_slots == 0)) ≡ true
+some_open true [] waits some = absurd (some refl)
+some_open true (slot ∷ slots) waits some = ap not (eqb-suc-zero (length slots))
+some_open false open_slots waits some = absurd (cc)
 
 module _ {C : Type 0} {c : Cache C} (i : Iommu C c) where
   -- the IOMMU with these parts, whatever proofs of its facts it carries
-  abbrev made_of : Registers → Option ℕ → OpenSlots → Option Slot → AreRowsIn i.frames i.in_flight.rows → AreTranslationsIn i.frames (c.content i.translations) → Iommu C c
-  made_of r stock slots opened inside cached = record {
+  abbrev made_of : Registers → Option ℕ → Bool → OpenSlots → Option Slot → AreRowsIn i.frames i.in_flight.rows → AreTranslationsIn i.frames (c.content i.translations) → Iommu C c
+  made_of r stock waits slots opened inside cached = record {
     registers = r;
     contexts = i.contexts;
     translations = i.translations;
     in_flight = i.in_flight;
     stock = stock;
+    fence_waits = waits;
     slots = slots;
     opened = opened;
     frames = i.frames;
@@ -35,39 +43,61 @@ module _ {C : Type 0} {c : Cache C} (i : Iommu C c) where
     cached = cached;
   }
 
-  same_parts : (r other : Registers) (stock counted : Option ℕ) (slots requests : OpenSlots) (opened latest : Option Slot) (inside : AreRowsIn i.frames i.in_flight.rows)
-      (cached : AreTranslationsIn i.frames (c.content i.translations)) → r ≡ other → stock ≡ counted → slots ≡ requests → opened ≡ latest
-      → made_of r stock slots opened inside cached ≡ made_of other counted requests latest i.inside i.cached
-  same_parts r other stock counted slots requests opened latest inside cached one two three four =
-      ap (λ x. made_of x stock slots opened inside cached) one
-      ∙ ap (λ x. made_of other x slots opened inside cached) two
-      ∙ ap (λ x. made_of other counted x opened inside cached) three
-      ∙ ap (λ x. made_of other counted requests x inside cached) four
-      ∙ ap (λ x. made_of other counted requests latest x cached) (rows_in_prop i.frames i.in_flight.rows inside i.inside)
-      ∙ ap (λ x. made_of other counted requests latest i.inside x) (translations_in_prop i.frames (c.content i.translations) cached i.cached)
+  same_parts : (r other : Registers) (stock counted : Option ℕ) (waits waiting : Bool) (slots requests : OpenSlots) (opened latest : Option Slot)
+      (inside : AreRowsIn i.frames i.in_flight.rows) (cached : AreTranslationsIn i.frames (c.content i.translations))
+      → r ≡ other → stock ≡ counted → waits ≡ waiting → slots ≡ requests → opened ≡ latest
+      → made_of r stock waits slots opened inside cached ≡ made_of other counted waiting requests latest i.inside i.cached
+  same_parts r other stock counted waits waiting slots requests opened latest inside cached one two three four five =
+      ap (λ x. made_of x stock waits slots opened inside cached) one
+      ∙ ap (λ x. made_of other x waits slots opened inside cached) two
+      ∙ ap (λ x. made_of other counted x slots opened inside cached) three
+      ∙ ap (λ x. made_of other counted waiting x opened inside cached) four
+      ∙ ap (λ x. made_of other counted waiting requests x inside cached) five
+      ∙ ap (λ x. made_of other counted waiting requests latest x cached) (rows_in_prop i.frames i.in_flight.rows inside i.inside)
+      ∙ ap (λ x. made_of other counted waiting requests latest i.inside x) (translations_in_prop i.frames (c.content i.translations) cached i.cached)
 
   -- A FETCH that did no command leaves this
   pub same : (r other : Registers) (stock counted : Option ℕ) (opened : Option Slot) (inside : AreRowsIn i.frames i.in_flight.rows)
       (cached : AreTranslationsIn i.frames (c.content i.translations)) → r ≡ other → stock ≡ counted → opened ≡ None
-      → made_of r stock i.slots opened inside cached ≡ after_none i other counted
-  same r other stock counted opened inside cached one two three = same_parts r other stock counted i.slots i.slots opened None inside cached one two refl three
+      → made_of r stock i.fence_waits i.slots opened inside cached ≡ after_none i other counted
+  same r other stock counted opened inside cached one two three =
+      same_parts r other stock counted i.fence_waits i.fence_waits i.slots i.slots opened None inside cached one two refl refl three
+
+  -- or this, where it found a command
+  pub same_fetched : (r other : Registers) (stock counted : Option ℕ) (waits waiting : Bool) (opened : Option Slot) (inside : AreRowsIn i.frames i.in_flight.rows)
+      (cached : AreTranslationsIn i.frames (c.content i.translations)) → r ≡ other → stock ≡ counted → waits ≡ waiting → opened ≡ None
+      → made_of r stock waits i.slots opened inside cached ≡ after_fetched i other counted waiting
+  same_fetched r other stock counted waits waiting opened inside cached one two three four =
+      same_parts r other stock counted waits waiting i.slots i.slots opened None inside cached one two three refl four
 
   -- a request is completed
   pub completed : (slots requests : OpenSlots) (inside : AreRowsIn i.frames i.in_flight.rows) (cached : AreTranslationsIn i.frames (c.content i.translations))
-      → slots ≡ requests → made_of i.registers i.stock slots i.opened inside cached ≡ record i { slots = requests }
-  completed slots requests inside cached left = same_parts i.registers i.registers i.stock i.stock slots requests i.opened i.opened inside cached refl refl left refl
+      → slots ≡ requests → made_of i.registers i.stock i.fence_waits slots i.opened inside cached ≡ record i { slots = requests }
+  completed slots requests inside cached left =
+      same_parts i.registers i.registers i.stock i.stock i.fence_waits i.fence_waits slots requests i.opened i.opened inside cached refl refl refl left refl
 
-  abbrev Wrote : Register → ℕ → Registers → Option ℕ → OpenSlots → Type 0
-  Wrote register value r stock slots = (r ≡ written i.registers register value) × (stock ≡ stock_after r i.stock) × (slots ≡ slots_after r i.slots)
+  -- A FENCE is given up, where it waits and a request is open
+  pub can_give_up : waits_of i ≡ true → ¬ ((slots_of i).open_slots ≡ []) → can_time_out i ≡ true
+  can_give_up waits some = some_open (waits_of i) (slots_of i).open_slots waits some
 
-  wrote : (register : Register) (value : ℕ) (answer : Result Register RegFault) (r : Registers) (stock : Option ℕ) (slots : OpenSlots) (inside : AreRowsIn i.frames i.in_flight.rows)
-      (cached : AreTranslationsIn i.frames (c.content i.translations)) → answer ≡ Ok register → Wrote register value r stock slots
-      → made_of r stock slots i.opened inside cached ≡ changed_by (after_write i) i value answer
-  wrote register value answer r stock slots inside cached ok is =
+  pub gave_up : (r : Registers) (slots : OpenSlots) (inside : AreRowsIn i.frames i.in_flight.rows) (cached : AreTranslationsIn i.frames (c.content i.translations))
+      → r ≡ with_cmd_to i.registers → slots ≡ record (slots_of i) { open_slots = [] } → made_of r None false slots i.opened inside cached ≡ timed_out i
+  gave_up r slots inside cached one two =
+      same_parts r (with_cmd_to i.registers) None None false false slots (record (slots_of i) { open_slots = [] }) i.opened i.opened inside cached one refl refl two refl
+
+  abbrev Wrote : Register → ℕ → Registers → Option ℕ → Bool → OpenSlots → Type 0
+  Wrote register value r stock waits slots =
+      (r ≡ written i.registers register value) × (stock ≡ stock_after r i.stock) × (waits ≡ waits_after r i.fence_waits) × (slots ≡ slots_after r i.slots)
+
+  wrote : (register : Register) (value : ℕ) (answer : Result Register RegFault) (r : Registers) (stock : Option ℕ) (waits : Bool) (slots : OpenSlots)
+      (inside : AreRowsIn i.frames i.in_flight.rows) (cached : AreTranslationsIn i.frames (c.content i.translations))
+      → answer ≡ Ok register → Wrote register value r stock waits slots
+      → made_of r stock waits slots i.opened inside cached ≡ changed_by (after_write i) i value answer
+  wrote register value answer r stock waits slots inside cached ok is =
       let now = written i.registers register value in
-      subst (λ a. made_of r stock slots i.opened inside cached ≡ changed_by (after_write i) i value a) (sym ok)
-      (same_parts r now stock (stock_after now i.stock) slots (slots_after now i.slots) i.opened i.opened inside cached is.0 (is.1 ∙ ap (λ x. stock_after x i.stock) is.0)
-      (is.2 ∙ ap (λ x. slots_after x i.slots) is.0) refl)
+      subst (λ a. made_of r stock waits slots i.opened inside cached ≡ changed_by (after_write i) i value a) (sym ok)
+      (same_parts r now stock (stock_after now i.stock) waits (waits_after now i.fence_waits) slots (slots_after now i.slots) i.opened i.opened inside cached is.0
+      (is.1 ∙ ap (λ x. stock_after x i.stock) is.0) (is.2 ∙ ap (λ x. waits_after x i.fence_waits) is.0) (is.3 ∙ ap (λ x. slots_after x i.slots) is.0) refl)
 
   off : {A : Type 0} (on : Bool) (one other : A) → on ≡ false → other ≡ (if on then one else other)
   off true one other e = absurd (cc)
@@ -80,17 +110,17 @@ module _ {C : Type 0} {c : Cache C} (i : Iommu C c) where
   -- A WRITE of software, by whether the queue is on after it
   pub wrote_off : (register : Register) (value : ℕ) (answer : Result Register RegFault) (r : Registers) (slots : OpenSlots) (inside : AreRowsIn i.frames i.in_flight.rows)
       (cached : AreTranslationsIn i.frames (c.content i.translations)) → answer ≡ Ok register → r ≡ written i.registers register value → is_command_queue_on r ≡ false
-      → slots ≡ record (slots_of i) { open_slots = [] } → made_of r None slots i.opened inside cached ≡ changed_by (after_write i) i value answer
+      → slots ≡ record (slots_of i) { open_slots = [] } → made_of r None false slots i.opened inside cached ≡ changed_by (after_write i) i value answer
   wrote_off register value answer r slots inside cached ok is is_off closed =
-      wrote register value answer r None slots inside cached ok
-      (is, off (is_command_queue_on r) i.stock None is_off, closed ∙ off (is_command_queue_on r) i.slots (record (slots_of i) { open_slots = [] }) is_off)
+      wrote register value answer r None false slots inside cached ok
+      (is, off (is_command_queue_on r) i.stock None is_off, off (is_command_queue_on r) i.fence_waits false is_off, closed ∙ off (is_command_queue_on r) i.slots (record (slots_of i) { open_slots = [] }) is_off)
 
   pub wrote_on : (register : Register) (value : ℕ) (answer : Result Register RegFault) (r : Registers) (inside : AreRowsIn i.frames i.in_flight.rows)
       (cached : AreTranslationsIn i.frames (c.content i.translations)) → answer ≡ Ok register → r ≡ written i.registers register value → is_command_queue_on r ≡ true
-      → made_of r i.stock i.slots i.opened inside cached ≡ changed_by (after_write i) i value answer
+      → made_of r i.stock i.fence_waits i.slots i.opened inside cached ≡ changed_by (after_write i) i value answer
   wrote_on register value answer r inside cached ok is is_on =
-      wrote register value answer r i.stock i.slots inside cached ok
-      (is, on (is_command_queue_on r) i.stock None is_on, on (is_command_queue_on r) i.slots (record (slots_of i) { open_slots = [] }) is_on)
+      wrote register value answer r i.stock i.fence_waits i.slots inside cached ok
+      (is, on (is_command_queue_on r) i.stock None is_on, on (is_command_queue_on r) i.fence_waits false is_on, on (is_command_queue_on r) i.slots (record (slots_of i) { open_slots = [] }) is_on)
 
   -- A COMMAND at the head waits: for open requests, or for accesses
   pub held_by_slots : (command : Command) → waits_for_slots command (slots_of i) ≡ true → is_held command i ≡ true
@@ -110,6 +140,11 @@ module _ {C : Type 0} {c : Cache C} (i : Iommu C c) where
       → waits_for_slots command (slots_of i) ≡ for_slots → (if for_slots then stock_of i else Some (counted_in i)) ≡ stock_at (head_entry m (registers_of i)) i
   stock_then m command for_slots found so =
       ap (λ b. if b then stock_of i else Some (counted_in i)) (sym so) ∙ ap (λ entry. stock_at entry i) (sym found)
+
+  -- and whether it is a fence that waits for open requests
+  pub waits_then : (m : List (List ℕ)) (command : Command) (waits : Bool) → head_entry m (registers_of i) ≡ Some (stands.Command command)
+      → waits ≡ is_waiting_fence command (slots_of i) → waits ≡ waits_at (head_entry m (registers_of i)) i
+  waits_then m command waits found so = so ∙ ap (λ entry. waits_at entry i) (sym found)
 
   pub stays_stopped : (m : List (List ℕ)) (new : Iommu C c) → is_processing_commands (registers_of i) ≡ false → new ≡ after_none i (registers_of i) (stock_of i)
       → StopsFetching (is_processing_commands (registers_of i)) m i new

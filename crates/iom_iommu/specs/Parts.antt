@@ -1,5 +1,5 @@
 -- The parts of the IOMMU, and what a write of software to its registers leaves of it (IOMMU specification, chapter 5).
-use Rattle.std.specs.Prelude.{◌≡◌, ℕ, Bool, Option, None, [], if◌then◌else◌}
+use Rattle.std.specs.Prelude.{◌≡◌, ℕ, Bool, false, Option, None, [], if◌then◌else◌}
 use Rattle.iom_registers.specs.declared.register.Register.{Register}
 use Rattle.iom_registers.specs.declared.registers.Registers.{Registers}
 use Rattle.iom_registers.specs.declared.mmio.Mmio.{Ghosts}
@@ -35,6 +35,10 @@ flights_of iommu = iommu.in_flight
 abbrev pub stock_of : {C : Type 0} {c : Cache C} → Iommu C c → Option ℕ
 stock_of iommu = iommu.stock
 
+-- whether the fence at the head was fetched, and told to wait until no slot is open
+abbrev pub waits_of : {C : Type 0} {c : Cache C} → Iommu C c → Bool
+waits_of iommu = iommu.fence_waits
+
 -- the invalidation requests that devices have still to complete, and the last number that one was given
 abbrev pub slots_of : {C : Type 0} {c : Cache C} → Iommu C c → OpenSlots
 slots_of iommu = iommu.slots
@@ -58,6 +62,7 @@ pub record IsAtPowerOn {C : Type 0} {c : Cache C} (count : ℕ) (iommu : Iommu C
   pub translations : HasNothing (translations_of iommu)
   pub flights : flights_of iommu ≡ no_flights
   pub stock : stock_of iommu ≡ None
+  pub waits : waits_of iommu ≡ false
   pub slots : slots_of iommu ≡ no_slots
   pub opened : opened_of iommu ≡ None
   pub frames : frames_of iommu ≡ count
@@ -69,6 +74,7 @@ pub record AddsDevice {C : Type 0} {c : Cache C} (old : Iommu C c) (id : ℕ) (a
   pub contexts : new.contexts ≡ old.contexts
   pub translations : new.translations ≡ old.translations
   pub stock : stock_of new ≡ stock_of old
+  pub waits : waits_of new ≡ waits_of old
   pub slots : slots_of new ≡ slots_of old
   pub opened : opened_of new ≡ opened_of old
   pub frames : frames_of new ≡ frames_of old
@@ -76,6 +82,10 @@ pub record AddsDevice {C : Type 0} {c : Cache C} (old : Iommu C c) (id : ℕ) (a
 -- what the fence at the head counted is given up where the command queue is off
 abbrev pub stock_after : Registers → Option ℕ → Option ℕ
 stock_after registers stock = if is_command_queue_on registers then stock else None
+
+-- and it waits for no request
+abbrev pub waits_after : Registers → Bool → Bool
+waits_after registers waits = if is_command_queue_on registers then waits else false
 
 -- and no request is open any more; the numbers go on
 abbrev pub slots_after : Registers → OpenSlots → OpenSlots
@@ -85,7 +95,12 @@ slots_after registers slots = if is_command_queue_on registers then slots else r
 abbrev pub after_write : {C : Type 0} {c : Cache C} → Iommu C c → Register → ℕ → Iommu C c
 after_write iommu register value =
     let registers = written iommu.registers register value in
-    record iommu { registers = registers; stock = stock_after registers iommu.stock; slots = slots_after registers iommu.slots }
+    record iommu {
+      registers = registers;
+      stock = stock_after registers iommu.stock;
+      fence_waits = waits_after registers iommu.fence_waits;
+      slots = slots_after registers iommu.slots;
+    }
 
 -- the IOMMU as what has registers: what `impl Mmio for Iommu` says
 abbrev pub mmio : {C : Type 0} {c : Cache C} → Ghosts (Iommu C c)

@@ -19,7 +19,7 @@ use Rattle.iom_stage_walk.specs.declared.walked.WalkFault.{WalkFault}
 use Rattle.iom_tlb.specs.declared.trans_cache.TransCache.{Ghosts as Cache}
 use Rattle.iom_tlb.specs.declared.trans_cache.Translation.{Translation}
 use Rattle.iom_tlb.specs.Content.{Content as Translations}
-use Rattle.iom_iommu.specs.Parts.{registers_of, contexts_of, translations_of, flights_of, stock_of, slots_of, opened_of, frames_of}
+use Rattle.iom_iommu.specs.Parts.{registers_of, contexts_of, translations_of, flights_of, stock_of, waits_of, slots_of, opened_of, frames_of}
 use Rattle.iom_iommu.specs.Requests.{faulted_of, fault_of}
 use Rattle.iom_iommu.specs.Service.{ServesBy, KeepsContext, ats_context_for}
 
@@ -37,6 +37,7 @@ pub record TellsPage {C : Type 0} {c : Cache C} (memory : List (List ℕ)) (old 
   pub registers : registers_of new ≡ registers_of old
   pub flights : flights_of new ≡ flights_of old
   pub stock : stock_of new ≡ stock_of old
+  pub waits : waits_of new ≡ waits_of old
   pub slots : slots_of new ≡ slots_of old
   pub opened : opened_of new ≡ opened_of old
   pub frames : frames_of new ≡ frames_of old
@@ -71,6 +72,7 @@ pub record RefusesQuestion {C : Type 0} {c : Cache C} (memory : List (List ℕ))
       (record_of (faulted_of id AtsRequest (page * page_size)) (fault_of fault)) new_memory (registers_of new)
   pub flights : flights_of new ≡ flights_of old
   pub stock : stock_of new ≡ stock_of old
+  pub waits : waits_of new ≡ waits_of old
   pub slots : slots_of new ≡ slots_of old
   pub opened : opened_of new ≡ opened_of old
   pub frames : frames_of new ≡ frames_of old

@@ -22,7 +22,7 @@ use Rattle.iom_stage_walk.specs.declared.walked.WalkFault.{WalkFault}
 use Rattle.iom_tlb.specs.declared.trans_cache.TransCache.{Ghosts as Cache}
 use Rattle.iom_tlb.specs.declared.trans_cache.Translation.{Translation}
 use Rattle.iom_tlb.specs.Content.{Content as Translations}
-use Rattle.iom_iommu.specs.Parts.{registers_of, contexts_of, translations_of, flights_of, stock_of, slots_of, opened_of, frames_of}
+use Rattle.iom_iommu.specs.Parts.{registers_of, contexts_of, translations_of, flights_of, stock_of, waits_of, slots_of, opened_of, frames_of}
 use Rattle.iom_iommu.specs.Service.{Serves, KeepsContext}
 
 -- the access of so many bytes from an address on, with the bytes of a write
@@ -44,6 +44,7 @@ pub record Accepts {C : Type 0} {c : Cache C} (Served : Result Translation WalkF
   pub contexts : KeepsContext memory (registers_of old) (contexts_of old) id (contexts_of new)
   pub registers : registers_of new ≡ registers_of old
   pub stock : stock_of new ≡ stock_of old
+  pub waits : waits_of new ≡ waits_of old
   pub slots : slots_of new ≡ slots_of old
   pub opened : opened_of new ≡ opened_of old
   pub frames : frames_of new ≡ frames_of old
@@ -69,6 +70,7 @@ pub record Refuses {C : Type 0} {c : Cache C} (Served : Result Translation WalkF
       (registers_of new)
   pub flights : flights_of new ≡ flights_of old
   pub stock : stock_of new ≡ stock_of old
+  pub waits : waits_of new ≡ waits_of old
   pub slots : slots_of new ≡ slots_of old
   pub opened : opened_of new ≡ opened_of old
   pub frames : frames_of new ≡ frames_of old
@@ -111,6 +113,7 @@ pub record CommitsOldest {C : Type 0} {c : Cache C} (memory : List (List ℕ)) (
   pub translations : new.translations ≡ old.translations
   pub registers : registers_of new ≡ registers_of old
   pub stock : stock_of new ≡ stock_of old
+  pub waits : waits_of new ≡ waits_of old
   pub slots : slots_of new ≡ slots_of old
   pub opened : opened_of new ≡ opened_of old
   pub frames : frames_of new ≡ frames_of old

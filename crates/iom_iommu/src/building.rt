@@ -27,6 +27,7 @@ impl<C: TransCache + Drop> Iommu<C> {
             translations,
             in_flight: InFlight::new(alloc)?,
             stock: None,
+            fence_waits: false,
             slots: Slots::new(),
             opened: None,
             frames,
@@ -74,7 +75,7 @@ impl<C: TransCache> Iommu<C> {
 }
 
 /// What follows a write is what the table of the registers says; and where the command queue is off after it, no
-/// invalidation request is open, and what a fence at its head had counted is given up.
+/// invalidation request is open, no fence waits for one, and what a fence at its head had counted is given up.
 impl<C: TransCache> Mmio for Iommu<C> {
     ghost registers = { registers_of };
 
@@ -93,6 +94,7 @@ impl<C: TransCache> Mmio for Iommu<C> {
         self.registers.set(register, value);
         if !self.registers.is_command_queue_on() {
             self.stock = None;
+            self.fence_waits = false;
             self.slots.close_all();
         }
         Ok(())

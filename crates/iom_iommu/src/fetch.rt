@@ -3,7 +3,7 @@ ghost use Rattle.std.specs.Prelude.{◌≡◌, ◌+◌, ◌<◌, ◌^◌, true, 
 ghost use Rattle.iom_registers.specs.Queues.{is_processing_commands};
 ghost use Rattle.iom_device_dir.specs.Cached.{cached_contexts};
 ghost use Rattle.iom_iommu.specs.Parts.{registers_of, slots_of, opened_of, frames_of};
-ghost use Rattle.iom_iommu.specs.Fetches.{FetchesCommand, waits_for_accesses, waits_for_slots, are_waited_for, counted_in, store_of, asks_for_interrupt, request_by, slots_by, Stores, head_entry, DropsContexts};
+ghost use Rattle.iom_iommu.specs.Fetches.{FetchesCommand, waits_for_accesses, waits_for_slots, is_waiting_fence, are_waited_for, counted_in, store_of, asks_for_interrupt, request_by, slots_by, Stores, head_entry, DropsContexts};
 
 use crate::fetched::Fetched;
 use crate::iommu::Iommu;
@@ -31,6 +31,17 @@ fn waits_for_slots(command: &Command, slots: &Slots) -> bool
         Command::AtsInval { .. } => slots.len() == MAX_SLOTS,
         Command::IotinvalVma { .. } | Command::IotinvalGvma { .. } => false,
         Command::IodirInvalDdt { .. } => false,
+    }
+}
+
+/// Whether it is a fence that has to wait for invalidation requests.
+fn is_waiting_fence(command: &Command, slots: &Slots) -> bool
+    ensures { result ≡ is_waiting_fence command.now slots.now }
+{
+    match *command {
+        Command::IofenceC { .. } => slots.len() != 0,
+        Command::IotinvalVma { .. } | Command::IotinvalGvma { .. } => false,
+        Command::IodirInvalDdt { .. } | Command::AtsInval { .. } => false,
     }
 }
 
@@ -161,6 +172,7 @@ impl<C: TransCache> Iommu<C> {
         requires none { opened_of self.old ≡ None }
         ensures { FetchesCommand memory.old self.old result memory.new self.new }
     {
+        self.fence_waits = is_waiting_fence(&command, &self.slots);
         if waits_for_slots(&command, &self.slots) {
             return Fetched::Waiting;
         }

@@ -7,6 +7,7 @@ ghost use Rattle.iom_command_queue.specs.Waiting.{commands_in};
 ghost use Rattle.iom_iommu.specs.declared.fetched.Fetched.{Fetched as Answer};
 ghost use Rattle.iom_iommu.specs.declared.iommu.Iommu.{Iommu};
 ghost use Rattle.iom_iommu.specs.Parts.{registers_of, stock_of, slots_of};
+ghost use Rattle.iom_iommu.specs.Timeouts.{TimesOut};
 ghost use Rattle.iom_iommu.specs.Fetches.{FetchesCommand, AreAlike, after_none, store_of, IsStoredIn, IsOffRing, LeavesFaultQueue};
 
 use crate::fetched::Fetched;
@@ -73,4 +74,15 @@ pub fn leaves_setup<C: TransCache>()
 pub fn opens_one<C: TransCache>()
     ensures { (m n : List (List ℕ)) (i j : Iommu C C.TransCache) (answer : Answer) → FetchesCommand m i answer n j
         → (slots_of j).last ≤ (slots_of i).last + 1 }
+{}
+
+/// After a timeout with an effect no command is taken: the next fetch answers `Stopped`, and so does each until
+/// software changes the registers. The commands still wait, the fence that was given up first among them, and its
+/// word isn't stored.
+pub fn stops_after_timeout<C: TransCache>()
+    ensures stopped { (i j : Iommu C C.TransCache) → TimesOut i true j → is_processing_commands (registers_of j) ≡ false }
+    ensures list { (m : List (List ℕ)) (i j : Iommu C C.TransCache) → TimesOut i true j
+        → commands_in m (registers_of j) ≡ commands_in m (registers_of i) }
+    ensures fetch { (m n : List (List ℕ)) (i j k : Iommu C C.TransCache) (answer : Answer) → TimesOut i true j
+        → FetchesCommand m j answer n k → (answer ≡ Fetched.Stopped) × (n ≡ m) × (k ≡ after_none j (registers_of j) (stock_of j)) }
 {}

@@ -8,7 +8,7 @@
 //! above may rely on one relation for each call: `AnswersRequest` and `CommitsOldest`
 //! in `specs/Requests.antt`, `AnswersTranslated` in `specs/Translated.antt`, `AnswersQuestion` in
 //! `specs/Questions.antt`, `FetchesCommand` in `specs/Fetches.antt`, `CompletesRequest` in
-//! `specs/Invalidations.antt`. [`laws`] says more of fetches: what
+//! `specs/Invalidations.antt`, `TimesOut` in `specs/Timeouts.antt`. [`laws`] says more of fetches: what
 //! they do to the list of the commands that wait. Software reaches the registers by
 //! [`Mmio`](iom_registers::Mmio), which [`Iommu`] meets.
 //!
@@ -18,7 +18,7 @@
 //! cache of translations may be any that is lawful ([`TransCache`](iom_tlb::TransCache)). A request that faults
 //! puts a record into the fault queue. A device whose context has EN_ATS may also ask for the translation of a
 //! page, and make requests by addresses of memory; ATS.INVAL opens a request to it to drop what it was told, and a
-//! fence waits until none is open.
+//! fence waits until none is open, or until a timeout gives it up ([`Iommu::timeout`]).
 #![tactic(auto)]
 
 mod building;
@@ -33,6 +33,7 @@ mod reply;
 mod reports;
 mod requests;
 mod service;
+mod timeouts;
 mod translated;
 mod translations;
 

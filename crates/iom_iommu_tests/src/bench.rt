@@ -153,6 +153,16 @@ impl Bench {
         assert_eq!(rt; self.iommu.done(device, serial), expected);
     }
 
+    /// How many invalidation requests are open.
+    pub(crate) fn open_requests(&self) -> usize {
+        self.iommu.slots().len()
+    }
+
+    /// A timeout, and whether it has an effect.
+    pub(crate) fn expect_timeout(&mut self, rt: &impl Abort, expected: bool) {
+        assert_eq!(rt; self.iommu.timeout(), expected);
+    }
+
     pub(crate) fn expect_fetch(&mut self, rt: &impl Abort, expected: Fetched) {
         assert_eq!(rt; self.fetch(rt), expected);
     }

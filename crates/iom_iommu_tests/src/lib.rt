@@ -35,6 +35,8 @@ mod stops;
 #[cfg(test)]
 mod table;
 #[cfg(test)]
+mod timeouts;
+#[cfg(test)]
 mod translated;
 #[cfg(test)]
 mod translations;

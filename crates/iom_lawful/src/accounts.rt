@@ -323,7 +323,7 @@ impl Accounts {
     ) -> Result<(), AllocError> {
         let mut account = account;
         match (told.event, told.outcome) {
-            (Event::Poll, Outcome::Confirmed { first, last }) => {
+            (Event::Poll, Outcome::Confirmed { first, last, .. }) => {
                 account.narrow(told.reaches, *first, *last);
             }
             (Event::Commit { device }, Outcome::Read(bytes)) => {

@@ -322,7 +322,7 @@ impl Driver {
                     ticket: *ticket,
                 })?;
             }
-            (Event::Poll, Outcome::Confirmed { first, last }) => self.forget(*first, *last),
+            (Event::Poll, Outcome::Confirmed { first, last, .. }) => self.forget(*first, *last),
             _ => {}
         }
         self.messages.note(event, outcome)

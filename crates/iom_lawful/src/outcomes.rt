@@ -71,16 +71,30 @@ fn cause_of(text: &str) -> Option<Cause> {
     None
 }
 
-/// The tickets that `A-B` or `-` says are confirmed.
+/// The tickets that `A-B` or `-` says are confirmed, and whether `timeout` stands behind it.
 fn confirmed_of(text: &str) -> Option<Outcome> {
-    if text == "-" {
-        return Some(Outcome::NoneConfirmed);
+    let (tickets, timed_out) = match text.strip_suffix(" timeout") {
+        Some(tickets) => (tickets, true),
+        None => (text, false),
+    };
+    if tickets == "-" {
+        return Some(Outcome::NoneConfirmed { timed_out });
     }
-    let (first, last) = text.split_once('-')?;
+    let (first, last) = tickets.split_once('-')?;
     Some(Outcome::Confirmed {
         first: first.parse().ok()?,
         last: last.parse().ok()?,
+        timed_out,
     })
+}
+
+/// What `no` says before the word.
+fn nothing_of(text: &str) -> Option<Outcome> {
+    match text {
+        "record" => Some(Outcome::NoRecord),
+        "effect" => Some(Outcome::NoEffect),
+        _ => None,
+    }
 }
 
 /// The number that `0x` and hexadecimal digits say.
@@ -195,11 +209,12 @@ fn outcome_of(event: &Event, line: &str) -> Option<Outcome> {
         "ticket" => rest.parse().ok().map(Outcome::Ticket),
         "confirmed" => confirmed_of(rest),
         "record" => record_of(rest).map(Outcome::Record),
-        "no" => Some(Outcome::NoRecord),
+        "no" => nothing_of(rest),
         "did" => command_of(rest).map(|name| Outcome::Fetched(Fetched::Did(name))),
         "waiting" => Some(Outcome::Fetched(Fetched::Waiting)),
         "empty" => Some(Outcome::Fetched(Fetched::Empty)),
         "stopped" => Some(Outcome::Fetched(Fetched::Stopped)),
+        "timed-out" => Some(Outcome::TimedOut),
         "accepted" => rest.parse().ok().map(Outcome::Accepted),
         "busy" => Some(Outcome::Busy),
         "badspan" => Some(Outcome::BadSpan),

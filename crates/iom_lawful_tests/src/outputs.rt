@@ -41,14 +41,17 @@ pub(crate) fn are_found(
 }
 
 /// Each form of a line.
-static LINES: [&str; 40] = [
+static LINES: [&str; 44] = [
     "ok",
     "refused 12 TooManyPending",
     "ticket 4294967295",
     "confirmed 1-256",
     "confirmed -",
+    "confirmed 1-256 timeout",
+    "confirmed - timeout",
     "record 0x0000010800000015 0x0000000000000000 0x00000000000030f0 0xffffffffffffffff",
     "no record",
+    "no effect",
     "did iotinval.vma",
     "did iotinval.gvma",
     "did iofence.c",
@@ -57,6 +60,7 @@ static LINES: [&str; 40] = [
     "waiting",
     "empty",
     "stopped",
+    "timed-out",
     "accepted 18446744073709551615",
     "busy",
     "badspan",
@@ -85,7 +89,7 @@ static LINES: [&str; 40] = [
 ];
 
 /// Lines that tell no outcome.
-static NO_LINES: [&str; 41] = [
+static NO_LINES: [&str; 47] = [
     "",
     "Ok",
     "ok ",
@@ -99,12 +103,18 @@ static NO_LINES: [&str; 41] = [
     "ticket 4294967296",
     "confirmed 1",
     "confirmed 1-",
+    "confirmed timeout",
+    "confirmed -  timeout",
+    "confirmed 1-256 timed-out",
     "did nothing",
     "record",
     "record 0x0000010800000015 0x0000000000000000 0x0000000000003010",
     "record 0x10800000015 0x0000000000000000 0x0000000000003010 0x0000000000000000",
     "record 0x0000010800000015 0x0000000000000000 0x0000000000003010 0x0000000000000000 ",
     "no",
+    "no effects",
+    "timed-out ",
+    "timeout",
     "fault 14",
     "fault  13",
     "read 0",

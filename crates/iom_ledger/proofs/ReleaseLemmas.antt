@@ -1,15 +1,16 @@
 -- The rows of a device are released one after another, in the order of its pages.
-use Rattle.std.proofs.Common.{◌≡◌, ◌+◌, ◌<◌, ℕ, Bool, true, false, ◌==◌, ◌&&◌, ◌||◌, List, [], ◌∷◌, length, take, get_or, slice_get, map, Option, None, Some, nat_eq, refl, sym, ap, ◌∙◌, if◌then◌else◌, arith}
+use Rattle.std.proofs.Common.{◌≡◌, ◌+◌, ◌<◌, ℕ, Bool, true, false, ◌==◌, ◌&&◌, ◌||◌, List, [], ◌∷◌, length, take, get_or, slice_get, map, Option, None, Some, IsSome, Contains, subst, nat_eq, refl, sym, ap, ◌∙◌, if◌then◌else◌, arith}
 use Rattle.std.specs.List.{list_any}
 use Rattle.std.specs.Map.{lookup}
 use Rattle.std.specs.Option.{option_and_then, option_map_or}
 use Rattle.std.proofs.lemmas.Bool.{eqb-true, or_parts}
+use Rattle.std.proofs.lemmas.Map.Views.{Contains-from_any}
 use Rattle.std.proofs.lemmas.List.Folds.{list_any_more}
 use Rattle.std.proofs.lemmas.Option.{get_or_from_slice_get, slice_get_within, slice_get-get_or}
 use Rattle.indexmap.specs.IndexMap.{get}
 use Rattle.iom_base.specs.declared.rights.Rights.{Rights}
 use Rattle.iom_ledger.specs.declared.page_row.PageRow.{PageRow}
-use Rattle.iom_ledger.specs.Rows.{Devices, Pages, row_at, pages_in, pages_of}
+use Rattle.iom_ledger.specs.Rows.{Devices, Pages, row_at, held_of, pages_in, pages_of}
 use Rattle.iom_ledger.specs.RowChanges.{released_row_if_any, ticket_after, ReleasesRow, ReleasesRows, ReleasesRowsAt}
 
 -- a row that was released is released no further
@@ -68,6 +69,17 @@ row_at-absent devices device page absent = by (pages_in devices.list.items devic
         → option_and_then (λ pages. get nat_eq pages page) found ≡ None
     by None absent = refl
     by (Some pages) absent = lookup-absent pages.entries page absent
+
+nat_eq_equal : (x y : ℕ) → nat_eq x y ≡ true → x ≡ y
+nat_eq_equal x y e = grind arith
+
+-- so a page at which something is held is among them
+pub held_listed : (devices : Devices) (device page : ℕ) → IsSome (held_of (row_at devices device page)) → Contains (pages_of devices device) page
+held_listed devices device page held = by (list_any (nat_eq page) (pages_of devices device)) refl
+  where
+    by : (among : Bool) → list_any (nat_eq page) (pages_of devices device) ≡ among → Contains (pages_of devices device) page
+    by true is = Contains-from_any nat_eq_equal page (pages_of devices device) is
+    by false is = let none = subst (λ row. IsSome (held_of row)) (row_at-absent devices device page is) held in cc
 
 -- once those at all pages of the device are released, all of the device are
 pub ReleasesRows-all : (old new : Devices) (device ticket : ℕ)

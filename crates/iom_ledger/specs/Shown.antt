@@ -5,7 +5,7 @@ use Rattle.iom_base.specs.declared.rights.Rights.{Rights}
 use Rattle.iom_ledger.specs.declared.ledger.Ledger.{Ledger}
 use Rattle.iom_ledger.specs.History.{History, Pair, held_at, lingering_at}
 use Rattle.iom_ledger.specs.Pending.{pending_of}
-use Rattle.iom_ledger.specs.Rows.{row_at, held_of, released_of}
+use Rattle.iom_ledger.specs.Rows.{row_at, pages_of, held_of, released_of}
 
 -- the pair that the device holds at the page
 unfoldable pub held_in : Ledger → ℕ → ℕ → Option Pair
@@ -22,6 +22,10 @@ lingering_in ledger device page = option_map (λ released. released.1) (released
 -- the tickets under which something was released and that aren't confirmed, the oldest first
 unfoldable pub pending_in : Ledger → List ℕ
 pending_in ledger = map (λ release. release.ticket) ledger.pending.items
+
+-- the pages at which the device holds something or something lingers, in the order in which the ledger keeps them
+unfoldable pub pages_listed : Ledger → ℕ → List ℕ
+pages_listed ledger device = pages_of ledger.devices device
 
 -- so many frames, from 0 on, have a row
 unfoldable pub frames_in : Ledger → ℕ

@@ -22,7 +22,7 @@ pub(crate) fn row_in(devices: &Devices, device: DeviceId, page: u64) -> Option<P
 }
 
 /// How many pages of the device have a row.
-fn row_count(devices: &Devices, device: DeviceId) -> usize
+pub(crate) fn row_count(devices: &Devices, device: DeviceId) -> usize
     ensures { result ≡ length (entries_of devices.now device) }
 {
     match devices.pages_of(device) {
@@ -32,7 +32,7 @@ fn row_count(devices: &Devices, device: DeviceId) -> usize
 }
 
 /// The page at the index, of those of the device that have a row.
-fn page_at(devices: &Devices, device: DeviceId, index: usize) -> Option<u64>
+pub(crate) fn page_at(devices: &Devices, device: DeviceId, index: usize) -> Option<u64>
     ensures { result ≡ slice_get (pages_of devices.now device) index }
 {
     let (page, _row) = devices.pages_of(device)?.get_index(index)?;

@@ -1,4 +1,4 @@
-#![tactic(auto, unfolding(crate::specs::Shown::held_in, crate::specs::Shown::released_in, crate::specs::Shown::pending_in, crate::specs::Shown::frames_in))]
+#![tactic(auto, unfolding(crate::specs::Shown::held_in, crate::specs::Shown::released_in, crate::specs::Shown::pending_in, crate::specs::Shown::pages_listed, crate::specs::Shown::frames_in))]
 
 ghost use Rattle.std.specs.Prelude.{◌≡◌, true};
 ghost use Rattle.iom_ledger.specs.Counts.{AreCounted};
@@ -7,7 +7,7 @@ ghost use Rattle.iom_ledger.specs.Ring.{is_ascending};
 ghost use Rattle.iom_ledger.specs.Rows.{AllGranted, AllNamed};
 
 use crate::device_list::Devices;
-use crate::devices::{grant_in, release_all_in, release_in, row_in};
+use crate::devices::{grant_in, page_at, release_all_in, release_in, row_count, row_in};
 use crate::frame_rows::FrameRows;
 use crate::lookups::{holds_anything_in, lingers_anything_in};
 use crate::page_row::{PageRow, Pending};
@@ -39,7 +39,7 @@ pub struct Ledger {
 }
 
 impl Ledger {
-    ghost use Rattle.std.specs.Prelude.{◌↔◌, ◌+◌, ◌<◌, ◌≤◌, ℕ, List, [], ◌∷◌, Contains, length, max, false, not};
+    ghost use Rattle.std.specs.Prelude.{◌↔◌, ◌+◌, ◌<◌, ◌≤◌, ℕ, List, [], ◌∷◌, Contains, length, max, slice_get, false, not};
     ghost use Rattle.std.specs.Prelude.{IsTrue, IsNone, IsSome, IfOk, IfSome, OnOk, OnErr, Some, None};
     ghost use Rattle.iom_ledger.specs.declared.entry.HistoryEntry.TheVariants.{Granted, Released, AllReleased, Confirmed};
     ghost use Rattle.iom_ledger.specs.History.{History, Pair, confirms, held_at, lingering_at, Holds, Lingers, NoneMayReach};
@@ -48,7 +48,7 @@ impl Ledger {
     ghost use Rattle.iom_ledger.specs.FrameRows.{IsRowOf, IsFreeRow};
     ghost use Rattle.iom_base.specs.Rights.{IsGrantable};
     ghost use Rattle.iom_frame_set.specs.Sets.{has};
-    ghost use Rattle.iom_ledger.specs.Shown.{held_in, released_in, lingering_in, pending_in, frames_in};
+    ghost use Rattle.iom_ledger.specs.Shown.{held_in, released_in, lingering_in, pending_in, pages_listed, frames_in};
     ghost use Rattle.iom_ledger.specs.Changes.{IsUnchanged, ShowsGrant, ShowsRelease, ShowsReleaseOfAll, ShowsConfirmation};
 
     /// A ledger of no grants. Makes the room of [`MAX_PENDING`] tickets, so that no release takes memory, and
@@ -146,6 +146,21 @@ impl Ledger {
         ensures lingering { (h : History) → Agrees self.now h → IsTrue result ↔ ((page : ℕ) × (pair : Pair) × Lingers h device page pair) }
     {
         lingers_anything_in(&self.devices, device)
+    }
+
+    /// How many pages there are at which the device holds something or something lingers.
+    pub fn page_count(&self, device: DeviceId) -> usize
+        ensures count { result ≡ length (pages_listed self.now device) }
+        ensures held { (page : ℕ) → IsSome (held_in self.now device page) → Contains (pages_listed self.now device) page }
+    {
+        row_count(&self.devices, device)
+    }
+
+    /// The page at the index of these, in the order in which the ledger keeps them. A release leaves the order.
+    pub fn page_at(&self, device: DeviceId, index: usize) -> Option<u64>
+        ensures { result ≡ slice_get (pages_listed self.now device) index }
+    {
+        page_at(&self.devices, device, index)
     }
 
     /// The number of tickets under which something was released and that aren't confirmed.

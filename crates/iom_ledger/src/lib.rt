@@ -8,7 +8,8 @@
 //! What the ledger answers is read off a *history* of entries (`specs/History.antt`), which no code
 //! stores. The layers above may rely on each call carrying agreement with a history on to the history
 //! with the call's entry, and on each look-up answering what every such history says
-//! (`specs/Shown.antt`).
+//! (`specs/Shown.antt`). It also lists the pages of a device at which something is held or lingers
+//! (`Ledger::page_count`, `Ledger::page_at`).
 //!
 //! Beside what each page holds it keeps a row of each frame (`Ledger::row`), with the count of the grants
 //! that name it and of the releases that aren't confirmed yet: `specs/FrameRows.antt` says both by a

@@ -13,4 +13,6 @@ mod frame_set;
 #[cfg(test)]
 mod ledger;
 #[cfg(test)]
+mod pages;
+#[cfg(test)]
 mod table_frames;

@@ -18,10 +18,11 @@ use Rattle.iom_machine.specs.Devices.{device_of, with_device, DeviceMay, EachInF
 use Rattle.iom_ledger.specs.Confirmations.{confirmed_from}
 use Rattle.iom_machine.specs.Tickets.{AreNextTickets, with_confirmed}
 use Rattle.iom_ledger.specs.Refusals.{NoneApplies}
-use Rattle.iom_machine.specs.Refusals.{attach_reasons, detach_reasons, grant_reasons}
+use Rattle.iom_machine.specs.Refusals.{attach_reasons, detach_reasons, grant_reasons, quarantine_reasons, revive_reasons}
 use Rattle.iom_machine.specs.Judging.{StandsAt}
-use Rattle.iom_machine.specs.Machine.{Attaches, Detaches, Grants, Polls}
+use Rattle.iom_machine.specs.Machine.{Attaches, Detaches, Grants, Quarantines, Revives, Polls}
 use Rattle.iom_machine.specs.Leaving.{leaving_under, with_left}
+use Rattle.iom_machine.specs.CuttingOff.{cut_off_under, attached_again}
 use Rattle.iom_machine.proofs.LeavingLemmas.{devices_may, All-parts}
 use Rattle.iom_machine.proofs.FrameLemmas.{free_besides_none}
 use Rattle.iom_machine.proofs.StepLemmas.{only_state, some_state, no_state, own_place}
@@ -91,12 +92,48 @@ detached_as ticket old id place device devices none next_one is_place at d new =
       (λ step. let left = rw there at step.2 in some_state next new (is ∙ sym left)),
     )
 
+-- the state after a quarantine
+abbrev pub cut_off_state : ℕ → ℕ → State → Device → State
+cut_off_state ticket id old device = record (with_device old (record device { attachment = cut_off_under ticket device.attachment })) {
+  history = entries.AllReleased id ticket ∷ old.history;
+  last_ticket = ticket;
+}
+
+pub cut_off_as : (ticket : ℕ) (old : State) (id place : ℕ) (device : Device) (history : History) (devices : List Device)
+    → NoneApplies (quarantine_reasons old id) → ticket ≡ old.last_ticket + 1 → StandsAt old.devices id place → slice_get old.devices place ≡ Some device
+    → history ≡ entries.AllReleased id ticket ∷ old.history → devices ≡ slice_set old.devices place (record device { attachment = cut_off_under ticket device.attachment })
+    → (new : State) → (◌≡◌ {A = Option State} (Some (record { levels = old.levels; frames = old.frames; history = history; last_ticket = ticket; devices = devices })) (Some new)) ↔ Quarantines old id (Ticket ticket) new
+cut_off_as ticket old id place device history devices none next_one is_place at h d new =
+    let next : State = record { levels = old.levels; frames = old.frames; history = history; last_ticket = ticket; devices = devices } in
+    let own = own_place old.devices id place device is_place at in
+    let now : Device = record device { attachment = cut_off_under ticket device.attachment } in
+    let is : next ≡ cut_off_state ticket id old device = rw (h, d, own.2 now) refl in
+    let there : device_of old id ≡ Some device = is_place.1 ∙ at in (
+      (λ same. (none, next_one, rw there (sym (only_state next new same) ∙ is))),
+      (λ step. let left = rw there at step.2 in some_state next new (is ∙ sym left)),
+    )
+
+-- the state after a revival
+pub revived_as : (old : State) (id place : ℕ) (device : Device) (devices : List Device)
+    → NoneApplies (revive_reasons old id) → StandsAt old.devices id place → slice_get old.devices place ≡ Some device
+    → devices ≡ slice_set old.devices place (record device { attachment = attached_again device.attachment })
+    → (new : State) → (◌≡◌ {A = Option State} (Some (record { levels = old.levels; frames = old.frames; history = old.history; last_ticket = old.last_ticket; devices = devices })) (Some new)) ↔ Revives old id Done new
+revived_as old id place device devices none is_place at d new =
+    let next : State = record { levels = old.levels; frames = old.frames; history = old.history; last_ticket = old.last_ticket; devices = devices } in
+    let own = own_place old.devices id place device is_place at in
+    let now : Device = record device { attachment = attached_again device.attachment } in
+    let is : next ≡ with_device old now = rw (d, own.2 now) refl in
+    let there : device_of old id ≡ Some device = is_place.1 ∙ at in (
+      (λ same. (none, rw there (sym (only_state next new same) ∙ is))),
+      (λ step. let left = rw there at step.1 in some_state next new (is ∙ sym left)),
+    )
+
 -- the state after a poll
-pub confirmed_as : (old : State) (first last : ℕ) (history : History) → AreNextTickets old first last → history ≡ confirmed_from first (suc (last - first)) old.history
+pub confirmed_as : (old : State) (first last : ℕ) (timed_out : Bool) (history : History) → AreNextTickets old first last → history ≡ confirmed_from first (suc (last - first)) old.history
     → All (DeviceMay history) old.devices
     → (next : State) → next ≡ with_left (record { levels = old.levels; frames = old.frames; history = history; last_ticket = old.last_ticket; devices = old.devices })
-    → (new : State) → (◌≡◌ {A = Option State} (Some next) (Some new)) ↔ Polls old (Confirmed first last) new
-confirmed_as old first last history tickets extended may next left new =
+    → (new : State) → (◌≡◌ {A = Option State} (Some next) (Some new)) ↔ Polls old (Confirmed first last timed_out) new
+confirmed_as old first last timed_out history tickets extended may next left new =
     let confirmed : State = record { levels = old.levels; frames = old.frames; history = history; last_ticket = old.last_ticket; devices = old.devices } in
     let was : confirmed ≡ with_confirmed old first last = rw extended refl in
     let is : next ≡ with_left (with_confirmed old first last) = left ∙ ap with_left was in
@@ -105,9 +142,9 @@ confirmed_as old first last history tickets extended may next left new =
       (λ step. some_state next new (is ∙ sym step.1)),
     )
 
-pub not_confirmed_as : (old : State) (first last : ℕ) (history : History) → history ≡ confirmed_from first (suc (last - first)) old.history → ¬ All (DeviceMay history) old.devices
-    → (new : State) → (◌≡◌ {A = Option State} None (Some new)) ↔ Polls old (Confirmed first last) new
-not_confirmed_as old first last history extended never new = (
+pub not_confirmed_as : (old : State) (first last : ℕ) (timed_out : Bool) (history : History) → history ≡ confirmed_from first (suc (last - first)) old.history → ¬ All (DeviceMay history) old.devices
+    → (new : State) → (◌≡◌ {A = Option State} None (Some new)) ↔ Polls old (Confirmed first last timed_out) new
+not_confirmed_as old first last timed_out history extended never new = (
   (λ same. absurd (no_state new same)),
   (λ step. absurd (never (subst (λ h. All (DeviceMay h) old.devices) (sym extended)
       ((devices_may (with_confirmed old first last).history old.devices).1 (subst EachInFlightMay step.1 step.2))))),

@@ -8,7 +8,7 @@ use Rattle.std.proofs.lemmas.Option.{slice_get-get_or}
 use Rattle.iom_machine.specs.declared.event.Event.{Event}
 use Rattle.iom_machine.specs.declared.event.Event.TheVariants as events
 use Rattle.iom_machine.specs.declared.outcome.Outcome.{Outcome}
-use Rattle.iom_machine.specs.declared.outcome.Outcome.TheVariants.{Done, Refused, Ticket, Confirmed, NoneConfirmed, Record, NoRecord, Fetched, Accepted, Busy, BadSpan, Fault, Miss, Read, Wrote, NothingInFlight, Bytes, Free}
+use Rattle.iom_machine.specs.declared.outcome.Outcome.TheVariants.{Done, Refused, Ticket, Confirmed, NoneConfirmed, Record, NoRecord, Fetched, TimedOut, NoEffect, Accepted, Busy, BadSpan, Fault, Miss, Read, Wrote, NothingInFlight, Bytes, Free}
 use Rattle.iom_base.specs.declared.access.Access.{Access}
 use Rattle.iom_base.specs.declared.access.AcceptedAccess.{AcceptedAccess}
 use Rattle.iom_machine.specs.declared.state.Device.{Device}
@@ -27,7 +27,7 @@ use Rattle.iom_machine.specs.PowerOn.{opening}
 use Rattle.iom_ledger.specs.History.{History}
 use Rattle.iom_machine.specs.Leaving.{device_once_confirmed}
 use Rattle.iom_machine.specs.Tickets.{with_confirmed}
-use Rattle.iom_machine.proofs.InFlightLemmas.{act_cases, some_case, found_device, same-translated, same-asks, same-forges, same-delivers, same-drops, same-repeats}
+use Rattle.iom_machine.proofs.InFlightLemmas.{act_cases, some_case, found_device, same-translated, same-asks, same-forges, same-delivers, same-drops, same-repeats, same-resets}
 use Rattle.iom_machine.proofs.LeavingLemmas.{found_once_confirmed}
 
 -- the accesses of a device in flight; none where there is no device
@@ -391,11 +391,31 @@ devices-step old new (events.Grant id page frame rights) _ (choice, step) = absu
 devices-step old new (events.Release id page) (Ticket ticket) (choice, step) = stays_asking _ _ old new refl (λ other. refl) (ap (λ (s : State). s.devices) step.2)
 devices-step old new (events.Release id page) (Refused why) (choice, step) = stays_asking _ _ old new refl (λ other. refl) (ap (λ (s : State). s.devices) step.1)
 devices-step old new (events.Release id page) _ (choice, step) = absurd step
+devices-step old new (events.Quarantine id) (Ticket ticket) (choice, step) =
+    let found = some_case (device_of old id) _ step.2 in
+    DevicesChange.changes id found.0 (record found.0 { attachment = _ }) found.1 refl
+    (same_flights (Some found.0) (Some (record found.0 { attachment = _ })) refl refl)
+    (λ other differ. (refl, refl)) (ap (λ (s : State). s.devices) found.2)
+devices-step old new (events.Quarantine id) (Refused why) (choice, step) = stays_asking _ _ old new refl (λ other. refl) (ap (λ (s : State). s.devices) step.1)
+devices-step old new (events.Quarantine id) _ (choice, step) = absurd step
+devices-step old new (events.Revive id) Done (choice, step) =
+    let found = some_case (device_of old id) _ step.1 in
+    DevicesChange.changes id found.0 (record found.0 { attachment = _ }) found.1 refl
+    (same_flights (Some found.0) (Some (record found.0 { attachment = _ })) refl refl)
+    (λ other differ. (refl, refl)) (ap (λ (s : State). s.devices) found.2)
+devices-step old new (events.Revive id) (Refused why) (choice, step) = stays_asking _ _ old new refl (λ other. refl) (ap (λ (s : State). s.devices) step.1)
+devices-step old new (events.Revive id) _ (choice, step) = absurd step
+devices-step old new events.Restart Done (choice, step) = stays_asking _ _ old new refl (λ other. refl) (ap (λ (s : State). s.devices) step)
+devices-step old new events.Restart (Refused why) (choice, step) = stays_asking _ _ old new refl (λ other. refl) (ap (λ (s : State). s.devices) step.1)
+devices-step old new events.Restart _ (choice, step) = absurd step
 devices-step old new events.Fetch (Fetched result) (choice, step) = stays_asking _ _ old new refl (λ other. refl) (ap (λ (s : State). s.devices) step)
 devices-step old new events.Fetch _ (choice, step) = absurd step
-devices-step old new events.Poll (Confirmed first last) (choice, step) =
+devices-step old new events.Timeout TimedOut (choice, step) = stays_asking _ _ old new refl (λ other. refl) (ap (λ (s : State). s.devices) step)
+devices-step old new events.Timeout NoEffect (choice, step) = stays_asking _ _ old new refl (λ other. refl) (ap (λ (s : State). s.devices) step)
+devices-step old new events.Timeout _ (choice, step) = absurd step
+devices-step old new events.Poll (Confirmed first last timed_out) (choice, step) =
     DevicesChange.leave (λ other. (refl, refl)) (with_confirmed old first last).history (ap (λ (s : State). s.devices) step.1)
-devices-step old new events.Poll NoneConfirmed (choice, step) = stays_asking _ _ old new refl (λ other. refl) (ap (λ (s : State). s.devices) step)
+devices-step old new events.Poll (NoneConfirmed timed_out) (choice, step) = stays_asking _ _ old new refl (λ other. refl) (ap (λ (s : State). s.devices) step)
 devices-step old new events.Poll _ (choice, step) = absurd step
 devices-step old new events.Faults (Record taken) (choice, step) = stays_asking _ _ old new refl (λ other. refl) (ap (λ (s : State). s.devices) step)
 devices-step old new events.Faults NoRecord (choice, step) = stays_asking _ _ old new refl (λ other. refl) (ap (λ (s : State). s.devices) step)
@@ -411,6 +431,7 @@ devices-step old new (events.Forge id serial) outcome (choice, step) = stays_ask
 devices-step old new (events.Deliver place) outcome (choice, step) = stays_asking _ _ old new refl (λ other. refl) (ap (λ (s : State). s.devices) (same-delivers choice.device choice.page old new outcome step))
 devices-step old new (events.Drop place) outcome (choice, step) = stays_asking _ _ old new refl (λ other. refl) (ap (λ (s : State). s.devices) (same-drops old new outcome step))
 devices-step old new (events.Repeat place) outcome (choice, step) = stays_asking _ _ old new refl (λ other. refl) (ap (λ (s : State). s.devices) (same-repeats old new outcome step))
+devices-step old new (events.Reset id) outcome (choice, step) = stays_asking _ _ old new refl (λ other. refl) (ap (λ (s : State). s.devices) (same-resets old new id outcome step))
 devices-step old new (events.Commit id) outcome (choice, step) = change-commits old new id outcome step
 devices-step old new (events.Poke address bytes) Done (choice, step) = stays_asking _ _ old new refl (λ other. refl) (ap (λ (s : State). s.devices) step.2)
 devices-step old new (events.Poke address bytes) (Refused why) (choice, step) = stays_asking _ _ old new refl (λ other. refl) (ap (λ (s : State). s.devices) step.2)

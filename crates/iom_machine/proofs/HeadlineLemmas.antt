@@ -263,6 +263,8 @@ free-change event outcome old new frame (Change.grants id page named rights gran
     (free_after (entries.Granted id page named rights) old.history frame (λ same. other (subst (GrantsFrame event outcome) same granted)) free)
 free-change event outcome old new frame (Change.releases id page extended next) other free =
     subst (λ h. ledger.NoneMayReach h frame) (sym extended) (free_after (entries.Released id page new.last_ticket) old.history frame (λ x. x) free)
+free-change event outcome old new frame (Change.releases_all id extended next) other free =
+    subst (λ h. ledger.NoneMayReach h frame) (sym extended) (free_after (entries.AllReleased id new.last_ticket) old.history frame (λ x. x) free)
 free-change event outcome old new frame (Change.confirms_some first n most extended tickets reaches) other free =
     subst (λ h. ledger.NoneMayReach h frame) (sym extended) (free_confirmed first n old.history frame free)
 

@@ -12,7 +12,7 @@ use Rattle.iom_ledger.specs.History.{History, May}
 use Rattle.iom_machine.specs.declared.event.Event.{Event}
 use Rattle.iom_machine.specs.declared.event.Event.TheVariants as events
 use Rattle.iom_machine.specs.declared.outcome.Outcome.{Outcome}
-use Rattle.iom_machine.specs.declared.outcome.Outcome.TheVariants.{Done, Refused, Ticket, Confirmed, NoneConfirmed, Record, NoRecord, Fetched, Accepted, Busy, BadSpan, Fault, Miss, Sent, Lost, Answered, Kept, Stale, AnswerRefused, Ignored, Invalidated, Closed, NotClosed, Dropped, Repeated, NoMessage, Read, Wrote, NothingInFlight, Bytes, Free}
+use Rattle.iom_machine.specs.declared.outcome.Outcome.TheVariants.{Done, Refused, Ticket, Confirmed, NoneConfirmed, Record, NoRecord, Fetched, TimedOut, NoEffect, Accepted, Busy, BadSpan, Fault, Miss, Sent, Lost, Answered, Kept, Stale, AnswerRefused, Ignored, Invalidated, Closed, NotClosed, Dropped, Repeated, NoMessage, Read, Wrote, NothingInFlight, Bytes, Free}
 use Rattle.iom_base.specs.declared.access.Access.{Access}
 use Rattle.iom_machine.specs.declared.state.Attachment.{Attachment}
 use Rattle.iom_machine.specs.declared.state.Attachment.TheVariants.{Detached, Attached, Quarantined, Leaving}
@@ -28,7 +28,7 @@ use Rattle.iom_machine.specs.Kinds.{sends_untranslated, forges, sends_through_ca
 use Rattle.iom_machine.specs.Messages.{Sends, Delivers, Drops, Repeats}
 use Rattle.iom_machine.specs.Requests.{MayAcceptFormerly, MayAccept, MayAnswer, state_after, with_accepted}
 use Rattle.iom_machine.specs.ThroughCache.{at_frame, MayGoThrough, MayAnswerThroughCache, state_after_cached}
-use Rattle.iom_machine.specs.Machine.{IfItCan, Acts, Requests, RequestsTranslated, RequestsThroughCache, Asks, Forges, Makes, Commits, Step}
+use Rattle.iom_machine.specs.Machine.{IfItCan, Acts, Requests, RequestsTranslated, RequestsThroughCache, Asks, Forges, Resets, Makes, Commits, Step}
 use Rattle.iom_machine.specs.Leaving.{device_once_confirmed}
 use Rattle.iom_machine.specs.Tickets.{with_confirmed}
 use Rattle.iom_machine.specs.Headline.{Asked, asked_by, access_sent}
@@ -250,7 +250,7 @@ devices_leave : (P : ℕ → AcceptedAccess → Type 0) (old new : State) (histo
 devices_leave P old new history same all =
     subst (AllInFlight P) (sym same) (All-map (λ (device : Device). All (P device.id) device.in_flight) (device_once_confirmed history) old.devices all)
 
--- the steps of messages, and of translated requests of devices that forge them, change nothing
+-- the steps of messages, of resets, and of translated requests of devices that forge them, change nothing
 same-sends : (old new : State) (outcome : Outcome) → Sends old outcome new → new ≡ old
 same-sends old new Sent step = step
 same-sends old new Lost step = step
@@ -266,6 +266,12 @@ pub same-forges : (old new : State) (id : ℕ) (outcome : Outcome) → Forges ol
 same-forges old new id outcome step = elim (act_cases forges _ old id outcome new step) [
   | inl (why, told, same) ↦ same
   | inr (device, at, sends) ↦ same-sends old new outcome sends
+]
+
+pub same-resets : (old new : State) (id : ℕ) (outcome : Outcome) → Resets old id outcome new → new ≡ old
+same-resets old new id outcome step = elim (act_cases is_any_kind _ old id outcome new step) [
+  | inl (why, told, same) ↦ same
+  | inr (device, at, done) ↦ done.1
 ]
 
 pub same-translated : (old new : State) (id : ℕ) (access : Access) (outcome : Outcome) → RequestsTranslated old id access outcome new → new ≡ old
@@ -321,11 +327,27 @@ in_flight-step P old new (events.Grant id page frame rights) _ (choice, step) en
 in_flight-step P old new (events.Release id page) (Ticket ticket) (choice, step) enters all = devices_stay P old new (ap (λ (s : State). s.devices) step.2) all
 in_flight-step P old new (events.Release id page) (Refused why) (choice, step) enters all = devices_stay P old new (ap (λ (s : State). s.devices) step.1) all
 in_flight-step P old new (events.Release id page) _ (choice, step) enters all = absurd step
+in_flight-step P old new (events.Quarantine id) (Ticket ticket) (choice, step) enters all =
+    let found = some_case (device_of old id) _ step.2 in
+    subst (λ (s : State). AllInFlight P s.devices) (sym found.2) (AllInFlight-with P old.devices found.0.id _ all (AllInFlight-of P old.devices id found.0 found.1 all))
+in_flight-step P old new (events.Quarantine id) (Refused why) (choice, step) enters all = devices_stay P old new (ap (λ (s : State). s.devices) step.1) all
+in_flight-step P old new (events.Quarantine id) _ (choice, step) enters all = absurd step
+in_flight-step P old new (events.Revive id) Done (choice, step) enters all =
+    let found = some_case (device_of old id) _ step.1 in
+    subst (λ (s : State). AllInFlight P s.devices) (sym found.2) (AllInFlight-with P old.devices found.0.id _ all (AllInFlight-of P old.devices id found.0 found.1 all))
+in_flight-step P old new (events.Revive id) (Refused why) (choice, step) enters all = devices_stay P old new (ap (λ (s : State). s.devices) step.1) all
+in_flight-step P old new (events.Revive id) _ (choice, step) enters all = absurd step
+in_flight-step P old new events.Restart Done (choice, step) enters all = devices_stay P old new (ap (λ (s : State). s.devices) step) all
+in_flight-step P old new events.Restart (Refused why) (choice, step) enters all = devices_stay P old new (ap (λ (s : State). s.devices) step.1) all
+in_flight-step P old new events.Restart _ (choice, step) enters all = absurd step
 in_flight-step P old new events.Fetch (Fetched result) (choice, step) enters all = devices_stay P old new (ap (λ (s : State). s.devices) step) all
 in_flight-step P old new events.Fetch _ (choice, step) enters all = absurd step
-in_flight-step P old new events.Poll (Confirmed first last) (choice, step) enters all =
+in_flight-step P old new events.Timeout TimedOut (choice, step) enters all = devices_stay P old new (ap (λ (s : State). s.devices) step) all
+in_flight-step P old new events.Timeout NoEffect (choice, step) enters all = devices_stay P old new (ap (λ (s : State). s.devices) step) all
+in_flight-step P old new events.Timeout _ (choice, step) enters all = absurd step
+in_flight-step P old new events.Poll (Confirmed first last timed_out) (choice, step) enters all =
     devices_leave P old new (with_confirmed old first last).history (ap (λ (s : State). s.devices) step.1) all
-in_flight-step P old new events.Poll NoneConfirmed (choice, step) enters all = devices_stay P old new (ap (λ (s : State). s.devices) step) all
+in_flight-step P old new events.Poll (NoneConfirmed timed_out) (choice, step) enters all = devices_stay P old new (ap (λ (s : State). s.devices) step) all
 in_flight-step P old new events.Poll _ (choice, step) enters all = absurd step
 in_flight-step P old new events.Faults (Record taken) (choice, step) enters all = devices_stay P old new (ap (λ (s : State). s.devices) step) all
 in_flight-step P old new events.Faults NoRecord (choice, step) enters all = devices_stay P old new (ap (λ (s : State). s.devices) step) all
@@ -349,6 +371,7 @@ in_flight-step P old new (events.Forge id serial) outcome (choice, step) enters 
 in_flight-step P old new (events.Deliver place) outcome (choice, step) enters all = devices_stay P old new (ap (λ (s : State). s.devices) (same-delivers choice.device choice.page old new outcome step)) all
 in_flight-step P old new (events.Drop place) outcome (choice, step) enters all = devices_stay P old new (ap (λ (s : State). s.devices) (same-drops old new outcome step)) all
 in_flight-step P old new (events.Repeat place) outcome (choice, step) enters all = devices_stay P old new (ap (λ (s : State). s.devices) (same-repeats old new outcome step)) all
+in_flight-step P old new (events.Reset id) outcome (choice, step) enters all = devices_stay P old new (ap (λ (s : State). s.devices) (same-resets old new id outcome step)) all
 in_flight-step P old new (events.Commit id) outcome (choice, step) enters all = in_flight-commits P old new id outcome step all
 in_flight-step P old new (events.Poke address bytes) Done (choice, step) enters all = devices_stay P old new (ap (λ (s : State). s.devices) step.2) all
 in_flight-step P old new (events.Poke address bytes) (Refused why) (choice, step) enters all = devices_stay P old new (ap (λ (s : State). s.devices) step.2) all

@@ -148,3 +148,23 @@ reach_after_release h d a ticket fresh device frame kind (page, rights, reaches,
           (Contains-append_right _ (released_at h device page) (lingers.0, (frame, rights)) (contains_from_filter _ (released_at h device page) (lingers.0, (frame, rights)) lingers.1).0)
           (contains_from_filter _ (released_at h device page) (lingers.0, (frame, rights)) lingers.1).1),
     )
+
+-- and so does a release of all that the device holds
+pub reach_after_release_of_all : (h : History) (d ticket : ℕ) → confirms h ticket ≡ false
+    → (device frame : ℕ) (kind : AccessKind) → May h device frame kind → May (AllReleased d ticket ∷ h) device frame kind
+reach_after_release_of_all h d ticket fresh device frame kind (page, rights, reaches, allowed) =
+    (page, rights, by (d == device) refl (held_at h device page) refl reaches, allowed)
+  where
+    by : (b : Bool) → (d == device) ≡ b → (held : Option Pair) → held_at h device page ≡ held → Holds h device page (frame, rights) ⊎ Lingers h device page (frame, rights)
+        → Holds (AllReleased d ticket ∷ h) device page (frame, rights) ⊎ Lingers (AllReleased d ticket ∷ h) device page (frame, rights)
+    by false e held is (inl holds) = inl (rw e holds)
+    by false e held is (inr lingers) = inr (rw e lingers)
+    by true e held is (inl holds) =
+        inr (ticket, rw (e, holds, fresh) (contains_head (ticket, (frame, rights)) (filter (λ r. not (confirms h r.0)) (released_at h device page))))
+    by true e None is (inr lingers) = inr (rw (e, is) lingers)
+    by true e (Some pair) is (inr lingers) = inr (
+      lingers.0,
+      rw (e, is) (contains_filter (λ r. not (confirms h r.0)) ((ticket, pair) ∷ released_at h device page) (lingers.0, (frame, rights))
+          (contains_tail (ticket, pair) (released_at h device page) (lingers.0, (frame, rights)) (contains_from_filter _ (released_at h device page) (lingers.0, (frame, rights)) lingers.1).0)
+          (contains_from_filter _ (released_at h device page) (lingers.0, (frame, rights)) lingers.1).1),
+    )

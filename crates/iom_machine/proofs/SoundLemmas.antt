@@ -18,7 +18,7 @@ use Rattle.iom_ledger.specs.History.{History, May, Pair, held_at, confirms}
 use Rattle.iom_machine.specs.declared.event.Event.{Event}
 use Rattle.iom_machine.specs.declared.event.Event.TheVariants as events
 use Rattle.iom_machine.specs.declared.outcome.Outcome.{Outcome}
-use Rattle.iom_machine.specs.declared.outcome.Outcome.TheVariants.{Done, Refused, Ticket, Confirmed, NoneConfirmed, Record, NoRecord, Fetched, Accepted, BadSpan, Read, Wrote, NothingInFlight, Bytes, Free}
+use Rattle.iom_machine.specs.declared.outcome.Outcome.TheVariants.{Done, Refused, Ticket, Confirmed, NoneConfirmed, Record, NoRecord, Fetched, TimedOut, NoEffect, Accepted, BadSpan, Read, Wrote, NothingInFlight, Bytes, Free}
 use Rattle.iom_base.specs.declared.access.Access.{Access}
 use Rattle.iom_machine.specs.declared.state.Device.{Device}
 use Rattle.iom_machine.specs.declared.state.Frame.{Frame}
@@ -40,9 +40,9 @@ use Rattle.iom_machine.specs.PowerOn.{opening, empty_frame}
 use Rattle.iom_machine.specs.Leaving.{is_of_left, given_back}
 use Rattle.iom_machine.specs.Tickets.{with_confirmed}
 use Rattle.iom_machine.specs.Headline.{GrantsFrame, Asked, asked_by, access_sent, IsReached}
-use Rattle.iom_machine.proofs.ReachLemmas.{NamesFrame, reach_before, reach_after_grant, reach_after_release}
+use Rattle.iom_machine.proofs.ReachLemmas.{NamesFrame, reach_before, reach_after_grant, reach_after_release, reach_after_release_of_all}
 use Rattle.iom_machine.proofs.ByteLemmas.{length-with_bytes}
-use Rattle.iom_machine.proofs.InFlightLemmas.{act_cases, some_case, All-at, AllInFlight, AllInFlight-of, AllInFlight-weaker, StillMay, IsAccepted, asked_parts, same-translated, same-asks, same-forges, same-delivers, same-drops, same-repeats, in_flight-step}
+use Rattle.iom_machine.proofs.InFlightLemmas.{act_cases, some_case, All-at, AllInFlight, AllInFlight-of, AllInFlight-weaker, StillMay, IsAccepted, asked_parts, same-translated, same-asks, same-forges, same-delivers, same-drops, same-repeats, same-resets, in_flight-step}
 
 -- an access that stays within its page, and a write with as many bytes as it names
 abbrev pub IsWhole : ℕ → AcceptedAccess → Type 0
@@ -181,6 +181,7 @@ pub data Change (event : Event) (outcome : Outcome) (old new : State) : Type 0 w
   grants : (id page frame : ℕ) (rights : Rights) → GrantsFrame event outcome frame → frame < length old.frames → held_at old.history id page ≡ None → new.history ≡ entries.Granted id page frame rights ∷ old.history → new.last_ticket ≡ old.last_ticket → Change event outcome old new
   detaches : new.history ≡ old.history → new.last_ticket ≡ old.last_ticket + 1 → Change event outcome old new
   releases : (id page : ℕ) → new.history ≡ entries.Released id page new.last_ticket ∷ old.history → new.last_ticket ≡ old.last_ticket + 1 → Change event outcome old new
+  releases_all : (id : ℕ) → new.history ≡ entries.AllReleased id new.last_ticket ∷ old.history → new.last_ticket ≡ old.last_ticket + 1 → Change event outcome old new
   confirms_some : (first n : ℕ) → first + n ≤ old.last_ticket + 1 → new.history ≡ confirmed_from first n old.history → new.last_ticket ≡ old.last_ticket → EachInFlightMay new → Change event outcome old new
 
 unchanged : (event : Event) (outcome : Outcome) (old new : State) → new ≡ old → Change event outcome old new
@@ -207,12 +208,28 @@ change-step old new (events.Release id page) (Ticket ticket) (choice, step) =
     Change.releases id page (ap (λ (s : State). s.history) step.2 ∙ ap (λ t. entries.Released id page t ∷ old.history) (sym given)) (given ∙ step.1)
 change-step old new (events.Release id page) (Refused why) (choice, step) = unchanged _ _ old new step.1
 change-step old new (events.Release id page) _ (choice, step) = absurd step
+change-step old new (events.Quarantine id) (Ticket ticket) (choice, step) =
+    let found = some_case (device_of old id) _ step.2 in
+    let given : new.last_ticket ≡ ticket = ap (λ (s : State). s.last_ticket) found.2 in
+    Change.releases_all id (ap (λ (s : State). s.history) found.2 ∙ ap (λ t. entries.AllReleased id t ∷ old.history) (sym given)) (given ∙ step.1)
+change-step old new (events.Quarantine id) (Refused why) (choice, step) = unchanged _ _ old new step.1
+change-step old new (events.Quarantine id) _ (choice, step) = absurd step
+change-step old new (events.Revive id) Done (choice, step) =
+    let found = some_case (device_of old id) _ step.1 in Change.ledger_stays (ap (λ (s : State). s.history) found.2, ap (λ (s : State). s.last_ticket) found.2)
+change-step old new (events.Revive id) (Refused why) (choice, step) = unchanged _ _ old new step.1
+change-step old new (events.Revive id) _ (choice, step) = absurd step
+change-step old new events.Restart Done (choice, step) = unchanged _ _ old new step
+change-step old new events.Restart (Refused why) (choice, step) = unchanged _ _ old new step.1
+change-step old new events.Restart _ (choice, step) = absurd step
 change-step old new events.Fetch (Fetched result) (choice, step) = unchanged _ _ old new step
 change-step old new events.Fetch _ (choice, step) = absurd step
-change-step old new events.Poll (Confirmed first last) (choice, step) =
+change-step old new events.Timeout TimedOut (choice, step) = unchanged _ _ old new step
+change-step old new events.Timeout NoEffect (choice, step) = unchanged _ _ old new step
+change-step old new events.Timeout _ (choice, step) = absurd step
+change-step old new events.Poll (Confirmed first last timed_out) (choice, step) =
     let upward : first ≤ last = step.0.1 in let most : last ≤ old.last_ticket = step.0.2 in
     Change.confirms_some first (suc (last - first)) (omega arith) (ap (λ (s : State). s.history) step.1) (ap (λ (s : State). s.last_ticket) step.1) step.2
-change-step old new events.Poll NoneConfirmed (choice, step) = unchanged _ _ old new step
+change-step old new events.Poll (NoneConfirmed timed_out) (choice, step) = unchanged _ _ old new step
 change-step old new events.Poll _ (choice, step) = absurd step
 change-step old new events.Faults (Record taken) (choice, step) = unchanged _ _ old new step
 change-step old new events.Faults NoRecord (choice, step) = unchanged _ _ old new step
@@ -228,6 +245,7 @@ change-step old new (events.Forge id serial) outcome (choice, step) = unchanged 
 change-step old new (events.Deliver place) outcome (choice, step) = unchanged _ _ old new (same-delivers choice.device choice.page old new outcome step)
 change-step old new (events.Drop place) outcome (choice, step) = unchanged _ _ old new (same-drops old new outcome step)
 change-step old new (events.Repeat place) outcome (choice, step) = unchanged _ _ old new (same-repeats old new outcome step)
+change-step old new (events.Reset id) outcome (choice, step) = unchanged _ _ old new (same-resets old new id outcome step)
 change-step old new (events.Commit id) outcome (choice, step) = Change.ledger_stays (same_ledger-commits old new id outcome step)
 change-step old new (events.Poke address bytes) Done (choice, step) = Change.ledger_stays (ap (λ (s : State). s.history) step.2, ap (λ (s : State). s.last_ticket) step.2)
 change-step old new (events.Poke address bytes) (Refused why) (choice, step) = unchanged _ _ old new step.2
@@ -252,6 +270,10 @@ reaches-change event outcome old new (Change.releases id page extended next) giv
     subst (λ h. AllInFlight (StillMay h) new.devices) (sym extended)
     (AllInFlight-weaker (StillMay old.history) _ (λ d flight may. reach_after_release old.history id page new.last_ticket
     (ap (confirms old.history) next ∙ fresh_ticket old.history old.last_ticket given) d flight.frame flight.access.kind may) new.devices all)
+reaches-change event outcome old new (Change.releases_all id extended next) given all =
+    subst (λ h. AllInFlight (StillMay h) new.devices) (sym extended)
+    (AllInFlight-weaker (StillMay old.history) _ (λ d flight may. reach_after_release_of_all old.history id new.last_ticket
+    (ap (confirms old.history) next ∙ fresh_ticket old.history old.last_ticket given) d flight.frame flight.access.kind may) new.devices all)
 reaches-change event outcome old new (Change.confirms_some first n most extended tickets reaches) given all = reaches
 
 -- confirmed tickets were given
@@ -261,6 +283,9 @@ tickets-change event outcome old new (Change.detaches stays next) given =
     λ t c. let below : t ≤ old.last_ticket = given t (subst (λ h. confirms h t ≡ true) stays c) in omega (arith, next)
 tickets-change event outcome old new (Change.grants id page frame rights granted low empty extended tickets) given = rw (extended, tickets) given
 tickets-change event outcome old new (Change.releases id page extended next) given =
+    λ t c. let before : confirms old.history t ≡ true = subst (λ h. confirms h t ≡ true) extended c in
+    let below : t ≤ old.last_ticket = given t before in omega (arith, next)
+tickets-change event outcome old new (Change.releases_all id extended next) given =
     λ t c. let before : confirms old.history t ≡ true = subst (λ h. confirms h t ≡ true) extended c in
     let below : t ≤ old.last_ticket = given t before in omega (arith, next)
 tickets-change event outcome old new (Change.confirms_some first n most extended tickets reaches) given =
@@ -293,6 +318,8 @@ in_memory-change event outcome old new change size low = subst (λ n. AreInMemor
         (entered (entries.Granted id page frame rights) (λ named same. subst (λ n. n < length old.frames) same below) old.history low)
     by (Change.releases id page extended next) = subst (λ h. AreInMemory h (length old.frames)) (sym extended)
         (entered (entries.Released id page new.last_ticket) (λ frame named. absurd named) old.history low)
+    by (Change.releases_all id extended next) = subst (λ h. AreInMemory h (length old.frames)) (sym extended)
+        (entered (entries.AllReleased id new.last_ticket) (λ frame named. absurd named) old.history low)
     by (Change.confirms_some first n most extended tickets reaches) = subst (λ h. AreInMemory h (length old.frames)) (sym extended) (confirmed first n)
 
 same_frames-requests : (chosen : ℕ) (old new : State) (id : ℕ) (access : Access) (outcome : Outcome) → Requests chosen old id access outcome new → new.frames ≡ old.frames
@@ -378,11 +405,25 @@ frames-step W P owned returned written poked old new (events.Grant id page frame
 frames-step W P owned returned written poked old new (events.Release id page) (Ticket ticket) all (choice, step) its = subst P (sym (ap (λ (s : State). s.frames) step.2)) its
 frames-step W P owned returned written poked old new (events.Release id page) (Refused why) all (choice, step) its = subst P (sym (ap (λ (s : State). s.frames) step.1)) its
 frames-step W P owned returned written poked old new (events.Release id page) _ all (choice, step) its = absurd step
+frames-step W P owned returned written poked old new (events.Quarantine id) (Ticket ticket) all (choice, step) its =
+    let found = some_case (device_of old id) _ step.2 in subst P (sym (ap (λ (s : State). s.frames) found.2)) its
+frames-step W P owned returned written poked old new (events.Quarantine id) (Refused why) all (choice, step) its = subst P (sym (ap (λ (s : State). s.frames) step.1)) its
+frames-step W P owned returned written poked old new (events.Quarantine id) _ all (choice, step) its = absurd step
+frames-step W P owned returned written poked old new (events.Revive id) Done all (choice, step) its =
+    let found = some_case (device_of old id) _ step.1 in subst P (sym (ap (λ (s : State). s.frames) found.2)) its
+frames-step W P owned returned written poked old new (events.Revive id) (Refused why) all (choice, step) its = subst P (sym (ap (λ (s : State). s.frames) step.1)) its
+frames-step W P owned returned written poked old new (events.Revive id) _ all (choice, step) its = absurd step
+frames-step W P owned returned written poked old new events.Restart Done all (choice, step) its = subst P (sym (ap (λ (s : State). s.frames) step)) its
+frames-step W P owned returned written poked old new events.Restart (Refused why) all (choice, step) its = subst P (sym (ap (λ (s : State). s.frames) step.1)) its
+frames-step W P owned returned written poked old new events.Restart _ all (choice, step) its = absurd step
 frames-step W P owned returned written poked old new events.Fetch (Fetched result) all (choice, step) its = subst P (sym (ap (λ (s : State). s.frames) step)) its
 frames-step W P owned returned written poked old new events.Fetch _ all (choice, step) its = absurd step
-frames-step W P owned returned written poked old new events.Poll (Confirmed first last) all (choice, step) its =
+frames-step W P owned returned written poked old new events.Timeout TimedOut all (choice, step) its = subst P (sym (ap (λ (s : State). s.frames) step)) its
+frames-step W P owned returned written poked old new events.Timeout NoEffect all (choice, step) its = subst P (sym (ap (λ (s : State). s.frames) step)) its
+frames-step W P owned returned written poked old new events.Timeout _ all (choice, step) its = absurd step
+frames-step W P owned returned written poked old new events.Poll (Confirmed first last timed_out) all (choice, step) its =
     subst P (sym (ap (λ (s : State). s.frames) step.1)) (returned old.frames (is_of_left (with_confirmed old first last)) its)
-frames-step W P owned returned written poked old new events.Poll NoneConfirmed all (choice, step) its = subst P (sym (ap (λ (s : State). s.frames) step)) its
+frames-step W P owned returned written poked old new events.Poll (NoneConfirmed timed_out) all (choice, step) its = subst P (sym (ap (λ (s : State). s.frames) step)) its
 frames-step W P owned returned written poked old new events.Poll _ all (choice, step) its = absurd step
 frames-step W P owned returned written poked old new events.Faults (Record taken) all (choice, step) its = subst P (sym (ap (λ (s : State). s.frames) step)) its
 frames-step W P owned returned written poked old new events.Faults NoRecord all (choice, step) its = subst P (sym (ap (λ (s : State). s.frames) step)) its
@@ -400,6 +441,7 @@ frames-step W P owned returned written poked old new (events.Forge id serial) ou
 frames-step W P owned returned written poked old new (events.Deliver place) outcome all (choice, step) its = subst P (sym (ap (λ (s : State). s.frames) (same-delivers choice.device choice.page old new outcome step))) its
 frames-step W P owned returned written poked old new (events.Drop place) outcome all (choice, step) its = subst P (sym (ap (λ (s : State). s.frames) (same-drops old new outcome step))) its
 frames-step W P owned returned written poked old new (events.Repeat place) outcome all (choice, step) its = subst P (sym (ap (λ (s : State). s.frames) (same-repeats old new outcome step))) its
+frames-step W P owned returned written poked old new (events.Reset id) outcome all (choice, step) its = subst P (sym (ap (λ (s : State). s.frames) (same-resets old new id outcome step))) its
 frames-step W P owned returned written poked old new (events.Commit id) outcome all (choice, step) its = frames-commits W P written old new id outcome all step its
 frames-step W P owned returned written poked old new (events.Poke address bytes) Done all (choice, step) its =
     subst P (sym (ap (λ (s : State). s.frames) step.2)) (poked old.frames (address / 4096) (address % 4096) bytes step.0.1 its)

@@ -6,7 +6,7 @@ use Rattle.iom_ledger.specs.History.{May}
 use Rattle.iom_machine.specs.declared.event.Event.{Event}
 use Rattle.iom_machine.specs.declared.event.Event.TheVariants as events
 use Rattle.iom_machine.specs.declared.outcome.Outcome.{Outcome}
-use Rattle.iom_machine.specs.declared.outcome.Outcome.TheVariants.{Done, Refused, Ticket, Confirmed, NoneConfirmed, Record, NoRecord, Fetched, Accepted, Busy, BadSpan, Fault, Miss, Sent, Lost, Answered, Kept, Stale, AnswerRefused, Ignored, Invalidated, Closed, NotClosed, Dropped, Repeated, NoMessage, Read, Wrote, NothingInFlight, Bytes, Free}
+use Rattle.iom_machine.specs.declared.outcome.Outcome.TheVariants.{Done, Refused, Ticket, Confirmed, NoneConfirmed, Record, NoRecord, Fetched, TimedOut, NoEffect, Accepted, Busy, BadSpan, Fault, Miss, Sent, Lost, Answered, Kept, Stale, AnswerRefused, Ignored, Invalidated, Closed, NotClosed, Dropped, Repeated, NoMessage, Read, Wrote, NothingInFlight, Bytes, Free}
 use Rattle.iom_base.specs.declared.access.Access.{Access}
 use Rattle.iom_machine.specs.declared.state.Attachment.TheVariants.{Attached}
 use Rattle.iom_machine.specs.declared.state.Device.{Device}
@@ -90,12 +90,17 @@ asked_by (events.Forge id serial) = None
 asked_by (events.Deliver place) = None
 asked_by (events.Drop place) = None
 asked_by (events.Repeat place) = None
+asked_by (events.Reset id) = None
 asked_by (events.Plug id kind) = None
 asked_by (events.Attach id mode ats) = None
 asked_by (events.Detach id) = None
 asked_by (events.Grant id page frame rights) = None
 asked_by (events.Release id page) = None
+asked_by (events.Quarantine id) = None
+asked_by (events.Revive id) = None
+asked_by events.Restart = None
 asked_by events.Fetch = None
+asked_by events.Timeout = None
 asked_by events.Poll = None
 asked_by events.Faults = None
 asked_by (events.Commit id) = None
@@ -113,11 +118,13 @@ accepted_by event (Accepted number) id = option_map_or (λ asked. if asked.0 == 
 accepted_by event Done id = []
 accepted_by event (Refused why) id = []
 accepted_by event (Ticket ticket) id = []
-accepted_by event (Confirmed first last) id = []
-accepted_by event NoneConfirmed id = []
+accepted_by event (Confirmed first last timed_out) id = []
+accepted_by event (NoneConfirmed timed_out) id = []
 accepted_by event (Record taken) id = []
 accepted_by event NoRecord id = []
 accepted_by event (Fetched result) id = []
+accepted_by event TimedOut id = []
+accepted_by event NoEffect id = []
 accepted_by event Busy id = []
 accepted_by event BadSpan id = []
 accepted_by event (Fault cause) id = []
@@ -159,7 +166,11 @@ made_by (events.Attach d mode ats) outcome id = 0
 made_by (events.Detach d) outcome id = 0
 made_by (events.Grant d page frame rights) outcome id = 0
 made_by (events.Release d page) outcome id = 0
+made_by (events.Quarantine d) outcome id = 0
+made_by (events.Revive d) outcome id = 0
+made_by events.Restart outcome id = 0
 made_by events.Fetch outcome id = 0
+made_by events.Timeout outcome id = 0
 made_by events.Poll outcome id = 0
 made_by events.Faults outcome id = 0
 made_by (events.Read d address len) outcome id = 0
@@ -173,6 +184,7 @@ made_by (events.Forge d serial) outcome id = 0
 made_by (events.Deliver place) outcome id = 0
 made_by (events.Drop place) outcome id = 0
 made_by (events.Repeat place) outcome id = 0
+made_by (events.Reset d) outcome id = 0
 made_by (events.Poke address bytes) outcome id = 0
 made_by (events.Peek address len) outcome id = 0
 made_by (events.Free frame) outcome id = 0
@@ -216,7 +228,11 @@ GrantsFrame (events.Plug id kind) outcome frame = ⊥
 GrantsFrame (events.Attach id mode ats) outcome frame = ⊥
 GrantsFrame (events.Detach id) outcome frame = ⊥
 GrantsFrame (events.Release id page) outcome frame = ⊥
+GrantsFrame (events.Quarantine id) outcome frame = ⊥
+GrantsFrame (events.Revive id) outcome frame = ⊥
+GrantsFrame events.Restart outcome frame = ⊥
 GrantsFrame events.Fetch outcome frame = ⊥
+GrantsFrame events.Timeout outcome frame = ⊥
 GrantsFrame events.Poll outcome frame = ⊥
 GrantsFrame events.Faults outcome frame = ⊥
 GrantsFrame (events.Read id address len) outcome frame = ⊥
@@ -230,6 +246,7 @@ GrantsFrame (events.Forge id serial) outcome frame = ⊥
 GrantsFrame (events.Deliver place) outcome frame = ⊥
 GrantsFrame (events.Drop place) outcome frame = ⊥
 GrantsFrame (events.Repeat place) outcome frame = ⊥
+GrantsFrame (events.Reset id) outcome frame = ⊥
 GrantsFrame (events.Commit id) outcome frame = ⊥
 GrantsFrame (events.Poke address bytes) outcome frame = ⊥
 GrantsFrame (events.Peek address len) outcome frame = ⊥
@@ -253,7 +270,11 @@ TouchesFrame old (events.Attach id mode ats) outcome frame = ⊥
 TouchesFrame old (events.Detach id) outcome frame = ⊥
 TouchesFrame old (events.Grant id page named rights) outcome frame = ⊥
 TouchesFrame old (events.Release id page) outcome frame = ⊥
+TouchesFrame old (events.Quarantine id) outcome frame = ⊥
+TouchesFrame old (events.Revive id) outcome frame = ⊥
+TouchesFrame old events.Restart outcome frame = ⊥
 TouchesFrame old events.Fetch outcome frame = ⊥
+TouchesFrame old events.Timeout outcome frame = ⊥
 TouchesFrame old events.Poll outcome frame = ⊥
 TouchesFrame old events.Faults outcome frame = ⊥
 TouchesFrame old (events.Read id address len) outcome frame = ⊥
@@ -267,6 +288,7 @@ TouchesFrame old (events.Forge id serial) outcome frame = ⊥
 TouchesFrame old (events.Deliver place) outcome frame = ⊥
 TouchesFrame old (events.Drop place) outcome frame = ⊥
 TouchesFrame old (events.Repeat place) outcome frame = ⊥
+TouchesFrame old (events.Reset id) outcome frame = ⊥
 -- the processor is no device
 TouchesFrame old (events.Poke address bytes) outcome frame = ⊥
 TouchesFrame old (events.Peek address len) outcome frame = ⊥

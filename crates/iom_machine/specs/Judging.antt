@@ -19,7 +19,7 @@ use Rattle.iom_machine.specs.declared.outcome.Outcome.{Outcome}
 use Rattle.iom_machine.specs.declared.state.State.{State}
 use Rattle.iom_base.specs.Accesses.{read_of, write_of}
 use Rattle.iom_machine.specs.Devices.{replaced_device}
-use Rattle.iom_machine.specs.Machine.{Plugs, Attaches, Detaches, Grants, Releases, Requests, RequestsTranslated, RequestsThroughCache}
+use Rattle.iom_machine.specs.Machine.{Plugs, Attaches, Detaches, Grants, Releases, Quarantines, Revives, Restarts, TimesOut, Resets, Requests, RequestsTranslated, RequestsThroughCache}
 use Rattle.iom_machine.specs.Leaving.{has_left}
 
 -- whether the device holds the frame at the page, with such a right
@@ -112,6 +112,15 @@ CallStep choice old (events.Detach id) outcome new = Detaches old id outcome new
 CallStep choice old (events.Grant id page frame rights) outcome new = Grants choice.taken old id page frame rights outcome new
 CallStep choice old (events.Release id page) outcome new = Releases old id page outcome new
 CallStep choice old _ outcome new = ⊥
+
+-- the step of an event that has to do with a device that doesn't answer; no other event is one
+abbrev pub RecoveryStep : State → Event → Outcome → State → Type 0
+RecoveryStep old (events.Quarantine id) outcome new = Quarantines old id outcome new
+RecoveryStep old (events.Revive id) outcome new = Revives old id outcome new
+RecoveryStep old events.Restart outcome new = Restarts old outcome new
+RecoveryStep old events.Timeout outcome new = TimesOut old outcome new
+RecoveryStep old (events.Reset id) outcome new = Resets old id outcome new
+RecoveryStep old _ outcome new = ⊥
 
 -- the step of a request that the IOMMU translates; no other event is one
 abbrev pub UntranslatedStep : ℕ → State → Event → Outcome → State → Type 0

@@ -10,6 +10,7 @@ pub mod Questions
 pub mod Messages
 pub mod PowerOn
 pub mod Leaving
+pub mod CuttingOff
 pub mod Machine
 pub mod Headline
 pub mod Reclaim

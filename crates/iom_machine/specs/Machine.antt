@@ -12,7 +12,7 @@ use Rattle.iom_machine.specs.declared.choice.Choice.{Choice}
 use Rattle.iom_machine.specs.declared.event.Event.{Event}
 use Rattle.iom_machine.specs.declared.event.Event.TheVariants as events
 use Rattle.iom_machine.specs.declared.outcome.Outcome.{Outcome}
-use Rattle.iom_machine.specs.declared.outcome.Outcome.TheVariants.{Done, Refused, Ticket, Confirmed, NoneConfirmed, Record, NoRecord, Fetched, Read, Wrote, BadSpan, NothingInFlight, Bytes, Free}
+use Rattle.iom_machine.specs.declared.outcome.Outcome.TheVariants.{Done, Refused, Ticket, Confirmed, NoneConfirmed, Record, NoRecord, Fetched, TimedOut, NoEffect, Read, Wrote, BadSpan, NothingInFlight, Bytes, Free}
 use Rattle.iom_base.specs.declared.access.Access.{Access}
 use Rattle.iom_machine.specs.declared.state.Attachment.TheVariants.{Detached, Attached}
 use Rattle.iom_machine.specs.declared.state.Device.{Device}
@@ -26,7 +26,7 @@ use Rattle.iom_machine.specs.Frames.{is_reserved, IsFree, IsFreeBesides, reserve
 use Rattle.iom_machine.specs.Devices.{device_of, with_device, EachInFlightMay}
 use Rattle.iom_machine.specs.Tickets.{AreNextTickets, with_confirmed}
 use Rattle.iom_ledger.specs.Refusals.{NoneApplies, IsRefusedBy}
-use Rattle.iom_machine.specs.Refusals.{MayRefusePlug, MayRefuseAttach, MayRefuseGrant, MayFindNoPlace, NeverElse, plug_reasons, attach_reasons, detach_reasons, grant_reasons, release_reasons, frame_reasons, poke_reasons}
+use Rattle.iom_machine.specs.Refusals.{MayRefusePlug, MayRefuseAttach, MayRefuseGrant, MayRefuseRestart, MayFindNoPlace, NeverElse, plug_reasons, attach_reasons, detach_reasons, grant_reasons, release_reasons, quarantine_reasons, revive_reasons, frame_reasons, poke_reasons}
 use Rattle.iom_base.specs.Accesses.{read_of, write_of, offset_of}
 use Rattle.iom_machine.specs.Kinds.{sends_untranslated, forges, sends_through_cache, asks_questions, is_any_kind}
 use Rattle.iom_machine.specs.Requests.{MayAnswer, state_after}
@@ -34,6 +34,7 @@ use Rattle.iom_machine.specs.Translated.{MayAnswerTranslated}
 use Rattle.iom_machine.specs.ThroughCache.{MayAnswerThroughCache, state_after_cached}
 use Rattle.iom_machine.specs.Messages.{Sends, Delivers, Drops, Repeats}
 use Rattle.iom_machine.specs.Leaving.{leaving_under, with_left}
+use Rattle.iom_machine.specs.CuttingOff.{cut_off_under, attached_again}
 
 -- whether there are devices of this kind, so far: block devices come later
 abbrev pub is_built : DeviceKind → Bool
@@ -50,7 +51,11 @@ IsEvent (events.Attach id mode ats) = ⊤
 IsEvent (events.Detach id) = ⊤
 IsEvent (events.Grant id page frame rights) = ⊤
 IsEvent (events.Release id page) = ⊤
+IsEvent (events.Quarantine id) = ⊤
+IsEvent (events.Revive id) = ⊤
+IsEvent events.Restart = ⊤
 IsEvent events.Fetch = ⊤
+IsEvent events.Timeout = ⊤
 IsEvent events.Poll = ⊤
 IsEvent events.Faults = ⊤
 IsEvent (events.Read id address len) = ⊤
@@ -64,6 +69,7 @@ IsEvent (events.Forge id serial) = ⊤
 IsEvent (events.Deliver place) = ⊤
 IsEvent (events.Drop place) = ⊤
 IsEvent (events.Repeat place) = ⊤
+IsEvent (events.Reset id) = ⊤
 IsEvent (events.Commit id) = ⊤
 IsEvent (events.Poke address bytes) = ⊤
 IsEvent (events.Peek address len) = ⊤
@@ -123,17 +129,50 @@ Releases old id page (Refused why) new =
     IsRefusedBy (release_reasons old id page) MayFindNoPlace why × (new ≡ old)
 Releases old id page _ new = ⊥
 
+-- A device is cut off under the next ticket: all that it holds is released, and lingers until that is confirmed.
+abbrev pub Quarantines : State → ℕ → Outcome → State → Type 0
+Quarantines old id (Ticket ticket) new =
+    NoneApplies (quarantine_reasons old id) × (ticket ≡ old.last_ticket + 1)
+    × IsSomeAnd (device_of old id) (λ device.
+    new ≡ record (with_device old (record device { attachment = cut_off_under ticket device.attachment })) {
+      history = entry.AllReleased id ticket ∷ old.history;
+      last_ticket = ticket;
+    })
+Quarantines old id (Refused why) new = IsRefusedBy (quarantine_reasons old id) MayFindNoPlace why × (new ≡ old)
+Quarantines old id _ new = ⊥
+
+-- A device whose quarantine's ticket is confirmed is attached as before. It holds nothing.
+abbrev pub Revives : State → ℕ → Outcome → State → Type 0
+Revives old id Done new =
+    NoneApplies (revive_reasons old id)
+    × IsSomeAnd (device_of old id) (λ device.
+    new ≡ with_device old (record device { attachment = attached_again device.attachment }))
+Revives old id (Refused why) new = IsRefusedBy (revive_reasons old id) NeverElse why × (new ≡ old)
+Revives old id _ new = ⊥
+
+-- The driver empties the command queue, and queues what is needed anew. Nothing changes that the machine knows: each ticket stays as it is.
+abbrev pub Restarts : State → Outcome → State → Type 0
+Restarts old Done new = new ≡ old
+Restarts old (Refused why) new = IsRefusedBy [] MayRefuseRestart why × (new ≡ old)
+Restarts old _ new = ⊥
+
 -- The IOMMU takes a command, or none. Nothing changes that the machine knows.
 abbrev pub Fetches : State → Outcome → State → Type 0
 Fetches old (Fetched result) new = new ≡ old
 Fetches old _ new = ⊥
 
+-- The IOMMU gives up a fence that waits for devices, if one does. Nothing changes that the machine knows.
+abbrev pub TimesOut : State → Outcome → State → Type 0
+TimesOut old TimedOut new = new ≡ old
+TimesOut old NoEffect new = new ≡ old
+TimesOut old _ new = ⊥
+
 -- Some of the oldest pending tickets are confirmed, such that each access in flight may still reach its frame, and devices that were leaving under
 -- them are detached, with their frames given back; or none is confirmed.
 abbrev pub Polls : State → Outcome → State → Type 0
-Polls old (Confirmed first last) new =
+Polls old (Confirmed first last timed_out) new =
     AreNextTickets old first last × (new ≡ with_left (with_confirmed old first last)) × EachInFlightMay new
-Polls old NoneConfirmed new = new ≡ old
+Polls old (NoneConfirmed timed_out) new = new ≡ old
 Polls old _ new = ⊥
 
 -- The driver takes a fault record, or finds none. Nothing changes that the machine knows.
@@ -175,6 +214,10 @@ Asks old id outcome new = Acts asks_questions (λ device. Sends old outcome new)
 -- A device says that an invalidation is done.
 abbrev pub Forges : State → ℕ → Outcome → State → Type 0
 Forges old id outcome new = Acts forges (λ device. Sends old outcome new) old id outcome new
+
+-- A device of any kind is reset. Its accesses in flight stay, and nothing changes that the machine knows.
+abbrev pub Resets : State → ℕ → Outcome → State → Type 0
+Resets old id outcome new = Acts is_any_kind (λ device. (outcome ≡ Done) × (new ≡ old)) old id outcome new
 
 -- the state, where the oldest access of the device is in flight no more
 abbrev pub with_oldest_made : State → Device → State
@@ -245,7 +288,11 @@ ChosenStep choice old (events.Attach id mode ats) outcome new = Attaches choice.
 ChosenStep choice old (events.Detach id) outcome new = Detaches old id outcome new
 ChosenStep choice old (events.Grant id page frame rights) outcome new = Grants choice.taken old id page frame rights outcome new
 ChosenStep choice old (events.Release id page) outcome new = Releases old id page outcome new
+ChosenStep choice old (events.Quarantine id) outcome new = Quarantines old id outcome new
+ChosenStep choice old (events.Revive id) outcome new = Revives old id outcome new
+ChosenStep choice old events.Restart outcome new = Restarts old outcome new
 ChosenStep choice old events.Fetch outcome new = Fetches old outcome new
+ChosenStep choice old events.Timeout outcome new = TimesOut old outcome new
 ChosenStep choice old events.Poll outcome new = Polls old outcome new
 ChosenStep choice old events.Faults outcome new = TakesRecord old outcome new
 ChosenStep choice old (events.Read id address len) outcome new = Requests choice.frame old id (read_of address len) outcome new
@@ -259,6 +306,7 @@ ChosenStep choice old (events.Forge id serial) outcome new = Forges old id outco
 ChosenStep choice old (events.Deliver place) outcome new = Delivers choice.device choice.page old outcome new
 ChosenStep choice old (events.Drop place) outcome new = Drops old outcome new
 ChosenStep choice old (events.Repeat place) outcome new = Repeats old outcome new
+ChosenStep choice old (events.Reset id) outcome new = Resets old id outcome new
 ChosenStep choice old (events.Commit id) outcome new = Commits old id outcome new
 ChosenStep choice old (events.Poke address bytes) outcome new = Pokes old address bytes outcome new
 ChosenStep choice old (events.Peek address len) outcome new = Peeks old address len outcome new

@@ -7,14 +7,14 @@ use Rattle.iom_ledger.specs.declared.refusal.Refusal.{Refusal}
 use Rattle.iom_ledger.specs.declared.refusal.Refusal.TheVariants.{NoSuchDevice, AlreadyAttached, NotAttached, NotTrusted, FrameOutOfRange, FrameReserved, IovaOutOfRange, IovaBusy, NotGranted, NoFrames, StillGranted, QueueFull, TooManyPending, NumbersUsedUp, Memory, IdTooWide, TooManyDevices, AlreadyPlugged}
 use Rattle.iom_ledger.specs.declared.refusal.Refusal.TheVariants as refusal
 use Rattle.iom_ledger.specs.declared.entry.HistoryEntry.TheVariants.{Granted, Released, AllReleased, Confirmed}
-use Rattle.iom_ledger.specs.History.{History, held_at, lingering_at}
+use Rattle.iom_ledger.specs.History.{History, held_at, lingering_at, confirms}
 use Rattle.iom_ledger.specs.Pending.{pending_limit}
 use Rattle.iom_machine.specs.declared.state.DeviceKind.{DeviceKind}
 use Rattle.iom_machine.specs.declared.state.DeviceKind.TheVariants.{Raw, Ats, Block, CachedBlock}
 use Rattle.iom_base.specs.declared.mode.Mode.{Mode}
 use Rattle.iom_base.specs.declared.mode.Mode.TheVariants.{First, Second, Both}
 use Rattle.iom_machine.specs.declared.state.Attachment.{Attachment}
-use Rattle.iom_machine.specs.declared.state.Attachment.TheVariants.{Detached, Quarantined, Leaving}
+use Rattle.iom_machine.specs.declared.state.Attachment.TheVariants.{Detached, Attached, Quarantined, Leaving}
 use Rattle.iom_machine.specs.declared.state.State.{State}
 use Rattle.iom_machine.specs.Frames.{is_reserved, IsFree, IsFreeBesides, IsFreeRun, FewerThan}
 use Rattle.iom_machine.specs.Devices.{device_of}
@@ -42,6 +42,16 @@ is_leaving _ = false
 abbrev pub is_quarantined : Attachment → Bool
 is_quarantined (Quarantined ticket mode ats) = true
 is_quarantined _ = false
+
+-- whether the device is attached, so that requests of it are translated
+abbrev pub is_attached : Attachment → Bool
+is_attached (Attached mode ats) = true
+is_attached _ = false
+
+-- whether the device is cut off under a ticket that the history doesn't confirm, so that what it held lingers still
+abbrev pub may_still_reach : History → Attachment → Bool
+may_still_reach history (Quarantined ticket mode ats) = not (confirms history ticket)
+may_still_reach history _ = false
 
 -- whether a device of the kind has a cache of translations
 abbrev pub has_cache : DeviceKind → Bool
@@ -135,6 +145,21 @@ release_reasons state id page = attachment_reasons state id (
     ∷ (nat_le pending_limit (pending_tickets state), TooManyPending)
     ∷ [])
 
+-- a device is cut off
+abbrev pub quarantine_reasons : State → ℕ → List (Bool × Refusal)
+quarantine_reasons state id = attachment_reasons state id (
+    (nat_le pending_limit (pending_tickets state), TooManyPending)
+    ∷ [])
+
+-- a device that was cut off is attached again
+abbrev pub revive_reasons : State → ℕ → List (Bool × Refusal)
+revive_reasons state id =
+    (not (is_plugged state id), NoSuchDevice)
+    ∷ (is_detached (attachment_of state id) || is_leaving (attachment_of state id), NotAttached)
+    ∷ (is_attached (attachment_of state id), AlreadyAttached)
+    ∷ (may_still_reach state.history (attachment_of state id), StillGranted)
+    ∷ []
+
 -- a frame is named
 abbrev pub frame_reasons : State → ℕ → List (Bool × Refusal)
 frame_reasons state frame = (nat_le (length state.frames) frame, FrameOutOfRange) ∷ []
@@ -176,7 +201,12 @@ MayRefuseGrant state frame _ = ⊥
 abbrev pub NeverElse : Refusal → Type 0
 NeverElse why = ⊥
 
--- a release or a detach may find the command queue full, or the numbers of its fences used up
+-- a restart may find the numbers of its fences used up
+abbrev pub MayRefuseRestart : Refusal → Type 0
+MayRefuseRestart NumbersUsedUp = ⊤
+MayRefuseRestart _ = ⊥
+
+-- a release, a detach or a quarantine may find the command queue full, or the numbers of its fences used up
 abbrev pub MayFindNoPlace : Refusal → Type 0
 MayFindNoPlace QueueFull = ⊤
 MayFindNoPlace NumbersUsedUp = ⊤

@@ -32,8 +32,20 @@ pub enum Event {
         device: DeviceId,
         page: u64,
     },
+    /// The driver is asked to cut the device off, and to release all that it holds.
+    Quarantine {
+        device: DeviceId,
+    },
+    /// The driver is asked to attach a device again that was cut off; it is reset.
+    Revive {
+        device: DeviceId,
+    },
+    /// The driver is asked to empty the command queue, and to queue all that is still needed anew.
+    Restart,
     /// The IOMMU takes its next command.
     Fetch,
+    /// The IOMMU gives up a fence that waits for devices.
+    Timeout,
     /// The driver looks which tickets are done.
     Poll,
     /// The driver takes the oldest fault record.
@@ -97,6 +109,10 @@ pub enum Event {
     /// A copy of the message at the place is sent.
     Repeat {
         place: u64,
+    },
+    /// The device is reset: it forgets what it was told of translations.
+    Reset {
+        device: DeviceId,
     },
     /// The oldest accepted access of the device is made.
     Commit {

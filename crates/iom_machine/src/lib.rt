@@ -7,8 +7,9 @@
 //! their order; `Requests.antt` what a request may be answered, of a page that lingers too;
 //! `Questions.antt` what a device may be told that asks for a translation, and `ThroughCache.antt`
 //! what may come of an access through its cache (address translation services: PCI Express Base
-//! Specification, chapter 10). The layers above are proved to take lawful steps alone, and the laws
-//! of this crate say what every run of lawful steps has.
+//! Specification, chapter 10); `CuttingOff.antt` how a device that doesn't answer is cut off, and
+//! attached again. The layers above are proved to take lawful steps alone, and the laws of this
+//! crate say what every run of lawful steps has.
 #![tactic(auto)]
 
 mod choice;

@@ -40,17 +40,28 @@ pub enum Outcome {
     /// The call did nothing, and says why.
     Refused(Refusal),
     /// Under this ticket the page was released, and lingers until the ticket is confirmed; or the
-    /// device was detached, and is leaving until then.
+    /// device was detached, and is leaving until then; or it was cut off, and all that it held lingers.
     Ticket(u32),
-    /// The tickets from the first to the last are confirmed now.
-    Confirmed { first: u32, last: u32 },
-    /// No ticket is confirmed now.
-    NoneConfirmed,
+    /// The tickets from the first to the last are confirmed now; and whether the IOMMU gave a fence up,
+    /// and takes no command until the driver restarts.
+    Confirmed {
+        first: u32,
+        last: u32,
+        timed_out: bool,
+    },
+    /// No ticket is confirmed now; and whether the IOMMU gave a fence up.
+    NoneConfirmed {
+        timed_out: bool,
+    },
     /// The driver took this fault record, the oldest.
     Record(FaultRecord),
     /// There was no fault record to take.
     NoRecord,
     Fetched(Fetched),
+    /// The fence that waited for devices is given up.
+    TimedOut,
+    /// No fence waits for devices, so none is given up.
+    NoEffect,
     /// The access is accepted; the number counts the device's accepted accesses from 1.
     Accepted(u64),
     /// Eight accesses of the device are in flight.

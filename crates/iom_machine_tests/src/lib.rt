@@ -17,4 +17,6 @@ mod machine;
 #[cfg(test)]
 mod modes;
 #[cfg(test)]
+mod recovery;
+#[cfg(test)]
 mod script;

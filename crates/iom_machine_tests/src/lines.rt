@@ -36,7 +36,11 @@ pub(crate) enum Does<'a> {
     Detach(DeviceId),
     Grant(DeviceId, u64, u64, GrantRights, &'a [u32]),
     Release(DeviceId, u64),
+    Quarantine(DeviceId),
+    Revive(DeviceId),
+    Restart,
     Fetch,
+    Timeout,
     Poll,
     Faults,
     Read(DeviceId, u64, u64),
@@ -48,6 +52,7 @@ pub(crate) enum Does<'a> {
     Deliver(u64),
     Drop(u64),
     Repeat(u64),
+    Reset(DeviceId),
     Commit(DeviceId),
     Poke(u64, &'a [u8]),
     Peek(u64, u64),
@@ -63,9 +68,13 @@ pub(crate) enum Comes<'a> {
     Ticket(u32),
     Confirmed(u32, u32),
     NoneConfirmed,
+    /// That a fence was given up, and which tickets are confirmed, if any.
+    PollTimedOut(Option<(u32, u32)>),
     Record([u64; 4]),
     NoRecord,
     Fetched(Fetched),
+    TimedOut,
+    NoEffect,
     Accepted(u64, u32),
     Busy,
     BadSpan,
@@ -135,6 +144,9 @@ fn call_of(does: &Does) -> Option<Event> {
             rights,
         }),
         Does::Release(device, page) => Some(Event::Release { device, page }),
+        Does::Quarantine(device) => Some(Event::Quarantine { device }),
+        Does::Revive(device) => Some(Event::Revive { device }),
+        Does::Restart => Some(Event::Restart),
         _ => None,
     }
 }
@@ -196,6 +208,7 @@ fn act_of(alloc: Global, does: &Does) -> Result<Option<Event>, Fail> {
         Does::Deliver(place) => Some(Event::Deliver { place }),
         Does::Drop(place) => Some(Event::Drop { place }),
         Does::Repeat(place) => Some(Event::Repeat { place }),
+        Does::Reset(device) => Some(Event::Reset { device }),
         Does::Commit(device) => Some(Event::Commit { device }),
         _ => None,
     })
@@ -207,6 +220,7 @@ fn event_of(alloc: Global, does: &Does) -> Result<Event, Fail> {
     }
     Ok(match *does {
         Does::Fetch => Event::Fetch,
+        Does::Timeout => Event::Timeout,
         Does::Poll => Event::Poll,
         Does::Faults => Event::Faults,
         Does::Poke(address, bytes) => Event::Poke {
@@ -228,16 +242,31 @@ fn few(bytes: &[u8]) -> ArrayVec<u8, 4096> {
     made
 }
 
+/// What a poll confirmed, and whether a fence was given up.
+fn polled(tickets: Option<(u32, u32)>, timed_out: bool) -> Outcome {
+    match tickets {
+        Some((first, last)) => Outcome::Confirmed {
+            first,
+            last,
+            timed_out,
+        },
+        None => Outcome::NoneConfirmed { timed_out },
+    }
+}
+
 fn outcome_of(comes: &Comes) -> Outcome {
     match *comes {
         Comes::Done => Outcome::Done,
         Comes::Refused(why) => Outcome::Refused(why),
         Comes::Ticket(ticket) => Outcome::Ticket(ticket),
-        Comes::Confirmed(first, last) => Outcome::Confirmed { first, last },
-        Comes::NoneConfirmed => Outcome::NoneConfirmed,
+        Comes::Confirmed(first, last) => polled(Some((first, last)), false),
+        Comes::NoneConfirmed => polled(None, false),
+        Comes::PollTimedOut(tickets) => polled(tickets, true),
         Comes::Record(words) => Outcome::Record(FaultRecord { words }),
         Comes::NoRecord => Outcome::NoRecord,
         Comes::Fetched(fetched) => Outcome::Fetched(fetched),
+        Comes::TimedOut => Outcome::TimedOut,
+        Comes::NoEffect => Outcome::NoEffect,
         Comes::Accepted(number, _) => Outcome::Accepted(number),
         Comes::Busy => Outcome::Busy,
         Comes::BadSpan => Outcome::BadSpan,

@@ -45,7 +45,9 @@ fn lines_tell_what_the_driver_answers(rt: HostRuntime) -> Result<(), Fail> {
     let confirmed = Outcome::Confirmed {
         first: 1,
         last: 256,
+        timed_out: false,
     };
+    let none = Outcome::NoneConfirmed { timed_out: false };
     let record = FaultRecord {
         words: [0x0000010800000015, 0, 0x30f0, u64::MAX],
     };
@@ -56,7 +58,7 @@ fn lines_tell_what_the_driver_answers(rt: HostRuntime) -> Result<(), Fail> {
     is_told(&rt, &mut out, &full, b"refused 12 TooManyPending\n");
     is_told(&rt, &mut out, &Outcome::Ticket(1), b"ticket 1\n");
     is_told(&rt, &mut out, &confirmed, b"confirmed 1-256\n");
-    is_told(&rt, &mut out, &Outcome::NoneConfirmed, b"confirmed -\n");
+    is_told(&rt, &mut out, &none, b"confirmed -\n");
     is_told(&rt, &mut out, &Outcome::Record(record), record_line);
     is_told(&rt, &mut out, &Outcome::NoRecord, b"no record\n");
     is_told(&rt, &mut out, &Outcome::Free(true), b"free yes\n");

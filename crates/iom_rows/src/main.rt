@@ -9,7 +9,7 @@
 use std::alloc::Global;
 use std::fs;
 
-const ROWS: [&str; 27] = [
+const ROWS: [&str; 30] = [
     "empty-script",
     "first-path",
     "grant-boundaries",
@@ -37,6 +37,9 @@ const ROWS: [&str; 27] = [
     "forged-completion",
     "question-between-invalidations",
     "translated-request-record",
+    "loss-timeout-restart",
+    "reset-between",
+    "quarantine-and-revival",
 ];
 
 /// The number of the first line that differs, counted from 1.

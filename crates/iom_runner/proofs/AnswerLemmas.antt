@@ -16,7 +16,7 @@ use Rattle.iom_machine.specs.declared.event.Event.{Event}
 use Rattle.iom_machine.specs.declared.event.Event.TheVariants as events
 use Rattle.iom_machine.specs.declared.outcome.Fetched.TheVariants.{Empty}
 use Rattle.iom_machine.specs.declared.outcome.Outcome.{Outcome}
-use Rattle.iom_machine.specs.declared.outcome.Outcome.TheVariants.{Done, Refused, Ticket, NoneConfirmed, NoRecord, Fetched, Accepted, Busy, BadSpan, Fault, Miss, Lost, NoMessage}
+use Rattle.iom_machine.specs.declared.outcome.Outcome.TheVariants.{Done, Refused, Ticket, NoneConfirmed, NoRecord, NoEffect, Fetched, Accepted, Busy, BadSpan, Fault, Miss, Lost, NoMessage}
 use Rattle.iom_base.specs.declared.access.Access.{Access}
 use Rattle.iom_machine.specs.declared.state.Attachment.{Attachment}
 use Rattle.iom_machine.specs.declared.state.Attachment.TheVariants.{Detached, Attached, Quarantined, Leaving}
@@ -24,17 +24,18 @@ use Rattle.iom_machine.specs.declared.state.Device.{Device}
 use Rattle.iom_base.specs.declared.mode.Mode.{Mode}
 use Rattle.iom_base.specs.declared.mode.Mode.TheVariants.{First, Second, Both}
 use Rattle.iom_machine.specs.declared.state.State.{State}
+use Rattle.iom_machine.specs.CuttingOff.{cut_off_under, attached_again}
 use Rattle.iom_machine.specs.Devices.{device_of, with_device}
 use Rattle.iom_machine.specs.Frames.{IsFree}
 use Rattle.iom_machine.specs.Headline.{IsReached}
 use Rattle.iom_machine.specs.Leaving.{leaving_under}
-use Rattle.iom_machine.specs.Kinds.{sends_untranslated, forges, sends_through_cache, asks_questions}
-use Rattle.iom_machine.specs.Machine.{Step, Acts, Requests, RequestsTranslated, RequestsThroughCache, Run, plugged_device}
+use Rattle.iom_machine.specs.Kinds.{sends_untranslated, forges, sends_through_cache, asks_questions, is_any_kind}
+use Rattle.iom_machine.specs.Machine.{Step, Acts, Requests, RequestsTranslated, RequestsThroughCache, Resets, Run, plugged_device}
 use Rattle.iom_machine.specs.Messages.{Sends}
 use Rattle.iom_machine.specs.PowerOn.{opening}
 use Rattle.iom_machine.specs.declared.state.DeviceKind.{DeviceKind}
 use Rattle.iom_ledger.specs.Refusals.{first_that_applies, IsRefusedBy}
-use Rattle.iom_machine.specs.Refusals.{MayRefusePlug, MayRefuseAttach, MayRefuseGrant, MayFindNoPlace, plug_reasons, attach_reasons, detach_reasons, grant_reasons, release_reasons}
+use Rattle.iom_machine.specs.Refusals.{MayRefusePlug, MayRefuseAttach, MayRefuseGrant, MayFindNoPlace, NeverElse, plug_reasons, attach_reasons, detach_reasons, grant_reasons, release_reasons, quarantine_reasons, revive_reasons}
 use Rattle.iom_base.specs.Accesses.{read_of, write_of, page_of, IsWithinPage}
 use Rattle.iom_machine.specs.Requests.{cause_without_context, HoldsFor, HoldsNoneFor, MayAccept, MayFault, MayAnswer, IsBusy, IsForwarded, state_after}
 use Rattle.iom_machine.specs.ThroughCache.{MayAnswerThroughCache, state_after_cached}
@@ -109,6 +110,39 @@ detach_is_answered state id = found (device_of state id) refl
     found : (o : Option Device) → device_of state id ≡ o → IsAnswered state (events.Detach id)
     found None absent = (Refused NoSuchDevice, state, (no_choice, (refused_first (detach_reasons state id) MayFindNoPlace NoSuchDevice (rw absent refl), refl)))
     found (Some device) there = by device there (first_that_applies (detach_reasons state id)) refl
+
+quarantine_is_answered : (state : State) (id : ℕ) → IsAnswered state (events.Quarantine id)
+quarantine_is_answered state id = found (device_of state id) refl
+  where
+    by : (device : Device) → device_of state id ≡ Some device → (reason : Option Refusal) → first_that_applies (quarantine_reasons state id) ≡ reason → IsAnswered state (events.Quarantine id)
+    by device there None none = (
+      Ticket (state.last_ticket + 1),
+      record (with_device state (record device { attachment = cut_off_under (state.last_ticket + 1) device.attachment })) {
+        history = entry.AllReleased id (state.last_ticket + 1) ∷ state.history;
+        last_ticket = state.last_ticket + 1;
+      },
+      (no_choice, (none, refl, rw there refl)),
+    )
+    by device there (Some why) some = (Refused why, state, (no_choice, (refused_first (quarantine_reasons state id) MayFindNoPlace why some, refl)))
+
+    found : (o : Option Device) → device_of state id ≡ o → IsAnswered state (events.Quarantine id)
+    found None absent = (Refused NoSuchDevice, state, (no_choice, (refused_first (quarantine_reasons state id) MayFindNoPlace NoSuchDevice (rw absent refl), refl)))
+    found (Some device) there = by device there (first_that_applies (quarantine_reasons state id)) refl
+
+revive_is_answered : (state : State) (id : ℕ) → IsAnswered state (events.Revive id)
+revive_is_answered state id = found (device_of state id) refl
+  where
+    by : (device : Device) → device_of state id ≡ Some device → (reason : Option Refusal) → first_that_applies (revive_reasons state id) ≡ reason → IsAnswered state (events.Revive id)
+    by device there None none = (
+      Done,
+      with_device state (record device { attachment = attached_again device.attachment }),
+      (no_choice, (none, rw there refl)),
+    )
+    by device there (Some why) some = (Refused why, state, (no_choice, (refused_first (revive_reasons state id) NeverElse why some, refl)))
+
+    found : (o : Option Device) → device_of state id ≡ o → IsAnswered state (events.Revive id)
+    found None absent = (Refused NoSuchDevice, state, (no_choice, (refused_first (revive_reasons state id) NeverElse NoSuchDevice (rw absent refl), refl)))
+    found (Some device) there = by device there (first_that_applies (revive_reasons state id)) refl
 
 -- an answer that may come, with the frame where it is that the access is accepted
 abbrev Reply : (ℕ → Outcome → Type 0) → Type 0
@@ -233,6 +267,10 @@ cached_is_answered state id access =
 message_is_answered : (can : DeviceKind → Bool) (state : State) (id : ℕ) → Comes (λ frame outcome new. Acts can (λ device. Sends state outcome new) state id outcome new)
 message_is_answered can state id = act_is_answered can (λ device frame outcome new. Sends state outcome new) state id (λ device. (0, Lost, state, refl))
 
+-- a device is reset
+reset_is_answered : (state : State) (id : ℕ) → Comes (λ frame outcome new. Resets state id outcome new)
+reset_is_answered state id = act_is_answered is_any_kind (λ device frame outcome new. (outcome ≡ Done) × (new ≡ state)) state id (λ device. (0, Done, state, (refl, refl)))
+
 -- every event is answered
 is_answered : (state : State) (event : Event) → IsReached state → IsAnswered state event
 is_answered state (events.Plug id kind) reached = plug_is_answered state id kind
@@ -240,8 +278,13 @@ is_answered state (events.Attach id mode ats) reached = attach_is_answered state
 is_answered state (events.Detach id) reached = detach_is_answered state id
 is_answered state (events.Grant id page frame rights) reached = grant_is_answered state id page frame rights
 is_answered state (events.Release id page) reached = release_is_answered state id page
+is_answered state (events.Quarantine id) reached = quarantine_is_answered state id
+is_answered state (events.Revive id) reached = revive_is_answered state id
+is_answered state events.Restart reached = (Done, state, (no_choice, refl))
+is_answered state events.Timeout reached = (NoEffect, state, (no_choice, refl))
+is_answered state (events.Reset id) reached = let told = reset_is_answered state id in (told.1, told.2, (no_choice, told.3))
 is_answered state events.Fetch reached = (Fetched Empty, state, (no_choice, refl))
-is_answered state events.Poll reached = (NoneConfirmed, state, (no_choice, refl))
+is_answered state events.Poll reached = (NoneConfirmed false, state, (no_choice, refl))
 is_answered state events.Faults reached = (NoRecord, state, (no_choice, refl))
 is_answered state (events.Read id address len) reached =
     let told = request_is_answered state id (read_of address len) in (told.1, told.2, (frame_chosen told.0, told.3))

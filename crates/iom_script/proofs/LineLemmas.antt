@@ -47,10 +47,11 @@ starts_under byte =
     else (if byte == 102 then starts_under_f
     else (if byte == 103 then codes "grant " ∷ []
     else (if byte == 112 then starts_under_p
+    else (if byte == 113 then codes "quarantine " ∷ []
     else (if byte == 114 then starts_under_r
     else (if byte == 116 then starts_under_t
     else (if byte == 119 then codes "write " ∷ []
-    else []))))))))
+    else [])))))))))
 
 -- each line is a single word, or begins in one of the ways of its first byte
 found_under : (event : Event) (more : List ℕ) → Contains single_starts (start_of event) ⊎ Contains (starts_under (get_or (start_of event ++ more) 0 0)) (start_of event)
@@ -74,6 +75,11 @@ found_under (events.Poke address bytes) more = inr (1, omega arith, refl)
 found_under (events.Read device address len) more = inr (0, omega arith, refl)
 found_under (events.Release device page) more = inr (1, omega arith, refl)
 found_under (events.Repeat place) more = inr (2, omega arith, refl)
+found_under (events.Reset device) more = inr (3, omega arith, refl)
+found_under (events.Revive device) more = inr (4, omega arith, refl)
+found_under events.Restart more = inl (3, omega arith, refl)
+found_under (events.Quarantine device) more = inr (0, omega arith, refl)
+found_under events.Timeout more = inl (4, omega arith, refl)
 found_under (events.ReadTranslated device address len) more = inr (0, omega arith, refl)
 found_under (events.WriteTranslated device address bytes) more = inr (1, omega arith, refl)
 found_under (events.Write device address bytes) more = inr (0, omega arith, refl)

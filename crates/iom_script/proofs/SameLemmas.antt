@@ -7,6 +7,7 @@ use Rattle.std.proofs.lemmas.List.{append_cancel_left, length-append}
 use Rattle.iom_machine.specs.declared.event.Event.{Event}
 use Rattle.iom_machine.specs.declared.event.Event.TheVariants.{Plug, Attach, Detach, Grant, Release, Fetch, Poll, Faults, Read, Write, Commit, Poke, Peek, Free}
 use Rattle.iom_machine.specs.declared.event.Event.TheVariants.{ReadTranslated, WriteTranslated, ReadThroughCache, WriteThroughCache, Ask, Forge, Deliver, Drop, Repeat}
+use Rattle.iom_machine.specs.declared.event.Event.TheVariants.{Quarantine, Revive, Restart, Timeout, Reset}
 use Rattle.iom_machine.specs.declared.state.DeviceKind.TheVariants.{Raw, Ats, Block, CachedBlock}
 use Rattle.iom_base.specs.declared.mode.Mode.{Mode}
 use Rattle.iom_base.specs.declared.mode.Mode.TheVariants.{First, Second, Both}
@@ -23,6 +24,7 @@ use Rattle.iom_script.proofs.WordLemmas.{device_without_space, address_without_s
 use Rattle.iom_script.proofs.FieldLemmas.{HasNoSpace, Followed}
 use Rattle.iom_script.proofs.EventLemmas.{AttachingOf, never_both, other_line, device_event, device_from, PlugWords, attach_event, attach_from, AttachWords, grant_event, grant_from, GrantWords, release_event, release_from, ReleaseWords, read_event, read_from, ReadWords, write_event, write_from, WriteWords, commit_event, commit_from, detach_event, detach_from, poke_event, poke_from, PokeWords, peek_event, peek_from, PeekWords, free_event, free_from, faults_only}
 use Rattle.iom_script.proofs.AtsEventLemmas.{aread_event, aread_from, awrite_event, awrite_from, tread_event, tread_from, twrite_event, twrite_from, ask_event, ask_from, AskWords, forge_event, forge_from, ForgeWords, deliver_event, deliver_from, drop_event, drop_from, repeat_event, repeat_from}
+use Rattle.iom_script.proofs.RecoveryEventLemmas.{quarantine_event, quarantine_from, revive_event, revive_from, restart_only, timeout_only, reset_event, reset_from}
 
 -- the text says one value
 abbrev SaysOne : {X : Type 0} → (List ℕ → X → Type 0) → Type 0
@@ -213,6 +215,17 @@ event_same line (Drop place) b p q =
 event_same line (Repeat place) b p q =
     event_by_words repeat_event (IsNumber p.0) (Repeat place) b (number_same p.0)
     (repeat_from p.0 (Repeat place) (p.0, p.1, refl)) (repeat_from p.0 b (subst (λ l. IsEventLine l b) p.2 q))
+event_same line (Quarantine device) b p q =
+    event_by_words quarantine_event (IsDevice p.0) (Quarantine device) b (device_same p.0)
+    (quarantine_from p.0 (Quarantine device) (p.0, p.1, refl)) (quarantine_from p.0 b (subst (λ l. IsEventLine l b) p.2 q))
+event_same line (Revive device) b p q =
+    event_by_words revive_event (IsDevice p.0) (Revive device) b (device_same p.0)
+    (revive_from p.0 (Revive device) (p.0, p.1, refl)) (revive_from p.0 b (subst (λ l. IsEventLine l b) p.2 q))
+event_same line (Reset device) b p q =
+    event_by_words reset_event (IsDevice p.0) (Reset device) b (device_same p.0)
+    (reset_from p.0 (Reset device) (p.0, p.1, refl)) (reset_from p.0 b (subst (λ l. IsEventLine l b) p.2 q))
+event_same line Restart b p q = restart_only b (subst (λ l. IsEventLine l b) p q)
+event_same line Timeout b p q = timeout_only b (subst (λ l. IsEventLine l b) p q)
 
 -- the two numbers of a world
 abbrev pub numbers_of : WorldSize → ℕ × ℕ

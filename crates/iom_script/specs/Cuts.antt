@@ -6,6 +6,7 @@ use Rattle.std.specs.Str.Parse.{AllDigits, digits_value}
 use Rattle.iom_machine.specs.declared.event.Event.{Event}
 use Rattle.iom_machine.specs.declared.event.Event.TheVariants.{Plug, Attach, Detach, Grant, Release, Fetch, Poll, Faults, Read, Write, Commit, Poke, Peek, Free}
 use Rattle.iom_machine.specs.declared.event.Event.TheVariants.{ReadTranslated, WriteTranslated, ReadThroughCache, WriteThroughCache, Ask, Forge, Deliver, Drop, Repeat}
+use Rattle.iom_machine.specs.declared.event.Event.TheVariants.{Quarantine, Revive, Restart, Timeout, Reset}
 use Rattle.iom_script.specs.Words.{◌␣◌, IsWithout, IsNumber}
 use Rattle.iom_script.specs.Digits.{hex_digit, hex_digits, hex_of}
 use Rattle.iom_script.specs.Grammar.{IsEventLine}
@@ -77,6 +78,11 @@ start_of (Forge device serial) = codes "forge "
 start_of (Deliver place) = codes "deliver "
 start_of (Drop place) = codes "drop "
 start_of (Repeat place) = codes "repeat "
+start_of (Quarantine device) = codes "quarantine "
+start_of (Revive device) = codes "revive "
+start_of Restart = codes "restart"
+start_of Timeout = codes "timeout"
+start_of (Reset device) = codes "reset "
 
 -- the line begins with one of these, and says the event
 abbrev pub IsLineOf : List (List ℕ) → List ℕ → Event → Type 0
@@ -86,9 +92,9 @@ IsLineOf starts line event = Contains starts (start_of event) × IsEventLine lin
 abbrev pub IsLineWith : List ℕ → List ℕ → Event → Type 0
 IsLineWith start line event = IsLineOf (start ∷ []) line event
 
--- the lines of a single word: a step of the IOMMU, or a look of the driver
+-- the lines of a single word: a step of the IOMMU, or what the driver does with no device
 abbrev pub single_starts : List (List ℕ)
-single_starts = codes "poll" ∷ codes "fetch" ∷ codes "faults" ∷ []
+single_starts = codes "poll" ∷ codes "fetch" ∷ codes "faults" ∷ codes "restart" ∷ codes "timeout" ∷ []
 
 -- how the lines of more than a word begin whose first letter is `a`
 abbrev pub starts_under_a : List (List ℕ)
@@ -108,7 +114,7 @@ starts_under_p = codes "peek " ∷ codes "poke " ∷ []
 
 -- how those under `r` begin
 abbrev pub starts_under_r : List (List ℕ)
-starts_under_r = codes "read " ∷ codes "release " ∷ codes "repeat " ∷ []
+starts_under_r = codes "read " ∷ codes "release " ∷ codes "repeat " ∷ codes "reset " ∷ codes "revive " ∷ []
 
 -- how those under `t` begin
 abbrev pub starts_under_t : List (List ℕ)

@@ -127,6 +127,33 @@ fn detach(line: &[u8]) -> Option<Event>
     Some(Event::Detach { device })
 }
 
+/// `quarantine ID`
+fn quarantine(line: &[u8]) -> Option<Event>
+    ensures { Reads result (IsLineWith (codes "quarantine ") line.now) }
+{
+    let arguments = after(line, b"quarantine ")?;
+    let device = device_of(arguments)?;
+    Some(Event::Quarantine { device })
+}
+
+/// `revive ID`
+fn revive(line: &[u8]) -> Option<Event>
+    ensures { Reads result (IsLineWith (codes "revive ") line.now) }
+{
+    let arguments = after(line, b"revive ")?;
+    let device = device_of(arguments)?;
+    Some(Event::Revive { device })
+}
+
+/// `reset ID`
+fn reset(line: &[u8]) -> Option<Event>
+    ensures { Reads result (IsLineWith (codes "reset ") line.now) }
+{
+    let arguments = after(line, b"reset ")?;
+    let device = device_of(arguments)?;
+    Some(Event::Reset { device })
+}
+
 /// `free FRAME`
 fn free(line: &[u8]) -> Option<Event>
     ensures { Reads result (IsLineWith (codes "free ") line.now) }
@@ -285,7 +312,7 @@ fn poke(alloc: Global, line: &[u8]) -> Result<Option<Event>, AllocError>
     Ok(Some(Event::Poke { address, bytes }))
 }
 
-/// `poll`, `fetch` or `faults`
+/// `poll`, `fetch`, `faults`, `restart` or `timeout`
 fn single(line: &[u8]) -> Option<Event>
     ensures { Reads result (IsLineOf single_starts line.now) }
 {
@@ -295,6 +322,10 @@ fn single(line: &[u8]) -> Option<Event>
         Some(Event::Fetch)
     } else if is_word(line, b"faults") {
         Some(Event::Faults)
+    } else if is_word(line, b"restart") {
+        Some(Event::Restart)
+    } else if is_word(line, b"timeout") {
+        Some(Event::Timeout)
     } else {
         None
     }
@@ -304,7 +335,13 @@ fn single(line: &[u8]) -> Option<Event>
 fn under_r(line: &[u8]) -> Option<Event>
     ensures { Reads result (IsLineOf starts_under_r line.now) }
 {
-    first_of!(read(line), release(line), repeat(line))
+    first_of!(
+        read(line),
+        release(line),
+        repeat(line),
+        reset(line),
+        revive(line)
+    )
 }
 
 /// A line under `p`.
@@ -374,6 +411,7 @@ pub(crate) fn event_of(alloc: Global, line: &[u8]) -> Result<Option<Event>, Allo
         b'p' => under_p(alloc, line),
         b't' => under_t(alloc, line),
         b'f' => Ok(under_f(line)),
+        b'q' => Ok(quarantine(line)),
         _ => Ok(None),
     }
 }

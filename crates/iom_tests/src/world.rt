@@ -122,7 +122,7 @@ fn gives(world: &mut World, expected: &[u8]) -> bool {
 /// Whether a poll confirms these tickets.
 fn confirms(world: &mut World, wanted: (u32, u32)) -> bool {
     match step(world, &Event::Poll) {
-        Some(Outcome::Confirmed { first, last }) => (first, last) == wanted,
+        Some(Outcome::Confirmed { first, last, .. }) => (first, last) == wanted,
         _ => false,
     }
 }

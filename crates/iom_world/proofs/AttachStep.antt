@@ -38,7 +38,8 @@ use Rattle.iom_machine.proofs.LeavingLemmas.{All-parts}
 use Rattle.iom_table_frames.specs.Fours.{AreFourFree, NoFourAreFree}
 use Rattle.iom_table_frames.specs.Marks.{IsFreeForTable, HasFree, NoneIsFree}
 use Rattle.iom_world.specs.Devices.{shown_devices}
-use Rattle.iom_world.specs.Does.{AttachesDevice, told_of}
+use Rattle.iom_world.specs.Answers.{told_of}
+use Rattle.iom_world.specs.Does.{AttachesDevice}
 use Rattle.iom_world.specs.Parts.{Parts}
 use Rattle.iom_world.specs.Shows.{PartsShow}
 use Rattle.iom_world.specs.Sound.{AreSound}
@@ -195,6 +196,7 @@ shows_attached old new events id mode ats found sound there takes iommu devices 
           sound.known.own_ids shows.devices at)));
       given = shows.given ∙ sym (ap (λ (x : DriverState). x.given) takes.driver);
       confirmed = shows.confirmed ∙ sym (ap (λ (x : DriverState). x.confirmed) takes.driver);
+      all_earlier = rw (ap (λ (x : DriverState). x.confirmed) takes.driver) shows.all_earlier;
       none_later = rw (ap (λ (x : DriverState). x.confirmed) takes.driver) shows.none_later;
       levels = shows.levels ∙ sym (ap (λ (x : DriverState). x.levels) takes.driver);
     }

@@ -3,8 +3,10 @@ use Rattle.std.proofs.Common.{◌≡◌, ◌∙◌, ℕ, List, Option, None, Som
 use Rattle.iom_driver.specs.declared.device.Device as driver
 use Rattle.iom_driver.specs.declared.device.Stages.{Stages}
 use Rattle.iom_driver.specs.Devices.{owned_stages_of}
-use Rattle.iom_iommu.specs.Parts.{translations_of, stock_of, slots_of}
+use Rattle.iom_iommu.specs.Parts.{registers_of, translations_of, stock_of, slots_of}
 use Rattle.iom_tlb.specs.declared.space.Space.{Space}
+use Rattle.iom_driver.specs.Fences.{fence_of}
+use Rattle.iom_registers.specs.Queues.{command_status}
 use Rattle.iom_world.specs.Parts.{Parts}
 use Rattle.iom_world.specs.Read.{space_in, space_at, values_of}
 use Rattle.iom_world.proofs.SceneCalls.{KeepsCached}
@@ -12,11 +14,14 @@ use Rattle.iom_world.proofs.SoundLemmas.{traffic_kept}
 
 -- the IOMMU is the same, and so are devices and messages; and who has an address space keeps it
 pub same_cached : (old new : Parts) → new.iommu ≡ old.iommu → new.devices ≡ old.devices → new.fabric ≡ old.fabric
+    → fence_of new.driver ≡ fence_of old.driver
     → ((id : ℕ) (space : Space) → space_at old.driver.devices id ≡ Some space → space_at new.driver.devices id ≡ Some space) → KeepsCached (values_of old) (values_of new)
-same_cached old new iommu devices fabric spaces = record {
+same_cached old new iommu devices fabric fences spaces = record {
   spaces = spaces;
   translations = λ key translation at. ap (λ i. translations_of i key) (sym iommu) ∙ at;
   stock = ap stock_of iommu;
+  fences = fences;
+  stopped = ap (λ i. (command_status (registers_of i)).cmd_to) iommu;
   traffic = traffic_kept old new devices fabric (ap slots_of iommu);
 }
 

@@ -1,5 +1,5 @@
 -- What a cached translation lets the machine accept: it is of what its device holds at the page, or of what lingers there.
-use Rattle.std.proofs.Common.{◌≡◌, ◌/◌, ◌<◌, ◌∙◌, inl, inr, ℕ, Bool, true, false, Option, None, Some, option_map, Contains, refl, sym, ap, subst, arith}
+use Rattle.std.proofs.Common.{◌≡◌, ◌/◌, ◌<◌, ◌∙◌, inl, inr, ℕ, Bool, true, false, Option, None, Some, option_map, Contains, refl, sym, ap, subst}
 use Rattle.std.proofs.Math.Logic.{∥∥₁_map}
 use Rattle.std.proofs.lemmas.Bool.{false≢true}
 use Rattle.std.proofs.lemmas.Grind.{not_there}
@@ -32,6 +32,7 @@ use Rattle.iom_world.specs.Read.{space_in, space_at, values_of}
 use Rattle.iom_world.specs.Scenes.{copy_of, IsSceneOf}
 use Rattle.iom_world.specs.Shows.{PartsShow}
 use Rattle.iom_world.specs.Sound.{AreSound}
+use Rattle.iom_world.proofs.CutOffLemmas.{IsPending, accept_formerly, cut_off_holds}
 use Rattle.iom_world.proofs.DriverLemmas.{IsSoundDriver}
 use Rattle.iom_world.proofs.HistoryMay.{may_merely, facts_of_history}
 use Rattle.iom_world.proofs.SceneCalls.{none_cached}
@@ -110,7 +111,8 @@ module _ (parts : Parts) (events : ℕ) (state : State) (id page : ℕ) (stage :
   pub leaves_none : (ticket : ℕ) (s : Stages) → attachment_of parts.driver.devices id ≡ driver.Leaving ticket s → ⊥
   leaves_none ticket s is =
       not_there sound.copies (λ (scene, shown, facts).
-      none_cached scene (copy_of id page translation) (Leaving ticket s.mode s.ats) ticket facts (shown.attachments id ∙ ap shown_attachment is) (omega arith) (there_in scene shown))
+      none_cached scene (copy_of id page translation) (Leaving ticket s.mode s.ats) parts.driver.confirmed parts.driver.given facts (shown.attachments id ∙ ap shown_attachment is)
+      (own.leaving id ticket s is) (there_in scene shown))
 
   -- nor of one that is detached
   pub detached_none : attachment_of parts.driver.devices id ≡ driver.Detached → ⊥
@@ -121,7 +123,8 @@ module _ (parts : Parts) (events : ℕ) (state : State) (id page : ℕ) (stage :
 
 module _ (parts : Parts) (events : ℕ) (state : State) (id : ℕ) (access : Access) (stage : Stages) (translation : Translation) (sound : AreSound parts events)
     (own : IsSoundDriver parts.driver) (shows : PartsShow parts state) (owned : owned_stages_of parts.driver.devices id ≡ Some stage)
-    (cached : translations_of parts.iommu (space_in stage.mode stage.number, access.address / 4096) ≡ Some translation) (allowed : allows translation.rights access.kind ≡ true) where
+    (cached : translations_of parts.iommu (space_in stage.mode stage.number, access.address / 4096) ≡ Some translation) (allowed : allows translation.rights access.kind ≡ true)
+    (pending : IsPending parts.driver id) where
   reach_in : (both_stages : Bool) → in_both_stages (shown_attachment (attachment_of parts.driver.devices id)) ≡ both_stages → (scene : Scene) → IsSceneOf (values_of parts) scene
       → IsFaithful scene → IsReachable both_stages state.history (copy_of id (access.address / 4096) translation)
   reach_in both_stages is scene shown facts = reachable_in parts events state id (access.address / 4096) stage translation sound own shows owned cached both_stages is scene shown facts
@@ -149,13 +152,22 @@ module _ (parts : Parts) (events : ℕ) (state : State) (id : ℕ) (access : Acc
   by_mode Second ats is = accept_merely state.history id translation.frame access (∥∥₁_map sound.copies (λ (scene, shown, facts). accept_in is scene shown facts))
   by_mode Both ats is = may_merely state.history id translation.frame access.kind (∥∥₁_map sound.copies (λ (scene, shown, facts). may_in is scene shown facts))
 
+  -- of a device that is cut off it is what lingers
+  cut_off : (ticket : ℕ) (s : Stages) → attachment_of parts.driver.devices id ≡ driver.Quarantined ticket s → MayAccept (shown_attachment (driver.Quarantined ticket s)) state id access translation.frame
+  cut_off ticket s is = (
+    shows.none_later ticket (pending ticket s is),
+    accept_formerly state.history id (access.address / 4096) translation.frame translation.rights (cut_off_holds parts.driver own state.history shows.ledger id ticket s is) s.mode access refl allowed
+        (∥∥₁_map sound.copies (λ (scene, shown, facts). reach_in (is_both s.mode) (ap (λ a. in_both_stages (shown_attachment a)) is) scene shown facts)),
+  )
+
   by_attachment : (a : Attachment) → attachment_of parts.driver.devices id ≡ a → MayAccept (shown_attachment a) state id access translation.frame
   by_attachment driver.Detached is = absurd (detached_none parts events state id (access.address / 4096) stage translation sound own shows owned cached is)
   by_attachment (driver.Attached s) is = by_mode s.mode s.ats (ap (λ a. in_both_stages (shown_attachment a)) is)
+  by_attachment (driver.Quarantined ticket s) is = cut_off ticket s is
   by_attachment (driver.Leaving ticket s) is = absurd (leaves_none parts events state id (access.address / 4096) stage translation sound own shows owned cached ticket s is)
 
 pub cached_accept : (parts : Parts) (events : ℕ) (state : State) (id : ℕ) (access : Access) (stage : Stages) (translation : Translation) → AreSound parts events → IsSoundDriver parts.driver
     → PartsShow parts state → owned_stages_of parts.driver.devices id ≡ Some stage → translations_of parts.iommu (space_in stage.mode stage.number, access.address / 4096) ≡ Some translation
-    → allows translation.rights access.kind ≡ true → MayAccept (shown_attachment (attachment_of parts.driver.devices id)) state id access translation.frame
-cached_accept parts events state id access stage translation sound own shows owned cached allowed =
-    by_attachment parts events state id access stage translation sound own shows owned cached allowed (attachment_of parts.driver.devices id) refl
+    → allows translation.rights access.kind ≡ true → IsPending parts.driver id → MayAccept (shown_attachment (attachment_of parts.driver.devices id)) state id access translation.frame
+cached_accept parts events state id access stage translation sound own shows owned cached allowed pending =
+    by_attachment parts events state id access stage translation sound own shows owned cached allowed pending (attachment_of parts.driver.devices id) refl

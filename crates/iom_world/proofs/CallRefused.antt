@@ -16,7 +16,8 @@ use Rattle.iom_machine.specs.declared.outcome.Fetched.{Fetched}
 use Rattle.iom_machine.specs.declared.outcome.Outcome.{Outcome}
 use Rattle.iom_machine.specs.declared.outcome.Outcome.TheVariants as outcome
 use Rattle.iom_machine.specs.declared.state.DeviceKind.{DeviceKind}
-use Rattle.iom_world.specs.Does.{PlugsDevice, AttachesDevice, GrantsPage, ReleasesPage, DetachesDevice, FetchesNext, PollsTickets, told_of, ticket_told_of, polled_told_of, devices_after, AddsRow}
+use Rattle.iom_world.specs.Answers.{told_of, ticket_told_of}
+use Rattle.iom_world.specs.Does.{PlugsDevice, AttachesDevice, GrantsPage, ReleasesPage, DetachesDevice, FetchesNext, PollsTickets, polled_told_of, devices_after, AddsRow}
 use Rattle.iom_world.specs.Happens.{AreSame, SameIfRefused}
 use Rattle.iom_world.specs.Parts.{Parts}
 use Rattle.iom_machine.specs.Refusals.{has_cache}
@@ -91,10 +92,10 @@ fetch_refused old new told does why is = absurd (never (sym does.told_so ∙ is)
 pub poll_refused : (old new : Parts) (told : Outcome) → PollsTickets old told new → SameIfRefused told old new
 poll_refused old new told does why is = by does.answer (sym does.told_so ∙ is) does.call
   where
-    never : (none : Bool) (first last : ℕ) → (if none then outcome.NoneConfirmed else outcome.Confirmed first last) ≡ outcome.Refused why → ⊥
-    never true first last same = cc
-    never false first last same = cc
+    never : (none : Bool) (first last : ℕ) (timed_out : Bool) → (if none then outcome.NoneConfirmed timed_out else outcome.Confirmed first last timed_out) ≡ outcome.Refused why → ⊥
+    never true first last timed_out same = cc
+    never false first last timed_out same = cc
 
     by : (answer : Result Polled Refusal) → polled_told_of answer ≡ outcome.Refused why → AnswersPoll (registers_of old.iommu) old.driver old.memory answer new.driver new.memory → AreSame old new
-    by (Ok polled) refused call = absurd (never (polled.count == 0) polled.first (polled.first + polled.count - 1) refused)
+    by (Ok polled) refused call = absurd (never (polled.count == 0) polled.first (polled.first + polled.count - 1) polled.timed_out refused)
     by (Err reason) refused call = same_of old new call.2 does.iommu does.devices does.fabric call.1

@@ -1,4 +1,4 @@
--- Nothing but a release, a detach and a fetch changes the commands that wait: the ring lies in a frame of the system's.
+-- Nothing but a release, a detach, a quarantine, a restart and a fetch changes the commands that wait: the ring lies in a frame of the system's.
 use Rattle.std.proofs.Common.{◌≡◌, ◌<◌, ◌*◌, ◌⊎◌, ◌∙◌, inl, inr, ℕ, Bool, true, false, List, length, remove, Option, Some, None, IfSome, Result, Ok, Err, slice_get, slice_set, refl, sym, ap, subst}
 use Rattle.iom_base.specs.declared.grant_rights.GrantRights.{GrantRights}
 use Rattle.iom_base.specs.declared.owner.Owner.TheVariants.{System}
@@ -65,11 +65,14 @@ use Rattle.iom_world.proofs.ProcessorKeeps.{stores_keep}
 use Rattle.iom_world.proofs.PartsLemmas.{StaysReported}
 use Rattle.iom_world.proofs.ReportKeeps.{taken_waiting}
 use Rattle.iom_world.proofs.RequestKeeps.{report_leaves, record_leaves}
+use Rattle.iom_world.proofs.ResetKeeps.{reset_commands}
+use Rattle.iom_world.proofs.RevivalStep.{revival_commands}
 use Rattle.iom_world.proofs.SoundFrom.{report_waiting}
 use Rattle.iom_world.proofs.SoundLemmas.{same_waiting, fixed_frames}
+use Rattle.iom_world.proofs.TimeoutKeeps.{timeout_commands}
 
 -- the system's frames keep their bytes
-abbrev KeepsSystem : Parts → List (List ℕ) → Type 0
+abbrev pub KeepsSystem : Parts → List (List ℕ) → Type 0
 KeepsSystem old memory = (n : ℕ) → slice_get old.driver.marks n ≡ Some (Some System) → slice_get memory n ≡ slice_get old.memory n
 
 -- so the ring does, and what waits in it
@@ -93,7 +96,7 @@ attach_keeps old new events id mode ats told sound own does = by does.answer doe
     by (Ok done) (admitted, takes) = same_waiting old new events sound (ap registers_of does.iommu) (attach_keeps_ring old new events id sound own ats admitted mode takes)
     by (Err why) (refused, driver, memory) = waits_same old new memory (ap registers_of does.iommu)
 
-grant_keeps : (old new : Parts) (events id page frame : ℕ) (rights : GrantRights) (told : Outcome) → AreSound old events → GrantsPage old id page frame rights told new → KeepsSystem old new.memory
+pub grant_keeps : (old new : Parts) (events id page frame : ℕ) (rights : GrantRights) (told : Outcome) → AreSound old events → GrantsPage old id page frame rights told new → KeepsSystem old new.memory
 grant_keeps old new events id page frame rights told sound does = by does.answer does.call
   where
     by : (answer : Result (Unit {0}) Refusal) → AnswersGrant old.driver old.memory id page frame rights answer new.driver new.memory → KeepsSystem old new.memory
@@ -108,7 +111,7 @@ plug_keeps old new id kind told does = by does.answer does.row
     by (Err why) same = waits_same old new does.memory (ap registers_of same)
 
 -- a poll clears frames of devices that left
-poll_keeps : (old new : Parts) (told : Outcome) → PollsTickets old told new → KeepsSystem old new.memory
+pub poll_keeps : (old new : Parts) (told : Outcome) → PollsTickets old told new → KeepsSystem old new.memory
 poll_keeps old new told does = by does.answer does.call
   where
     by : (answer : Result Polled Refusal) → AnswersPoll (registers_of old.iommu) old.driver old.memory answer new.driver new.memory → KeepsSystem old new.memory
@@ -212,7 +215,7 @@ performs_keep old accepted memory free performed = by accepted.access.kind perfo
     by Read same = λ n system. ap (λ m. slice_get m n) same
     by Write stores = stored_keeps old accepted.frame _ memory free stores.2
 
-makes_keep : (old new : Parts) (events id : ℕ) (made : Option MadeAt) → AreSound old events → Makes old.memory (flights_of old.iommu) id made new.memory (flights_of new.iommu)
+pub makes_keep : (old new : Parts) (events id : ℕ) (made : Option MadeAt) → AreSound old events → Makes old.memory (flights_of old.iommu) id made new.memory (flights_of new.iommu)
     → IfSome made (λ it. is_marked old.driver.marks it.frame ≡ false) → KeepsSystem old new.memory
 makes_keep old new events id None sound makes unreserved = λ n system. ap (λ m. slice_get m n) makes.1
 makes_keep old new events id (Some made) sound makes unreserved =
@@ -227,13 +230,18 @@ commits_keep old new events id told sound own commits = elim commits [
   | inr oldest ↦ waits_still old new events sound own oldest.call.registers (makes_keep old new events id oldest.made sound oldest.call.makes oldest.unreserved)
 ]
 
-poke_keeps : (old : Parts) (events address : ℕ) (bytes : List ℕ) (told : Outcome) (memory : List (List ℕ)) → AreSound old events → StoresIfAny old address bytes told memory → KeepsSystem old memory
+pub poke_keeps : (old : Parts) (events address : ℕ) (bytes : List ℕ) (told : Outcome) (memory : List (List ℕ)) → AreSound old events → StoresIfAny old address bytes told memory → KeepsSystem old memory
 poke_keeps old events address bytes told memory sound stores n system = (stores_keep old events address bytes told memory sound stores).1 n System system
 
 pub commands_stay : (old new : Parts) (before : ℕ) (event : Event) (told : Outcome) → AreSound old before → IsSoundDriver old.driver → StaysReported old.driver → Does old event told new → KeepsCommands event old new
 commands_stay old new before (events.Release id page) told sound own reported does = tt
 commands_stay old new before (events.Detach id) told sound own reported does = tt
+commands_stay old new before (events.Quarantine id) told sound own reported does = tt
+commands_stay old new before events.Restart told sound own reported does = tt
 commands_stay old new before events.Fetch told sound own reported does = tt
+commands_stay old new before (events.Revive id) told sound own reported does = revival_commands old new before id told sound own does
+commands_stay old new before events.Timeout told sound own reported does = timeout_commands old new told does
+commands_stay old new before (events.Reset id) told sound own reported does = reset_commands old new id told does
 commands_stay old new before (events.Plug id kind) told sound own reported does = plug_keeps old new id kind told does
 commands_stay old new before (events.Attach id mode ats) told sound own reported does = attach_keeps old new before id mode ats told sound own does
 commands_stay old new before (events.Grant id page frame rights) told sound own reported does = waits_still old new before sound own (ap registers_of does.iommu) (grant_keeps old new before id page frame rights told sound does)

@@ -91,6 +91,7 @@ module _ (old new : Parts) (events id : ℕ) (sound : AreSound old events) (driv
       devices = ap (λ (s : State). s.devices) same ∙ rw (driver, devices, is.after) devices_shown;
       given = rw (driver, ap (λ (s : State). s.last_ticket) same) shows.given;
       confirmed = rw (driver, ap (λ (s : State). s.history) same) shows.confirmed;
+      all_earlier = rw (driver, ap (λ (s : State). s.history) same) shows.all_earlier;
       none_later = rw (driver, ap (λ (s : State). s.history) same) shows.none_later;
       levels = rw (driver, ap (λ (s : State). s.levels) same) shows.levels;
     }

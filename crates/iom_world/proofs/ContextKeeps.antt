@@ -7,7 +7,7 @@ use Rattle.iom_device_dir.specs.declared.context.Context.{Context}
 use Rattle.iom_device_dir.specs.Contents.{Content, IsSameContent, KeepsOne}
 use Rattle.iom_device_dir.specs.Located.{located_context}
 use Rattle.iom_driver.specs.declared.device.Attachment.{Attachment}
-use Rattle.iom_driver.specs.declared.device.Attachment.TheVariants.{Detached, Attached, Leaving}
+use Rattle.iom_driver.specs.declared.device.Attachment.TheVariants.{Detached, Attached, Quarantined, Leaving}
 use Rattle.iom_driver.specs.declared.device.Stages.{Stages}
 use Rattle.iom_driver.specs.Devices.{attachment_of, owned_stages_of, attached_stages, owned_stages}
 use Rattle.iom_driver.specs.Directory.{context_for, mode_of}
@@ -35,6 +35,7 @@ by_attachment : (levels id : ℕ) (a : Attachment) (cached : Option Context) (ol
 by_attachment levels id a (Some context) old new keeps = inl keeps
 by_attachment levels id Detached None old new keeps = inl keeps
 by_attachment levels id (Attached stage) None old new keeps = inr (stage, refl, keeps)
+by_attachment levels id (Quarantined ticket stage) None old new keeps = inl keeps
 by_attachment levels id (Leaving ticket stage) None old new keeps = inl keeps
 
 pub keeps_attached : ServiceLaws → (parts : Parts) (events : ℕ) → AreSound parts events → IsSoundDriver parts.driver → (id : ℕ) (new : Content ℕ Context)

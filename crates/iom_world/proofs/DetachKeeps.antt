@@ -1,5 +1,5 @@
 -- What stays true of a world when a device is detached: three more commands wait, and it leaves until the ticket of their fence is confirmed.
-use Rattle.std.proofs.Common.{◌≡◌, ◌+◌, ◌^◌, ◌<◌, ◌≤◌, ◌==◌, ◌++◌, ◌∙◌, inl, inr, nat_le, is_some, ℕ, Bool, true, false, List, [], ◌∷◌, length, Option, Some, None, Result, Ok, Err, refl, sym, ap, subst, arith, if◌then◌else◌}
+use Rattle.std.proofs.Common.{◌≡◌, ◌+◌, ◌^◌, ◌<◌, ◌==◌, ◌∙◌, inl, inr, nat_le, is_some, ℕ, Bool, true, false, List, [], ◌∷◌, length, Option, Some, None, Result, Ok, Err, refl, sym, ap, subst, arith, if◌then◌else◌}
 use Rattle.std.specs.Bool.{IsTrue}
 use Rattle.std.specs.Option.{option_map}
 use Rattle.std.proofs.Math.Logic.{∥∥₁_map}
@@ -7,13 +7,13 @@ use Rattle.std.proofs.lemmas.Bool.{false≢true}
 use Rattle.std.proofs.lemmas.Bool.Decides.{eqb_tells}
 use Rattle.iom_command_queue.specs.declared.entry.QueueEntry.{QueueEntry}
 use Rattle.iom_command_queue.specs.declared.entry.QueueEntry.TheVariants as stands
-use Rattle.iom_command_queue.specs.Waiting.{commands_in}
 use Rattle.iom_copies.specs.DriverCalls.{leave_commands}
 use Rattle.iom_directory.specs.Pages.{root_level}
 use Rattle.iom_directory.specs.Written.{without_context}
+use Rattle.iom_driver.specs.Fences.{last_fence, fence_of}
 use Rattle.iom_driver.specs.declared.answers.Ticket as answers
 use Rattle.iom_driver.specs.declared.device.Attachment.TheVariants.{Attached, Leaving}
-use Rattle.iom_driver.specs.Appends.{context_invalidation, space_invalidation, detach_commands, fence}
+use Rattle.iom_driver.specs.Appends.{context_invalidation, space_invalidation, detach_commands}
 use Rattle.iom_driver.specs.declared.device.Stages.{Stages}
 use Rattle.iom_driver.specs.Devices.{attachment_of, is_plugged, owned_stages, owned_stages_of, is_trusted, with_attachment}
 use Rattle.iom_driver.specs.Directory.{context_for}
@@ -35,18 +35,17 @@ use Rattle.iom_registers.specs.declared.registers.Registers.{Registers}
 use Rattle.iom_world.specs.Devices.{shown_attachment}
 use Rattle.iom_world.specs.Does.{DetachesDevice}
 use Rattle.iom_world.specs.Parts.{Parts}
-use Rattle.iom_world.specs.Queued.{completed_in}
 use Rattle.iom_world.specs.Read.{space_in, space_at, values_of, accesses_of}
 use Rattle.iom_world.specs.Sound.{AreSound, known_ids, row_ids}
 use Rattle.iom_world.proofs.DeviceLemmas.{shown_set, trusted_set, ids_set, attachment_set, attachment_other}
 use Rattle.iom_world.proofs.CachedLemmas.{spaces_owned}
 use Rattle.iom_world.proofs.QueuedLemmas.{queued_space}
 use Rattle.iom_world.proofs.DriverKeeps.{attached_is}
-use Rattle.iom_world.proofs.DriverLemmas.{IsSoundDriver}
+use Rattle.iom_world.proofs.DriverLemmas.{IsSoundDriver, next_fence}
 use Rattle.iom_world.proofs.PollKeeps.{same_known}
 use Rattle.iom_world.proofs.ReleaseKeeps.{rung_cached, IsRung, rung_all, rung_leaves, next_small}
 use Rattle.iom_world.proofs.SceneCalls.{QueuesTicket, detach_scene}
-use Rattle.iom_world.proofs.SoundLemmas.{completed_given, same_completed, LeavesWord, sound_from, none_at, kinds_kept, same_epochs}
+use Rattle.iom_world.proofs.SoundLemmas.{same_completed, LeavesWord, sound_from, none_at, kinds_kept, same_epochs}
 
 -- the reasons of a detach that is answered, whatever tells that something is granted
 abbrev pub IsAdmitted : DriverState → Registers → ℕ → Type 0
@@ -55,7 +54,7 @@ IsAdmitted d r id = (granted : Bool) → (IsTrue granted → HasGrants d.ledger 
 -- it has no grants
 pub has_none : (d : DriverState) (r : Registers) (id : ℕ) → IsAdmitted d r id → ¬ HasGrants d.ledger id
 has_none d r id admitted has =
-    false≢true (sym (none_at (why_not_detach d r true id) 3 true StillGranted refl (admitted true ((λ is. has), (λ it. refl)))))
+    false≢true (sym (none_at (why_not_detach d r true id) 4 true StillGranted refl (admitted true ((λ is. has), (λ it. refl)))))
 
 pub ungranted : (d : DriverState) (r : Registers) (id : ℕ) → IsAdmitted d r id → (page : ℕ) → (held_in d.ledger id page ≡ None) × (lingering_in d.ledger id page ≡ None)
 ungranted d r id admitted page = (held (held_in d.ledger id page) refl, lingers (lingering_in d.ledger id page) refl)
@@ -68,9 +67,9 @@ ungranted d r id admitted page = (held (held_in d.ledger id page) refl, lingers 
     lingers None at = at
     lingers (Some pair) at = absurd (has_none d r id admitted (page, inr (ap is_some at)))
 
-pub numbers_left : (d : DriverState) (r : Registers) (id : ℕ) → IsAdmitted d r id → nat_le 4294967295 d.given ≡ false
+pub numbers_left : (d : DriverState) (r : Registers) (id : ℕ) → IsAdmitted d r id → nat_le 4294967295 (last_fence d) ≡ false
 numbers_left d r id admitted =
-    none_at (why_not_detach d r false id) 6 (nat_le 4294967295 d.given) NumbersUsedUp refl
+    none_at (why_not_detach d r false id) 7 (nat_le 4294967295 (last_fence d)) NumbersUsedUp refl
     (admitted false ((λ is. absurd (false≢true is)), (λ has. absurd (has_none d r id admitted has))))
 
 module _ (old new : Parts) (events id ticket : ℕ) (sound : AreSound old events) (own : IsSoundDriver old.driver) (ready : IsReady new.driver new.memory (registers_of new.iommu))
@@ -78,7 +77,7 @@ module _ (old new : Parts) (events id ticket : ℕ) (sound : AreSound old events
     (devices : new.devices ≡ old.devices) (fabric : new.fabric ≡ old.fabric) where
   rung : IsRung old.iommu new.iommu
   rung =
-      rung_all (detach_commands id queues.stage (completion_address (length old.memory)) ticket)
+      rung_all (detach_commands id queues.stage (completion_address (length old.memory)) (last_fence old.driver + 1))
       (without_context old.memory (root_level old.driver.levels) (directory_frame (length old.memory)) id) new.memory old.iommu new.iommu queues.queued
 
   leaves : LeavesWord old new
@@ -114,10 +113,8 @@ module _ (old new : Parts) (events id ticket : ℕ) (sound : AreSound old events
 
   queues_ticket : QueuesTicket (values_of old) (values_of new) commands (leave_commands id)
   queues_ticket =
-      let low = completed_given old events sound in
-      let before = sound.confirmed in
       record {
-        ordered = omega (arith, low, before);
+        ordered = own.tickets.ordered;
         appended = (
           refl,
           (
@@ -126,28 +123,28 @@ module _ (old new : Parts) (events id ticket : ℕ) (sound : AreSound old events
             tt,
           ),
         );
-        waiting = queues.list ∙ ap (λ t. commands_in old.memory (registers_of old.iommu)
-            ++ stands.Command (context_invalidation id) ∷ stands.Command (space_invalidation queues.stage.mode queues.stage.number) ∷ stands.Command (fence (completion_address (length old.memory)) t) ∷ []) queues.next;
+        waiting = queues.list;
         address = ap completion_address leaves.size;
         completed = same_completed old.memory new.memory leaves.size leaves.word;
+        last_fence = ap (λ n. n + new.driver.restarts) given_now ∙ ap (λ n. old.driver.given + 1 + n) (ap (λ (d : DriverState). d.restarts) queues.driver) ∙ omega arith;
+        next_fence = next_fence old.driver own;
         given = given_now;
         confirmed = ap (λ (d : DriverState). d.confirmed) queues.driver;
         so_far = ap (λ f. f.so_far) rung.flights;
         in_flight = ap (λ f. accesses_of f.rows) rung.flights;
         kinds = kinds_kept old new devices;
         contexts = λ d is. sym (ap is_some (rung.contexts d)) ∙ is;
-        cached = rung_cached old new sound.processing rung devices fabric (spaces_owned old.driver.devices new.driver.devices owned_still);
+        cached = rung_cached old new (sound.ready.ring sound.started).on rung devices fabric (ap (λ (d : DriverState). fence_of d) queues.driver) (spaces_owned old.driver.devices new.driver.devices owned_still);
       }
 
   pub detached_sound : AreSound new events
   detached_sound =
-      sound_from old new events sound leaves (rung_leaves old new sound.processing rung) (ap (λ (d : DriverState). d.started) queues.driver) ready
+      sound_from old new events sound leaves (rung_leaves old new (sound.ready.ring sound.started).on rung) (ap (λ (d : DriverState). d.started) queues.driver) ready
       (same_known old new devices fabric (ap (λ (d : DriverState). known_ids d.devices) queues.driver ∙ ids_set old.driver.devices id (Leaving ticket queues.stage))
       (λ d. ap (λ (s : DriverState). is_trusted s.devices d) queues.driver ∙ trusted_set old.driver.devices id (Leaving ticket queues.stage) d)
       (ap (λ f. row_ids f.rows) rung.flights) sound.known)
       (same_epochs old new events sound devices)
-      (subst (λ n. n ≤ completed_in old.memory) (sym (ap (λ (d : DriverState). d.confirmed) queues.driver)) sound.confirmed)
-      (subst (λ n. n < 2 ^ 32) (sym given_now) (next_small old.driver.given (numbers_left old.driver (registers_of old.iommu) id admitted)))
+      (subst (λ n. n < 2 ^ 32) (sym given_now) (next_small old.driver.given old.driver.restarts (numbers_left old.driver (registers_of old.iommu) id admitted)))
       (λ other context cached. ap (option_map context_for) (owned_still other) ∙ sound.contexts other context (sym (rung.contexts other) ∙ cached))
       (∥∥₁_map sound.copies
       (detach_scene (values_of old) (values_of new) id queues.stage.mode queues.stage.ats commands queues_ticket

@@ -7,6 +7,7 @@ use Rattle.iom_directory.specs.Written.{without_context}
 use Rattle.iom_driver.specs.declared.answers.Ticket.{Ticket}
 use Rattle.iom_driver.specs.declared.device.Attachment.TheVariants as attached
 use Rattle.iom_driver.specs.Devices.{attachment_of, with_attachment}
+use Rattle.iom_driver.specs.Fences.{last_fence}
 use Rattle.iom_driver.specs.Layout.{command_frame, completion_address, directory_frame}
 use Rattle.iom_driver.specs.Appends.{detach_commands}
 use Rattle.iom_driver.specs.Leaving.{QueuesDetach, IsToldOfDetach, DoesDetach}
@@ -26,7 +27,8 @@ use Rattle.iom_machine.specs.Machine as machine
 use Rattle.iom_machine.specs.Refusals as refusals
 use Rattle.iom_machine.specs.Refusals.{has_grants}
 use Rattle.iom_world.specs.Devices.{shown_attachment}
-use Rattle.iom_world.specs.Does.{DetachesDevice, ticket_told_of}
+use Rattle.iom_world.specs.Answers.{ticket_told_of}
+use Rattle.iom_world.specs.Does.{DetachesDevice}
 use Rattle.iom_world.specs.Frames.{ShowsFrames}
 use Rattle.iom_world.specs.Parts.{Parts}
 use Rattle.iom_world.specs.Shows.{PartsShow}
@@ -43,7 +45,7 @@ use Rattle.iom_world.proofs.StayLemmas.{shows_same, not_owned}
 -- memory has as many frames after a detach
 size_left : (d d' : DriverState) (memory memory' : List (List ℕ)) (io io' : Iommu) (id ticket : ℕ) → QueuesDetach mmio d memory io id ticket d' memory' io' → length memory' ≡ length memory
 size_left d d' memory memory' io io' id ticket queues =
-    size_appended (detach_commands id queues.stage (completion_address (length memory)) ticket)
+    size_appended (detach_commands id queues.stage (completion_address (length memory)) (last_fence d + 1))
     (without_context memory (root_level d.levels) (directory_frame (length memory)) id) memory' io io' queues.queued
     ∙ length-without_context memory (root_level d.levels) (directory_frame (length memory)) id
 
@@ -68,7 +70,7 @@ shows_left : (old new : Parts) (events id ticket : ℕ) (found : declared.Device
 shows_left old new events id ticket found sound sound_driver queues devices state shows at how =
     let d = old.driver in
     let rows = (flights_of old.iommu).rows in
-    let flights = flights_appended (detach_commands id queues.stage (completion_address (length old.memory)) ticket) (without_context old.memory (root_level d.levels) (directory_frame (length old.memory)) id) new.memory old.iommu new.iommu queues.queued in
+    let flights = flights_appended (detach_commands id queues.stage (completion_address (length old.memory)) (last_fence d + 1)) (without_context old.memory (root_level d.levels) (directory_frame (length old.memory)) id) new.memory old.iommu new.iommu queues.queued in
     let known' = with_attachment d.devices id (attached.Leaving ticket queues.stage) in
     let there = attached_there d.devices id queues.stage queues.attached in
     let ring = subst (λ n. slice_get d.marks (command_frame n) ≡ Some (Some System)) (sym sound.ready.stand.size) sound_driver.fixed.command in
@@ -85,6 +87,7 @@ shows_left old new events id ticket found sound sound_driver queues devices stat
           (ap (λ a. (with_device state (record found { attachment = leaving_under ticket a })).devices) how ∙ replaced);
       given = sym (ap (λ (x : DriverState). x.given) queues.driver);
       confirmed = shows.confirmed ∙ sym (ap (λ (x : DriverState). x.confirmed) queues.driver);
+      all_earlier = rw (ap (λ (x : DriverState). x.confirmed) queues.driver) shows.all_earlier;
       none_later = rw (ap (λ (x : DriverState). x.confirmed) queues.driver) shows.none_later;
       levels = shows.levels ∙ sym (ap (λ (x : DriverState). x.levels) queues.driver);
     }

@@ -5,7 +5,7 @@ use Rattle.std.proofs.lemmas.Bool.{false≢true, le-leb, lt-leb}
 use Rattle.std.proofs.lemmas.Bool.Decides.{eqb_tells, leb_tells}
 use Rattle.iom_copies.specs.DriverCalls.{once_confirmed as ticket_confirmed}
 use Rattle.iom_driver.specs.declared.device.Attachment.{Attachment}
-use Rattle.iom_driver.specs.declared.device.Attachment.TheVariants.{Detached, Attached, Leaving}
+use Rattle.iom_driver.specs.declared.device.Attachment.TheVariants.{Detached, Attached, Quarantined, Leaving}
 use Rattle.iom_driver.specs.declared.device.Device.{Device}
 use Rattle.iom_driver.specs.declared.device.Stages.{Stages}
 use Rattle.iom_driver.specs.Confirmed.{has_left, once_confirmed}
@@ -97,6 +97,7 @@ pub left_is : (first n : ℕ) (f : ℕ → machine.Attachment) (d : ℕ) (a : At
     → ((ticket : ℕ) (stage : Stages) → a ≡ Leaving ticket stage → first < ticket) → left_after first n f d ≡ shown_attachment (after (first + n) a)
 left_is first n f d Detached is later = left_still first n f d shown.Detached is (λ ticket. refl)
 left_is first n f d (Attached stage) is later = left_still first n f d (shown.Attached stage.mode stage.ats) is (λ ticket. refl)
+left_is first n f d (Quarantined own stage) is later = left_still first n f d (shown.Quarantined own stage.mode stage.ats) is (λ ticket. refl)
 left_is first n f d (Leaving ticket stage) is later = left_leaving first n f d ticket stage is (later ticket stage refl)
 
 -- one device is attached so
@@ -178,4 +179,5 @@ shown_set devices id a there d = elim (eqb_tells id d) [
 pub owns_nothing : (a : Attachment) → owned_stages a ≡ None → a ≡ Detached
 owns_nothing Detached none = refl
 owns_nothing (Attached stage) none = cc
+owns_nothing (Quarantined ticket stage) none = cc
 owns_nothing (Leaving ticket stage) none = cc

@@ -12,8 +12,9 @@ use Rattle.iom_base.specs.GrantRights.{rights_of}
 use Rattle.iom_device_dir.specs.declared.context.Context.{Context}
 use Rattle.iom_device_dir.specs.Paths.{ids_below}
 use Rattle.iom_directory.specs.Pages.{HasPage, root_level}
+use Rattle.iom_driver.specs.Fences.{last_fence, fence_of}
 use Rattle.iom_driver.specs.declared.device.Attachment.{Attachment}
-use Rattle.iom_driver.specs.declared.device.Attachment.TheVariants.{Detached, Attached, Leaving}
+use Rattle.iom_driver.specs.declared.device.Attachment.TheVariants.{Detached, Attached, Quarantined, Leaving}
 use Rattle.iom_driver.specs.declared.device.Stages.{Stages}
 use Rattle.iom_driver.specs.Attaching.{AnswersAttach, TakesRoot, root_frames}
 use Rattle.iom_driver.specs.Calls.{AnswersGrant, TakesTables, IsSame}
@@ -40,7 +41,6 @@ use Rattle.iom_table_frames.specs.Marks.{IsFreeForTable, is_marked}
 use Rattle.iom_world.specs.Devices.{shown_attachment}
 use Rattle.iom_world.specs.Does.{AttachesDevice, GrantsPage, PollsTickets}
 use Rattle.iom_world.specs.Parts.{Parts}
-use Rattle.iom_world.specs.Queued.{completed_in}
 use Rattle.iom_tlb.specs.declared.space.Space.{Space}
 use Rattle.iom_world.specs.Read.{space_in, space_at, values_of, accesses_of}
 use Rattle.iom_world.specs.Sound.{AreSound, ContextsAreTrue, known_ids, row_ids}
@@ -68,6 +68,7 @@ not_false false it = absurd (false≢true (sym it))
 pub attached_is : (a : Attachment) (stage : Stages) → attached_stages a ≡ Some stage → a ≡ Attached stage
 attached_is Detached stage at = cc
 attached_is (Attached own) stage at = let same : own ≡ stage = cc in ap Attached same
+attached_is (Quarantined ticket own) stage at = cc
 attached_is (Leaving ticket own) stage at = cc
 
 -- a frame that isn't marked is nobody's
@@ -209,13 +210,14 @@ module _ (old new : Parts) (events id : ℕ) (sound : AreSound old events) (own 
     address = ap completion_address leaves_attached.size;
     waiting = same_waiting old new events sound (ap registers_of iommu) (attach_keeps_ring old new events id sound own ats admitted mode takes);
     completed = same_completed old.memory new.memory leaves_attached.size leaves_attached.word;
+    last_fence = ap (λ (d : DriverState). last_fence d) takes.driver;
     given = ap (λ (d : DriverState). d.given) takes.driver;
     confirmed = ap (λ (d : DriverState). d.confirmed) takes.driver;
     so_far = ap (λ i. (flights_of i).so_far) iommu;
     in_flight = ap (λ i. accesses_of (flights_of i).rows) iommu;
     kinds = kinds_kept old new devices;
     contexts = λ d is. ap (λ i. is_some (contexts_of i d)) (sym iommu) ∙ is;
-    cached = same_cached old new iommu devices fabric spaces_attached;
+    cached = same_cached old new iommu devices fabric (ap (λ (d : DriverState). fence_of d) takes.driver) spaces_attached;
   }
 
   -- nothing was cached for a device that had no stage
@@ -237,7 +239,6 @@ module _ (old new : Parts) (events id : ℕ) (sound : AreSound old events) (own 
       (same_known old new devices fabric (ap (λ (d : DriverState). known_ids d.devices) takes.driver ∙ ids_set old.driver.devices id (Attached takes.stage))
       (λ d. ap (λ (s : DriverState). is_trusted s.devices d) takes.driver ∙ trusted_set old.driver.devices id (Attached takes.stage) d) (ap (λ i. row_ids (flights_of i).rows) iommu) sound.known)
       (same_epochs old new events sound devices)
-      (subst (λ (d : DriverState). d.confirmed ≤ completed_in old.memory) (sym takes.driver) sound.confirmed)
       (subst (λ (d : DriverState). d.given < 2 ^ 32) (sym takes.driver) sound.small)
       contexts_attached
       (∥∥₁_map sound.copies (attach_scene (values_of old) (values_of new) id mode ats attaches_detached))
@@ -258,7 +259,7 @@ nothing_there (Some x) lingering vacant = absurd (false≢true (sym vacant))
 
 -- a page that may be granted is vacant
 pub vacant_where : (d : DriverState) (id page frame : ℕ) → NoneApplies (why_not_grant d id page frame) → (held_in d.ledger id page ≡ None) × (lingering_in d.ledger id page ≡ None)
-vacant_where d id page frame none = nothing_there _ _ (none_at (why_not_grant d id page frame) 6 _ IovaBusy refl none)
+vacant_where d id page frame none = nothing_there _ _ (none_at (why_not_grant d id page frame) 7 _ IovaBusy refl none)
 
 -- GRANT: the system's frames keep their bytes
 pub tables_keep_system : (d : DriverState) (memory : List (List ℕ)) (id page frame : ℕ) (rights : GrantRights) (d' : DriverState) (memory' : List (List ℕ)) → length memory ≡ length d.marks
@@ -294,6 +295,7 @@ module _ (old new : Parts) (events id page frame : ℕ) (rights : GrantRights) (
         address = ap completion_address leaves_granted.size;
         waiting = same_waiting old new events sound (ap registers_of iommu) (grant_keeps_system (command_frame (length old.memory)) (fixed_frames old events sound own).command);
         completed = same_completed old.memory new.memory leaves_granted.size leaves_granted.word;
+        last_fence = ap (λ (d : DriverState). last_fence d) takes.driver;
         given = ap (λ (d : DriverState). d.given) takes.driver;
         confirmed = ap (λ (d : DriverState). d.confirmed) takes.driver;
         so_far = ap (λ i. (flights_of i).so_far) iommu;
@@ -301,7 +303,7 @@ module _ (old new : Parts) (events id page frame : ℕ) (rights : GrantRights) (
         kinds = kinds_kept old new devices;
         attachments = λ d. ap (λ (s : DriverState). shown_attachment (attachment_of s.devices d)) takes.driver;
         contexts = λ d is. ap (λ i. is_some (contexts_of i d)) (sym iommu) ∙ is;
-        cached = same_cached old new iommu devices fabric (spaces_same old.driver.devices new.driver.devices (ap (λ (d : DriverState). d.devices) takes.driver));
+        cached = same_cached old new iommu devices fabric (ap (λ (d : DriverState). fence_of d) takes.driver) (spaces_same old.driver.devices new.driver.devices (ap (λ (d : DriverState). d.devices) takes.driver));
       }
 
   pub granted_sound : AreSound new events
@@ -310,7 +312,6 @@ module _ (old new : Parts) (events id page frame : ℕ) (rights : GrantRights) (
       (same_known old new devices fabric (ap (λ (d : DriverState). known_ids d.devices) takes.driver) (λ d. ap (λ (s : DriverState). is_trusted s.devices d) takes.driver)
       (ap (λ i. row_ids (flights_of i).rows) iommu) sound.known)
       (same_epochs old new events sound devices)
-      (subst (λ n. n ≤ completed_in old.memory) (sym (ap (λ (d : DriverState). d.confirmed) takes.driver)) sound.confirmed)
       (subst (λ n. n < 2 ^ 32) (sym (ap (λ (d : DriverState). d.given) takes.driver)) sound.small)
       (λ other context cached.
       ap (λ (s : DriverState). option_map context_for (owned_stages_of s.devices other)) takes.driver ∙ sound.contexts other context (ap (λ i. contexts_of i other) (sym iommu) ∙ cached))
@@ -327,6 +328,7 @@ roomy_sound old new events sound ready same memory iommu devices fabric =
       address = ap completion_address size;
       waiting = same_waiting old new events sound (ap registers_of iommu) (ap (λ m. slice_get m (command_frame (length old.memory))) memory);
       completed = same_completed old.memory new.memory size word;
+      last_fence = ap (λ (d : DriverState). last_fence d) same.rest;
       given = ap (λ (d : DriverState). d.given) same.rest;
       confirmed = ap (λ (d : DriverState). d.confirmed) same.rest;
       so_far = ap (λ i. (flights_of i).so_far) iommu;
@@ -334,13 +336,12 @@ roomy_sound old new events sound ready same memory iommu devices fabric =
       kinds = kinds_kept old new devices;
       attachments = λ d. ap (λ (s : DriverState). shown_attachment (attachment_of s.devices d)) same.rest;
       contexts = λ d is. ap (λ i. is_some (contexts_of i d)) (sym iommu) ∙ is;
-      cached = same_cached old new iommu devices fabric (spaces_same old.driver.devices new.driver.devices (ap (λ (d : DriverState). d.devices) same.rest));
+      cached = same_cached old new iommu devices fabric (ap (λ (d : DriverState). fence_of d) same.rest) (spaces_same old.driver.devices new.driver.devices (ap (λ (d : DriverState). d.devices) same.rest));
     } in
     sound_from old new events sound (record { size = size; word = word }) (same_iommu old new iommu) (ap (λ (d : DriverState). d.started) same.rest) ready
     (same_known old new devices fabric (ap (λ (d : DriverState). known_ids d.devices) same.rest) (λ d. ap (λ (s : DriverState). is_trusted s.devices d) same.rest)
     (ap (λ i. row_ids (flights_of i).rows) iommu) sound.known)
     (same_epochs old new events sound devices)
-    (subst (λ n. n ≤ completed_in old.memory) (sym (ap (λ (d : DriverState). d.confirmed) same.rest)) sound.confirmed)
     (subst (λ n. n < 2 ^ 32) (sym (ap (λ (d : DriverState). d.given) same.rest)) sound.small)
     (λ other context cached.
     ap (λ (s : DriverState). option_map context_for (owned_stages_of s.devices other)) same.rest ∙ sound.contexts other context (ap (λ i. contexts_of i other) (sym iommu) ∙ cached))

@@ -1,5 +1,5 @@
 -- What an entry of a device's own cache tells: the device is attached with ATS, and the frame is one of memory that it may reach.
-use Rattle.std.proofs.Common.{suc, ◌≡◌, ◌/◌, ◌<◌, ◌∙◌, inl, inr, ℕ, Bool, true, false, List, [], ◌∷◌, length, nat_lt, Option, None, Some, Result, Ok, Err, Contains, refl, sym, ap, subst, arith, if◌then◌else◌}
+use Rattle.std.proofs.Common.{suc, ◌≡◌, ◌/◌, ◌<◌, ◌⊎◌, ◌∙◌, inl, inr, ℕ, Bool, true, false, is_some, List, [], ◌∷◌, length, nat_lt, Option, None, Some, Result, Ok, Err, Contains, refl, sym, ap, subst, arith, if◌then◌else◌}
 use Rattle.std.specs.Option.{option_and_then}
 use Rattle.std.proofs.Math.Logic.{∥∥₁_map}
 use Rattle.std.proofs.lemmas.Bool.{false≢true, leb-true, leb-false, le-leb}
@@ -31,7 +31,7 @@ use Rattle.iom_device_dir.specs.declared.context.Context.{Context}
 use Rattle.iom_driver.specs.declared.device.Attachment.{Attachment}
 use Rattle.iom_driver.specs.declared.device.Attachment.TheVariants as driver
 use Rattle.iom_driver.specs.declared.device.Stages.{Stages}
-use Rattle.iom_driver.specs.Devices.{attachment_of}
+use Rattle.iom_driver.specs.Devices.{attachment_of, attached_stages, owned_stages}
 use Rattle.iom_driver.specs.Directory.{context_for}
 use Rattle.iom_driver.specs.Sound.{IsGrant}
 use Rattle.iom_driver.proofs.Lists.{get_within}
@@ -55,7 +55,8 @@ use Rattle.iom_world.specs.Scenes.{copy_of, IsSceneOf}
 use Rattle.iom_world.specs.Shows.{PartsShow}
 use Rattle.iom_world.specs.Sound.{AreSound}
 use Rattle.iom_world.specs.Traffic.{Traffic, entry_copy, entries_by, entries_in}
-use Rattle.iom_world.proofs.AtsContexts.{FindsAts, ats_context, finds_ats}
+use Rattle.iom_world.proofs.AtsContexts.{FindsAts, ats_context, finds_ats, finds_cached}
+use Rattle.iom_world.proofs.CutOffLemmas.{pending_cached, accept_formerly, cut_off_holds}
 use Rattle.iom_world.proofs.DriverLemmas.{IsSoundDriver}
 use Rattle.iom_world.proofs.HistoryMay.{may_merely, facts_of_history}
 use Rattle.iom_world.proofs.MadeFrames.{lingers_in}
@@ -101,14 +102,40 @@ found_entry devices id page kind frame found = by (cache_of devices id) refl fou
               (subst (λ f. Contains (entries_in devices) (copy_of id one.0.page (record { frame = f; rights = one.0.rights }))) one.2 (entries_there devices id cache is one.0 one.4));
         }
 
--- no device is cut off, so what its cache has may be used
-pub always_used : (scene : Scene) (id : ℕ) (a : Attachment) → scene.attachment_of id ≡ shown_attachment a → IsInUse scene id
-always_used scene id a is cut_off = absurd (false≢true (sym (never a) ∙ ap is_quarantined (sym is) ∙ cut_off))
+-- what the device's cache has may be used: the device isn't cut off, or its context is cached
+abbrev pub IsUsable : Parts → ℕ → Type 0
+IsUsable parts id = (ticket : ℕ) (stage : Stages) → attachment_of parts.driver.devices id ≡ driver.Quarantined ticket stage
+    → (context : Context) × (contexts_of parts.iommu id ≡ Some context)
+
+-- or else the device is cut off, and no context of it is cached
+abbrev pub IsForgotten : Parts → ℕ → Type 0
+IsForgotten parts id = (ticket : ℕ) × (stage : Stages) × (attachment_of parts.driver.devices id ≡ driver.Quarantined ticket stage) × (contexts_of parts.iommu id ≡ None)
+
+pub usable_or : (parts : Parts) (id : ℕ) → IsUsable parts id ⊎ IsForgotten parts id
+usable_or parts id = by (attachment_of parts.driver.devices id) refl (contexts_of parts.iommu id) refl
   where
-    never : (a : Attachment) → is_quarantined (shown_attachment a) ≡ false
-    never driver.Detached = refl
-    never (driver.Attached stage) = refl
-    never (driver.Leaving ticket stage) = refl
+    none : (a : Attachment) → attachment_of parts.driver.devices id ≡ a → is_quarantined (shown_attachment a) ≡ false → IsUsable parts id
+    none a is never ticket stage at = absurd (false≢true (sym never ∙ ap (λ b. is_quarantined (shown_attachment b)) (sym is ∙ at)))
+
+    by : (a : Attachment) → attachment_of parts.driver.devices id ≡ a → (cached : Option Context) → contexts_of parts.iommu id ≡ cached → IsUsable parts id ⊎ IsForgotten parts id
+    by driver.Detached is cached at = inl (none driver.Detached is refl)
+    by (driver.Attached stage) is cached at = inl (none (driver.Attached stage) is refl)
+    by (driver.Quarantined ticket stage) is None at = inr (ticket, stage, is, at)
+    by (driver.Quarantined ticket stage) is (Some context) at = inl (λ t s same. (context, at))
+    by (driver.Leaving ticket stage) is cached at = inl (none (driver.Leaving ticket stage) is refl)
+
+pub used_by : (parts : Parts) (id : ℕ) → IsUsable parts id → (scene : Scene) → scene.attachment_of id ≡ shown_attachment (attachment_of parts.driver.devices id)
+    → (is_some (contexts_of parts.iommu id) ≡ true → Contains scene.contexts id) → IsInUse scene id
+used_by parts id usable scene attached cached cut_off = by (attachment_of parts.driver.devices id) refl
+  where
+    never : (a : Attachment) → attachment_of parts.driver.devices id ≡ a → is_quarantined (shown_attachment a) ≡ false → Contains scene.contexts id
+    never a is none = absurd (false≢true (sym none ∙ ap is_quarantined (sym (attached ∙ ap shown_attachment is)) ∙ cut_off))
+
+    by : (a : Attachment) → attachment_of parts.driver.devices id ≡ a → Contains scene.contexts id
+    by driver.Detached is = never driver.Detached is refl
+    by (driver.Attached stage) is = never (driver.Attached stage) is refl
+    by (driver.Quarantined ticket stage) is = cached (ap is_some (usable ticket stage is).1)
+    by (driver.Leaving ticket stage) is = never (driver.Leaving ticket stage) is refl
 
 -- which of held and lingering it is, is decided by the history: what merely is so, is
 have_merely : (history : History) (id frame : ℕ) (access : Access) → ∥ MayHaveCached history id access frame ∥₁ → MayHaveCached history id access frame
@@ -133,7 +160,7 @@ own_found memory address frame kind same inside =
     ∙ ap (λ (b : Bool). if b then Ok (record { frame = frame; rights = of_rights.rw }) else Err (plain (access_fault_of kind))) (le-leb (suc frame) (length memory) inside)
 
 module _ (parts : Parts) (events id : ℕ) (access : Access) (frame : ℕ) (sound : AreSound parts events) (own : IsSoundDriver parts.driver)
-    (entry : HasEntry parts.devices id (page_of access) access.kind frame) where
+    (entry : HasEntry parts.devices id (page_of access) access.kind frame) (usable : IsUsable parts id) where
   abbrev copy : Copy
   copy = copy_of id (page_of access) (record { frame = frame; rights = entry.rights })
 
@@ -142,7 +169,7 @@ module _ (parts : Parts) (events id : ℕ) (access : Access) (frame : ℕ) (soun
   entry_in scene shown = subst (λ l. Contains l copy) (sym (ap (λ (t : Traffic). t.entries) shown.traffic)) entry.there
 
   used_in : (scene : Scene) → IsSceneOf (values_of parts) scene → IsInUse scene id
-  used_in scene shown = always_used scene id (attachment_of parts.driver.devices id) (shown.attachments id)
+  used_in scene shown = used_by parts id usable scene (shown.attachments id) (shown.contexts id)
 
   faithful_in : (scene : Scene) → IsSceneOf (values_of parts) scene → (facts : IsFaithful scene) → has_ats (scene.attachment_of id) ≡ true
   faithful_in scene shown facts = (facts.entries copy (entry_in scene shown) (used_in scene shown)).0
@@ -160,22 +187,35 @@ module _ (parts : Parts) (events id : ℕ) (access : Access) (frame : ℕ) (soun
       none_some : (rights : Rights) → ◌≡◌ {A = Option Pair} None (Some (frame, rights)) → ⊥
       none_some rights same = cc
 
-  -- the device is attached, with ATS
-  pub entry_attached : (stage : Stages) × (attachment_of parts.driver.devices id ≡ driver.Attached stage) × (stage.ats ≡ true)
-  entry_attached = by (attachment_of parts.driver.devices id) refl
+  -- the device is, or was, attached with ATS
+  with_ats : (a : Attachment) → attachment_of parts.driver.devices id ≡ a → has_ats (shown_attachment a) ≡ true
+  with_ats a is = by (has_ats (shown_attachment a)) refl
     where
-      plain_never : (a : Attachment) → attachment_of parts.driver.devices id ≡ a → has_ats (shown_attachment a) ≡ false → ⊥
-      plain_never a is none = not_there sound.copies (λ (scene, shown, facts).
-          false≢true (sym (ap has_ats (shown.attachments id ∙ ap shown_attachment is) ∙ none) ∙ faithful_in scene shown facts))
+      by : (b : Bool) → has_ats (shown_attachment a) ≡ b → has_ats (shown_attachment a) ≡ true
+      by true same = same
+      by false none = absurd (not_there sound.copies (λ (scene, shown, facts).
+          false≢true (sym (ap has_ats (shown.attachments id ∙ ap shown_attachment is) ∙ none) ∙ faithful_in scene shown facts)))
 
-      with_ats : (stage : Stages) → attachment_of parts.driver.devices id ≡ driver.Attached stage → (b : Bool) → stage.ats ≡ b → stage.ats ≡ true
-      with_ats stage is true same = same
-      with_ats stage is false none = absurd (plain_never (driver.Attached stage) is none)
+  -- so its context lets it through
+  pub entry_context : ServiceLaws → (stage : Stages) × (ats_context_for parts.memory (registers_of parts.iommu) (contexts_of parts.iommu) id ≡ Ok (context_for stage))
+  entry_context laws = by (attachment_of parts.driver.devices id) refl (finds_ats laws parts events sound own id)
+    where
+      let_through : (stage : Stages) → stage.ats ≡ true → ats_context stage ≡ Ok (context_for stage)
+      let_through stage ats = ap (λ (b : Bool). if b then Ok (context_for stage) else Err TransactionTypeDisallowed) ats
 
-      by : (a : Attachment) → attachment_of parts.driver.devices id ≡ a → (stage : Stages) × (attachment_of parts.driver.devices id ≡ driver.Attached stage) × (stage.ats ≡ true)
-      by driver.Detached is = absurd (plain_never driver.Detached is refl)
-      by (driver.Attached stage) is = (stage, is, with_ats stage is stage.ats refl)
-      by (driver.Leaving ticket stage) is = absurd (never_leaving ticket stage is)
+      by : (a : Attachment) → attachment_of parts.driver.devices id ≡ a
+          → FindsAts (attachment_of parts.driver.devices id) parts.driver id (ats_context_for parts.memory (registers_of parts.iommu) (contexts_of parts.iommu) id)
+          → (stage : Stages) × (ats_context_for parts.memory (registers_of parts.iommu) (contexts_of parts.iommu) id ≡ Ok (context_for stage))
+      by driver.Detached is finds = absurd (false≢true (with_ats driver.Detached is))
+      by (driver.Attached stage) is finds = (
+        stage,
+        subst (λ a. FindsAts a parts.driver id (ats_context_for parts.memory (registers_of parts.iommu) (contexts_of parts.iommu) id)) is finds
+            ∙ let_through stage (with_ats (driver.Attached stage) is),
+      )
+      by (driver.Quarantined ticket stage) is finds =
+          let cached = usable ticket stage is in
+          (stage, finds_cached laws parts events sound own id (ap attached_stages is) stage (ap owned_stages is) cached.0 cached.1 ∙ let_through stage (with_ats (driver.Quarantined ticket stage) is))
+      by (driver.Leaving ticket stage) is finds = absurd (never_leaving ticket stage is)
 
   -- the frame is one of memory
   pub entry_inside : frame < length parts.memory
@@ -203,11 +243,7 @@ module _ (parts : Parts) (events id : ℕ) (access : Access) (frame : ℕ) (soun
   pub entry_page : ServiceLaws → physical_page (ats_context_for parts.memory (registers_of parts.iommu) (contexts_of parts.iommu) id) parts.memory (at_frame frame access).address access.kind
       ≡ Ok (record { frame = frame; rights = of_rights.rw })
   entry_page laws =
-      let attached = entry_attached in
-      let found = ats_context_for parts.memory (registers_of parts.iommu) (contexts_of parts.iommu) id in
-      let is : found ≡ ats_context attached.0 = subst (λ a. FindsAts a parts.driver.levels id found) attached.1 (finds_ats laws parts events sound own id) in
-      let let_through : found ≡ Ok (context_for attached.0) = is ∙ ap (λ (b : Bool). if b then Ok (context_for attached.0) else Err TransactionTypeDisallowed) attached.2 in
-      ap (λ (f : Result Context Cause). physical_page f parts.memory (at_frame frame access).address access.kind) let_through
+      ap (λ (f : Result Context Cause). physical_page f parts.memory (at_frame frame access).address access.kind) (entry_context laws).1
       ∙ own_found parts.memory (at_frame frame access).address frame access.kind (omega arith) entry_inside
 
   module _ (state : State) (shows : PartsShow parts state) where
@@ -231,9 +267,20 @@ module _ (parts : Parts) (events id : ℕ) (access : Access) (frame : ℕ) (soun
     by_mode Second ats is = have_merely state.history id frame access (∥∥₁_map sound.copies (λ (scene, shown, facts). have_in is scene shown facts))
     by_mode Both ats is = may_merely state.history id frame access.kind (∥∥₁_map sound.copies (λ (scene, shown, facts). reachable_in true is scene shown facts access.kind entry.allowed))
 
+    -- of a device that is cut off it is what lingers
+    cut_off : (ticket : ℕ) (stage : Stages) → attachment_of parts.driver.devices id ≡ driver.Quarantined ticket stage → MayGoThrough (shown_attachment (driver.Quarantined ticket stage)) state id access frame
+    cut_off ticket stage is = (
+      shows.none_later ticket (pending_cached parts events sound id (ap is_some (usable ticket stage is).1) ticket stage is),
+      accept_formerly state.history id (page_of access) frame entry.rights (cut_off_holds parts.driver own state.history shows.ledger id ticket stage is) stage.mode access refl entry.allowed
+          (∥∥₁_map sound.copies (λ (scene, shown, facts). reachable_in (is_both stage.mode) (ap (λ a. in_both_stages (shown_attachment a)) is) scene shown facts)),
+    )
+
     -- and the machine lets the access go through
     pub entry_may : MayGoThrough (shown_attachment (attachment_of parts.driver.devices id)) state id access frame
-    entry_may =
-        let attached = entry_attached in
-        subst (λ a. MayGoThrough (shown_attachment a) state id access frame) (sym attached.1)
-        (by_mode attached.0.mode attached.0.ats (ap (λ a. in_both_stages (shown_attachment a)) attached.1))
+    entry_may = by (attachment_of parts.driver.devices id) refl
+      where
+        by : (a : Attachment) → attachment_of parts.driver.devices id ≡ a → MayGoThrough (shown_attachment a) state id access frame
+        by driver.Detached is = absurd (false≢true (with_ats driver.Detached is))
+        by (driver.Attached stage) is = by_mode stage.mode stage.ats (ap (λ a. in_both_stages (shown_attachment a)) is)
+        by (driver.Quarantined ticket stage) is = cut_off ticket stage is
+        by (driver.Leaving ticket stage) is = absurd (never_leaving ticket stage is)

@@ -16,6 +16,7 @@ use Rattle.iom_copies.specs.Queue.{QueuedCommand, DropTranslations, DropContext,
 use Rattle.iom_copies.specs.ToCome.{FencesRise}
 use Rattle.iom_device_dir.specs.declared.context.Context.{Context}
 use Rattle.iom_device_dir.specs.Contents.{Content}
+use Rattle.iom_driver.specs.Fences.{last_fence, fence_of}
 use Rattle.iom_driver.specs.Appends.{fence}
 use Rattle.iom_driver.specs.Devices.{attachment_of}
 use Rattle.iom_driver.specs.Laws.{KeepsReserved, KeepsRing}
@@ -29,14 +30,14 @@ use Rattle.iom_inflight.specs.Flights.{Flights, are_drained}
 use Rattle.iom_iommu.specs.declared.fetched.Fetched.{Fetched}
 use Rattle.iom_iommu.specs.declared.fetched.Fetched.TheVariants.{Did, Waiting, Empty, Stopped}
 use Rattle.iom_world.specs.OwnIommu.{Iommu}
-use Rattle.iom_iommu.specs.Fetches.{FetchesCommand, DropsContexts, DropsTranslations, counted_in, waits_for_accesses, waits_for_slots, is_held, slots_by, request_by, after_none, stock_at, WaitsAt, store_of, with_store, with_done, IsStorable, IsStoredIn, IsOffRing, StopsAtEntry, StopsFetching, head_entry}
+use Rattle.iom_iommu.specs.Fetches.{FetchesCommand, DropsContexts, DropsTranslations, counted_in, waits_for_accesses, waits_for_slots, is_held, slots_by, request_by, asks_for_interrupt, after_none, stock_at, waits_at, WaitsAt, store_of, with_store, with_done, IsStorable, IsStoredIn, IsOffRing, StopsAtEntry, StopsFetching, head_entry}
 use Rattle.iom_iommu.specs.Parts.{registers_of, contexts_of, translations_of, flights_of, stock_of, slots_of, opened_of}
 use Rattle.iom_iommu.proofs.FetchLemmas.{takes_first, leaves_frames}
 use Rattle.iom_machine.specs.declared.outcome.Outcome.{Outcome}
 use Rattle.iom_phys_mem.specs.Words.{word_at, with_word}
 use Rattle.iom_phys_mem.proofs.Stores.{word_back, put_word}
 use Rattle.iom_registers.specs.declared.registers.Registers.{Registers}
-use Rattle.iom_registers.specs.Queues.{is_processing_commands}
+use Rattle.iom_registers.specs.Queues.{command_status, is_processing_commands, with_command_done, with_fence_w_ip}
 use Rattle.iom_world.specs.Devices.{shown_attachment}
 use Rattle.iom_world.specs.Does.{FetchesNext}
 use Rattle.iom_world.specs.Parts.{Parts}
@@ -48,7 +49,7 @@ use Rattle.iom_tlb.specs.Invalidations.{covers_of}
 use Rattle.iom_tlb.specs.declared.space.Space.{Space}
 use Rattle.iom_world.specs.Read.{space_at, values_of, accesses_of}
 use Rattle.iom_world.specs.Scenes.{HasFaithfulScene}
-use Rattle.iom_world.specs.Sound.{AreSound, row_ids, HasAsker}
+use Rattle.iom_world.specs.Sound.{AreSound, IsUnmarked, row_ids, HasAsker}
 use Rattle.iom_world.proofs.DriverLemmas.{IsSoundDriver}
 use Rattle.iom_world.proofs.PartsLemmas.{parts_are, StaysReady}
 use Rattle.iom_world.proofs.QueuedLemmas.{queued_first}
@@ -59,7 +60,7 @@ use Rattle.iom_fabric.specs.declared.fabric.OnLink.{OnLink}
 use Rattle.iom_world.specs.Messages.{range_of, with_fetched}
 use Rattle.iom_world.specs.Traffic.{invalidation_of, entries_in, messages_in}
 use Rattle.iom_world.proofs.MessageLemmas.{requested, askers_sent}
-use Rattle.iom_world.proofs.SoundLemmas.{kinds_kept, same_epochs, traffic_kept}
+use Rattle.iom_world.proofs.SoundLemmas.{kinds_kept, same_epochs, traffic_kept, processes}
 use Rattle.iom_world.specs.Caches.{epoch_in}
 use Rattle.std.specs.List.{All}
 use Rattle.iom_command_queue.specs.declared.slot.Slot.{Slot}
@@ -144,28 +145,28 @@ module _ (old : Parts) (events : ℕ) (sound : AreSound old events) where
   done = completed_in old.memory
 
   in_scene : (entry : QueueEntry) (rest : List QueueEntry) → commands_in old.memory (registers_of old.iommu) ≡ entry ∷ rest → HasFaithfulScene (values_of old)
-      → is_ours (completion_address (length old.memory)) (completed_in old.memory) old.driver.given entry ≡ true
+      → is_ours (completion_address (length old.memory)) (completed_in old.memory) (last_fence old.driver) entry ≡ true
   in_scene entry rest at (scene, shows, facts) =
       let first = queued_first place (space_at old.driver.devices) entry rest scene.waiting (subst (λ l. AreQueuedAs place (space_at old.driver.devices) l scene.waiting) at shows.waiting) in
-      ours_queued place done old.driver.given (space_at old.driver.devices) entry first.0 first.1 first.3
-      (subst (λ n. FencesRise n (first.0 ∷ first.1) old.driver.given) shows.completed
+      ours_queued place done (last_fence old.driver) (space_at old.driver.devices) entry first.0 first.1 first.3
+      (subst (λ n. FencesRise n (first.0 ∷ first.1) (last_fence old.driver)) shows.completed
       (subst (λ n. FencesRise scene.completed (first.0 ∷ first.1) n) shows.last_fence
       (subst (λ l. FencesRise scene.completed l scene.last_fence) first.2 facts.order.fences)))
 
   head_ours : (entry : QueueEntry) → head_entry old.memory (registers_of old.iommu) ≡ Some entry
-      → is_ours (completion_address (length old.memory)) (completed_in old.memory) old.driver.given entry ≡ true
-  head_ours entry at = by (is_ours place done old.driver.given entry) refl
+      → is_ours (completion_address (length old.memory)) (completed_in old.memory) (last_fence old.driver) entry ≡ true
+  head_ours entry at = by (is_ours place done (last_fence old.driver) entry) refl
     where
       list : (rest : List QueueEntry) × (commands_in old.memory (registers_of old.iommu) ≡ entry ∷ rest)
       list = first_there (commands_in old.memory (registers_of old.iommu)) entry at
 
-      by : (b : Bool) → is_ours place done old.driver.given entry ≡ b → is_ours place done old.driver.given entry ≡ true
+      by : (b : Bool) → is_ours place done (last_fence old.driver) entry ≡ b → is_ours place done (last_fence old.driver) entry ≡ true
       by true is = is
       by false none = absurd (not_there sound.copies (λ has. false≢true (sym none ∙ in_scene entry list.0 list.1 has)))
 
   pub head_next : (command : Commanded) → head_entry old.memory (registers_of old.iommu) ≡ Some (Command command)
-      → IsNext (completion_address (length old.memory)) (completed_in old.memory) old.driver.given command
-  head_next command at = next_of place done old.driver.given command (head_ours (Command command) at)
+      → IsNext (completion_address (length old.memory)) (completed_in old.memory) (last_fence old.driver) command
+  head_next command at = next_of place done (last_fence old.driver) command (head_ours (Command command) at)
 
 -- the word of such a command has a place: that of the driver
 pub is_storable : (memory : List (List ℕ)) (low given : ℕ) (command : Commanded) → 64 ≤ length memory → IsNext (completion_address (length memory)) low given command → IsStorable memory (store_of command)
@@ -337,15 +338,38 @@ module _ (old new : Parts) (devices : new.devices ≡ old.devices) where
     last_serial = ap (λ (s : OpenSlots). s.last) slots;
   }
 
--- processing doesn't stop
-pub never_stops : (old : Parts) (events : ℕ) (next : Iommu) → AreSound old events → 64 ≤ length old.memory → StopsFetching (is_processing_commands (registers_of old.iommu)) old.memory old.iommu next → ⊥
-never_stops old events next sound many stops =
-    by (head_entry old.memory (registers_of old.iommu)) refl (subst (λ on. StopsFetching on old.memory old.iommu next) sound.processing stops)
+-- where commands are taken no fence has timed out
+pub goes_on : (old : Parts) (events : ℕ) → AreSound old events → is_processing_commands (registers_of old.iommu) ≡ true → (command_status (registers_of old.iommu)).cmd_to ≡ false
+goes_on old events sound on = not_true (command_status (registers_of old.iommu)).cmd_to (sym (processes old events sound) ∙ on)
+  where
+    not_true : (b : Bool) → not b ≡ true → b ≡ false
+    not_true true it = absurd (false≢true it)
+    not_true false it = refl
+
+-- a command that is done marks nothing as wrong
+marks_kept : (r s : Registers) (command : Commanded) → s ≡ with_done r command → IsUnmarked r → IsUnmarked s
+marks_kept r s command is unmarked = subst IsUnmarked (sym is) (by (asks_for_interrupt command))
+  where
+    by : (asks : Bool) → IsUnmarked (if asks then with_fence_w_ip (with_command_done r) else with_command_done r)
+    by true = record { loaded = unmarked.loaded; legal = unmarked.legal }
+    by false = record { loaded = unmarked.loaded; legal = unmarked.legal }
+
+-- nor does it time out
+timeout_kept : (r s : Registers) (command : Commanded) → s ≡ with_done r command → (command_status s).cmd_to ≡ (command_status r).cmd_to
+timeout_kept r s command is = ap (λ (q : Registers). (command_status q).cmd_to) is ∙ by (asks_for_interrupt command)
+  where
+    by : (asks : Bool) → (command_status (if asks then with_fence_w_ip (with_command_done r) else with_command_done r)).cmd_to ≡ (command_status r).cmd_to
+    by true = refl
+    by false = refl
+
+-- processing doesn't stop where it goes on
+pub never_stops : (old : Parts) (events : ℕ) (next : Iommu) → AreSound old events → 64 ≤ length old.memory → StopsFetching true old.memory old.iommu next → ⊥
+never_stops old events next sound many stops = by (head_entry old.memory (registers_of old.iommu)) refl stops
   where
     by : (entry : Option QueueEntry) → head_entry old.memory (registers_of old.iommu) ≡ entry → StopsAtEntry old.memory entry old.iommu next → ⊥
     by None at stopped = stopped
     by (Some (Command command)) at stopped =
-        stopped.1 (is_storable old.memory (completed_in old.memory) old.driver.given command many (head_next old events sound command at))
+        stopped.1 (is_storable old.memory (completed_in old.memory) (last_fence old.driver) command many (head_next old events sound command at))
     by (Some (Illegal reason)) at stopped = false≢true (head_ours old events sound (Illegal reason) at)
     by (Some Outside) at stopped = false≢true (head_ours old events sound Outside at)
 
@@ -370,7 +394,8 @@ keeps_done old new events command sound own stays below fetches driver devices f
     let many : 64 ≤ length old.memory = let m = own.sizes.size.0 in omega (arith, size, m) in
     let address = completion_address (length old.memory) in
     let done = completed_in old.memory in
-    let given = old.driver.given in
+    let given = last_fence old.driver in
+    let small : given < 2 ^ 32 = let numbered = own.fences.numbered in omega (arith, numbered) in
     let next : IsNext address done given command = head_next old events sound command fetches.1 in
     let ring : IsRing (length old.memory) r = sound.ready.ring sound.started in
     let off : IsOffRing r (store_of command) = λ j lt at.
@@ -382,25 +407,28 @@ keeps_done old new events command sound own stays below fetches driver devices f
     let free = neither (waits_for_slots command (slots_of old.iommu)) (waits_for_accesses command (flights_of old.iommu) (counted_in old.iommu)) fetches.2 in
     let last = last_after command (slots_of old.iommu) in
     let after : completed_in new.memory ≡ number_after done command =
-    ap completed_in fetches.4 ∙ completed_after old.memory done given command many sound.small next (ap (λ m. length m) (sym fetches.4) ∙ frames.1) in
+    ap completed_in fetches.4 ∙ completed_after old.memory done given command many small next (ap (λ m. length m) (sym fetches.4) ∙ frames.1) in
     let kept = ring_kept r command address done given next in
     let keeps : KeepsReserved old.driver old.memory new.memory = record {
       size = frames.1;
       bytes = λ frame owner mark other. frames.0 frame (λ at. other (stored_there (length old.memory) done given command frame next at));
     } in
     let more : done ≤ number_after done command = more_done address done given done command refl next in
-    let confirmed : old.driver.confirmed ≤ done = sound.confirmed in
     let grants : KeepsGrants (values_of old) (values_of new) = record {
       ledger = ap (λ (d : DriverState). d.ledger) driver;
       address = ap completion_address frames.1;
       given = ap (λ (d : DriverState). d.given) driver;
       confirmed = ap (λ (d : DriverState). d.confirmed) driver;
+      last_fence = ap (λ (d : DriverState). last_fence d) driver;
+      fences = ap (λ (d : DriverState). fence_of d) driver;
+      stopped = timeout_kept r (registers_of new.iommu) command left.registers;
       kinds = kinds_kept old new devices;
       attachments = λ id. ap (λ (d : DriverState). shown_attachment (attachment_of d.devices id)) driver;
       spaces = λ id. ap (λ (d : DriverState). space_at d.devices id) driver;
     } in
     let does : DoesFirst (values_of old) (values_of new) command = record {
       keeps = grants;
+      going = goes_on old events sound fetches.0;
       first = list;
       so_far = ap (λ (f : Flights). f.so_far) left.flights;
       in_flight = ap (λ (f : Flights). accesses_of f.rows) left.flights;
@@ -415,7 +443,7 @@ keeps_done old new events command sound own stays below fetches driver devices f
     record {
       ready = rw driver (stays old.memory new.memory r (registers_of new.iommu) sound.ready keeps (subst (λ s. KeepsRing r s) (sym left.registers) kept.0));
       started = rw driver sound.started;
-      processing = ap is_processing_commands left.registers ∙ kept.1 ∙ sound.processing;
+      unmarked = marks_kept r (registers_of new.iommu) command left.registers sound.unmarked;
       size = left.frames ∙ sound.size ∙ sym frames.1;
       known = record {
         own_ids = rw devices sound.known.own_ids;
@@ -427,12 +455,27 @@ keeps_done old new events command sound own stays below fetches driver devices f
       };
       serials = subst (λ (s : OpenSlots). s.last ≤ events) (sym left.slots) (omega (arith, last, below));
       epochs = same_epochs old new events sound devices;
-      confirmed = rw (after, driver) (omega (arith, confirmed, more));
       small = rw driver sound.small;
       counted = subst (λ (f : Flights). f.so_far ≤ events) (sym left.flights) sound.counted;
       contexts = λ id context at. rw driver (sound.contexts id context (cached_before command (contexts_of old.iommu) (contexts_of new.iommu) left.contexts id context at));
       copies = ∥∥₁_map sound.copies (λ has. fetch_scene (values_of old) (values_of new) command does has);
     }
+
+-- whether a fence waits for devices is no matter
+keeps_flag : (parts : Parts) (events : ℕ) (waits : Bool) → AreSound parts events → AreSound (record parts { iommu = record parts.iommu { fence_waits = waits } }) events
+keeps_flag parts events waits sound = record {
+  ready = sound.ready;
+  started = sound.started;
+  unmarked = sound.unmarked;
+  size = sound.size;
+  known = record { own_ids = sound.known.own_ids; driver = sound.known.driver; iommu = sound.known.iommu; caches = sound.known.caches; trusted = sound.known.trusted; askers = sound.known.askers };
+  small = sound.small;
+  counted = sound.counted;
+  serials = sound.serials;
+  epochs = sound.epochs;
+  contexts = sound.contexts;
+  copies = sound.copies;
+}
 
 -- who waits at the head
 module _ (old : Parts) (events : ℕ) (sound : AreSound old events) where
@@ -445,10 +488,9 @@ module _ (old : Parts) (events : ℕ) (sound : AreSound old events) where
   keeps_unopened = record {
     ready = sound.ready;
     started = sound.started;
-    processing = sound.processing;
+    unmarked = sound.unmarked;
     size = sound.size;
     known = record { own_ids = sound.known.own_ids; driver = sound.known.driver; iommu = sound.known.iommu; caches = sound.known.caches; trusted = sound.known.trusted; askers = sound.known.askers };
-    confirmed = sound.confirmed;
     small = sound.small;
     counted = sound.counted;
     serials = sound.serials;
@@ -458,13 +500,14 @@ module _ (old : Parts) (events : ℕ) (sound : AreSound old events) where
   }
 
   -- a fence counts, since no invalidation request is open
-  keeps_counted : (store : Option FenceStore) (wsi pr pw : Bool) → head_entry old.memory (registers_of old.iommu) ≡ Some (Command (IofenceC store wsi pr pw))
+  keeps_counted : (command_status (registers_of old.iommu)).cmd_to ≡ false → (store : Option FenceStore) (wsi pr pw : Bool) → head_entry old.memory (registers_of old.iommu) ≡ Some (Command (IofenceC store wsi pr pw))
       → waits_for_slots (IofenceC store wsi pr pw) (slots_of old.iommu) ≡ false → AreSound counting events
-  keeps_counted store wsi pr pw at free =
+  keeps_counted going store wsi pr pw at free =
       let next = head_next old events sound (IofenceC store wsi pr pw) at in
       let list = first_there (commands_in old.memory (registers_of old.iommu)) (Command (IofenceC store wsi pr pw)) at in
       let counts : CountsAtHead (values_of old) (values_of counting) = record {
-        keeps = record { ledger = refl; address = refl; given = refl; confirmed = refl; kinds = λ d. refl; attachments = λ d. refl; spaces = λ d. refl };
+        keeps = record { ledger = refl; address = refl; given = refl; confirmed = refl; last_fence = refl; fences = refl; stopped = refl; kinds = λ d. refl; attachments = λ d. refl; spaces = λ d. refl };
+        going = going;
         waiting = refl;
         head = (next.0, list.0, list.1 ∙ ap (λ c. Command c ∷ list.0) next.1);
         completed = refl;
@@ -479,10 +522,9 @@ module _ (old : Parts) (events : ℕ) (sound : AreSound old events) where
       record {
         ready = sound.ready;
         started = sound.started;
-        processing = sound.processing;
+        unmarked = sound.unmarked;
         size = sound.size;
         known = record { own_ids = sound.known.own_ids; driver = sound.known.driver; iommu = sound.known.iommu; caches = sound.known.caches; trusted = sound.known.trusted; askers = sound.known.askers };
-        confirmed = sound.confirmed;
         small = sound.small;
         counted = sound.counted;
         serials = sound.serials;
@@ -495,30 +537,30 @@ module _ (old : Parts) (events : ℕ) (sound : AreSound old events) where
   abbrev waiting : Bool → Parts
   waiting slots = record old { iommu = after_none old.iommu (registers_of old.iommu) (if slots then stock_of old.iommu else Some (counted_in old.iommu)) }
 
-  keeps_command : (command : Commanded) → head_entry old.memory (registers_of old.iommu) ≡ Some (Command command) → is_held command old.iommu ≡ true
+  keeps_command : (command_status (registers_of old.iommu)).cmd_to ≡ false → (command : Commanded) → head_entry old.memory (registers_of old.iommu) ≡ Some (Command command) → is_held command old.iommu ≡ true
       → AreSound (waiting (waits_for_slots command (slots_of old.iommu))) events
-  keeps_command (IotinvalVma gscid pscid page) at held = absurd (false≢true held)
-  keeps_command (IotinvalGvma gscid page) at held = absurd (false≢true held)
-  keeps_command (IodirInvalDdt device) at held = absurd (false≢true held)
-  keeps_command (IofenceC store wsi pr pw) at held = by (waits_for_slots (IofenceC store wsi pr pw) (slots_of old.iommu)) refl
+  keeps_command going (IotinvalVma gscid pscid page) at held = absurd (false≢true held)
+  keeps_command going (IotinvalGvma gscid page) at held = absurd (false≢true held)
+  keeps_command going (IodirInvalDdt device) at held = absurd (false≢true held)
+  keeps_command going (IofenceC store wsi pr pw) at held = by (waits_for_slots (IofenceC store wsi pr pw) (slots_of old.iommu)) refl
     where
       by : (b : Bool) → waits_for_slots (IofenceC store wsi pr pw) (slots_of old.iommu) ≡ b → AreSound (waiting b) events
       by true waits = keeps_unopened
-      by false free = keeps_counted store wsi pr pw at free
-  keeps_command (AtsInval device range) at held = by (waits_for_slots (AtsInval device range) (slots_of old.iommu)) held
+      by false free = keeps_counted going store wsi pr pw at free
+  keeps_command going (AtsInval device range) at held = by (waits_for_slots (AtsInval device range) (slots_of old.iommu)) held
     where
       by : (b : Bool) → (b || false) ≡ true → AreSound (waiting b) events
       by true waits = keeps_unopened
       by false none = absurd (false≢true none)
 
-  pub keeps_waiting : WaitsAt (head_entry old.memory (registers_of old.iommu)) old.iommu
+  pub keeps_waiting : (command_status (registers_of old.iommu)).cmd_to ≡ false → WaitsAt (head_entry old.memory (registers_of old.iommu)) old.iommu
       → AreSound (record old { iommu = after_none old.iommu (registers_of old.iommu) (stock_at (head_entry old.memory (registers_of old.iommu)) old.iommu) }) events
-  keeps_waiting waits = by (head_entry old.memory (registers_of old.iommu)) refl waits
+  keeps_waiting going waits = by (head_entry old.memory (registers_of old.iommu)) refl waits
     where
       by : (entry : Option QueueEntry) → head_entry old.memory (registers_of old.iommu) ≡ entry → WaitsAt entry old.iommu
           → AreSound (record old { iommu = after_none old.iommu (registers_of old.iommu) (stock_at entry old.iommu) }) events
       by None at it = absurd it
-      by (Some (Command command)) at it = keeps_command command at it
+      by (Some (Command command)) at it = keeps_command going command at it
       by (Some (Illegal reason)) at it = absurd it
       by (Some Outside) at it = absurd it
 
@@ -535,6 +577,11 @@ keeps_fetched old new events told sound own stays below fetches = by fetches.ans
 
     by : (answer : Fetched) → FetchesCommand old.memory old.iommu answer new.memory new.iommu → new.fabric ≡ with_fetched answer (opened_of new.iommu) old.fabric → AreSound new events
     by (Did command) call fabric = keeps_done old new events command sound own stays below call fetches.driver fetches.devices fabric
-    by Waiting call fabric = left _ (keeps_waiting old events sound call.1) call.2 call.3 fabric
+    by Waiting call fabric = left _ (keeps_flag _ events (waits_at (head_entry old.memory (registers_of old.iommu)) old.iommu)
+        (keeps_waiting old events sound (goes_on old events sound call.0) call.1)) call.2 call.3 fabric
     by Empty call fabric = left _ (keeps_unopened old events sound) call.2 call.3 fabric
-    by Stopped call fabric = absurd (never_stops old events new.iommu sound many call.0)
+    by Stopped call fabric = stops (is_processing_commands (registers_of old.iommu)) call.0
+      where
+        stops : (on : Bool) → StopsFetching on old.memory old.iommu new.iommu → AreSound new events
+        stops true stopped = absurd (never_stops old events new.iommu sound many stopped)
+        stops false stopped = left _ (keeps_unopened old events sound) call.1 stopped fabric

@@ -1,13 +1,15 @@
 -- A grant of the driver is one of the ledger machine.
-use Rattle.std.proofs.Common.{◌≡◌, ◌≢◌, ◌<◌, ◌≤◌, ◌∙◌, ℕ, Bool, true, false, not, List, [], ◌∷◌, length, All, nat_eq, Option, Some, None, Result, Ok, Err, get_or, is_none, refl, sym, ap, subst, arith}
+use Rattle.std.proofs.Common.{◌≡◌, ◌≢◌, ◌<◌, ◌≤◌, ◌∙◌, ℕ, Bool, true, false, not, List, [], ◌∷◌, length, All, nat_eq, Option, Some, None, Result, Ok, Err, get_or, refl, sym, ap, subst, arith}
 use Rattle.std.specs.List.{IsDistinct}
 use Rattle.iom_base.specs.declared.grant_rights.GrantRights.{GrantRights}
 use Rattle.iom_base.specs.declared.owner.Owner.TheVariants.{OneDevice}
 use Rattle.iom_base.specs.GrantRights.{rights_of}
+use Rattle.iom_driver.specs.declared.device.Attachment.{Attachment}
+use Rattle.iom_driver.specs.declared.device.Attachment.TheVariants.{Detached, Attached, Quarantined, Leaving}
 use Rattle.iom_driver.specs.declared.device.Stages.{Stages}
 use Rattle.iom_driver.specs.Calls.{AnswersGrant, TakesTables, LacksTables, granted_leaf}
 use Rattle.iom_driver.specs.Choices.{marked_for, cleared}
-use Rattle.iom_driver.specs.Devices.{is_plugged, stages_of}
+use Rattle.iom_driver.specs.Devices.{is_plugged, attachment_of, attached_stages, stages_of, is_away, is_quarantined}
 use Rattle.iom_driver.specs.Reasons.{why_not_grant, granting_reasons}
 use Rattle.iom_driver.specs.State.{DriverState}
 use Rattle.iom_driver.proofs.Chosen.{are_chosen}
@@ -17,6 +19,7 @@ use Rattle.iom_iommu.specs.Parts.{flights_of}
 use Rattle.iom_ledger.specs.declared.entry.HistoryEntry.TheVariants as entry
 use Rattle.iom_ledger.specs.declared.refusal.Refusal.{Refusal}
 use Rattle.iom_ledger.specs.declared.refusal.Refusal.TheVariants.{NoFrames, Memory, NotStarted, NoSuchDevice, NotAttached}
+use Rattle.iom_ledger.specs.declared.refusal.Refusal.TheVariants as refusal
 use Rattle.iom_ledger.specs.Refusals.{first_that_applies}
 use Rattle.iom_machine.specs.declared.outcome.Outcome.{Outcome}
 use Rattle.iom_machine.specs.declared.state.State.{State}
@@ -26,7 +29,8 @@ use Rattle.iom_machine.specs.Refusals as refusals
 use Rattle.iom_machine.specs.Refusals.{MayRefuseGrant}
 use Rattle.iom_page_table.specs.Sv39.{missing_for}
 use Rattle.iom_table_frames.specs.Marks.{IsFreeForTable, HasFree}
-use Rattle.iom_world.specs.Does.{GrantsPage, told_of}
+use Rattle.iom_world.specs.Answers.{told_of}
+use Rattle.iom_world.specs.Does.{GrantsPage}
 use Rattle.iom_world.specs.Frames.{ShowsFrames}
 use Rattle.iom_world.specs.Parts.{Parts}
 use Rattle.iom_world.specs.Shows.{PartsShow}
@@ -41,12 +45,15 @@ use Rattle.iom_world.proofs.StayLemmas.{shows_still, not_owned, length-mapped}
 -- THE REASONS
 
 -- where no reason applies the device is attached
-attached_then : (started there : Bool) (stage : Option Stages) (later : List (Bool × Refusal))
-    → first_that_applies ((not started, NotStarted) ∷ (not there, NoSuchDevice) ∷ (is_none stage, NotAttached) ∷ later) ≡ None → (found : Stages) × (stage ≡ Some found)
-attached_then false there stage later none = cc
-attached_then true false stage later none = cc
-attached_then true true None later none = cc
-attached_then true true (Some stage) later none = (stage, refl)
+attached_then : (started there : Bool) (how : Attachment) (later : List (Bool × Refusal))
+    → first_that_applies ((not started, NotStarted) ∷ (not there, NoSuchDevice) ∷ (is_away how, NotAttached) ∷ (is_quarantined how, refusal.Quarantined) ∷ later) ≡ None
+    → (found : Stages) × (attached_stages how ≡ Some found)
+attached_then false there how later none = cc
+attached_then true false how later none = cc
+attached_then true true Detached later none = cc
+attached_then true true (Attached stage) later none = (stage, refl)
+attached_then true true (Quarantined ticket stage) later none = cc
+attached_then true true (Leaving ticket stage) later none = cc
 
 -- where the frames aren't enough, fewer than two are free
 fewer_than_two : (old : Parts) (state : State) (frame count : ℕ) → PartsShow old state → count ≤ 2 → ¬ HasFree old.driver.marks old.driver.ledger (Some frame) count (length old.memory)
@@ -98,6 +105,7 @@ shows_granted old new id page frame rights many takes iommu devices state shows 
       devices = rw (devices, ap (λ (i : Iommu). (flights_of i).rows) iommu, ap (λ (x : DriverState). x.devices) takes.driver) shows.devices;
       given = shows.given ∙ sym (ap (λ (x : DriverState). x.given) takes.driver);
       confirmed = shows.confirmed ∙ sym (ap (λ (x : DriverState). x.confirmed) takes.driver);
+      all_earlier = rw (ap (λ (x : DriverState). x.confirmed) takes.driver) shows.all_earlier;
       none_later = rw (ap (λ (x : DriverState). x.confirmed) takes.driver) shows.none_later;
       levels = shows.levels ∙ sym (ap (λ (x : DriverState). x.levels) takes.driver);
     }
@@ -136,7 +144,7 @@ grant_step old new events id page frame rights told sound does state shows = by 
             refused_as (why_not_grant d id page frame) (refusals.grant_reasons state id page frame) (LacksTables d old.memory id page frame) (MayRefuseGrant state frame) why
                 (grant_first old events state id page frame sound shows)
                 (λ none.
-                let stage = attached_then d.started (is_plugged d.devices id) (stages_of d.devices id) (granting_reasons d id page frame) none in
+                let stage = attached_then d.started (is_plugged d.devices id) (attachment_of d.devices id) (granting_reasons d id page frame) none in
                 may_lack_tables old state id page frame why stage.0 shows stage.1) call.0,
             refl,
           ),

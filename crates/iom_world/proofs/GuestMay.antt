@@ -13,7 +13,7 @@ use Rattle.iom_device_dir.specs.declared.stages.SecondStage.{SecondStage}
 use Rattle.iom_device_dir.specs.declared.stages.SecondStage.TheVariants as second
 use Rattle.iom_device_dir.specs.declared.values.GuestRoot.{GuestRoot}
 use Rattle.iom_driver.specs.declared.device.Attachment.{Attachment}
-use Rattle.iom_driver.specs.declared.device.Attachment.TheVariants.{Detached, Attached, Leaving}
+use Rattle.iom_driver.specs.declared.device.Attachment.TheVariants.{Detached, Attached, Quarantined, Leaving}
 use Rattle.iom_driver.specs.declared.device.Stages.{Stages}
 use Rattle.iom_driver.specs.Devices.{attachment_of, attached_stages, owned_stages}
 use Rattle.iom_driver.specs.Directory.{context_in, context_for}
@@ -59,6 +59,7 @@ owner_of : (levels id : ℕ) (a : Attachment) (cached : Option Context) (context
     → found_context cached (located_as levels id (attached_stages a)) ≡ Ok context → (stage : Stages) × (owned_stages a ≡ Some stage) × (context ≡ context_for stage)
 owner_of levels id Detached None context are found = cc
 owner_of levels id (Leaving ticket stage) None context are found = cc
+owner_of levels id (Quarantined ticket stage) None context are found = cc
 owner_of levels id (Attached stage) None context are found = let same : context_for stage ≡ context = cc in (stage, refl, sym same)
 owner_of levels id a (Some c) context are found = by (owned_stages a) (are c refl)
   where
@@ -106,7 +107,11 @@ guest_tables_for laws parts counted (events.Attach id mode ats) sound own state 
 guest_tables_for laws parts counted (events.Detach id) sound own state shows = tt
 guest_tables_for laws parts counted (events.Grant id page frame rights) sound own state shows = tt
 guest_tables_for laws parts counted (events.Release id page) sound own state shows = tt
+guest_tables_for laws parts counted (events.Quarantine id) sound own state shows = tt
+guest_tables_for laws parts counted (events.Revive id) sound own state shows = tt
+guest_tables_for laws parts counted events.Restart sound own state shows = tt
 guest_tables_for laws parts counted events.Fetch sound own state shows = tt
+guest_tables_for laws parts counted events.Timeout sound own state shows = tt
 guest_tables_for laws parts counted events.Poll sound own state shows = tt
 guest_tables_for laws parts counted events.Faults sound own state shows = tt
 guest_tables_for laws parts counted (events.Commit id) sound own state shows = tt
@@ -119,6 +124,7 @@ guest_tables_for laws parts counted (events.Forge id serial) sound own state sho
 guest_tables_for laws parts counted (events.Deliver place) sound own state shows = tt
 guest_tables_for laws parts counted (events.Drop place) sound own state shows = tt
 guest_tables_for laws parts counted (events.Repeat place) sound own state shows = tt
+guest_tables_for laws parts counted (events.Reset id) sound own state shows = tt
 guest_tables_for laws parts counted (events.Poke address bytes) sound own state shows = tt
 guest_tables_for laws parts counted (events.Peek address len) sound own state shows = tt
 guest_tables_for laws parts counted (events.Free frame) sound own state shows = tt

@@ -1,6 +1,10 @@
 -- What an event does to the parts of a world is a lawful step of the ledger machine, and a refusal changes nothing.
-use Rattle.std.proofs.Common.{◌≡◌, ◌+◌, ℕ}
+use Rattle.std.proofs.Common.{◌≡◌, ◌+◌, ◌∙◌, ℕ, length, Result, Ok, Err, sym, ap}
 use Rattle.iom_base.specs.Accesses.{read_of, write_of}
+use Rattle.iom_driver.specs.Restarts.{AnswersRestart}
+use Rattle.iom_driver.specs.State.{DriverState}
+use Rattle.iom_iommu.specs.Parts.{mmio}
+use Rattle.iom_ledger.specs.declared.refusal.Refusal.{Refusal}
 use Rattle.iom_machine.specs.declared.event.Event.{Event}
 use Rattle.iom_machine.specs.declared.event.Event.TheVariants as events
 use Rattle.iom_machine.specs.declared.outcome.Outcome.{Outcome}
@@ -11,6 +15,7 @@ use Rattle.iom_world.specs.Below.{LawsBelow, AddressFits}
 use Rattle.iom_world.specs.Does.{Does}
 use Rattle.iom_world.specs.Happens.{Happens}
 use Rattle.iom_world.specs.Parts.{Parts}
+use Rattle.iom_world.specs.Recovery.{RestartsQueue}
 use Rattle.iom_world.specs.Seen.{parts_of}
 use Rattle.iom_world.specs.Shows.{PartsShow}
 use Rattle.iom_world.specs.Sound.{AreSound}
@@ -27,9 +32,15 @@ use Rattle.iom_world.proofs.MessageSteps.{question_step, forged_step, dropped_st
 use Rattle.iom_world.proofs.PlugStep.{plug_step}
 use Rattle.iom_world.proofs.PollStep.{poll_step}
 use Rattle.iom_world.proofs.ProcessorSteps.{poked_step, peeked_step, asked_free_step}
+use Rattle.iom_world.proofs.QuarantineStep.{quarantine_step}
 use Rattle.iom_world.proofs.RefusedSame.{refused_same}
 use Rattle.iom_world.proofs.ReleaseStep.{release_step}
 use Rattle.iom_world.proofs.RequestStep.{request_step}
+use Rattle.iom_world.proofs.ResetKeeps.{reset_step}
+use Rattle.iom_world.proofs.RestartStep.{restart_step}
+use Rattle.iom_world.proofs.RevivalStep.{revival_step}
+use Rattle.iom_world.proofs.StoppedLemmas.{stays_stopped}
+use Rattle.iom_world.proofs.TimeoutKeeps.{timeout_step}
 use Rattle.iom_world.proofs.ThroughCacheStep.{through_cache_step}
 use Rattle.iom_world.proofs.TranslatedStep.{translated_step}
 use Rattle.iom_world.proofs.RunLemmas.{no_choice, frame_chosen, question_chosen, frames_taken, pages_taken}
@@ -38,6 +49,14 @@ use Rattle.iom_world.proofs.AskedLemmas.{service_laws}
 use Rattle.iom_world.proofs.GuestMay.{guest_tables_for}
 use Rattle.iom_world.proofs.PartsLemmas.{StaysReported, reported_of}
 use Rattle.iom_world.proofs.ReportKeeps.{taken_step}
+
+-- a restart leaves memory as large as it was
+restart_size : (old new : Parts) (before counted : ℕ) (told : Outcome) → AreSound old before → AreSound new counted → RestartsQueue old told new → length new.memory ≡ length old.memory
+restart_size old new before counted told sound sound' does = by does.answer does.call
+  where
+    by : (answer : Result (Unit {0}) Refusal) → AnswersRestart mmio old.driver old.memory old.iommu answer new.driver new.memory new.iommu → length new.memory ≡ length old.memory
+    by (Ok done) (admitted, queues) = sound'.ready.stand.size ∙ ap (λ (d : DriverState). length d.marks) queues.driver ∙ sym sound.ready.stand.size
+    by (Err why) (refused, driver, memory, iommu) = ap (λ m. length m) memory
 
 -- a step by the event
 module _ (laws : ServiceLaws) (old new : Parts) (counted before : ℕ) (sound : AreSound old before) (own : IsSoundDriver old.driver) (reported : StaysReported old.driver) (sound' : AreSound new counted) where
@@ -52,6 +71,14 @@ module _ (laws : ServiceLaws) (old new : Parts) (counted before : ℕ) (sound : 
       let step = grant_step old new before id page frame rights told sound does state shows in (step.1, (frames_taken step.0, step.2), step.3)
   steps (events.Release id page) told fits does state shows =
       let step = release_step old new before id page told sound own does state shows in (step.0, (no_choice, step.1), step.2)
+  steps (events.Quarantine id) told fits does state shows =
+      let step = quarantine_step old new before id told sound own does state shows in (step.0, (no_choice, step.1), step.2)
+  steps (events.Revive id) told fits does state shows =
+      let step = revival_step old new before id told sound own does state shows in (step.0, (no_choice, step.1), step.2)
+  steps events.Restart told fits does state shows =
+      let step = restart_step old new before told sound own (restart_size old new before counted told sound sound' does) does state shows in (state, (no_choice, step.0), step.1)
+  steps events.Timeout told fits does state shows = let step = timeout_step old new told does state shows in (state, (no_choice, step.0), step.1)
+  steps (events.Reset id) told fits does state shows = let step = reset_step old new id told does state shows in (state, (no_choice, step.0), step.1)
   steps events.Fetch told fits does state shows =
       let step = fetch_step old new before told sound own does state shows in (step.0, (no_choice, step.1), step.2)
   steps events.Poll told fits does state shows =
@@ -75,9 +102,9 @@ module _ (laws : ServiceLaws) (old new : Parts) (counted before : ℕ) (sound : 
   steps (events.WriteTranslated id address bytes) told fits does state shows =
       let step = translated_step laws old new before id (write_of address bytes) told sound own reported does state shows in (state, (no_choice, step.0), step.1)
   steps (events.ReadThroughCache id address len) told fits does state shows =
-      let step = through_cache_step laws old new before id (read_of address len) told sound own does state shows in (step.1, (frame_chosen step.0, step.2), step.3)
+      let step = through_cache_step laws old new before id (read_of address len) told sound own reported does state shows in (step.1, (frame_chosen step.0, step.2), step.3)
   steps (events.WriteThroughCache id address bytes) told fits does state shows =
-      let step = through_cache_step laws old new before id (write_of address bytes) told sound own does state shows in (step.1, (frame_chosen step.0, step.2), step.3)
+      let step = through_cache_step laws old new before id (write_of address bytes) told sound own reported does state shows in (step.1, (frame_chosen step.0, step.2), step.3)
   steps (events.Ask id page) told fits does state shows = let step = question_step old new id page told does state shows in (state, (no_choice, step.0), step.1)
   steps (events.Forge id serial) told fits does state shows = let step = forged_step old new id serial told does state shows in (state, (no_choice, step.0), step.1)
   steps (events.Deliver place) told fits does state shows =
@@ -95,6 +122,7 @@ happens laws old new event told fits does counted =
       does = does;
       commands = commands_stay (parts_of old) (parts_of new) old.events event told old.sound (sound_driver old.driver) reported does;
       guest = λ state shows. guest_tables_for service (parts_of old) old.events event old.sound (sound_driver old.driver) state shows;
+      stopped = λ stopped. stays_stopped (parts_of old) (parts_of new) old.events new.events old.sound (sound_driver old.driver) reported new.sound stopped event told does;
       refused = refused_same (parts_of old) (parts_of new) event told does;
       events = counted;
     }

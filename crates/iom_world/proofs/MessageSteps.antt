@@ -44,6 +44,7 @@ shows_rest old new state memory driver flights devices shows = record {
   devices = rw (driver, flights) (shows.devices ∙ sym devices);
   given = rw driver shows.given;
   confirmed = rw driver shows.confirmed;
+  all_earlier = rw driver shows.all_earlier;
   none_later = rw driver shows.none_later;
   levels = rw driver shows.levels;
 }
@@ -85,6 +86,7 @@ sends_step can old new id message told asks state shows = elim asks [
           devices = shows.devices;
           given = shows.given;
           confirmed = shows.confirmed;
+          all_earlier = shows.all_earlier;
           none_later = shows.none_later;
           levels = shows.levels;
         }),
@@ -105,6 +107,7 @@ shows_fabric old new fabric state is shows = subst (λ parts. PartsShow parts st
   devices = shows.devices;
   given = shows.given;
   confirmed = shows.confirmed;
+  all_earlier = shows.all_earlier;
   none_later = shows.none_later;
   levels = shows.levels;
 })

@@ -3,6 +3,7 @@ use Rattle.std.proofs.Common.{suc, zero, ◌≡◌, ◌≢◌, ◌^◌, ◌<◌,
 use Rattle.std.specs.Option.{option_map}
 use Rattle.std.proofs.Math.Logic.{∥∥₁_map}
 use Rattle.std.proofs.lemmas.Bool.{false≢true, eq-eqb}
+use Rattle.iom_driver.specs.Fences.{last_fence, fence_of}
 use Rattle.iom_driver.specs.declared.device.Device as driver
 use Rattle.iom_driver.specs.Calls.{AnswersPlug}
 use Rattle.iom_driver.specs.declared.device.Stages.{Stages}
@@ -22,13 +23,13 @@ use Rattle.iom_ledger.specs.Refusals.{NoneApplies}
 use Rattle.iom_ledger.specs.Shown.{Agrees}
 use Rattle.iom_machine.specs.declared.outcome.Outcome.{Outcome}
 use Rattle.iom_machine.specs.declared.state.DeviceKind.{DeviceKind}
-use Rattle.iom_registers.specs.Queues.{is_processing_commands}
+use Rattle.iom_registers.specs.declared.registers.Registers.{Registers}
+use Rattle.iom_registers.specs.Queues.{command_status}
 use Rattle.iom_world.specs.declared.device.Device.{Device}
 use Rattle.iom_world.specs.Devices.{shown_attachment}
 use Rattle.iom_world.specs.Does.{PlugsDevice, AddsRow, new_device, devices_after}
 use Rattle.iom_tlb.specs.Chosen.{ioatc}
 use Rattle.iom_world.specs.Parts.{Parts}
-use Rattle.iom_world.specs.Queued.{completed_in}
 use Rattle.iom_world.specs.Read.{space_in, values_of, access_of, accesses_of}
 use Rattle.iom_world.specs.Sound.{AreSound, AreKnown, HaveOwnIds, known_ids, ids_of, row_ids}
 use Rattle.iom_world.proofs.SceneCalls.{PlugsOne, plug_scene}
@@ -152,6 +153,7 @@ module _ (old new : Parts) (events id : ℕ) (kind : DeviceKind) (sound : AreSou
     address = ap completion_address leaves.size;
     waiting = same_waiting old new events sound row.registers (ap (λ m. slice_get m (command_frame (length old.memory))) memory);
     completed = same_completed old.memory new.memory leaves.size leaves.word;
+    last_fence = ap (λ (d : DriverState). last_fence d) driver_now;
     given = ap (λ (d : DriverState). d.given) driver_now;
     confirmed = ap (λ (d : DriverState). d.confirmed) driver_now;
     so_far = counted_now;
@@ -162,6 +164,8 @@ module _ (old new : Parts) (events id : ℕ) (kind : DeviceKind) (sound : AreSou
       spaces = λ other space at. ap (λ a. option_map (λ (stage : Stages). space_in stage.mode stage.number) (owned_stages a)) (attachments_now other) ∙ at;
       translations = λ key translation at. sym (ap (λ c. ioatc.content c key) row.translations) ∙ at;
       stock = row.stock;
+      fences = ap (λ (d : DriverState). fence_of d) driver_now;
+      stopped = ap (λ (r : Registers). (command_status r).cmd_to) row.registers;
       traffic = traffic_now;
     };
   }
@@ -169,10 +173,9 @@ module _ (old new : Parts) (events id : ℕ) (kind : DeviceKind) (sound : AreSou
   pub plugged_sound : AreSound new events
   plugged_sound =
       sound_from old new events sound leaves
-      (record { processing = ap is_processing_commands row.registers; frames = row.frames; so_far = counted_now; slots = row.slots })
+      (record { status = ap command_status row.registers; frames = row.frames; so_far = counted_now; slots = row.slots })
       (ap (λ (d : DriverState). d.started) driver_now) ready known_now
       (λ d. subst (λ (n : ℕ). n ≤ events) (sym (ap (λ (ds : List Device). epoch_in ds d) devices ∙ epoch_pushed old.devices id kind d)) (sound.epochs d))
-      (subst (λ (d : DriverState). d.confirmed ≤ completed_in old.memory) (sym driver_now) sound.confirmed)
       (subst (λ (d : DriverState). d.given < 2 ^ 32) (sym driver_now) sound.small)
       (λ other context cached. ap (λ a. option_map context_for (owned_stages a)) (attachments_now other) ∙ sound.contexts other context (sym (contexts_now other) ∙ cached))
       (∥∥₁_map sound.copies (plug_scene (values_of old) (values_of new) id kind plugs_one))

@@ -26,7 +26,8 @@ use Rattle.iom_machine.specs.Refusals as refusals
 use Rattle.iom_machine.specs.Refusals.{MayRefusePlug}
 use Rattle.iom_world.specs.declared.device.Device.{Device}
 use Rattle.iom_world.specs.Devices.{shown_attachment, shown_device, shown_devices, accepted_of, in_flight_of}
-use Rattle.iom_world.specs.Does.{PlugsDevice, AddsRow, told_of, new_device, devices_after}
+use Rattle.iom_world.specs.Answers.{told_of}
+use Rattle.iom_world.specs.Does.{PlugsDevice, AddsRow, new_device, devices_after}
 use Rattle.iom_world.specs.Parts.{Parts}
 use Rattle.iom_world.specs.Shows.{PartsShow}
 use Rattle.iom_world.specs.Sound.{AreSound}
@@ -136,6 +137,7 @@ shows_plugged old new id kind none driver no_row row memory devices state shows 
       devices = rw (devices, row, ap (λ (x : DriverState). x.devices) driver) (ap (λ ds. ds ++ plugged_device id kind ∷ []) shows.devices ∙ plugged);
       given = shows.given ∙ sym (ap (λ (x : DriverState). x.given) driver);
       confirmed = shows.confirmed ∙ sym (ap (λ (x : DriverState). x.confirmed) driver);
+      all_earlier = rw (ap (λ (x : DriverState). x.confirmed) driver) shows.all_earlier;
       none_later = rw (ap (λ (x : DriverState). x.confirmed) driver) shows.none_later;
       levels = shows.levels ∙ sym (ap (λ (x : DriverState). x.levels) driver);
     }

@@ -1,6 +1,5 @@
 -- A poll confirms the oldest pending tickets in the ledger machine, such that each access in flight may still reach its frame, and gives back what devices had that left under them.
-use Rattle.std.proofs.Common.{suc, zero, ◌≡◌, ◌≢◌, ◌+◌, ◌-◌, ◌<◌, ◌≤◌, ◌==◌, ◌||◌, ◌∙◌, ℕ, Bool, true, false, not, nat_le, min, List, [], ◌∷◌, map, Option, Some, None, slice_get, Result, Ok, Err, refl, sym, ap, subst, arith, inl, inr, if◌then◌else◌}
-use Rattle.std.proofs.Math.Nat.{min-le_right}
+use Rattle.std.proofs.Common.{suc, zero, ◌≡◌, ◌≢◌, ◌+◌, ◌-◌, ◌<◌, ◌≤◌, ◌==◌, ◌||◌, ◌∙◌, ℕ, Bool, true, false, not, nat_le, List, [], ◌∷◌, map, Option, Some, None, slice_get, Result, Ok, Err, refl, sym, ap, subst, arith, inl, inr, if◌then◌else◌}
 use Rattle.std.proofs.lemmas.Bool.{false≢true, or_from}
 use Rattle.std.proofs.lemmas.Bool.Decides.{eqb_tells, leb_tells}
 use Rattle.iom_base.specs.declared.owner.Owner.{Owner}
@@ -47,6 +46,7 @@ use Rattle.iom_world.proofs.BackFrames.{mark_back, GivesFramesBack, back, shows_
 use Rattle.iom_world.proofs.DriverLemmas.{IsSoundDriver}
 use Rattle.iom_world.proofs.FrameLemmas.{shows_kept}
 use Rattle.iom_world.proofs.PlaceLemmas.{attached_so}
+use Rattle.iom_world.proofs.PollKeeps.{polled_most}
 use Rattle.iom_world.proofs.ReasonLemmas.{how_shown}
 
 -- THE TICKETS
@@ -88,22 +88,38 @@ confirms_is confirmed n ticket h over none = elim (leb_tells ticket (confirmed +
   | inr high ↦ let lt : confirmed + n < ticket = high.1 in none_after (confirmed + 1) n ticket h (omega (arith, lt)) none ∙ sym high.0
 ]
 
+-- what was confirmed stays so
+still_confirmed : (first n ticket : ℕ) (h : History) → confirms h ticket ≡ true → confirms (confirmed_from first n h) ticket ≡ true
+still_confirmed first zero ticket h is = is
+still_confirmed first (suc n) ticket h is = or_true (first + n == ticket) (confirms (confirmed_from first n h) ticket) (still_confirmed first n ticket h is)
+
+-- so all up to the last are confirmed then
+all_up_to : (confirmed n ticket : ℕ) (h : History) → (ticket ≤ confirmed → confirms h ticket ≡ true) → ticket ≤ confirmed + n
+    → confirms (confirmed_from (confirmed + 1) n h) ticket ≡ true
+all_up_to confirmed n ticket h earlier low = elim (leb_tells ticket confirmed) [
+  | inl before ↦ still_confirmed (confirmed + 1) n ticket h (earlier before.1)
+  | inr after ↦ each_among (confirmed + 1) n ticket h (let lt : confirmed < ticket = after.1 in omega (arith, lt)) (omega (arith, low))
+]
+
 -- THE DEVICES
 
 -- the history confirms the ticket of a leaving device as the driver does
 abbrev ConfirmsAs : History → ℕ → owned.Attachment → Type 0
 ConfirmsAs h done attached.Detached = Unit {0}
 ConfirmsAs h done (attached.Attached stage) = Unit {0}
+ConfirmsAs h done (attached.Quarantined ticket stage) = Unit {0}
 ConfirmsAs h done (attached.Leaving ticket stage) = confirms h ticket ≡ nat_le ticket done
 
 left_as : (h : History) (done : ℕ) (how : owned.Attachment) → ConfirmsAs h done how → has_left h (shown_attachment how) ≡ driver.has_left done how
 left_as h done attached.Detached same = refl
 left_as h done (attached.Attached stage) same = refl
+left_as h done (attached.Quarantined ticket stage) same = refl
 left_as h done (attached.Leaving ticket stage) same = same
 
 once_as : (h : History) (done : ℕ) (how : owned.Attachment) → ConfirmsAs h done how → once_confirmed h (shown_attachment how) ≡ shown_attachment (after done how)
 once_as h done attached.Detached same = refl
 once_as h done (attached.Attached stage) same = refl
+once_as h done (attached.Quarantined ticket stage) same = refl
 once_as h done (attached.Leaving ticket stage) same = ap (λ (b : Bool). if b then Detached else Leaving ticket stage.mode stage.ats) same ∙ by (nat_le ticket done)
   where
     by : (b : Bool) → ◌≡◌ {A = Attachment} (if b then Detached else Leaving ticket stage.mode stage.ats) (shown_attachment (if b then attached.Detached else attached.Leaving ticket stage))
@@ -115,6 +131,7 @@ confirmed_as : (h : History) (confirmed n given : ℕ) (how : owned.Attachment) 
     → ConfirmsAs (confirmed_from (confirmed + 1) n h) (confirmed + n) how
 confirmed_as h confirmed n given attached.Detached none leaves = tt
 confirmed_as h confirmed n given (attached.Attached stage) none leaves = tt
+confirmed_as h confirmed n given (attached.Quarantined ticket stage) none leaves = tt
 confirmed_as h confirmed n given (attached.Leaving ticket stage) none leaves =
     let over = (leaves ticket stage refl).0 in confirms_is confirmed n ticket h over (none ticket over)
 
@@ -208,6 +225,8 @@ shows_polled old new events state polled sound sound_driver iommu devices shows 
           (ap (λ ds. map (device_once_confirmed h) ds) shows.devices ∙ once);
       given = rw (ap (λ (x : DriverState). x.given) does_confirm.driver) shows.given;
       confirmed = rw (ap (λ (x : DriverState). x.confirmed) does_confirm.driver) (last_of d.confirmed polled.count state.history shows.confirmed);
+      all_earlier = rw (ap (λ (x : DriverState). x.confirmed) does_confirm.driver)
+          (λ ticket above up_to. all_up_to d.confirmed polled.count ticket state.history (λ low. shows.all_earlier ticket above low) up_to);
       none_later = rw (ap (λ (x : DriverState). x.confirmed) does_confirm.driver)
           (λ ticket above. none_after (d.confirmed + 1) polled.count ticket state.history (omega (arith, above)) (shows.none_later ticket (omega (arith, above))));
       levels = rw (ap (λ (x : DriverState). x.levels) does_confirm.driver) shows.levels;
@@ -234,21 +253,22 @@ shows_none old new state polled sound iommu devices shows does_confirm none =
       devices = rw (devices, ap (λ (i : Iommu). (flights_of i).rows) iommu, ap (λ (x : DriverState). x.devices) does_confirm.driver) (shows.devices ∙ alike);
       given = rw (ap (λ (x : DriverState). x.given) does_confirm.driver) shows.given;
       confirmed = shows.confirmed ∙ sym same ∙ sym (ap (λ (x : DriverState). x.confirmed) does_confirm.driver);
+      all_earlier = rw (ap (λ (x : DriverState). x.confirmed) does_confirm.driver) (λ ticket above up_to. shows.all_earlier ticket above (omega (arith, up_to, same)));
       none_later = rw (ap (λ (x : DriverState). x.confirmed) does_confirm.driver) (λ ticket above. shows.none_later ticket (omega (arith, above, same)));
       levels = rw (ap (λ (x : DriverState). x.levels) does_confirm.driver) shows.levels;
     }
 
 -- what is told of so many tickets
-abbrev told_of_count : ℕ → ℕ → Outcome
-told_of_count first count = if count == 0 then NoneConfirmed else Confirmed first (first + count - 1)
+abbrev told_of_count : ℕ → ℕ → Bool → Outcome
+told_of_count first count timed_out = if count == 0 then NoneConfirmed timed_out else Confirmed first (first + count - 1) timed_out
 
 -- the tickets are told and confirmed, by how many they are
-confirmed_so : (old new : Parts) (first count : ℕ) (state : State) → ((s : State) → PartsShow new s → EachInFlightMay s) → PartsShow old state
+confirmed_so : (old new : Parts) (first count : ℕ) (timed_out : Bool) (state : State) → ((s : State) → PartsShow new s → EachInFlightMay s) → PartsShow old state
     → PartsShow new (with_left (confirmed_state old count state)) → (count ≡ 0 → PartsShow new state) → old.driver.confirmed + count ≤ old.driver.given
     → (n : ℕ) → count ≡ n → first ≡ (if n == 0 then 0 else old.driver.confirmed + 1)
-    → (next : State) × machine.Polls state (told_of_count first n) next × PartsShow new next
-confirmed_so old new first count state may shows shows' shows_old most zero none is = (state, refl, shows_old none)
-confirmed_so old new first count state may shows shows' shows_old most (suc m) some is =
+    → (next : State) × machine.Polls state (told_of_count first n timed_out) next × PartsShow new next
+confirmed_so old new first count timed_out state may shows shows' shows_old most zero none is = (state, refl, shows_old none)
+confirmed_so old new first count timed_out state may shows shows' shows_old most (suc m) some is =
     let c = old.driver.confirmed in
     let test : (suc m == 0) ≡ false = differs (suc m) 0 (λ e. absurd (omega (arith, e))) in
     let begin : first ≡ c + 1 = is ∙ ap (λ b. if b then 0 else c + 1) test in
@@ -260,7 +280,7 @@ confirmed_so old new first count state may shows shows' shows_old most (suc m) s
     let confirmed = shows.confirmed in
     let given = shows.given in (
       with_left (with_confirmed state first (first + suc m - 1)),
-      subst (λ b. machine.Polls state (if b then NoneConfirmed else Confirmed first (first + suc m - 1)) (with_left (with_confirmed state first (first + suc m - 1)))) (sym test) (
+      subst (λ b. machine.Polls state (if b then NoneConfirmed timed_out else Confirmed first (first + suc m - 1) timed_out) (with_left (with_confirmed state first (first + suc m - 1)))) (sym test) (
         (omega (arith, begin, confirmed), omega arith, omega (arith, last, most, some, given)),
         refl,
         may (with_left (with_confirmed state first (first + suc m - 1))) shown,
@@ -280,11 +300,8 @@ poll_step old new events later told sound sound_driver sound' does may state sho
     by : (answer : Result Polled Refusal) → told ≡ polled_told_of answer → AnswersPoll (registers_of old.iommu) old.driver old.memory answer new.driver new.memory
         → (next : State) × machine.Polls state told next × PartsShow new next
     by (Ok polled) tells (admitted, does_confirm) =
-        let ordered = sound_driver.tickets.ordered in
-        let low : min does_confirm.word old.driver.given ≤ old.driver.given = min-le_right does_confirm.word old.driver.given in
-        let count = does_confirm.count in
-        let most : old.driver.confirmed + polled.count ≤ old.driver.given = omega (arith, ordered, low, count) in
-        let done = confirmed_so old new polled.first polled.count state may shows
+        let most = polled_most (registers_of old.iommu) old.driver old.memory polled new.driver new.memory sound_driver does_confirm in
+        let done = confirmed_so old new polled.first polled.count polled.timed_out state may shows
         (shows_polled old new events state polled sound sound_driver does.iommu does.devices shows does_confirm)
         (λ none. shows_none old new state polled sound_driver does.iommu does.devices shows does_confirm none) most polled.count refl does_confirm.first in
         (done.0, subst (λ (o : Outcome). machine.Polls state o done.0) (sym tells) done.1, done.2)

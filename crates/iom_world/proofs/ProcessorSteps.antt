@@ -56,6 +56,7 @@ module _ (old : Parts) (state : State) (shows : PartsShow old state) where
           devices = shows.devices;
           given = shows.given;
           confirmed = shows.confirmed;
+          all_earlier = shows.all_earlier;
           none_later = shows.none_later;
           levels = shows.levels;
         }),

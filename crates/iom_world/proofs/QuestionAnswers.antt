@@ -6,7 +6,7 @@ use Rattle.iom_base.specs.declared.cause.Cause.TheVariants.{TransactionTypeDisal
 use Rattle.iom_copies.specs.Attachments.{has_ats}
 use Rattle.iom_device_dir.specs.declared.context.Context.{Context}
 use Rattle.iom_driver.specs.declared.device.Attachment.{Attachment}
-use Rattle.iom_driver.specs.declared.device.Attachment.TheVariants.{Detached, Attached, Leaving}
+use Rattle.iom_driver.specs.declared.device.Attachment.TheVariants.{Detached, Attached, Quarantined, Leaving}
 use Rattle.iom_driver.specs.declared.device.Stages.{Stages}
 use Rattle.iom_driver.specs.Devices.{attachment_of}
 use Rattle.iom_driver.specs.Directory.{context_for}
@@ -22,17 +22,22 @@ use Rattle.iom_world.specs.Devices.{shown_attachment}
 use Rattle.iom_world.specs.Parts.{Parts}
 use Rattle.iom_world.specs.Sound.{AreSound}
 use Rattle.iom_world.proofs.AtsContexts.{FindsAts, finds_ats}
+use Rattle.iom_world.proofs.CutOffLemmas.{IsPending}
 use Rattle.iom_world.proofs.DriverLemmas.{IsSoundDriver}
-use Rattle.iom_world.proofs.ServedLemmas.{ServiceLaws, FaultsAs, IsAnswered, cause_at, of_attached, of_leaving}
+use Rattle.iom_world.proofs.ServedLemmas.{ServiceLaws, FaultsAs, IsAnswered, cause_at, of_attached, of_cut_off, of_leaving}
 use Rattle.iom_world.proofs.WalkLemmas.{FaultsBy}
+
+-- for which cause a question is refused by the context of the stages that a device had
+abbrev pub RefusedFormerly : Stages → Cause → Type 0
+RefusedFormerly stage cause = ((stage.ats ≡ true) × IsPageFaultOf stage.mode Read cause) ⊎ ((stage.ats ≡ false) × (cause ≡ TransactionTypeDisallowed))
 
 -- for which cause a question about the page at the address is refused
 abbrev pub RefusedAs : Attachment → DriverState → ℕ → ℕ → Cause → Type 0
 RefusedAs Detached d id address cause = cause ≡ cause_at d.levels id
 RefusedAs (Attached stage) d id address cause =
     ((stage.ats ≡ true) × FaultsBy stage.mode d.ledger id (address / 4096) Read cause) ⊎ ((stage.ats ≡ false) × (cause ≡ TransactionTypeDisallowed))
-RefusedAs (Leaving ticket stage) d id address cause =
-    (cause ≡ cause_at d.levels id) ⊎ ((stage.ats ≡ true) × IsPageFaultOf stage.mode Read cause) ⊎ ((stage.ats ≡ false) × (cause ≡ TransactionTypeDisallowed))
+RefusedAs (Quarantined ticket stage) d id address cause = (cause ≡ cause_at d.levels id) ⊎ ((d.confirmed < ticket) × RefusedFormerly stage cause)
+RefusedAs (Leaving ticket stage) d id address cause = (cause ≡ cause_at d.levels id) ⊎ RefusedFormerly stage cause
 
 -- how it is answered
 abbrev pub IsToldOf : Bool → DriverState → ℕ → ℕ → Translations → Result Translation WalkFault → Translations → Type 0
@@ -67,6 +72,19 @@ module _ (laws : ServiceLaws) (parts : Parts) (events : ℕ) (sound : AreSound p
     stays,
   )
 
+  cut_off : (ticket : ℕ) (stage : Stages) (cause : Cause) → stage.ats ≡ true → ((d.confirmed < ticket) × IsPageFaultOf stage.mode Read cause) ⊎ (cause ≡ cause_at d.levels id)
+      → (cause ≡ cause_at d.levels id) ⊎ ((d.confirmed < ticket) × RefusedFormerly stage cause)
+  cut_off ticket stage cause ats (inl (pending, page)) = inr (pending, inl (ats, page))
+  cut_off ticket stage cause ats (inr none) = inl none
+
+  told_cut_off : (ticket : ℕ) (stage : Stages) (answer : Result Translation WalkFault) → attachment_of d.devices id ≡ Quarantined ticket stage → stage.ats ≡ true
+      → IsAnswered sure d id address Read old answer new → Told answer
+  told_cut_off ticket stage (Ok answer) is ats answered = (ap (λ a. has_ats (shown_attachment a)) is ∙ ats, answered)
+  told_cut_off ticket stage (Err fault) is ats (faults, stays) = (
+    subst (λ a. RefusedAs a d id address fault.cause) (sym is) (cut_off ticket stage fault.cause ats (subst (λ a. FaultsAs a d id address Read fault.cause) is faults)),
+    stays,
+  )
+
   left : (stage : Stages) (cause : Cause) → stage.ats ≡ true → IsPageFaultOf stage.mode Read cause ⊎ (cause ≡ cause_at d.levels id)
       → (cause ≡ cause_at d.levels id) ⊎ ((stage.ats ≡ true) × IsPageFaultOf stage.mode Read cause) ⊎ ((stage.ats ≡ false) × (cause ≡ TransactionTypeDisallowed))
   left stage cause ats (inl page) = inr (inl (ats, page))
@@ -87,6 +105,13 @@ module _ (laws : ServiceLaws) (parts : Parts) (events : ℕ) (sound : AreSound p
   by_attached stage answer is false none served =
       refused_for answer TransactionTypeDisallowed (subst (λ a. RefusedAs a d id address TransactionTypeDisallowed) (sym is) (inr (none, refl))) served.0 served.1
 
+  by_cut_off : (ticket : ℕ) (stage : Stages) (answer : Result Translation WalkFault) → attachment_of d.devices id ≡ Quarantined ticket stage → IsPending parts.driver id → (b : Bool) → stage.ats ≡ b
+      → Served (if b then Ok (context_for stage) else Err TransactionTypeDisallowed) answer → Told answer
+  by_cut_off ticket stage answer is pending true ats served =
+      told_cut_off ticket stage answer is ats (of_cut_off laws parts events sound own id address Read fits sure old new ticket stage answer is pending served)
+  by_cut_off ticket stage answer is pending false none served =
+      refused_for answer TransactionTypeDisallowed (subst (λ a. RefusedAs a d id address TransactionTypeDisallowed) (sym is) (inr (pending ticket stage is, inr (none, refl)))) served.0 served.1
+
   by_leaving : (ticket : ℕ) (stage : Stages) (answer : Result Translation WalkFault) → attachment_of d.devices id ≡ Leaving ticket stage → (b : Bool) → stage.ats ≡ b
       → Served (if b then Ok (context_for stage) else Err TransactionTypeDisallowed) answer → Told answer
   by_leaving ticket stage answer is true ats served =
@@ -95,11 +120,16 @@ module _ (laws : ServiceLaws) (parts : Parts) (events : ℕ) (sound : AreSound p
       refused_for answer TransactionTypeDisallowed (subst (λ a. RefusedAs a d id address TransactionTypeDisallowed) (sym is) (inr (inr (none, refl)))) served.0 served.1
 
   -- by how the device is attached
-  by_found : (a : Attachment) (found : Result Context Cause) (answer : Result Translation WalkFault) → attachment_of d.devices id ≡ a → FindsAts a d.levels id found → Served found answer → Told answer
+  by_found : (a : Attachment) (found : Result Context Cause) (answer : Result Translation WalkFault) → attachment_of d.devices id ≡ a → FindsAts a parts.driver id found → Served found answer → Told answer
   by_found Detached found answer is none served =
       let by : Served (Err (cause_at d.levels id)) answer = subst (λ f. Served f answer) none served in
       refused_for answer (cause_at d.levels id) (subst (λ a. RefusedAs a d id address (cause_at d.levels id)) (sym is) refl) by.0 by.1
   by_found (Attached stage) found answer is finds served = by_attached stage answer is stage.ats refl (subst (λ f. Served f answer) finds served)
+  by_found (Quarantined ticket stage) found answer is (inl none) served =
+      let by : Served (Err (cause_at d.levels id)) answer = subst (λ f. Served f answer) none served in
+      refused_for answer (cause_at d.levels id) (subst (λ a. RefusedAs a d id address (cause_at d.levels id)) (sym is) (inl refl)) by.0 by.1
+  by_found (Quarantined ticket stage) found answer is (inr (pending, finds)) served =
+      by_cut_off ticket stage answer is pending stage.ats refl (subst (λ f. Served f answer) finds served)
   by_found (Leaving ticket stage) found answer is (inl none) served =
       let by : Served (Err (cause_at d.levels id)) answer = subst (λ f. Served f answer) none served in
       refused_for answer (cause_at d.levels id) (subst (λ a. RefusedAs a d id address (cause_at d.levels id)) (sym is) (inl refl)) by.0 by.1

@@ -38,10 +38,11 @@ use Rattle.iom_world.specs.Scenes.{IsSceneOf}
 use Rattle.iom_world.specs.Shows.{PartsShow}
 use Rattle.iom_world.specs.Sound.{AreSound}
 use Rattle.iom_world.proofs.CachedMay.{in_history, reachable_in, leaves_none, detached_none}
+use Rattle.iom_world.proofs.CutOffLemmas.{IsPending, show_formerly, cut_off_holds}
 use Rattle.iom_world.proofs.DriverLemmas.{IsSoundDriver}
 use Rattle.iom_world.proofs.HistoryMay.{may_merely}
 use Rattle.iom_world.proofs.MessageLemmas.{the_one}
-use Rattle.iom_world.proofs.QuestionAnswers.{RefusedAs}
+use Rattle.iom_world.proofs.QuestionAnswers.{RefusedAs, RefusedFormerly}
 use Rattle.iom_world.proofs.SceneSteps.{HoldsWalked}
 use Rattle.iom_world.proofs.ServedLemmas.{IsAnswered, cause_at}
 use Rattle.iom_world.proofs.WalkLemmas.{NoneIsHeldFor, FaultsBy}
@@ -123,7 +124,8 @@ shows_merely ledger history id page pair agrees merely = by (held_at history id 
 -- A CACHED TRANSLATION, that allows to read
 module _ (parts : Parts) (events : ℕ) (state : State) (id page : ℕ) (stage : Stages) (translation : Translation) (sound : AreSound parts events) (own : IsSoundDriver parts.driver)
     (shows : PartsShow parts state) (owned : owned_stages_of parts.driver.devices id ≡ Some stage)
-    (cached : translations_of parts.iommu (space_in stage.mode stage.number, page) ≡ Some translation) (allowed : allows translation.rights Read ≡ true) where
+    (cached : translations_of parts.iommu (space_in stage.mode stage.number, page) ≡ Some translation) (allowed : allows translation.rights Read ≡ true)
+    (pending : IsPending parts.driver id) where
   -- in one stage it is what is held at the page, or what lingers there
   show_in : in_both_stages (shown_attachment (attachment_of parts.driver.devices id)) ≡ false → (scene : Scene) → IsSceneOf (values_of parts) scene → IsFaithful scene
       → MayShow state.history id page (translation.frame, translation.rights)
@@ -150,12 +152,24 @@ module _ (parts : Parts) (events : ℕ) (state : State) (id page : ℕ) (stage :
         (λ (scene, at, facts). reachable_in parts events state id page stage translation sound own shows owned cached true is scene at facts kind allowing))),
   )
 
+  -- of a device that is cut off it is what lingers
+  cut_off : (ticket : ℕ) (s : Stages) → attachment_of parts.driver.devices id ≡ driver.Quarantined ticket s → s.ats ≡ true
+      → MayTell (shown.Quarantined ticket s.mode s.ats) state id page (Page translation.frame translation.rights)
+  cut_off ticket s is ats = inr (
+    shows.none_later ticket (pending ticket s is),
+    subst (λ b. MayTellFormerly s.mode b state.history id page (Page translation.frame translation.rights)) (sym ats)
+        (show_formerly state.history id page translation.frame translation.rights (cut_off_holds parts.driver own state.history shows.ledger id ticket s is) s.mode allowed
+        (∥∥₁_map sound.copies (λ (scene, at, facts).
+        reachable_in parts events state id page stage translation sound own shows owned cached (is_both s.mode) (ap (λ a. in_both_stages (shown_attachment a)) is) scene at facts))),
+  )
+
   pub cached_tell : (a : Attachment) → attachment_of parts.driver.devices id ≡ a → has_ats (shown_attachment a) ≡ true
       → MayTell (shown_attachment a) state id page (Page translation.frame translation.rights)
   cached_tell driver.Detached is ats = absurd (detached_none parts events state id page stage translation sound own shows owned cached is)
   cached_tell (driver.Attached s) is ats =
       subst (λ b. MayTell (shown.Attached s.mode b) state id page (Page translation.frame translation.rights)) (sym ats)
       (shown_cached s.mode (ap (λ a. in_both_stages (shown_attachment a)) is))
+  cached_tell (driver.Quarantined ticket s) is ats = cut_off ticket s is ats
   cached_tell (driver.Leaving ticket s) is ats = absurd (leaves_none parts events state id page stage translation sound own shows owned cached ticket s is)
 
 -- WHAT A WALK GIVES
@@ -182,7 +196,7 @@ may_tell parts events state id address answer sure new sound own shows ats (inl 
     (walked_tell state parts.driver.ledger stage.mode id (address / 4096) reaches.translation shows.ledger reaches.held reaches.allowed)))
 may_tell parts events state id address answer sure new sound own shows ats (inr finds) =
     subst (λ (t : Translation). MayTell (shown_attachment (attachment_of parts.driver.devices id)) state id (address / 4096) (Page t.frame t.rights)) (sym finds.answer_is)
-    (cached_tell parts events state id (address / 4096) finds.stage finds.translation sound own shows finds.owned finds.cached finds.allowed (attachment_of parts.driver.devices id) refl ats)
+    (cached_tell parts events state id (address / 4096) finds.stage finds.translation sound own shows finds.owned finds.cached finds.allowed finds.pending (attachment_of parts.driver.devices id) refl ats)
 
 -- EACH REFUSAL
 attached_refuse : (mode : Mode) (state : State) (ledger : Ledger) (id page : ℕ) (cause : Cause) → Agrees ledger state.history → FaultsBy mode ledger id page Read cause
@@ -191,6 +205,12 @@ attached_refuse First state ledger id page cause agrees faults = ((agrees.pages 
 attached_refuse Second state ledger id page cause agrees faults = ((agrees.pages id page).holds ∙ none_held ledger id page faults.1, faults.0)
 attached_refuse Both state ledger id page cause agrees faults = faults
 
+refuse_formerly : (stage : Stages) (state : State) (id address : ℕ) (cause : Cause) → RefusedFormerly stage cause
+    → MayTellFormerly stage.mode stage.ats state.history id (address / 4096) (Refused cause)
+refuse_formerly stage state id address cause (inl (ats, page)) = subst (λ b. MayTellFormerly stage.mode b state.history id (address / 4096) (Refused cause)) (sym ats) page
+refuse_formerly stage state id address cause (inr (none, disallowed)) =
+    subst (λ b. MayTellFormerly stage.mode b state.history id (address / 4096) (Refused cause)) (sym none) (ap Refused disallowed)
+
 pub may_refuse : (a : Attachment) (parts : Parts) (state : State) (id address : ℕ) (cause : Cause) → IsSoundDriver parts.driver → PartsShow parts state
     → attachment_of parts.driver.devices id ≡ a → RefusedAs a parts.driver id address cause → MayTell (shown_attachment a) state id (address / 4096) (Refused cause)
 may_refuse driver.Detached parts state id address cause own shows is refused = ap Refused (refused ∙ ap (λ l. cause_at l id) (sym shows.levels))
@@ -198,14 +218,9 @@ may_refuse (driver.Attached stage) parts state id address cause own shows is (in
     subst (λ b. MayTell (shown.Attached stage.mode b) state id (address / 4096) (Refused cause)) (sym ats) (attached_refuse stage.mode state parts.driver.ledger id (address / 4096) cause shows.ledger faults)
 may_refuse (driver.Attached stage) parts state id address cause own shows is (inr (none, disallowed)) =
     subst (λ b. MayTell (shown.Attached stage.mode b) state id (address / 4096) (Refused cause)) (sym none) (ap Refused disallowed)
+may_refuse (driver.Quarantined ticket stage) parts state id address cause own shows is (inl without) = inl (ap Refused (without ∙ ap (λ l. cause_at l id) (sym shows.levels)))
+may_refuse (driver.Quarantined ticket stage) parts state id address cause own shows is (inr (pending, formerly)) =
+    inr (shows.none_later ticket pending, refuse_formerly stage state id address cause formerly)
 may_refuse (driver.Leaving ticket stage) parts state id address cause own shows is (inl without) = inl (ap Refused (without ∙ ap (λ l. cause_at l id) (sym shows.levels)))
-may_refuse (driver.Leaving ticket stage) parts state id address cause own shows is (inr (inl (ats, page))) =
-    inr (
-      shows.none_later ticket (own.leaving id ticket stage is).0,
-      subst (λ b. MayTellFormerly stage.mode b state.history id (address / 4096) (Refused cause)) (sym ats) page,
-    )
-may_refuse (driver.Leaving ticket stage) parts state id address cause own shows is (inr (inr (none, disallowed))) =
-    inr (
-      shows.none_later ticket (own.leaving id ticket stage is).0,
-      subst (λ b. MayTellFormerly stage.mode b state.history id (address / 4096) (Refused cause)) (sym none) (ap Refused disallowed),
-    )
+may_refuse (driver.Leaving ticket stage) parts state id address cause own shows is (inr formerly) =
+    inr (shows.none_later ticket (own.leaving id ticket stage is).0, refuse_formerly stage state id address cause formerly)

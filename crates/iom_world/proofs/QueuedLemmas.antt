@@ -182,15 +182,18 @@ none_left device fence low high extent (Fence number ∷ later) come rise done t
 ]
 
 -- one more ticket
-pub pending_push : (first n : ℕ) → pending_after first n ++ record { ticket = first + n + 1; fence = first + n + 1 } ∷ [] ≡ pending_after first (suc n)
-pending_push first zero = ap (λ k. record { ticket = k; fence = k } ∷ []) {x = first + 0 + 1} {y = first + 1} (omega arith)
-pending_push first (suc n) =
-    ap (λ l. record { ticket = first + 1; fence = first + 1 } ∷ l)
-    (ap (λ k. pending_after (first + 1) n ++ record { ticket = k; fence = k } ∷ []) {x = first + suc n + 1} {y = (first + 1) + n + 1} (omega arith) ∙ pending_push (first + 1) n)
+pub pending_push : (fence_of : ℕ → ℕ) (first n : ℕ)
+    → pending_after fence_of first n ++ record { ticket = first + n + 1; fence = fence_of (first + n + 1) } ∷ [] ≡ pending_after fence_of first (suc n)
+pending_push fence_of first zero = ap (λ k. record { ticket = k; fence = fence_of k } ∷ []) {x = first + 0 + 1} {y = first + 1} (omega arith)
+pending_push fence_of first (suc n) =
+    ap (λ l. record { ticket = first + 1; fence = fence_of (first + 1) } ∷ l)
+    (ap (λ k. pending_after fence_of (first + 1) n ++ record { ticket = k; fence = fence_of k } ∷ []) {x = first + suc n + 1} {y = (first + 1) + n + 1} (omega arith)
+    ∙ pending_push fence_of (first + 1) n)
 
-pub pending_next : (confirmed given : ℕ) → confirmed ≤ given
-    → pending_after confirmed (given - confirmed) ++ record { ticket = given + 1; fence = given + 1 } ∷ [] ≡ pending_after confirmed (given + 1 - confirmed)
-pending_next confirmed given ordered =
+pub pending_next : (fence_of : ℕ → ℕ) (confirmed given : ℕ) → confirmed ≤ given
+    → pending_after fence_of confirmed (given - confirmed) ++ record { ticket = given + 1; fence = fence_of (given + 1) } ∷ []
+    ≡ pending_after fence_of confirmed (given + 1 - confirmed)
+pending_next fence_of confirmed given ordered =
     let n = given - confirmed in
-    ap (λ k. pending_after confirmed n ++ record { ticket = k; fence = k } ∷ []) {x = given + 1} {y = confirmed + n + 1} (omega (arith, ordered))
-    ∙ pending_push confirmed n ∙ ap (pending_after confirmed) {x = suc n} {y = given + 1 - confirmed} (omega (arith, ordered))
+    ap (λ k. pending_after fence_of confirmed n ++ record { ticket = k; fence = fence_of k } ∷ []) {x = given + 1} {y = confirmed + n + 1} (omega (arith, ordered))
+    ∙ pending_push fence_of confirmed n ∙ ap (pending_after fence_of confirmed) {x = suc n} {y = given + 1 - confirmed} (omega (arith, ordered))

@@ -8,7 +8,8 @@ use Rattle.iom_driver.specs.declared.device.Device as driver
 use Rattle.iom_driver.specs.declared.device.Attachment as owned
 use Rattle.iom_driver.specs.declared.device.Attachment.TheVariants as attached
 use Rattle.iom_driver.specs.Devices as as_known
-use Rattle.iom_driver.specs.Devices.{device_of, is_plugged, attached_stages, owned_stages}
+use Rattle.iom_driver.specs.Devices.{device_of, is_plugged, is_away, owned_stages}
+use Rattle.iom_driver.specs.Fences.{last_fence}
 use Rattle.iom_driver.specs.Layout.{id_limit}
 use Rattle.iom_driver.specs.Reasons.{why_not_plug, why_not_attach, why_not_grant, granting_reasons, why_not_release, releasing_reasons, why_not_detach, detaching_reasons, is_busy, lacks_places, release_places, HasGrants}
 use Rattle.iom_inflight.specs.Flights.{FlightRow}
@@ -149,6 +150,7 @@ attach_tests : (there wide untrusted : Bool) (how : owned.Attachment)
     ≡ first_that_applies ((false, NotStarted) ∷ (not there, NoSuchDevice) ∷ (is_some (owned_stages how), AlreadyAttached) ∷ (wide, IdTooWide) ∷ (untrusted, NotTrusted) ∷ [])
 attach_tests false wide untrusted how = refl
 attach_tests true wide untrusted (attached.Attached stage) = refl
+attach_tests true wide untrusted (attached.Quarantined ticket stage) = refl
 attach_tests true wide untrusted (attached.Leaving ticket stage) = refl
 attach_tests true true untrusted attached.Detached = refl
 attach_tests true false untrusted attached.Detached = refl
@@ -170,12 +172,18 @@ machine_first there attachment later = first_that_applies (
 
 abbrev driver_first : Bool → Bool → owned.Attachment → List (Bool × Refusal) → Option Refusal
 driver_first started there how later =
-    first_that_applies ((not started, NotStarted) ∷ (not there, NoSuchDevice) ∷ (is_none (attached_stages how), NotAttached) ∷ later)
+    first_that_applies (
+    (not started, NotStarted)
+    ∷ (not there, NoSuchDevice)
+    ∷ (is_away how, NotAttached)
+    ∷ (as_known.is_quarantined how, refusal.Quarantined)
+    ∷ later)
 
 attachment_tests : (there : Bool) (how : owned.Attachment) (later later' : List (Bool × Refusal)) → first_that_applies later ≡ first_that_applies later'
     → machine_first there (shown_attachment how) later ≡ driver_first true there how later'
 attachment_tests false how later later' same = refl
 attachment_tests true attached.Detached later later' same = refl
+attachment_tests true (attached.Quarantined ticket stage) later later' same = refl
 attachment_tests true (attached.Leaving ticket stage) later later' same = refl
 attachment_tests true (attached.Attached stage) later later' same = same
 
@@ -206,6 +214,7 @@ place_refused : (there : Bool) (how : owned.Attachment) (held many full used : B
     → MatchOption (machine_first there (shown_attachment how) ((held, reason) ∷ (many, TooManyPending) ∷ [])) (MayFindNoPlace why) (λ first. why ≡ first)
 place_refused false how held many full used reason why first = cc
 place_refused true attached.Detached held many full used reason why first = cc
+place_refused true (attached.Quarantined ticket stage) held many full used reason why first = cc
 place_refused true (attached.Leaving ticket stage) held many full used reason why first = cc
 place_refused true (attached.Attached stage) true many full used reason why first = cc
 place_refused true (attached.Attached stage) false true full used reason why first = cc
@@ -218,6 +227,7 @@ place_none : (there : Bool) (how : owned.Attachment) (held many full used : Bool
     → machine_first there (shown_attachment how) ((held, reason) ∷ (many, TooManyPending) ∷ []) ≡ None
 place_none false how held many full used reason none = cc
 place_none true attached.Detached held many full used reason none = cc
+place_none true (attached.Quarantined ticket stage) held many full used reason none = cc
 place_none true (attached.Leaving ticket stage) held many full used reason none = cc
 place_none true (attached.Attached stage) true many full used reason none = cc
 place_none true (attached.Attached stage) false true full used reason none = cc
@@ -317,7 +327,7 @@ release_refused_by parts events state id page why sound shows first =
     let r = registers_of parts.iommu in
     let how = as_known.attachment_of d.devices id in
     subst (λ o. MatchOption o (MayFindNoPlace why) (λ one. why ≡ one)) (sym (release_first parts events state id page sound shows))
-    (place_refused (is_plugged d.devices id) how (is_none (held_in d.ledger id page)) (nat_le pending_limit (d.given - d.confirmed)) (lacks_places (release_places (as_known.stages_of d.devices id)) r) (nat_le 4294967295 d.given) NotGranted why
+    (place_refused (is_plugged d.devices id) how (is_none (held_in d.ledger id page)) (nat_le pending_limit (d.given - d.confirmed)) (lacks_places (release_places (as_known.stages_of d.devices id)) r) (nat_le 4294967295 (last_fence d)) NotGranted why
     (started_first d.started (is_plugged d.devices id) how (releasing_reasons d r (release_places (as_known.stages_of d.devices id)) id page) (Some why) sound.started first))
 
 pub may_release : (parts : Parts) (events : ℕ) (state : State) (id page : ℕ) → AreSound parts events → PartsShow parts state
@@ -327,7 +337,7 @@ may_release parts events state id page sound shows none =
     let r = registers_of parts.iommu in
     let how = as_known.attachment_of d.devices id in
     release_first parts events state id page sound shows
-    ∙ place_none (is_plugged d.devices id) how (is_none (held_in d.ledger id page)) (nat_le pending_limit (d.given - d.confirmed)) (lacks_places (release_places (as_known.stages_of d.devices id)) r) (nat_le 4294967295 d.given) NotGranted
+    ∙ place_none (is_plugged d.devices id) how (is_none (held_in d.ledger id page)) (nat_le pending_limit (d.given - d.confirmed)) (lacks_places (release_places (as_known.stages_of d.devices id)) r) (nat_le 4294967295 (last_fence d)) NotGranted
     (started_first d.started (is_plugged d.devices id) how (releasing_reasons d r (release_places (as_known.stages_of d.devices id)) id page) None sound.started none)
 
 -- the machine finds that a device has grants exactly where the ledger has some
@@ -354,7 +364,7 @@ detach_refused_by parts events state id why sound shows first =
     let r = registers_of parts.iommu in
     let how = as_known.attachment_of d.devices id in
     subst (λ o. MatchOption o (MayFindNoPlace why) (λ one. why ≡ one)) (sym (place_first parts events state id (has_grants state id) (has_grants state id) StillGranted sound shows refl))
-    (place_refused (is_plugged d.devices id) how (has_grants state id) (nat_le pending_limit (d.given - d.confirmed)) (lacks_places 3 r) (nat_le 4294967295 d.given) StillGranted why
+    (place_refused (is_plugged d.devices id) how (has_grants state id) (nat_le pending_limit (d.given - d.confirmed)) (lacks_places 3 r) (nat_le 4294967295 (last_fence d)) StillGranted why
     (started_first d.started (is_plugged d.devices id) how (detaching_reasons d r (has_grants state id)) (Some why) sound.started first))
 
 pub may_detach : (parts : Parts) (events : ℕ) (state : State) (id : ℕ) → AreSound parts events → PartsShow parts state
@@ -364,7 +374,7 @@ may_detach parts events state id sound shows none =
     let r = registers_of parts.iommu in
     let how = as_known.attachment_of d.devices id in
     place_first parts events state id (has_grants state id) (has_grants state id) StillGranted sound shows refl
-    ∙ place_none (is_plugged d.devices id) how (has_grants state id) (nat_le pending_limit (d.given - d.confirmed)) (lacks_places 3 r) (nat_le 4294967295 d.given) StillGranted
+    ∙ place_none (is_plugged d.devices id) how (has_grants state id) (nat_le pending_limit (d.given - d.confirmed)) (lacks_places 3 r) (nat_le 4294967295 (last_fence d)) StillGranted
     (started_first d.started (is_plugged d.devices id) how (detaching_reasons d r (has_grants state id)) None sound.started none)
 
 -- a refusal of the driver is one of the machine's, where what may come of the driver's after the reasons may come of the machine's

@@ -1,5 +1,5 @@
 -- A refusal changes nothing, whatever the event.
-use Rattle.std.proofs.Common.{◌≡◌, ◌⊎◌, inl, inr, ℕ, Bool, List, Option, Some, None, subst}
+use Rattle.std.proofs.Common.{◌≡◌, ◌⊎◌, ◌∙◌, inl, inr, ℕ, Bool, true, false, List, Option, Some, None, sym, subst, if◌then◌else◌}
 use Rattle.arrayvec.specs.ArrayVec.{ArrayVec}
 use Rattle.iom_base.specs.declared.access.Access.{Access}
 use Rattle.iom_base.specs.declared.access.AccessKind.{AccessKind}
@@ -27,11 +27,16 @@ use Rattle.iom_world.specs.Caches.{IsAble, epoch_in}
 use Rattle.iom_world.specs.OwnIommu.{Iommu}
 use Rattle.iom_world.specs.Requests.{AsksAccess, AsksTranslated, IsReplied, reply_told_of}
 use Rattle.iom_world.specs.ThroughCache.{AsksThroughCache, TriesCache, FindsFrame, cached_frame}
+use Rattle.iom_world.specs.Recovery.{TimesOutFence}
 use Rattle.iom_world.specs.Unable.{IsUnknown, IsUnable}
 use Rattle.iom_world.proofs.CallRefused.{same_of, same_parts, plug_refused, attach_refused, grant_refused, release_refused, detach_refused, fetch_refused, poll_refused}
 use Rattle.iom_world.proofs.DeliverStep.{delivered_refused}
 use Rattle.iom_world.proofs.MessageSteps.{sends_refused, dropped_refused, repeated_refused}
+use Rattle.iom_world.proofs.QuarantineStep.{quarantine_refused}
 use Rattle.iom_world.proofs.ReportKeeps.{taken_refused}
+use Rattle.iom_world.proofs.ResetKeeps.{reset_refused}
+use Rattle.iom_world.proofs.RestartStep.{restart_refused}
+use Rattle.iom_world.proofs.RevivalStep.{revival_refused}
 
 -- a reply isn't told as refused
 never_answered : (reply : Reply) (told : Outcome) (why : Refusal) → told ≡ reply_told_of reply → told ≡ outcome.Refused why → ⊥
@@ -109,6 +114,14 @@ poked_refused old new address bytes told pokes why refused =
     let same = subst (λ t. StoresIfAny old address bytes t new.memory) refused pokes.memory in
     same_of old new same.2 pokes.iommu pokes.devices pokes.fabric pokes.driver
 
+-- a timeout is never refused
+timeout_refused : (old new : Parts) (told : Outcome) → TimesOutFence old told new → SameIfRefused told old new
+timeout_refused old new told does why is = absurd (never does.answer (sym does.told_so ∙ is))
+  where
+    never : (answer : Bool) → (if answer then outcome.TimedOut else outcome.NoEffect) ≡ outcome.Refused why → ⊥
+    never true same = cc
+    never false same = cc
+
 -- EACH EVENT
 pub refused_same : (old new : Parts) (event : Event) (told : Outcome) → Does old event told new → SameIfRefused told old new
 refused_same old new (events.Plug id kind) told does = plug_refused old new id kind told does
@@ -116,6 +129,11 @@ refused_same old new (events.Attach id mode ats) told does = attach_refused old 
 refused_same old new (events.Grant id page frame rights) told does = grant_refused old new id page frame rights told does
 refused_same old new (events.Release id page) told does = release_refused old new id page told does
 refused_same old new (events.Detach id) told does = detach_refused old new id told does
+refused_same old new (events.Quarantine id) told does = quarantine_refused old new id told does
+refused_same old new (events.Revive id) told does = revival_refused old new id told does
+refused_same old new events.Restart told does = restart_refused old new told does
+refused_same old new events.Timeout told does = timeout_refused old new told does
+refused_same old new (events.Reset id) told does = reset_refused old new id told does
 refused_same old new events.Fetch told does = fetch_refused old new told does
 refused_same old new events.Poll told does = poll_refused old new told does
 refused_same old new events.Faults told does = taken_refused old new told does

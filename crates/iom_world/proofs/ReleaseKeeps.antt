@@ -1,13 +1,14 @@
 -- What stays true of a world when what a device holds at a page is released: its commands wait, the ticket's fence the last of them.
-use Rattle.std.proofs.Common.{◌≡◌, ◌≢◌, ◌+◌, ◌^◌, ◌<◌, ◌≤◌, ◌++◌, ◌∙◌, nat_le, is_some, ℕ, Bool, true, false, not, List, [], ◌∷◌, length, map, Option, None, Some, Result, Ok, Err, slice_get, refl, sym, ap, subst, arith, if◌then◌else◌}
+use Rattle.std.proofs.Common.{◌≡◌, ◌≢◌, ◌+◌, ◌^◌, ◌<◌, ◌++◌, ◌∙◌, nat_le, is_some, ℕ, Bool, true, false, List, [], ◌∷◌, length, map, Option, None, Some, Result, Ok, Err, slice_get, refl, sym, ap, subst, arith, if◌then◌else◌}
 use Rattle.std.specs.Option.{option_map}
 use Rattle.std.proofs.Math.Logic.{∥∥₁_map}
-use Rattle.std.proofs.lemmas.Bool.{leb-false, and_parts}
+use Rattle.std.proofs.lemmas.Bool.{leb-false}
 use Rattle.iom_base.specs.declared.owner.Owner.{Owner}
 use Rattle.iom_base.specs.declared.owner.Owner.TheVariants.{System, OneDevice}
 use Rattle.iom_command_queue.specs.declared.command.Command.{Command}
 use Rattle.iom_command_queue.specs.declared.entry.QueueEntry.TheVariants as stands
 use Rattle.iom_command_queue.specs.Waiting.{commands_in}
+use Rattle.iom_driver.specs.Fences.{last_fence, fence_of}
 use Rattle.iom_driver.specs.declared.answers.Ticket as answers
 use Rattle.iom_driver.specs.Appends.{invalidation, device_invalidation, release_commands, Appends, AppendsAll}
 use Rattle.iom_driver.specs.Calls.{AnswersRelease, QueuesRelease}
@@ -27,13 +28,12 @@ use Rattle.iom_ledger.specs.History.{History, confirms}
 use Rattle.iom_ledger.specs.Shown.{Agrees}
 use Rattle.iom_machine.specs.declared.outcome.Outcome.{Outcome}
 use Rattle.iom_page_table.specs.Sv39.{unmapped}
-use Rattle.iom_registers.specs.declared.registers.Registers.{Registers}
-use Rattle.iom_registers.specs.Queues.{is_command_queue_on, is_command_queue_stopped, is_processing_commands}
+use Rattle.iom_registers.specs.Queues.{command_status, is_command_queue_on}
+use Rattle.iom_world.proofs.DriverLemmas.{next_fence}
 use Rattle.iom_tlb.specs.Content.{Content}
 use Rattle.iom_world.specs.Devices.{shown_attachment}
 use Rattle.iom_world.specs.Does.{ReleasesPage}
 use Rattle.iom_world.specs.Parts.{Parts}
-use Rattle.iom_world.specs.Queued.{completed_in}
 use Rattle.iom_tlb.specs.declared.space.Space.{Space}
 use Rattle.iom_world.specs.Read.{space_in, space_at, values_of, accesses_of}
 use Rattle.iom_world.specs.Sound.{AreSound, known_ids, row_ids}
@@ -44,7 +44,7 @@ use Rattle.iom_copies.specs.DriverCalls.{released_extent, release_commands as qu
 use Rattle.iom_world.proofs.CachedLemmas.{spaces_same}
 use Rattle.iom_world.proofs.QueuedLemmas.{queued_release, released_last}
 use Rattle.iom_world.proofs.SceneCalls.{KeepsCached, QueuesTicket, release_scene}
-use Rattle.iom_world.proofs.SoundLemmas.{completed_given, same_completed, LeavesWord, LeavesIommu, sound_from, fixed_frames, none_at}
+use Rattle.iom_world.proofs.SoundLemmas.{same_completed, LeavesWord, LeavesIommu, sound_from, fixed_frames, none_at}
 use Rattle.iom_command_queue.specs.declared.entry.QueueEntry.{QueueEntry}
 use Rattle.iom_iommu.specs.Parts.{slots_of}
 use Rattle.iom_driver.specs.Devices.{is_trusted}
@@ -56,7 +56,7 @@ not_of_device marks n id system own = let both : ◌≡◌ {A = Option (Option O
 
 -- of the IOMMU nothing changes but the index that software writes
 pub record IsRung (old new : Iommu) : Type 0 where
-  pub processing : is_processing_commands (registers_of new) ≡ is_processing_commands (registers_of old)
+  pub status : command_status (registers_of new) ≡ command_status (registers_of old)
   pub on : is_command_queue_on (registers_of new) ≡ is_command_queue_on (registers_of old)
   pub contexts : (id : ℕ) → contexts_of new id ≡ contexts_of old id
   pub translations : translations_of new ≡ translations_of old
@@ -67,7 +67,7 @@ pub record IsRung (old new : Iommu) : Type 0 where
 
 rung_once : (memory memory' : List (List ℕ)) (old new : Iommu) (command : Command) → Appends mmio memory old command memory' new → IsRung old new
 rung_once memory memory' old new command appends = record {
-  processing = ap (λ i. is_processing_commands (registers_of i)) appends.rung;
+  status = ap (λ i. command_status (registers_of i)) appends.rung;
   on = ap (λ i. is_command_queue_on (registers_of i)) appends.rung;
   contexts = λ id. ap (λ i. contexts_of i id) appends.rung;
   translations = ap translations_of appends.rung;
@@ -79,7 +79,7 @@ rung_once memory memory' old new command appends = record {
 
 rung_both : (old mid new : Iommu) → IsRung old mid → IsRung mid new → IsRung old new
 rung_both old mid new one other = record {
-  processing = other.processing ∙ one.processing;
+  status = other.status ∙ one.status;
   on = other.on ∙ one.on;
   contexts = λ id. other.contexts id ∙ one.contexts id;
   translations = other.translations ∙ one.translations;
@@ -91,7 +91,7 @@ rung_both old mid new one other = record {
 
 rung_none : (iommu : Iommu) → IsRung iommu iommu
 rung_none iommu = record {
-  processing = refl;
+  status = refl;
   on = refl;
   contexts = λ id. refl;
   translations = refl;
@@ -107,36 +107,35 @@ rung_all [] memory memory' old new all = subst (IsRung old) (sym all.1) (rung_no
 rung_all (command ∷ later) memory memory' old new (mid, between, first, rest) =
     rung_both old between new (rung_once memory mid old between command first) (rung_all later mid memory' between new rest)
 
--- a queue from which commands are taken is on
-processing_on : (r : Registers) → is_processing_commands r ≡ true → is_command_queue_on r ≡ true
-processing_on r is = (and_parts (is_command_queue_on r) (not (is_command_queue_stopped r)) is).0
-
-pub rung_leaves : (old new : Parts) → is_processing_commands (registers_of old.iommu) ≡ true → IsRung old.iommu new.iommu → LeavesIommu old new
-rung_leaves old new processing rung = record {
-  processing = rung.processing;
+pub rung_leaves : (old new : Parts) → is_command_queue_on (registers_of old.iommu) ≡ true → IsRung old.iommu new.iommu → LeavesIommu old new
+rung_leaves old new on rung = record {
+  status = rung.status;
   frames = rung.frames;
   so_far = ap (λ f. f.so_far) rung.flights;
-  slots = rung.slots (processing_on (registers_of old.iommu) processing);
+  slots = rung.slots on;
 }
 
-pub rung_cached : (old new : Parts) → is_processing_commands (registers_of old.iommu) ≡ true → IsRung old.iommu new.iommu → new.devices ≡ old.devices → new.fabric ≡ old.fabric
+pub rung_cached : (old new : Parts) → is_command_queue_on (registers_of old.iommu) ≡ true → IsRung old.iommu new.iommu → new.devices ≡ old.devices → new.fabric ≡ old.fabric
+    → fence_of new.driver ≡ fence_of old.driver
     → ((id : ℕ) (space : Space) → space_at old.driver.devices id ≡ Some space → space_at new.driver.devices id ≡ Some space) → KeepsCached (values_of old) (values_of new)
-rung_cached old new processing rung devices fabric spaces = record {
+rung_cached old new on rung devices fabric fences spaces = record {
   spaces = spaces;
   translations = λ key translation at. sym (ap (λ (c : Content). c key) rung.translations) ∙ at;
-  stock = rung.stock (processing_on (registers_of old.iommu) processing);
-  traffic = traffic_kept old new devices fabric (rung.slots (processing_on (registers_of old.iommu) processing));
+  stock = rung.stock on;
+  fences = fences;
+  stopped = ap (λ c. c.cmd_to) rung.status;
+  traffic = traffic_kept old new devices fabric (rung.slots on);
 }
 
 -- a ticket that is given is one of 32 bits
-pub next_small : (given : ℕ) → nat_le 4294967295 given ≡ false → given + 1 < 2 ^ 32
-next_small given numbers = let below : given < 4294967295 = leb-false 4294967295 given numbers in omega (arith, below)
+pub next_small : (given restarts : ℕ) → nat_le 4294967295 (given + restarts) ≡ false → given + 1 < 2 ^ 32
+next_small given restarts numbers = let below : given + restarts < 4294967295 = leb-false 4294967295 (given + restarts) numbers in omega (arith, below)
 
 module _ (old new : Parts) (events id page ticket : ℕ) (sound : AreSound old events) (own : IsSoundDriver old.driver) (ready : IsReady new.driver new.memory (registers_of new.iommu))
-    (numbers : nat_le 4294967295 old.driver.given ≡ false) (queues : QueuesRelease mmio old.driver old.memory old.iommu id page ticket new.driver new.memory new.iommu)
+    (numbers : nat_le 4294967295 (last_fence old.driver) ≡ false) (queues : QueuesRelease mmio old.driver old.memory old.iommu id page ticket new.driver new.memory new.iommu)
     (devices : new.devices ≡ old.devices) (fabric : new.fabric ≡ old.fabric) where
   rung : IsRung old.iommu new.iommu
-  rung = rung_all (release_commands id queues.stage page (completion_address (length old.memory)) ticket) (unmapped old.memory queues.stage.root page) new.memory old.iommu new.iommu queues.queued
+  rung = rung_all (release_commands id queues.stage page (completion_address (length old.memory)) (last_fence old.driver + 1)) (unmapped old.memory queues.stage.root page) new.memory old.iommu new.iommu queues.queued
 
   abbrev commands : List QueueEntry
   commands = stands.Command (invalidation queues.stage.mode queues.stage.number page) ∷ map stands.Command (device_invalidation id queues.stage page)
@@ -155,34 +154,32 @@ module _ (old new : Parts) (events id page ticket : ℕ) (sound : AreSound old e
 
   queues_ticket : QueuesTicket (values_of old) (values_of new) commands (queued_commands id (released_extent queues.stage.mode page) queues.stage.ats)
   queues_ticket =
-      let low = completed_given old events sound in
-      let before = sound.confirmed in
       record {
-        ordered = omega (arith, low, before);
+        ordered = own.tickets.ordered;
         appended = queued_release (completion_address (length old.memory)) (space_at old.driver.devices) id page queues.stage
             (ap (option_map (λ (stage : Stages). space_in stage.mode stage.number)) (ap owned_stages (attached_is (attachment_of old.driver.devices id) queues.stage queues.attached)));
         waiting = queues.list
-            ∙ ap (λ t. commands_in old.memory (registers_of old.iommu) ++ map stands.Command (release_commands id queues.stage page (completion_address (length old.memory)) t)) queues.next
-            ∙ ap (λ l. commands_in old.memory (registers_of old.iommu) ++ l) (released_last id page (completion_address (length old.memory)) (old.driver.given + 1) queues.stage);
+            ∙ ap (λ l. commands_in old.memory (registers_of old.iommu) ++ l) (released_last id page (completion_address (length old.memory)) (last_fence old.driver + 1) queues.stage);
         address = ap completion_address leaves.size;
         completed = same_completed old.memory new.memory leaves.size leaves.word;
+        last_fence = ap (λ n. n + new.driver.restarts) given_now ∙ ap (λ n. old.driver.given + 1 + n) (ap (λ (d : DriverState). d.restarts) queues.driver) ∙ omega arith;
+        next_fence = next_fence old.driver own;
         given = given_now;
         confirmed = ap (λ (d : DriverState). d.confirmed) queues.driver;
         so_far = ap (λ f. f.so_far) rung.flights;
         in_flight = ap (λ f. accesses_of f.rows) rung.flights;
         kinds = kinds_kept old new devices;
         contexts = λ d is. sym (ap is_some (rung.contexts d)) ∙ is;
-        cached = rung_cached old new sound.processing rung devices fabric (spaces_same old.driver.devices new.driver.devices (ap (λ (d : DriverState). d.devices) queues.driver));
+        cached = rung_cached old new (sound.ready.ring sound.started).on rung devices fabric (ap (λ (d : DriverState). fence_of d) queues.driver) (spaces_same old.driver.devices new.driver.devices (ap (λ (d : DriverState). d.devices) queues.driver));
       }
 
   pub released_sound : AreSound new events
   released_sound =
-      sound_from old new events sound leaves (rung_leaves old new sound.processing rung) (ap (λ (d : DriverState). d.started) queues.driver) ready
+      sound_from old new events sound leaves (rung_leaves old new (sound.ready.ring sound.started).on rung) (ap (λ (d : DriverState). d.started) queues.driver) ready
       (same_known old new devices fabric (ap (λ (d : DriverState). known_ids d.devices) queues.driver) (λ d. ap (λ (s : DriverState). is_trusted s.devices d) queues.driver)
       (ap (λ f. row_ids f.rows) rung.flights) sound.known)
       (same_epochs old new events sound devices)
-      (subst (λ n. n ≤ completed_in old.memory) (sym (ap (λ (d : DriverState). d.confirmed) queues.driver)) sound.confirmed)
-      (subst (λ n. n < 2 ^ 32) (sym given_now) (next_small old.driver.given numbers))
+      (subst (λ n. n < 2 ^ 32) (sym given_now) (next_small old.driver.given old.driver.restarts numbers))
       (λ other context cached.
       ap (λ (s : DriverState). option_map context_for (owned_stages_of s.devices other)) queues.driver ∙ sound.contexts other context (sym (rung.contexts other) ∙ cached))
       (∥∥₁_map sound.copies
@@ -198,5 +195,5 @@ keeps_released old new events id page told sound own ready releases = by release
     by : (answer : Result answers.Ticket Refusal) → AnswersRelease mmio old.driver old.memory old.iommu id page answer new.driver new.memory new.iommu → AreSound new events
     by (Ok ticket) (admitted, queues) =
         released_sound old new events id page ticket.0 sound own ready
-        (none_at (why_not_release old.driver (registers_of old.iommu) id page) 6 (nat_le 4294967295 old.driver.given) NumbersUsedUp refl admitted) queues releases.devices releases.fabric
+        (none_at (why_not_release old.driver (registers_of old.iommu) id page) 7 (nat_le 4294967295 (last_fence old.driver)) NumbersUsedUp refl admitted) queues releases.devices releases.fabric
     by (Err why) (refused, driver_stays, memory_stays, iommu_stays) = rw (driver_stays, memory_stays, iommu_stays, releases.devices, releases.fabric) sound

@@ -4,6 +4,7 @@ use Rattle.iom_base.specs.declared.owner.Owner.{Owner}
 use Rattle.iom_base.specs.declared.owner.Owner.TheVariants.{System, OneDevice}
 use Rattle.iom_driver.specs.declared.answers.Ticket.{Ticket}
 use Rattle.iom_driver.specs.Calls.{AnswersRelease, QueuesRelease}
+use Rattle.iom_driver.specs.Fences.{last_fence}
 use Rattle.iom_driver.specs.Layout.{command_frame, completion_address}
 use Rattle.iom_driver.specs.State.{DriverState}
 use Rattle.iom_world.specs.OwnIommu.{Iommu}
@@ -17,7 +18,8 @@ use Rattle.iom_ledger.specs.declared.refusal.Refusal.{Refusal}
 use Rattle.iom_machine.specs.declared.outcome.Outcome.{Outcome}
 use Rattle.iom_machine.specs.declared.state.State.{State}
 use Rattle.iom_machine.specs.Machine as machine
-use Rattle.iom_world.specs.Does.{ReleasesPage, ticket_told_of}
+use Rattle.iom_world.specs.Answers.{ticket_told_of}
+use Rattle.iom_world.specs.Does.{ReleasesPage}
 use Rattle.iom_world.specs.Frames.{ShowsFrames}
 use Rattle.iom_world.specs.Parts.{Parts}
 use Rattle.iom_world.specs.Shows.{PartsShow}
@@ -35,7 +37,7 @@ size_appended (command ∷ later) memory memory' io io' (mid, between, first, re
 -- and after a release
 size_released : (d d' : DriverState) (memory memory' : List (List ℕ)) (io io' : Iommu) (id page ticket : ℕ) → QueuesRelease mmio d memory io id page ticket d' memory' io' → length memory' ≡ length memory
 size_released d d' memory memory' io io' id page ticket queues =
-    size_appended (release_commands id queues.stage page (completion_address (length memory)) ticket) (unmapped memory queues.stage.root page) memory' io io' queues.queued
+    size_appended (release_commands id queues.stage page (completion_address (length memory)) (last_fence d + 1)) (unmapped memory queues.stage.root page) memory' io io' queues.queued
     ∙ length-unmapped memory queues.stage.root page
 
 -- the accesses in flight stay, through writes of registers
@@ -57,7 +59,7 @@ shows_released : (old new : Parts) (id page ticket : ℕ) → length old.memory 
     → (state : State) → PartsShow old state → PartsShow new (released state id page ticket)
 shows_released old new id page ticket many sound queues devices state shows =
     let d = old.driver in
-    let flights = flights_appended (release_commands id queues.stage page (completion_address (length old.memory)) ticket) (unmapped old.memory queues.stage.root page) new.memory old.iommu new.iommu queues.queued in
+    let flights = flights_appended (release_commands id queues.stage page (completion_address (length old.memory)) (last_fence d + 1)) (unmapped old.memory queues.stage.root page) new.memory old.iommu new.iommu queues.queued in
     let next : ticket ≡ d.given + 1 = queues.next in
     let ordered = sound.tickets.ordered in
     let ring = subst (λ n. slice_get d.marks (command_frame n) ≡ Some (Some System)) (sym many) sound.fixed.command in
@@ -70,6 +72,7 @@ shows_released old new id page ticket many sound queues devices state shows =
       devices = rw (devices, ap (λ (f : Flights). f.rows) flights, ap (λ (x : DriverState). x.devices) queues.driver) shows.devices;
       given = sym (ap (λ (x : DriverState). x.given) queues.driver);
       confirmed = shows.confirmed ∙ sym (ap (λ (x : DriverState). x.confirmed) queues.driver);
+      all_earlier = rw (ap (λ (x : DriverState). x.confirmed) queues.driver) shows.all_earlier;
       none_later = rw (ap (λ (x : DriverState). x.confirmed) queues.driver) shows.none_later;
       levels = shows.levels ∙ sym (ap (λ (x : DriverState). x.levels) queues.driver);
     }

@@ -1,6 +1,5 @@
 -- The driver takes a fault record: what stays true of a world, and that it is a step of the ledger machine.
 use Rattle.std.proofs.Common.{◌≡◌, ◌∙◌, ℕ, Bool, true, not, is_some, List, [], ◌∷◌, length, slice_get, Option, Some, None, Result, Ok, Err, refl, sym, ap, subst, if◌then◌else◌}
-use Rattle.std.proofs.lemmas.Bool.{and_parts}
 use Rattle.iom_command_queue.specs.Waiting.{commands_in}
 use Rattle.iom_copies.specs.Among.{AreAmong}
 use Rattle.iom_driver.specs.Laws.{LeavesCommands}
@@ -19,8 +18,7 @@ use Rattle.iom_machine.specs.declared.outcome.Outcome.TheVariants as outcome
 use Rattle.iom_machine.specs.declared.state.State.{State}
 use Rattle.iom_machine.specs.Machine as machine
 use Rattle.iom_registers.specs.declared.register.Register.TheVariants.{Fqh, Fqcsr}
-use Rattle.iom_registers.specs.declared.registers.Registers.{Registers}
-use Rattle.iom_registers.specs.Queues.{is_processing_commands, is_command_queue_on, is_command_queue_stopped}
+use Rattle.iom_registers.specs.Queues.{is_command_queue_on}
 use Rattle.iom_tlb.specs.Content.{Content}
 use Rattle.iom_world.specs.Does.{TakesReport, report_told_of}
 use Rattle.iom_world.specs.Happens.{AreSame, SameIfRefused, waiting_in}
@@ -83,10 +81,6 @@ wrote d memory old new (Ok (Some fields)) (none, (takes, list)) = wrote_head old
 wrote d memory old new (Ok None) (none, (empty, is)) = wrote_status old new cleared_marks is
 wrote d memory old new (Err why) (refused, is) = wrote_nothing old new is
 
--- a queue from which commands are taken is on
-processing_on : (r : Registers) → is_processing_commands r ≡ true → is_command_queue_on r ≡ true
-processing_on r is = (and_parts (is_command_queue_on r) (not (is_command_queue_stopped r)) is).0
-
 leaves_taken : (old new : Parts) (told : Outcome) → is_command_queue_on (registers_of old.iommu) ≡ true → IsReady new.driver new.memory (registers_of new.iommu) → TakesReport old told new → LeavesReport old new
 leaves_taken old new told on ready takes =
     let writes = wrote old.driver old.memory old.iommu new.iommu takes.answer takes.call in
@@ -106,7 +100,7 @@ pub keeps_taken : (old new : Parts) (events : ℕ) (told : Outcome) → AreSound
     → TakesReport old told new → AreSound new events
 keeps_taken old new events told sound own ready takes =
     let writes = wrote old.driver old.memory old.iommu new.iommu takes.answer takes.call in
-    let on = processing_on (registers_of old.iommu) sound.processing in
+    let on = (sound.ready.ring sound.started).on in
     let leaves = leaves_taken old new told on ready takes in
     let contexts : ContextsAreTrue new = λ id context at. rw takes.driver (sound.contexts id context (sym (writes.contexts id) ∙ at)) in
     report_sound old new events sound own leaves (rw writes.flights sound.counted) contexts

@@ -47,7 +47,7 @@ abbrev pub cached_so : Values → (ℕ → Bool) → Translations → Values
 cached_so values cached translations = record values { is_cached = cached; translations = translations }
 
 grants_same : (values : Values) (cached : ℕ → Bool) (translations : Translations) → KeepsGrants values (cached_so values cached translations)
-grants_same values cached translations = record { ledger = refl; address = refl; given = refl; confirmed = refl; kinds = λ d. refl; attachments = λ d. refl; spaces = λ d. refl }
+grants_same values cached translations = record { ledger = refl; address = refl; given = refl; confirmed = refl; last_fence = refl; fences = refl; stopped = refl; kinds = λ d. refl; attachments = λ d. refl; spaces = λ d. refl }
 
 queue_same : (values : Values) (cached : ℕ → Bool) (translations : Translations) → KeepsQueue values (cached_so values cached translations)
 queue_same values cached translations = record { waiting = refl; completed = refl; stock = refl; traffic = refl }
@@ -127,6 +127,9 @@ grants_on old new cached translations grants =
       address = grants.address;
       given = grants.given;
       confirmed = grants.confirmed;
+      last_fence = grants.last_fence;
+      fences = grants.fences;
+      stopped = grants.stopped;
       kinds = grants.kinds;
       attachments = grants.attachments;
       spaces = grants.spaces;

@@ -117,7 +117,7 @@ may_accept parts events state id answer access sure old new sound own shows same
 may_accept parts events state id answer access sure old new sound own shows same (inr finds) =
     subst (λ n. MayAccept (shown_attachment (attachment_of parts.driver.devices id)) state id access n) (sym (ap (λ (t : Translation). t.frame) finds.answer_is))
     (cached_accept parts events state id access finds.stage finds.translation sound own shows finds.owned
-    (ap (λ (c : Translations). c (space_in finds.stage.mode finds.stage.number, access.address / 4096)) (sym same) ∙ finds.cached) finds.allowed)
+    (ap (λ (c : Translations). c (space_in finds.stage.mode finds.stage.number, access.address / 4096)) (sym same) ∙ finds.cached) finds.allowed finds.pending)
 
 attached_fault : (mode : Mode) (ats : Bool) (state : State) (ledger : Ledger) (id : ℕ) (access : Access) (cause : Cause) → Agrees ledger state.history
     → FaultsBy mode ledger id (access.address / 4096) access.kind cause → MayFault (shown.Attached mode ats) state id access cause
@@ -129,6 +129,8 @@ may_fault : (a : Attachment) (parts : Parts) (state : State) (id : ℕ) (access 
     → attachment_of parts.driver.devices id ≡ a → FaultsAs a parts.driver id access.address access.kind cause → MayFault (shown_attachment a) state id access cause
 may_fault driver.Detached parts state id access cause own shows is faults = faults ∙ ap (λ l. cause_at l id) (sym shows.levels)
 may_fault (driver.Attached stage) parts state id access cause own shows is faults = attached_fault stage.mode stage.ats state parts.driver.ledger id access cause shows.ledger faults
+may_fault (driver.Quarantined ticket stage) parts state id access cause own shows is (inl (pending, page)) = inr (shows.none_later ticket pending, page)
+may_fault (driver.Quarantined ticket stage) parts state id access cause own shows is (inr none) = inl (none ∙ ap (λ l. cause_at l id) (sym shows.levels))
 may_fault (driver.Leaving ticket stage) parts state id access cause own shows is (inl page) = inr (shows.none_later ticket (own.leaving id ticket stage is).0, page)
 may_fault (driver.Leaving ticket stage) parts state id access cause own shows is (inr none) = inl (none ∙ ap (λ l. cause_at l id) (sym shows.levels))
 
@@ -145,6 +147,7 @@ shows_where old new state frames driver devices flights shows = record {
   devices = rw (driver, devices, flights) shows.devices;
   given = rw driver shows.given;
   confirmed = rw driver shows.confirmed;
+  all_earlier = rw driver shows.all_earlier;
   none_later = rw driver shows.none_later;
   levels = rw driver shows.levels;
 }
@@ -166,6 +169,7 @@ shows_flights old new state memory driver devices flights shows = record {
   devices = rw (driver, devices, flights) shows.devices;
   given = rw driver shows.given;
   confirmed = rw driver shows.confirmed;
+  all_earlier = rw driver shows.all_earlier;
   none_later = rw driver shows.none_later;
   levels = rw driver shows.levels;
 }
@@ -221,6 +225,7 @@ module _ (old new : Parts) (events id : ℕ) (sound : AreSound old events) (stat
           devices = rw (driver, devices, it.after) changed;
           given = rw driver shows.given;
           confirmed = rw driver shows.confirmed;
+          all_earlier = rw driver shows.all_earlier;
           none_later = rw driver shows.none_later;
           levels = rw driver shows.levels;
         },

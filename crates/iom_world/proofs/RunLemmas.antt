@@ -41,10 +41,9 @@ pub sound_counted : (parts : Parts) (events : ℕ) → AreSound parts events →
 sound_counted parts events sound = record {
   ready = sound.ready;
   started = sound.started;
-  processing = sound.processing;
+  unmarked = sound.unmarked;
   size = sound.size;
   known = sound.known;
-  confirmed = sound.confirmed;
   small = sound.small;
   counted = (let count = sound.counted in omega (arith, count));
   serials = (let last = sound.serials in omega (arith, last));

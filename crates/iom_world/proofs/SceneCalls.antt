@@ -28,7 +28,7 @@ use Rattle.iom_tlb.specs.Content.{Key}
 use Rattle.iom_world.specs.Queued.{AreQueuedAs, ComeBefore, pending_after}
 use Rattle.iom_world.specs.Scenes.{Values, copy_of, IsSomebodys, GoesInOrder, IsSceneOf, HasFaithfulScene}
 use Rattle.iom_world.proofs.QueuedLemmas.{SpacesStay, queued_append, queued_still, come_on, come_up_to, none_left, pending_next}
-use Rattle.iom_world.proofs.ConfirmScenes.{left_after, confirmed_scene, confirm_all}
+use Rattle.iom_world.proofs.ConfirmScenes.{left_after, confirmed_scene, AreDone, confirm_all}
 
 -- what is cached of translations is as it was, or less; the fence at the head counted as many; who has a number keeps it; and the same is under way to
 -- and from the devices' caches
@@ -36,6 +36,8 @@ pub record KeepsCached (old new : Values) : Type 0 where
   pub spaces : (device : ℕ) (space : Space) → old.space_of device ≡ Some space → new.space_of device ≡ Some space
   pub translations : (key : Key) (translation : Translation) → new.translations key ≡ Some translation → old.translations key ≡ Some translation
   pub stock : new.stock ≡ old.stock
+  pub fences : new.fence_of ≡ old.fence_of
+  pub stopped : new.is_stopped ≡ old.is_stopped
   pub traffic : new.traffic ≡ old.traffic
 
 -- each cached translation is still somebody's
@@ -54,8 +56,9 @@ waits_still old new scene keeps shows address waiting =
     rw (address, waiting) (queued_still old.address old.space_of new.space_of old.waiting scene.waiting (λ device space extent there own. keeps.spaces device space own) shows.waiting)
 
 -- devices that are attached as before leave as before
-leaves_still : (old new : Values) (scene : Scene) → IsSceneOf old scene → ((d : ℕ) → new.attachment_of d ≡ old.attachment_of d) → (d : ℕ) → GoesInOrder d (new.attachment_of d) scene.waiting
-leaves_still old new scene shows same d = rw (same d) (shows.leaving d)
+leaves_still : (old new : Values) (scene : Scene) → IsSceneOf old scene → ((d : ℕ) → new.attachment_of d ≡ old.attachment_of d) → new.fence_of ≡ old.fence_of
+    → (d : ℕ) → GoesInOrder new.fence_of d (new.attachment_of d) scene.waiting
+leaves_still old new scene shows same fences d = rw (fences, same d) (shows.leaving d)
 
 -- the values are the same, but perhaps for the room of the ledger; less may be cached
 pub record AreSameValues (old new : Values) : Type 0 where
@@ -63,6 +66,7 @@ pub record AreSameValues (old new : Values) : Type 0 where
   pub address : new.address ≡ old.address
   pub waiting : new.waiting ≡ old.waiting
   pub completed : new.completed ≡ old.completed
+  pub last_fence : new.last_fence ≡ old.last_fence
   pub given : new.given ≡ old.given
   pub confirmed : new.confirmed ≡ old.confirmed
   pub so_far : new.so_far ≡ old.so_far
@@ -77,8 +81,8 @@ same_scene_of old new scene same shows = record {
   ledger = same.agrees scene.history shows.ledger;
   waiting = waits_still old new scene same.cached shows same.address same.waiting;
   completed = shows.completed ∙ sym same.completed;
-  last_fence = shows.last_fence ∙ sym same.given;
-  pending = rw (same.given, same.confirmed) shows.pending;
+  last_fence = shows.last_fence ∙ sym same.last_fence;
+  pending = rw (same.given, same.confirmed, same.cached.fences) shows.pending;
   given = shows.given ∙ sym same.given;
   confirmed = shows.confirmed ∙ sym same.confirmed;
   accepted = shows.accepted ∙ sym same.so_far;
@@ -88,9 +92,9 @@ same_scene_of old new scene same shows = record {
   contexts = λ id is. shows.contexts id (same.contexts id is);
   translations = somebodys_still old new scene same.cached shows;
   stock = rw same.cached.stock shows.stock;
-  leaving = leaves_still old new scene shows same.attachments;
+  leaving = leaves_still old new scene shows same.attachments same.cached.fences;
   traffic = shows.traffic ∙ sym same.cached.traffic;
-  goes_on = shows.goes_on;
+  stopped = shows.stopped ∙ sym same.cached.stopped;
 }
 
 pub same_scene : (old new : Values) → AreSameValues old new → HasFaithfulScene old → HasFaithfulScene new
@@ -112,6 +116,7 @@ pub record PlugsOne (old new : Values) (id : ℕ) (kind : DeviceKind) : Type 0 w
   pub address : new.address ≡ old.address
   pub waiting : new.waiting ≡ old.waiting
   pub completed : new.completed ≡ old.completed
+  pub last_fence : new.last_fence ≡ old.last_fence
   pub given : new.given ≡ old.given
   pub confirmed : new.confirmed ≡ old.confirmed
   pub so_far : new.so_far ≡ old.so_far
@@ -128,8 +133,8 @@ plug_scene old new id kind plugs (scene, shows, facts) =
         ledger = plugs.agrees scene.history shows.ledger;
         waiting = waits_still old new scene plugs.cached shows plugs.address plugs.waiting;
         completed = shows.completed ∙ sym plugs.completed;
-        last_fence = shows.last_fence ∙ sym plugs.given;
-        pending = rw (plugs.given, plugs.confirmed) shows.pending;
+        last_fence = shows.last_fence ∙ sym plugs.last_fence;
+        pending = rw (plugs.given, plugs.confirmed, plugs.cached.fences) shows.pending;
         given = shows.given ∙ sym plugs.given;
         confirmed = shows.confirmed ∙ sym plugs.confirmed;
         accepted = shows.accepted ∙ sym plugs.so_far;
@@ -139,9 +144,9 @@ plug_scene old new id kind plugs (scene, shows, facts) =
         contexts = λ d is. shows.contexts d (plugs.contexts d is);
         translations = somebodys_still old new scene plugs.cached shows;
         stock = rw plugs.cached.stock shows.stock;
-        leaving = leaves_still old new scene shows plugs.attachments;
+        leaving = leaves_still old new scene shows plugs.attachments plugs.cached.fences;
         traffic = shows.traffic ∙ sym plugs.cached.traffic;
-        goes_on = shows.goes_on;
+        stopped = shows.stopped ∙ sym plugs.cached.stopped;
       },
       occurrences_keep_facts (Plug id kind) scene next facts (shows.kinds id ∙ plugs.free, refl),
     )
@@ -155,10 +160,11 @@ attached_as : (old new : Values) (scene : Scene) (id : ℕ) (now : Attachment) �
 attached_as old new scene id now shows attaches d = ap (λ before. if id == d then now else before) (shows.attachments d) ∙ sym (attaches d)
 
 -- a device that is attached leaves no more, and others leave as before
-attached_leaves : (old new : Values) (scene : Scene) (id : ℕ) (mode : Mode) (ats : Bool) → IsSceneOf old scene → AttachesOne old new id (Attached mode ats) → (d : ℕ) → GoesInOrder d (new.attachment_of d) scene.waiting
-attached_leaves old new scene id mode ats shows attaches d = subst (λ a. GoesInOrder d a scene.waiting) (sym (attaches d)) (by (id == d))
+pub attached_leaves : (old new : Values) (scene : Scene) (id : ℕ) (mode : Mode) (ats : Bool) → IsSceneOf old scene → AttachesOne old new id (Attached mode ats)
+    → new.fence_of ≡ old.fence_of → (d : ℕ) → GoesInOrder new.fence_of d (new.attachment_of d) scene.waiting
+attached_leaves old new scene id mode ats shows attaches fences d = rw (fences, attaches d) (by (id == d))
   where
-    by : (b : Bool) → GoesInOrder d (if b then Attached mode ats else old.attachment_of d) scene.waiting
+    by : (b : Bool) → GoesInOrder old.fence_of d (if b then Attached mode ats else old.attachment_of d) scene.waiting
     by true = tt
     by false = shows.leaving d
 
@@ -171,6 +177,7 @@ pub record AttachesDetached (old new : Values) (id : ℕ) (mode : Mode) (ats : B
   pub address : new.address ≡ old.address
   pub waiting : new.waiting ≡ old.waiting
   pub completed : new.completed ≡ old.completed
+  pub last_fence : new.last_fence ≡ old.last_fence
   pub given : new.given ≡ old.given
   pub confirmed : new.confirmed ≡ old.confirmed
   pub so_far : new.so_far ≡ old.so_far
@@ -187,8 +194,8 @@ attach_scene old new id mode ats attaches (scene, shows, facts) =
         ledger = attaches.agrees scene.history shows.ledger;
         waiting = waits_still old new scene attaches.cached shows attaches.address attaches.waiting;
         completed = shows.completed ∙ sym attaches.completed;
-        last_fence = shows.last_fence ∙ sym attaches.given;
-        pending = rw (attaches.given, attaches.confirmed) shows.pending;
+        last_fence = shows.last_fence ∙ sym attaches.last_fence;
+        pending = rw (attaches.given, attaches.confirmed, attaches.cached.fences) shows.pending;
         given = shows.given ∙ sym attaches.given;
         confirmed = shows.confirmed ∙ sym attaches.confirmed;
         accepted = shows.accepted ∙ sym attaches.so_far;
@@ -198,9 +205,9 @@ attach_scene old new id mode ats attaches (scene, shows, facts) =
         contexts = λ d is. shows.contexts d (attaches.contexts d is);
         translations = somebodys_still old new scene attaches.cached shows;
         stock = rw attaches.cached.stock shows.stock;
-        leaving = attached_leaves old new scene id mode ats shows attaches.attached;
+        leaving = attached_leaves old new scene id mode ats shows attaches.attached attaches.cached.fences;
         traffic = shows.traffic ∙ sym attaches.cached.traffic;
-        goes_on = shows.goes_on;
+        stopped = shows.stopped ∙ sym attaches.cached.stopped;
       },
       occurrences_keep_facts (Attach id mode ats) scene next facts
           (shows.attachments id ∙ attaches.detached, (λ with. ap caches_translations (shows.kinds id) ∙ attaches.trusted with), refl),
@@ -217,6 +224,7 @@ pub record GrantsOne (old new : Values) (id page frame : ℕ) (rights : Rights) 
   pub address : new.address ≡ old.address
   pub waiting : new.waiting ≡ old.waiting
   pub completed : new.completed ≡ old.completed
+  pub last_fence : new.last_fence ≡ old.last_fence
   pub given : new.given ≡ old.given
   pub confirmed : new.confirmed ≡ old.confirmed
   pub so_far : new.so_far ≡ old.so_far
@@ -240,8 +248,8 @@ grant_scene old new id page frame rights grants (scene, shows, facts) =
         ledger = grants.agrees scene.history shows.ledger;
         waiting = waits_still old new scene grants.cached shows grants.address grants.waiting;
         completed = shows.completed ∙ sym grants.completed;
-        last_fence = shows.last_fence ∙ sym grants.given;
-        pending = rw (grants.given, grants.confirmed) shows.pending;
+        last_fence = shows.last_fence ∙ sym grants.last_fence;
+        pending = rw (grants.given, grants.confirmed, grants.cached.fences) shows.pending;
         given = shows.given ∙ sym grants.given;
         confirmed = shows.confirmed ∙ sym grants.confirmed;
         accepted = shows.accepted ∙ sym grants.so_far;
@@ -251,9 +259,9 @@ grant_scene old new id page frame rights grants (scene, shows, facts) =
         contexts = λ d is. shows.contexts d (grants.contexts d is);
         translations = somebodys_still old new scene grants.cached shows;
         stock = rw grants.cached.stock shows.stock;
-        leaving = leaves_still old new scene shows grants.attachments;
+        leaving = leaves_still old new scene shows grants.attachments grants.cached.fences;
         traffic = shows.traffic ∙ sym grants.cached.traffic;
-        goes_on = shows.goes_on;
+        stopped = shows.stopped ∙ sym grants.cached.stopped;
       },
       occurrences_keep_facts (Grant id page frame rights) scene next facts (
         is_attached_so (scene.attachment_of id) grants.mode grants.ats (shows.attachments id ∙ grants.attached),
@@ -267,9 +275,11 @@ grant_scene old new id page frame rights grants (scene, shows, facts) =
 pub record QueuesTicket (old new : Values) (commands : List QueueEntry) (queued : List QueuedCommand) : Type 0 where
   pub ordered : old.confirmed ≤ old.given
   pub appended : AreQueuedAs old.address old.space_of commands queued
-  pub waiting : new.waiting ≡ old.waiting ++ (commands ++ Command (fence old.address (old.given + 1)) ∷ [])
+  pub waiting : new.waiting ≡ old.waiting ++ (commands ++ Command (fence old.address (old.last_fence + 1)) ∷ [])
   pub address : new.address ≡ old.address
   pub completed : new.completed ≡ old.completed
+  pub last_fence : new.last_fence ≡ old.last_fence + 1
+  pub next_fence : old.fence_of (old.given + 1) ≡ old.last_fence + 1
   pub given : new.given ≡ old.given + 1
   pub confirmed : new.confirmed ≡ old.confirmed
   pub so_far : new.so_far ≡ old.so_far
@@ -279,28 +289,30 @@ pub record QueuesTicket (old new : Values) (commands : List QueueEntry) (queued 
   pub cached : KeepsCached old new
 
 module _ (old new : Values) (scene : Scene) (commands : List QueueEntry) (queued : List QueuedCommand) (shows : IsSceneOf old scene) (queues : QueuesTicket old new commands queued) where
-  fence_now : AreQueuedAs old.address old.space_of (Command (fence old.address (old.given + 1)) ∷ []) (Fence (scene.last_fence + 1) ∷ [])
+  fence_now : AreQueuedAs old.address old.space_of (Command (fence old.address (old.last_fence + 1)) ∷ []) (Fence (scene.last_fence + 1) ∷ [])
   fence_now = (ap (λ n. fence old.address (n + 1)) (sym shows.last_fence), tt)
 
   waiting_now : AreQueuedAs new.address new.space_of new.waiting (scene.waiting ++ (queued ++ Fence (scene.last_fence + 1) ∷ []))
   waiting_now =
       rw (queues.address, queues.waiting)
       (queued_still old.address old.space_of new.space_of _ (scene.waiting ++ (queued ++ Fence (scene.last_fence + 1) ∷ [])) (λ device space extent there own. queues.cached.spaces device space own)
-      (queued_append old.address old.space_of old.waiting (commands ++ Command (fence old.address (old.given + 1)) ∷ []) scene.waiting (queued ++ Fence (scene.last_fence + 1) ∷ []) shows.waiting
-      (queued_append old.address old.space_of commands (Command (fence old.address (old.given + 1)) ∷ []) queued (Fence (scene.last_fence + 1) ∷ []) queues.appended fence_now)))
+      (queued_append old.address old.space_of old.waiting (commands ++ Command (fence old.address (old.last_fence + 1)) ∷ []) scene.waiting (queued ++ Fence (scene.last_fence + 1) ∷ []) shows.waiting
+      (queued_append old.address old.space_of commands (Command (fence old.address (old.last_fence + 1)) ∷ []) queued (Fence (scene.last_fence + 1) ∷ []) queues.appended fence_now)))
 
-  pending_now : (with_ticket scene queued).pending ≡ pending_after new.confirmed (new.given - new.confirmed)
+  pending_now : (with_ticket scene queued).pending ≡ pending_after new.fence_of new.confirmed (new.given - new.confirmed)
   pending_now =
-      rw (shows.pending, shows.given, shows.last_fence, queues.given, queues.confirmed) (pending_next old.confirmed old.given queues.ordered)
+      rw (shows.pending, shows.given, shows.last_fence, queues.given, queues.confirmed, queues.cached.fences)
+      (ap (λ n. pending_after old.fence_of old.confirmed (old.given - old.confirmed) ++ record { ticket = old.given + 1; fence = n } ∷ []) (sym queues.next_fence)
+      ∙ pending_next old.fence_of old.confirmed old.given queues.ordered)
 
   pub ticket_shows : (history : History) (attachment_of : ℕ → Attachment) → Agrees new.ledger history → ((d : ℕ) → attachment_of d ≡ new.attachment_of d)
-      → ((d : ℕ) → GoesInOrder d (new.attachment_of d) (scene.waiting ++ (queued ++ Fence (scene.last_fence + 1) ∷ [])))
+      → ((d : ℕ) → GoesInOrder new.fence_of d (new.attachment_of d) (scene.waiting ++ (queued ++ Fence (scene.last_fence + 1) ∷ [])))
       → IsSceneOf new (record (with_ticket scene queued) { history = history; attachment_of = attachment_of })
   ticket_shows history attachment_of agrees attachments leaving = record {
     ledger = agrees;
     waiting = waiting_now;
     completed = shows.completed ∙ sym queues.completed;
-    last_fence = ap (λ n. n + 1) shows.last_fence ∙ sym queues.given;
+    last_fence = ap (λ n. n + 1) shows.last_fence ∙ sym queues.last_fence;
     pending = pending_now;
     given = ap (λ n. n + 1) shows.given ∙ sym queues.given;
     confirmed = shows.confirmed ∙ sym queues.confirmed;
@@ -313,7 +325,7 @@ module _ (old new : Values) (scene : Scene) (commands : List QueueEntry) (queued
     stock = rw queues.cached.stock shows.stock;
     leaving = leaving;
     traffic = shows.traffic ∙ sym queues.cached.traffic;
-    goes_on = shows.goes_on;
+    stopped = shows.stopped ∙ sym queues.cached.stopped;
   }
 
 -- a ticket above the last that is confirmed isn't confirmed
@@ -325,25 +337,25 @@ unconfirmed_next values scene ticket shows facts above = by (confirms scene.hist
     by true is = let low = facts.order.confirmed ticket is in let same = shows.confirmed in absurd (omega (arith, low, above, same))
 
 -- no invalidation of an attached device is one of a leaving device
-release_goes : (old : Values) (scene : Scene) (id number d : ℕ) (extent : Extent) (mode : Mode) (ats : Bool) (a : Attachment) → old.attachment_of id ≡ Attached mode ats → old.attachment_of d ≡ a → GoesInOrder d a scene.waiting
-    → GoesInOrder d a (scene.waiting ++ (release_commands id extent ats ++ Fence number ∷ []))
+release_goes : (old : Values) (scene : Scene) (id number d : ℕ) (extent : Extent) (mode : Mode) (ats : Bool) (a : Attachment) → old.attachment_of id ≡ Attached mode ats → old.attachment_of d ≡ a → GoesInOrder old.fence_of d a scene.waiting
+    → GoesInOrder old.fence_of d a (scene.waiting ++ (release_commands id extent ats ++ Fence number ∷ []))
 release_goes old scene id number d extent mode with Detached attached is goes = tt
 release_goes old scene id number d extent mode with (Attached own ats) attached is goes = tt
 release_goes old scene id number d extent mode with (Quarantined ticket own ats) attached is goes = tt
 release_goes old scene id number d extent mode with (Leaving ticket own ats) attached is goes =
-    come_on d ticket scene.waiting (release_commands id extent with ++ Fence number ∷ []) goes (by with (λ same. let both = sym attached ∙ ap old.attachment_of same ∙ is in cc))
+    come_on d (old.fence_of ticket) scene.waiting (release_commands id extent with ++ Fence number ∷ []) goes (by with (λ same. let both = sym attached ∙ ap old.attachment_of same ∙ is in cc))
   where
-    by : (b : Bool) → (id ≡ d → ⊥) → ComeBefore d ticket (release_commands id extent b ++ Fence number ∷ [])
+    by : (b : Bool) → (id ≡ d → ⊥) → ComeBefore d (old.fence_of ticket) (release_commands id extent b ++ Fence number ∷ [])
     by true other = ((λ same. absurd (other same)), tt)
     by false other = ((λ same. absurd (other same)), tt)
 
-detach_goes : (old : Values) (scene : Scene) (id number d : ℕ) (mode : Mode) (ats : Bool) (a : Attachment) → old.attachment_of id ≡ Attached mode ats → old.attachment_of d ≡ a → GoesInOrder d a scene.waiting
-    → GoesInOrder d a (scene.waiting ++ (leave_commands id ++ Fence number ∷ []))
+detach_goes : (old : Values) (scene : Scene) (id number d : ℕ) (mode : Mode) (ats : Bool) (a : Attachment) → old.attachment_of id ≡ Attached mode ats → old.attachment_of d ≡ a → GoesInOrder old.fence_of d a scene.waiting
+    → GoesInOrder old.fence_of d a (scene.waiting ++ (leave_commands id ++ Fence number ∷ []))
 detach_goes old scene id number d mode with Detached attached is goes = tt
 detach_goes old scene id number d mode with (Attached own ats) attached is goes = tt
 detach_goes old scene id number d mode with (Quarantined ticket own ats) attached is goes = tt
 detach_goes old scene id number d mode with (Leaving ticket own ats) attached is goes =
-    come_on d ticket scene.waiting (leave_commands id ++ Fence number ∷ []) goes
+    come_on d (old.fence_of ticket) scene.waiting (leave_commands id ++ Fence number ∷ []) goes
     ((λ same. let both = sym attached ∙ ap old.attachment_of same ∙ is in cc), tt)
 
 -- those of the device that leaves now come in front of its fence
@@ -368,7 +380,7 @@ release_scene old new id page mode ats commands queues attached same agrees (sce
     rw shows.given (agrees scene.history shows.ledger (unconfirmed_next old scene (old.given + 1) shows facts (omega (arith, ordered)))) in (
       next,
       ticket_shows old new scene commands queued shows queues (Released id page (scene.given + 1) ∷ scene.history) scene.attachment_of agreed (λ d. shows.attachments d ∙ sym (same d))
-          (λ d. subst (λ a. GoesInOrder d a (scene.waiting ++ (queued ++ Fence (scene.last_fence + 1) ∷ []))) (sym (same d))
+          (λ d. rw (queues.cached.fences, same d)
           (release_goes old scene id (scene.last_fence + 1) d (released_extent mode page) mode ats (old.attachment_of d) attached refl (shows.leaving d))),
       occurrences_keep_facts (Release id page) scene next facts (mode, ats, shows.attachments id ∙ attached, refl),
     )
@@ -384,7 +396,7 @@ detach_scene old new id mode ats commands queues attached leaves nothing agrees 
     let leaves_so : AttachesOne old new id (Leaving (scene.given + 1) mode ats) = rw shows.given leaves in (
       next,
       ticket_shows old new scene commands (leave_commands id) shows queues scene.history now (agrees scene.history shows.ledger) (attached_as old new scene id (Leaving (scene.given + 1) mode ats) shows leaves_so)
-          (λ d. subst (λ a. GoesInOrder d a (scene.waiting ++ (leave_commands id ++ Fence (scene.last_fence + 1) ∷ []))) (sym (leaves d)) (goes d (id == d) refl)),
+          (λ d. rw (queues.cached.fences, leaves d) (goes d (id == d) refl)),
       occurrences_keep_facts (Detach id) scene next facts (
         mode,
         ats,
@@ -396,29 +408,29 @@ detach_scene old new id mode ats commands queues attached leaves nothing agrees 
     )
   where
     goes : (d : ℕ) (b : Bool) → (id == d) ≡ b
-        → GoesInOrder d (if b then Leaving (old.given + 1) mode ats else old.attachment_of d) (scene.waiting ++ (leave_commands id ++ Fence (scene.last_fence + 1) ∷ []))
+        → GoesInOrder old.fence_of d (if b then Leaving (old.given + 1) mode ats else old.attachment_of d) (scene.waiting ++ (leave_commands id ++ Fence (scene.last_fence + 1) ∷ []))
     goes d true is =
         let same : id ≡ d = eqb-true id d is in
-        let ticket : scene.last_fence + 1 ≡ old.given + 1 = ap (λ n. n + 1) shows.last_fence in
+        let ticket : scene.last_fence + 1 ≡ old.fence_of (old.given + 1) = ap (λ n. n + 1) shows.last_fence ∙ sym queues.next_fence in
         subst (λ n. ComeBefore d n (scene.waiting ++ (leave_commands id ++ Fence (scene.last_fence + 1) ∷ []))) ticket
         (subst (λ e. ComeBefore e (scene.last_fence + 1) (scene.waiting ++ (leave_commands id ++ Fence (scene.last_fence + 1) ∷ []))) same (detached_goes scene id (scene.last_fence + 1)))
     goes d false is = detach_goes old scene id (scene.last_fence + 1) d mode ats (old.attachment_of d) attached refl (shows.leaving d)
 
 -- POLL, which confirms so many tickets
 
--- the device leaves, under a ticket up to this one
-abbrev pub HasLeft : Attachment → ℕ → Type 0
-HasLeft Detached last = ⊥
-HasLeft (Attached mode ats) last = ⊥
-HasLeft (Quarantined ticket mode ats) last = ⊥
-HasLeft (Leaving ticket mode ats) last = ticket ≤ last
+-- the device leaves, under a ticket after the first and up to the last
+abbrev pub HasLeft : Attachment → ℕ → ℕ → Type 0
+HasLeft Detached first last = ⊥
+HasLeft (Attached mode ats) first last = ⊥
+HasLeft (Quarantined ticket mode ats) first last = ⊥
+HasLeft (Leaving ticket mode ats) first last = (first < ticket) × (ticket ≤ last)
 
 -- no translation is cached of a device that leaves: it holds nothing, and nothing lingers for it
-pub none_cached : (scene : Scene) (copy : Copy) (a : Attachment) (last : ℕ) → IsFaithful scene → scene.attachment_of copy.device ≡ a → HasLeft a last → ¬ Contains scene.translations copy
-none_cached scene copy Detached last facts is left there = left
-none_cached scene copy (Attached mode ats) last facts is left there = left
-none_cached scene copy (Quarantined ticket mode ats) last facts is left there = left
-none_cached scene copy (Leaving ticket mode ats) last facts is left there =
+pub none_cached : (scene : Scene) (copy : Copy) (a : Attachment) (first last : ℕ) → IsFaithful scene → scene.attachment_of copy.device ≡ a → HasLeft a first last → ¬ Contains scene.translations copy
+none_cached scene copy Detached first last facts is left there = left
+none_cached scene copy (Attached mode ats) first last facts is left there = left
+none_cached scene copy (Quarantined ticket mode ats) first last facts is left there = left
+none_cached scene copy (Leaving ticket mode ats) first last facts is left there =
     let fits : GrantsFit scene.history copy.device (Leaving ticket mode ats) = subst (GrantsFit scene.history copy.device) is (facts.order.grants copy.device) in
     let backed = facts.translations copy there in
     elim backed.3 [
@@ -430,37 +442,42 @@ none_cached scene copy (Leaving ticket mode ats) last facts is left there =
     none_some frame rights same = cc
 
 -- nor is an invalidation of its translations queued, once its fence is done
-none_queued : (scene : Scene) (device : ℕ) (extent : Extent) (a : Attachment) (last : ℕ) → IsFaithful scene → GoesInOrder device a scene.waiting → HasLeft a last → last ≤ scene.completed
-    → ¬ Contains scene.waiting (DropTranslations device extent)
-none_queued scene device extent Detached last facts goes left done there = left
-none_queued scene device extent (Attached mode ats) last facts goes left done there = left
-none_queued scene device extent (Quarantined ticket mode ats) last facts goes left done there = left
-none_queued scene device extent (Leaving ticket mode ats) last facts goes left done there =
-    none_left device ticket scene.completed scene.last_fence extent scene.waiting goes facts.order.fences (omega (arith, left, done)) there
+none_queued : (fence_of : ℕ → ℕ) (scene : Scene) (device : ℕ) (extent : Extent) (a : Attachment) (first n : ℕ) → IsFaithful scene → GoesInOrder fence_of device a scene.waiting
+    → HasLeft a first (first + n) → AreDone fence_of first n scene.completed → ¬ Contains scene.waiting (DropTranslations device extent)
+none_queued fence_of scene device extent Detached first n facts goes left done there = left
+none_queued fence_of scene device extent (Attached mode ats) first n facts goes left done there = left
+none_queued fence_of scene device extent (Quarantined ticket mode ats) first n facts goes left done there = left
+none_queued fence_of scene device extent (Leaving ticket mode ats) first n facts goes left done there =
+    none_left device (fence_of ticket) scene.completed scene.last_fence extent scene.waiting goes facts.order.fences (done ticket left.0 left.1) there
 
 -- who leaves still does so in order, or has left
-goes_once : (d ticket : ℕ) (a : Attachment) (waiting : List QueuedCommand) → GoesInOrder d a waiting → GoesInOrder d (once_confirmed ticket a) waiting
-goes_once d ticket Detached waiting goes = tt
-goes_once d ticket (Attached mode ats) waiting goes = tt
-goes_once d ticket (Quarantined own mode ats) waiting goes = tt
-goes_once d ticket (Leaving own mode ats) waiting goes = by (ticket == own)
+goes_once : (fence_of : ℕ → ℕ) (d ticket : ℕ) (a : Attachment) (waiting : List QueuedCommand) → GoesInOrder fence_of d a waiting
+    → GoesInOrder fence_of d (once_confirmed ticket a) waiting
+goes_once fence_of d ticket Detached waiting goes = tt
+goes_once fence_of d ticket (Attached mode ats) waiting goes = tt
+goes_once fence_of d ticket (Quarantined own mode ats) waiting goes = tt
+goes_once fence_of d ticket (Leaving own mode ats) waiting goes = by (ticket == own)
   where
-    by : (b : Bool) → GoesInOrder d (if b then Detached else Leaving own mode ats) waiting
+    by : (b : Bool) → GoesInOrder fence_of d (if b then Detached else Leaving own mode ats) waiting
     by true = tt
     by false = goes
 
-goes_after : (first n d : ℕ) (attachment_of : ℕ → Attachment) (waiting : List QueuedCommand) → GoesInOrder d (attachment_of d) waiting → GoesInOrder d (left_after first n attachment_of d) waiting
-goes_after first zero d attachment_of waiting goes = goes
-goes_after first (suc n) d attachment_of waiting goes = goes_once d (first + n + 1) (left_after first n attachment_of d) waiting (goes_after first n d attachment_of waiting goes)
+goes_after : (fence_of : ℕ → ℕ) (first n d : ℕ) (attachment_of : ℕ → Attachment) (waiting : List QueuedCommand) → GoesInOrder fence_of d (attachment_of d) waiting
+    → GoesInOrder fence_of d (left_after first n attachment_of d) waiting
+goes_after fence_of first zero d attachment_of waiting goes = goes
+goes_after fence_of first (suc n) d attachment_of waiting goes = goes_once fence_of d (first + n + 1) (left_after first n attachment_of d) waiting (goes_after fence_of first n d attachment_of waiting goes)
 
 pub record ConfirmsSome (old new : Values) (n rest : ℕ) : Type 0 where
   pub many : old.given - old.confirmed ≡ n + rest
-  pub done : old.confirmed + n ≤ old.completed
+  pub done : AreDone old.fence_of old.confirmed n old.completed
   pub agrees : (h : History) → Agrees old.ledger h → Agrees new.ledger (confirmed_from (old.confirmed + 1) n h)
   pub attachments : (d : ℕ) → new.attachment_of d ≡ left_after old.confirmed n old.attachment_of d
   pub address : new.address ≡ old.address
   pub waiting : new.waiting ≡ old.waiting
   pub completed : new.completed ≡ old.completed
+  pub last_fence : new.last_fence ≡ old.last_fence
+  pub fences : new.fence_of ≡ old.fence_of
+  pub stopped : new.is_stopped ≡ old.is_stopped
   pub given : new.given ≡ old.given
   pub confirmed : new.confirmed ≡ old.confirmed + n
   pub so_far : new.so_far ≡ old.so_far
@@ -468,7 +485,7 @@ pub record ConfirmsSome (old new : Values) (n rest : ℕ) : Type 0 where
   pub kinds : (d : ℕ) → new.kind_of d ≡ old.kind_of d
   pub contexts : (d : ℕ) → new.is_cached d ≡ true → old.is_cached d ≡ true
   pub spaces : (device : ℕ) (space : Space) → old.space_of device ≡ Some space
-      → (new.space_of device ≡ Some space) ⊎ HasLeft (old.attachment_of device) (old.confirmed + n)
+      → (new.space_of device ≡ Some space) ⊎ HasLeft (old.attachment_of device) old.confirmed (old.confirmed + n)
   pub translations : new.translations ≡ old.translations
   pub stock : new.stock ≡ old.stock
   pub traffic : new.traffic ≡ old.traffic
@@ -480,16 +497,18 @@ left_alike first (suc n) one other d same = ap (once_confirmed (first + n + 1)) 
 pub poll_scene : (old new : Values) (n rest : ℕ) → ConfirmsSome old new n rest → HasFaithfulScene old → HasFaithfulScene new
 poll_scene old new n rest confirms_some (scene, shows, facts) =
     let c = shows.confirmed in
-    let pending : scene.pending ≡ pending_after scene.confirmed (n + rest) = shows.pending ∙ ap (pending_after old.confirmed) confirms_some.many ∙ ap (λ k. pending_after k (n + rest)) (sym c) in
-    let done : scene.confirmed + n ≤ scene.completed = rw (shows.confirmed, shows.completed) confirms_some.done in
+    let pending : scene.pending ≡ pending_after old.fence_of scene.confirmed (n + rest) =
+    shows.pending ∙ ap (pending_after old.fence_of old.confirmed) confirms_some.many ∙ ap (λ k. pending_after old.fence_of k (n + rest)) (sym c) in
+    let done : AreDone old.fence_of scene.confirmed n scene.completed = rw (shows.confirmed, shows.completed) confirms_some.done in
     let left : new.given - new.confirmed ≡ rest = omega (arith, confirms_some.many, confirms_some.given, confirms_some.confirmed) in (
-      confirmed_scene scene n rest,
+      confirmed_scene old.fence_of scene n rest,
       record {
         ledger = rw c (confirms_some.agrees scene.history shows.ledger);
         waiting = rw (confirms_some.address, confirms_some.waiting) (queued_still old.address old.space_of new.space_of old.waiting scene.waiting stay shows.waiting);
         completed = shows.completed ∙ sym confirms_some.completed;
-        last_fence = shows.last_fence ∙ sym confirms_some.given;
-        pending = ap (λ k. pending_after k rest) (ap (λ k. k + n) c ∙ sym confirms_some.confirmed) ∙ ap (pending_after new.confirmed) (sym left);
+        last_fence = shows.last_fence ∙ sym confirms_some.last_fence;
+        pending = ap (λ k. pending_after old.fence_of k rest) (ap (λ k. k + n) c ∙ sym confirms_some.confirmed) ∙ ap (pending_after old.fence_of new.confirmed) (sym left)
+            ∙ ap (λ f. pending_after f new.confirmed (new.given - new.confirmed)) (sym confirms_some.fences);
         given = shows.given ∙ sym confirms_some.given;
         confirmed = ap (λ k. k + n) c ∙ sym confirms_some.confirmed;
         accepted = shows.accepted ∙ sym confirms_some.so_far;
@@ -499,20 +518,20 @@ poll_scene old new n rest confirms_some (scene, shows, facts) =
         contexts = λ d is. shows.contexts d (confirms_some.contexts d is);
         translations = still;
         stock = rw confirms_some.stock shows.stock;
-        leaving = λ d. subst (λ a. GoesInOrder d a scene.waiting) (sym (confirms_some.attachments d)) (goes_after old.confirmed n d old.attachment_of scene.waiting (shows.leaving d));
+        leaving = λ d. rw (confirms_some.fences, confirms_some.attachments d) (goes_after old.fence_of old.confirmed n d old.attachment_of scene.waiting (shows.leaving d));
         traffic = shows.traffic ∙ sym confirms_some.traffic;
-        goes_on = shows.goes_on;
+        stopped = shows.stopped ∙ sym confirms_some.stopped;
       },
-      confirm_all scene n rest facts pending done,
+      confirm_all old.fence_of scene n rest facts pending done,
     )
   where
-    done_now : old.confirmed + n ≤ scene.completed
+    done_now : AreDone old.fence_of old.confirmed n scene.completed
     done_now = rw shows.completed confirms_some.done
 
     stay : SpacesStay old.space_of new.space_of scene.waiting
     stay device space extent there own = elim (confirms_some.spaces device space own) [
       | inl now ↦ now
-      | inr left ↦ absurd (none_queued scene device extent (old.attachment_of device) (old.confirmed + n) facts (shows.leaving device) left done_now there)
+      | inr left ↦ absurd (none_queued old.fence_of scene device extent (old.attachment_of device) old.confirmed n facts (shows.leaving device) left done_now there)
     ]
 
     still : (key : Key) (translation : Translation) → new.translations key ≡ Some translation → IsSomebodys new.space_of scene.translations key translation
@@ -520,5 +539,5 @@ poll_scene old new n rest confirms_some (scene, shows, facts) =
         let was = shows.translations key translation (sym (ap (λ c. c key) confirms_some.translations) ∙ at) in
         elim (confirms_some.spaces was.device key.0 was.own) [
           | inl now ↦ record { device = was.device; own = now; there = was.there }
-          | inr left ↦ absurd (none_cached scene (copy_of was.device key.1 translation) (old.attachment_of was.device) (old.confirmed + n) facts (shows.attachments was.device) left was.there)
+          | inr left ↦ absurd (none_cached scene (copy_of was.device key.1 translation) (old.attachment_of was.device) old.confirmed (old.confirmed + n) facts (shows.attachments was.device) left was.there)
         ]

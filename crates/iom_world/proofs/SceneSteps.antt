@@ -48,6 +48,9 @@ pub record KeepsGrants (old new : Values) : Type 0 where
   pub address : new.address ≡ old.address
   pub given : new.given ≡ old.given
   pub confirmed : new.confirmed ≡ old.confirmed
+  pub last_fence : new.last_fence ≡ old.last_fence
+  pub fences : new.fence_of ≡ old.fence_of
+  pub stopped : new.is_stopped ≡ old.is_stopped
   pub kinds : (d : ℕ) → new.kind_of d ≡ old.kind_of d
   pub attachments : (d : ℕ) → new.attachment_of d ≡ old.attachment_of d
   pub spaces : (d : ℕ) → new.space_of d ≡ old.space_of d
@@ -72,7 +75,7 @@ pub record IsNext (new : Values) (old : Values) (next : Scene) : Type 0 where
   pub contexts : (d : ℕ) → new.is_cached d ≡ true → Contains next.contexts d
   pub translations : (key : Key) (translation : Translation) → new.translations key ≡ Some translation → IsSomebodys old.space_of next.translations key translation
   pub stock : IsStockOf new.stock next.stock
-  pub leaving : (d : ℕ) → GoesInOrder d (old.attachment_of d) next.waiting
+  pub leaving : (d : ℕ) → GoesInOrder old.fence_of d (old.attachment_of d) next.waiting
   pub traffic : under_way next ≡ new.traffic
 
 spaces_alike : (old new : ℕ → Option Space) (queued : List QueuedCommand) → ((d : ℕ) → new d ≡ old d) → SpacesStay old new queued
@@ -99,8 +102,8 @@ scene_from old new scene next keeps shows same is = record {
   ledger = rw (keeps.ledger, ap (λ (s : Scene). s.history) same) shows.ledger;
   waiting = rw keeps.address (queued_still old.address old.space_of new.space_of new.waiting next.waiting (spaces_alike old.space_of new.space_of next.waiting keeps.spaces) is.waiting);
   completed = is.completed;
-  last_fence = ap (λ (s : Scene). s.last_fence) same ∙ shows.last_fence ∙ sym keeps.given;
-  pending = rw (ap (λ (s : Scene). s.pending) same, keeps.given, keeps.confirmed) shows.pending;
+  last_fence = ap (λ (s : Scene). s.last_fence) same ∙ shows.last_fence ∙ sym keeps.last_fence;
+  pending = rw (ap (λ (s : Scene). s.pending) same, keeps.given, keeps.confirmed, keeps.fences) shows.pending;
   given = ap (λ (s : Scene). s.given) same ∙ shows.given ∙ sym keeps.given;
   confirmed = ap (λ (s : Scene). s.confirmed) same ∙ shows.confirmed ∙ sym keeps.confirmed;
   accepted = is.accepted;
@@ -112,9 +115,9 @@ scene_from old new scene next keeps shows same is = record {
       let one = is.translations key translation at in
       record { device = one.device; own = keeps.spaces one.device ∙ one.own; there = one.there };
   stock = is.stock;
-  leaving = λ d. subst (λ a. GoesInOrder d a next.waiting) (sym (keeps.attachments d)) (is.leaving d);
+  leaving = λ d. rw (keeps.fences, keeps.attachments d) (is.leaving d);
   traffic = is.traffic;
-  goes_on = ap (λ (s : Scene). s.is_stopped) same ∙ shows.goes_on;
+  stopped = ap (λ (s : Scene). s.is_stopped) same ∙ shows.stopped ∙ sym keeps.stopped;
 }
 
 -- a scene's own values
@@ -368,6 +371,7 @@ TranslationsAfter command before after = (key : Key) (translation : Translation)
 
 pub record DoesFirst (old new : Values) (command : Commanded) : Type 0 where
   pub keeps : KeepsGrants old new
+  pub going : old.is_stopped ≡ false
   pub first : old.waiting ≡ Command command ∷ new.waiting
   pub so_far : new.so_far ≡ old.so_far
   pub in_flight : new.in_flight ≡ old.in_flight
@@ -445,11 +449,12 @@ fence_same : (a b : ℕ) (xs ys : List QueuedCommand) → Fence a ∷ xs ≡ Fen
 fence_same a b xs ys same = cc
 
 -- who leaves still does so in order, once the first command is done
-goes_later : (d : ℕ) (a : Attachment) (command : QueuedCommand) (later : List QueuedCommand) → GoesInOrder d a (command ∷ later) → GoesInOrder d a later
-goes_later d Detached command later goes = tt
-goes_later d (Attached mode ats) command later goes = tt
-goes_later d (Quarantined ticket mode ats) command later goes = tt
-goes_later d (Leaving ticket mode ats) command later goes = come_after d ticket command later goes
+goes_later : (fence_of : ℕ → ℕ) (d : ℕ) (a : Attachment) (command : QueuedCommand) (later : List QueuedCommand) → GoesInOrder fence_of d a (command ∷ later)
+    → GoesInOrder fence_of d a later
+goes_later fence_of d Detached command later goes = tt
+goes_later fence_of d (Attached mode ats) command later goes = tt
+goes_later fence_of d (Quarantined ticket mode ats) command later goes = tt
+goes_later fence_of d (Leaving ticket mode ats) command later goes = come_after d (fence_of ticket) command later goes
 
 module _ (old new : Values) (scene : Scene) (shows : IsSceneOf old scene) (facts : IsFaithful scene) where
   -- a command that is no fence leaves the stock, of which there is none
@@ -470,7 +475,7 @@ module _ (old new : Values) (scene : Scene) (shows : IsSceneOf old scene) (facts
           contexts = λ d is. shows.contexts d (does.contexts d is);
           translations = somebodys;
           stock = rw (does.stock, none) tt;
-          leaving = λ d. goes_later d (old.attachment_of d) (DropTranslations device extent) later (subst (GoesInOrder d (old.attachment_of d)) waiting (shows.leaving d));
+          leaving = λ d. goes_later old.fence_of d (old.attachment_of d) (DropTranslations device extent) later (subst (GoesInOrder old.fence_of d (old.attachment_of d)) waiting (shows.leaving d));
           traffic = shows.traffic ∙ sym does.traffic;
         }),
         occurrences_keep_facts (FetchIotinval device extent) scene next facts (
@@ -526,7 +531,7 @@ module _ (old new : Values) (scene : Scene) (shows : IsSceneOf old scene) (facts
           contexts = λ d is. contains_filter (λ e. not (device == e)) scene.contexts d (shows.contexts d (does.contexts d is).0) (ap not (differs device d (λ same. (does.contexts d is).1 (sym same))));
           translations = λ key translation at. shows.translations key translation (does.translations key translation at).0;
           stock = rw (does.stock, none) tt;
-          leaving = λ d. goes_later d (old.attachment_of d) (DropContext device) later (subst (GoesInOrder d (old.attachment_of d)) waiting (shows.leaving d));
+          leaving = λ d. goes_later old.fence_of d (old.attachment_of d) (DropContext device) later (subst (GoesInOrder old.fence_of d (old.attachment_of d)) waiting (shows.leaving d));
           traffic = shows.traffic ∙ sym does.traffic;
         }),
         occurrences_keep_facts (FetchIodir device) scene next facts (
@@ -561,7 +566,7 @@ module _ (old new : Values) (scene : Scene) (shows : IsSceneOf old scene) (facts
           contexts = λ d cached. shows.contexts d (does.contexts d cached);
           translations = λ key translation at. shows.translations key translation (does.translations key translation at).0;
           stock = rw (does.stock, none) tt;
-          leaving = λ d. goes_later d (old.attachment_of d) (Invalidate device extent) later (subst (GoesInOrder d (old.attachment_of d)) waiting (shows.leaving d));
+          leaving = λ d. goes_later old.fence_of d (old.attachment_of d) (Invalidate device extent) later (subst (GoesInOrder old.fence_of d (old.attachment_of d)) waiting (shows.leaving d));
           traffic = same_traffic (under_way next) new.traffic (ap (λ (t : Traffic). t.entries) shows.traffic ∙ sym opened.entries) (ap (λ (t : Traffic). t.epoch_of) shows.traffic ∙ sym opened.epochs)
               refl
               (ap (λ (t : Traffic). t.slots ++ invalidation_by (t.last_serial + 1) device ∷ []) shows.traffic ∙ sym opened.slots)
@@ -600,7 +605,7 @@ module _ (old new : Values) (scene : Scene) (shows : IsSceneOf old scene) (facts
         contexts = λ d is. shows.contexts d (does.contexts d is);
         translations = λ key translation at. shows.translations key translation (does.translations key translation at).0;
         stock = rw does.stock tt;
-        leaving = λ d. goes_later d (old.attachment_of d) (Fence number) later (subst (GoesInOrder d (old.attachment_of d)) waiting (shows.leaving d));
+        leaving = λ d. goes_later old.fence_of d (old.attachment_of d) (Fence number) later (subst (GoesInOrder old.fence_of d (old.attachment_of d)) waiting (shows.leaving d));
         traffic = shows.traffic ∙ sym does.traffic;
       })
 
@@ -610,7 +615,7 @@ module _ (old new : Values) (scene : Scene) (shows : IsSceneOf old scene) (facts
           let counted : old.stock ≡ None = counted_none old.stock scene.stock shows.stock none in
           let before : accepted_before old.stock old.so_far ≡ scene.accepted = ap (λ s. accepted_before s old.so_far) counted ∙ sym shows.accepted in
           let stock_facts = occurrences_keep_facts (TakeStock number) scene stocked facts
-          (later, waiting, (λ slot there. none_there scene.slots slot none_open there), shows.goes_on, refl) in (
+          (later, waiting, (λ slot there. none_there scene.slots slot none_open there), shows.stopped ∙ does.going, refl) in (
             next,
             shows_next,
             occurrences_keep_facts (CompleteFence number) stocked next stock_facts
@@ -651,6 +656,7 @@ fetch_scene old new command does (scene, shows, facts) =
 -- A FENCE WAITS: it counts, if it didn't before
 pub record CountsAtHead (old new : Values) : Type 0 where
   pub keeps : KeepsGrants old new
+  pub going : old.is_stopped ≡ false
   pub waiting : new.waiting ≡ old.waiting
   pub head : (number : ℕ) × (later : List QueueEntry) × (old.waiting ≡ Command (fence old.address number) ∷ later)
   pub completed : new.completed ≡ old.completed
@@ -697,7 +703,7 @@ count_scene old new counts (scene, shows, facts) = by scene.stock refl
             traffic = shows.traffic ∙ sym counts.traffic;
           }),
           occurrences_keep_facts (TakeStock own.0) scene next facts
-              (first.1, first.2 ∙ ap (λ c. c ∷ first.1) own.1, (λ slot there. none_there scene.slots slot (slots_as old scene shows counts.closed) there), shows.goes_on, refl),
+              (first.1, first.2 ∙ ap (λ c. c ∷ first.1) own.1, (λ slot there. none_there scene.slots slot (slots_as old scene shows counts.closed) there), shows.stopped ∙ counts.going, refl),
         )
     by (Some taken) at =
         let was : IsStockOf old.stock (Some taken) = subst (IsStockOf old.stock) at shows.stock in (

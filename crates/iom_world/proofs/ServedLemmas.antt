@@ -1,5 +1,5 @@
 -- What the IOMMU's service means in a sound world: an access is translated to what its device holds, and faults by how it is attached.
-use Rattle.std.proofs.Common.{zero, suc, ◌≡◌, ◌+◌, ◌*◌, ◌/◌, ◌%◌, ◌^◌, ◌<◌, ◌≤◌, ◌∙◌, ◌⊎◌, inl, inr, ℕ, Bool, true, false, List, [], length, slice_get, Option, Some, None, Result, Ok, Err, option_map, nat_le, nat_lt, refl, sym, ap, subst, arith, if◌then◌else◌}
+use Rattle.std.proofs.Common.{zero, suc, ◌≡◌, ◌+◌, ◌*◌, ◌/◌, ◌%◌, ◌^◌, ◌<◌, ◌≤◌, ◌∙◌, ◌⊎◌, inl, inr, ℕ, Bool, true, false, List, [], length, slice_get, Option, Some, None, Result, Ok, Err, option_map, is_some, nat_le, nat_lt, refl, sym, ap, subst, arith, if◌then◌else◌}
 use Rattle.std.proofs.lemmas.Bool.{leb-false, leb-true, lt-leb, le-leb}
 use Rattle.iom_base.specs.declared.access.AccessKind.{AccessKind}
 use Rattle.iom_base.specs.declared.cause.Cause.{Cause}
@@ -17,7 +17,7 @@ use Rattle.iom_device_dir.specs.Paths.{ids_below}
 use Rattle.iom_directory.specs.Laws.{LawfulEnds, IsModeOf}
 use Rattle.iom_directory.specs.Pages.{root_level}
 use Rattle.iom_driver.specs.declared.device.Attachment.{Attachment}
-use Rattle.iom_driver.specs.declared.device.Attachment.TheVariants.{Detached, Attached, Leaving}
+use Rattle.iom_driver.specs.declared.device.Attachment.TheVariants.{Detached, Attached, Quarantined, Leaving}
 use Rattle.iom_driver.specs.declared.device.Stages.{Stages}
 use Rattle.iom_driver.specs.Devices.{attachment_of, stages_of, owned_stages_of, attached_stages, owned_stages}
 use Rattle.iom_driver.specs.Directory.{context_in, context_for, located_for, mode_of, NamesDirectory}
@@ -43,6 +43,7 @@ use Rattle.iom_stage_walk.specs.Second.{second_levels, ReachesSecond, StopsSecon
 use Rattle.iom_world.specs.Parts.{Parts}
 use Rattle.iom_world.specs.Sound.{AreSound}
 use Rattle.iom_world.specs.Read.{space_in}
+use Rattle.iom_world.proofs.CutOffLemmas.{IsPending, pending_cached}
 use Rattle.iom_world.proofs.DriverLemmas.{IsSoundDriver}
 use Rattle.iom_world.proofs.SceneSteps.{HoldsWalked}
 use Rattle.iom_world.proofs.WalkLemmas.{WalkLaws, ReachesBy, StopsBy, FaultsBy, reached, stopped}
@@ -66,10 +67,11 @@ pub record ReachesHeld (sure : Bool) (d : DriverState) (id address : ℕ) (kind 
   pub allowed : allows translation.rights kind ≡ true
   pub kept : Keeps sure old (space_in stage.mode stage.number, address / 4096) translation new
 
--- of an attached or leaving device, a cached translation is found
+-- of an attached or leaving device, or of one that is cut off under a ticket that isn't confirmed, a cached translation is found
 pub record FindsCached (d : DriverState) (id address : ℕ) (kind : AccessKind) (old : Translations) (answer : Translation) (new : Translations) : Type 0 where
   pub stage : Stages
   pub owned : owned_stages_of d.devices id ≡ Some stage
+  pub pending : IsPending d id
   pub translation : Translation
   pub answer_is : answer ≡ translation
   pub cached : old (space_in stage.mode stage.number, address / 4096) ≡ Some translation
@@ -80,6 +82,7 @@ pub record FindsCached (d : DriverState) (id address : ℕ) (kind : AccessKind) 
 abbrev pub FaultsAs : Attachment → DriverState → ℕ → ℕ → AccessKind → Cause → Type 0
 FaultsAs Detached d id address kind cause = cause ≡ cause_at d.levels id
 FaultsAs (Attached stage) d id address kind cause = FaultsBy stage.mode d.ledger id (address / 4096) kind cause
+FaultsAs (Quarantined ticket stage) d id address kind cause = ((d.confirmed < ticket) × IsPageFaultOf stage.mode kind cause) ⊎ (cause ≡ cause_at d.levels id)
 FaultsAs (Leaving ticket stage) d id address kind cause = IsPageFaultOf stage.mode kind cause ⊎ (cause ≡ cause_at d.levels id)
 
 abbrev pub IsAnswered : Bool → DriverState → ℕ → ℕ → AccessKind → Translations → Result Translation WalkFault → Translations → Type 0
@@ -172,6 +175,7 @@ located_as levels id (Some stage) = Ok (context_for stage)
 pub attached_owns : (a : Attachment) (stage : Stages) → attached_stages a ≡ Some stage → owned_stages a ≡ Some stage
 attached_owns Detached stage at = at
 attached_owns (Attached own) stage at = at
+attached_owns (Quarantined ticket own) stage at = cc
 attached_owns (Leaving ticket own) stage at = cc
 
 module _ (laws : ServiceLaws) (parts : Parts) (events : ℕ) (sound : AreSound parts events) (own : IsSoundDriver parts.driver) where
@@ -274,33 +278,34 @@ module _ (laws : ServiceLaws) (parts : Parts) (events : ℕ) (sound : AreSound p
       stays,
     )
 
-    -- a leaving device holds nothing
-    none_reached : (ticket : ℕ) (stage : Stages) (answer : Result Translation WalkFault) → attachment_of d.devices id ≡ Leaving ticket stage → IsWalked stage answer
-        → IsAnswered sure d id address kind old answer new
-    none_reached ticket stage (Ok answer) leaving (walked, reaches, same, kept) =
-        let held = reached laws.walks parts.memory d.marks d.ledger id stage.mode stage.root (tables_of stage (ap owned_stages leaving)) (low_pages_of id) (held_inside id) address kind low_page walked reaches in
-        let none = own.holders id held.0.0 (ap attached_stages leaving) in
+    -- a device that is cut off or leaves holds nothing
+    none_reached : (stage : Stages) (answer : Result Translation WalkFault) → owned_stages_of d.devices id ≡ Some stage → stages_of d.devices id ≡ None
+        → ((cause : Cause) → IsPageFaultOf stage.mode kind cause → FaultsAs (attachment_of d.devices id) d id address kind cause)
+        → IsWalked stage answer → IsAnswered sure d id address kind old answer new
+    none_reached stage (Ok answer) owned away faults (walked, reaches, same, kept) =
+        let held = reached laws.walks parts.memory d.marks d.ledger id stage.mode stage.root (tables_of stage owned) (low_pages_of id) (held_inside id) address kind low_page walked reaches in
+        let none = own.holders id held.0.0 away in
         absurd (none_some walked.frame held.0.1 (sym none ∙ held.0.3))
       where
         none_some : (frame : ℕ) (rights : Rights) → ◌≡◌ {A = Option Pair} None (Some (frame, rights)) → ⊥
         none_some frame rights same = cc
-    none_reached ticket stage (Err fault) leaving (stops, stays) = (
-      subst (λ a. FaultsAs a d id address kind fault.cause) (sym leaving)
-          (inl (page_fault_by stage.mode d.ledger id (address / 4096) kind fault.cause
-          (stopped laws.walks parts.memory d.marks d.ledger id stage.mode stage.root (tables_of stage (ap owned_stages leaving)) (low_pages_of id) (held_inside id) address kind low_page fault stops))),
+    none_reached stage (Err fault) owned away faults (stops, stays) = (
+      faults fault.cause (page_fault_by stage.mode d.ledger id (address / 4096) kind fault.cause
+          (stopped laws.walks parts.memory d.marks d.ledger id stage.mode stage.root (tables_of stage owned) (low_pages_of id) (held_inside id) address kind low_page fault stops)),
       stays,
     )
 
     -- what is cached serves where its right allows the kind; else there is a walk
-    by_cache : (stage : Stages) (answer : Result Translation WalkFault) → owned_stages_of d.devices id ≡ Some stage
+    by_cache : (stage : Stages) (answer : Result Translation WalkFault) → owned_stages_of d.devices id ≡ Some stage → IsPending d id
         → (IsWalked stage answer → IsAnswered sure d id address kind old answer new) → IsLooked stage answer → IsAnswered sure d id address kind old answer new
-    by_cache stage answer owned walks looked = by (old (space_in stage.mode stage.number, address / 4096)) refl looked
+    by_cache stage answer owned pending walks looked = by (old (space_in stage.mode stage.number, address / 4096)) refl looked
       where
         finds : (translation : Translation) → old (space_in stage.mode stage.number, address / 4096) ≡ Some translation → allows translation.rights kind ≡ true
             → (answer : Result Translation WalkFault) → answer ≡ Ok translation → Stays old new → IsAnswered sure d id address kind old answer new
         finds translation at allowed (Ok found) same stays = inr (record {
           stage = stage;
           owned = owned;
+          pending = pending;
           translation = translation;
           answer_is = ok_same found translation same;
           cached = at;
@@ -321,38 +326,59 @@ module _ (laws : ServiceLaws) (parts : Parts) (events : ℕ) (sound : AreSound p
             allow false allowed it = walks it
 
     -- without a context
-    no_context : (a : Attachment) (answer : Result Translation WalkFault) → attachment_of d.devices id ≡ a → (a ≡ Detached) ⊎ ((ticket : ℕ) × (stage : Stages) × (a ≡ Leaving ticket stage))
+    no_context : (a : Attachment) (answer : Result Translation WalkFault) → attachment_of d.devices id ≡ a
+        → ((cause : Cause) → cause ≡ cause_at d.levels id → FaultsAs a d id address kind cause)
         → answer ≡ Err (plain (cause_at d.levels id)) → Stays old new → IsAnswered sure d id address kind old answer new
-    no_context a (Ok answer) is either same stays = cc
-    no_context a (Err fault) is (inl detached) same stays =
+    no_context a (Ok answer) is faults same stays = cc
+    no_context a (Err fault) is faults same stays =
         let c : fault ≡ plain (cause_at d.levels id) = cc in
-        (subst (λ a. FaultsAs a d id address kind fault.cause) (sym (is ∙ detached)) (ap (λ (f : WalkFault). f.cause) c), stays)
-    no_context a (Err fault) is (inr (ticket, stage, leaving)) same stays =
-        let c : fault ≡ plain (cause_at d.levels id) = cc in
-        (subst (λ a. FaultsAs a d id address kind fault.cause) (sym (is ∙ leaving)) (inr (ap (λ (f : WalkFault). f.cause) c)), stays)
+        (subst (λ a. FaultsAs a d id address kind fault.cause) (sym is) (faults fault.cause (ap (λ (f : WalkFault). f.cause) c)), stays)
 
-    -- by the context of its stages, of a device that is attached, and of one that leaves
+    -- by the context of its stages, of a device that is attached, of one that is cut off, and of one that leaves
     pub of_attached : (stage : Stages) (answer : Result Translation WalkFault) → attachment_of parts.driver.devices id ≡ Attached stage
         → ServesBy sure (Ok (context_for stage)) parts.memory address kind old answer new → IsAnswered sure parts.driver id address kind old answer new
-    of_attached stage answer is served = by_cache stage answer (ap owned_stages is) (by_tables stage answer is) (from_tables stage answer (ap owned_stages is) served)
+    of_attached stage answer is served =
+        by_cache stage answer (ap owned_stages is) (λ ticket other at. absurd (never ticket other (sym is ∙ at))) (by_tables stage answer is) (from_tables stage answer (ap owned_stages is) served)
+      where
+        never : (ticket : ℕ) (other : Stages) → Attached stage ≡ Quarantined ticket other → ⊥
+        never ticket other same = cc
+
+    pub of_cut_off : (ticket : ℕ) (stage : Stages) (answer : Result Translation WalkFault) → attachment_of parts.driver.devices id ≡ Quarantined ticket stage → IsPending parts.driver id
+        → ServesBy sure (Ok (context_for stage)) parts.memory address kind old answer new → IsAnswered sure parts.driver id address kind old answer new
+    of_cut_off ticket stage answer is pending served =
+        by_cache stage answer (ap owned_stages is) pending
+        (none_reached stage answer (ap owned_stages is) (ap attached_stages is)
+        (λ cause fault. subst (λ a. FaultsAs a d id address kind cause) (sym is) (inl (pending ticket stage is, fault))))
+        (from_tables stage answer (ap owned_stages is) served)
 
     pub of_leaving : (ticket : ℕ) (stage : Stages) (answer : Result Translation WalkFault) → attachment_of parts.driver.devices id ≡ Leaving ticket stage
         → ServesBy sure (Ok (context_for stage)) parts.memory address kind old answer new → IsAnswered sure parts.driver id address kind old answer new
-    of_leaving ticket stage answer is served = by_cache stage answer (ap owned_stages is) (none_reached ticket stage answer is) (from_tables stage answer (ap owned_stages is) served)
+    of_leaving ticket stage answer is served =
+        by_cache stage answer (ap owned_stages is) (λ t other at. absurd (never t other (sym is ∙ at)))
+        (none_reached stage answer (ap owned_stages is) (ap attached_stages is) (λ cause fault. subst (λ a. FaultsAs a d id address kind cause) (sym is) (inl fault)))
+        (from_tables stage answer (ap owned_stages is) served)
+      where
+        never : (t : ℕ) (other : Stages) → Leaving ticket stage ≡ Quarantined t other → ⊥
+        never t other same = cc
 
     -- by how it is attached, and what is cached
     by_attachment : (a : Attachment) (cached : Option Context) (answer : Result Translation WalkFault) → attachment_of d.devices id ≡ a
-        → ((context : Context) → cached ≡ Some context → option_map context_for (owned_stages a) ≡ Some context)
+        → ((context : Context) → cached ≡ Some context → option_map context_for (owned_stages a) ≡ Some context) → (is_some cached ≡ true → IsPending d id)
         → ServesBy sure (found_context cached (located_as d.levels id (attached_stages a))) parts.memory address kind old answer new → IsAnswered sure d id address kind old answer new
-    by_attachment Detached None answer is true_for served = no_context Detached answer is (inl refl) served.0 served.1
-    by_attachment Detached (Some context) answer is true_for served = let never = true_for context refl in cc
-    by_attachment (Attached stage) None answer is true_for served = of_attached stage answer is served
-    by_attachment (Attached stage) (Some context) answer is true_for served =
+    by_attachment Detached None answer is true_for pends served = no_context Detached answer is (λ cause same. same) served.0 served.1
+    by_attachment Detached (Some context) answer is true_for pends served = let never = true_for context refl in cc
+    by_attachment (Attached stage) None answer is true_for pends served = of_attached stage answer is served
+    by_attachment (Quarantined ticket stage) None answer is true_for pends served = no_context (Quarantined ticket stage) answer is (λ cause same. inr same) served.0 served.1
+    by_attachment (Quarantined ticket stage) (Some context) answer is true_for pends served =
+        let both = true_for context refl in
+        let same : context ≡ context_for stage = cc in
+        of_cut_off ticket stage answer is (pends refl) (subst (λ c. ServesBy sure (Ok c) parts.memory address kind old answer new) same served)
+    by_attachment (Attached stage) (Some context) answer is true_for pends served =
         let both = true_for context refl in
         let same : context ≡ context_for stage = cc in
         of_attached stage answer is (subst (λ c. ServesBy sure (Ok c) parts.memory address kind old answer new) same served)
-    by_attachment (Leaving ticket stage) None answer is true_for served = no_context (Leaving ticket stage) answer is (inr (ticket, stage, refl)) served.0 served.1
-    by_attachment (Leaving ticket stage) (Some context) answer is true_for served =
+    by_attachment (Leaving ticket stage) None answer is true_for pends served = no_context (Leaving ticket stage) answer is (λ cause same. inr same) served.0 served.1
+    by_attachment (Leaving ticket stage) (Some context) answer is true_for pends served =
         let both = true_for context refl in
         let same : context ≡ context_for stage = cc in
         of_leaving ticket stage answer is (subst (λ c. ServesBy sure (Ok c) parts.memory address kind old answer new) same served)
@@ -363,7 +389,7 @@ module _ (laws : ServiceLaws) (parts : Parts) (events : ℕ) (sound : AreSound p
         let located_cached = found_context cached (located_context parts.memory r.ddtp id) in
         let by_mode : ServesIn sure (mode_of d.levels) located_cached parts.memory address kind old answer new =
         subst (λ m. ServesIn sure m located_cached parts.memory address kind old answer new) names.mode served in
-        by_attachment (attachment_of d.devices id) cached answer refl (λ context is. sound.contexts id context is)
+        by_attachment (attachment_of d.devices id) cached answer refl (λ context is. sound.contexts id context is) (λ there. pending_cached parts events sound id there)
         (subst (λ f. ServesBy sure f parts.memory address kind old answer new) (found_as id cached)
         (served_in sure d.levels own.sizes.in_range located_cached parts.memory address kind old answer new by_mode))
 

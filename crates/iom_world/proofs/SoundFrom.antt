@@ -7,6 +7,7 @@ use Rattle.iom_command_queue.specs.OpenSlots.{OpenSlots}
 use Rattle.iom_base.specs.declared.owner.Owner.{Owner}
 use Rattle.iom_base.specs.declared.owner.Owner.TheVariants.{System}
 use Rattle.iom_command_queue.specs.Waiting.{commands_in}
+use Rattle.iom_driver.specs.Fences.{last_fence, fence_of}
 use Rattle.iom_driver.specs.Devices.{attachment_of}
 use Rattle.iom_driver.specs.Laws.{KeepsReserved, KeepsRing, LeavesCommands, LeavesAllElse}
 use Rattle.iom_driver.specs.Layout.{AreFixed, command_frame, completion_frame, completion_address}
@@ -18,7 +19,7 @@ use Rattle.iom_iommu.specs.Parts.{stock_of, registers_of, flights_of, frames_of,
 use Rattle.iom_inflight.specs.Flights.{Flights}
 use Rattle.iom_phys_mem.specs.Words.{word_at}
 use Rattle.iom_registers.specs.declared.registers.Registers.{Registers}
-use Rattle.iom_registers.specs.Queues.{is_processing_commands}
+use Rattle.iom_registers.specs.Queues.{command_status}
 use Rattle.iom_table_frames.specs.Marks.{is_marked}
 use Rattle.iom_world.specs.Devices.{shown_attachment}
 use Rattle.iom_world.specs.Parts.{Parts}
@@ -29,7 +30,7 @@ use Rattle.iom_world.specs.Sound.{AreSound, ContextsAreTrue, row_ids}
 use Rattle.iom_world.proofs.DriverLemmas.{IsSoundDriver}
 use Rattle.iom_world.proofs.PartsLemmas.{StaysReady}
 use Rattle.iom_world.proofs.SceneSteps.{KeepsGrants, KeepsQueue}
-use Rattle.iom_world.proofs.SoundLemmas.{same_epochs, traffic_kept, kinds_kept}
+use Rattle.iom_world.proofs.SoundLemmas.{same_epochs, traffic_kept, kinds_kept, still_unmarked}
 
 -- a frame that isn't marked is nobody's, and none that is somebody's
 pub unmarked : (marks : List (Option Owner)) (frame : ℕ) → frame < length marks → is_marked marks frame ≡ false → slice_get marks frame ≡ Some None
@@ -85,6 +86,9 @@ module _ (old new : Parts) (events : ℕ) (sound : AreSound old events) (own : I
     address = ap completion_address leaves.size;
     given = ap (λ (d : DriverState). d.given) leaves.driver;
     confirmed = ap (λ (d : DriverState). d.confirmed) leaves.driver;
+    last_fence = ap (λ (d : DriverState). last_fence d) leaves.driver;
+    fences = ap (λ (d : DriverState). fence_of d) leaves.driver;
+    stopped = ap (λ (r : Registers). (command_status r).cmd_to) leaves.registers;
     kinds = kinds_kept old new leaves.devices;
     attachments = λ id. ap (λ (d : DriverState). shown_attachment (attachment_of d.devices id)) leaves.driver;
     spaces = λ id. ap (λ (d : DriverState). space_at d.devices id) leaves.driver;
@@ -102,7 +106,7 @@ module _ (old new : Parts) (events : ℕ) (sound : AreSound old events) (own : I
         ready = rw leaves.driver
             (stays old.memory new.memory (registers_of old.iommu) (registers_of new.iommu) sound.ready keeps (subst (λ s. KeepsRing (registers_of old.iommu) s) (sym leaves.registers) ring));
         started = rw leaves.driver sound.started;
-        processing = ap is_processing_commands leaves.registers ∙ sound.processing;
+        unmarked = still_unmarked (registers_of old.iommu) (registers_of new.iommu) (ap command_status leaves.registers) sound.unmarked;
         size = leaves.frames ∙ sound.size ∙ sym leaves.size;
         known = record {
           own_ids = rw leaves.devices sound.known.own_ids;
@@ -114,7 +118,6 @@ module _ (old new : Parts) (events : ℕ) (sound : AreSound old events) (own : I
         };
         serials = subst (λ (s : OpenSlots). s.last ≤ events) (sym leaves.slots) sound.serials;
         epochs = same_epochs old new events sound leaves.devices;
-        confirmed = rw (same_done, leaves.driver) sound.confirmed;
         small = rw leaves.driver sound.small;
         counted = counted;
         contexts = contexts;
@@ -159,6 +162,9 @@ module _ (old new : Parts) (events : ℕ) (sound : AreSound old events) (own : I
     address = ap completion_address leaves.else_same.size;
     given = ap (λ (d : DriverState). d.given) leaves.driver;
     confirmed = ap (λ (d : DriverState). d.confirmed) leaves.driver;
+    last_fence = ap (λ (d : DriverState). last_fence d) leaves.driver;
+    fences = ap (λ (d : DriverState). fence_of d) leaves.driver;
+    stopped = ap (λ c. c.cmd_to) leaves.else_same.registers.status;
     kinds = kinds_kept old new leaves.devices;
     attachments = λ id. ap (λ (d : DriverState). shown_attachment (attachment_of d.devices id)) leaves.driver;
     spaces = λ id. ap (λ (d : DriverState). space_at d.devices id) leaves.driver;
@@ -171,7 +177,7 @@ module _ (old new : Parts) (events : ℕ) (sound : AreSound old events) (own : I
   report_sound counted contexts scene = record {
     ready = leaves.ready;
     started = rw leaves.driver sound.started;
-    processing = rw leaves.else_same.registers.status sound.processing;
+    unmarked = still_unmarked (registers_of old.iommu) (registers_of new.iommu) leaves.else_same.registers.status sound.unmarked;
     size = leaves.frames ∙ sound.size ∙ sym leaves.else_same.size;
     known = record {
       own_ids = rw leaves.devices sound.known.own_ids;
@@ -183,7 +189,6 @@ module _ (old new : Parts) (events : ℕ) (sound : AreSound old events) (own : I
     };
     serials = subst (λ (s : OpenSlots). s.last ≤ events) (sym leaves.slots) sound.serials;
     epochs = same_epochs old new events sound leaves.devices;
-    confirmed = rw (report_done, leaves.driver) sound.confirmed;
     small = rw leaves.driver sound.small;
     counted = counted;
     contexts = contexts;

@@ -1,5 +1,5 @@
 -- What the facts that a world carries give at once, and how they stay where little changes.
-use Rattle.std.proofs.Common.{zero, suc, ◌≡◌, ◌*◌, ◌/◌, ◌^◌, ◌≤◌, ◌<◌, ◌∙◌, is_some, ℕ, Bool, true, false, List, [], ◌∷◌, length, Some, slice_get, refl, sym, ap, subst, arith}
+use Rattle.std.proofs.Common.{zero, suc, ◌≡◌, ◌*◌, ◌/◌, ◌^◌, ◌≤◌, ◌<◌, ◌∙◌, ◌||◌, not, is_some, ℕ, Bool, true, false, List, [], ◌∷◌, length, Some, slice_get, refl, sym, ap, subst, arith}
 use Rattle.std.specs.Option.{option_map_or}
 use Rattle.std.proofs.Math.Logic.{∥∥₁_elim}
 use Rattle.std.proofs.Props.{props}
@@ -11,6 +11,7 @@ use Rattle.iom_copies.specs.Faithful.{IsFaithful}
 use Rattle.iom_copies.specs.Scene.{Scene}
 use Rattle.iom_copies.proofs.ToComeLemmas.{rise_le}
 use Rattle.iom_device_dir.specs.declared.context.Context.{Context}
+use Rattle.iom_driver.specs.Fences.{last_fence}
 use Rattle.iom_driver.specs.Devices.{attachment_of}
 use Rattle.iom_driver.specs.Layout.{AreFixed, command_frame, completion_frame, completion_address}
 use Rattle.iom_driver.specs.Ready.{IsReady}
@@ -20,13 +21,14 @@ use Rattle.iom_ledger.specs.Refusals.{NoneApplies}
 use Rattle.iom_ledger.specs.declared.refusal.Refusal.{Refusal}
 use Rattle.iom_machine.specs.declared.state.Attachment.TheVariants.{Detached}
 use Rattle.iom_phys_mem.specs.Words.{word_at}
-use Rattle.iom_registers.specs.Queues.{is_processing_commands}
+use Rattle.iom_registers.specs.declared.registers.Registers.{Registers}
+use Rattle.iom_registers.specs.Queues.{command_status, is_processing_commands}
 use Rattle.iom_world.specs.Devices.{shown_attachment}
 use Rattle.iom_world.specs.Parts.{Parts}
 use Rattle.iom_world.specs.Queued.{completed_in}
 use Rattle.iom_world.specs.Read.{values_of}
 use Rattle.iom_world.specs.Scenes.{IsSceneOf, HasFaithfulScene}
-use Rattle.iom_world.specs.Sound.{AreSound, AreKnown, ContextsAreTrue}
+use Rattle.iom_world.specs.Sound.{AreSound, AreKnown, ContextsAreTrue, IsUnmarked}
 use Rattle.iom_world.proofs.DriverLemmas.{IsSoundDriver}
 use Rattle.iom_world.specs.declared.device.Device.{Device}
 use Rattle.iom_world.specs.Caches.{kind_in}
@@ -36,17 +38,17 @@ use Rattle.iom_world.specs.Caches.{epoch_in}
 le_prop : (a b : ℕ) → IsProp (a ≤ b)
 le_prop a b = hlevel props
 
--- the last fence that was done isn't above the last ticket that was given
-pub completed_given : (parts : Parts) (events : ℕ) → AreSound parts events → completed_in parts.memory ≤ parts.driver.given
+-- the last fence that was done isn't above the last that was queued
+pub completed_given : (parts : Parts) (events : ℕ) → AreSound parts events → completed_in parts.memory ≤ last_fence parts.driver
 completed_given parts events sound =
-    ∥∥₁_elim sound.copies (le_prop (completed_in parts.memory) parts.driver.given)
+    ∥∥₁_elim sound.copies (le_prop (completed_in parts.memory) (last_fence parts.driver))
     (λ (scene, shows, facts). by scene shows facts)
   where
-    by : (scene : Scene) → IsSceneOf (values_of parts) scene → IsFaithful scene → completed_in parts.memory ≤ parts.driver.given
+    by : (scene : Scene) → IsSceneOf (values_of parts) scene → IsFaithful scene → completed_in parts.memory ≤ last_fence parts.driver
     by scene shows facts =
         let low = rise_le scene.completed scene.waiting scene.last_fence facts.order.fences in
         let done : scene.completed ≡ completed_in parts.memory = shows.completed in
-        let last : scene.last_fence ≡ parts.driver.given = shows.last_fence in
+        let last : scene.last_fence ≡ last_fence parts.driver = shows.last_fence in
         omega (arith, low, done, last)
 
 -- no context of a detached device is cached
@@ -69,6 +71,20 @@ same_completed m n size same =
     ap (λ k. option_map_or (λ word. word) (word_at 4 n (completion_address k)) 0) size
     ∙ ap (λ o. option_map_or (λ word. word) o 0) (word_of_frame m n (completion_frame (length m)) same)
 
+-- nothing is wrong where the status is the same
+pub still_unmarked : (r s : Registers) → command_status s ≡ command_status r → IsUnmarked r → IsUnmarked s
+still_unmarked r s same unmarked = record { loaded = ap (λ c. c.cqmf) same ∙ unmarked.loaded; legal = ap (λ c. c.cmd_ill) same ∙ unmarked.legal }
+
+-- commands are taken, unless a fence timed out
+pub processes : (parts : Parts) (events : ℕ) → AreSound parts events → is_processing_commands (registers_of parts.iommu) ≡ not (command_status (registers_of parts.iommu)).cmd_to
+processes parts events sound =
+    let r = registers_of parts.iommu in
+    rw ((sound.ready.ring sound.started).on, sound.unmarked.loaded, sound.unmarked.legal) (by (command_status r).cmd_to)
+  where
+    by : (timed_out : Bool) → not (timed_out || false) ≡ not timed_out
+    by true = refl
+    by false = refl
+
 -- memory is as large as it was, and the completion word's frame has its bytes
 pub record LeavesWord (old new : Parts) : Type 0 where
   pub size : length new.memory ≡ length old.memory
@@ -76,22 +92,21 @@ pub record LeavesWord (old new : Parts) : Type 0 where
 
 -- and of the IOMMU all stays but its rows, and the index that software writes
 pub record LeavesIommu (old new : Parts) : Type 0 where
-  pub processing : is_processing_commands (registers_of new.iommu) ≡ is_processing_commands (registers_of old.iommu)
+  pub status : command_status (registers_of new.iommu) ≡ command_status (registers_of old.iommu)
   pub frames : frames_of new.iommu ≡ frames_of old.iommu
   pub so_far : (flights_of new.iommu).so_far ≡ (flights_of old.iommu).so_far
   pub slots : slots_of new.iommu ≡ slots_of old.iommu
 
 -- so the facts stay, where these do
 pub sound_from : (old new : Parts) (events : ℕ) → AreSound old events → LeavesWord old new → LeavesIommu old new → new.driver.started ≡ old.driver.started
-    → IsReady new.driver new.memory (registers_of new.iommu) → AreKnown new → ((id : ℕ) → epoch_in new.devices id ≤ events) → new.driver.confirmed ≤ completed_in old.memory → new.driver.given < 2 ^ 32
+    → IsReady new.driver new.memory (registers_of new.iommu) → AreKnown new → ((id : ℕ) → epoch_in new.devices id ≤ events) → new.driver.given < 2 ^ 32
     → ContextsAreTrue new → ∥ HasFaithfulScene (values_of new) ∥₁ → AreSound new events
-sound_from old new events sound leaves iommu started ready known epochs confirmed small contexts copies = record {
+sound_from old new events sound leaves iommu started ready known epochs small contexts copies = record {
   ready = ready;
   started = started ∙ sound.started;
-  processing = iommu.processing ∙ sound.processing;
+  unmarked = still_unmarked (registers_of old.iommu) (registers_of new.iommu) iommu.status sound.unmarked;
   size = iommu.frames ∙ sound.size ∙ sym leaves.size;
   known = known;
-  confirmed = subst (λ done. new.driver.confirmed ≤ done) (sym (same_completed old.memory new.memory leaves.size leaves.word)) confirmed;
   small = small;
   counted = subst (λ n. n ≤ events) (sym iommu.so_far) sound.counted;
   serials = subst (λ (s : OpenSlots). s.last ≤ events) (sym iommu.slots) sound.serials;
@@ -118,7 +133,7 @@ kinds_kept old new same id = ap (λ (ds : List Device). kind_in ds id) same
 -- the IOMMU is the same
 pub same_iommu : (old new : Parts) → new.iommu ≡ old.iommu → LeavesIommu old new
 same_iommu old new same = record {
-  processing = ap (λ i. is_processing_commands (registers_of i)) same;
+  status = ap (λ i. command_status (registers_of i)) same;
   frames = ap frames_of same;
   so_far = ap (λ i. (flights_of i).so_far) same;
   slots = ap slots_of same;

@@ -11,6 +11,7 @@ use Rattle.iom_base.specs.declared.owner.Owner.TheVariants.{System}
 use Rattle.iom_device_dir.specs.declared.context.Context.{Context}
 use Rattle.iom_copies.specs.Laws.{scene_at_power_on}
 use Rattle.iom_copies.proofs.OccurrenceLemmas.{faithful_at_power_on}
+use Rattle.iom_driver.specs.Fences.{last_fence, fence_of}
 use Rattle.iom_driver.specs.Calls.{IsOpening, Starts, turned_on}
 use Rattle.iom_driver.specs.Devices.{attachment_of}
 use Rattle.iom_driver.specs.Layout.{completion_address, directory_frame, ddtp_of, cqb_of, fqb_of}
@@ -27,8 +28,8 @@ use Rattle.iom_phys_mem.specs.Words.{zeroed, with_word, word_at}
 use Rattle.iom_phys_mem.proofs.Stores.{put_word, word_back}
 use Rattle.iom_registers.specs.declared.register.Register.TheVariants.{Ddtp, Cqb, Cqcsr, Fqb, Fqcsr}
 use Rattle.iom_registers.specs.declared.registers.Registers.{Registers}
-use Rattle.iom_registers.specs.Table.{written}
-use Rattle.iom_registers.specs.Queues.{is_command_queue_on, is_processing_commands}
+use Rattle.iom_registers.specs.Table.{written, at_power_on}
+use Rattle.iom_registers.specs.Queues.{command_status, is_command_queue_on}
 use Rattle.iom_table_frames.specs.Marks.{opening_marks}
 use Rattle.iom_tlb.specs.declared.trans_cache.Translation.{Translation}
 use Rattle.iom_tlb.specs.Content.{Key}
@@ -41,7 +42,7 @@ use Rattle.iom_world.specs.Read.{space_at, values_of, accesses_of}
 use Rattle.iom_world.specs.Scenes.{IsSceneOf}
 use Rattle.iom_world.specs.Frames.{ShowsFrames}
 use Rattle.iom_world.specs.Shows.{PartsShow}
-use Rattle.iom_world.specs.Sound.{AreSound, known_ids, ids_of, row_ids, HasAsker}
+use Rattle.iom_world.specs.Sound.{AreSound, known_ids, ids_of, row_ids, HasAsker, IsUnmarked}
 use Rattle.iom_world.proofs.FrameLemmas.{shows_reserved}
 use Rattle.iom_copies.specs.Attachments.{caches_translations}
 use Rattle.iom_fabric.specs.declared.fabric.OnLink.{OnLink}
@@ -210,18 +211,27 @@ module _ (n levels : ℕ) (first next : DriverState) (before memory : List (List
   completed : completed_in memory ≡ 0
   completed = ap completed_in memory_is ∙ completed_zero n started.size.0
 
-  driver_is : next ≡ record first { marks = opening_marks n; devices = []; levels = levels; started = true; given = 0; confirmed = 0 }
+  driver_is : next ≡ record first { marks = opening_marks n; devices = []; levels = levels; started = true; given = 0; confirmed = 0; restarts = 0; restarted = 0 }
   driver_is = started.starts.driver ∙ ap (λ (d : DriverState). record d { started = true }) started.opening_driver.rest
 
   agrees : Agrees next.ledger []
   agrees = subst (λ d. Agrees d.ledger []) (sym started.starts.driver) started.opening_driver.ledger
 
   -- the registers after they were written
-  processes : is_processing_commands (registers_of iommu) ≡ true
-  processes =
-      ap (λ i. is_processing_commands (registers_of i)) started.starts.registers
-      ∙ ap (λ (r : Registers). is_processing_commands (written (written (written (written (written r Ddtp (ddtp_of (length before) first.levels)) Cqb (cqb_of (length before))) Cqcsr 1) Fqb (fqb_of (length before))) Fqcsr 1))
-      started.power_on.registers
+  abbrev writes : Registers → Registers
+  writes r = written (written (written (written (written r Ddtp (ddtp_of (length before) first.levels)) Cqb (cqb_of (length before))) Cqcsr 1) Fqb (fqb_of (length before))) Fqcsr 1
+
+  registers_are : registers_of iommu ≡ writes at_power_on
+  registers_are = ap (λ i. registers_of i) started.starts.registers ∙ ap writes started.power_on.registers
+
+  unmarked : IsUnmarked (registers_of iommu)
+  unmarked = record {
+    loaded = ap (λ (r : Registers). (command_status r).cqmf) registers_are;
+    legal = ap (λ (r : Registers). (command_status r).cmd_ill) registers_are;
+  }
+
+  not_stopped : false ≡ (command_status (registers_of iommu)).cmd_to
+  not_stopped = sym (ap (λ (r : Registers). (command_status r).cmd_to) registers_are)
 
   rows_none : (flights_of iommu).rows ≡ []
   rows_none = ap (λ i. (flights_of i).rows) started.starts.registers ∙ ap (λ f. f.rows) started.power_on.flights
@@ -275,8 +285,8 @@ module _ (n levels : ℕ) (first next : DriverState) (before memory : List (List
     ledger = agrees;
     waiting = subst (λ l. AreQueuedAs (completion_address (length memory)) (space_at next.devices) l []) (sym started.starts.empty) tt;
     completed = sym completed;
-    last_fence = sym given_none;
-    pending = sym (ap (pending_after next.confirmed) {x = next.given - next.confirmed} {y = 0} (omega (arith, given_none)));
+    last_fence = sym (ap (λ (d : DriverState). last_fence d) driver_is);
+    pending = sym (ap (pending_after (fence_of next) next.confirmed) {x = next.given - next.confirmed} {y = 0} (omega (arith, given_none)));
     given = sym given_none;
     confirmed = sym confirmed_none;
     accepted = sym none_accepted;
@@ -291,7 +301,7 @@ module _ (n levels : ℕ) (first next : DriverState) (before memory : List (List
         ap (λ (ds : List Device). traffic_of ds fabric (slots_of iommu)) started.unplugged
         ∙ ap (λ (ms : List OnLink). traffic_of [] ms (slots_of iommu)) started.quiet
         ∙ ap (traffic_of [] []) none_open);
-    goes_on = refl;
+    stopped = not_stopped;
   }
 
   no_context : (id : ℕ) (context : Context) → contexts_of iommu id ≡ Some context → ⊥
@@ -301,7 +311,7 @@ module _ (n levels : ℕ) (first next : DriverState) (before memory : List (List
   sound_started = record {
     ready = started.ready;
     started = ap (λ (d : DriverState). d.started) started.starts.driver;
-    processing = processes;
+    unmarked = unmarked;
     size = ap frames_of started.starts.registers ∙ started.power_on.frames ∙ sym (ap (λ m. length m) memory_is ∙ length-replicate n zeroed);
     known = record {
       own_ids = λ j k one other at at' same. absurd (none_there j one (subst (λ ds. slice_get ds j ≡ Some one) started.unplugged at));
@@ -313,7 +323,6 @@ module _ (n levels : ℕ) (first next : DriverState) (before memory : List (List
     };
     serials = rw none_open (omega arith);
     epochs = λ id. rw started.unplugged (omega arith);
-    confirmed = rw confirmed_none (omega arith);
     small = rw given_none (omega arith);
     counted = rw none_accepted (omega arith);
     contexts = λ id context cached. absurd (no_context id context cached);
@@ -337,6 +346,7 @@ module _ (n levels : ℕ) (first next : DriverState) (before memory : List (List
     devices = rw started.unplugged refl;
     given = rw given_none refl;
     confirmed = rw confirmed_none refl;
+    all_earlier = λ ticket above low. let none = confirmed_none in absurd (omega (arith, above, low, none));
     none_later = λ ticket later. refl;
     levels = rw (ap (λ (d : DriverState). d.levels) driver_is) refl;
   }

@@ -25,6 +25,7 @@ shows_still old new state memory flights devices driver agrees shows = record {
   devices = rw (devices, flights, ap (λ (d : DriverState). d.devices) driver) shows.devices;
   given = shows.given ∙ sym (ap (λ (d : DriverState). d.given) driver);
   confirmed = shows.confirmed ∙ sym (ap (λ (d : DriverState). d.confirmed) driver);
+  all_earlier = rw (ap (λ (d : DriverState). d.confirmed) driver) shows.all_earlier;
   none_later = rw (ap (λ (d : DriverState). d.confirmed) driver) shows.none_later;
   levels = shows.levels ∙ sym (ap (λ (d : DriverState). d.levels) driver);
 }

@@ -2,19 +2,24 @@
 use Rattle.std.proofs.Common.{◌≡◌, ◌∙◌, inl, inr, ℕ, true, Option, None, Some, Result, Ok, Err, refl, sym, ap, subst, arith}
 use Rattle.iom_base.specs.declared.access.Access.{Access}
 use Rattle.iom_base.specs.Accesses.{IsWithinPage, page_of}
-use Rattle.iom_driver.specs.Devices.{attachment_of}
+use Rattle.iom_base.specs.declared.cause.Cause.{Cause}
+use Rattle.iom_driver.specs.declared.device.Attachment.TheVariants as attached
+use Rattle.iom_driver.specs.declared.device.Stages.{Stages}
+use Rattle.iom_driver.specs.Devices.{attachment_of, attached_stages}
 use Rattle.iom_inflight.specs.Calls.{IsAccepted, HasRoom}
 use Rattle.iom_iommu.specs.declared.reply.Reply.{Reply}
 use Rattle.iom_iommu.specs.declared.reply.Reply.TheVariants.{Accepted, Busy, BadSpan, Fault}
-use Rattle.iom_iommu.specs.Parts.{flights_of}
-use Rattle.iom_iommu.specs.Translated.{AnswersTranslated, AcceptsTranslated}
+use Rattle.iom_iommu.specs.Parts.{flights_of, registers_of, contexts_of}
+use Rattle.iom_iommu.specs.Service.{ats_context_for}
+use Rattle.iom_iommu.specs.Translated.{AnswersTranslated, AcceptsTranslated, RefusesTranslated}
 use Rattle.iom_machine.specs.declared.outcome.Outcome.{Outcome}
 use Rattle.iom_machine.specs.declared.outcome.Outcome.TheVariants as outcome
 use Rattle.iom_machine.specs.declared.state.Device as machine
 use Rattle.iom_machine.specs.declared.state.State.{State}
 use Rattle.iom_machine.specs.Kinds.{sends_through_cache}
 use Rattle.iom_machine.specs.Machine.{RequestsThroughCache}
-use Rattle.iom_machine.specs.Requests.{with_accepted}
+use Rattle.iom_machine.specs.Requests.{with_accepted, cause_without_context}
+use Rattle.iom_machine.specs.Translated.{MayLackContext}
 use Rattle.iom_machine.specs.ThroughCache.{at_frame, MayGoThrough, MayAnswerThroughCache, state_after_cached}
 use Rattle.iom_stage_walk.specs.declared.walked.WalkFault.{WalkFault}
 use Rattle.iom_tlb.specs.declared.trans_cache.Translation.{Translation}
@@ -24,19 +29,24 @@ use Rattle.iom_world.specs.Requests.{reply_told_of}
 use Rattle.iom_world.specs.Shows.{PartsShow}
 use Rattle.iom_world.specs.Sound.{AreSound}
 use Rattle.iom_world.specs.ThroughCache.{AsksThroughCache, TriesCache, FindsFrame, cached_frame}
+use Rattle.iom_world.proofs.AtsContexts.{finds_none}
 use Rattle.iom_world.proofs.DriverLemmas.{IsSoundDriver}
-use Rattle.iom_world.proofs.EntryMay.{HasEntry, found_entry, entry_page, entry_may}
+use Rattle.iom_world.proofs.EntryMay.{HasEntry, IsUsable, found_entry, usable_or, entry_page, entry_may}
 use Rattle.iom_world.proofs.PresentLemmas.{kind_present}
-use Rattle.iom_world.proofs.RequestStep.{acts_at, acts_unable, acts_absent, kind_found, shows_same, shows_where, is_busy, not_busy, accepted_shown}
+use Rattle.iom_world.proofs.RequestStep.{acts_at, acts_unable, acts_absent, kind_found, shows_same, shows_where, shows_reported, is_busy, not_busy, accepted_shown}
 use Rattle.iom_world.proofs.RowPlaces.{IsFound, present_found}
-use Rattle.iom_world.proofs.ServedLemmas.{ServiceLaws}
+use Rattle.iom_world.proofs.ServedLemmas.{ServiceLaws, cause_at}
+use Rattle.iom_world.proofs.PartsLemmas.{StaysReported}
+use Rattle.iom_world.proofs.RequestKeeps.{report_leaves}
+use Rattle.iom_world.proofs.TranslatedKeeps.{never_accepted}
+use Rattle.iom_world.proofs.TranslatedStep.{told_cause}
 use Rattle.iom_world.proofs.ThroughCacheKeeps.{accepted_frame}
 
 -- what it leads to: the machine may answer so, on some frame, and shows the parts then
 abbrev Steps : State → ℕ → Access → Outcome → Parts → Type 0
 Steps state id access told new = (frame : ℕ) × (next : State) × RequestsThroughCache frame state id access told next × PartsShow new next
 
-module _ (laws : ServiceLaws) (old new : Parts) (events id : ℕ) (access : Access) (sound : AreSound old events) (own : IsSoundDriver old.driver) (state : State) (shows : PartsShow old state)
+module _ (laws : ServiceLaws) (old new : Parts) (events id : ℕ) (access : Access) (sound : AreSound old events) (own : IsSoundDriver old.driver) (reported : StaysReported old.driver) (state : State) (shows : PartsShow old state)
     (is : IsFound old.driver.devices (flights_of old.iommu).rows old.devices id) (able : sends_through_cache is.device.kind ≡ true) where
   abbrev MayTell : ℕ → State → Outcome → machine.Device → Type 0
   MayTell frame next told device = MayAnswerThroughCache state device access frame told × (next ≡ state_after_cached state device access frame told)
@@ -47,13 +57,13 @@ module _ (laws : ServiceLaws) (old new : Parts) (events id : ℕ) (access : Acce
 
   -- of an entry that was found
   module _ (within : IsWithinPage access) (room : HasRoom (flights_of old.iommu) id) (frame : ℕ) (entry : HasEntry old.devices id (page_of access) access.kind frame)
-      (driver : new.driver ≡ old.driver) (devices : new.devices ≡ old.devices) where
+      (driver : new.driver ≡ old.driver) (devices : new.devices ≡ old.devices) (fabric : new.fabric ≡ old.fabric) where
     unchanged : new.memory ≡ old.memory → new.iommu ≡ old.iommu → PartsShow new state
     unchanged memory iommu = shows_where old new state (rw memory shows.frames) driver devices (ap flights_of iommu) shows
 
-    step_accept : new.memory ≡ old.memory → (number : ℕ) → AcceptsTranslated old.memory old.iommu id (at_frame frame access) number new.iommu → Steps state id access (outcome.Accepted number) new
-    step_accept memory number call =
-        let same = accepted_frame laws old new events id access frame number sound own entry call in
+    step_accept : IsUsable old id → new.memory ≡ old.memory → (number : ℕ) → AcceptsTranslated old.memory old.iommu id (at_frame frame access) number new.iommu → Steps state id access (outcome.Accepted number) new
+    step_accept usable memory number call =
+        let same = accepted_frame laws old new events id access frame number sound own entry usable call in
         let it = subst (λ n. IsAccepted (flights_of old.iommu) id (record { access = at_frame frame access; frame = n }) number (flights_of new.iommu)) same call.accepted in
         let next = with_accepted state (shown_device old.driver.devices (flights_of old.iommu).rows is.device) (at_frame frame access) frame in
         let after = accepted_shown old new events id sound state shows is (at_frame frame access) frame number memory driver devices it in (
@@ -63,7 +73,7 @@ module _ (laws : ServiceLaws) (old new : Parts) (events id : ℕ) (access : Acce
             (
               (within, not_busy old new events id sound state shows is room.row room.stands room.room),
               subst (λ n. MayGoThrough (shown_attachment (attachment_of old.driver.devices n)) state n access frame) (sym is.own)
-                  (entry_may old events id access frame sound own entry state shows),
+                  (entry_may old events id access frame sound own entry usable state shows),
               after.0,
             ),
             refl,
@@ -71,15 +81,39 @@ module _ (laws : ServiceLaws) (old new : Parts) (events id : ℕ) (access : Acce
           after.1,
         )
 
-    -- it isn't refused, as its frame is one of memory, and its device's context lets it through
+    -- one that may be used isn't refused, as its frame is one of memory, and its device's context lets it through
     never_refused : (fault : WalkFault) (page : Translation) → ◌≡◌ {A = Result Translation WalkFault} (Err fault) (Ok page) → ⊥
     never_refused fault page same = cc
 
+    -- of a device that is cut off no context is found
+    step_fault : (ticket : ℕ) (stage : Stages) → attachment_of old.driver.devices id ≡ attached.Quarantined ticket stage
+        → ats_context_for old.memory (registers_of old.iommu) (contexts_of old.iommu) id ≡ Err (cause_at old.driver.levels id)
+        → (cause : Cause) → RefusesTranslated old.memory old.iommu id (at_frame frame access) cause new.memory new.iommu → Steps state id access (outcome.Fault cause) new
+    step_fault ticket stage at found cause call =
+        let leaves = report_leaves old new events id (at_frame frame access) sound reported driver devices fabric cause call in
+        let same = call.told ∙ told_cause old.memory (at_frame frame access) (ats_context_for old.memory (registers_of old.iommu) (contexts_of old.iommu) id) (cause_at old.driver.levels id)
+        call.fault found call.served.0 in
+        step_same (outcome.Fault cause) (
+          (within, not_busy old new events id sound state shows is room.row room.stands room.room),
+          (
+            subst (λ n. MayLackContext (shown_attachment (attachment_of old.driver.devices n))) (sym is.own) (subst (λ a. MayLackContext (shown_attachment a)) (sym at) tt),
+            subst (λ n. cause ≡ cause_without_context state n) (sym is.own) (same ∙ ap (λ l. cause_at l id) (sym shows.levels)),
+          ),
+        )
+        refl (shows_where old new state (shows_reported old new state leaves sound.ready.stand.size own shows) driver devices call.flights shows)
+
     step_replied : (reply : Reply) → AnswersTranslated old.memory old.iommu id (at_frame frame access) reply new.memory new.iommu → Steps state id access (reply_told_of reply) new
-    step_replied (Accepted number) call = step_accept call.1 number call.0
+    step_replied (Accepted number) call = elim (usable_or old id) [
+      | inl usable ↦ step_accept usable call.1 number call.0
+      | inr (ticket, stage, at, none) ↦
+          absurd (never_accepted old id (at_frame frame access) number new (cause_at old.driver.levels id) (finds_none laws old events sound own id (ap attached_stages at) none) call.0)
+    ]
     step_replied Busy call = step_same outcome.Busy (within, is_busy old new events id sound state shows is call.1) refl (unchanged call.3 call.2)
     step_replied BadSpan call = absurd (call.0 (within.0, (let fits = within.1 in omega (arith, fits))))
-    step_replied (Fault cause) call = absurd (never_refused call.fault _ (call.served.0 ∙ entry_page old events id access frame sound own entry laws))
+    step_replied (Fault cause) call = elim (usable_or old id) [
+      | inl usable ↦ absurd (never_refused call.fault _ (call.served.0 ∙ entry_page old events id access frame sound own entry usable laws))
+      | inr (ticket, stage, at, none) ↦ step_fault ticket stage at (finds_none laws old events sound own id (ap attached_stages at) none) cause call
+    ]
 
   by_frame : IsWithinPage access → HasRoom (flights_of old.iommu) id → (found : Option ℕ) → cached_frame old id access ≡ found → (told : Outcome) → FindsFrame found old id access told new
       → Steps state id access told new
@@ -88,7 +122,7 @@ module _ (laws : ServiceLaws) (old new : Parts) (events id : ℕ) (access : Acce
       (step_same outcome.Miss (within, not_busy old new events id sound state shows is room.row room.stands room.room) refl (shows_same old new state misses.1 shows))
   by_frame within room (Some frame) at told answered =
       subst (λ t. Steps state id access t new) (sym answered.told_so)
-      (step_replied within room frame (found_entry old.devices id (page_of access) access.kind frame at) answered.driver answered.devices answered.reply answered.call)
+      (step_replied within room frame (found_entry old.devices id (page_of access) access.kind frame at) answered.driver answered.devices answered.fabric answered.reply answered.call)
 
   tries : (told : Outcome) → TriesCache old id access told new → Steps state id access told new
   tries told (inl outside) = subst (λ t. Steps state id access t new) (sym outside.1) (step_same outcome.BadSpan outside.0 refl (shows_same old new state outside.2 shows))
@@ -97,10 +131,10 @@ module _ (laws : ServiceLaws) (old new : Parts) (events id : ℕ) (access : Acce
       (step_same outcome.Busy (full.0, is_busy old new events id sound state shows is full.1) refl (shows_same old new state full.3 shows))
   tries told (inr (inr finds)) = by_frame finds.0 finds.1 (cached_frame old id access) refl told finds.2
 
-pub through_cache_step : ServiceLaws → (old new : Parts) (events id : ℕ) (access : Access) (told : Outcome) → AreSound old events → IsSoundDriver old.driver
+pub through_cache_step : ServiceLaws → (old new : Parts) (events id : ℕ) (access : Access) (told : Outcome) → AreSound old events → IsSoundDriver old.driver → StaysReported old.driver
     → AsksThroughCache old id access told new → (state : State) → PartsShow old state
     → (frame : ℕ) × (next : State) × RequestsThroughCache frame state id access told next × PartsShow new next
-through_cache_step laws old new events id access told sound own asks state shows = elim asks [
+through_cache_step laws old new events id access told sound own reported asks state shows = elim asks [
   | inl unknown ↦ (
     0,
     state,
@@ -118,6 +152,6 @@ through_cache_step laws old new events id access told sound own asks state shows
   | inr (inr tried) ↦
       let kind = tried.0.0 in
       let is = present_found old.driver.devices (flights_of old.iommu).rows old.devices id (kind_present old.devices id kind tried.0.1) in
-      tries laws old new events id access sound own state shows is
+      tries laws old new events id access sound own reported state shows is
       (ap sends_through_cache (kind_found old.driver.devices (flights_of old.iommu).rows old.devices id kind is tried.0.1) ∙ tried.0.2) told tried.1
 ]

@@ -7,6 +7,7 @@ use Rattle.iom_command_queue.specs.Waiting.{commands_in}
 use Rattle.iom_copies.specs.Deliveries.{MayBeSent}
 use Rattle.iom_copies.specs.Faithful.{IsFaithful}
 use Rattle.iom_copies.specs.Scene.{AtsMessage, Scene}
+use Rattle.iom_driver.specs.Fences.{last_fence, fence_of}
 use Rattle.iom_driver.specs.Devices.{attachment_of, owned_stages_of}
 use Rattle.iom_driver.specs.Directory.{context_for}
 use Rattle.iom_driver.specs.Layout.{completion_address}
@@ -15,7 +16,8 @@ use Rattle.iom_driver.specs.State.{DriverState}
 use Rattle.iom_fabric.specs.declared.fabric.OnLink.{OnLink}
 use Rattle.iom_inflight.specs.Flights.{Flights}
 use Rattle.iom_iommu.specs.Parts.{registers_of, contexts_of, translations_of, flights_of, stock_of, slots_of, frames_of}
-use Rattle.iom_registers.specs.Queues.{is_processing_commands}
+use Rattle.iom_registers.specs.declared.registers.Registers.{Registers}
+use Rattle.iom_registers.specs.Queues.{command_status}
 use Rattle.iom_tlb.specs.Content.{Key}
 use Rattle.iom_world.specs.Caches.{epoch_in, kind_in}
 use Rattle.iom_world.specs.Devices.{shown_attachment}
@@ -26,6 +28,7 @@ use Rattle.iom_world.specs.Read.{space_at, values_of, accesses_of}
 use Rattle.iom_world.specs.Scenes.{IsSceneOf, HasFaithfulScene}
 use Rattle.iom_world.specs.Sound.{AreSound, AreKnown, HasAsker}
 use Rattle.iom_world.specs.Traffic.{messages_in}
+use Rattle.iom_world.proofs.SoundLemmas.{still_unmarked}
 use Rattle.iom_world.proofs.MessageScenes.{KeepsRest, carry_scene}
 
 -- of the IOMMU nothing changes but which requests to invalidate are open
@@ -63,6 +66,9 @@ rest_kept old new keeps = record {
     address = ap (λ m. completion_address (length m)) keeps.memory;
     given = ap (λ (d : DriverState). d.given) keeps.driver;
     confirmed = ap (λ (d : DriverState). d.confirmed) keeps.driver;
+    last_fence = ap (λ (d : DriverState). last_fence d) keeps.driver;
+    fences = ap (λ (d : DriverState). fence_of d) keeps.driver;
+    stopped = ap (λ (r : Registers). (command_status r).cmd_to) keeps.iommu.registers;
     kinds = keeps.kinds;
     attachments = λ id. ap (λ (d : DriverState). shown_attachment (attachment_of d.devices id)) keeps.driver;
     spaces = λ id. ap (λ (d : DriverState). space_at d.devices id) keeps.driver;
@@ -83,10 +89,9 @@ traffic_sound old new events sound keeps known epochs scenes = record {
   ready = subst (IsReady new.driver new.memory) (sym keeps.iommu.registers)
       (subst (λ m. IsReady new.driver m (registers_of old.iommu)) (sym keeps.memory) (subst (λ (d : DriverState). IsReady d old.memory (registers_of old.iommu)) (sym keeps.driver) sound.ready));
   started = ap (λ (d : DriverState). d.started) keeps.driver ∙ sound.started;
-  processing = ap is_processing_commands keeps.iommu.registers ∙ sound.processing;
+  unmarked = still_unmarked (registers_of old.iommu) (registers_of new.iommu) (ap command_status keeps.iommu.registers) sound.unmarked;
   size = keeps.iommu.frames ∙ sound.size ∙ sym (ap (λ m. length m) keeps.memory);
   known = known;
-  confirmed = subst (λ m. new.driver.confirmed ≤ completed_in m) (sym keeps.memory) (subst (λ (d : DriverState). d.confirmed ≤ completed_in old.memory) (sym keeps.driver) sound.confirmed);
   small = subst (λ (d : DriverState). d.given < 2 ^ 32) (sym keeps.driver) sound.small;
   counted = subst (λ (f : Flights). f.so_far ≤ events) (sym keeps.iommu.flights) sound.counted;
   serials = subst (λ (n : ℕ). n ≤ events) (sym keeps.iommu.last) sound.serials;

@@ -8,9 +8,10 @@ use Rattle.iom_base.specs.declared.cause.Cause.TheVariants.{TransactionTypeDisal
 use Rattle.iom_copies.specs.Attachments.{has_ats, caches_translations}
 use Rattle.iom_device_dir.specs.declared.context.Context.{Context}
 use Rattle.iom_driver.specs.declared.device.Attachment.{Attachment}
-use Rattle.iom_driver.specs.declared.device.Attachment.TheVariants.{Detached, Attached, Leaving}
+use Rattle.iom_driver.specs.declared.device.Attachment.TheVariants.{Detached, Attached, Quarantined, Leaving}
 use Rattle.iom_driver.specs.Devices.{attachment_of}
 use Rattle.iom_driver.specs.Directory.{context_for}
+use Rattle.iom_driver.specs.State.{DriverState}
 use Rattle.iom_iommu.specs.declared.reply.Reply.{Reply}
 use Rattle.iom_iommu.specs.declared.reply.Reply.TheVariants.{Accepted, Busy, BadSpan, Fault}
 use Rattle.iom_iommu.specs.Parts.{registers_of, contexts_of, flights_of}
@@ -57,13 +58,16 @@ uncached_plain parts events id kind sound there uncached = by (has_ats (shown_at
 abbrev pub IsNotLet : Attachment → ℕ → ℕ → Cause → Type 0
 IsNotLet a levels id cause = (cause ≡ TransactionTypeDisallowed) ⊎ (MayLackContext (shown_attachment a) × (cause ≡ cause_at levels id))
 
-not_let_by : (a : Attachment) (levels id : ℕ) (found : Result Context Cause) → has_ats (shown_attachment a) ≡ false → FindsAts a levels id found
-    → (cause : Cause) × (found ≡ Err cause) × IsNotLet a levels id cause
-not_let_by Detached levels id found plain_one is = (cause_at levels id, is, inr (tt, refl))
-not_let_by (Attached stage) levels id found plain_one is =
+not_let_by : (a : Attachment) (d : DriverState) (id : ℕ) (found : Result Context Cause) → has_ats (shown_attachment a) ≡ false → FindsAts a d id found
+    → (cause : Cause) × (found ≡ Err cause) × IsNotLet a d.levels id cause
+not_let_by Detached d id found plain_one is = (cause_at d.levels id, is, inr (tt, refl))
+not_let_by (Attached stage) d id found plain_one is =
     (TransactionTypeDisallowed, is ∙ ap (λ (b : Bool). if b then Ok (context_for stage) else Err TransactionTypeDisallowed) plain_one, inl refl)
-not_let_by (Leaving ticket stage) levels id found plain_one (inl is) = (cause_at levels id, is, inr (tt, refl))
-not_let_by (Leaving ticket stage) levels id found plain_one (inr is) =
+not_let_by (Quarantined ticket stage) d id found plain_one (inl is) = (cause_at d.levels id, is, inr (tt, refl))
+not_let_by (Quarantined ticket stage) d id found plain_one (inr (pending, is)) =
+    (TransactionTypeDisallowed, is ∙ ap (λ (b : Bool). if b then Ok (context_for stage) else Err TransactionTypeDisallowed) plain_one, inl refl)
+not_let_by (Leaving ticket stage) d id found plain_one (inl is) = (cause_at d.levels id, is, inr (tt, refl))
+not_let_by (Leaving ticket stage) d id found plain_one (inr is) =
     (TransactionTypeDisallowed, is ∙ ap (λ (b : Bool). if b then Ok (context_for stage) else Err TransactionTypeDisallowed) plain_one, inl refl)
 
 -- WHAT A FORGED REQUEST FINDS
@@ -71,7 +75,7 @@ pub not_let : ServiceLaws → (parts : Parts) (events id : ℕ) (kind : DeviceKi
     → (cause : Cause) × (ats_context_for parts.memory (registers_of parts.iommu) (contexts_of parts.iommu) id ≡ Err cause)
     × IsNotLet (attachment_of parts.driver.devices id) parts.driver.levels id cause
 not_let laws parts events id kind sound own there able =
-    not_let_by (attachment_of parts.driver.devices id) parts.driver.levels id (ats_context_for parts.memory (registers_of parts.iommu) (contexts_of parts.iommu) id)
+    not_let_by (attachment_of parts.driver.devices id) parts.driver id (ats_context_for parts.memory (registers_of parts.iommu) (contexts_of parts.iommu) id)
     (uncached_plain parts events id kind sound there (forges_uncached kind able)) (finds_ats laws parts events sound own id)
 
 -- so it is never accepted

@@ -6,7 +6,7 @@ use Rattle.iom_driver.specs.Laws.{ReadyStays, ReadyAfterRecord}
 use Rattle.iom_page_table.specs.Laws.{WalkReachesLeaf, WalkFaultsElse}
 use Rattle.iom_page_table.specs.GuestLaws.{GuestWalkReachesLeaf, GuestLeaves, GuestWalkFaultsElse, GuestTablesFault}
 use Rattle.iom_machine.specs.declared.event.Event.{Event}
-use Rattle.iom_machine.specs.declared.event.Event.TheVariants.{Read, Write, ReadTranslated, WriteTranslated, ReadThroughCache, WriteThroughCache, Ask, Forge, Deliver, Drop, Repeat}
+use Rattle.iom_machine.specs.declared.event.Event.TheVariants.{Read, Write, ReadTranslated, WriteTranslated, ReadThroughCache, WriteThroughCache, Ask, Forge, Deliver, Drop, Repeat, Quarantine, Revive, Restart, Timeout, Reset}
 use Rattle.iom_stage_walk.specs.Laws.{OneEnd, OneEndSecond, WritesAsReadsSecond, WritesAsReadsBoth, GuestFramesAreLed}
 
 pub record LawsBelow : Type 0 where
@@ -43,3 +43,12 @@ IsOfAts (Deliver place) = Unit {0}
 IsOfAts (Drop place) = Unit {0}
 IsOfAts (Repeat place) = Unit {0}
 IsOfAts _ = ⊥
+
+-- the event is one of what is done about a device that doesn't answer
+abbrev pub IsOfRecovery : Event → Type 0
+IsOfRecovery (Quarantine device) = Unit {0}
+IsOfRecovery (Revive device) = Unit {0}
+IsOfRecovery Restart = Unit {0}
+IsOfRecovery Timeout = Unit {0}
+IsOfRecovery (Reset device) = Unit {0}
+IsOfRecovery _ = ⊥

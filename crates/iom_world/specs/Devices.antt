@@ -8,14 +8,15 @@ use Rattle.iom_driver.specs.declared.device.Device as known
 use Rattle.iom_driver.specs.Devices.{attachment_of}
 use Rattle.iom_inflight.specs.Flights.{NumberedAccess, FlightRow, row_of}
 use Rattle.iom_machine.specs.declared.state.Attachment.{Attachment}
-use Rattle.iom_machine.specs.declared.state.Attachment.TheVariants.{Detached, Attached, Leaving}
+use Rattle.iom_machine.specs.declared.state.Attachment.TheVariants.{Detached, Attached, Quarantined, Leaving}
 use Rattle.iom_machine.specs.declared.state.Device as machine
 use Rattle.iom_world.specs.declared.device.Device.{Device}
 
--- a device is attached in its mode, with ATS or without
+-- how a device is attached, in its mode, with ATS or without
 abbrev pub shown_attachment : driver.Attachment → Attachment
 shown_attachment attached.Detached = Detached
 shown_attachment (attached.Attached stage) = Attached stage.mode stage.ats
+shown_attachment (attached.Quarantined ticket stage) = Quarantined ticket stage.mode stage.ats
 shown_attachment (attached.Leaving ticket stage) = Leaving ticket stage.mode stage.ats
 
 -- what the device has in flight, the oldest first

@@ -32,26 +32,21 @@ use Rattle.iom_machine.specs.declared.outcome.Outcome.TheVariants as outcome
 use Rattle.iom_machine.specs.declared.state.DeviceKind.{DeviceKind}
 use Rattle.iom_machine.specs.Refusals.{has_cache}
 use Rattle.iom_world.specs.declared.device.Device.{Device}
+use Rattle.iom_world.specs.Answers.{told_of, ticket_told_of}
 use Rattle.iom_world.specs.Commits.{CommitsAccess}
 use Rattle.iom_world.specs.Deliveries.{DeliversMessage}
 use Rattle.iom_world.specs.Messages.{with_fetched, AsksQuestion, ForgesCompletion, DropsMessage, RepeatsMessage}
 use Rattle.iom_world.specs.Parts.{Parts}
 use Rattle.iom_world.specs.Processor.{PokesBytes, PeeksBytes, AsksFree}
+use Rattle.iom_world.specs.Recovery.{QuarantinesDevice, RevivesDevice, RestartsQueue, TimesOutFence, ResetsDevice}
 use Rattle.iom_world.specs.Requests.{AsksAccess, AsksTranslated}
 use Rattle.iom_world.specs.ThroughCache.{AsksThroughCache}
 
--- what an answer of the driver is told as: of a call that gives nothing, of a release, and of a poll
-abbrev pub told_of : Result (Unit {0}) Refusal → Outcome
-told_of (Ok done) = outcome.Done
-told_of (Err why) = outcome.Refused why
-
-abbrev pub ticket_told_of : Result driver.Ticket Refusal → Outcome
-ticket_told_of (Ok ticket) = outcome.Ticket ticket.0
-ticket_told_of (Err why) = outcome.Refused why
-
+-- what a poll is told as
 abbrev pub polled_told_of : Result Polled Refusal → Outcome
 polled_told_of (Ok polled) =
-    if polled.count == 0 then outcome.NoneConfirmed else outcome.Confirmed polled.first (polled.first + polled.count - 1)
+    if polled.count == 0 then outcome.NoneConfirmed polled.timed_out
+    else outcome.Confirmed polled.first (polled.first + polled.count - 1) polled.timed_out
 polled_told_of (Err why) = outcome.Refused why
 
 abbrev pub report_told_of : Result (Option Fields) Refusal → Outcome
@@ -170,7 +165,11 @@ Does old (events.Attach id mode ats) told new = AttachesDevice old id mode ats t
 Does old (events.Grant id page frame rights) told new = GrantsPage old id page frame rights told new
 Does old (events.Release id page) told new = ReleasesPage old id page told new
 Does old (events.Detach id) told new = DetachesDevice old id told new
+Does old (events.Quarantine id) told new = QuarantinesDevice old id told new
+Does old (events.Revive id) told new = RevivesDevice old id told new
+Does old events.Restart told new = RestartsQueue old told new
 Does old events.Fetch told new = FetchesNext old told new
+Does old events.Timeout told new = TimesOutFence old told new
 Does old events.Poll told new = PollsTickets old told new
 Does old events.Faults told new = TakesReport old told new
 Does old (events.Read id address len) told new = AsksAccess old id (read_of address len) told new
@@ -185,6 +184,7 @@ Does old (events.Forge id serial) told new = ForgesCompletion old id serial told
 Does old (events.Deliver place) told new = DeliversMessage old place told new
 Does old (events.Drop place) told new = DropsMessage old place told new
 Does old (events.Repeat place) told new = RepeatsMessage old place told new
+Does old (events.Reset id) told new = ResetsDevice old id told new
 Does old (events.Poke address bytes) told new = PokesBytes old address bytes told new
 Does old (events.Peek address len) told new = PeeksBytes old address len told × (new ≡ old)
 Does old (events.Free frame) told new = AsksFree old frame told × (new ≡ old)

@@ -1,8 +1,9 @@
 -- What an event does to a world, and what comes of it.
-use Rattle.std.specs.Prelude.{◌≡◌, ◌+◌, ⊤, List}
+use Rattle.std.specs.Prelude.{◌≡◌, ℕ, ◌+◌, ⊤, true, List, length, Option}
 use Rattle.iom_base.specs.Accesses.{read_of, write_of}
 use Rattle.iom_command_queue.specs.declared.entry.QueueEntry.{QueueEntry}
 use Rattle.iom_command_queue.specs.Waiting.{commands_in}
+use Rattle.iom_driver.specs.Layout.{completion_address}
 use Rattle.iom_iommu.specs.Parts.{registers_of}
 use Rattle.iom_ledger.specs.Changes.{IsUnchanged}
 use Rattle.iom_ledger.specs.declared.refusal.Refusal.{Refusal}
@@ -10,9 +11,12 @@ use Rattle.iom_ledger.specs.History.{History}
 use Rattle.iom_machine.specs.declared.event.Event.{Event}
 use Rattle.iom_machine.specs.declared.event.Event.TheVariants as events
 use Rattle.iom_machine.specs.declared.outcome.Outcome.{Outcome}
-use Rattle.iom_machine.specs.declared.outcome.Outcome.TheVariants.{Refused}
+use Rattle.iom_machine.specs.declared.outcome.Outcome.TheVariants.{Refused, Fetched}
+use Rattle.iom_machine.specs.declared.outcome.Fetched.TheVariants as tells
 use Rattle.iom_machine.specs.declared.state.State.{State}
 use Rattle.iom_machine.specs.Machine.{Step}
+use Rattle.iom_phys_mem.specs.Words.{word_at}
+use Rattle.iom_registers.specs.Queues.{command_status}
 use Rattle.iom_world.specs.declared.world.World.{World}
 use Rattle.iom_world.specs.Does.{Does}
 use Rattle.iom_world.specs.Parts.{Parts}
@@ -37,10 +41,12 @@ SameIfRefused told old new = (why : Refusal) → told ≡ Refused why → AreSam
 abbrev pub waiting_in : Parts → List QueueEntry
 waiting_in parts = commands_in parts.memory (registers_of parts.iommu)
 
--- a release, a detach and a fetch say what they do to the commands that wait, and nothing else changes them
+-- a release, a detach, a quarantine, a restart and a fetch say what they do to the commands that wait, and nothing else changes them
 abbrev pub KeepsCommands : Event → Parts → Parts → Type 0
 KeepsCommands (events.Release device page) old new = ⊤
 KeepsCommands (events.Detach device) old new = ⊤
+KeepsCommands (events.Quarantine device) old new = ⊤
+KeepsCommands events.Restart old new = ⊤
 KeepsCommands events.Fetch old new = ⊤
 KeepsCommands (events.Plug device kind) old new = waiting_in new ≡ waiting_in old
 KeepsCommands (events.Attach device mode ats) old new = waiting_in new ≡ waiting_in old
@@ -59,6 +65,9 @@ KeepsCommands (events.Forge id serial) old new = waiting_in new ≡ waiting_in o
 KeepsCommands (events.Deliver place) old new = waiting_in new ≡ waiting_in old
 KeepsCommands (events.Drop place) old new = waiting_in new ≡ waiting_in old
 KeepsCommands (events.Repeat place) old new = waiting_in new ≡ waiting_in old
+KeepsCommands (events.Revive id) old new = waiting_in new ≡ waiting_in old
+KeepsCommands events.Timeout old new = waiting_in new ≡ waiting_in old
+KeepsCommands (events.Reset id) old new = waiting_in new ≡ waiting_in old
 KeepsCommands (events.Poke address bytes) old new = waiting_in new ≡ waiting_in old
 KeepsCommands (events.Peek address len) old new = waiting_in new ≡ waiting_in old
 KeepsCommands (events.Free frame) old new = waiting_in new ≡ waiting_in old
@@ -72,9 +81,14 @@ ReadsGuestTablesFor (events.Attach id mode ats) old history = ⊤
 ReadsGuestTablesFor (events.Detach id) old history = ⊤
 ReadsGuestTablesFor (events.Grant id page frame rights) old history = ⊤
 ReadsGuestTablesFor (events.Release id page) old history = ⊤
+ReadsGuestTablesFor (events.Quarantine id) old history = ⊤
+ReadsGuestTablesFor (events.Revive id) old history = ⊤
+ReadsGuestTablesFor events.Restart old history = ⊤
 ReadsGuestTablesFor events.Fetch old history = ⊤
+ReadsGuestTablesFor events.Timeout old history = ⊤
 ReadsGuestTablesFor events.Poll old history = ⊤
 ReadsGuestTablesFor events.Faults old history = ⊤
+ReadsGuestTablesFor (events.Reset id) old history = ⊤
 ReadsGuestTablesFor (events.Commit id) old history = ⊤
 ReadsGuestTablesFor (events.ReadTranslated id address len) old history = ⊤
 ReadsGuestTablesFor (events.WriteTranslated id address bytes) old history = ⊤
@@ -89,13 +103,38 @@ ReadsGuestTablesFor (events.Poke address bytes) old history = ⊤
 ReadsGuestTablesFor (events.Peek address len) old history = ⊤
 ReadsGuestTablesFor (events.Free frame) old history = ⊤
 
+-- a fence was given up, and the driver didn't restart since (`cmd_to` of `cqcsr`)
+abbrev pub HasTimedOut : Parts → Type 0
+HasTimedOut parts = (command_status (registers_of parts.iommu)).cmd_to ≡ true
+
+-- what stands in the completion word
+abbrev pub completion_word : Parts → Option ℕ
+completion_word parts = word_at 4 parts.memory (completion_address (length parts.memory))
+
+-- it stays so, and the completion word too: so a poll confirms only tickets whose fence was done before
+abbrev pub RemainsStopped : Parts → Parts → Type 0
+RemainsStopped old new = HasTimedOut new × (completion_word new ≡ completion_word old)
+
+-- a restart ends it, unless it is refused
+abbrev pub MayGoOn : Outcome → Parts → Parts → Type 0
+MayGoOn (Refused why) old new = RemainsStopped old new
+MayGoOn _ old new = ⊤
+
+-- After a fence was given up: each fetch is answered Stopped, and whatever happens but a restart leaves the completion word.
+abbrev pub StaysStopped : Event → Outcome → Parts → Parts → Type 0
+StaysStopped events.Restart told old new = MayGoOn told old new
+StaysStopped events.Fetch told old new = (told ≡ Fetched tells.Stopped) × RemainsStopped old new
+StaysStopped _ told old new = RemainsStopped old new
+
 -- An event that is answered so. It is a lawful step of the ledger machine, from every state that the world shows, to one that it shows then. It does to
--- memory, IOMMU, driver and devices what the call behind it says; commands that wait change by a release, a detach and a fetch alone. A guest's own tables
--- are read from frames that the device may read. A refusal changes nothing. And the event is counted.
+-- memory, IOMMU, driver and devices what the call behind it says; commands that wait change by a release, a detach, a quarantine, a restart and a fetch
+-- alone. A guest's own tables are read from frames that the device may read. From a timeout to the next restart no fence is done. A refusal changes nothing.
+-- And the event is counted.
 pub record Happens (old : World) (event : Event) (told : Outcome) (new : World) : Type 0 where
   pub step : (state : State) → Shows old state → (next : State) × Step state event told next × Shows new next
   pub does : Does (parts_of old) event told (parts_of new)
   pub commands : KeepsCommands event (parts_of old) (parts_of new)
   pub guest : (state : State) → Shows old state → ReadsGuestTablesFor event (parts_of old) state.history
+  pub stopped : HasTimedOut (parts_of old) → StaysStopped event told (parts_of old) (parts_of new)
   pub refused : SameIfRefused told (parts_of old) (parts_of new)
   pub events : new.events ≡ old.events + 1

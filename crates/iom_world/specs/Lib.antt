@@ -21,6 +21,8 @@ pub mod Requests
 pub mod ThroughCache
 pub mod Commits
 pub mod Processor
+pub mod Answers
+pub mod Recovery
 pub mod Does
 pub mod Happens
 pub mod Runs

@@ -68,7 +68,7 @@ ComeBefore device fence (DropContext d ∷ later) = ComeBefore device fence late
 ComeBefore device fence (Invalidate d extent ∷ later) = ComeBefore device fence later
 ComeBefore device fence (Fence number ∷ later) = ComeBefore device fence later
 
--- the tickets after the first number, so many, each waiting for the fence with its own number
-abbrev pub pending_after : ℕ → ℕ → List PendingTicket
-pending_after first zero = []
-pending_after first (suc n) = record { ticket = first + 1; fence = first + 1 } ∷ pending_after (first + 1) n
+-- the tickets after the first number, so many, each waiting for its fence
+abbrev pub pending_after : (ℕ → ℕ) → ℕ → ℕ → List PendingTicket
+pending_after fence_of first zero = []
+pending_after fence_of first (suc n) = record { ticket = first + 1; fence = fence_of (first + 1) } ∷ pending_after fence_of (first + 1) n

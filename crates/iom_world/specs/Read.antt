@@ -8,9 +8,11 @@ use Rattle.iom_copies.specs.Scene.{AccessInFlight}
 use Rattle.iom_driver.specs.declared.device.Device.{Device}
 use Rattle.iom_driver.specs.declared.device.Stages.{Stages}
 use Rattle.iom_driver.specs.Devices.{attachment_of, owned_stages_of}
+use Rattle.iom_driver.specs.Fences.{last_fence, fence_of}
 use Rattle.iom_driver.specs.Layout.{completion_address}
 use Rattle.iom_inflight.specs.Flights.{NumberedAccess, FlightRow}
 use Rattle.iom_iommu.specs.Parts.{registers_of, contexts_of, translations_of, flights_of, stock_of, slots_of}
+use Rattle.iom_registers.specs.Queues.{command_status}
 use Rattle.iom_tlb.specs.declared.space.Space.{Space}
 use Rattle.iom_tlb.specs.declared.space.Space.TheVariants as space
 use Rattle.iom_world.specs.Caches.{kind_in}
@@ -35,7 +37,7 @@ space_in First number = space.First number
 space_in Second number = space.Second number
 space_in Both number = space.Both number number
 
--- that of a device that is attached or leaving
+-- that of a device that is attached, quarantined or leaving
 abbrev pub space_at : List Device → ℕ → Option Space
 space_at devices id = option_map (λ (stage : Stages). space_in stage.mode stage.number) (owned_stages_of devices id)
 
@@ -45,6 +47,8 @@ values_of parts = record {
   address = completion_address (length parts.memory);
   waiting = commands_in parts.memory (registers_of parts.iommu);
   completed = completed_in parts.memory;
+  last_fence = last_fence parts.driver;
+  fence_of = fence_of parts.driver;
   given = parts.driver.given;
   confirmed = parts.driver.confirmed;
   so_far = (flights_of parts.iommu).so_far;
@@ -55,5 +59,6 @@ values_of parts = record {
   space_of = space_at parts.driver.devices;
   translations = translations_of parts.iommu;
   stock = stock_of parts.iommu;
+  is_stopped = (command_status (registers_of parts.iommu)).cmd_to;
   traffic = traffic_of parts.devices parts.fabric (slots_of parts.iommu);
 }

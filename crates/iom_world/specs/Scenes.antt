@@ -1,6 +1,6 @@
 -- What lies between the grants and memory, as values that are read off the parts of a world; and the scene of which the facts on copies speak.
 -- For the facts that a world carries alone; no public contract cites these.
-use Rattle.std.specs.Prelude.{◌≡◌, ℕ, ◌-◌, Bool, true, false, List, Contains, Option, None, Some, ⊤}
+use Rattle.std.specs.Prelude.{◌≡◌, ℕ, ◌-◌, Bool, true, List, Contains, Option, None, Some, ⊤}
 use Rattle.iom_command_queue.specs.declared.entry.QueueEntry.{QueueEntry}
 use Rattle.iom_copies.specs.Faithful.{IsFaithful}
 use Rattle.iom_copies.specs.Queue.{QueuedCommand}
@@ -25,6 +25,9 @@ pub record Values : Type 0 where
   pub waiting : List QueueEntry
   -- the number that the last fence that was done stored
   pub completed : ℕ
+  -- the number of the last fence that was queued, and that of the fence which a ticket waits for
+  pub last_fence : ℕ
+  pub fence_of : ℕ → ℕ
   -- the last ticket that was given, and that was confirmed
   pub given : ℕ
   pub confirmed : ℕ
@@ -41,6 +44,8 @@ pub record Values : Type 0 where
   pub translations : Translations
   -- how many accesses were accepted when the fence at the head was first fetched, if it was
   pub stock : Option ℕ
+  -- whether a fence was given up, and the driver didn't restart since
+  pub is_stopped : Bool
   -- what is under way between the IOMMU and the devices' caches
   pub traffic : Traffic
 
@@ -62,19 +67,19 @@ IsStockOf (Some counted) None = ⊥
 IsStockOf (Some counted) (Some taken) = taken.accepted ≡ counted
 
 -- a leaving device's invalidations are queued in front of the fence of its ticket
-abbrev pub GoesInOrder : ℕ → Attachment → List QueuedCommand → Type 0
-GoesInOrder device Detached waiting = ⊤
-GoesInOrder device (Attached mode ats) waiting = ⊤
-GoesInOrder device (Quarantined ticket mode ats) waiting = ⊤
-GoesInOrder device (Leaving ticket mode ats) waiting = ComeBefore device ticket waiting
+abbrev pub GoesInOrder : (ℕ → ℕ) → ℕ → Attachment → List QueuedCommand → Type 0
+GoesInOrder fence_of device Detached waiting = ⊤
+GoesInOrder fence_of device (Attached mode ats) waiting = ⊤
+GoesInOrder fence_of device (Quarantined ticket mode ats) waiting = ⊤
+GoesInOrder fence_of device (Leaving ticket mode ats) waiting = ComeBefore device (fence_of ticket) waiting
 
 -- the scene is made of these values: of what is cached it may have more
 pub record IsSceneOf (values : Values) (scene : Scene) : Type 0 where
   pub ledger : Agrees values.ledger scene.history
   pub waiting : AreQueuedAs values.address values.space_of values.waiting scene.waiting
   pub completed : scene.completed ≡ values.completed
-  pub last_fence : scene.last_fence ≡ values.given
-  pub pending : scene.pending ≡ pending_after values.confirmed (values.given - values.confirmed)
+  pub last_fence : scene.last_fence ≡ values.last_fence
+  pub pending : scene.pending ≡ pending_after values.fence_of values.confirmed (values.given - values.confirmed)
   pub given : scene.given ≡ values.given
   pub confirmed : scene.confirmed ≡ values.confirmed
   pub accepted : scene.accepted ≡ values.so_far
@@ -85,10 +90,9 @@ pub record IsSceneOf (values : Values) (scene : Scene) : Type 0 where
   pub translations : (key : Key) (translation : Translation) → values.translations key ≡ Some translation
       → IsSomebodys values.space_of scene.translations key translation
   pub stock : IsStockOf values.stock scene.stock
-  pub leaving : (id : ℕ) → GoesInOrder id (values.attachment_of id) scene.waiting
+  pub leaving : (id : ℕ) → GoesInOrder values.fence_of id (values.attachment_of id) scene.waiting
   pub traffic : under_way scene ≡ values.traffic
-  -- no fence times out
-  pub goes_on : scene.is_stopped ≡ false
+  pub stopped : scene.is_stopped ≡ values.is_stopped
 
 -- there is such a scene, of which the facts on copies hold
 abbrev pub HasFaithfulScene : Values → Type 0

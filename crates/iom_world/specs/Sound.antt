@@ -1,6 +1,6 @@
 -- What stays true between the parts of a world, whatever happens.
 -- For the facts that a world carries alone; no public contract cites these.
-use Rattle.std.specs.Prelude.{◌≡◌, ℕ, ◌^◌, ◌≤◌, ◌<◌, Bool, true, List, length, map, Some, slice_get, is_some, ⊤}
+use Rattle.std.specs.Prelude.{◌≡◌, ℕ, ◌^◌, ◌≤◌, ◌<◌, Bool, true, false, List, length, map, Some, slice_get, is_some, ⊤}
 use Rattle.std.specs.List.{All}
 use Rattle.std.specs.Option.{option_map}
 use Rattle.iom_device_dir.specs.declared.context.Context.{Context}
@@ -17,11 +17,11 @@ use Rattle.iom_inflight.specs.Flights.{FlightRow}
 use Rattle.iom_world.specs.OwnIommu.{Iommu}
 use Rattle.iom_copies.specs.Attachments.{caches_translations}
 use Rattle.iom_iommu.specs.Parts.{registers_of, contexts_of, flights_of, slots_of, frames_of}
-use Rattle.iom_registers.specs.Queues.{is_processing_commands}
+use Rattle.iom_registers.specs.declared.registers.Registers.{Registers}
+use Rattle.iom_registers.specs.Queues.{command_status}
 use Rattle.iom_world.specs.declared.device.Device.{Device}
 use Rattle.iom_world.specs.Caches.{device_with, kind_in, epoch_in, HaveTheirCaches}
 use Rattle.iom_world.specs.Parts.{Parts}
-use Rattle.iom_world.specs.Queued.{completed_in}
 use Rattle.iom_world.specs.Read.{values_of}
 use Rattle.iom_world.specs.Scenes.{HasFaithfulScene}
 
@@ -60,21 +60,24 @@ pub record AreKnown (parts : Parts) : Type 0 where
   pub trusted : (id : ℕ) → is_trusted parts.driver.devices id ≡ caches_translations (kind_in parts.devices id)
   pub askers : All (HasAsker parts.devices) parts.fabric
 
--- a context that is cached is that of an attached device, or of one that is leaving, with its root and its number
+-- a context that is cached is that of an attached device, or of one that is quarantined or leaving, with its root and its number
 abbrev pub ContextsAreTrue : Parts → Type 0
 ContextsAreTrue parts = (id : ℕ) (context : Context) → contexts_of parts.iommu id ≡ Some context
     → option_map context_for (owned_stages_of parts.driver.devices id) ≡ Some context
 
--- The driver is started and ready; the IOMMU takes commands, and was built for this memory; they know the devices; no ticket is confirmed whose fence
--- isn't done; no more accesses were accepted, serials given and epochs begun than events came; cached contexts are true; and no copy outlives what it
--- copies.
+-- no command of the driver's was illegal, or couldn't be loaded or done: so the IOMMU takes commands, unless a fence timed out
+pub record IsUnmarked (r : Registers) : Type 0 where
+  pub loaded : (command_status r).cqmf ≡ false
+  pub legal : (command_status r).cmd_ill ≡ false
+
+-- The driver is started and ready; the IOMMU finds nothing wrong with its commands, and was built for this memory; they know the devices; no more accesses
+-- were accepted, serials given and epochs begun than events came; cached contexts are true; and no copy outlives what it copies.
 pub record AreSound (parts : Parts) (events : ℕ) : Type 0 where
   pub ready : IsReady parts.driver parts.memory (registers_of parts.iommu)
   pub started : parts.driver.started ≡ true
-  pub processing : is_processing_commands (registers_of parts.iommu) ≡ true
+  pub unmarked : IsUnmarked (registers_of parts.iommu)
   pub size : frames_of parts.iommu ≡ length parts.memory
   pub known : AreKnown parts
-  pub confirmed : parts.driver.confirmed ≤ completed_in parts.memory
   pub small : parts.driver.given < 2 ^ 32
   pub counted : (flights_of parts.iommu).so_far ≤ events
   pub serials : (slots_of parts.iommu).last ≤ events

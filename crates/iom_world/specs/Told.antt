@@ -5,18 +5,20 @@ use Rattle.arrayvec.specs.ArrayVec.{ArrayVec}
 use Rattle.iom_machine.specs.declared.outcome.Outcome.{Outcome}
 use Rattle.iom_machine.specs.declared.outcome.Outcome.TheVariants as outcome
 use Rattle.iom_world.specs.declared.told.Told.{Told}
-use Rattle.iom_world.specs.declared.told.Told.TheVariants.{Done, Refused, Ticket, Confirmed, NoneConfirmed, Record, NoRecord, Fetched, Accepted, Busy, BadSpan, Fault, Wrote, NothingInFlight, Free, Miss, Sent, Lost, Answered, Kept, Stale, AnswerRefused, Ignored, Invalidated, Closed, NotClosed, Dropped, Repeated, NoMessage}
+use Rattle.iom_world.specs.declared.told.Told.TheVariants.{Done, Refused, Ticket, Confirmed, NoneConfirmed, Record, NoRecord, Fetched, TimedOut, NoEffect, Accepted, Busy, BadSpan, Fault, Wrote, NothingInFlight, Free, Miss, Sent, Lost, Answered, Kept, Stale, AnswerRefused, Ignored, Invalidated, Closed, NotClosed, Dropped, Repeated, NoMessage}
 
 -- the outcome that says the same
 abbrev pub outcome_of : Told → Outcome
 outcome_of Done = outcome.Done
 outcome_of (Refused why) = outcome.Refused why
 outcome_of (Ticket ticket) = outcome.Ticket ticket
-outcome_of (Confirmed first last) = outcome.Confirmed first last
-outcome_of NoneConfirmed = outcome.NoneConfirmed
+outcome_of (Confirmed first last timed_out) = outcome.Confirmed first last timed_out
+outcome_of (NoneConfirmed timed_out) = outcome.NoneConfirmed timed_out
 outcome_of (Record taken) = outcome.Record taken
 outcome_of NoRecord = outcome.NoRecord
 outcome_of (Fetched fetched) = outcome.Fetched fetched
+outcome_of TimedOut = outcome.TimedOut
+outcome_of NoEffect = outcome.NoEffect
 outcome_of (Accepted number) = outcome.Accepted number
 outcome_of Busy = outcome.Busy
 outcome_of BadSpan = outcome.BadSpan

@@ -5,6 +5,7 @@ ghost use Rattle.iom_ats_cache.specs.Cache.{Cache, frame_for};
 ghost use Rattle.iom_world.specs.Caches.{epoch_of, device_with, IsPlaceOf};
 ghost use Rattle.iom_world.specs.Deliveries.{taken_told, TakesInto, Obeys};
 ghost use Rattle.iom_world.specs.Does.{new_cache};
+ghost use Rattle.iom_world.specs.Recovery.{reset_of};
 ghost use Rattle.iom_world.specs.Told.{outcome_of};
 
 use crate::told::Told;
@@ -87,6 +88,17 @@ impl Device {
         match &mut self.cache {
             Some(cache) => Told::of_taken(cache.answer(epoch, page, answer)),
             None => Told::Ignored,
+        }
+    }
+
+    /// Is reset: where it has a cache, that is empty then, and a new epoch has begun.
+    pub(crate) fn reset(&mut self)
+        requires { epoch_of self.old.cache + 1 < 2 ^ 64 }
+        ensures cache { self.new.cache ≡ reset_of self.old.cache }
+        ensures rest { self.new ≡ record self.old { cache = self.new.cache } }
+    {
+        if let Some(cache) = &mut self.cache {
+            cache.reset();
         }
     }
 

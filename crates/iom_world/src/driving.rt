@@ -1,6 +1,7 @@
 // What the driver is asked to do.
 ghost use Rattle.std.specs.Prelude.{◌≡◌, ◌+◌, ◌≤◌, ◌^◌};
-ghost use Rattle.iom_world.specs.Does.{told_of, polled_told_of, report_told_of, ticket_told_of, AttachesDevice, GrantsPage, ReleasesPage, DetachesDevice, PollsTickets, TakesReport};
+ghost use Rattle.iom_world.specs.Answers.{told_of, ticket_told_of};
+ghost use Rattle.iom_world.specs.Does.{polled_told_of, report_told_of, AttachesDevice, GrantsPage, ReleasesPage, DetachesDevice, PollsTickets, TakesReport};
 ghost use Rattle.iom_world.specs.Seen.{parts_of};
 ghost use Rattle.iom_world.specs.Told.{outcome_of};
 
@@ -24,7 +25,7 @@ impl Told {
     }
 
     /// What an answer of the driver that gives a ticket is told as.
-    fn of_ticket(answer: Result<Ticket, Refusal>) -> Told
+    pub(crate) fn of_ticket(answer: Result<Ticket, Refusal>) -> Told
         ensures { outcome_of result ≡ ticket_told_of answer }
     {
         match answer {
@@ -38,12 +39,14 @@ impl Told {
         requires { polled.first + polled.count ≤ 2 ^ 32 }
         ensures { outcome_of result ≡ polled_told_of (Ok polled) }
     {
+        let timed_out = polled.timed_out;
         if polled.count == 0 {
-            return Told::NoneConfirmed;
+            return Told::NoneConfirmed { timed_out };
         }
         Told::Confirmed {
             first: polled.first,
             last: polled.first + (polled.count - 1),
+            timed_out,
         }
     }
 

@@ -19,6 +19,7 @@ mod kept_outcomes;
 mod messages;
 mod plugging;
 mod processor;
+mod recovery;
 mod requests;
 mod run;
 mod start;

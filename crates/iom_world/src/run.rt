@@ -3,7 +3,7 @@ ghost use Rattle.std.specs.Prelude.{◌≡◌, ◌+◌, ◌<◌, ◌≤◌, ◌^
 ghost use Rattle.iom_iommu.specs.Parts.{flights_of};
 ghost use Rattle.iom_machine.specs.declared.state.State.{State};
 ghost use Rattle.iom_machine.specs.Machine.{IsEvent};
-ghost use Rattle.iom_world.specs.Below.{AddressFits, IsOfAts};
+ghost use Rattle.iom_world.specs.Below.{AddressFits, IsOfAts, IsOfRecovery};
 ghost use Rattle.iom_world.specs.Caches.{epoch_in};
 ghost use Rattle.iom_world.specs.Does.{Does};
 ghost use Rattle.iom_world.specs.Happens.{Happens};
@@ -60,6 +60,29 @@ impl World {
         }
     }
 
+    /// An event of what is done about a device that doesn't answer goes to whom it is for; another does nothing.
+    #[inline(never)]
+    fn dispatch_recovery<'a>(
+        &mut self,
+        event: &Event,
+        kept: &'a mut KeptOutcomes,
+    ) -> &'a mut Outcome
+        requires event { IsOfRecovery event.now }
+        requires count { self.old.events < 2 ^ 64 }
+        requires epochs { (id : ℕ) → epoch_in self.old.devices.items id < self.old.events }
+        ensures does { Does (parts_of self.old) event.now result.now (parts_of self.new) }
+        ensures counted { self.new.events ≡ self.old.events }
+    {
+        match event {
+            Event::Quarantine { device } => kept.tell(self.quarantine(*device)),
+            Event::Revive { device } => kept.tell(self.revive(*device)),
+            Event::Restart => kept.tell(self.restart()),
+            Event::Timeout => kept.tell(self.timeout()),
+            Event::Reset { device } => kept.tell(self.reset(*device)),
+            _ => kept.tell(Told::Done),
+        }
+    }
+
     /// The event is counted, and goes to whom it is for.
     // Written into the loop of a run, as `take` is: a call would save and restore registers for each event.
     #[inline(always)]
@@ -99,6 +122,11 @@ impl World {
             Event::Poke { address, bytes } => kept.tell(self.poke(*address, bytes.as_slice())),
             Event::Peek { address, len } => self.peek(*address, *len, kept),
             Event::Free { frame } => kept.tell(self.free(*frame)),
+            Event::Quarantine { .. }
+            | Event::Revive { .. }
+            | Event::Restart
+            | Event::Timeout
+            | Event::Reset { .. } => self.dispatch_recovery(event, kept),
             _ => self.dispatch_ats(event, kept),
         }
     }
@@ -116,7 +144,8 @@ impl World {
 
     /// One event, and what comes of it: a lawful step of the ledger machine from every state that the
     /// world shows. It does to memory, IOMMU, driver and devices what the call behind it says; a guest's
-    /// own tables are read from frames that the device may read; a refusal changes nothing. Each event is counted, whatever
+    /// own tables are read from frames that the device may read; from a timeout to the next restart no
+    /// fence is done; a refusal changes nothing. Each event is counted, whatever
     /// comes of it.
     pub fn step(&mut self, event: &Event) -> Outcome
         requires event { IsEvent event.now }

@@ -16,11 +16,19 @@ pub(crate) enum Told {
     Done,
     Refused(Refusal),
     Ticket(u32),
-    Confirmed { first: u32, last: u32 },
-    NoneConfirmed,
+    Confirmed {
+        first: u32,
+        last: u32,
+        timed_out: bool,
+    },
+    NoneConfirmed {
+        timed_out: bool,
+    },
     Record(FaultRecord),
     NoRecord,
     Fetched(Fetched),
+    TimedOut,
+    NoEffect,
     Accepted(u64),
     Busy,
     BadSpan,
@@ -53,11 +61,21 @@ impl Told {
             Told::Done => Outcome::Done,
             Told::Refused(why) => Outcome::Refused(why),
             Told::Ticket(ticket) => Outcome::Ticket(ticket),
-            Told::Confirmed { first, last } => Outcome::Confirmed { first, last },
-            Told::NoneConfirmed => Outcome::NoneConfirmed,
+            Told::Confirmed {
+                first,
+                last,
+                timed_out,
+            } => Outcome::Confirmed {
+                first,
+                last,
+                timed_out,
+            },
+            Told::NoneConfirmed { timed_out } => Outcome::NoneConfirmed { timed_out },
             Told::Record(record) => Outcome::Record(record),
             Told::NoRecord => Outcome::NoRecord,
             Told::Fetched(fetched) => Outcome::Fetched(fetched),
+            Told::TimedOut => Outcome::TimedOut,
+            Told::NoEffect => Outcome::NoEffect,
             Told::Accepted(number) => Outcome::Accepted(number),
             Told::Busy => Outcome::Busy,
             Told::BadSpan => Outcome::BadSpan,
@@ -82,6 +100,15 @@ impl Told {
         }
     }
 
+    /// Puts a new outcome into the place, of another kind than the one that was there.
+    // On its own: it writes a whole page, which must not be done before it is known that it has to be.
+    #[inline(never)]
+    fn replace(self, place: &mut Outcome)
+        ensures { place.new ≡ outcome_of self }
+    {
+        *place = self.outcome();
+    }
+
     /// Makes the outcome in the place say the same. Where it is one of this kind, only what differs is
     /// written: a new one would be a whole page.
     #[inline(always)]
@@ -90,8 +117,9 @@ impl Told {
     {
         match (self, &mut *place) {
             (Told::Done, Outcome::Done)
-            | (Told::NoneConfirmed, Outcome::NoneConfirmed)
             | (Told::NoRecord, Outcome::NoRecord)
+            | (Told::TimedOut, Outcome::TimedOut)
+            | (Told::NoEffect, Outcome::NoEffect)
             | (Told::Busy, Outcome::Busy)
             | (Told::BadSpan, Outcome::BadSpan)
             | (Told::NothingInFlight, Outcome::NothingInFlight)
@@ -108,14 +136,23 @@ impl Told {
             (Told::Refused(why), Outcome::Refused(held)) => *held = why,
             (Told::Ticket(ticket), Outcome::Ticket(held)) => *held = ticket,
             (
-                Told::Confirmed { first, last },
+                Told::Confirmed {
+                    first,
+                    last,
+                    timed_out,
+                },
                 Outcome::Confirmed {
                     first: held_first,
                     last: held_last,
+                    timed_out: held_timed_out,
                 },
             ) => {
                 *held_first = first;
                 *held_last = last;
+                *held_timed_out = timed_out;
+            }
+            (Told::NoneConfirmed { timed_out }, Outcome::NoneConfirmed { timed_out: held }) => {
+                *held = timed_out;
             }
             (Told::Record(record), Outcome::Record(held)) => *held = record,
             (Told::Fetched(fetched), Outcome::Fetched(held)) => *held = fetched,
@@ -127,7 +164,7 @@ impl Told {
             (Told::Invalidated(serial), Outcome::Invalidated(held)) => *held = serial,
             (Told::Closed(serial), Outcome::Closed(held)) => *held = serial,
             (Told::NotClosed(serial), Outcome::NotClosed(held)) => *held = serial,
-            _ => *place = self.outcome(),
+            _ => self.replace(place),
         }
     }
 }

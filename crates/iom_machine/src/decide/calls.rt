@@ -46,7 +46,7 @@ fn may_refuse_grant(state: &State, frame: u64, why: Refusal) -> bool
     }
 }
 
-fn may_find_no_place(why: Refusal) -> bool
+pub(crate) fn may_find_no_place(why: Refusal) -> bool
     ensures { IsTrue result ↔ MayFindNoPlace why }
 {
     matches!(why, Refusal::QueueFull | Refusal::NumbersUsedUp)

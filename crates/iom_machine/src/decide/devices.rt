@@ -3,6 +3,7 @@ ghost use Rattle.std.specs.Prelude.{◌≡◌, ◌<◌, ◌==◌, [], ◌∷◌,
 ghost use Rattle.std.specs.Option.{option_copied};
 ghost use Rattle.iom_machine.specs.Judging.{StandsAt};
 ghost use Rattle.iom_machine.specs.Leaving.{leaving_under};
+ghost use Rattle.iom_machine.specs.CuttingOff.{cut_off_under, attached_again};
 ghost use Rattle.iom_machine.specs.declared.state.Device.{Device};
 
 use crate::state::{Attachment, Device};
@@ -84,6 +85,46 @@ pub(crate) fn start_leaving(devices: &mut Sequence<Device>, place: usize, ticket
 {
     let device = devices.item_mut(place);
     device.attachment = leaving_under(ticket, device.attachment);
+}
+
+/// What is attached is cut off under the ticket.
+fn cut_off_under(ticket: u32, attachment: Attachment) -> Attachment
+    ensures { result ≡ cut_off_under ticket attachment }
+{
+    match attachment {
+        Attachment::Attached { mode, ats } => Attachment::Quarantined { ticket, mode, ats },
+        _ => attachment,
+    }
+}
+
+/// The device is cut off under the ticket, where it is attached.
+pub(crate) fn cut_off(devices: &mut Sequence<Device>, place: usize, ticket: u32)
+    requires { place < length devices.old }
+    ensures { (device : Device) → slice_get devices.old place ≡ Some device
+        → devices.new ≡ slice_set devices.old place (record device { attachment = cut_off_under ticket device.attachment }) }
+{
+    let device = devices.item_mut(place);
+    device.attachment = cut_off_under(ticket, device.attachment);
+}
+
+/// What is cut off is attached as it was before.
+fn attached_again(attachment: Attachment) -> Attachment
+    ensures { result ≡ attached_again attachment }
+{
+    match attachment {
+        Attachment::Quarantined { mode, ats, .. } => Attachment::Attached { mode, ats },
+        _ => attachment,
+    }
+}
+
+/// The device is attached again as it was before, where it is cut off.
+pub(crate) fn attach_again(devices: &mut Sequence<Device>, place: usize)
+    requires { place < length devices.old }
+    ensures { (device : Device) → slice_get devices.old place ≡ Some device
+        → devices.new ≡ slice_set devices.old place (record device { attachment = attached_again device.attachment }) }
+{
+    let device = devices.item_mut(place);
+    device.attachment = attached_again(device.attachment);
 }
 
 /// Takes the oldest access of the device, which is in flight no more.

@@ -2,7 +2,7 @@
 ghost use Rattle.std.specs.Prelude.{◌≡◌, ◌↔◌, ◌^◌, ◌≤◌, Some, IfOk, IfSome, length};
 ghost use Rattle.iom_machine.specs.declared.state.State.{State};
 ghost use Rattle.iom_machine.specs.Machine.{ChosenStep};
-ghost use Rattle.iom_machine.specs.Judging.{CallStep};
+ghost use Rattle.iom_machine.specs.Judging.{CallStep, RecoveryStep};
 ghost use Rattle.iom_machine.specs.Verdicts.{IsVerdict, RunsAreChosen};
 
 mod absent;
@@ -20,6 +20,7 @@ mod polls;
 mod processor;
 mod questions;
 pub(crate) mod reasons;
+mod recovery;
 pub(crate) mod requests;
 mod through_cache;
 mod translated;
@@ -33,6 +34,9 @@ use crate::decide::commits::judge_commit;
 use crate::decide::messages::{judge_ask, judge_deliver, judge_drop, judge_forge, judge_repeat};
 use crate::decide::polls::judge_poll;
 use crate::decide::processor::{judge_free, judge_peek, judge_poke};
+use crate::decide::recovery::{
+    judge_quarantine, judge_reset, judge_restart, judge_revive, judge_timeout,
+};
 use crate::event::Event;
 use crate::line::{Line, Verdict};
 use crate::outcome::Outcome;
@@ -69,6 +73,24 @@ fn decide_call(
     }
 }
 
+/// The state after an event that has to do with a device that doesn't answer, where it may come so.
+fn decide_recovery(
+    state: State,
+    event: &Event,
+    outcome: &Outcome,
+) -> Result<Option<State>, AllocError>
+    ensures { IfOk result (λ next. (new : State) → (next ≡ Some new) ↔ RecoveryStep state event.now outcome.now new) }
+{
+    match event {
+        Event::Quarantine { device } => judge_quarantine(state, *device, outcome),
+        Event::Revive { device } => Ok(judge_revive(state, *device, outcome)),
+        Event::Restart => Ok(judge_restart(state, outcome)),
+        Event::Timeout => Ok(judge_timeout(state, outcome)),
+        Event::Reset { device } => Ok(judge_reset(state, *device, outcome)),
+        _ => Ok(None),
+    }
+}
+
 /// The state after the event, where it may come so.
 fn decide(
     alloc: Global,
@@ -86,6 +108,11 @@ fn decide(
         | Event::Detach { .. }
         | Event::Grant { .. }
         | Event::Release { .. } => decide_call(alloc, state, event, outcome, choice),
+        Event::Quarantine { .. }
+        | Event::Revive { .. }
+        | Event::Restart
+        | Event::Timeout
+        | Event::Reset { .. } => decide_recovery(state, event, outcome),
         Event::Fetch => Ok(judge_fetch(state, outcome)),
         Event::Poll => judge_poll(alloc, state, outcome),
         Event::Faults => Ok(judge_faults(state, outcome)),

@@ -79,7 +79,7 @@ pub(crate) fn judge_poll(
     ensures { IfOk result (λ next. (new : State) → (next ≡ Some new) ↔ Polls state outcome.now new) }
 {
     match outcome {
-        Outcome::Confirmed { first, last } => {
+        Outcome::Confirmed { first, last, .. } => {
             if !are_next_tickets(&state, *first, *last) {
                 return Ok(None);
             }
@@ -91,7 +91,7 @@ pub(crate) fn judge_poll(
             take_leave(alloc, &mut next)?;
             Ok(Some(next))
         }
-        Outcome::NoneConfirmed => Ok(Some(state)),
+        Outcome::NoneConfirmed { .. } => Ok(Some(state)),
         _ => Ok(None),
     }
 }

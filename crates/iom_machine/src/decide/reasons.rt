@@ -4,17 +4,19 @@ ghost use Rattle.std.specs.Option.{option_map_or};
 ghost use Rattle.iom_machine.specs.declared.state.Attachment.TheVariants.{Detached};
 ghost use Rattle.iom_machine.specs.Tickets.{pending_tickets};
 ghost use Rattle.iom_ledger.specs.Refusals.{first_that_applies};
-ghost use Rattle.iom_machine.specs.Refusals.{plug_reasons, attach_reasons, detach_reasons, grant_reasons, release_reasons, frame_reasons, poke_reasons};
-ghost use Rattle.iom_machine.specs.Refusals.{is_plugged, attachment_of, is_detached, is_leaving, is_quarantined};
+ghost use Rattle.iom_machine.specs.Refusals.{plug_reasons, attach_reasons, detach_reasons, grant_reasons, release_reasons, quarantine_reasons, revive_reasons, frame_reasons, poke_reasons};
+ghost use Rattle.iom_machine.specs.Refusals.{is_plugged, attachment_of, is_detached, is_leaving, is_quarantined, is_attached, may_still_reach};
 ghost use Rattle.iom_machine.specs.Refusals.{is_trusted, id_limit, is_too_wide, is_held, is_lingering, has_grants};
 ghost use Rattle.iom_machine.specs.Judging.{attachment_in};
 
 use crate::decide::devices::device_with;
 use crate::decide::frames::has_owner;
-use crate::decide::history::{grants_left, last_ticket_confirmed, lingers_at, pair_held};
+use crate::decide::history::{
+    grants_left, is_confirmed, last_ticket_confirmed, lingers_at, pair_held,
+};
 use crate::state::{Attachment, Device, State};
 use iom_base::{DeviceId, MAX_DEVICES, PAGE_LIMIT};
-use iom_ledger::{MAX_PENDING, Refusal};
+use iom_ledger::{HistoryEntry, MAX_PENDING, Refusal};
 
 fn plugged(state: &State, id: DeviceId) -> bool
     ensures { result ≡ is_plugged state.now id }
@@ -55,6 +57,22 @@ fn quarantined(attachment: Attachment) -> bool
     ensures { result ≡ is_quarantined attachment }
 {
     matches!(attachment, Attachment::Quarantined { .. })
+}
+
+fn attached(attachment: Attachment) -> bool
+    ensures { result ≡ is_attached attachment }
+{
+    matches!(attachment, Attachment::Attached { .. })
+}
+
+/// Whether it is cut off under a ticket that isn't confirmed.
+fn may_still_reach(history: &[HistoryEntry], attachment: Attachment) -> bool
+    ensures { result ≡ may_still_reach history.now attachment }
+{
+    match attachment {
+        Attachment::Quarantined { ticket, .. } => !is_confirmed(history, ticket),
+        _ => false,
+    }
 }
 
 /// Whether the device has a cache of translations.
@@ -198,6 +216,40 @@ pub(crate) fn release_refusal(state: &State, id: DeviceId, page: u64) -> Option<
         Some(Refusal::NotGranted)
     } else if pending(state) >= MAX_PENDING as u32 {
         Some(Refusal::TooManyPending)
+    } else {
+        None
+    }
+}
+
+pub(crate) fn quarantine_refusal(state: &State, id: DeviceId) -> Option<Refusal>
+    ensures { result ≡ first_that_applies (quarantine_reasons state.now id) }
+{
+    let attachment = attachment(state, id);
+    if !plugged(state, id) {
+        Some(Refusal::NoSuchDevice)
+    } else if detached(attachment) || leaving(attachment) {
+        Some(Refusal::NotAttached)
+    } else if quarantined(attachment) {
+        Some(Refusal::Quarantined)
+    } else if pending(state) >= MAX_PENDING as u32 {
+        Some(Refusal::TooManyPending)
+    } else {
+        None
+    }
+}
+
+pub(crate) fn revive_refusal(state: &State, id: DeviceId) -> Option<Refusal>
+    ensures { result ≡ first_that_applies (revive_reasons state.now id) }
+{
+    let attachment = attachment(state, id);
+    if !plugged(state, id) {
+        Some(Refusal::NoSuchDevice)
+    } else if detached(attachment) || leaving(attachment) {
+        Some(Refusal::NotAttached)
+    } else if attached(attachment) {
+        Some(Refusal::AlreadyAttached)
+    } else if may_still_reach(state.history.as_slice(), attachment) {
+        Some(Refusal::StillGranted)
     } else {
         None
     }

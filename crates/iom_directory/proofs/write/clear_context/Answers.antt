@@ -20,5 +20,6 @@ returns-in-Some g c =
       others = w.others;
       outside = w.outside;
       size = w.size;
+      paths = w.paths;
       whole = rw (sym c.page_of_contexts.ensures.page ∙ c.in-Some.is) c.erase_context.ensures.whole;
     }

@@ -27,3 +27,12 @@ returns-in-ReadThroughCache c = elim c.in-ReadThroughCache.is [
   | inl (device, address, len, is) ↦ rw is (rw is at c.decide_through_cache.ensures)
   | inr (device, address, bytes, is) ↦ rw is (rw is at c.decide_through_cache.ensures)
 ]
+
+pub returns-in-Quarantine : goal.returns-in-Quarantine
+returns-in-Quarantine c = elim c.in-Quarantine.is [
+  | inl (device, is) ↦ rw is (rw is at c.decide_recovery.ensures)
+  | inr (inl (device, is)) ↦ rw is (rw is at c.decide_recovery.ensures)
+  | inr (inr (inl is)) ↦ rw is (rw is at c.decide_recovery.ensures)
+  | inr (inr (inr (inl is))) ↦ rw is (rw is at c.decide_recovery.ensures)
+  | inr (inr (inr (inr (device, is)))) ↦ rw is (rw is at c.decide_recovery.ensures)
+]

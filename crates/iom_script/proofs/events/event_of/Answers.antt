@@ -31,3 +31,6 @@ returns-in-116 c = under_first_ok c.args.line.now c.in-Some-first.first.now 116 
 
 pub returns-in-102 : goal.returns-in-102
 returns-in-102 c = under_first c.args.line.now c.in-Some-first.first.now 102 c.under_f.result c.in_default.ensures c.in-Some-first.ensures.value c.in-102.is c.under_f.ensures
+
+pub returns-in-113 : goal.returns-in-113
+returns-in-113 c = under_first c.args.line.now c.in-Some-first.first.now 113 c.quarantine.result c.in_default.ensures c.in-Some-first.ensures.value c.in-113.is c.quarantine.ensures

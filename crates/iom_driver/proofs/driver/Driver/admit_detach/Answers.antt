@@ -5,6 +5,7 @@ use Rattle.std.proofs.lemmas.Result.{err_from_is_err_and}
 use Rattle.iom_command_queue.specs.Waiting.{how_many}
 use Rattle.iom_ledger.specs.Shown.{held_in}
 use Rattle.iom_registers.specs.Queues.{command_entries}
+use Rattle.iom_driver.specs.Fences.{last_fence}
 use Rattle.iom_driver.specs.Reasons.{detaching_reasons, HasGrants}
 use Rattle.iom_driver.specs.Seen.{state_of}
 use Rattle.iom_driver.proofs.driver.Driver.admit_detach.Goals as goal
@@ -21,8 +22,8 @@ not_true true same true_so = false≢true (sym same)
 fits : (size n : ℕ) → size ≡ 256 → nat_le size n ≡ false → n < 256
 fits size n same test = let room : n < size = grind (arith, nat_tests) in omega (arith, room, same)
 
-below_last : (n : ℕ) → n ≤ 4294967295 → n ≢ 4294967295 → n < 4294967295
-below_last n le ne = omega (arith, le, ne)
+below_fence : (last read : ℕ) → last ≤ 4294967295 → read ≡ last → read ≢ 4294967295 → last < 4294967295
+below_fence last read le same ne = omega (arith, le, same, ne)
 
 pub returns-in_err-stage-clause-refused : goal.returns-in_err-stage-clause-refused
 returns-in_err-stage-clause-refused g c =
@@ -40,5 +41,5 @@ returns-clause-may g c =
       none_held = λ page. none_there (held_in driver.ledger c.args.id page) (λ some. none (page, inl some));
       few = c.if-self.false;
       room = fits (command_entries r) (how_many r + 3) (c.requires c.in_ok-stage.ensures.started) (sym c.lacks_places.ensures ∙ c.if-lacks_places.false);
-      number = omega (arith, c.if-self-2.false);
+      number = below_fence (last_fence (state_of driver)) c.last_fence.result driver.sound.fences.numbered c.last_fence.ensures c.if-last_fence-eq4294967295.false;
     }

@@ -13,7 +13,7 @@ use Rattle.iom_driver.specs.declared.device.Device.{Device}
 use Rattle.iom_driver.specs.declared.device.Stages.{Stages}
 use Rattle.iom_driver.specs.Attaching.{IsRootBelow, NoRootBelow, LacksRoot, lacking_pages, limit_below, root_frames}
 use Rattle.iom_driver.specs.Choices.{AreHighestFree, marked_for, cleared}
-use Rattle.iom_driver.specs.Devices.{attachment_of, attached_stages, owned_stages, owned_stages_of, is_plugged, with_attachment, IsLowestNumber}
+use Rattle.iom_driver.specs.Devices.{attachment_of, owned_stages, owned_stages_of, is_plugged, with_attachment, IsLowestNumber}
 use Rattle.iom_driver.specs.Layout.{id_limit, directory_frame, fault_frame}
 use Rattle.iom_driver.specs.Places.{IsPlaceOf}
 use Rattle.iom_driver.specs.Seen.{state_of}
@@ -277,7 +277,7 @@ invariant_of-self c =
     record {
       sound =
           rw (marks_is, set)
-          (sound_attached driver.ledger driver.marks d.devices driver.frames driver.levels driver.started driver.given driver.confirmed id lacking stage pages roots driver.sound c.if-not-self.false plugged narrow
+          (sound_attached driver.ledger driver.marks d.devices driver.frames driver.levels driver.started driver.given driver.confirmed driver.restarts driver.restarted id lacking stage pages roots driver.sound c.if-not-self.false plugged narrow
           may.taken lowest c.lowest_number-number.ensures.small);
     }
 
@@ -318,6 +318,8 @@ returns-clause-effect c =
       tree = c.put_context.ensures.directory;
       has = λ f. (c.put_context.ensures.pages f).0;
       here = c.put_context.ensures.here ∙ ap Ok c.context_for-context.ensures;
+      path = c.put_context.ensures.path;
+      paths = c.put_context.ensures.paths;
       others = c.put_context.ensures.others;
       outside = c.put_context.ensures.outside;
     })) in
@@ -383,6 +385,8 @@ returns-clause-stand c =
       tree = c.put_context.ensures.directory;
       has = λ f. (c.put_context.ensures.pages f).0;
       here = c.put_context.ensures.here ∙ ap Ok c.context_for-context.ensures;
+      path = c.put_context.ensures.path;
+      paths = c.put_context.ensures.paths;
       others = c.put_context.ensures.others;
       outside = c.put_context.ensures.outside;
     })) in
@@ -399,8 +403,8 @@ returns-clause-stand c =
       directory = λ runs.
           stands_in driver.frames c.put_context.new.memory (taken_marks id pages roots driver.marks) (with_attachment d.devices id (Attached stage)) driver.levels (size ∙ may.size)
           (stands_after d driver.frames memory id lacking pages roots may c.put_context.new.memory stage put
-          (with_attachment d.devices id (Attached stage)) (ap attached_stages (attachment_set d.devices id (Attached stage) plugged))
-          (λ other apart. ap attached_stages (attachment_other d.devices id other (Attached stage) apart)));
+          (with_attachment d.devices id (Attached stage)) (attachment_set d.devices id (Attached stage) plugged)
+          (λ other apart. attachment_other d.devices id other (Attached stage) apart));
     }
 
 pub returns-clause-ready : goal.returns-clause-ready
@@ -437,6 +441,8 @@ returns-clause-ready c = λ r ready.
       tree = c.put_context.ensures.directory;
       has = λ f. (c.put_context.ensures.pages f).0;
       here = c.put_context.ensures.here ∙ ap Ok c.context_for-context.ensures;
+      path = c.put_context.ensures.path;
+      paths = c.put_context.ensures.paths;
       others = c.put_context.ensures.others;
       outside = c.put_context.ensures.outside;
     })) in

@@ -4,13 +4,14 @@ use Rattle.iom_command_queue.specs.declared.entry.QueueEntry.TheVariants as stan
 use Rattle.iom_base.specs.declared.cause.Cause.TheVariants.{DirectoryEntryNotValid}
 use Rattle.iom_base.specs.declared.owner.Owner.{Owner}
 use Rattle.iom_device_dir.specs.Located.{path_end_from}
+use Rattle.iom_device_dir.specs.Paths.{ids_below}
 use Rattle.iom_directory.specs.Changes.{KeepsOthers, KeepsOutside}
 use Rattle.iom_ledger.specs.declared.ledger.Ledger.{Ledger}
-use Rattle.iom_directory.specs.Pages.{IsDirectory, HasPage, root_level}
+use Rattle.iom_directory.specs.Pages.{IsDirectory, HasPage, HasWholePath, root_level}
 use Rattle.iom_base.specs.declared.owner.Owner.TheVariants.{System, OneDevice}
 use Rattle.iom_driver.specs.declared.device.Attachment.TheVariants.{Leaving}
 use Rattle.iom_driver.specs.declared.device.Device.{Device}
-use Rattle.iom_driver.specs.Appends.{detach_commands}
+use Rattle.iom_driver.specs.Appends.{detach_commands, AppendsAll}
 use Rattle.iom_driver.specs.Devices.{attachment_of, attached_stages, stages_of, owned_stages_of, with_attachment}
 use Rattle.iom_driver.specs.Directory.{NamesDirectory}
 use Rattle.iom_driver.specs.Layout.{command_frame, fault_frame, completion_address, directory_frame}
@@ -30,6 +31,7 @@ record Cleared (memory memory' : List (List ℕ)) (levels root id : ℕ) : Type 
   tree : IsDirectory memory' (root_level levels) root
   pages : (f : ℕ) → HasPage memory' (root_level levels) root f → HasPage memory (root_level levels) root f
   here : path_end_from memory' (root_level levels) root id ≡ Err DirectoryEntryNotValid
+  paths : (other : ℕ) → other < ids_below (root_level levels) → HasWholePath memory (root_level levels) root other → HasWholePath memory' (root_level levels) root other
   others : KeepsOthers memory memory' (root_level levels) root id
   outside : KeepsOutside memory memory' (root_level levels) root
 
@@ -50,9 +52,9 @@ invariant_of-self g c =
     let may = c.in-Ok.ensures.may in
     record {
       sound =
-          subst (λ (ds : List Device). IsSound driver.ledger driver.marks ds driver.frames driver.levels driver.started (driver.given + 1) driver.confirmed) (sym {A = List Device} c.set_attachment.ensures)
-          (sound_detached driver.ledger driver.marks driver.devices.items driver.frames driver.levels driver.started driver.given driver.confirmed c.args.id c.in-Ok.stage
-          driver.sound may.started may.attached may.none_held);
+          subst (λ (ds : List Device). IsSound driver.ledger driver.marks ds driver.frames driver.levels driver.started (driver.given + 1) driver.confirmed driver.restarts driver.restarted) (sym {A = List Device} c.set_attachment.ensures)
+          (sound_detached driver.ledger driver.marks driver.devices.items driver.frames driver.levels driver.started driver.given driver.confirmed driver.restarts driver.restarted c.args.id c.in-Ok.stage
+          driver.sound may.started may.attached may.none_held may.number);
     }
 
 pub clear_context-requires-clause-id : goal.clear_context-requires-clause-id
@@ -94,7 +96,9 @@ returns-clause-effect g c =
     let outside : (f : ℕ) → (HasPage memory (root_level driver.levels) (directory_frame driver.frames) f → ⊥) → slice_get c.clear_context.new.memory f ≡ slice_get memory f =
     λ f apart. c.clear_context.ensures.outside f
     (λ at. apart (at_root f (subst (λ r. HasPage c.clear_context.new.memory (root_level driver.levels) r f) c.directory_frame-directory.ensures at))) in
-    let commands = detach_commands c.args.id c.in-Ok.stage (completion_address driver.frames) (driver.given + 1) in
+    let commands = detach_commands c.args.id c.in-Ok.stage (completion_address driver.frames) (driver.given + driver.restarts + 1) in
+    let appended = subst (λ n. AppendsAll g.M.Mmio c.clear_context.new.memory io (detach_commands c.args.id c.in-Ok.stage (completion_address driver.frames) (n + 1)) c.append_detach.new.memory c.append_detach.new.io)
+    c.last_fence-number.ensures c.append_detach.ensures.appended in
     record {
       told = c.in-Ok.ensures.admitted;
       effect = record {
@@ -102,12 +106,12 @@ returns-clause-effect g c =
         attached = may.attached;
         next = refl;
         driver = rw c.set_attachment.ensures refl;
-        queued = rw (many, sym c.directory_frame-directory.ensures, sym c.clear_context.ensures.whole) c.append_detach.ensures.appended;
+        queued = rw (many, sym c.directory_frame-directory.ensures, sym c.clear_context.ensures.whole) appended;
         list =
             let r = g.M.Mmio.registers io in
             let kept = outside (command_frame (length memory)) (λ at. (here.own (command_frame (length memory)) at).no_command (ap command_frame many)) in
             rw many
-            (all_last g.M.Mmio c.clear_context.new.memory c.append_detach.new.memory io c.append_detach.new.io commands c.append_detach.ensures.appended
+            (all_last g.M.Mmio c.clear_context.new.memory c.append_detach.new.memory io c.append_detach.new.io commands appended
             ∙ ap (λ (xs : List QueueEntry). xs ++ map stands.Command commands)
             (same_commands memory c.clear_context.new.memory r (c.requires.ready.ring may.started) kept));
         others = λ f apart differs.
@@ -130,13 +134,15 @@ returns-clause-ready g c =
       tree = c.clear_context.ensures.directory;
       pages = λ f. (c.clear_context.ensures.pages f).0;
       here = c.clear_context.ensures.here;
+      paths = c.clear_context.ensures.paths;
       others = c.clear_context.ensures.others;
       outside = c.clear_context.ensures.outside;
     } in
     let none : stages_of devices c.args.id ≡ None = ap attached_stages (attachment_set driver.devices.items c.args.id (Leaving (driver.given + 1) c.in-Ok.stage) (attached_there driver.devices.items c.args.id c.in-Ok.stage may.attached)) in
     let same : (other : ℕ) → other ≢ c.args.id → stages_of devices other ≡ stages_of driver.devices.items other =
     λ other apart. ap attached_stages (attachment_other driver.devices.items c.args.id other (Leaving (driver.given + 1) c.in-Ok.stage) apart) in
-    let between = directory_cleared driver.frames memory c.clear_context.new.memory driver.marks driver.devices.items devices driver.levels c.args.id here cleared.tree cleared.pages cleared.here cleared.others none same in
+    let between = directory_cleared driver.frames memory c.clear_context.new.memory driver.marks driver.devices.items devices driver.levels c.args.id here cleared.tree cleared.pages cleared.here cleared.others cleared.paths none same
+    (owned_leaving driver.devices.items c.args.id (driver.given + 1) c.in-Ok.stage may.attached) in
     let kept : (n id : ℕ) → slice_get driver.marks n ≡ Some (Some (OneDevice id)) → slice_get c.append_detach.new.memory n ≡ slice_get memory n =
     λ n id own. c.append_detach.ensures.other_frames n (of_one driver.marks (driver.frames - 1) n id driver.sound.fixed.command own)
     ∙ cleared.outside n (λ at. system_device driver.marks n id (here.own n (cleared.pages n at)).system own) in
@@ -148,7 +154,7 @@ returns-clause-ready g c =
         directory = λ started.
             stands_in driver.frames c.append_detach.new.memory driver.marks devices driver.levels (size ∙ many)
             (directory_stay driver.frames c.clear_context.new.memory c.append_detach.new.memory driver.marks driver.marks devices devices driver.levels driver.sound.sizes.in_range c.append_detach.ensures.size
-            (λ n own. (c.append_detach.ensures.other_frames n own.no_command, refl)) (λ id. refl) between);
+            (λ n own. (c.append_detach.ensures.other_frames n own.no_command, refl)) (λ id. refl) (λ id stage at. at) between);
       };
       faults = λ started.
           let fault = fault_frame (length memory) in

@@ -95,9 +95,9 @@ invariant_of-self-2 c =
     (subst (λ n. AreHighestFree driver.marks driver.ledger (Some c.args.frame) n c.missing-lacking.result tables) (sym driver.sound.sizes.marked) c.in-Some.ensures.chosen) in
     record {
       sound =
-          subst (λ (ms : List (Option Owner)). IsSound c.grant.new.self ms driver.devices.items driver.frames driver.levels driver.started driver.given driver.confirmed)
+          subst (λ (ms : List (Option Owner)). IsSound c.grant.new.self ms driver.devices.items driver.frames driver.levels driver.started driver.given driver.confirmed driver.restarts driver.restarted)
           (sym (c.reserve_all.ensures.marks ∙ ap (λ fs. marked_for (OneDevice c.args.id) fs driver.marks) c.as_slice.ensures.value))
-          (sound_granted driver.ledger c.grant.new.self driver.marks driver.devices.items driver.frames driver.levels driver.started driver.given driver.confirmed c.args.id c.args.page c.args.frame c.rights-rights.result c.in-Ok.stage tables
+          (sound_granted driver.ledger c.grant.new.self driver.marks driver.devices.items driver.frames driver.levels driver.started driver.given driver.confirmed driver.restarts driver.restarted c.args.id c.args.page c.args.frame c.rights-rights.result c.in-Ok.stage tables
           driver.sound granted may.attached may.page_low (unmarked driver.marks c.args.frame may.inside may.unreserved) chose.inside chose.free);
     }
 
@@ -216,7 +216,7 @@ returns-clause-stand c =
                 (sym c.requires.stand.size) before chose mapped own.system (λ same. not_system c.args.id same),
             ap (λ (ms : List (Option Owner)). slice_get ms n) marks ∙ mark_stays (OneDevice c.args.id) n tables driver.marks
                 (owned_not_chosen driver.marks driver.ledger (Some c.args.frame) (length memory) c.missing-lacking.result n tables System (sym c.requires.stand.size) chose own.system),
-          )) (λ id. refl) (in_stands driver.frames memory driver.marks driver.devices.items driver.levels (sym many) (c.requires.stand.directory started)));
+          )) (λ id. refl) (λ id stage at. at) (in_stands driver.frames memory driver.marks driver.devices.items driver.levels (sym many) (c.requires.stand.directory started)));
     }
 
 pub returns-then-is_err-clause-ready : goal.returns-then-is_err-clause-ready

@@ -21,8 +21,8 @@ pub invariant_of-self : goal.invariant_of-self
 invariant_of-self c =
     let driver = c.args.self.now in
     record {
-      sound = by_test (λ (devices : List Device). IsSound driver.ledger driver.marks devices driver.frames driver.levels driver.started driver.given driver.confirmed) _ _ _ _ c.push.ensures.items
-          (sound_plugged driver.ledger driver.marks driver.devices.items driver.frames driver.levels driver.started driver.given driver.confirmed c.args.id c.args.trusted driver.sound (sym c.device_of.ensures ∙ absent_device c.device_of.result (sym c.is_some.ensures ∙ c.if-is_some.false)) (omega arith))
+      sound = by_test (λ (devices : List Device). IsSound driver.ledger driver.marks devices driver.frames driver.levels driver.started driver.given driver.confirmed driver.restarts driver.restarted) _ _ _ _ c.push.ensures.items
+          (sound_plugged driver.ledger driver.marks driver.devices.items driver.frames driver.levels driver.started driver.given driver.confirmed driver.restarts driver.restarted c.args.id c.args.trusted driver.sound (sym c.device_of.ensures ∙ absent_device c.device_of.result (sym c.is_some.ensures ∙ c.if-is_some.false)) (omega arith))
           driver.sound;
     }
 

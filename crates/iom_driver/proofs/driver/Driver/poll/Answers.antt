@@ -1,4 +1,4 @@
-use Rattle.std.proofs.Common.{◌≡◌, ◌≤◌, ◌+◌, ◌*◌, ◌∙◌, ℕ, List, length, false, map, Option, Some, slice_get, refl, sym, ap, subst, arith}
+use Rattle.std.proofs.Common.{◌≡◌, ◌↔◌, ◌≤◌, ◌+◌, ◌*◌, ◌∙◌, ℕ, List, length, false, map, Option, Some, slice_get, refl, sym, ap, subst, arith}
 use Rattle.std.proofs.lemmas.Bool.{false≢true}
 use Rattle.std.proofs.lemmas.List.{length-map}
 use Rattle.iom_base.specs.declared.owner.Owner.{Owner}
@@ -7,6 +7,7 @@ use Rattle.iom_phys_mem.specs.Words.{word_at}
 use Rattle.iom_driver.specs.declared.device.Device.{Device}
 use Rattle.iom_driver.specs.Confirmed.{once_confirmed, given_back, is_gone, has_left, ClearsGone}
 use Rattle.iom_driver.specs.Directory.{NamesDirectory}
+use Rattle.iom_driver.specs.Fences.{fence_of}
 use Rattle.iom_driver.specs.Layout.{completion_address, fault_frame}
 use Rattle.iom_driver.specs.Ready.{IsRing}
 use Rattle.iom_driver.specs.Seen.{state_of}
@@ -14,6 +15,7 @@ use Rattle.iom_driver.specs.State.{DriverState}
 use Rattle.iom_driver.proofs.Confirms.{confirms_none}
 use Rattle.iom_driver.proofs.Directories.{in_stands, stands_in}
 use Rattle.iom_driver.proofs.FaultRings.{fault_ring_stays, same_faults}
+use Rattle.iom_driver.proofs.DoneTickets.{done_given, done_exactly}
 use Rattle.iom_driver.proofs.Gone.{none_left, nobody_gone, marks_same, devices_same}
 use Rattle.iom_driver.proofs.Ids.{device_at}
 use Rattle.iom_driver.proofs.Keeps.{sound_polled}
@@ -54,6 +56,8 @@ returns-then-done-self-clause-effect g c =
         word = word;
         read = ap (λ n. word_at 4 memory (completion_address n)) many ∙ read;
         count = omega (arith, c.last_done-done.ensures, c.if-done-self.true);
+        exact = λ ticket late given.
+            subst (λ n. (ticket ≤ driver.confirmed + n) ↔ (fence_of (state_of driver) ticket ≤ word)) (omega (arith, c.last_done-done.ensures, c.if-done-self.true)) (done_exactly (state_of driver) word ticket late given);
         first = refl;
         timed_out = c.has_timed_out-timed_out.ensures;
         shown = confirms_none driver.ledger (driver.confirmed + 1) 0 refl;
@@ -69,11 +73,11 @@ invariant_of-self g c =
     let done = c.last_done-done.result in
     let ordered : driver.confirmed ≤ driver.given = driver.sound.tickets.ordered in
     let low : driver.confirmed ≤ done = omega arith in
-    let high : done ≤ driver.given = omega arith in
+    let high : done ≤ driver.given = omega (arith, c.last_done-done.ensures, done_given (state_of driver) c.first_word-word.result, ordered) in
     record {
       sound =
           rw (c.let_go.ensures.marks, c.let_go.ensures.devices)
-          (sound_polled driver.ledger c.confirm_after.new.ledger driver.marks driver.devices.items driver.frames driver.levels driver.started driver.given driver.confirmed done
+          (sound_polled driver.ledger c.confirm_after.new.ledger driver.marks driver.devices.items driver.frames driver.levels driver.started driver.given driver.confirmed driver.restarts driver.restarted done
           driver.sound c.confirm_after.ensures.shown low high);
     }
 

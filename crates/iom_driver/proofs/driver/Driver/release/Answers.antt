@@ -6,7 +6,7 @@ use Rattle.iom_base.specs.declared.owner.Owner.{Owner}
 use Rattle.iom_base.specs.declared.owner.Owner.TheVariants.{System, OneDevice}
 use Rattle.iom_command_queue.specs.declared.entry.QueueEntry.{QueueEntry}
 use Rattle.iom_command_queue.specs.declared.entry.QueueEntry.TheVariants as stands
-use Rattle.iom_driver.specs.Appends.{release_commands}
+use Rattle.iom_driver.specs.Appends.{release_commands, AppendsAll}
 use Rattle.iom_driver.specs.Devices.{attachment_of}
 use Rattle.iom_driver.specs.Directory.{NamesDirectory}
 use Rattle.iom_driver.specs.Layout.{command_frame, fault_frame, completion_address}
@@ -42,8 +42,8 @@ pub invariant_of-self : goal.invariant_of-self
 invariant_of-self g c =
     let driver = c.args.self.now in
     record {
-      sound = sound_released driver.ledger c.release.new.self driver.marks driver.devices.items driver.frames driver.levels driver.started driver.given driver.confirmed c.args.id c.args.page
-          driver.sound c.release.ensures.released;
+      sound = sound_released driver.ledger c.release.new.self driver.marks driver.devices.items driver.frames driver.levels driver.started driver.given driver.confirmed driver.restarts driver.restarted c.args.id c.args.page
+          driver.sound c.release.ensures.released c.in-Ok.ensures.may.number;
     }
 
 pub unmap-requires-clause-tree : goal.unmap-requires-clause-tree
@@ -86,6 +86,9 @@ returns-clause-effect g c =
       size = c.unmap.ensures.size;
     } in
     let many : length memory ≡ driver.frames = stand.size ∙ driver.sound.sizes.marked in
+    let commands = release_commands c.args.id c.in-Ok.stage c.args.page (completion_address driver.frames) (driver.given + driver.restarts + 1) in
+    let appended = subst (λ n. AppendsAll g.M.Mmio c.unmap.new.memory c.args.io.now (release_commands c.args.id c.in-Ok.stage c.args.page (completion_address driver.frames) (n + 1)) c.append_release.new.memory c.append_release.new.io)
+    c.last_fence-number.ensures c.append_release.ensures.appended in
     let tables = stand.tables c.args.id c.in-Ok.stage (attached_owns (attachment_of driver.devices.items c.args.id) c.in-Ok.stage c.in-Ok.ensures.may.attached) in (
       c.in-Ok.ensures.admitted,
       record {
@@ -95,16 +98,15 @@ returns-clause-effect g c =
         shown = c.release.ensures.released;
         agrees = c.release.ensures.agrees;
         driver = refl;
-        queued = rw (many, sym c.unmap.ensures.whole) c.append_release.ensures.appended;
+        queued = rw (many, sym c.unmap.ensures.whole) appended;
         list =
             let io = c.args.io.now in
             let r = g.M.Mmio.registers io in
             let kept = other_frame memory c.unmap.new.memory c.in-Ok.stage.root c.args.page (command_frame (length memory)) unmapped_so
             (λ at. not_of_device driver.marks (command_frame (length memory)) c.args.id (rw many driver.sound.fixed.command)
             (tables.own (command_frame (length memory)) (table_in c.in-Ok.stage.mode memory c.in-Ok.stage.root (command_frame (length memory)) (inl at)))) in
-            let commands = release_commands c.args.id c.in-Ok.stage c.args.page (completion_address driver.frames) (driver.given + 1) in
             rw many
-            (all_last g.M.Mmio c.unmap.new.memory c.append_release.new.memory io c.append_release.new.io commands c.append_release.ensures.appended
+            (all_last g.M.Mmio c.unmap.new.memory c.append_release.new.memory io c.append_release.new.io commands appended
             ∙ ap (λ (xs : List QueueEntry). xs ++ map stands.Command commands) (same_commands memory c.unmap.new.memory r (c.requires.ready.ring c.in-Ok.ensures.may.started) kept));
         others = λ f differs apart.
             c.append_release.ensures.other_frames f (λ same. apart (same ∙ ap command_frame (sym many)))
@@ -141,7 +143,7 @@ returns-clause-ready g c =
                   ∙ other_frame c.args.memory.now c.unmap.new.memory c.in-Ok.stage.root c.args.page n unmapped
                   (λ at. not_of_device driver.marks n c.args.id own.system (before.own n (table_in c.in-Ok.stage.mode c.args.memory.now c.in-Ok.stage.root n (inl at)))),
               refl,
-            )) (λ id. refl) (in_stands driver.frames c.args.memory.now driver.marks driver.devices.items driver.levels many (stand.directory started)));
+            )) (λ id. refl) (λ id stage at. at) (in_stands driver.frames c.args.memory.now driver.marks driver.devices.items driver.levels many (stand.directory started)));
       };
       directory = λ started. subst (λ n. NamesDirectory n driver.levels (g.M.Mmio.registers c.append_release.new.io)) (sym size)
           (stays_named (length c.args.memory.now) driver.levels (g.M.Mmio.registers c.args.io.now) (g.M.Mmio.registers c.append_release.new.io) c.append_release.ensures.named (c.requires.ready.directory started));

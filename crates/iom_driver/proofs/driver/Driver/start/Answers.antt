@@ -8,7 +8,7 @@ use Rattle.iom_command_queue.specs.Waiting.{commands_in}
 use Rattle.iom_fault_queue.specs.Ring.{records_in}
 use Rattle.iom_driver.specs.declared.device.Device.{Device}
 use Rattle.iom_driver.specs.declared.device.Stages.{Stages}
-use Rattle.iom_driver.specs.Devices.{owned_stages_of, owned_stages, attached_stages}
+use Rattle.iom_driver.specs.Devices.{owned_stages_of, owned_stages}
 use Rattle.iom_driver.specs.Directory.{NamesDirectory}
 use Rattle.iom_driver.specs.Layout.{completion_address, directory_frame, ddtp_of, cqb_of, fqb_of}
 use Rattle.iom_driver.specs.Ready.{IsRing, IsFaultRing}
@@ -93,7 +93,7 @@ returns-clause-ready g c =
             ∙ get_set_same c.store_u32.new.self (directory_frame driver.frames) zeroed (inside driver.frames (length c.store_u32.new.self) (c.store_u32.ensures.frames ∙ many) driver.sound.sizes.size.0) in
             stands_in driver.frames c.clear.new.memory driver.marks driver.devices.items driver.levels (size ∙ many)
             (directory_starts driver.frames c.clear.new.memory driver.marks driver.devices.items driver.levels driver.sound.sizes.in_range driver.sound.sizes.size.0 driver.sound.fixed zero
-            (λ id. ap attached_stages (driver.sound.idle c.requires.idle id)));
+            (λ id. driver.sound.idle c.requires.idle id));
       };
       ring = λ running.
           subst (λ n. IsRing n (r c.write-5.new.io)) (sym (size ∙ many))

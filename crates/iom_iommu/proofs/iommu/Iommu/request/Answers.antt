@@ -41,6 +41,7 @@ returns-in-Ok-clause-answered g c = (
     contexts = c.in-Ok.ensures.kept;
     registers = refl;
     stock = refl;
+    waits = refl;
     slots = refl;
     opened = refl;
     frames = refl;

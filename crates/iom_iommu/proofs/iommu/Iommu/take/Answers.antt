@@ -4,7 +4,7 @@ use Rattle.iom_command_queue.specs.declared.entry.QueueEntry.TheVariants as stan
 use Rattle.iom_command_queue.proofs.Waits.{none_is}
 use Rattle.iom_iommu.specs.Fetches.{IsStorable, Stores}
 use Rattle.iom_iommu.proofs.CachedLemmas.{drop_inside}
-use Rattle.iom_iommu.proofs.PartLemmas.{same, held_by_slots, held_by_accesses, stock_then, waits, stops}
+use Rattle.iom_iommu.proofs.PartLemmas.{same_fetched, held_by_slots, held_by_accesses, stock_then, waits_then, waits, stops}
 use Rattle.iom_iommu.proofs.iommu.Iommu.take.Goals as goal
 
 pub advance-requires : goal.advance-requires
@@ -16,7 +16,8 @@ returns-then-waits_for_slots g c =
       c.requires.on,
       waits c.args.self.now c.args.memory.now c.args.command c.requires.stands (held_by_slots c.args.self.now c.args.command some),
       refl,
-      same c.args.self.now _ _ _ _ _ _ _ refl (stock_then c.args.self.now c.args.memory.now c.args.command true c.requires.stands some) c.requires.none,
+      same_fetched c.args.self.now _ _ _ _ _ _ _ _ _ refl (stock_then c.args.self.now c.args.memory.now c.args.command true c.requires.stands some)
+          (waits_then c.args.self.now c.args.memory.now c.args.command _ c.requires.stands c.is_waiting_fence-self.ensures) c.requires.none,
     )
 
 pub returns-then-waits_for_accesses : goal.returns-then-waits_for_accesses
@@ -26,8 +27,9 @@ returns-then-waits_for_accesses g c =
       waits c.args.self.now c.args.memory.now c.args.command c.requires.stands
           (held_by_accesses c.args.self.now c.args.command c.counted-before.result true none c.counted-before.ensures (sym c.waits_for_accesses.ensures ∙ c.if-waits_for_accesses.true)),
       refl,
-      same c.args.self.now _ _ _ _ _ _ _ refl (ap Some c.counted-before.ensures ∙ stock_then c.args.self.now c.args.memory.now c.args.command false c.requires.stands none)
-          c.requires.none,
+      same_fetched c.args.self.now _ _ _ _ _ _ _ _ _ refl
+          (ap Some c.counted-before.ensures ∙ stock_then c.args.self.now c.args.memory.now c.args.command false c.requires.stands none)
+          (waits_then c.args.self.now c.args.memory.now c.args.command _ c.requires.stands c.is_waiting_fence-self.ensures) c.requires.none,
     )
 
 pub returns-then-not-store : goal.returns-then-not-store
@@ -37,7 +39,7 @@ returns-then-not-store g c =
         held_by_accesses c.args.self.now c.args.command c.counted-before.result false (sym c.waits_for_slots.ensures ∙ c.if-waits_for_slots.false) c.counted-before.ensures
             (sym c.waits_for_accesses.ensures ∙ c.if-waits_for_accesses.false),
         subst (λ word. ¬ IsStorable c.args.memory.now word) c.store_of-word.ensures refused.0,
-        same c.args.self.now _ _ _ _ _ _ _ c.set_cqmf.ensures (ap Some c.counted-before.ensures) c.requires.none,
+        same_fetched c.args.self.now _ _ _ _ _ _ _ _ _ c.set_cqmf.ensures (ap Some c.counted-before.ensures) c.is_waiting_fence-self.ensures c.requires.none,
       ),
       refused.1,
     )

@@ -2,7 +2,7 @@ use Rattle.iom_world.specs.Seen.{parts_of}
 use Rattle.iom_world.specs.Parts.{Parts}
 use Rattle.iom_driver.specs.Seen.{state_of}
 use Rattle.std.proofs.Common.{refl}
-use Rattle.iom_world.specs.Does.{told_of}
+use Rattle.iom_world.specs.Answers.{told_of}
 use Rattle.iom_world.proofs.DriverKeeps.{keeps_attached}
 use Rattle.iom_world.proofs.DriverLemmas.{sound_driver}
 use Rattle.iom_world.proofs.world.World.attach.Goals as goal

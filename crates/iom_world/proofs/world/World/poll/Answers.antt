@@ -17,4 +17,4 @@ invariant_of-self c =
     }
 
 pub of_poll-requires : goal.of_poll-requires
-of_poll-requires c = polled_low (parts_of c.args.self.now) c.args.self.now.events c.in-Ok.polled (state_of c.poll.new.self) c.poll.new.memory c.args.self.now.sound c.in-Ok.ensures.effect
+of_poll-requires c = polled_low (parts_of c.args.self.now) c.args.self.now.events c.in-Ok.polled (state_of c.poll.new.self) c.poll.new.memory c.args.self.now.sound (sound_driver c.args.self.now.driver) c.in-Ok.ensures.effect

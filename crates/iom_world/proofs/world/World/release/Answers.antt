@@ -1,6 +1,6 @@
 use Rattle.std.proofs.Common.{refl}
 use Rattle.iom_driver.specs.Seen.{state_of}
-use Rattle.iom_world.specs.Does.{ticket_told_of}
+use Rattle.iom_world.specs.Answers.{ticket_told_of}
 use Rattle.iom_world.specs.Parts.{Parts}
 use Rattle.iom_world.specs.Seen.{parts_of}
 use Rattle.iom_world.proofs.DriverLemmas.{sound_driver}

@@ -1,0 +1,152 @@
+// What is counted of a run.
+
+use crate::run::Step;
+use iom_ledger::Refusal;
+use iom_machine::{Event, Fetched, Outcome};
+
+/// What is counted of a run.
+#[derive(Clone, Copy, PartialEq, Eq, Debug)]
+pub(crate) enum Note {
+    /// A device keeps an answer.
+    Kept,
+    /// An answer was older than what its device dropped last.
+    Stale,
+    /// A device drops what it was asked to.
+    Invalidated,
+    /// An invalidation is done.
+    Closed,
+    /// A word that one is done, where none was open: it was forged, or came twice.
+    NotClosed,
+    /// A device's cache has nothing for an access.
+    Miss,
+    /// An access through a cache, which was made later.
+    Made,
+    /// A request was refused that said it is translated.
+    Forged,
+    /// A message was lost.
+    Dropped,
+    /// A message was repeated.
+    Repeated,
+    /// A fence that waited for devices was given up.
+    TimedOut,
+    /// None waited, so none was given up.
+    NoEffect,
+    /// After that the IOMMU takes no command.
+    Stopped,
+    /// The driver learns of it.
+    Told,
+    /// The command queue was emptied and filled anew.
+    Restarted,
+    /// A device was cut off.
+    CutOff,
+    /// A device was attached again that was cut off.
+    Revived,
+    /// A device that was cut off may still reach what it held.
+    NotYet,
+    /// A device was detached.
+    Detached,
+    /// A device was attached.
+    Attached,
+    /// A device was reset.
+    Reset,
+}
+
+/// What this delivery is, of what is counted.
+fn noted_delivery(outcome: &Outcome) -> Option<Note> {
+    match outcome {
+        Outcome::Kept => Some(Note::Kept),
+        Outcome::Stale => Some(Note::Stale),
+        Outcome::Invalidated(_) => Some(Note::Invalidated),
+        Outcome::Closed(_) => Some(Note::Closed),
+        Outcome::NotClosed(_) => Some(Note::NotClosed),
+        _ => None,
+    }
+}
+
+/// What this access through a cache is, which was made where it showed on which frame.
+fn noted_access(outcome: &Outcome, frame: Option<u32>) -> Option<Note> {
+    match outcome {
+        Outcome::Miss => Some(Note::Miss),
+        Outcome::Accepted(_) => frame.map(|_| Note::Made),
+        _ => None,
+    }
+}
+
+/// What this poll is, of what is counted.
+fn noted_poll(outcome: &Outcome) -> Option<Note> {
+    match outcome {
+        Outcome::Confirmed {
+            timed_out: true,
+            ..
+        } => Some(Note::Told),
+        Outcome::NoneConfirmed { timed_out: true } => Some(Note::Told),
+        _ => None,
+    }
+}
+
+/// What this revival is, of what is counted.
+fn noted_revival(outcome: &Outcome) -> Option<Note> {
+    match outcome {
+        Outcome::Done => Some(Note::Revived),
+        Outcome::Refused(Refusal::StillGranted) => Some(Note::NotYet),
+        _ => None,
+    }
+}
+
+/// What this step of the driver or the IOMMU is, of what is counted.
+fn noted_recovery(step: &Step) -> Option<Note> {
+    match (&step.event, &step.outcome) {
+        (Event::Timeout, Outcome::TimedOut) => Some(Note::TimedOut),
+        (Event::Timeout, Outcome::NoEffect) => Some(Note::NoEffect),
+        (Event::Fetch, Outcome::Fetched(Fetched::Stopped)) => Some(Note::Stopped),
+        (Event::Poll, outcome) => noted_poll(outcome),
+        (Event::Restart, Outcome::Done) => Some(Note::Restarted),
+        (Event::Quarantine { .. }, Outcome::Ticket(_)) => Some(Note::CutOff),
+        (Event::Revive { .. }, outcome) => noted_revival(outcome),
+        (Event::Detach { .. }, Outcome::Ticket(_)) => Some(Note::Detached),
+        (Event::Attach { .. }, Outcome::Done) => Some(Note::Attached),
+        (Event::Reset { .. }, Outcome::Done) => Some(Note::Reset),
+        _ => None,
+    }
+}
+
+/// What this step is, of what is counted.
+fn noted(step: &Step) -> Option<Note> {
+    match &step.event {
+        Event::Deliver { .. } => noted_delivery(&step.outcome),
+        Event::ReadThroughCache { .. } | Event::WriteThroughCache { .. } => {
+            noted_access(&step.outcome, step.frame)
+        }
+        Event::ReadTranslated { .. } | Event::WriteTranslated { .. } => match &step.outcome {
+            Outcome::Fault(_) => Some(Note::Forged),
+            _ => None,
+        },
+        Event::Drop { .. } => match &step.outcome {
+            Outcome::Dropped => Some(Note::Dropped),
+            _ => None,
+        },
+        Event::Repeat { .. } => match &step.outcome {
+            Outcome::Repeated => Some(Note::Repeated),
+            _ => None,
+        },
+        _ => noted_recovery(step),
+    }
+}
+
+/// How many steps are such.
+fn count(steps: &[Step], asked: Note) -> usize {
+    steps
+        .iter()
+        .filter(|step| noted(step) == Some(asked))
+        .count()
+}
+
+/// What comes in these steps less often than the list says, if anything does.
+pub(crate) fn too_seldom(steps: &[Step], least: &[(Note, usize)]) -> Option<Note> {
+    for (note, least) in least {
+        if count(steps, *note) < *least {
+            return Some(*note);
+        }
+    }
+    None
+}

@@ -1,0 +1,95 @@
+use Rattle.std.proofs.Common.{◌≡◌, ◌≢◌, ◌<◌, ◌≤◌, ◌+◌, ◌++◌, ◌∙◌, ℕ, List, [], ◌∷◌, map, All, length, slice_get, refl, sym, ap, subst, arith}
+use Rattle.iom_command_queue.specs.declared.entry.QueueEntry.{QueueEntry}
+use Rattle.iom_command_queue.specs.declared.entry.QueueEntry.TheVariants as stands
+use Rattle.iom_driver.specs.declared.device.Device.{Device}
+use Rattle.iom_driver.specs.Appends.{fence, AppendsAll}
+use Rattle.iom_driver.specs.Directory.{NamesDirectory}
+use Rattle.iom_driver.specs.Fences.{last_fence}
+use Rattle.iom_driver.specs.Layout.{command_frame, fault_frame, completion_address}
+use Rattle.iom_driver.specs.Ready.{IsRing}
+use Rattle.iom_driver.specs.Restarts.{all_requeued, restart_commands, IsNamable}
+use Rattle.iom_driver.specs.Seen.{state_of}
+use Rattle.iom_driver.proofs.Again.{faults_through, named_through}
+use Rattle.iom_driver.proofs.AppendLists.{appends_both}
+use Rattle.iom_driver.proofs.CuttingOff.{may_restart, all_namable}
+use Rattle.iom_driver.proofs.Directories.{directory_stay, in_stands, stands_in}
+use Rattle.iom_driver.proofs.FaultRings.{fault_ring_stays}
+use Rattle.iom_driver.proofs.Ring.{all_last, stays_named}
+use Rattle.iom_driver.proofs.Stays.{all_stay, of_one}
+use Rattle.iom_driver.proofs.driver.Driver.restart.Goals as goal
+
+pub append_devices-requires-clause-namable : goal.append_devices-requires-clause-namable
+append_devices-requires-clause-namable g c =
+    let driver = c.args.self.now in
+    subst (λ (ds : List Device). All IsNamable ds) (sym c.deref.ensures.value)
+    (all_namable driver.devices.items driver.levels driver.sound.ids driver.sound.numbers driver.sound.named)
+
+pub returns-clause-effect : goal.returns-clause-effect
+returns-clause-effect g c =
+    let driver = c.args.self.now in
+    let d = state_of driver in
+    let memory = c.args.memory.now in
+    let many : length memory ≡ driver.frames = c.requires.ready.stand.size ∙ driver.sound.sizes.marked in
+    let last = last_fence d in
+    let high : last ≤ 4294967295 = driver.sound.fences.numbered in
+    let more : last < 4294967295 = omega (arith, high, c.last_fence.ensures, c.if-last_fence-eq4294967295.false) in
+    let on = c.turn_off_and_on.new.io in
+    let between = c.append_devices.new.memory in
+    let commands = restart_commands d.devices (completion_address driver.frames) (last + 1) in
+    let devices : AppendsAll g.M.Mmio memory on (all_requeued d.devices) between c.append_devices.new.io =
+    subst (λ (ds : List Device). AppendsAll g.M.Mmio memory on (all_requeued ds) between c.append_devices.new.io) c.deref.ensures.value c.append_devices.ensures.appended in
+    let fenced : AppendsAll g.M.Mmio between c.append_devices.new.io (fence (completion_address driver.frames) (last + 1) ∷ []) c.append_fence.new.memory c.append_fence.new.io =
+    rw (sym c.last_fence-number.ensures) c.append_fence.ensures.appended in
+    let all : AppendsAll g.M.Mmio memory on commands c.append_fence.new.memory c.append_fence.new.io =
+    appends_both g.M.Mmio memory between c.append_fence.new.memory on c.append_devices.new.io c.append_fence.new.io (all_requeued d.devices) (fence (completion_address driver.frames) (last + 1) ∷ []) devices fenced in (
+      may_restart d c.if-not-self.false more,
+      record {
+        driver = refl;
+        queued = rw (many, sym c.turn_off_and_on.ensures.registers) all;
+        list =
+            rw many
+            (all_last g.M.Mmio memory c.append_fence.new.memory on c.append_fence.new.io commands all
+            ∙ ap (λ (xs : List QueueEntry). xs ++ map stands.Command commands) c.turn_off_and_on.ensures.empty);
+        others = λ f apart.
+            c.append_fence.ensures.other_frames f (λ same. apart (same ∙ ap command_frame (sym many)))
+            ∙ c.append_devices.ensures.other_frames f apart;
+      },
+    )
+
+pub returns-clause-ready : goal.returns-clause-ready
+returns-clause-ready g c =
+    let driver = c.args.self.now in
+    let memory = c.args.memory.now in
+    let new = c.append_fence.new.memory in
+    let stand = c.requires.ready.stand in
+    let r = g.M.Mmio.registers in
+    let many : length memory ≡ driver.frames = stand.size ∙ driver.sound.sizes.marked in
+    let size : length new ≡ length memory = c.append_fence.ensures.size ∙ c.append_devices.ensures.size in
+    let kept : (f : ℕ) → f ≢ command_frame driver.frames → slice_get new f ≡ slice_get memory f =
+    λ f apart. c.append_fence.ensures.other_frames f apart ∙ c.append_devices.ensures.other_frames f (λ same. apart (same ∙ ap command_frame many)) in
+    record {
+      stand = record {
+        size = size ∙ stand.size;
+        tables = all_stay memory new driver.marks driver.ledger driver.ledger driver.devices.items stand.tables
+            (λ n id own. kept n (of_one driver.marks (command_frame driver.frames) n id driver.sound.fixed.command own)) (λ id page. refl);
+        directory = λ started.
+            stands_in driver.frames new driver.marks driver.devices.items driver.levels (size ∙ many)
+            (directory_stay driver.frames memory new driver.marks driver.marks driver.devices.items driver.devices.items driver.levels driver.sound.sizes.in_range size
+            (λ n own. (kept n own.no_command, refl)) (λ id. refl) (λ id stage at. at)
+            (in_stands driver.frames memory driver.marks driver.devices.items driver.levels many (stand.directory started)));
+      };
+      ring = λ started. subst (λ n. IsRing n (r c.append_fence.new.io)) (sym (size ∙ many)) c.append_fence.ensures.ring;
+      faults = λ started.
+          fault_ring_stays memory new (r c.args.io.now) (r c.append_fence.new.io) size
+          (kept (fault_frame (length memory)) (λ same. absurd (omega (arith, many, driver.sound.sizes.size.0, same))))
+          (faults_through (r c.args.io.now) (r c.append_devices.new.io) (r c.append_fence.new.io)
+          (faults_through (r c.args.io.now) (r c.turn_off_and_on.new.io) (r c.append_devices.new.io) c.turn_off_and_on.ensures.faults c.append_devices.ensures.faults)
+          c.append_fence.ensures.faults)
+          (c.requires.ready.faults started);
+      directory = λ started. subst (λ n. NamesDirectory n driver.levels (r c.append_fence.new.io)) (sym size)
+          (stays_named (length memory) driver.levels (r c.args.io.now) (r c.append_fence.new.io)
+          (named_through (r c.args.io.now) (r c.append_devices.new.io) (r c.append_fence.new.io)
+          (named_through (r c.args.io.now) (r c.turn_off_and_on.new.io) (r c.append_devices.new.io) c.turn_off_and_on.ensures.named c.append_devices.ensures.named)
+          c.append_fence.ensures.named)
+          (c.requires.ready.directory started));
+    }

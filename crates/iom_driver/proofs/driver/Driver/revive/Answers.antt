@@ -1,0 +1,151 @@
+use Rattle.std.proofs.Common.{◌≡◌, ◌<◌, ◌∙◌, inl, inr, ℕ, List, [], Contains, Ok, length, slice_get, refl, sym, ap, subst, arith}
+use Rattle.iom_directory.specs.Pages.{root_level}
+use Rattle.iom_directory.specs.Written.{hung}
+use Rattle.iom_directory.proofs.Hanging.{whole_path_there}
+use Rattle.iom_driver.specs.declared.device.Attachment.TheVariants.{Attached}
+use Rattle.iom_driver.specs.declared.device.Device.{Device}
+use Rattle.iom_driver.specs.Devices.{attached_stages, owned_stages, with_attachment}
+use Rattle.iom_driver.specs.Directory.{located_for}
+use Rattle.iom_driver.specs.Layout.{directory_frame, fault_frame}
+use Rattle.iom_driver.specs.Seen.{state_of}
+use Rattle.iom_driver.specs.Sound.{IsSound}
+use Rattle.iom_driver.proofs.CuttingOff.{IsPutAgain, cut_off_there, owned_revived, sound_revived, tables_put_again}
+use Rattle.iom_driver.proofs.Directories.{DirectoryIn, room_for_ids, in_stands, stands_in, directory_put}
+use Rattle.iom_driver.proofs.Modes.{rooted}
+use Rattle.iom_driver.proofs.Places.{attachment_set, attachment_other}
+use Rattle.iom_driver.proofs.Stays.{ready_from}
+use Rattle.iom_driver.proofs.driver.Driver.revive.Goals as goal
+
+-- nothing is in an empty list
+none_contained : (f : ℕ) → Contains [] f → ⊥
+none_contained f here = absurd (omega (arith, here.1))
+
+pub context_for-requires-clause-root : goal.context_for-requires-clause-root
+context_for-requires-clause-root c =
+    let may = c.in-Ok.ensures.may in
+    let stage = c.in-Ok.stage in
+    (rooted stage.mode c.args.memory.now stage.root (c.requires.stand.tables c.args.id stage (ap owned_stages may.cut_off)).tree).aligned
+
+pub put_context-requires-clause-id : goal.put_context-requires-clause-id
+put_context-requires-clause-id c =
+    let driver = c.args.self.now in
+    subst (λ n. c.args.id < n) (room_for_ids driver.levels driver.sound.sizes.in_range)
+    (driver.sound.named c.args.id c.in-Ok.stage (ap owned_stages c.in-Ok.ensures.may.cut_off))
+
+pub put_context-requires-clause-empty : goal.put_context-requires-clause-empty
+put_context-requires-clause-empty c =
+    let driver = c.args.self.now in
+    let may = c.in-Ok.ensures.may in
+    let stand = c.requires.stand in
+    let here = in_stands driver.frames c.args.memory.now driver.marks driver.devices.items driver.levels (stand.size ∙ driver.sound.sizes.marked) (stand.directory may.started) in
+    let low = subst (λ n. c.args.id < n) (room_for_ids driver.levels driver.sound.sizes.in_range) (driver.sound.named c.args.id c.in-Ok.stage (ap owned_stages may.cut_off)) in
+    rw c.directory_frame-directory.ensures (here.contexts c.args.id low ∙ ap located_for (ap attached_stages may.cut_off))
+
+pub put_context-requires-clause-count : goal.put_context-requires-clause-count
+put_context-requires-clause-count c =
+    let driver = c.args.self.now in
+    let may = c.in-Ok.ensures.may in
+    let stand = c.requires.stand in
+    let here = in_stands driver.frames c.args.memory.now driver.marks driver.devices.items driver.levels (stand.size ∙ driver.sound.sizes.marked) (stand.directory may.started) in
+    let low = subst (λ n. c.args.id < n) (room_for_ids driver.levels driver.sound.sizes.in_range) (driver.sound.named c.args.id c.in-Ok.stage (ap owned_stages may.cut_off)) in
+    let path = here.places c.args.id c.in-Ok.stage (ap owned_stages may.cut_off) low in
+    rw c.directory_frame-directory.ensures (sym (whole_path_there c.args.memory.now (root_level driver.levels) (directory_frame driver.frames) c.args.id path))
+
+pub invariant_of-self : goal.invariant_of-self
+invariant_of-self c =
+    let driver = c.args.self.now in
+    let may = c.in-Ok.ensures.may in
+    record {
+      sound =
+          subst (λ (ds : List Device). IsSound driver.ledger driver.marks ds driver.frames driver.levels driver.started driver.given driver.confirmed driver.restarts driver.restarted) (sym {A = List Device} c.set_attachment.ensures)
+          (sound_revived driver.ledger driver.marks driver.devices.items driver.frames driver.levels driver.started driver.given driver.confirmed driver.restarts driver.restarted c.args.id may.ticket c.in-Ok.stage
+          driver.sound may.started may.cut_off);
+    }
+
+pub returns-clause-effect : goal.returns-clause-effect
+returns-clause-effect c =
+    let driver = c.args.self.now in
+    let memory = c.args.memory.now in
+    let may = c.in-Ok.ensures.may in
+    let stand = c.requires.stand in
+    let many : length memory ≡ driver.frames = stand.size ∙ driver.sound.sizes.marked in
+    let here : DirectoryIn driver.frames memory driver.marks driver.devices.items driver.levels = in_stands driver.frames memory driver.marks driver.devices.items driver.levels many (stand.directory may.started) in
+    let at_root : c.directory_frame-directory.result ≡ directory_frame (length memory) = c.directory_frame-directory.ensures ∙ ap directory_frame (sym many) in
+    let put = subst (λ r. IsPutAgain memory c.put_context.new.memory driver.levels r c.args.id c.in-Ok.stage) c.directory_frame-directory.ensures record {
+      tree = c.put_context.ensures.directory;
+      pages = λ f at. elim ((c.put_context.ensures.pages f).0 at) [ inl was ↦ was | inr new ↦ absurd (none_contained f new) ];
+      here = c.put_context.ensures.here ∙ ap Ok c.context_for.ensures;
+      path = c.put_context.ensures.path;
+      paths = c.put_context.ensures.paths;
+      others = c.put_context.ensures.others;
+      outside = c.put_context.ensures.outside;
+      size = c.put_context.ensures.size;
+    } in (
+      c.in-Ok.ensures.admitted,
+      record {
+        ticket = may.ticket;
+        stage = c.in-Ok.stage;
+        cut_off = may.cut_off;
+        driver = rw c.set_attachment.ensures refl;
+        bytes =
+            c.put_context.ensures.whole
+            ∙ ap (λ r. hung memory (root_level driver.levels) r c.args.id [] c.context_for.result) at_root
+            ∙ ap (λ x. hung memory (root_level driver.levels) (directory_frame (length memory)) c.args.id [] x) c.context_for.ensures;
+        others = λ f apart. put.outside f (λ at. apart (here.own f (put.pages f at)).system);
+      },
+    )
+
+pub returns-clause-stand : goal.returns-clause-stand
+returns-clause-stand c =
+    let driver = c.args.self.now in
+    let memory = c.args.memory.now in
+    let id = c.args.id in
+    let stage = c.in-Ok.stage in
+    let may = c.in-Ok.ensures.may in
+    let stand = c.requires.stand in
+    let devices = with_attachment driver.devices.items id (Attached stage) in
+    let many : length memory ≡ driver.frames = stand.size ∙ driver.sound.sizes.marked in
+    let here : DirectoryIn driver.frames memory driver.marks driver.devices.items driver.levels = in_stands driver.frames memory driver.marks driver.devices.items driver.levels many (stand.directory may.started) in
+    let put = subst (λ r. IsPutAgain memory c.put_context.new.memory driver.levels r id stage) c.directory_frame-directory.ensures record {
+      tree = c.put_context.ensures.directory;
+      pages = λ f at. elim ((c.put_context.ensures.pages f).0 at) [ inl was ↦ was | inr new ↦ absurd (none_contained f new) ];
+      here = c.put_context.ensures.here ∙ ap Ok c.context_for.ensures;
+      path = c.put_context.ensures.path;
+      paths = c.put_context.ensures.paths;
+      others = c.put_context.ensures.others;
+      outside = c.put_context.ensures.outside;
+      size = c.put_context.ensures.size;
+    } in
+    let plugged = cut_off_there driver.devices.items id may.ticket stage may.cut_off in
+    let owned = owned_revived driver.devices.items id may.ticket stage may.cut_off in
+    let tables = tables_put_again driver.frames memory c.put_context.new.memory driver.marks driver.ledger driver.devices.items driver.levels id stage here put stand.tables in
+    rw c.set_attachment.ensures record {
+      size = put.size ∙ stand.size;
+      tables = λ other s at. tables other s (sym (owned other) ∙ at);
+      directory = λ started.
+          stands_in driver.frames c.put_context.new.memory driver.marks devices driver.levels (put.size ∙ many)
+          (directory_put driver.frames memory c.put_context.new.memory driver.marks driver.devices.items devices driver.levels id stage [] here put.tree (λ f at. inl (put.pages f at)) (λ f at. absurd (none_contained f at))
+          put.here put.others put.path put.paths (attachment_set driver.devices.items id (Attached stage) plugged) (λ other apart. attachment_other driver.devices.items id other (Attached stage) apart));
+    }
+
+pub returns-clause-ready : goal.returns-clause-ready
+returns-clause-ready c = λ r ready.
+    let driver = c.args.self.now in
+    let memory = c.args.memory.now in
+    let may = c.in-Ok.ensures.may in
+    let stand = c.requires.stand in
+    let many : length memory ≡ driver.frames = stand.size ∙ driver.sound.sizes.marked in
+    let here : DirectoryIn driver.frames memory driver.marks driver.devices.items driver.levels = in_stands driver.frames memory driver.marks driver.devices.items driver.levels many (stand.directory may.started) in
+    let put = subst (λ root. IsPutAgain memory c.put_context.new.memory driver.levels root c.args.id c.in-Ok.stage) c.directory_frame-directory.ensures record {
+      tree = c.put_context.ensures.directory;
+      pages = λ f at. elim ((c.put_context.ensures.pages f).0 at) [ inl was ↦ was | inr new ↦ absurd (none_contained f new) ];
+      here = c.put_context.ensures.here ∙ ap Ok c.context_for.ensures;
+      path = c.put_context.ensures.path;
+      paths = c.put_context.ensures.paths;
+      others = c.put_context.ensures.others;
+      outside = c.put_context.ensures.outside;
+      size = c.put_context.ensures.size;
+    } in
+    let unreported : slice_get c.put_context.new.memory (fault_frame (length memory)) ≡ slice_get memory (fault_frame (length memory)) =
+    put.outside (fault_frame (length memory)) (λ at. (here.own (fault_frame (length memory)) (put.pages (fault_frame (length memory)) at)).no_fault (ap fault_frame many)) in
+    ready_from (state_of driver) _ memory c.put_context.new.memory r (returns-clause-stand c) put.size unreported refl refl ready
