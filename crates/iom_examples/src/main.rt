@@ -1,10 +1,11 @@
 //! Runs each script of `data/`, which the repository also shows as `examples/`, and compares what it
 //! prints with the file beside it: `NAME.iommu` is the script, `NAME.out` what is wanted.
 //!
-//! It prints a line for each script. So the outputs that a reader of the examples sees can't drift
+//! It prints a line for each script, and what `iom_judge` finds of it as a trace. So the outputs that a reader of the examples sees can't drift
 //! from what the program prints.
 #![tactic(auto)]
 
+use iom_judge::{judge_trace, trace_of};
 use std::alloc::Global;
 use std::fs;
 
@@ -53,14 +54,22 @@ fn printed(alloc: Global, script: &str) -> anyhow::Result<String> {
     Ok(String::from_utf8(lines)?)
 }
 
+/// What is found of the script with what is wanted of it, as a trace.
+fn judged(alloc: Global, script: &str, wanted: &str) -> anyhow::Result<String> {
+    let trace = trace_of(alloc, script, wanted)?;
+    let verdict = judge_trace(alloc, &mut trace.as_bytes())?;
+    Ok(format!(in alloc; "{verdict}")?)
+}
+
 fn main(rt: HostRuntime) -> anyhow::Result<()> {
     for name in NAMES {
         let script = fs::read_to_string(&rt, format!(in rt.alloc(); "{name}.iommu")?)?;
         let wanted = fs::read_to_string(&rt, format!(in rt.alloc(); "{name}.out")?)?;
         let printed = printed(rt.alloc(), &script)?;
+        let judged = judged(rt.alloc(), &script, &wanted)?;
         match first_difference(&printed, &wanted) {
-            None => println!(rt; "{name}: as written")?,
-            Some(line) => println!(rt; "{name}: line {line} differs")?,
+            None => println!(rt; "{name}: as written; {judged}")?,
+            Some(line) => println!(rt; "{name}: line {line} differs; {judged}")?,
         }
     }
     Ok(())

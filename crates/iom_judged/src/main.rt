@@ -14,6 +14,7 @@ mod tests;
 
 use crate::index::{Row, Wanted};
 use anyhow::Context;
+use iom_judge::{Verdict, judge_trace, trace_of};
 use iom_lawful::{Found, judge_output};
 use iom_script::LineBuffer;
 use std::fs;
@@ -56,6 +57,23 @@ fn judge_row(
     Ok(judge_output(rt.alloc(), printed, &script, output.as_str())?)
 }
 
+/// What is found of the output as a trace, line by line.
+fn judge_as_trace(rt: &(impl Files + AllocGlobal), row: Row<'_>) -> anyhow::Result<Verdict> {
+    let script = fs::read_to_string(rt, row.script)?;
+    let output = fs::read_to_string(rt, row.output)?;
+    let trace = trace_of(rt.alloc(), script.as_str(), output.as_str())?;
+    Ok(judge_trace(rt.alloc(), &mut trace.as_bytes())?)
+}
+
+/// Whether that is no later than the checker's line, and no earlier than the one that was changed.
+fn agrees(wanted: Wanted, verdict: &Verdict) -> bool {
+    match (wanted, verdict.line()) {
+        (Wanted::Lawful, None) => true,
+        (Wanted::Unlawful { line, changed }, Some(at)) => changed <= at && at <= line,
+        _ => false,
+    }
+}
+
 fn main(rt: HostRuntime) -> anyhow::Result<()> {
     let index = fs::read_to_string(&rt, "index.tsv")?;
     let mut printed = LineBuffer::new(rt.alloc())?;
@@ -66,15 +84,23 @@ fn main(rt: HostRuntime) -> anyhow::Result<()> {
         undecided: 0,
         differed: 0,
     };
+    let mut traces = 0u32;
     for line in index.as_str().lines().skip(1) {
         let row = Row::parse(line).context("index.tsv")?;
         let found = judge_row(&rt, &mut printed, row)?;
         println!(rt; "{}: {found}; the checker: {}", row.output, row.wanted)?;
         tally.count(row.wanted, found);
+        let verdict = judge_as_trace(&rt, row)?;
+        if agrees(row.wanted, &verdict) {
+            traces = traces.saturating_add(1);
+        } else {
+            println!(rt; "{} as a trace: {verdict}", row.output)?;
+        }
     }
     println!(rt;
         "{} lawful, {} unlawful at the checker's line, {} at an earlier one, {} not decided, {} differ",
         tally.lawful, tally.unlawful, tally.earlier, tally.undecided, tally.differed
     )?;
+    println!(rt; "{traces} agree as traces")?;
     Ok(())
 }

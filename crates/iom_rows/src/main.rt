@@ -2,10 +2,11 @@
 //! is the script, `NAME.out` what is wanted. Both were worked out by hand from the rules, before there
 //! was a program.
 //!
-//! It prints a line for each script, with the fault that it ends with, if any; the gate compares those
-//! lines. A new script is its two files and a line of `ROWS`.
+//! It prints a line for each script, with the fault that it ends with, if any, and what `iom_judge` finds of
+//! it as a trace; the gate compares those lines. A new script is its two files and a line of `ROWS`.
 #![tactic(auto)]
 
+use iom_judge::{judge_trace, trace_of};
 use std::alloc::Global;
 use std::fs;
 
@@ -66,12 +67,20 @@ fn compared(alloc: Global, script: &str, wanted: &str) -> anyhow::Result<String>
     }
 }
 
+/// What is found of the script with what is wanted of it, as a trace.
+fn judged(alloc: Global, script: &str, wanted: &str) -> anyhow::Result<String> {
+    let trace = trace_of(alloc, script, wanted)?;
+    let verdict = judge_trace(alloc, &mut trace.as_bytes())?;
+    Ok(format!(in alloc; "{verdict}")?)
+}
+
 fn main(rt: HostRuntime) -> anyhow::Result<()> {
     for name in ROWS {
         let script = fs::read_to_string(&rt, format!(in rt.alloc(); "{name}.script")?)?;
         let wanted = fs::read_to_string(&rt, format!(in rt.alloc(); "{name}.out")?)?;
         let compared = compared(rt.alloc(), &script, &wanted)?;
-        println!(rt; "{name}: {compared}")?;
+        let judged = judged(rt.alloc(), &script, &wanted)?;
+        println!(rt; "{name}: {compared}; {judged}")?;
     }
     Ok(())
 }

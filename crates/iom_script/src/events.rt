@@ -392,7 +392,7 @@ fn under_t(alloc: Global, line: &[u8]) -> Result<Option<Event>, AllocError>
 /// The event that a line says. Lines of a single word are tried first, since a longer line is told from them by
 /// its length; the others are looked up as in a dictionary, under their first letter. Only the bytes of a write
 /// or a poke take memory.
-pub(crate) fn event_of(alloc: Global, line: &[u8]) -> Result<Option<Event>, AllocError>
+pub fn event_of(alloc: Global, line: &[u8]) -> Result<Option<Event>, AllocError>
     ensures { IfOk result (λ event. Reads event (IsEventLine line.now)) }
 {
     if let Some(event) = single(line) {
@@ -440,7 +440,7 @@ fn is_level_count(levels: u64) -> bool
 }
 
 /// The size of the world that a line says.
-pub(crate) fn world_of(line: &[u8]) -> Option<WorldSize>
+pub fn world_of(line: &[u8]) -> Option<WorldSize>
     ensures { Reads result (IsWorldLine line.now) }
 {
     let arguments = after(line, b"world ")?;

@@ -164,7 +164,10 @@ impl Told {
             (Told::Invalidated(serial), Outcome::Invalidated(held)) => *held = serial,
             (Told::Closed(serial), Outcome::Closed(held)) => *held = serial,
             (Told::NotClosed(serial), Outcome::NotClosed(held)) => *held = serial,
-            _ => self.replace(place),
+            _ => {
+                let told = self;
+                told.replace(place);
+            }
         }
     }
 }

@@ -1,0 +1,4 @@
+pub mod Allowed
+pub mod Lines
+pub mod Reasons
+pub mod Steps

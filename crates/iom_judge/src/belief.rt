@@ -1,0 +1,462 @@
+// What is believed of the machine's state after the lines so far.
+ghost use Rattle.std.specs.Prelude.{◌≤◌};
+
+use crate::asked::{Asked, read_by, write_by};
+use crate::asking::request;
+use crate::calls::{attach, grant, plug};
+use crate::commits::{commit, drop_oldest};
+use crate::devices::{device_with, place_of};
+use crate::doubts::{Doubts, frame_at, possible_frames};
+use crate::frames::{keep, store};
+use crate::known::Known;
+use crate::messages::Messages;
+use crate::owners::may_be_somebodys;
+use crate::polls::{begin_poll, end_poll, poll};
+use crate::processor::{peek, poke};
+use crate::questions::may_tell;
+use crate::releases::Releases;
+use crate::requests::answers_absent;
+use crate::versions::Versions;
+use iom_base::{AccessKind, DeviceId, PAGE_SIZE};
+use iom_fabric::Translation;
+use iom_machine::{Event, Outcome};
+use std::alloc::{AllocError, Global};
+
+/// What a line shows of what its answer doesn't.
+#[derive(Clone, Copy)]
+pub(crate) struct Shown<'a> {
+    /// The frames that were taken for tables.
+    pub(crate) tables: Option<&'a [u32]>,
+    /// The frame on which an access was accepted.
+    pub(crate) on: Option<u32>,
+}
+
+/// What is believed of the machine's state after the lines so far.
+#[derive(Drop)]
+pub(crate) struct Belief {
+    pub(crate) known: Known,
+    pub(crate) doubts: Doubts,
+    pub(crate) versions: Versions,
+    pub(crate) messages: Messages,
+    pub(crate) releases: Releases,
+}
+
+/// Whether the frame may hold other bytes than those that are believed first.
+fn has_other(known: &Known, frame: u32) -> bool {
+    match known.frames.as_slice().get(frame as usize) {
+        None => false,
+        Some(believed) => believed.other.is_some(),
+    }
+}
+
+impl Belief {
+    /// What is believed at power-on.
+    pub(crate) fn power_on(alloc: Global, frames: u32, levels: u8) -> Result<Belief, AllocError>
+        requires { 4 ≤ frames }
+    {
+        Ok(Belief {
+            known: Known::power_on(alloc, frames, levels)?,
+            doubts: Doubts::new(alloc),
+            versions: Versions::new(alloc),
+            messages: Messages::new(alloc),
+            releases: Releases::new(alloc),
+        })
+    }
+
+    /// Whether nothing that is possible was left out.
+    pub(crate) fn is_exact(&self) -> bool {
+        self.known.is_exact
+    }
+
+    /// Whether nothing is believed of a frame in more than one way, but for whose it is.
+    pub(crate) fn is_settled(&self) -> bool {
+        self.doubts.is_empty() && self.versions.is_known()
+    }
+
+    /// A request.
+    fn ask_for(
+        &mut self,
+        alloc: Global,
+        asked: Asked,
+        outcome: &Outcome,
+        on: Option<u32>,
+    ) -> Result<bool, AllocError> {
+        let Asked {
+            way,
+            device,
+            access,
+        } = asked;
+        if !matches!(outcome, Outcome::Accepted(_)) {
+            return request(way, &mut self.known, device, access, outcome, 0);
+        }
+        if let Some(frame) = on {
+            return request(way, &mut self.known, device, access, outcome, frame);
+        }
+        let kind = access.kind;
+        let frames = possible_frames(alloc, way, &self.known, device, &access)?;
+        let page = access.address / PAGE_SIZE;
+        let frame = match frames.first() {
+            Some(first) => *first,
+            None => frame_at(&self.known, device, page).unwrap_or(0),
+        };
+        let may_come = request(way, &mut self.known, device, access, outcome, frame)?;
+        if may_come {
+            self.doubts.accept(&self.known, device, way, kind, frames)?;
+        }
+        Ok(may_come)
+    }
+
+    /// A poll.
+    fn poll(&mut self, alloc: Global, outcome: &Outcome) -> bool {
+        if self.is_settled() {
+            return poll(alloc, &mut self.known, outcome);
+        }
+        let Outcome::Confirmed { first, last, .. } = outcome else {
+            return poll(alloc, &mut self.known, outcome);
+        };
+        if !begin_poll(&mut self.known, *first, *last) {
+            return false;
+        }
+        self.versions.forget_reserved(&self.known);
+        self.doubts.narrow(&mut self.known);
+        end_poll(alloc, &mut self.known)
+    }
+
+    /// A commit, where it isn't known on which frame the access is, or what the frame holds.
+    fn commit_in_doubt(
+        &mut self,
+        alloc: Global,
+        place: usize,
+        outcome: &Outcome,
+    ) -> Result<bool, AllocError> {
+        let Some(device) = self.known.devices.as_slice().get(place) else {
+            return Ok(false);
+        };
+        let Some(made) = device.in_flight.as_slice().first() else {
+            return Ok(matches!(outcome, Outcome::NothingInFlight));
+        };
+        let doubt = self.doubts.place_of_oldest(device);
+        let mut frames = Vec::new(alloc);
+        match doubt.and_then(|place| self.doubts.at(place)) {
+            None => frames.push(made.frame)?,
+            Some(doubt) => frames.extend_from_slice(&doubt.frames)?,
+        }
+        let offset = (made.access.address % PAGE_SIZE) as usize;
+        let (kind, asked) = (made.access.kind, made.access.len);
+        match (outcome, kind) {
+            (Outcome::Read(bytes), AccessKind::Read) => {
+                self.commit_read(place, doubt, frames, offset, bytes.as_slice(), asked)
+            }
+            (Outcome::Wrote(len), AccessKind::Write) if *len == asked => {
+                self.commit_write(alloc, place, doubt, &frames, offset)
+            }
+            _ => Ok(false),
+        }
+    }
+
+    /// A read is made on one of the frames.
+    fn commit_read(
+        &mut self,
+        place: usize,
+        doubt: Option<usize>,
+        frames: Vec<u32>,
+        offset: usize,
+        bytes: &[u8],
+        len: u64,
+    ) -> Result<bool, AllocError> {
+        let mut frames = frames;
+        let known = &self.known;
+        let versions = &self.versions;
+        frames.retain(|frame| versions.may_show(known, *frame, offset, bytes));
+        let Some(frame) = frames.first().copied() else {
+            return Ok(false);
+        };
+        if bytes.len() as u64 != len {
+            return Ok(false);
+        }
+        self.versions.narrow(&self.known, &frames, offset, bytes);
+        self.keep_one(&frames, offset, bytes);
+        if let Some(doubt) = doubt {
+            self.doubts.decide(&mut self.known, doubt, frame);
+        }
+        drop_oldest(&mut self.known, place);
+        Ok(true)
+    }
+
+    /// One of the frames, which are the only ones that may have these bytes, has them.
+    fn keep_one(&mut self, frames: &[u32], offset: usize, bytes: &[u8]) {
+        for frame in frames {
+            if !has_other(&self.known, *frame) {
+                return;
+            }
+        }
+        let Some(first) = frames.first() else {
+            return;
+        };
+        let number = *first as usize;
+        if number < self.known.frames.as_slice().len() {
+            keep(self.known.frames.item_mut(number), offset, bytes);
+        }
+        if frames.len() > 1 {
+            self.known.is_exact = false;
+        }
+    }
+
+    /// The frames have what is believed of their bytes, and not what they may have instead.
+    fn leave_others(&mut self, frames: &[u32]) {
+        for frame in frames {
+            if has_other(&self.known, *frame) {
+                let number = *frame as usize;
+                if number < self.known.frames.as_slice().len() {
+                    self.known.frames.item_mut(number).other = None;
+                }
+                self.known.is_exact = false;
+            }
+        }
+    }
+
+    /// A write is made on one of the frames.
+    fn commit_write(
+        &mut self,
+        alloc: Global,
+        place: usize,
+        doubt: Option<usize>,
+        frames: &[u32],
+        offset: usize,
+    ) -> Result<bool, AllocError> {
+        if place >= self.known.devices.as_slice().len() {
+            return Ok(false);
+        }
+        let device = self.known.devices.item_mut(place);
+        if device.in_flight.as_slice().is_empty() {
+            return Ok(false);
+        }
+        let made = device.in_flight.pop_front();
+        let bytes = made.access.bytes.as_slice();
+        if let Some(doubt) = doubt {
+            self.doubts.forget(doubt);
+        }
+        let is_whole = match frames {
+            [frame] => self.write(alloc, *frame, offset, bytes)?,
+            _ => self
+                .versions
+                .part(alloc, &self.known, frames, offset, bytes)?,
+        };
+        if !is_whole {
+            self.known.is_exact = false;
+        }
+        Ok(true)
+    }
+
+    /// The bytes are written into the frame.
+    fn write(
+        &mut self,
+        alloc: Global,
+        frame: u32,
+        offset: usize,
+        bytes: &[u8],
+    ) -> Result<bool, AllocError> {
+        let number = frame as usize;
+        if number < self.known.frames.as_slice().len() {
+            store(alloc, self.known.frames.item_mut(number), offset, bytes)?;
+        }
+        self.versions.write(alloc, frame, offset, bytes)
+    }
+
+    /// A commit.
+    fn commit(
+        &mut self,
+        alloc: Global,
+        id: DeviceId,
+        outcome: &Outcome,
+    ) -> Result<bool, AllocError> {
+        if self.is_settled() {
+            return commit(alloc, &mut self.known, id, outcome);
+        }
+        let Some(place) = place_of(self.known.devices.as_slice(), id) else {
+            return Ok(answers_absent(outcome));
+        };
+        let may_come = self.commit_in_doubt(alloc, place, outcome)?;
+        self.versions.settle(alloc, &mut self.known)?;
+        Ok(may_come)
+    }
+
+    /// A poke.
+    fn poke(
+        &mut self,
+        alloc: Global,
+        address: u64,
+        bytes: &[u8],
+        outcome: &Outcome,
+    ) -> Result<bool, AllocError> {
+        let may_come = poke(alloc, &mut self.known, address, bytes, outcome)?;
+        if may_come && matches!(outcome, Outcome::Done) {
+            let Ok(frame) = u32::try_from(address / PAGE_SIZE) else {
+                return Ok(may_come);
+            };
+            let offset = (address % PAGE_SIZE) as usize;
+            if !self.versions.write(alloc, frame, offset, bytes)? {
+                self.known.is_exact = false;
+            }
+        }
+        Ok(may_come)
+    }
+
+    /// A peek.
+    fn peek(
+        &mut self,
+        alloc: Global,
+        address: u64,
+        len: u64,
+        outcome: &Outcome,
+    ) -> Result<bool, AllocError> {
+        if self.versions.is_known() {
+            return Ok(peek(&mut self.known, address, len, outcome));
+        }
+        let Outcome::Bytes(bytes) = outcome else {
+            return Ok(peek(&mut self.known, address, len, outcome));
+        };
+        let Ok(frame) = u32::try_from(address / PAGE_SIZE) else {
+            return Ok(peek(&mut self.known, address, len, outcome));
+        };
+        let offset = (address % PAGE_SIZE) as usize;
+        let bytes = bytes.as_slice();
+        let fits = bytes.len() as u64 == len && self.versions.touches(frame);
+        if !fits || !self.versions.may_show(&self.known, frame, offset, bytes) {
+            return Ok(peek(&mut self.known, address, len, outcome));
+        }
+        if may_be_somebodys(&self.known, u64::from(frame)) {
+            self.known.is_exact = false;
+        }
+        self.versions.narrow(&self.known, &[frame], offset, bytes);
+        self.versions.settle(alloc, &mut self.known)?;
+        Ok(true)
+    }
+
+    /// A question is delivered and answered.
+    fn is_told(&self, place: u64, told: Translation) -> bool {
+        let Some(question) = self.messages.question_at(place) else {
+            return false;
+        };
+        match device_with(self.known.devices.as_slice(), question.device) {
+            None => false,
+            Some(device) => may_tell(&self.known, device, question.page, told),
+        }
+    }
+
+    /// A call of the driver that takes frames, or a device that is plugged in.
+    fn call(
+        &mut self,
+        alloc: Global,
+        event: &Event,
+        outcome: &Outcome,
+        tables: Option<&[u32]>,
+    ) -> Result<bool, AllocError> {
+        let known = &mut self.known;
+        match event {
+            Event::Plug { device, kind } => plug(alloc, known, *device, *kind, outcome),
+            Event::Attach { device, mode, ats } => {
+                Ok(attach(known, *device, *mode, *ats, outcome, tables))
+            }
+            Event::Grant {
+                device,
+                page,
+                frame,
+                rights,
+            } => grant(known, *device, *page, *frame, *rights, outcome, tables),
+            _ => Ok(false),
+        }
+    }
+
+    /// A message, or a reset.
+    fn send(&self, event: &Event, outcome: &Outcome) -> bool {
+        match event {
+            Event::Ask { device, .. } => self.known.ask(*device, outcome),
+            Event::Forge { device, .. } => self.known.forge(*device, outcome),
+            Event::Reset { device } => self.known.reset(*device, outcome),
+            _ => false,
+        }
+    }
+
+    /// A delivery.
+    fn deliver(&mut self, event: &Event, place: u64, outcome: &Outcome) -> bool {
+        match outcome {
+            Outcome::Answered(told) => self.is_told(place, *told),
+            _ => self.known.act(event, outcome),
+        }
+    }
+
+    /// Whether this may come of the event, where the lines so far are lawful. Where it may, what is believed afterwards is
+    /// what may be so then.
+    pub(crate) fn step(
+        &mut self,
+        alloc: Global,
+        event: Event,
+        outcome: &Outcome,
+        shown: Shown<'_>,
+    ) -> Result<bool, AllocError> {
+        if let Some(asked) = read_by(alloc, &event) {
+            return self.ask_for(alloc, asked, outcome, shown.on);
+        }
+        match write_by(event) {
+            Ok(asked) => self.ask_for(alloc, asked, outcome, shown.on),
+            Err(other) => self.step_other(alloc, &other, outcome, shown.tables),
+        }
+    }
+
+    /// The same of an event that asks for no access.
+    fn follow_other(
+        &mut self,
+        alloc: Global,
+        event: &Event,
+        outcome: &Outcome,
+        tables: Option<&[u32]>,
+    ) -> Result<bool, AllocError> {
+        match event {
+            Event::Plug { .. } | Event::Attach { .. } | Event::Grant { .. } => {
+                self.call(alloc, event, outcome, tables)
+            }
+            Event::Poll => Ok(self.poll(alloc, outcome)),
+            Event::Commit { device } => self.commit(alloc, *device, outcome),
+            Event::Poke { address, bytes } => {
+                self.poke(alloc, *address, bytes.as_slice(), outcome)
+            }
+            Event::Peek { address, len } => self.peek(alloc, *address, *len, outcome),
+            Event::Ask { .. } | Event::Forge { .. } | Event::Reset { .. } => {
+                Ok(self.send(event, outcome))
+            }
+            Event::Deliver { place } => Ok(self.deliver(event, *place, outcome)),
+            _ => Ok(self.known.act(event, outcome)),
+        }
+    }
+
+    /// Notes which messages are under way, and what was released under which ticket.
+    fn note(&mut self, event: &Event, outcome: &Outcome) -> Result<(), AllocError> {
+        match (event, outcome) {
+            (Event::Release { device, page }, Outcome::Ticket(ticket)) => {
+                self.releases.note(*ticket, *device, Some(*page))?;
+            }
+            (Event::Quarantine { device }, Outcome::Ticket(ticket)) => {
+                self.releases.note(*ticket, *device, None)?;
+            }
+            (Event::Poll, Outcome::Confirmed { last, .. }) => self.releases.confirm(*last),
+            _ => {}
+        }
+        self.messages.note(event, outcome)
+    }
+
+    /// Whether this may come of an event that asks for no access.
+    fn step_other(
+        &mut self,
+        alloc: Global,
+        event: &Event,
+        outcome: &Outcome,
+        tables: Option<&[u32]>,
+    ) -> Result<bool, AllocError> {
+        let may_come = self.follow_other(alloc, event, outcome, tables)?;
+        if may_come {
+            self.note(event, outcome)?;
+        }
+        Ok(may_come)
+    }
+}

@@ -1,0 +1,120 @@
+//! `iommu-judge [FILE]` judges the trace in the file, or on standard input: it prints `lawful`, or the first line that
+//! can't have come, with the reason. The repository's `docs/JUDGE.md` says how a trace is written, and what the verdicts
+//! mean.
+//!
+//! The exit status is 0 where the trace is lawful, 1 where it isn't or where that can't be decided, 2 where a line isn't
+//! in the grammar, 3 where the command line isn't lawful, and 4 where reading, writing or memory failed. What goes wrong
+//! is told on standard error, as `iommu-judge: NAME: TEXT`.
+#![tactic(auto)]
+
+use iom_judge::{Verdict, judge_trace};
+use std::io::{self, ErrorKind};
+use std::process::ExitCode;
+use std::{env, fs};
+
+const LAWFUL: u8 = 0;
+
+const NOT_LAWFUL: u8 = 1;
+
+const NOT_IN_GRAMMAR: u8 = 2;
+
+const BAD_COMMAND_LINE: u8 = 3;
+
+const FAILED: u8 = 4;
+
+/// The name of standard input, where it is what can't be read.
+const INPUT: &str = "standard input";
+
+/// The words of the command line, after the program's name.
+fn words_of(rt: &HostRuntime) -> io::Result<Vec<String>> {
+    let mut words = Vec::new(rt.alloc());
+    for word in env::args(rt)?.skip(1) {
+        words.push(word)?;
+    }
+    Ok(words)
+}
+
+/// Tells on standard error what goes wrong with what has this name.
+fn complain(rt: &HostRuntime, name: &str, text: &str, status: u8) -> u8 {
+    let _ = eprintln!(rt; "iommu-judge: {name}: {text}");
+    status
+}
+
+/// Why what has this name can't be read.
+fn cause_of(error: &io::Error) -> &'static str {
+    match error.kind() {
+        ErrorKind::NotFound => "no such file",
+        ErrorKind::PermissionDenied => "permission denied",
+        ErrorKind::IsADirectory => "it is a directory",
+        ErrorKind::OutOfMemory => "out of memory",
+        _ => "reading failed",
+    }
+}
+
+/// Prints what is found, and gives the exit status.
+fn tell(rt: &HostRuntime, name: &str, verdict: &Verdict) -> io::Result<u8> {
+    match verdict {
+        Verdict::Bad { .. } => {
+            eprintln!(rt; "iommu-judge: {name}: {verdict}")?;
+            Ok(NOT_IN_GRAMMAR)
+        }
+        Verdict::Lawful => {
+            println!(rt; "{verdict}")?;
+            Ok(LAWFUL)
+        }
+        _ => {
+            println!(rt; "{verdict}")?;
+            Ok(NOT_LAWFUL)
+        }
+    }
+}
+
+/// Tells what was found of what has this name, or why it can't be read.
+fn end(rt: &HostRuntime, name: &str, found: io::Result<Verdict>) -> u8 {
+    match found {
+        Err(error) => complain(rt, name, cause_of(&error), FAILED),
+        Ok(verdict) => match tell(rt, name, &verdict) {
+            Ok(status) => status,
+            Err(_) => complain(rt, "standard output", "writing failed", FAILED),
+        },
+    }
+}
+
+/// Whether the word can name a file: it isn't empty, and doesn't begin with `-`.
+fn is_file(word: &str) -> bool {
+    match word.as_bytes() {
+        [] => false,
+        [first, ..] => *first != b'-',
+    }
+}
+
+/// Judges what the words name, and gives the exit status.
+fn run(rt: &HostRuntime, words: &[String]) -> u8 {
+    match words {
+        [] => end(rt, INPUT, judge_trace(rt.alloc(), &mut rt.stdin())),
+        [file] if is_file(file) => {
+            let found = match fs::open(rt, file) {
+                Ok(mut opened) => judge_trace(rt.alloc(), &mut opened),
+                Err(error) => Err(error),
+            };
+            end(rt, file, found)
+        }
+        _ => complain(
+            rt,
+            "command line",
+            "at most one file is named",
+            BAD_COMMAND_LINE,
+        ),
+    }
+}
+
+fn main(rt: HostRuntime) -> ExitCode {
+    let status = match words_of(&rt) {
+        Ok(words) => run(&rt, &words),
+        Err(error) if error.kind() == ErrorKind::OutOfMemory => {
+            complain(&rt, "command line", "out of memory", FAILED)
+        }
+        Err(_) => complain(&rt, "command line", "it isn't text", BAD_COMMAND_LINE),
+    };
+    ExitCode::from(status)
+}
