@@ -1,5 +1,5 @@
 -- Calls of the driver that change a device or the grants, as steps that are explained.
-use Rattle.std.proofs.Common.{◌≡◌, ◌∙◌, ◌+◌, ℕ, List, ◌∷◌, Some, slice_get, slice_set, refl, ap}
+use Rattle.std.proofs.Common.{◌≡◌, ◌∙◌, ◌+◌, ℕ, List, ◌∷◌, Some, slice_get, slice_set, refl, sym, ap, subst}
 use Rattle.iom_ledger.specs.declared.entry.HistoryEntry.TheVariants as entries
 use Rattle.iom_ledger.specs.declared.ledger.Ledger.{Ledger}
 use Rattle.iom_ledger.specs.Refusals.{NoneApplies}
@@ -14,7 +14,7 @@ use Rattle.iom_machine.specs.declared.state.Device.{Device}
 use Rattle.iom_machine.specs.declared.state.Frame.{Frame}
 use Rattle.iom_machine.proofs.CallLemmas.{detached_as, cut_off_as, revived_as}
 use Rattle.iom_judge.specs.declared.known.Known.{Known}
-use Rattle.iom_judge.specs.Allowed.{Past, IsTrueOf, ids_of, state_of}
+use Rattle.iom_judge.specs.Allowed.{Past, IsTrueOf, AreInOrder, HadBytes, ids_of, state_of}
 use Rattle.iom_judge.specs.Steps.{IsExplained}
 use Rattle.iom_judge.proofs.StayLemmas.{any_choice, allowed_by_ids, same_ids}
 
@@ -31,8 +31,17 @@ with_devices old devices ticket = record {
 }
 
 -- what the history says is still true
-pub still_true : (old : Known) (devices : List Device) (ticket : ℕ) (past : Past) → IsTrueOf old past → IsTrueOf (with_devices old devices ticket) past
-still_true old devices ticket past is = record { grants = is.grants; confirmed = is.confirmed; all_earlier = is.all_earlier; none_at_zero = is.none_at_zero; none_later = is.none_later }
+pub still_true : (old : Known) (devices : List Device) (ticket : ℕ) (past : Past) → ids_of devices ≡ ids_of old.devices → IsTrueOf old past
+    → IsTrueOf (with_devices old devices ticket) past
+still_true old devices ticket past same is = record {
+  grants = is.grants;
+  confirmed = is.confirmed;
+  all_earlier = is.all_earlier;
+  none_at_zero = is.none_at_zero;
+  none_later = is.none_later;
+  order = subst (λ (ids : List ℕ). AreInOrder ids old.frames) (sym same) is.order;
+  had_bytes = subst (λ (ids : List ℕ). HadBytes past.taken ids old.frames) (sym same) is.had_bytes;
+}
 
 -- the device at the place is so now, and has its id
 pub keeps_ids : (olds devices : List Device) (place : ℕ) (device now : Device) → slice_get olds place ≡ Some device → devices ≡ slice_set olds place now
@@ -46,7 +55,7 @@ pub detach_explained : (old : Known) (past : Past) (id place ticket : ℕ) (devi
     → IsExplained old (with_devices old devices ticket) (Detach id) (Ticket ticket) past
 detach_explained old past id place ticket device devices is_true none next is_place at d = record {
   after = past;
-  is_true = still_true old devices ticket past is_true;
+  is_true = still_true old devices ticket past (keeps_ids old.devices devices place device _ at d refl) is_true;
   from_before = λ frames allowed. record {
     frames = frames;
     allowed = allowed_by_ids old (with_devices old devices ticket) past past frames refl (keeps_ids old.devices devices place device _ at d refl) (λ n o bs. refl) allowed;
@@ -64,7 +73,7 @@ pub revive_explained : (old : Known) (past : Past) (id place : ℕ) (device : De
     → IsExplained old (with_devices old devices old.last_ticket) (Revive id) Done past
 revive_explained old past id place device devices is_true none is_place at d = record {
   after = past;
-  is_true = still_true old devices old.last_ticket past is_true;
+  is_true = still_true old devices old.last_ticket past (keeps_ids old.devices devices place device _ at d refl) is_true;
   from_before = λ frames allowed. record {
     frames = frames;
     allowed = allowed_by_ids old (with_devices old devices old.last_ticket) past past frames refl (keeps_ids old.devices devices place device _ at d refl) (λ n o bs. refl) allowed;
@@ -93,7 +102,15 @@ pub release_explained : (old : Known) (past : Past) (ledger : Ledger) (id page t
     → IsExplained old (with_ledger old ledger old.devices ticket) (Release id page) (Ticket ticket) past
 release_explained old past ledger id page ticket is_true none next agrees = record {
   after = record { history = entries.Released id page ticket ∷ past.history; taken = past.taken };
-  is_true = record { grants = agrees; confirmed = is_true.confirmed; all_earlier = is_true.all_earlier; none_at_zero = is_true.none_at_zero; none_later = is_true.none_later };
+  is_true = record {
+    grants = agrees;
+    confirmed = is_true.confirmed;
+    all_earlier = is_true.all_earlier;
+    none_at_zero = is_true.none_at_zero;
+    none_later = is_true.none_later;
+    order = is_true.order;
+    had_bytes = is_true.had_bytes;
+  };
   from_before = λ frames allowed. record {
     frames = frames;
     allowed = allowed_by_ids old (with_ledger old ledger old.devices ticket) past _ frames refl refl (λ n o bs. refl) allowed;
@@ -109,7 +126,16 @@ pub quarantine_explained : (old : Known) (past : Past) (ledger : Ledger) (id pla
     → IsExplained old (with_ledger old ledger devices ticket) (Quarantine id) (Ticket ticket) past
 quarantine_explained old past ledger id place ticket device devices is_true none next is_place at d agrees = record {
   after = record { history = entries.AllReleased id ticket ∷ past.history; taken = past.taken };
-  is_true = record { grants = agrees; confirmed = is_true.confirmed; all_earlier = is_true.all_earlier; none_at_zero = is_true.none_at_zero; none_later = is_true.none_later };
+  is_true =
+      let same = still_true old devices ticket past (keeps_ids old.devices devices place device _ at d refl) is_true in record {
+        grants = agrees;
+        confirmed = is_true.confirmed;
+        all_earlier = is_true.all_earlier;
+        none_at_zero = is_true.none_at_zero;
+        none_later = is_true.none_later;
+        order = same.order;
+        had_bytes = same.had_bytes;
+      };
   from_before = λ frames allowed. record {
     frames = frames;
     allowed = allowed_by_ids old (with_ledger old ledger devices ticket) past _ frames refl (keeps_ids old.devices devices place device _ at d refl) (λ n o bs. refl) allowed;

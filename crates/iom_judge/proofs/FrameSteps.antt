@@ -1,11 +1,12 @@
 -- What the driver says of a frame, as steps that are explained: whose the frame is narrows down.
-use Rattle.std.proofs.Common.{◌≡◌, ◌≢◌, ◌∙◌, ◌+◌, ◌<◌, ℕ, Bool, true, false, ◌==◌, List, Option, None, Some, IsSomeAnd, is_some, length, slice_get, slice_set, refl, sym, ap, subst, arith}
+use Rattle.std.proofs.Common.{◌≡◌, ◌≢◌, ◌∙◌, ◌+◌, ◌<◌, ℕ, zero, suc, Bool, true, false, ◌==◌, List, Option, None, Some, IsSomeAnd, is_some, length, slice_get, slice_set, refl, sym, ap, subst, arith}
 use Rattle.std.specs.Int.{bit_at}
 use Rattle.std.specs.Option.{option_map_or}
 use Rattle.std.proofs.lemmas.Bool.{false≢true, eqb-true}
 use Rattle.std.proofs.lemmas.List.{length-set}
 use Rattle.std.proofs.lemmas.Nat.Bits.{bit_at_above}
 use Rattle.std.proofs.lemmas.Option.{slice_get_within}
+use Rattle.iom_base.specs.Sizes.{device_limit}
 use Rattle.iom_base.specs.declared.owner.Owner.{Owner}
 use Rattle.iom_base.specs.declared.owner.Owner.TheVariants.{System, OneDevice}
 use Rattle.iom_ledger.specs.History.{NoneMayReach}
@@ -40,14 +41,71 @@ pub some_and : {X : Type 0} (o : Option X) (P : X → Type 0) → IsSomeAnd o P 
 some_and None P never = absurd never
 some_and (Some x) P fact = (x, refl, fact)
 
-still_true : (old : Known) (frames : List BelievedFrame) (past : Past) → IsTrueOf old past → IsTrueOf (with_frames old frames) past
-still_true old frames past is =
-    record { grants = is.grants; confirmed = is.confirmed; all_earlier = is.all_earlier; none_at_zero = is.none_at_zero; none_later = is.none_later }
+-- each owner that these bits name is one that those name: nobody, the system and sixteen devices have one each
+abbrev pub AreFewer : ℕ → ℕ → Type 0
+AreFewer owners others = (k : ℕ) → k < device_limit + 2 → bit_at owners k ≡ 1 → bit_at others k ≡ 1
+
+pub fewer_owners : (ids : List ℕ) (owners others : ℕ) (owner : Option Owner) → AreFewer owners others → MayOwn ids owners owner → MayOwn ids others owner
+fewer_owners ids owners others None fewer may = fewer 0 (omega arith) may
+fewer_owners ids owners others (Some System) fewer may = fewer 1 (omega arith) may
+fewer_owners ids owners others (Some (OneDevice id)) fewer may = (may.0, may.1, may.2, fewer (may.0 + 2) (omega (arith, may.1)) may.3)
+
+-- what is believed of a frame, where that of another place is so now: it is this, or it is as it was
+pub believed_there : (frames : List BelievedFrame) (place : ℕ) (b now : BelievedFrame) (P : ℕ → BelievedFrame → Type 0) → slice_get frames place ≡ Some b → P place now
+    → ((number : ℕ) (believed : BelievedFrame) → slice_get frames number ≡ Some believed → P number believed)
+    → (number : ℕ) (believed : BelievedFrame) → slice_get (slice_set frames place now) number ≡ Some believed → P number believed
+believed_there frames place b now P there is others number believed at = by (number == place) refl
+  where
+    eq_same : (n m : ℕ) → n ≡ m → (n == m) ≡ true
+    eq_same n m same = grind arith
+
+    other : (number == place) ≡ false → number ≢ place
+    other e same = false≢true (sym e ∙ eq_same number place same)
+
+    same_frame : ◌≡◌ {A = Option BelievedFrame} (Some now) (Some believed) → now ≡ believed
+    same_frame same = cc
+
+    by : (c : Bool) → (number == place) ≡ c → P number believed
+    by true e =
+        let same : number ≡ place = eqb-true number place e in
+        let is_now : now ≡ believed =
+        same_frame (sym (slice_get-set_same frames place b now there) ∙ subst (λ k. slice_get (slice_set frames place now) k ≡ Some believed) same at) in
+        subst (λ (x : BelievedFrame). P number x) is_now (subst (λ k. P k now) (sym same) is)
+    by false e = others number believed (sym (slice_get-set_other frames place number now (other e)) ∙ at)
+
+-- where the owners of one frame narrow down, the devices are in order still, and each frame had bytes
+pub narrowed_true : (old : Known) (past : Past) (number owners : ℕ) (b : BelievedFrame) → slice_get old.frames number ≡ Some b → AreFewer owners b.owners → IsTrueOf old past
+    → IsTrueOf (with_frames old (slice_set old.frames number (record b { owners = owners }))) past
+narrowed_true old past number owners b there fewer is = record {
+  grants = is.grants;
+  confirmed = is.confirmed;
+  all_earlier = is.all_earlier;
+  none_at_zero = is.none_at_zero;
+  none_later = is.none_later;
+  order = record {
+    few = is.order.few;
+    distinct = is.order.distinct;
+    plugged = λ n place believed at low bit.
+        believed_there old.frames number b now IsPlugged there (λ p below has. is.order.plugged number p b there below (fewer (p + 2) (omega (arith, below)) has))
+        (λ m x held p below has. is.order.plugged m p x held below has) n believed at place low bit;
+  };
+  had_bytes = λ n believed owner at may.
+      believed_there old.frames number b now Had there (λ o owns. is.had_bytes number b o there (fewer_owners (ids_of old.devices) owners b.owners (Some o) fewer owns))
+      (λ m x held o owns. is.had_bytes m x o held owns) n believed at owner may;
+}
+  where
+    now : BelievedFrame
+    now = record b { owners = owners }
+
+    IsPlugged : ℕ → BelievedFrame → Type 0
+    IsPlugged n believed = (place : ℕ) → place < device_limit → bit_at believed.owners (place + 2) ≡ 1 → place < length (ids_of old.devices)
+
+    Had : ℕ → BelievedFrame → Type 0
+    Had n believed = (owner : Owner) → MayOwn (ids_of old.devices) believed.owners (Some owner) → (bytes : List ℕ) × (past.taken n owner bytes ≡ true)
 
 -- where the owners of one frame narrow down, what is allowed was allowed before
 narrowed : (old : Known) (past : Past) (number owners : ℕ) (b : BelievedFrame) (frames : List Frame) → slice_get old.frames number ≡ Some b
-    → ((owner : Option Owner) → MayOwn (ids_of old.devices) owners owner → MayOwn (ids_of old.devices) b.owners owner)
-    → AreAllowed (with_frames old (slice_set old.frames number (record b { owners = owners }))) past frames → AreAllowed old past frames
+    → AreFewer owners b.owners → AreAllowed (with_frames old (slice_set old.frames number (record b { owners = owners }))) past frames → AreAllowed old past frames
 narrowed old past number owners b frames there fewer allowed = record {
   count = allowed.count ∙ length-set old.frames number (record b { owners = owners });
   each = λ n believed frame at got. by n believed frame at got (n == number) refl;
@@ -70,7 +128,7 @@ narrowed old past number owners b frames there fewer allowed = record {
         let now = allowed.each number (record b { owners = owners }) frame (slice_get-set_same old.frames number b (record b { owners = owners }) there)
         (subst (λ k. slice_get frames k ≡ Some frame) same got) in
         subst (λ (x : BelievedFrame). IsAsBelieved (ids_of old.devices) past n x frame) is_b
-        (subst (λ k. IsAsBelieved (ids_of old.devices) past k b frame) (sym same) (record { owner = fewer frame.owner now.owner; bytes = now.bytes }))
+        (subst (λ k. IsAsBelieved (ids_of old.devices) past k b frame) (sym same) (record { owner = fewer_owners (ids_of old.devices) owners b.owners frame.owner fewer now.owner; bytes = now.bytes }))
     by n believed frame at got false e =
         allowed.each n believed frame (slice_get-set_other old.frames number n (record b { owners = owners }) (other n e) ∙ at) got
 
@@ -87,7 +145,7 @@ pub free_explained : (old : Known) (past : Past) (number : ℕ) (b : BelievedFra
     → IsExplained old (with_frames old (slice_set old.frames number (record b { owners = 1 }))) (events.Free number) (outcomes.Free true) past
 free_explained old past number b is_true there nobody unreached none = record {
   after = past;
-  is_true = still_true old (slice_set old.frames number (record b { owners = 1 })) past is_true;
+  is_true = narrowed_true old past number 1 b there fewer is_true;
   from_before = λ frames allowed.
       let before = narrowed old past number 1 b frames there fewer allowed in
       let within : number < length frames = subst (λ n. number < n) (sym before.count) (slice_get_within old.frames number b there) in
@@ -102,8 +160,9 @@ free_explained old past number b is_true there nobody unreached none = record {
       };
 }
   where
-    fewer : (owner : Option Owner) → MayOwn (ids_of old.devices) 1 owner → MayOwn (ids_of old.devices) b.owners owner
-    fewer owner may = subst (λ (o : Option Owner). MayOwn (ids_of old.devices) b.owners o) (sym (only_nobody (ids_of old.devices) owner may)) nobody
+    fewer : AreFewer 1 b.owners
+    fewer zero low has = nobody
+    fewer (suc k) low has = let none : bit_at 1 (suc k) ≡ 0 = bit_at_above 1 1 (suc k) (omega arith) (omega arith) in absurd (omega (arith, none, has))
 
 -- a frame that a device may reach isn't free
 pub reached_explained : (old : Known) (past : Past) (number : ℕ) → IsTrueOf old past → (NoneMayReach past.history number → ⊥)
@@ -120,7 +179,7 @@ pub taken_explained : (old : Known) (past : Past) (number owners : ℕ) (b : Bel
     → IsExplained old (with_frames old (slice_set old.frames number (record b { owners = owners }))) (events.Free number) (outcomes.Free false) past
 taken_explained old past number owners b is_true there nobody others none = record {
   after = past;
-  is_true = still_true old (slice_set old.frames number (record b { owners = owners })) past is_true;
+  is_true = narrowed_true old past number owners b there fewer is_true;
   from_before = λ frames allowed.
       let before = narrowed old past number owners b frames there fewer allowed in
       let within : number < length frames = subst (λ n. number < n) (sym before.count) (slice_get_within old.frames number b there) in
@@ -135,10 +194,9 @@ taken_explained old past number owners b is_true there nobody others none = reco
       };
 }
   where
-    fewer : (owner : Option Owner) → MayOwn (ids_of old.devices) owners owner → MayOwn (ids_of old.devices) b.owners owner
-    fewer None may = absurd (omega (arith, may, nobody))
-    fewer (Some System) may = sym (others 1 (omega arith) (omega arith)) ∙ may
-    fewer (Some (OneDevice id)) may = (may.0, may.1, may.2, sym (others (may.0 + 2) (omega (arith, may.1)) (omega arith)) ∙ may.3)
+    fewer : AreFewer owners b.owners
+    fewer zero low has = absurd (omega (arith, nobody, has))
+    fewer (suc k) low has = sym (others (suc k) (omega (arith, low)) (omega arith)) ∙ has
 
     somebody : (owner : Option Owner) → MayOwn (ids_of old.devices) owners owner → is_some owner ≡ true
     somebody None may = absurd (omega (arith, may, nobody))

@@ -76,7 +76,7 @@ pub accepted_explained : (old : Known) (past : Past) (devices : List Device) (id
     → IsLedBack old (with_devices old devices old.last_ticket) (λ before after. Requests frame before id access outcome after) past
 accepted_explained old past devices id place number frame access device outcome is_true is_place at able answers is next d = record {
   after = past;
-  is_true = still_true old devices old.last_ticket past is_true;
+  is_true = still_true old devices old.last_ticket past (keeps_ids old.devices devices place device _ at d refl) is_true;
   from_before = λ frames allowed.
       let state = state_of old past.history frames in
       let left : state_of (with_devices old devices old.last_ticket) past.history frames ≡ state_after state device access frame outcome =
@@ -97,7 +97,7 @@ pub accepted_cached_explained : (old : Known) (past : Past) (devices : List Devi
     → IsLedBack old (with_devices old devices old.last_ticket) (λ before after. RequestsThroughCache frame before id access outcome after) past
 accepted_cached_explained old past devices id place number frame access device outcome is_true is_place at able answers is next d = record {
   after = past;
-  is_true = still_true old devices old.last_ticket past is_true;
+  is_true = still_true old devices old.last_ticket past (keeps_ids old.devices devices place device _ at d refl) is_true;
   from_before = λ frames allowed.
       let state = state_of old past.history frames in
       let left : state_of (with_devices old devices old.last_ticket) past.history frames ≡ state_after_cached state device access frame outcome =

@@ -18,14 +18,6 @@ pub record Past : Type 0 where
   pub history : History
   pub taken : ℕ → Owner → List ℕ → Bool
 
--- what is known is true of the past: the ledger agrees with its history, and these tickets are confirmed and no others
-pub record IsTrueOf (known : Known) (past : Past) : Type 0 where
-  pub grants : Agrees known.ledger past.history
-  pub confirmed : last_confirmed past.history ≡ known.last_confirmed
-  pub all_earlier : (ticket : ℕ) → 0 < ticket → ticket ≤ known.last_confirmed → confirms past.history ticket ≡ true
-  pub none_at_zero : confirms past.history 0 ≡ false
-  pub none_later : (ticket : ℕ) → known.last_confirmed < ticket → confirms past.history ticket ≡ false
-
 -- the bytes of a frame; none stand for zeros alone
 abbrev pub bytes_believed : List ℕ → List ℕ
 bytes_believed [] = replicate page_size 0
@@ -47,6 +39,30 @@ MayHaveBytes past number believed (Some owner) bytes = past.taken number owner b
 -- the ids of devices, in their order
 abbrev pub ids_of : List Device → List ℕ
 ids_of devices = map (λ device. device.id) devices
+
+-- No two devices have one id, there are sixteen at most, and where a frame may be owned from a place there is a device at that place.
+pub record AreInOrder (ids : List ℕ) (frames : List BelievedFrame) : Type 0 where
+  pub few : length ids ≤ device_limit
+  pub distinct : (first second id : ℕ) → slice_get ids first ≡ Some id → slice_get ids second ≡ Some id → first ≡ second
+  pub plugged : (number place : ℕ) (believed : BelievedFrame) → slice_get frames number ≡ Some believed → place < device_limit → bit_at believed.owners (place + 2) ≡ 1
+      → place < length ids
+
+-- each frame that may be somebody's had some bytes when they took it
+abbrev pub HadBytes : (ℕ → Owner → List ℕ → Bool) → List ℕ → List BelievedFrame → Type 0
+HadBytes taken ids frames =
+    (number : ℕ) (believed : BelievedFrame) (owner : Owner) → slice_get frames number ≡ Some believed → MayOwn ids believed.owners (Some owner)
+    → (bytes : List ℕ) × (taken number owner bytes ≡ true)
+
+-- What is known is true of the past: the ledger agrees with its history, these tickets are confirmed and no others, and each frame was taken by whom it
+-- may be owned.
+pub record IsTrueOf (known : Known) (past : Past) : Type 0 where
+  pub grants : Agrees known.ledger past.history
+  pub confirmed : last_confirmed past.history ≡ known.last_confirmed
+  pub all_earlier : (ticket : ℕ) → 0 < ticket → ticket ≤ known.last_confirmed → confirms past.history ticket ≡ true
+  pub none_at_zero : confirms past.history 0 ≡ false
+  pub none_later : (ticket : ℕ) → known.last_confirmed < ticket → confirms past.history ticket ≡ false
+  pub order : AreInOrder (ids_of known.devices) known.frames
+  pub had_bytes : HadBytes past.taken (ids_of known.devices) known.frames
 
 -- the frame of this number is as it is believed to be, by the ids of the devices
 pub record IsAsBelieved (ids : List ℕ) (past : Past) (number : ℕ) (believed : BelievedFrame) (frame : Frame) : Type 0 where

@@ -1,9 +1,10 @@
 -- Why a call is refused, by what is known: the machine's reasons, with what its history says given beside.
 -- For the judge's own functions alone; no public contract cites these.
-use Rattle.std.specs.Prelude.{ℕ, ◌-◌, Bool, List, [], ◌∷◌, not, ◌||◌, nat_le}
+use Rattle.std.specs.Prelude.{ℕ, ◌-◌, Bool, List, [], ◌∷◌, length, not, ◌||◌, nat_le}
+use Rattle.iom_base.specs.Sizes.{page_limit}
 use Rattle.iom_ledger.specs.Pending.{pending_limit}
 use Rattle.iom_ledger.specs.declared.refusal.Refusal.{Refusal}
-use Rattle.iom_ledger.specs.declared.refusal.Refusal.TheVariants.{NoSuchDevice, AlreadyAttached, NotAttached, NotGranted, StillGranted, TooManyPending}
+use Rattle.iom_ledger.specs.declared.refusal.Refusal.TheVariants.{NoSuchDevice, AlreadyAttached, NotAttached, FrameOutOfRange, IovaOutOfRange, IovaBusy, NotGranted, StillGranted, TooManyPending}
 use Rattle.iom_machine.specs.Refusals.{attachment_reasons, is_plugged, attachment_of, is_detached, is_leaving, is_attached}
 use Rattle.iom_machine.specs.declared.state.State.{State}
 use Rattle.iom_judge.specs.Allowed.{state_of}
@@ -39,3 +40,11 @@ revive_reasons_by known id reaching =
     ∷ (is_attached (attachment_of (bare known) id), AlreadyAttached)
     ∷ (reaching, StillGranted)
     ∷ []
+
+-- a frame is granted, before it is looked whose it is
+abbrev pub early_grant_reasons : Known → ℕ → ℕ → List (Bool × Refusal)
+early_grant_reasons known id frame = attachment_reasons (bare known) id ((nat_le (length known.frames) frame, FrameOutOfRange) ∷ [])
+
+-- afterwards, at a page at which something is held or lingers, or not
+abbrev pub late_grant_reasons_by : ℕ → Bool → List (Bool × Refusal)
+late_grant_reasons_by page is_busy = (nat_le page_limit page, IovaOutOfRange) ∷ (is_busy, IovaBusy) ∷ []

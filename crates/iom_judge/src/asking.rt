@@ -11,20 +11,10 @@ use crate::cached::{
 use crate::devices::place_of;
 use crate::known::Known;
 use crate::requests::{answers_absent, answers_unable, may_accept, may_answer, may_fault};
+use crate::way::Way;
 use iom_base::{AcceptedAccess, Access, Cause, DeviceId, PAGE_SIZE, Sequence};
 use iom_machine::{Device, Outcome};
 use std::alloc::AllocError;
-
-/// How a request goes to memory.
-#[derive(Clone, Copy, PartialEq, Eq)]
-pub(crate) enum Way {
-    /// The IOMMU translates it.
-    Untranslated,
-    /// It says that it is translated already, and isn't.
-    Forged,
-    /// Through the device's own cache.
-    Cached,
-}
 
 impl Way {
     /// Whether the device sends requests so.
@@ -190,21 +180,5 @@ impl Known {
                 Ok(true)
             }
         }
-    }
-}
-
-/// A request. Where it is accepted, that is on this frame.
-pub(crate) fn request(
-    way: Way,
-    known: &mut Known,
-    id: DeviceId,
-    access: Access,
-    outcome: &Outcome,
-    frame: u32,
-) -> Result<bool, AllocError> {
-    match way {
-        Way::Untranslated => known.request(id, access, outcome, frame),
-        Way::Forged => Ok(known.request_translated(id, &access, outcome)),
-        Way::Cached => known.request_through_cache(id, access, outcome, frame),
     }
 }

@@ -1,24 +1,24 @@
 // What is believed of the machine's state after the lines so far.
-ghost use Rattle.std.specs.Prelude.{◌≤◌};
+ghost use Rattle.std.specs.Prelude.{◌≡◌, ◌≤◌, [], IsTrue, IfOk, true};
+ghost use Rattle.iom_machine.specs.declared.event.Event.{Event};
+ghost use Rattle.iom_judge.specs.Allowed.{Past, IsTrueOf};
+ghost use Rattle.iom_judge.specs.Asked.{IsAskedBy};
+ghost use Rattle.iom_judge.specs.Steps.{IsExplained};
 
-use crate::asked::{Asked, read_by, write_by};
-use crate::asking::request;
-use crate::calls::{attach, grant, plug};
-use crate::commits::{commit, drop_oldest};
-use crate::devices::{device_with, place_of};
+use crate::asked::{Asked, read_by, request, write_by};
+use crate::contents::{keep, store};
+use crate::devices::place_of;
 use crate::doubts::{Doubts, frame_at, possible_frames};
-use crate::frames::{keep, store};
+use crate::in_flight::drop_oldest;
 use crate::known::Known;
 use crate::messages::Messages;
 use crate::owners::may_be_somebodys;
 use crate::polls::{begin_poll, end_poll, poll};
 use crate::processor::{peek, poke};
-use crate::questions::may_tell;
 use crate::releases::Releases;
 use crate::requests::answers_absent;
 use crate::versions::Versions;
 use iom_base::{AccessKind, DeviceId, PAGE_SIZE};
-use iom_fabric::Translation;
 use iom_machine::{Event, Outcome};
 use std::alloc::{AllocError, Global};
 
@@ -69,37 +69,38 @@ impl Belief {
     }
 
     /// Whether nothing is believed of a frame in more than one way, but for whose it is.
-    pub(crate) fn is_settled(&self) -> bool {
+    fn is_settled(&self) -> bool
+        ensures { self.now.doubts.all.items ≡ [] → self.now.versions.all.items ≡ [] → result ≡ true }
+    {
         self.doubts.is_empty() && self.versions.is_known()
     }
 
-    /// A request.
+    /// A request. Where it is accepted, that is on the frame that is shown, or else on the first of those that are possible,
+    /// and in doubt where these are several.
     fn ask_for(
         &mut self,
         alloc: Global,
         asked: Asked,
         outcome: &Outcome,
         on: Option<u32>,
-    ) -> Result<bool, AllocError> {
-        let Asked {
-            way,
-            device,
-            access,
-        } = asked;
+    ) -> Result<bool, AllocError>
+        ensures { IfOk result (λ may. IsTrue may → (event : Event) → IsAskedBy event asked.way asked.device asked.access → (past : Past) → IsTrueOf self.old.known past
+            → IsExplained self.old.known self.new.known event outcome.now past) }
+    {
         if !matches!(outcome, Outcome::Accepted(_)) {
-            return request(way, &mut self.known, device, access, outcome, 0);
+            return request(&mut self.known, asked, outcome, 0);
         }
         if let Some(frame) = on {
-            return request(way, &mut self.known, device, access, outcome, frame);
+            return request(&mut self.known, asked, outcome, frame);
         }
-        let kind = access.kind;
-        let frames = possible_frames(alloc, way, &self.known, device, &access)?;
-        let page = access.address / PAGE_SIZE;
+        let (way, device, kind) = (asked.way, asked.device, asked.access.kind);
+        let frames = possible_frames(alloc, way, &self.known, device, &asked.access)?;
+        let page = asked.access.address / PAGE_SIZE;
         let frame = match frames.first() {
             Some(first) => *first,
             None => frame_at(&self.known, device, page).unwrap_or(0),
         };
-        let may_come = request(way, &mut self.known, device, access, outcome, frame)?;
+        let may_come = request(&mut self.known, asked, outcome, frame)?;
         if may_come {
             self.doubts.accept(&self.known, device, way, kind, frames)?;
         }
@@ -108,9 +109,6 @@ impl Belief {
 
     /// A poll.
     fn poll(&mut self, alloc: Global, outcome: &Outcome) -> bool {
-        if self.is_settled() {
-            return poll(alloc, &mut self.known, outcome);
-        }
         let Outcome::Confirmed { first, last, .. } = outcome else {
             return poll(alloc, &mut self.known, outcome);
         };
@@ -179,7 +177,9 @@ impl Belief {
         if let Some(doubt) = doubt {
             self.doubts.decide(&mut self.known, doubt, frame);
         }
-        drop_oldest(&mut self.known, place);
+        if place < self.known.devices.as_slice().len() {
+            drop_oldest(&mut self.known.devices, place);
+        }
         Ok(true)
     }
 
@@ -195,7 +195,7 @@ impl Belief {
         };
         let number = *first as usize;
         if number < self.known.frames.as_slice().len() {
-            keep(self.known.frames.item_mut(number), offset, bytes);
+            let _may_show = keep(self.known.frames.item_mut(number), offset, bytes);
         }
         if frames.len() > 1 {
             self.known.is_exact = false;
@@ -258,7 +258,7 @@ impl Belief {
     ) -> Result<bool, AllocError> {
         let number = frame as usize;
         if number < self.known.frames.as_slice().len() {
-            store(alloc, self.known.frames.item_mut(number), offset, bytes)?;
+            let _fits = store(alloc, self.known.frames.item_mut(number), offset, bytes)?;
         }
         self.versions.write(alloc, frame, offset, bytes)
     }
@@ -270,9 +270,6 @@ impl Belief {
         id: DeviceId,
         outcome: &Outcome,
     ) -> Result<bool, AllocError> {
-        if self.is_settled() {
-            return commit(alloc, &mut self.known, id, outcome);
-        }
         let Some(place) = place_of(self.known.devices.as_slice(), id) else {
             return Ok(answers_absent(outcome));
         };
@@ -333,68 +330,20 @@ impl Belief {
         Ok(true)
     }
 
-    /// A question is delivered and answered.
-    fn is_told(&self, place: u64, told: Translation) -> bool {
-        let Some(question) = self.messages.question_at(place) else {
-            return false;
-        };
-        match device_with(self.known.devices.as_slice(), question.device) {
-            None => false,
-            Some(device) => may_tell(&self.known, device, question.page, told),
-        }
-    }
-
-    /// A call of the driver that takes frames, or a device that is plugged in.
-    fn call(
-        &mut self,
-        alloc: Global,
-        event: &Event,
-        outcome: &Outcome,
-        tables: Option<&[u32]>,
-    ) -> Result<bool, AllocError> {
-        let known = &mut self.known;
-        match event {
-            Event::Plug { device, kind } => plug(alloc, known, *device, *kind, outcome),
-            Event::Attach { device, mode, ats } => {
-                Ok(attach(known, *device, *mode, *ats, outcome, tables))
-            }
-            Event::Grant {
-                device,
-                page,
-                frame,
-                rights,
-            } => grant(known, *device, *page, *frame, *rights, outcome, tables),
-            _ => Ok(false),
-        }
-    }
-
-    /// A message, or a reset.
-    fn send(&self, event: &Event, outcome: &Outcome) -> bool {
-        match event {
-            Event::Ask { device, .. } => self.known.ask(*device, outcome),
-            Event::Forge { device, .. } => self.known.forge(*device, outcome),
-            Event::Reset { device } => self.known.reset(*device, outcome),
-            _ => false,
-        }
-    }
-
-    /// A delivery.
-    fn deliver(&mut self, event: &Event, place: u64, outcome: &Outcome) -> bool {
-        match outcome {
-            Outcome::Answered(told) => self.is_told(place, *told),
-            _ => self.known.act(event, outcome),
-        }
-    }
-
     /// Whether this may come of the event, where the lines so far are lawful. Where it may, what is believed afterwards is
-    /// what may be so then.
+    /// what may be so then: where nothing was in doubt, each state that what is known allows then is one to which the
+    /// machine comes so, from one that it allowed before.
     pub(crate) fn step(
         &mut self,
         alloc: Global,
         event: Event,
         outcome: &Outcome,
         shown: Shown<'_>,
-    ) -> Result<bool, AllocError> {
+    ) -> Result<bool, AllocError>
+        ensures { self.old.doubts.all.items ≡ [] → self.old.versions.all.items ≡ []
+            → IfOk result (λ may. IsTrue may → (past : Past) → IsTrueOf self.old.known past
+            → IsExplained self.old.known self.new.known event outcome.now past) }
+    {
         if let Some(asked) = read_by(alloc, &event) {
             return self.ask_for(alloc, asked, outcome, shown.on);
         }
@@ -404,34 +353,37 @@ impl Belief {
         }
     }
 
-    /// The same of an event that asks for no access.
-    fn follow_other(
+    /// Whether this may come of an event that asks for no access.
+    fn act(
         &mut self,
         alloc: Global,
         event: &Event,
         outcome: &Outcome,
         tables: Option<&[u32]>,
-    ) -> Result<bool, AllocError> {
+    ) -> Result<bool, AllocError>
+        ensures { self.old.doubts.all.items ≡ [] → self.old.versions.all.items ≡ []
+            → IfOk result (λ may. IsTrue may → (past : Past) → IsTrueOf self.old.known past
+            → IsExplained self.old.known self.new.known event.now outcome.now past) }
+    {
+        let question = self.messages.question_of(event);
+        if self.is_settled() {
+            return self.known.act(alloc, event, outcome, tables, question);
+        }
         match event {
-            Event::Plug { .. } | Event::Attach { .. } | Event::Grant { .. } => {
-                self.call(alloc, event, outcome, tables)
-            }
             Event::Poll => Ok(self.poll(alloc, outcome)),
             Event::Commit { device } => self.commit(alloc, *device, outcome),
             Event::Poke { address, bytes } => {
                 self.poke(alloc, *address, bytes.as_slice(), outcome)
             }
             Event::Peek { address, len } => self.peek(alloc, *address, *len, outcome),
-            Event::Ask { .. } | Event::Forge { .. } | Event::Reset { .. } => {
-                Ok(self.send(event, outcome))
-            }
-            Event::Deliver { place } => Ok(self.deliver(event, *place, outcome)),
-            _ => Ok(self.known.act(event, outcome)),
+            _ => self.known.act(alloc, event, outcome, tables, question),
         }
     }
 
     /// Notes which messages are under way, and what was released under which ticket.
-    fn note(&mut self, event: &Event, outcome: &Outcome) -> Result<(), AllocError> {
+    fn note(&mut self, event: &Event, outcome: &Outcome) -> Result<(), AllocError>
+        ensures { self.new.known ≡ self.old.known }
+    {
         match (event, outcome) {
             (Event::Release { device, page }, Outcome::Ticket(ticket)) => {
                 self.releases.note(*ticket, *device, Some(*page))?;
@@ -445,15 +397,19 @@ impl Belief {
         self.messages.note(event, outcome)
     }
 
-    /// Whether this may come of an event that asks for no access.
+    /// The same, and notes what comes of it.
     fn step_other(
         &mut self,
         alloc: Global,
         event: &Event,
         outcome: &Outcome,
         tables: Option<&[u32]>,
-    ) -> Result<bool, AllocError> {
-        let may_come = self.follow_other(alloc, event, outcome, tables)?;
+    ) -> Result<bool, AllocError>
+        ensures { self.old.doubts.all.items ≡ [] → self.old.versions.all.items ≡ []
+            → IfOk result (λ may. IsTrue may → (past : Past) → IsTrueOf self.old.known past
+            → IsExplained self.old.known self.new.known event.now outcome.now past) }
+    {
+        let may_come = self.act(alloc, event, outcome, tables)?;
         if may_come {
             self.note(event, outcome)?;
         }

@@ -1,8 +1,8 @@
 // Accesses in flight of devices in both stages: on which frame each is, a guest's tables said, and the lines may not.
-use crate::asking::Way;
 use crate::devices::place_of;
 use crate::known::Known;
 use crate::reach::may;
+use crate::way::Way;
 use iom_base::{Access, AccessKind, DeviceId, Mode, PAGE_SIZE};
 use iom_machine::{Attachment, Device};
 use std::alloc::{AllocError, Global};
@@ -94,13 +94,17 @@ fn put(known: &mut Known, doubt: &Doubt, frame: u32) {
 }
 
 impl Doubts {
+    ghost use Rattle.std.specs.Prelude.{◌≡◌, [], true};
+
     pub(crate) fn new(alloc: Global) -> Doubts {
         Doubts {
             all: Vec::new(alloc),
         }
     }
 
-    pub(crate) fn is_empty(&self) -> bool {
+    pub(crate) fn is_empty(&self) -> bool
+        ensures { self.now.all.items ≡ [] → result ≡ true }
+    {
         self.all.is_empty()
     }
 

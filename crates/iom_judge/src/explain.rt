@@ -1,5 +1,4 @@
 // Why a line isn't lawful, in words: what the machine knows of the place, and which answers could have come.
-use crate::asking::Way;
 use crate::belief::Belief;
 use crate::devices::device_with;
 use crate::doubts::{frame_at, possible_frames};
@@ -10,6 +9,7 @@ use crate::reasons::{
     quarantine_refusal, release_refusal, revive_refusal,
 };
 use crate::subject::Subject;
+use crate::way::Way;
 use crate::words::Words;
 use iom_base::{Access, AccessKind, DeviceId, MAX_IN_FLIGHT, PAGE_SIZE, Sequence, Span};
 use iom_ledger::Refusal;

@@ -1,8 +1,9 @@
 // A trace, judged line by line.
 use crate::belief::{Belief, Shown};
+use crate::line::read_line;
 use crate::reading::{Lines, NextLine};
 use crate::subject::Subject;
-use crate::trace::{TraceLine, read_line};
+use crate::trace::TraceLine;
 use iom_machine::{Event, Outcome};
 use iom_script::{LineBuffer, WorldSize};
 use std::alloc::Global;

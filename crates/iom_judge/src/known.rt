@@ -1,6 +1,7 @@
-ghost use Rattle.std.specs.Prelude.{◌≤◌};
+ghost use Rattle.std.specs.Prelude.{◌≡◌, ◌≤◌, ◌-◌, ◌++◌, OnOk, IfOk, replicate};
+ghost use Rattle.iom_judge.specs.Starts.{frame_of_zeros};
 
-use crate::frames::BelievedFrame;
+use crate::frames::{BelievedFrame, ONLY_NOBODY, ONLY_SYSTEM};
 use iom_base::{MAX_DEVICES, Sequence};
 use iom_ledger::Ledger;
 use iom_machine::Device;
@@ -22,28 +23,52 @@ pub struct Known {
     pub(crate) is_exact: bool,
 }
 
+/// So many frames more, of zeros and with these possible owners.
+fn push_zeros(
+    alloc: Global,
+    frames: &mut Sequence<BelievedFrame>,
+    count: u32,
+    owners: u64,
+) -> Result<(), AllocError>
+    ensures { OnOk result (frames.new ≡ frames.old ++ replicate count (frame_of_zeros owners)) }
+{
+    for _number in 0..count {
+        frames.push(BelievedFrame::of_zeros(alloc, owners))?;
+    }
+    Ok(())
+}
+
+/// What is believed of the frames at power-on: the last four are the system's.
+fn frames_at_first(alloc: Global, frames: u32) -> Result<Sequence<BelievedFrame>, AllocError>
+    requires { 4 ≤ frames }
+    ensures { IfOk result (λ all. all ≡ replicate (frames - 4) (frame_of_zeros 1) ++ replicate 4 (frame_of_zeros 2)) }
+{
+    let mut all = Sequence::with_capacity(alloc, frames as usize)?;
+    push_zeros(alloc, &mut all, frames - 4, ONLY_NOBODY)?;
+    push_zeros(alloc, &mut all, 4, ONLY_SYSTEM)?;
+    Ok(all)
+}
+
 impl Known {
-    ghost use Rattle.std.specs.Prelude.{◌≡◌, length};
+    ghost use Rattle.std.specs.Prelude.{◌≡◌, IfOk, length};
+    ghost use Rattle.iom_judge.specs.Starts.{IsPowerOn};
     ghost use Rattle.iom_ledger.specs.History.{confirms};
     ghost use Rattle.iom_judge.specs.Allowed.{Past, IsTrueOf};
 
     /// What is known at power-on.
-    pub(crate) fn power_on(alloc: Global, frames: u32, levels: u8) -> Result<Known, AllocError>
+    pub fn power_on(alloc: Global, frames: u32, levels: u8) -> Result<Known, AllocError>
         requires { 4 ≤ frames }
+        ensures { IfOk result (λ known. IsPowerOn known frames levels) }
     {
-        let mut all = Sequence::with_capacity(alloc, frames as usize)?;
-        for _number in 0..frames - 4 {
-            all.push(BelievedFrame::empty(alloc))?;
-        }
-        for _number in 0..4 {
-            all.push(BelievedFrame::of_system(alloc))?;
-        }
+        let all = frames_at_first(alloc, frames)?;
+        let devices = Sequence::with_capacity(alloc, MAX_DEVICES)?;
+        let ledger = Ledger::new(alloc, frames)?;
         Ok(Known {
             levels,
-            ledger: Ledger::new(alloc, frames)?,
+            ledger,
             last_ticket: 0,
             last_confirmed: 0,
-            devices: Sequence::with_capacity(alloc, MAX_DEVICES)?,
+            devices,
             frames: all,
             is_exact: true,
         })

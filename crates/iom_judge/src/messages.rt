@@ -9,7 +9,7 @@ const MOST_MESSAGES: usize = 64;
 
 /// A device asks for the translation of a page.
 #[derive(Clone, Copy)]
-pub(crate) struct Question {
+pub struct Question {
     pub(crate) device: DeviceId,
     pub(crate) page: u64,
 }
@@ -30,6 +30,14 @@ impl Messages {
     /// The question at the place, if there is one.
     pub(crate) fn question_at(&self, place: u64) -> Option<Question> {
         self.at(place).flatten()
+    }
+
+    /// The question whose delivery the event is, if it is one.
+    pub(crate) fn question_of(&self, event: &Event) -> Option<Question> {
+        match event {
+            Event::Deliver { place } => self.question_at(*place),
+            _ => None,
+        }
     }
 
     /// The message at the place.

@@ -254,7 +254,7 @@ fn is_feed(bytes: &[u8]) -> bool
 }
 
 /// What follows the prefix, where the text begins with it.
-fn without_prefix<'a>(text: &'a [u8], prefix: &[u8]) -> Option<&'a [u8]>
+pub(crate) fn without_prefix<'a>(text: &'a [u8], prefix: &[u8]) -> Option<&'a [u8]>
     ensures { IfSome result (λ rest. text.now ≡ prefix.now ++ rest.now) }
 {
     if text.len() < prefix.len() {

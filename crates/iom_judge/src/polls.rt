@@ -1,97 +1,116 @@
-// Which tickets a poll may confirm.
-use crate::devices::set_attachment;
+// Which tickets a poll may confirm, and what that leaves.
+ghost use Rattle.std.specs.Prelude.{◌≡◌, ◌-◌, ◌≤◌, suc, Bool, IsTrue, All};
+ghost use Rattle.iom_ledger.specs.Confirmations.{confirmed_from};
+ghost use Rattle.iom_ledger.specs.History.{History, May};
+ghost use Rattle.iom_ledger.specs.Shown.{Agrees};
+ghost use Rattle.iom_machine.specs.Devices.{DeviceMay, EachInFlightMay};
+ghost use Rattle.iom_machine.specs.Leaving.{with_left};
+ghost use Rattle.iom_machine.specs.declared.event.Event.TheVariants as events;
+ghost use Rattle.iom_machine.specs.declared.outcome.Outcome.TheVariants as outcomes;
+ghost use Rattle.iom_judge.specs.Allowed.{Past, IsTrueOf};
+ghost use Rattle.iom_judge.specs.Leaves.{ConfirmsNext};
+ghost use Rattle.iom_judge.specs.Steps.{IsLedBack, IsExplained};
+
 use crate::known::Known;
-use crate::owners::give_back_all;
+use crate::leaves::{detach_all, give_back_all};
 use crate::reach::may_from;
-use iom_base::{MAX_DEVICES, PAGE_SIZE};
-use iom_machine::{Attachment, Device, Outcome};
+use iom_base::{AcceptedAccess, DeviceId, PAGE_SIZE};
+use iom_ledger::Ledger;
+use iom_machine::{Device, Outcome};
 use std::alloc::Global;
 
-/// Whether these are the oldest pending tickets, or the first few of them.
-fn are_next_tickets(known: &Known, first: u32, last: u32) -> bool {
-    u64::from(first) == u64::from(known.last_confirmed) + 1
-        && first <= last
-        && last <= known.last_ticket
-}
-
-/// Whether each access of the device that is in flight may still reach its frame.
-fn device_may(known: &Known, device: &Device) -> bool {
-    for flight in device.in_flight.as_slice() {
-        let page = flight.access.address / PAGE_SIZE;
-        if !may_from(known, device.id, page, flight.frame, flight.access.kind) {
-            return false;
+/// Whether each of the accesses of the device may still reach its frame.
+fn each_may(known: &Known, id: DeviceId, in_flight: &[AcceptedAccess]) -> bool
+    ensures { IsTrue result → (past : Past) → IsTrueOf known.now past
+        → All (λ flight. May past.history id flight.frame flight.access.kind) in_flight.now }
+{
+    match in_flight {
+        [] => true,
+        [flight, later @ ..] => {
+            let page = flight.access.address / PAGE_SIZE;
+            if !may_from(known, id, page, flight.frame, flight.access.kind) {
+                return false;
+            }
+            each_may(known, id, later)
         }
     }
-    true
 }
 
-/// Whether each access in flight may still reach its frame.
-fn all_may(known: &Known) -> bool {
-    for device in known.devices.as_slice() {
-        if !device_may(known, device) {
-            return false;
+/// Whether each access in flight of these devices may still reach its frame.
+fn all_may(known: &Known, devices: &[Device]) -> bool
+    ensures { IsTrue result → (past : Past) → IsTrueOf known.now past → All (DeviceMay past.history) devices.now }
+{
+    match devices {
+        [] => true,
+        [device, others @ ..] => {
+            if !each_may(known, device.id, device.in_flight.as_slice()) {
+                return false;
+            }
+            all_may(known, others)
         }
     }
-    true
 }
 
 /// Confirms the tickets from the first to the last, one after another.
-fn confirm(known: &mut Known, first: u32, last: u32) {
+fn confirm(ledger: &mut Ledger, first: u32, last: u32)
+    requires { first ≤ last }
+    ensures { (h : History) → Agrees ledger.old h → Agrees ledger.new (confirmed_from first (suc (last - first)) h) }
+{
     for ticket in u64::from(first)..u64::from(last) + 1 {
-        known.ledger.confirm(ticket as u32);
-    }
-    known.last_confirmed = last;
-}
-
-/// Whether the device at the place has left: the ticket is confirmed under which it leaves.
-fn has_left(known: &Known, place: usize) -> bool {
-    match known.devices.as_slice().get(place) {
-        None => false,
-        Some(device) => match device.attachment {
-            Attachment::Leaving { ticket, .. } => known.is_confirmed(ticket),
-            _ => false,
-        },
+        ledger.confirm(ticket as u32);
     }
 }
 
-/// The devices that have left are detached, and their frames are given back.
-fn take_leave(alloc: Global, known: &mut Known) {
-    for place in 0..MAX_DEVICES {
-        if has_left(known, place) {
-            if !give_back_all(alloc, &mut known.frames, place) {
-                known.is_exact = false;
-            }
-            if place < known.devices.as_slice().len() {
-                set_attachment(&mut known.devices, place, Attachment::Detached);
-            }
-        }
-    }
-}
-
-/// Confirms these tickets, where they are the next.
-pub(crate) fn begin_poll(known: &mut Known, first: u32, last: u32) -> bool {
-    if !are_next_tickets(known, first, last) {
+/// Confirms these tickets, where they are the oldest pending ones, or the first few of them.
+pub(crate) fn begin_poll(known: &mut Known, first: u32, last: u32) -> bool
+    ensures { IsTrue result → (past : Past) → IsTrueOf known.old past → ConfirmsNext known.old known.new first last past }
+{
+    if u64::from(first) != u64::from(known.last_confirmed) + 1 {
         return false;
     }
-    confirm(known, first, last);
+    if first > last {
+        return false;
+    }
+    if last > known.last_ticket {
+        return false;
+    }
+    confirm(&mut known.ledger, first, last);
+    known.last_confirmed = last;
     true
 }
 
 /// Ends a poll that confirmed tickets: what is in flight must still reach its frame, and who has left is detached.
-pub(crate) fn end_poll(alloc: Global, known: &mut Known) -> bool {
-    if !all_may(known) {
+pub(crate) fn end_poll(alloc: Global, known: &mut Known) -> bool
+    ensures { IsTrue result → (past : Past) → IsTrueOf known.old past
+        → IsLedBack known.old known.new (λ before after. (after ≡ with_left before) × EachInFlightMay after) past }
+{
+    if !all_may(known, known.devices.as_slice()) {
         return false;
     }
-    take_leave(alloc, known);
+    let last = known.last_confirmed;
+    let is_whole = give_back_all(alloc, &mut known.frames, known.devices.as_slice(), last);
+    detach_all(&mut known.devices, last);
+    known.is_exact = is_whole && known.is_exact;
     true
 }
 
+/// A poll that confirms tickets.
+fn poll_confirmed(alloc: Global, known: &mut Known, first: u32, last: u32) -> bool
+    ensures { IsTrue result → (timed_out : Bool) (past : Past) → IsTrueOf known.old past
+        → IsExplained known.old known.new events.Poll (outcomes.Confirmed first last timed_out) past }
+{
+    if !begin_poll(known, first, last) {
+        return false;
+    }
+    end_poll(alloc, known)
+}
+
 /// A poll.
-pub(crate) fn poll(alloc: Global, known: &mut Known, outcome: &Outcome) -> bool {
+pub(crate) fn poll(alloc: Global, known: &mut Known, outcome: &Outcome) -> bool
+    ensures { IsTrue result → (past : Past) → IsTrueOf known.old past → IsExplained known.old known.new events.Poll outcome.now past }
+{
     match outcome {
-        Outcome::Confirmed { first, last, .. } => {
-            begin_poll(known, *first, *last) && end_poll(alloc, known)
-        }
+        Outcome::Confirmed { first, last, .. } => poll_confirmed(alloc, known, *first, *last),
         Outcome::NoneConfirmed { .. } => true,
         _ => false,
     }

@@ -1,36 +1,77 @@
 // What the processor writes and reads, and what it is told of a frame.
-ghost use Rattle.std.specs.Prelude.{IsTrue, true, false};
+ghost use Rattle.std.specs.Prelude.{◌≡◌, ◌↔◌, ◌/◌, ◌<◌, IsTrue, IfOk, true, false, length};
+ghost use Rattle.iom_base.specs.Sizes.{page_size};
+ghost use Rattle.iom_base.specs.Spans.{FitsInPage};
+ghost use Rattle.iom_ledger.specs.Refusals.{IsRefusedBy};
 ghost use Rattle.iom_machine.specs.declared.event.Event.TheVariants as events;
 ghost use Rattle.iom_machine.specs.declared.outcome.Outcome.TheVariants as outcomes;
+ghost use Rattle.iom_machine.specs.Machine.{Pokes, Peeks};
+ghost use Rattle.iom_machine.specs.Refusals.{NeverElse, poke_reasons};
 ghost use Rattle.iom_judge.specs.Allowed.{Past, IsTrueOf};
-ghost use Rattle.iom_judge.specs.Steps.{IsExplained};
+ghost use Rattle.iom_judge.specs.Steps.{IsLedBack, IsExplained};
 
 use crate::bits::without_bit;
-use crate::frames::{NOBODY, ONLY_NOBODY, keep, shows, store};
+use crate::contents::{be_somebodys, keep_at, may_show_at, store_nobodys};
+use crate::frames::{NOBODY, ONLY_NOBODY};
 use crate::known::Known;
-use crate::owners::{
-    may_be_nobodys, may_be_somebodys, number_of, owners_of, set_nobodys, set_owners, set_somebodys,
-};
+use crate::owners::{may_be_nobodys, may_be_somebodys, number_of, owners_of, set_owners};
 use crate::reasons::{frame_refusal, refuses};
+use arrayvec::ArrayVec;
 use iom_base::{PAGE_SIZE, Span};
 use iom_ledger::Refusal;
 use iom_machine::Outcome;
 use std::alloc::{AllocError, Global};
 
-fn fits(address: u64, len: u64) -> bool {
+fn is_within_page(address: u64, len: u64) -> bool
+    ensures { IsTrue result ↔ FitsInPage address len }
+{
     Span::new(address, len).is_some()
 }
 
-/// Whether a poke may be refused so.
-fn may_refuse_poke(known: &mut Known, frame: u64, why: Refusal) -> bool {
-    if let Some(first) = frame_refusal(known, frame) {
-        return why == first;
+fn is_bad_span(outcome: &Outcome) -> bool
+    ensures { IsTrue result ↔ (outcome.now ≡ outcomes.BadSpan) }
+{
+    matches!(outcome, Outcome::BadSpan)
+}
+
+fn is_same_refusal(why: Refusal, other: Refusal) -> bool
+    ensures { IsTrue result ↔ (why ≡ other) }
+{
+    why == other
+}
+
+/// A poke is refused so. Where that is since the frame is somebody's, it is so from then on.
+fn refuse_poke(known: &mut Known, frame: u64, why: Refusal) -> bool
+    ensures { IsTrue result → (past : Past) → IsTrueOf known.old past
+        → IsLedBack known.old known.new (λ before after. IsRefusedBy (poke_reasons before frame) NeverElse why × (after ≡ before)) past }
+{
+    match frame_refusal(known, frame) {
+        Some(first) => is_same_refusal(why, first),
+        None => {
+            if !is_same_refusal(why, Refusal::FrameReserved) {
+                return false;
+            }
+            be_somebodys(&mut known.frames, frame as usize)
+        }
     }
-    if why != Refusal::FrameReserved || !may_be_somebodys(known, frame) {
-        return false;
+}
+
+/// A poke is done. Its frame is nobody's.
+fn write(alloc: Global, known: &mut Known, address: u64, bytes: &[u8]) -> Result<bool, AllocError>
+    ensures { IfOk result (λ told. IsTrue told → FitsInPage address (length bytes.now) → (past : Past) → IsTrueOf known.old past
+        → IsLedBack known.old known.new (λ before after. Pokes before address bytes.now outcomes.Done after) past) }
+{
+    if frame_refusal(known, address / PAGE_SIZE).is_some() {
+        return Ok(false);
     }
-    set_somebodys(known, frame);
-    true
+    let is_stored = store_nobodys(
+        alloc,
+        &mut known.frames,
+        (address / PAGE_SIZE) as usize,
+        (address % PAGE_SIZE) as usize,
+        bytes,
+    )?;
+    Ok(is_stored)
 }
 
 /// A poke.
@@ -40,56 +81,55 @@ pub(crate) fn poke(
     address: u64,
     bytes: &[u8],
     outcome: &Outcome,
-) -> Result<bool, AllocError> {
-    let frame = address / PAGE_SIZE;
-    if !fits(address, bytes.len() as u64) {
-        return Ok(matches!(outcome, Outcome::BadSpan));
+) -> Result<bool, AllocError>
+    ensures { IfOk result (λ told. IsTrue told → (past : Past) → IsTrueOf known.old past
+        → IsExplained known.old known.new (events.Poke address bytes.now) outcome.now past) }
+{
+    if !is_within_page(address, bytes.len() as u64) {
+        return Ok(is_bad_span(outcome));
     }
     match outcome {
-        Outcome::Refused(why) => Ok(may_refuse_poke(known, frame, *why)),
+        Outcome::Refused(why) => Ok(refuse_poke(known, address / PAGE_SIZE, *why)),
         Outcome::Done => {
-            let number = frame as usize;
-            if !may_be_nobodys(known, frame) || number >= known.frames.as_slice().len() {
-                return Ok(false);
-            }
-            set_nobodys(known, frame);
-            if number < known.frames.as_slice().len() {
-                let believed = known.frames.item_mut(number);
-                store(alloc, believed, (address % PAGE_SIZE) as usize, bytes)?;
-            }
-            Ok(true)
+            let is_stored = write(alloc, known, address, bytes)?;
+            Ok(is_stored)
         }
         _ => Ok(false),
     }
 }
 
-/// Whether so many bytes may stand at the address: any, where the frame is reserved. What they show is so from then on.
-fn may_show(known: &mut Known, address: u64, len: u64, bytes: &[u8]) -> bool {
-    let number = address / PAGE_SIZE;
-    let offset = (address % PAGE_SIZE) as usize;
-    if bytes.len() as u64 != len || number as usize >= known.frames.as_slice().len() {
+/// So many bytes stand at the address: any, where its frame is somebody's. What they show is so from then on.
+fn show(known: &mut Known, address: u64, len: u64, bytes: &ArrayVec<u8, 4096>) -> bool
+    ensures { IsTrue result → FitsInPage address len → (past : Past) → IsTrueOf known.old past
+        → IsLedBack known.old known.new (λ before after. Peeks before address len (outcomes.Bytes bytes.now) after) past }
+{
+    if bytes.len() as u64 != len {
         return false;
     }
-    let frame = known.frames.item_mut(number as usize);
-    if frame.may_be_nobodys() && shows(frame, offset, bytes) {
-        keep(frame, offset, bytes);
-        return true;
-    }
-    if !frame.may_be_somebodys() {
+    if frame_refusal(known, address / PAGE_SIZE).is_some() {
         return false;
     }
-    set_somebodys(known, number);
-    true
+    let (frame, offset) = (
+        (address / PAGE_SIZE) as usize,
+        (address % PAGE_SIZE) as usize,
+    );
+    if may_show_at(known.frames.as_slice(), frame, offset, bytes.as_slice()) {
+        return keep_at(&mut known.frames, frame, offset, bytes.as_slice());
+    }
+    be_somebodys(&mut known.frames, frame)
 }
 
 /// A peek.
-pub(crate) fn peek(known: &mut Known, address: u64, len: u64, outcome: &Outcome) -> bool {
-    if !fits(address, len) {
-        return matches!(outcome, Outcome::BadSpan);
+pub(crate) fn peek(known: &mut Known, address: u64, len: u64, outcome: &Outcome) -> bool
+    ensures { IsTrue result → (past : Past) → IsTrueOf known.old past
+        → IsExplained known.old known.new (events.Peek address len) outcome.now past }
+{
+    if !is_within_page(address, len) {
+        return is_bad_span(outcome);
     }
     match outcome {
-        Outcome::Refused(why) => frame_refusal(known, address / PAGE_SIZE) == Some(*why),
-        Outcome::Bytes(bytes) => may_show(known, address, len, bytes.as_slice()),
+        Outcome::Refused(why) => refuses(frame_refusal(known, address / PAGE_SIZE), false, *why),
+        Outcome::Bytes(bytes) => show(known, address, len, bytes),
         _ => false,
     }
 }

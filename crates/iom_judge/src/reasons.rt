@@ -1,10 +1,12 @@
 // The first refusal that applies.
-ghost use Rattle.std.specs.Prelude.{◌≡◌, ◌↔◌, ◌-◌, ◌||◌, List, IsTrue, MatchOption, length};
-ghost use Rattle.iom_ledger.specs.Refusals.{first_that_applies};
+ghost use Rattle.std.specs.Prelude.{◌≡◌, ◌↔◌, ◌-◌, ◌||◌, List, None, IsTrue, MatchOption, false, length};
+ghost use Rattle.iom_ledger.specs.declared.refusal.Refusal.TheVariants.{Memory, NoFrames};
+ghost use Rattle.iom_ledger.specs.Refusals.{first_that_applies, NoneApplies};
+ghost use Rattle.iom_machine.specs.Frames.{is_reserved};
 ghost use Rattle.iom_machine.specs.declared.state.Frame.{Frame};
-ghost use Rattle.iom_judge.specs.Reasons.{bare, detach_reasons_by, release_reasons_by, quarantine_reasons_by, revive_reasons_by};
-ghost use Rattle.iom_machine.specs.Refusals.{plug_reasons, attach_reasons, detach_reasons, release_reasons, quarantine_reasons, revive_reasons, frame_reasons};
-ghost use Rattle.iom_machine.specs.Refusals.{is_plugged, attachment_of, is_trusted, id_limit, is_too_wide, is_held, has_grants, may_still_reach};
+ghost use Rattle.iom_judge.specs.Reasons.{bare, early_grant_reasons, late_grant_reasons_by, detach_reasons_by, release_reasons_by, quarantine_reasons_by, revive_reasons_by};
+ghost use Rattle.iom_machine.specs.Refusals.{plug_reasons, attach_reasons, detach_reasons, grant_reasons, release_reasons, quarantine_reasons, revive_reasons, frame_reasons};
+ghost use Rattle.iom_machine.specs.Refusals.{is_plugged, attachment_of, is_trusted, id_limit, is_too_wide, is_held, is_lingering, has_grants, may_still_reach};
 ghost use Rattle.iom_machine.specs.Refusals.{is_detached, is_leaving, is_quarantined, is_attached};
 ghost use Rattle.iom_judge.specs.Allowed.{Past, IsTrueOf, state_of};
 
@@ -176,7 +178,9 @@ pub(crate) fn detach_refusal(known: &Known, id: DeviceId) -> Option<Refusal>
 }
 
 /// Why a grant is refused before it is looked whose the frame is.
-pub(crate) fn early_grant_refusal(known: &Known, id: DeviceId, frame: u64) -> Option<Refusal> {
+pub(crate) fn early_grant_refusal(known: &Known, id: DeviceId, frame: u64) -> Option<Refusal>
+    ensures { result ≡ first_that_applies (early_grant_reasons known.now id frame) }
+{
     let attachment = attachment(known, id);
     if !plugged(known, id) {
         Some(Refusal::NoSuchDevice)
@@ -191,15 +195,47 @@ pub(crate) fn early_grant_refusal(known: &Known, id: DeviceId, frame: u64) -> Op
     }
 }
 
-/// Why one is refused afterwards.
-pub(crate) fn late_grant_refusal(known: &Known, id: DeviceId, page: u64) -> Option<Refusal> {
+/// Whether something is held at the page, or lingers there.
+fn busy(known: &Known, id: DeviceId, page: u64) -> bool
+    ensures { (past : Past) (frames : List Frame) → IsTrueOf known.now past
+        → result ≡ (is_held (state_of known.now past.history frames) id page || is_lingering (state_of known.now past.history frames) id page) }
+{
+    !known.ledger.is_vacant(id, page)
+}
+
+fn late_grant_refusal_by(page: u64, is_busy: bool) -> Option<Refusal>
+    ensures { result ≡ first_that_applies (late_grant_reasons_by page is_busy) }
+{
     if page >= PAGE_LIMIT {
         Some(Refusal::IovaOutOfRange)
-    } else if !known.ledger.is_vacant(id, page) {
+    } else if is_busy {
         Some(Refusal::IovaBusy)
     } else {
         None
     }
+}
+
+/// Why one is refused afterwards, where the frame is nobody's.
+pub(crate) fn late_grant_refusal(known: &Known, id: DeviceId, page: u64) -> Option<Refusal>
+    ensures { (past : Past) (frames : List Frame) → IsTrueOf known.now past
+        → result ≡ first_that_applies (late_grant_reasons_by page (is_held (state_of known.now past.history frames) id page || is_lingering (state_of known.now past.history frames) id page)) }
+{
+    let is_busy = busy(known, id, page);
+    late_grant_refusal_by(page, is_busy)
+}
+
+/// Whether no reason applies to a grant of a frame that is nobody's.
+pub(crate) fn may_grant(known: &Known, id: DeviceId, page: u64, frame: u64) -> bool
+    ensures { IsTrue result → (past : Past) (frames : List Frame) → IsTrueOf known.now past → length frames ≡ length known.now.frames
+        → is_reserved frames frame ≡ false → NoneApplies (grant_reasons (state_of known.now past.history frames) id page frame) }
+{
+    if early_grant_refusal(known, id, frame).is_some() {
+        return false;
+    }
+    if late_grant_refusal(known, id, page).is_some() {
+        return false;
+    }
+    true
 }
 
 fn release_refusal_by(known: &Known, id: DeviceId, is_held: bool) -> Option<Refusal>
@@ -297,4 +333,20 @@ pub(crate) fn refuses(first: Option<Refusal>, may_come: bool, why: Refusal) -> b
         None => may_come,
         Some(it) => why == it,
     }
+}
+
+pub(crate) fn is_memory(why: Refusal) -> bool
+    ensures { IsTrue result ↔ (why ≡ Memory) }
+{
+    matches!(why, Refusal::Memory)
+}
+
+/// Whether it is told that too few frames are free, where no reason comes first.
+pub(crate) fn tells_too_few(first: Option<Refusal>, why: Refusal) -> bool
+    ensures { IsTrue result → (first ≡ None) × (why ≡ NoFrames) }
+{
+    if first.is_some() {
+        return false;
+    }
+    matches!(why, Refusal::NoFrames)
 }

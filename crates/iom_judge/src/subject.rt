@@ -1,4 +1,4 @@
-use crate::asking::Way;
+use crate::way::Way;
 use iom_base::{AccessKind, DeviceId, PAGE_SIZE};
 use iom_machine::Event;
 

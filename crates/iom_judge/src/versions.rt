@@ -1,6 +1,6 @@
 // What memory may hold, where a write was made on one of several frames: some versions of it, each of them what is
 // believed of the frames' bytes with a few patches on it.
-use crate::frames::{shows, store};
+use crate::contents::{shows, store};
 use crate::known::Known;
 use crate::owners::may_be_nobodys;
 use std::alloc::{AllocError, Global};
@@ -127,6 +127,8 @@ pub(crate) struct Versions {
 }
 
 impl Versions {
+    ghost use Rattle.std.specs.Prelude.{◌≡◌, [], true};
+
     pub(crate) fn new(alloc: Global) -> Versions {
         Versions {
             all: Vec::new(alloc),
@@ -134,7 +136,9 @@ impl Versions {
     }
 
     /// Whether memory is known.
-    pub(crate) fn is_known(&self) -> bool {
+    pub(crate) fn is_known(&self) -> bool
+        ensures { self.now.all.items ≡ [] → result ≡ true }
+    {
         self.all.is_empty()
     }
 
@@ -266,7 +270,7 @@ impl Versions {
         for patch in version.patches.iter() {
             let frame = patch.frame as usize;
             if frame < known.frames.as_slice().len() {
-                store(
+                let _fits = store(
                     alloc,
                     known.frames.item_mut(frame),
                     patch.offset,

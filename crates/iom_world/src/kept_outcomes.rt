@@ -131,7 +131,17 @@ impl KeptOutcomes {
         ensures { result.now ≡ outcome_of told }
     {
         let place = self.place_for(&told);
-        told.tell(place);
+        told.tell::<true>(place);
+        place
+    }
+
+    /// The same, for who may be told any kind.
+    #[inline(always)]
+    pub(crate) fn tell_any(&mut self, told: Told) -> &mut Outcome
+        ensures { result.now ≡ outcome_of told }
+    {
+        let place = self.place_for(&told);
+        told.tell::<false>(place);
         place
     }
 }

@@ -35,28 +35,28 @@ impl World {
                 device,
                 address,
                 len,
-            } => kept.tell(self.read_translated(*device, *address, *len)),
+            } => kept.tell_any(self.read_translated(*device, *address, *len)),
             Event::WriteTranslated {
                 device,
                 address,
                 bytes,
-            } => kept.tell(self.write_translated(*device, *address, bytes.as_slice())),
+            } => kept.tell_any(self.write_translated(*device, *address, bytes.as_slice())),
             Event::ReadThroughCache {
                 device,
                 address,
                 len,
-            } => kept.tell(self.read_through_cache(*device, *address, *len)),
+            } => kept.tell_any(self.read_through_cache(*device, *address, *len)),
             Event::WriteThroughCache {
                 device,
                 address,
                 bytes,
-            } => kept.tell(self.write_through_cache(*device, *address, bytes.as_slice())),
-            Event::Ask { device, page } => kept.tell(self.ask(*device, *page)),
-            Event::Forge { device, serial } => kept.tell(self.forge(*device, *serial)),
-            Event::Deliver { place } => kept.tell(self.deliver(*place)),
-            Event::Drop { place } => kept.tell(self.drop_message(*place)),
-            Event::Repeat { place } => kept.tell(self.repeat(*place)),
-            _ => kept.tell(Told::Done),
+            } => kept.tell_any(self.write_through_cache(*device, *address, bytes.as_slice())),
+            Event::Ask { device, page } => kept.tell_any(self.ask(*device, *page)),
+            Event::Forge { device, serial } => kept.tell_any(self.forge(*device, *serial)),
+            Event::Deliver { place } => kept.tell_any(self.deliver(*place)),
+            Event::Drop { place } => kept.tell_any(self.drop_message(*place)),
+            Event::Repeat { place } => kept.tell_any(self.repeat(*place)),
+            _ => kept.tell_any(Told::Done),
         }
     }
 
@@ -74,12 +74,12 @@ impl World {
         ensures counted { self.new.events ≡ self.old.events }
     {
         match event {
-            Event::Quarantine { device } => kept.tell(self.quarantine(*device)),
-            Event::Revive { device } => kept.tell(self.revive(*device)),
-            Event::Restart => kept.tell(self.restart()),
-            Event::Timeout => kept.tell(self.timeout()),
-            Event::Reset { device } => kept.tell(self.reset(*device)),
-            _ => kept.tell(Told::Done),
+            Event::Quarantine { device } => kept.tell_any(self.quarantine(*device)),
+            Event::Revive { device } => kept.tell_any(self.revive(*device)),
+            Event::Restart => kept.tell_any(self.restart()),
+            Event::Timeout => kept.tell_any(self.timeout()),
+            Event::Reset { device } => kept.tell_any(self.reset(*device)),
+            _ => kept.tell_any(Told::Done),
         }
     }
 

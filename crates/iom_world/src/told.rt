@@ -110,9 +110,10 @@ impl Told {
     }
 
     /// Makes the outcome in the place say the same. Where it is one of this kind, only what differs is
-    /// written: a new one would be a whole page.
+    /// written: a new one would be a whole page. Where the caller knows the kind, a new one is written in
+    /// place; where it may be any, by a call of its own.
     #[inline(always)]
-    pub(crate) fn tell(self, place: &mut Outcome)
+    pub(crate) fn tell<const KIND_IS_KNOWN: bool>(self, place: &mut Outcome)
         ensures { place.new ≡ outcome_of self }
     {
         match (self, &mut *place) {
@@ -165,8 +166,12 @@ impl Told {
             (Told::Closed(serial), Outcome::Closed(held)) => *held = serial,
             (Told::NotClosed(serial), Outcome::NotClosed(held)) => *held = serial,
             _ => {
-                let told = self;
-                told.replace(place);
+                if KIND_IS_KNOWN {
+                    *place = self.outcome();
+                } else {
+                    let told = self;
+                    told.replace(place);
+                }
             }
         }
     }

@@ -11,14 +11,14 @@ pub returns-in-ReadThroughCache-clause-does : goal.returns-in-ReadThroughCache-c
 returns-in-ReadThroughCache-clause-does c =
     let old = parts_of c.args.self.now in
     let new = parts_of c.read_through_cache.new.self in
-    subst (λ (e : Event). Does old e c.tell-in-ReadThroughCache.result.now new) (sym c.in-ReadThroughCache.is)
-    (subst (λ (t : Outcome). AsksThroughCache old c.in-ReadThroughCache.device (read_of c.in-ReadThroughCache.address c.in-ReadThroughCache.len) t new) (sym c.tell-in-ReadThroughCache.ensures) c.read_through_cache.ensures.does)
+    subst (λ (e : Event). Does old e c.tell_any-in-ReadThroughCache.result.now new) (sym c.in-ReadThroughCache.is)
+    (subst (λ (t : Outcome). AsksThroughCache old c.in-ReadThroughCache.device (read_of c.in-ReadThroughCache.address c.in-ReadThroughCache.len) t new) (sym c.tell_any-in-ReadThroughCache.ensures) c.read_through_cache.ensures.does)
 
 pub returns-in-WriteThroughCache-clause-does : goal.returns-in-WriteThroughCache-clause-does
 returns-in-WriteThroughCache-clause-does c =
     let old = parts_of c.args.self.now in
     let new = parts_of c.write_through_cache.new.self in
-    subst (λ (e : Event). Does old e c.tell-in-WriteThroughCache.result.now new) (sym c.in-WriteThroughCache.is)
-    (subst (λ (bytes : List ℕ). AsksThroughCache old c.in-WriteThroughCache.device (write_of c.in-WriteThroughCache.address bytes) c.tell-in-WriteThroughCache.result.now new) c.as_slice-in-WriteThroughCache.ensures
-    (subst (λ (t : Outcome). AsksThroughCache old c.in-WriteThroughCache.device (write_of c.in-WriteThroughCache.address c.as_slice-in-WriteThroughCache.result.now) t new) (sym c.tell-in-WriteThroughCache.ensures)
+    subst (λ (e : Event). Does old e c.tell_any-in-WriteThroughCache.result.now new) (sym c.in-WriteThroughCache.is)
+    (subst (λ (bytes : List ℕ). AsksThroughCache old c.in-WriteThroughCache.device (write_of c.in-WriteThroughCache.address bytes) c.tell_any-in-WriteThroughCache.result.now new) c.as_slice-in-WriteThroughCache.ensures
+    (subst (λ (t : Outcome). AsksThroughCache old c.in-WriteThroughCache.device (write_of c.in-WriteThroughCache.address c.as_slice-in-WriteThroughCache.result.now) t new) (sym c.tell_any-in-WriteThroughCache.ensures)
     c.write_through_cache.ensures.does))
