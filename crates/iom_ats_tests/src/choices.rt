@@ -2,9 +2,19 @@
 // directory.
 
 use crate::run::Step;
-use iom_base::{DeviceId, Mode, Owner, Sequence};
+use iom_base::{Access, AccessKind, DeviceId, Mode, Owner, Sequence};
 use iom_machine::{Choice, Event, Outcome, State};
 use std::alloc::{AllocError, Global};
+
+/// No access: no block device takes a step here.
+fn no_access(alloc: Global) -> Access {
+    Access {
+        address: 0,
+        len: 1,
+        kind: AccessKind::Read,
+        bytes: Sequence::new(alloc),
+    }
+}
 
 /// Whether nobody has the frame. Those that are granted are the lowest, and no table comes to be there.
 fn is_free(state: &State, number: u32) -> bool {
@@ -167,6 +177,7 @@ impl Choices {
             frame: step.frame.unwrap_or(0),
             device,
             page,
+            access: no_access(alloc),
         })
     }
 }

@@ -1,7 +1,7 @@
 // What happens next in a drawn run.
 
 ghost use Rattle.std.specs.Prelude.{◌<◌, IfOk};
-ghost use Rattle.iom_machine.specs.Machine.{IsEvent};
+ghost use Rattle.iom_world.specs.Happens.{IsNoChoice};
 
 use iom_base::{DeviceId, GrantRights, Sequence};
 use iom_fabric::PageNumber;
@@ -126,7 +126,7 @@ impl Draw {
 
     /// A grant of one of the frames at one of the pages, mostly for reading and writing.
     fn grant(&mut self) -> Event
-        ensures { IsEvent result }
+        ensures { IsNoChoice result }
     {
         Event::Grant {
             device: self.device(),
@@ -142,7 +142,7 @@ impl Draw {
 
     /// A release of one of the pages, seldom of one of those in which a guest's tables stand.
     fn release(&mut self) -> Event
-        ensures { IsEvent result }
+        ensures { IsNoChoice result }
     {
         Event::Release {
             device: self.device(),
@@ -156,7 +156,7 @@ impl Draw {
 
     /// A device asks for the translation of a page.
     fn ask(&mut self) -> Event
-        ensures { IsEvent result }
+        ensures { IsNoChoice result }
     {
         let page = self.below(8);
         Event::Ask {
@@ -176,7 +176,7 @@ impl Draw {
 
     /// The raw device says that one of the last requests to invalidate is done, of which there were so many.
     fn forge(&mut self, requests: u64) -> Event
-        ensures { IsEvent result }
+        ensures { IsNoChoice result }
     {
         let back = self.below(4);
         Event::Forge {
@@ -191,7 +191,7 @@ impl Draw {
 
     /// An untranslated read or one through a cache, up to the end of a page, so that it takes in the frame's name.
     fn read(&mut self) -> Event
-        ensures { IsEvent result }
+        ensures { IsNoChoice result }
     {
         let before = self.below(8);
         let address = self.page() + NAME_AT - before;
@@ -215,7 +215,7 @@ impl Draw {
 
     /// Such a write, of an entry of a table, and behind it of a word that no other write has.
     fn write(&mut self, alloc: Global, own: u64) -> Result<Event, AllocError>
-        ensures { IfOk result (λ event. IsEvent event) }
+        ensures { IfOk result (λ event. IsNoChoice event) }
     {
         let place = if self.below(2) == 0 {
             self.below(8)
@@ -244,7 +244,7 @@ impl Draw {
 
     /// A request at an address of one of the granted frames, that says it is translated.
     fn translated(&mut self, alloc: Global, own: u64) -> Result<Event, AllocError>
-        ensures { IfOk result (λ event. IsEvent event) }
+        ensures { IfOk result (λ event. IsNoChoice event) }
     {
         let device = self.mostly(self.ids.raw);
         let address = (FIRST_FRAME + self.below(FRAMES)) * 4096;
@@ -267,7 +267,7 @@ impl Draw {
 
     /// What happens to a message: mostly it is delivered.
     fn message(&mut self, requests: u64) -> Event
-        ensures { IsEvent result }
+        ensures { IsNoChoice result }
     {
         let place = self.place();
         match self.below(24) {
@@ -286,7 +286,7 @@ impl Draw {
         own: u64,
         requests: u64,
     ) -> Result<Event, AllocError>
-        ensures { IfOk result (λ event. IsEvent event) }
+        ensures { IfOk result (λ event. IsNoChoice event) }
     {
         match self.below(84) {
             0..=6 => Ok(self.grant()),

@@ -10,7 +10,7 @@ use std::test::Fail;
 /// How many of the steps the judge finds lawful, and the list of the messages under way too, up to the first that
 /// isn't so.
 fn lawful(alloc: Global, run: &Run) -> Result<usize, AllocError> {
-    let mut state = power_on(alloc, 64, run.levels)?;
+    let mut state = power_on(alloc, 64, run.levels, &[])?;
     let mut choices = Choices::new(alloc);
     for (number, step) in run.steps.iter().enumerate() {
         if state.frames.as_slice().len() > 64 || !step.agrees {

@@ -1,7 +1,7 @@
 // What happens in a run in which devices come and go, and don't always answer.
 
 ghost use Rattle.std.specs.Prelude.{IfSome};
-ghost use Rattle.iom_machine.specs.Machine.{IsEvent};
+ghost use Rattle.iom_world.specs.Happens.{IsNoChoice};
 
 use crate::draw::{Draw, NAME_AT};
 use crate::run::Run;
@@ -12,7 +12,7 @@ use std::test::Fail;
 impl Draw {
     /// The device is attached in one of the modes that it has, mostly with ATS where it has a cache.
     fn attach(&mut self) -> Event
-        ensures { IsEvent result }
+        ensures { IsNoChoice result }
     {
         let device = self.device();
         let mode = match self.below(2) {
@@ -29,7 +29,7 @@ impl Draw {
 
     /// What is done about devices, whatever came before.
     fn lifecycle(&mut self) -> Event
-        ensures { IsEvent result }
+        ensures { IsNoChoice result }
     {
         match self.below(16) {
             0 | 1 => Event::Quarantine {
@@ -55,7 +55,7 @@ impl Run {
     /// A read through the cache of the device that keeps an answer, where that came at once, and so to the question
     /// that this step delivered.
     fn read_at_once(&self, answered: usize) -> Option<Event>
-        ensures { IfSome result (λ event. IsEvent event) }
+        ensures { IfSome result (λ event. IsNoChoice event) }
     {
         let step = self.steps.get(answered)?;
         let question = step.question?;
@@ -68,7 +68,7 @@ impl Run {
 
     /// The answer that was sent last comes at once.
     fn deliver_at_once(&self) -> Option<Event>
-        ensures { IfSome result (λ event. IsEvent event) }
+        ensures { IfSome result (λ event. IsNoChoice event) }
     {
         let place = self.messages.last_place()?;
         Some(Event::Deliver { place })
@@ -76,7 +76,7 @@ impl Run {
 
     /// The request that was sent last is lost.
     fn drop_at_once(&self) -> Option<Event>
-        ensures { IfSome result (λ event. IsEvent event) }
+        ensures { IfSome result (λ event. IsNoChoice event) }
     {
         let place = self.messages.last_place()?;
         Some(Event::Drop { place })
@@ -84,7 +84,7 @@ impl Run {
 
     /// What the last outcome calls for, if anything does.
     fn called_for(&self) -> Option<Event>
-        ensures { IfSome result (λ event. IsEvent event) }
+        ensures { IfSome result (λ event. IsNoChoice event) }
     {
         let last = self.steps.len().checked_sub(1)?;
         match &self.steps[last].outcome {
@@ -101,7 +101,7 @@ impl Run {
     /// What is done next about devices, if anything is: one time in three what the last outcome calls for, and
     /// seldom anything.
     pub(crate) fn next_of_lifecycle(&self, draw: &mut Draw) -> Option<Event>
-        ensures { IfSome result (λ event. IsEvent event) }
+        ensures { IfSome result (λ event. IsNoChoice event) }
     {
         if draw.below(3) == 0 {
             if let Some(event) = self.called_for() {
@@ -136,7 +136,7 @@ impl Run {
 
     /// The event happens, and what follows where a device is attached by it.
     pub(crate) fn live(&mut self, draw: &mut Draw, event: Event) -> Result<(), Fail>
-        requires { IsEvent event }
+        requires { IsNoChoice event }
     {
         match event {
             Event::Attach { device, .. } | Event::Revive { device } => {

@@ -1,12 +1,12 @@
 // A run of the world, on which frame each access of it was, and which question each answer was to.
 
 ghost use Rattle.std.specs.Prelude.{◌≡◌, ◌<◌, true};
-ghost use Rattle.iom_machine.specs.Machine.{IsEvent, is_built};
+ghost use Rattle.iom_world.specs.Happens.{IsNoChoice};
 
 use crate::draw::{Draw, FIRST_FRAME, FRAMES, Ids, NAME_AT, bytes_of};
 use crate::messages::{Messages, Question, Said};
 use iom_base::{DeviceId, GrantRights, Mode};
-use iom_machine::{DeviceKind, Event, Outcome};
+use iom_machine::{Event, NewDevice, Outcome};
 use iom_world::World;
 use std::alloc::Global;
 use std::test::Fail;
@@ -90,7 +90,7 @@ pub(crate) struct Run {
 
 impl Run {
     pub(crate) fn happen(&mut self, event: Event) -> Result<(), Fail>
-        requires { IsEvent event }
+        requires { IsNoChoice event }
     {
         if self.world.events() < 1000000 {
             let outcome = self.world.step(&event);
@@ -111,20 +111,18 @@ impl Run {
     fn plug_and_attach(
         &mut self,
         device: DeviceId,
-        kind: DeviceKind,
+        new: NewDevice,
         mode: Mode,
         ats: bool,
-    ) -> Result<(), Fail>
-        requires { is_built kind ≡ true }
-    {
-        self.happen(Event::Plug { device, kind })?;
+    ) -> Result<(), Fail> {
+        self.happen(Event::Plug { device, new })?;
         self.happen(Event::Attach { device, mode, ats })
     }
 
     /// A world of 64 frames, to which nothing has happened. Where it is wide its directory has three levels, else one.
     fn new(alloc: Global, plan: Plan, is_wide: bool) -> Result<Box<Run>, Fail> {
         let (ids, levels) = if is_wide { (WIDE, 3) } else { (NARROW, 1) };
-        let world = World::new(alloc, 64, levels)?;
+        let world = World::new(alloc, 64, levels, &[])?;
         let run = Run {
             alloc,
             world: Box::new(alloc, world)?,
@@ -162,9 +160,9 @@ impl Run {
     /// The three devices, the pages in which a guest's tables are to stand, and frames that name themselves.
     fn begin(&mut self, other: Mode) -> Result<(), Fail> {
         let ids = self.ids;
-        self.plug_and_attach(ids.first, DeviceKind::Ats, Mode::First, true)?;
-        self.plug_and_attach(ids.other, DeviceKind::Ats, other, true)?;
-        self.plug_and_attach(ids.raw, DeviceKind::Raw, Mode::First, false)?;
+        self.plug_and_attach(ids.first, NewDevice::Ats, Mode::First, true)?;
+        self.plug_and_attach(ids.other, NewDevice::Ats, other, true)?;
+        self.plug_and_attach(ids.raw, NewDevice::Raw, Mode::First, false)?;
         self.grant_first(ids.other, 3)?;
         for frame in FIRST_FRAME..FIRST_FRAME + FRAMES {
             self.name(frame)?;

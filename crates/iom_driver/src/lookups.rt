@@ -4,7 +4,7 @@ ghost use Rattle.std.specs.Prelude.{IsErrOf};
 ghost use Rattle.iom_phys_mem.specs.Sizes.{IsMemorySize};
 ghost use Rattle.iom_phys_mem.specs.declared.memory.MemError.TheVariants.{BadSize};
 ghost use Rattle.iom_registers.specs.declared.registers.Registers.{Registers};
-ghost use Rattle.iom_table_frames.specs.Marks.{is_marked};
+ghost use Rattle.iom_table_frames.specs.Marks.{is_marked, AreSoMany};
 ghost use Rattle.iom_driver.specs.Calls.{IsOpening, IsFreeFrame};
 ghost use Rattle.iom_driver.specs.Devices.{device_of, with_attachment};
 ghost use Rattle.iom_driver.specs.Layout.{IsLevels};
@@ -114,6 +114,13 @@ impl Driver {
             return false;
         }
         self.ledger.is_free(frame)
+    }
+
+    /// How many frames are free.
+    pub fn count_free(&self) -> u32
+        ensures { AreSoMany (IsFreeFrame (state_of self.now)) result }
+    {
+        self.marks.count_free(&self.ledger)
     }
 
     /// How many tickets aren't confirmed.

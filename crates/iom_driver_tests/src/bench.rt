@@ -154,6 +154,10 @@ impl Bench {
         self.driver.is_reserved(frame)
     }
 
+    pub(crate) fn count_free(&self) -> u32 {
+        self.driver.count_free()
+    }
+
     pub(crate) fn pending(&self) -> usize {
         self.driver.pending()
     }

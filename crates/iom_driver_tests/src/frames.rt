@@ -8,8 +8,10 @@ use std::test::Fail;
 fn a_frame_is_free_once_its_release_is_confirmed(rt: HostRuntime) -> Result<(), Fail> {
     let mut bench = Bench::with_device(rt.alloc(), 1)?;
     expect(&rt, bench.is_free(5));
+    expect_eq(&rt, &bench.count_free(), &59);
     expect_eq(&rt, &bench.grant(1, 3, 5), &Ok(()));
     expect(&rt, !bench.is_free(5));
+    expect_eq(&rt, &bench.count_free(), &56);
     expect_eq(&rt, &bench.release(1, 3), &Ok(Ticket(1)));
     expect(&rt, !bench.is_free(5));
     bench.complete(1);

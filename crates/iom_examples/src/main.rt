@@ -10,7 +10,7 @@ use std::alloc::Global;
 use std::fs;
 
 /// The examples, in the order in which they are best read.
-const NAMES: [&str; 18] = [
+const NAMES: [&str; 20] = [
     "first-path",
     "stale-read",
     "draining",
@@ -29,6 +29,8 @@ const NAMES: [&str; 18] = [
     "no-answer",
     "quarantine",
     "revival",
+    "block-device",
+    "buffer-taken-back",
 ];
 
 /// The number of the first line that differs, counted from 1; None where the texts are the same.
@@ -50,7 +52,8 @@ fn first_difference(printed: &str, wanted: &str) -> Option<u64> {
 /// What the script prints.
 fn printed(alloc: Global, script: &str) -> anyhow::Result<String> {
     let mut lines = Vec::new(alloc);
-    iom_runner::run(alloc, &mut script.as_bytes(), &mut lines)?;
+    let disks = iom_runner::program_disks(alloc)?;
+    iom_runner::run(alloc, &mut script.as_bytes(), &mut lines, disks, false)?;
     Ok(String::from_utf8(lines)?)
 }
 

@@ -75,6 +75,13 @@ impl Fabric {
         self.messages.is_empty()
     }
 
+    /// The message at a place, counted from 0, which stays. None exactly where there is none.
+    pub fn get(&self, place: usize) -> Option<OnLink>
+        ensures { result ≡ slice_get self.now place }
+    {
+        self.messages.get(place).copied()
+    }
+
     /// Sends a message on the device's link: it goes last. False exactly where 64 are under way; then it is
     /// lost, and nothing changes.
     pub fn send(&mut self, device: DeviceId, message: Message) -> bool

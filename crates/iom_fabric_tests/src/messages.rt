@@ -21,19 +21,26 @@ fn takes_from(rt: &impl Abort, fabric: &mut Fabric, place: usize, device: u32, m
     );
 }
 
-// The message of device 3 with this serial is taken.
-fn takes(rt: &impl Abort, fabric: &mut Fabric, place: usize, serial: u64) {
+// The message of device 3 with this serial stands at the place.
+fn stands(rt: &impl Abort, fabric: &Fabric, place: usize, serial: u64) {
     let message = done(serial);
     assert_eq!(rt;
-        fabric.take(place),
+        fabric.get(place),
         Some(OnLink { device: 3, message }),
         "place {place}"
     );
 }
 
-// There is no message at the place, and none of the three calls changes anything.
+// The message of device 3 with this serial is seen and taken.
+fn takes(rt: &impl Abort, fabric: &mut Fabric, place: usize, serial: u64) {
+    stands(rt, fabric, place, serial);
+    takes_from(rt, fabric, place, 3, done(serial));
+}
+
+// There is no message at the place, and none of the four calls changes anything.
 fn nothing_at(rt: &impl Abort, fabric: &mut Fabric, place: usize) {
     let len = fabric.len();
+    assert_eq!(rt; fabric.get(place), None);
     assert_eq!(rt; fabric.take(place), None);
     assert!(rt; !fabric.drop(place));
     assert_eq!(rt; fabric.repeat(place), Repeat::Nothing);

@@ -1,4 +1,5 @@
 pub mod BitLemmas
+pub mod CountLemmas
 pub mod SearchLemmas
 pub mod SetLemmas
 pub mod SummaryLemmas

@@ -1,5 +1,5 @@
 -- Sets of frames, a bit for each frame in words of 64.
-use Rattle.std.specs.Prelude.{◌≡◌, ◌≢◌, ℕ, ◌*◌, ◌/◌, ◌%◌, ◌<◌, Bool, true, false, ◌==◌, ◌&&◌, List, length, Option, Some, slice_index_or, if◌then◌else◌}
+use Rattle.std.specs.Prelude.{◌≡◌, ◌≢◌, ℕ, zero, suc, ◌*◌, ◌/◌, ◌%◌, ◌<◌, Bool, true, false, ◌==◌, ◌&&◌, List, [], ◌∷◌, ◌++◌, length, Option, Some, slice_index_or, if◌then◌else◌}
 use Rattle.std.specs.Int.{bit_at}
 
 -- the words that are kept, and the one that stands for each beyond them
@@ -57,3 +57,9 @@ pub record IsHighestCommon (set other : Words) (named : Option ℕ) (limit frame
   pub below : frame < limit
   pub common : IsCommon set other named frame
   pub highest : (higher : ℕ) → frame < higher → higher < limit → ¬ IsCommon set other named higher
+
+-- the frames below the limit that are in both sets, the lowest first
+unfoldable pub common_below : Words → Words → ℕ → List ℕ
+common_below set other zero = []
+common_below set other (suc limit) =
+    if in_both set other limit then common_below set other limit ++ limit ∷ [] else common_below set other limit

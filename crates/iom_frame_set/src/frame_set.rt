@@ -1,5 +1,5 @@
-ghost use Rattle.std.specs.Prelude.{◌≡◌, ◌+◌, ◌<◌, ◌≤◌, OnOk, MatchOption, max};
-ghost use Rattle.iom_frame_set.specs.Sets.{has, room, IsEmpty, IsFull, HasSame, Inserts, Removes, NoneIsCommon, IsHighestCommon};
+ghost use Rattle.std.specs.Prelude.{◌≡◌, ◌+◌, ◌<◌, ◌≤◌, OnOk, MatchOption, length, max};
+ghost use Rattle.iom_frame_set.specs.Sets.{has, room, IsEmpty, IsFull, HasSame, Inserts, Removes, NoneIsCommon, IsHighestCommon, common_below};
 ghost use Rattle.iom_frame_set.specs.Spans.{NoneIsInBoth, IsHighestInBoth};
 
 use crate::bits::BITS;
@@ -118,5 +118,12 @@ impl FrameSet {
             Some(highest) if named == Some(highest) => self.highest_common(other, highest),
             found => found,
         }
+    }
+
+    /// How many frames below the limit are in both sets. Looks at a word of each for 64 frames.
+    pub fn count_in_both(&self, other: &FrameSet, limit: u32) -> u32
+        ensures { result ≡ length (common_below self.now other.now limit) }
+    {
+        self.frames.count_in_both(&other.frames, limit)
     }
 }

@@ -1,6 +1,6 @@
 //! Sets of numbers, a bit for each in words of 64.
 ghost use Rattle.std.specs.Prelude.{◌≡◌, ◌+◌, ◌-◌, ◌*◌, ◌/◌, ◌^◌, ◌<◌, ◌≤◌, ℕ, OnOk, MatchOption, length, max};
-ghost use Rattle.iom_frame_set.specs.Sets.{nth_word, has, room, IsEmpty, IsFull, Inserts, Removes};
+ghost use Rattle.iom_frame_set.specs.Sets.{nth_word, has, room, IsEmpty, IsFull, Inserts, Removes, common_below};
 ghost use Rattle.iom_frame_set.specs.Spans.{KeepsWords, KeepsOtherWords, NoneIsInBoth, IsHighestInBoth};
 
 use crate::bits::{BITS, highest_bit, ones_below, with_bit, without_bit};
@@ -128,5 +128,26 @@ impl NumberSet {
             }
         }
         None
+    }
+
+    /// How many numbers, of the first so many of a word, are in both sets. Looks at this word.
+    fn count_in_word(&self, other: &NumberSet, index: u32, places: u32) -> u32
+        requires { places ≤ 64 }
+        ensures counted { let first = 64 * index in
+            length (common_below self.now other.now (first + places)) ≡ length (common_below self.now other.now first) + result }
+        ensures few { result ≤ places }
+    {
+        (self.word(index) & other.word(index) & ones_below(places)).count_ones()
+    }
+
+    /// How many numbers below the limit are in both sets. Looks at each word up to the limit's.
+    pub(crate) fn count_in_both(&self, other: &NumberSet, limit: u32) -> u32
+        ensures { result ≡ length (common_below self.now other.now limit) }
+    {
+        let mut count = 0;
+        for index in 0..limit / BITS {
+            count += self.count_in_word(other, index, BITS);
+        }
+        count + self.count_in_word(other, limit / BITS, limit % BITS)
     }
 }

@@ -1,8 +1,8 @@
 -- Looking a row up by its device, and what rows are where one is replaced or one more is there.
-use Rattle.std.proofs.Common.{suc, zero, ◌≡◌, ◌≢◌, ◌==◌, ◌<◌, ◌∙◌, ◌++◌, ℕ, Bool, true, false, List, [], ◌∷◌, length, Option, Some, None, IsSome, slice_get, refl, sym, ap, inl, inr, arith, if◌then◌else◌}
+use Rattle.std.proofs.Common.{suc, zero, ◌≡◌, ◌≢◌, ◌==◌, ◌<◌, ◌≤◌, ◌+◌, drop, ◌∙◌, ◌++◌, ℕ, Bool, true, false, List, [], ◌∷◌, length, Option, Some, None, IsSome, slice_get, refl, sym, ap, inl, inr, arith, if◌then◌else◌}
 use Rattle.std.proofs.lemmas.Bool.Decides.{eqb_tells}
 use Rattle.std.proofs.lemmas.Bool.{eq-eqb, false≢true}
-use Rattle.iom_inflight.specs.Flights.{FlightRow, row_of, with_row}
+use Rattle.iom_inflight.specs.Flights.{FlightRow, row_of, with_row, count_all}
 use Rattle.iom_inflight.specs.Rows.{StandsAt}
 
 -- two different numbers don't compare equal
@@ -103,3 +103,17 @@ pub get_there : (rows : List FlightRow) (k : ℕ) → k < length rows → (row :
 get_there [] k lt = absurd (omega arith)
 get_there (row ∷ rows) zero lt = (row, refl)
 get_there (row ∷ rows) (suc k) lt = get_there rows k (omega arith)
+
+-- the accesses in flight of the rows from a place on: those of the row that stands there, and those of the later ones
+pub count_from : (rows : List FlightRow) (place : ℕ) (row : FlightRow) → slice_get rows place ≡ Some row
+    → count_all (drop place rows) ≡ length row.waiting + count_all (drop (suc place) rows)
+count_from [] place row at = cc
+count_from (first ∷ others) zero row at = let same : first ≡ row = cc in ap (λ (r : FlightRow). length r.waiting + count_all others) same
+count_from (first ∷ others) (suc place) row at = count_from others place row at
+
+-- past the last row there are none
+pub count_past : (rows : List FlightRow) (place : ℕ) → length rows ≤ place → count_all (drop place rows) ≡ 0
+count_past [] zero past = refl
+count_past [] (suc place) past = refl
+count_past (first ∷ others) zero past = absurd (omega arith)
+count_past (first ∷ others) (suc place) past = count_past others place (omega arith)

@@ -1,5 +1,5 @@
 -- The accesses in flight, those of each device in a row of its own.
-use Rattle.std.specs.Prelude.{ℕ, ◌==◌, nat_le, Bool, true, false, ◌&&◌, not, List, [], ◌∷◌, length, Option, None, Some, IsSome, if◌then◌else◌}
+use Rattle.std.specs.Prelude.{ℕ, ◌+◌, ◌==◌, nat_le, Bool, true, false, ◌&&◌, not, List, [], ◌∷◌, length, Option, None, Some, IsSome, if◌then◌else◌}
 use Rattle.std.specs.List.{list_all, list_any}
 use Rattle.iom_base.specs.Accesses.{offset_of}
 use Rattle.iom_base.specs.declared.access.AcceptedAccess.{AcceptedAccess}
@@ -58,6 +58,16 @@ made_at device made = record {
 abbrev pub count_in : Option FlightRow → ℕ
 count_in None = 0
 count_in (Some row) = length row.waiting
+
+-- how many accesses of the device were ever accepted
+abbrev pub accepted_in : Option FlightRow → ℕ
+accepted_in None = 0
+accepted_in (Some row) = row.accepted
+
+-- how many accesses of all these rows are in flight
+abbrev pub count_all : List FlightRow → ℕ
+count_all [] = 0
+count_all (row ∷ rows) = length row.waiting + count_all rows
 
 -- the oldest of these
 abbrev pub first_made : ℕ → List NumberedAccess → Option MadeAt

@@ -1,8 +1,8 @@
-ghost use Rattle.std.specs.Prelude.{◌≡◌, ◌↔◌, ◌<◌, ◌≤◌, ◌+◌, ◌^◌, length, IfOk, MatchOption, None, is_some, nat_le};
+ghost use Rattle.std.specs.Prelude.{◌≡◌, ◌↔◌, ◌<◌, ◌≤◌, ◌+◌, ◌*◌, ◌^◌, length, IfOk, MatchOption, None, is_some, nat_le};
 ghost use Rattle.iom_base.specs.Accesses.{read_of, write_of};
 ghost use Rattle.iom_base.specs.Sizes.{in_flight_limit, device_limit};
 ghost use Rattle.iom_base.specs.Spans.{FitsInPage};
-ghost use Rattle.iom_inflight.specs.Flights.{Flights, no_flights, row_of, IsAdded, count_in, oldest_in, some_in_flight, are_drained};
+ghost use Rattle.iom_inflight.specs.Flights.{Flights, no_flights, row_of, IsAdded, count_in, accepted_in, count_all, oldest_in, some_in_flight, are_drained};
 ghost use Rattle.iom_inflight.specs.Calls.{Adds, Accepts, Makes, IsReady};
 ghost use Rattle.iom_inflight.specs.Rows.{StandsAt};
 ghost use Rattle.iom_inflight.specs.Sound.{AreFlights};
@@ -50,6 +50,19 @@ fn find(rows: &[Row], device: DeviceId) -> Option<usize>
         }
     }
     None
+}
+
+/// How many accesses of all these devices are in flight.
+fn count_in_rows(rows: &[Row]) -> usize
+    requires { length rows.now ≤ device_limit }
+    ensures count { result ≡ count_all rows.now }
+    ensures few { result ≤ device_limit * in_flight_limit }
+{
+    let mut total = 0;
+    for place in 0..rows.len() {
+        total += rows[place].count();
+    }
+    total
 }
 
 /// Rows for 16 devices.
@@ -124,6 +137,25 @@ impl InFlight {
             Some(place) => self.rows[place].count(),
             None => 0,
         }
+    }
+
+    /// How many accesses of the device were ever accepted: the number of its last one; 0 where it wasn't
+    /// added. So that of its oldest in flight is this, less [`count`](InFlight::count), and 1.
+    pub fn accepted(&self, device: DeviceId) -> u64
+        ensures { result ≡ accepted_in (row_of self.now.rows device) }
+    {
+        match find(&self.rows, device) {
+            Some(place) => self.rows[place].accepted(),
+            None => 0,
+        }
+    }
+
+    /// How many accesses of all devices are in flight: at most 128.
+    pub fn count_all(&self) -> usize
+        ensures count { result ≡ count_all self.now.rows }
+        ensures few { result ≤ device_limit * in_flight_limit }
+    {
+        count_in_rows(&self.rows)
     }
 
     /// What [`make`](InFlight::make) would make; None where nothing of the device is in flight, or it wasn't

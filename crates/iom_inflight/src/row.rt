@@ -80,6 +80,13 @@ impl Row {
         self.device
     }
 
+    /// How many were ever accepted.
+    pub(crate) fn accepted(&self) -> u64
+        ensures { result ≡ self.now.accepted }
+    {
+        self.accepted
+    }
+
     /// How many are in flight.
     pub(crate) fn count(&self) -> usize
         ensures count { result ≡ length self.now.waiting }

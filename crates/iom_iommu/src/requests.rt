@@ -1,7 +1,7 @@
 // What a device asks of memory, and what becomes of an access in flight.
-ghost use Rattle.std.specs.Prelude.{◌≡◌, ◌<◌, ◌≤◌, ◌+◌, ◌^◌, length, IfSome};
-ghost use Rattle.iom_base.specs.Sizes.{in_flight_limit};
-ghost use Rattle.iom_inflight.specs.Flights.{count_in, oldest_in, row_of};
+ghost use Rattle.std.specs.Prelude.{◌≡◌, ◌<◌, ◌≤◌, ◌+◌, ◌*◌, ◌^◌, length, IfSome};
+ghost use Rattle.iom_base.specs.Sizes.{in_flight_limit, device_limit};
+ghost use Rattle.iom_inflight.specs.Flights.{count_in, accepted_in, count_all, oldest_in, row_of};
 ghost use Rattle.iom_inflight.specs.Sound.{CarriesBytes};
 ghost use Rattle.iom_inflight.specs.Calls.{IsAccepted};
 ghost use Rattle.iom_inflight.specs.Rows.{StandsAt};
@@ -122,6 +122,22 @@ impl<C: TransCache> Iommu<C> {
         ensures few { result ≤ in_flight_limit }
     {
         self.in_flight.count(device)
+    }
+
+    /// How many accesses of the device were ever accepted: the number of its last one; 0 where it wasn't
+    /// added.
+    pub fn accepted(&self, device: DeviceId) -> u64
+        ensures { result ≡ accepted_in (row_of (flights_of self.now).rows device) }
+    {
+        self.in_flight.accepted(device)
+    }
+
+    /// How many accesses of all devices are in flight: at most 128.
+    pub fn all_in_flight(&self) -> usize
+        ensures count { result ≡ count_all (flights_of self.now).rows }
+        ensures few { result ≤ device_limit * in_flight_limit }
+    {
+        self.in_flight.count_all()
     }
 
     /// What [`commit`](Iommu::commit) would make.

@@ -240,6 +240,12 @@ impl Bench {
         assert_eq!(rt; self.question(rt, page), Some(expected));
     }
 
+    /// So many accesses of the device were ever accepted, and so many are in flight over all devices.
+    pub(crate) fn expect_counts(&self, rt: &impl Abort, accepted: u64, in_flight: usize) {
+        assert_eq!(rt; self.iommu.accepted(DEVICE), accepted);
+        assert_eq!(rt; self.iommu.all_in_flight(), in_flight);
+    }
+
     /// The oldest access of the device is made.
     pub(crate) fn commit(&mut self, rt: &impl Abort) -> Option<MadeAt> {
         let is_its = self.memory.frames() == self.iommu.frames();

@@ -41,7 +41,9 @@ fn waiting(rt: &impl Abort, alloc: Global) -> Result<Box<Bench>, Fail> {
 fn later_accesses_are_not_waited_for(rt: HostRuntime) -> Result<(), Fail> {
     let mut bench = waiting(&rt, rt.alloc())?;
     bench.expect_fetch(&rt, Fetched::Waiting);
+    bench.expect_counts(&rt, 2, 2);
     bench.commit(&rt);
+    bench.expect_counts(&rt, 2, 1);
     bench.expect_fetch(&rt, did(true, false));
     bench.expect_fetch(&rt, Fetched::Waiting);
     bench.commit(&rt);

@@ -1,5 +1,6 @@
 -- What is explained as a request, a message or a reset, as a step of the event that asks for it.
 use Rattle.std.proofs.Common.{◌≡◌, ℕ, [], Result, Ok, Err, IfOk, sym, subst}
+use Rattle.iom_base.specs.Accesses.{read_of}
 use Rattle.iom_base.specs.declared.access.Access.{Access}
 use Rattle.iom_base.specs.declared.access.AccessKind.{AccessKind}
 use Rattle.iom_base.specs.declared.access.AccessKind.TheVariants.{Read, Write}
@@ -26,7 +27,7 @@ led_as old new past P Q leads led = record {
 
 -- a choice of this frame
 abbrev on_frame : ℕ → Choice
-on_frame frame = record { directory = []; taken = []; frame = frame; device = 0; page = 0 }
+on_frame frame = record { directory = []; taken = []; frame = frame; device = 0; page = 0; access = read_of 0 1 }
 
 pub untranslated_explained : (old new : Known) (past : Past) (event : Event) (id frame : ℕ) (access : Access) (outcome : Outcome) → IsAskedBy event Untranslated id access
     → IsLedBack old new (λ before after. Requests frame before id access outcome after) past → IsExplained old new event outcome past

@@ -52,6 +52,7 @@ with_both old devices frames = record {
   last_ticket = old.last_ticket;
   last_confirmed = old.last_confirmed;
   devices = devices;
+  disks = old.disks;
   frames = frames;
   is_exact = old.is_exact;
 }

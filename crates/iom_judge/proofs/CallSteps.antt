@@ -1,5 +1,5 @@
 -- Calls of the driver that change a device or the grants, as steps that are explained.
-use Rattle.std.proofs.Common.{◌≡◌, ◌∙◌, ◌+◌, ℕ, List, ◌∷◌, Some, slice_get, slice_set, refl, sym, ap, subst}
+use Rattle.std.proofs.Common.{◌≡◌, ◌∙◌, ◌+◌, ℕ, false, List, ◌∷◌, Some, slice_get, slice_set, refl, sym, ap, subst}
 use Rattle.iom_ledger.specs.declared.entry.HistoryEntry.TheVariants as entries
 use Rattle.iom_ledger.specs.declared.ledger.Ledger.{Ledger}
 use Rattle.iom_ledger.specs.Refusals.{NoneApplies}
@@ -26,6 +26,20 @@ with_devices old devices ticket = record {
   last_ticket = ticket;
   last_confirmed = old.last_confirmed;
   devices = devices;
+  disks = old.disks;
+  frames = old.frames;
+  is_exact = old.is_exact;
+}
+
+-- what is known, where the devices change, and the disks are those of the other
+abbrev pub with_disks_of : Known → Known → List Device → Known
+with_disks_of old left devices = record {
+  levels = old.levels;
+  ledger = old.ledger;
+  last_ticket = old.last_ticket;
+  last_confirmed = old.last_confirmed;
+  devices = devices;
+  disks = left.disks;
   frames = old.frames;
   is_exact = old.is_exact;
 }
@@ -51,7 +65,7 @@ keeps_ids olds devices place device now at d same = ap ids_of d ∙ same_ids old
 pub detach_explained : (old : Known) (past : Past) (id place ticket : ℕ) (device : Device) (devices : List Device)
     → IsTrueOf old past → ((frames : List Frame) → NoneApplies (detach_reasons (state_of old past.history frames) id))
     → ticket ≡ old.last_ticket + 1 → StandsAt old.devices id place → slice_get old.devices place ≡ Some device
-    → devices ≡ slice_set old.devices place (record device { attachment = leaving_under ticket device.attachment })
+    → devices ≡ slice_set old.devices place (record device { has_disk = false; attachment = leaving_under ticket device.attachment })
     → IsExplained old (with_devices old devices ticket) (Detach id) (Ticket ticket) past
 detach_explained old past id place ticket device devices is_true none next is_place at d = record {
   after = past;
@@ -92,6 +106,7 @@ with_ledger old ledger devices ticket = record {
   last_ticket = ticket;
   last_confirmed = old.last_confirmed;
   devices = devices;
+  disks = old.disks;
   frames = old.frames;
   is_exact = old.is_exact;
 }

@@ -32,6 +32,7 @@ with_frames old frames = record {
   last_ticket = old.last_ticket;
   last_confirmed = old.last_confirmed;
   devices = old.devices;
+  disks = old.disks;
   frames = frames;
   is_exact = old.is_exact;
 }

@@ -1,6 +1,8 @@
 pub mod AskedSteps
+pub mod BlockSteps
 pub mod ByteSteps
 pub mod CallSteps
+pub mod CertificateLemmas
 pub mod ContentLemmas
 pub mod FrameSteps
 pub mod GrantedLemmas
@@ -11,6 +13,7 @@ pub mod OwnerLemmas
 pub mod PlugSteps
 pub mod PollSteps
 pub mod ReasonLemmas
+pub mod ReadingLemmas
 pub mod RequestSteps
 pub mod ScarceSteps
 pub mod StartLemmas

@@ -6,20 +6,25 @@ use Rattle.iom_base.specs.Sizes.{device_limit}
 use Rattle.iom_base.specs.declared.owner.Owner.{Owner}
 use Rattle.iom_base.specs.declared.owner.Owner.TheVariants.{System, OneDevice}
 use Rattle.iom_ledger.specs.declared.refusal.Refusal.{Refusal}
-use Rattle.iom_ledger.specs.declared.refusal.Refusal.TheVariants.{AlreadyPlugged, TooManyDevices}
+use Rattle.iom_ledger.specs.declared.refusal.Refusal.TheVariants.{AlreadyPlugged, TooManyDevices, BadMedium}
 use Rattle.iom_ledger.specs.Refusals.{first_that_applies, NoneApplies}
 use Rattle.iom_machine.specs.Machine.{plugged_device}
 use Rattle.iom_machine.specs.Refusals.{plug_reasons, is_plugged}
 use Rattle.iom_machine.specs.declared.event.Event.TheVariants.{Plug}
 use Rattle.iom_machine.specs.declared.outcome.Outcome.TheVariants.{Done}
 use Rattle.iom_machine.specs.declared.state.Device.{Device}
+use Rattle.iom_machine.specs.declared.state.NewDevice.{NewDevice}
+use Rattle.iom_machine.specs.Disks.{is_missing, without_disk}
+use Rattle.iom_machine.specs.Kinds.{kind_of, disk_of}
+use Rattle.iom_machine.specs.declared.state.Attachment.TheVariants.{Detached}
 use Rattle.iom_machine.specs.declared.state.DeviceKind.{DeviceKind}
+use Rattle.iom_base.specs.declared.access.AcceptedAccess.{AcceptedAccess}
 use Rattle.iom_judge.specs.declared.known.Known.{Known}
 use Rattle.iom_judge.specs.declared.frames.BelievedFrame.{BelievedFrame}
-use Rattle.iom_judge.specs.Allowed.{Past, IsTrueOf, AreInOrder, HadBytes, MayOwn, ids_of, state_of}
+use Rattle.iom_judge.specs.Allowed.{Past, IsTrueOf, AreInOrder, HadBytes, MayOwn, ids_of}
 use Rattle.iom_judge.specs.Reasons.{bare}
 use Rattle.iom_judge.specs.Steps.{IsExplained}
-use Rattle.iom_judge.proofs.CallSteps.{with_devices}
+use Rattle.iom_judge.proofs.CallSteps.{with_disks_of}
 use Rattle.iom_judge.proofs.StayLemmas.{any_choice}
 
 -- what stands in a list with one more is in the list, or is that one
@@ -63,17 +68,22 @@ no_such_id (d ∷ ds) id (suc k) none at = by (d.id == id) none (no_such_id ds i
     by true found rest = cc
     by false found rest = rest found at
 
--- neither reason applies
-plug_parts : (plugged many : Bool) → first_that_applies ((plugged, AlreadyPlugged) ∷ (many, TooManyDevices) ∷ []) ≡ None → (plugged ≡ false) × (many ≡ false)
-plug_parts true many none = absurd (some AlreadyPlugged none)
+-- none of the reasons applies
+plug_parts : (plugged many missing : Bool) → first_that_applies ((plugged, AlreadyPlugged) ∷ (many, TooManyDevices) ∷ (missing, BadMedium) ∷ []) ≡ None
+    → (plugged ≡ false) × (many ≡ false)
+plug_parts true many missing none = absurd (some AlreadyPlugged none)
   where
     some : (r : Refusal) → ◌≡◌ {A = Option Refusal} (Some r) None → ⊥
     some r e = cc
-plug_parts false true none = absurd (some TooManyDevices none)
+plug_parts false true missing none = absurd (some TooManyDevices none)
   where
     some : (r : Refusal) → ◌≡◌ {A = Option Refusal} (Some r) None → ⊥
     some r e = cc
-plug_parts false false none = (refl, refl)
+plug_parts false false true none = absurd (some BadMedium none)
+  where
+    some : (r : Refusal) → ◌≡◌ {A = Option Refusal} (Some r) None → ⊥
+    some r e = cc
+plug_parts false false false none = (refl, refl)
 
 not_found : (o : Option Device) → is_some o ≡ false → o ≡ None
 not_found None e = refl
@@ -108,14 +118,19 @@ order_more devices id frames none room order = record {
     by first second i (inr one) (inl two) = absurd (no_such_id devices id second none (subst (λ (x : ℕ). slice_get (ids_of devices) second ≡ Some x) (sym one.1) two))
     by first second i (inr one) (inr two) = one.0 ∙ sym two.0
 
-pub plug_explained : (old : Known) (past : Past) (id : ℕ) (kind : DeviceKind) (devices : List Device) → IsTrueOf old past → NoneApplies (plug_reasons (bare old) id)
-    → devices ≡ old.devices ++ plugged_device id kind ∷ []
-    → IsExplained old (with_devices old devices old.last_ticket) (Plug id kind) Done past
-plug_explained old past id kind devices is none d =
-    let parts = plug_parts (is_plugged (bare old) id) (nat_le device_limit (length old.devices)) none in
+-- the device as it is plugged in
+pub plugged_as : (id : ℕ) (what : NewDevice) (kind : DeviceKind) (has_disk : Bool) (flights : List AcceptedAccess) → kind ≡ kind_of what → has_disk ≡ is_some (disk_of what)
+    → flights ≡ [] → ◌≡◌ {A = Device} (record { id = id; kind = kind; has_disk = has_disk; attachment = Detached; accepted = 0; in_flight = flights }) (plugged_device id what)
+plugged_as id what kind has_disk flights k h f = rw (k, h, f) refl
+
+pub plug_explained : (old left : Known) (past : Past) (id : ℕ) (what : NewDevice) (devices : List Device) → IsTrueOf old past → NoneApplies (plug_reasons (bare old) id what)
+    → devices ≡ old.devices ++ plugged_device id what ∷ [] → left.disks.items ≡ without_disk (disk_of what) old.disks.items
+    → IsExplained old (with_disks_of old left devices) (Plug id what) Done past
+plug_explained old left past id what devices is none d fewer =
+    let parts = plug_parts (is_plugged (bare old) id) (nat_le device_limit (length old.devices)) (is_missing old.disks.items (disk_of what)) none in
     let absent = not_found (find (λ (x : Device). x.id == id) old.devices) parts.0 in
     let some_room : length old.devices < device_limit = leb-false device_limit (length old.devices) parts.1 in
-    let more : ids_of devices ≡ ids_of old.devices ++ id ∷ [] = ap ids_of d ∙ ids_more old.devices (plugged_device id kind) in
+    let more : ids_of devices ≡ ids_of old.devices ++ id ∷ [] = ap ids_of d ∙ ids_more old.devices (plugged_device id what) in
     let room : length (ids_of old.devices) < device_limit = subst (λ (n : ℕ). n < device_limit) (sym (length-ids old.devices)) some_room in record {
       after = past;
       is_true = record {
@@ -138,7 +153,7 @@ plug_explained old past id kind devices is none d =
                 bytes = found.bytes;
               };
         };
-        step = (any_choice, (none, ap (λ (ds : List Device). state_of (with_devices old ds old.last_ticket) past.history frames) d));
+        step = (any_choice, (none, rw (d, fewer) refl));
       };
     }
   where

@@ -174,6 +174,7 @@ once_left_known old devices frames exact = record {
   last_ticket = old.last_ticket;
   last_confirmed = old.last_confirmed;
   devices = devices;
+  disks = old.disks;
   frames = frames;
   is_exact = exact;
 }

@@ -4,8 +4,8 @@ use Rattle.iom_base.specs.declared.access.Access.{Access}
 use Rattle.iom_ledger.specs.declared.refusal.Refusal.TheVariants.{NoSuchDevice, WrongKind}
 use Rattle.iom_machine.specs.Devices.{device_of}
 use Rattle.iom_machine.specs.Judging.{StandsAt}
-use Rattle.iom_machine.specs.Kinds.{sends_untranslated, sends_through_cache}
-use Rattle.iom_machine.specs.Machine.{Acts, Requests, RequestsThroughCache}
+use Rattle.iom_machine.specs.BlockDevices.{IsAnswered}
+use Rattle.iom_machine.specs.Machine.{Acts}
 use Rattle.iom_machine.specs.Requests.{MayAnswer, state_after, with_accepted}
 use Rattle.iom_machine.specs.ThroughCache.{MayAnswerThroughCache, state_after_cached, at_frame}
 use Rattle.iom_machine.specs.declared.outcome.Outcome.{Outcome}
@@ -69,46 +69,61 @@ accepted_state old past frames devices id place number frame access device is_pl
     ap (λ (ds : List Device). state_of (with_devices old ds old.last_ticket) past.history frames)
     (d ∙ ap (λ (n : ℕ). slice_set old.devices place (one_more device n access frame)) next ∙ sym (own.2 now))
 
-pub accepted_explained : (old : Known) (past : Past) (devices : List Device) (id place number frame : ℕ) (access : Access) (device : Device) (outcome : Outcome)
-    → IsTrueOf old past → StandsAt old.devices id place → slice_get old.devices place ≡ Some device → sends_untranslated device.kind ≡ true
-    → ((frames : List Frame) → MayAnswer (state_of old past.history frames) device access frame outcome) → outcome ≡ Accepted number → number ≡ device.accepted + 1
-    → devices ≡ slice_set old.devices place (one_more device number access frame)
-    → IsLedBack old (with_devices old devices old.last_ticket) (λ before after. Requests frame before id access outcome after) past
-accepted_explained old past devices id place number frame access device outcome is_true is_place at able answers is next d = record {
-  after = past;
-  is_true = still_true old devices old.last_ticket past (keeps_ids old.devices devices place device _ at d refl) is_true;
+-- what is led back by steps is led back by others that these are, from the states that are known
+pub led_from : (old new : Known) (past : Past) (P Q : State → State → Type 0)
+    → ((frames : List Frame) (after : State) → P (state_of old past.history frames) after → Q (state_of old past.history frames) after)
+    → IsLedBack old new P past → IsLedBack old new Q past
+led_from old new past P Q leads led = record {
+  after = led.after;
+  is_true = led.is_true;
   from_before = λ frames allowed.
-      let state = state_of old past.history frames in
-      let left : state_of (with_devices old devices old.last_ticket) past.history frames ≡ state_after state device access frame outcome =
-      accepted_state old past frames devices id place number frame access device is_place at next d ∙ ap (λ (o : Outcome). state_after state device access frame o) (sym is) in
-      record {
-        frames = frames;
-        allowed = allowed_by_ids old (with_devices old devices old.last_ticket) past past frames refl (keeps_ids old.devices devices place device _ at d refl) (λ n o bs. refl) allowed;
-        step = able_step sends_untranslated
-            (λ dev. MayAnswer state dev access frame outcome × (state_of (with_devices old devices old.last_ticket) past.history frames ≡ state_after state dev access frame outcome))
-            state (state_of (with_devices old devices old.last_ticket) past.history frames) id outcome device (is_place.1 ∙ at) able (answers frames, left);
-      };
+      let came = led.from_before frames allowed in record { frames = came.frames; allowed = came.allowed; step = leads came.frames _ came.step };
 }
 
-pub accepted_cached_explained : (old : Known) (past : Past) (devices : List Device) (id place number frame : ℕ) (access : Access) (device : Device) (outcome : Outcome)
-    → IsTrueOf old past → StandsAt old.devices id place → slice_get old.devices place ≡ Some device → sends_through_cache device.kind ≡ true
-    → ((frames : List Frame) → MayAnswerThroughCache (state_of old past.history frames) device access frame outcome) → outcome ≡ Accepted number → number ≡ device.accepted + 1
-    → devices ≡ slice_set old.devices place (one_more device number (at_frame frame access) frame)
-    → IsLedBack old (with_devices old devices old.last_ticket) (λ before after. RequestsThroughCache frame before id access outcome after) past
-accepted_cached_explained old past devices id place number frame access device outcome is_true is_place at able answers is next d = record {
+-- what is led back by what a device does is led back by its act, where its kind can do that
+pub acts_led : (can : DeviceKind → Bool) (old new : Known) (past : Past) (id place : ℕ) (outcome : Outcome) (device : Device) (Q : State → Device → State → Type 0)
+    → StandsAt old.devices id place → slice_get old.devices place ≡ Some device → can device.kind ≡ true
+    → IsLedBack old new (λ before after. Q before device after) past
+    → IsLedBack old new (λ before after. Acts can (λ dev. Q before dev after) before id outcome after) past
+acts_led can old new past id place outcome device Q is_place at able led =
+    led_from old new past (λ before after. Q before device after) (λ before after. Acts can (λ dev. Q before dev after) before id outcome after)
+    (λ frames after does. able_step can (λ dev. Q (state_of old past.history frames) dev after) (state_of old past.history frames) after id outcome device (is_place.1 ∙ at) able does)
+    led
+
+pub accepted_led : (old : Known) (past : Past) (devices : List Device) (place number frame : ℕ) (access : Access) (device : Device) (outcome : Outcome)
+    → IsTrueOf old past → StandsAt old.devices device.id place → slice_get old.devices place ≡ Some device
+    → ((frames : List Frame) → MayAnswer (state_of old past.history frames) device access frame outcome) → outcome ≡ Accepted number → number ≡ device.accepted + 1
+    → devices ≡ slice_set old.devices place (one_more device number access frame)
+    → IsLedBack old (with_devices old devices old.last_ticket) (λ before after. IsAnswered false before device access frame outcome after) past
+accepted_led old past devices place number frame access device outcome is_true is_place at answers is next d = record {
   after = past;
   is_true = still_true old devices old.last_ticket past (keeps_ids old.devices devices place device _ at d refl) is_true;
-  from_before = λ frames allowed.
-      let state = state_of old past.history frames in
-      let left : state_of (with_devices old devices old.last_ticket) past.history frames ≡ state_after_cached state device access frame outcome =
-      accepted_state old past frames devices id place number frame (at_frame frame access) device is_place at next d
-      ∙ ap (λ (o : Outcome). state_after_cached state device access frame o) (sym is) in
-      record {
-        frames = frames;
-        allowed = allowed_by_ids old (with_devices old devices old.last_ticket) past past frames refl (keeps_ids old.devices devices place device _ at d refl) (λ n o bs. refl) allowed;
-        step = able_step sends_through_cache
-            (λ dev. MayAnswerThroughCache state dev access frame outcome
-            × (state_of (with_devices old devices old.last_ticket) past.history frames ≡ state_after_cached state dev access frame outcome))
-            state (state_of (with_devices old devices old.last_ticket) past.history frames) id outcome device (is_place.1 ∙ at) able (answers frames, left);
-      };
+  from_before = λ frames allowed. record {
+    frames = frames;
+    allowed = allowed_by_ids old (with_devices old devices old.last_ticket) past past frames refl (keeps_ids old.devices devices place device _ at d refl) (λ n o bs. refl) allowed;
+    step = (
+      answers frames,
+      accepted_state old past frames devices device.id place number frame access device is_place at next d
+          ∙ ap (λ (o : Outcome). state_after (state_of old past.history frames) device access frame o) (sym is),
+    );
+  };
+}
+
+pub accepted_cached_led : (old : Known) (past : Past) (devices : List Device) (place number frame : ℕ) (access : Access) (device : Device) (outcome : Outcome)
+    → IsTrueOf old past → StandsAt old.devices device.id place → slice_get old.devices place ≡ Some device
+    → ((frames : List Frame) → MayAnswerThroughCache (state_of old past.history frames) device access frame outcome) → outcome ≡ Accepted number → number ≡ device.accepted + 1
+    → devices ≡ slice_set old.devices place (one_more device number (at_frame frame access) frame)
+    → IsLedBack old (with_devices old devices old.last_ticket) (λ before after. IsAnswered true before device access frame outcome after) past
+accepted_cached_led old past devices place number frame access device outcome is_true is_place at answers is next d = record {
+  after = past;
+  is_true = still_true old devices old.last_ticket past (keeps_ids old.devices devices place device _ at d refl) is_true;
+  from_before = λ frames allowed. record {
+    frames = frames;
+    allowed = allowed_by_ids old (with_devices old devices old.last_ticket) past past frames refl (keeps_ids old.devices devices place device _ at d refl) (λ n o bs. refl) allowed;
+    step = (
+      answers frames,
+      accepted_state old past frames devices device.id place number frame (at_frame frame access) device is_place at next d
+          ∙ ap (λ (o : Outcome). state_after_cached (state_of old past.history frames) device access frame o) (sym is),
+    );
+  };
 }

@@ -108,7 +108,7 @@ abbrev pub first_frame : Bool → Frame
 first_frame true = record { owner = Some System; bytes = replicate page_size 0 }
 first_frame false = empty_frame
 
-opening_frame : (n levels k : ℕ) → k < n → slice_get (opening n levels).frames k ≡ Some (owned (list_any (nat_eq k) (last_four n)) System empty_frame)
+opening_frame : (n levels k : ℕ) → k < n → slice_get (opening n levels []).frames k ≡ Some (owned (list_any (nat_eq k) (last_four n)) System empty_frame)
 opening_frame n levels k low =
     let found = element_at (replicate n empty_frame) k (subst (λ (m : ℕ). k < m) (sym (length-replicate n empty_frame)) low) in
     reserved_at System (last_four n) (replicate n empty_frame) k
@@ -147,8 +147,8 @@ last_is n frame is =
 -- the frames that are believed at first
 frames_are : (n levels : ℕ) (all : List Frame) → 4 ≤ n → length all ≡ length (believed_first n)
     → ((k : ℕ) (b : BelievedFrame) (frame : Frame) → slice_get (believed_first n) k ≡ Some b → slice_get all k ≡ Some frame → IsAsBelieved [] first_past k b frame)
-    → all ≡ (opening n levels).frames
-frames_are n levels all some size each = same_elements all (opening n levels).frames (λ k. by k (nat_lt k n) refl)
+    → all ≡ (opening n levels []).frames
+frames_are n levels all some size each = same_elements all (opening n levels []).frames (λ k. by k (nat_lt k n) refl)
   where
     count : length (believed_first n) ≡ n
     count =
@@ -158,11 +158,11 @@ frames_are n levels all some size each = same_elements all (opening n levels).fr
     past_end : {X : Type 0} (xs : List X) (k : ℕ) → length xs ≤ k → slice_get xs k ≡ None
     past_end xs k high = slice_get_past xs k high
 
-    opened : length (opening n levels).frames ≡ n
+    opened : length (opening n levels []).frames ≡ n
     opened = length-reserved_for System (last_four n) (replicate n empty_frame) ∙ length-replicate n empty_frame
 
     here : (k : ℕ) (b : BelievedFrame) (frame : Frame) → k < n → slice_get (believed_first n) k ≡ Some b → slice_get all k ≡ Some frame
-        → ((k < n - 4) × (frame_of_zeros 1 ≡ b)) ⊎ ((n - 4 ≤ k) × (frame_of_zeros 2 ≡ b)) → slice_get all k ≡ slice_get (opening n levels).frames k
+        → ((k < n - 4) × (frame_of_zeros 1 ≡ b)) ⊎ ((n - 4 ≤ k) × (frame_of_zeros 2 ≡ b)) → slice_get all k ≡ slice_get (opening n levels []).frames k
     here k b frame low at got (inl first) =
         let is = first_is k frame (subst (λ (x : BelievedFrame). IsAsBelieved [] first_past k x frame) (sym first.1) (each k b frame at got)) in
         got ∙ ap (λ (f : Frame). Some f) is ∙ sym (opening_frame n levels k low ∙ ap (λ (c : Bool). Some (owned c System empty_frame)) (not_last n k first.0))
@@ -170,7 +170,7 @@ frames_are n levels all some size each = same_elements all (opening n levels).fr
         let is = last_is k frame (subst (λ (x : BelievedFrame). IsAsBelieved [] first_past k x frame) (sym last.1) (each k b frame at got)) in
         got ∙ ap (λ (f : Frame). Some f) is ∙ sym (opening_frame n levels k low ∙ ap (λ (c : Bool). Some (owned c System empty_frame)) (is_last n k some last.0 low))
 
-    by : (k : ℕ) (c : Bool) → nat_lt k n ≡ c → slice_get all k ≡ slice_get (opening n levels).frames k
+    by : (k : ℕ) (c : Bool) → nat_lt k n ≡ c → slice_get all k ≡ slice_get (opening n levels []).frames k
     by k true e =
         let low : k < n = ltb-true k n e in
         let b = element_at (believed_first n) k (subst (λ (m : ℕ). k < m) (sym count) low) in
@@ -178,14 +178,14 @@ frames_are n levels all some size each = same_elements all (opening n levels).fr
         here k b.0 frame.0 low b.1 frame.1 (part_of (n - 4) 4 (frame_of_zeros 1) (frame_of_zeros 2) b.0 k b.1)
     by k false e =
         let high : n ≤ k = ltb-false k n e in
-        past_end all k (subst (λ (m : ℕ). m ≤ k) (sym (size ∙ count)) high) ∙ sym (past_end (opening n levels).frames k (subst (λ (m : ℕ). m ≤ k) (sym opened) high))
+        past_end all k (subst (λ (m : ℕ). m ≤ k) (sym (size ∙ count)) high) ∙ sym (past_end (opening n levels []).frames k (subst (λ (m : ℕ). m ≤ k) (sym opened) high))
 
 -- the machine's own frames are believed
-opening_believed : (n levels : ℕ) → 4 ≤ n → (k : ℕ) (b : BelievedFrame) (frame : Frame) → slice_get (believed_first n) k ≡ Some b → slice_get (opening n levels).frames k ≡ Some frame
+opening_believed : (n levels : ℕ) → 4 ≤ n → (k : ℕ) (b : BelievedFrame) (frame : Frame) → slice_get (believed_first n) k ≡ Some b → slice_get (opening n levels []).frames k ≡ Some frame
     → IsAsBelieved [] first_past k b frame
 opening_believed n levels some k b frame at got =
-    let opened : length (opening n levels).frames ≡ n = length-reserved_for System (last_four n) (replicate n empty_frame) ∙ length-replicate n empty_frame in
-    by (subst (λ (m : ℕ). k < m) opened (slice_get_within (opening n levels).frames k frame got)) (part_of (n - 4) 4 (frame_of_zeros 1) (frame_of_zeros 2) b k at)
+    let opened : length (opening n levels []).frames ≡ n = length-reserved_for System (last_four n) (replicate n empty_frame) ∙ length-replicate n empty_frame in
+    by (subst (λ (m : ℕ). k < m) opened (slice_get_within (opening n levels []).frames k frame got)) (part_of (n - 4) 4 (frame_of_zeros 1) (frame_of_zeros 2) b k at)
   where
     some_same : (v w : Frame) → ◌≡◌ {A = Option Frame} (Some v) (Some w) → v ≡ w
     some_same v w e = cc
@@ -201,20 +201,22 @@ opening_believed n levels some k b frame at got =
         (subst (λ (f : Frame). IsAsBelieved [] first_past k (frame_of_zeros 2) f) is
         (record { owner = refl; bytes = (bytes_eq-Decides (replicate page_size 0) (replicate page_size 0)).1 refl }))
 
--- what is known at power-on
-abbrev pub known_first : Ledger → ℕ → Bool → List Device → List BelievedFrame → Known
-known_first ledger levels exact devices frames = record {
+-- what is known at power-on, with the disks of the other
+abbrev pub known_first : Known → Ledger → ℕ → Bool → List Device → List BelievedFrame → Known
+known_first first ledger levels exact devices frames = record {
   levels = levels;
   ledger = ledger;
   last_ticket = 0;
   last_confirmed = 0;
   devices = devices;
+  disks = first.disks;
   frames = frames;
   is_exact = exact;
 }
 
-power_on_so : (ledger : Ledger) (n levels : ℕ) (exact : Bool) → 4 ≤ n → Agrees ledger [] → IsPowerOn (known_first ledger levels exact [] (believed_first n)) n levels
-power_on_so ledger n levels exact some agrees = record {
+power_on_so : (first : Known) (ledger : Ledger) (n levels : ℕ) (disks : List ℕ) (exact : Bool) → 4 ≤ n → Agrees ledger [] → first.disks.items ≡ disks
+    → IsPowerOn (known_first first ledger levels exact [] (believed_first n)) n levels disks
+power_on_so first ledger n levels disks exact some agrees numbers = record {
   past = first_past;
   starts = refl;
   is_true = record {
@@ -230,7 +232,10 @@ power_on_so ledger n levels exact some agrees = record {
     count = length-reserved_for System (last_four n) (replicate n empty_frame) ∙ length-replicate n empty_frame ∙ sym count;
     each = opening_believed n levels some;
   };
-  is_opening = λ all allowed. ap (λ (fs : List Frame). record { levels = levels; frames = fs; history = []; last_ticket = 0; devices = [] }) (frames_are n levels all some allowed.count allowed.each);
+  is_opening = λ all allowed.
+      ap (λ (fs : List Frame). record { levels = levels; frames = fs; history = []; last_ticket = 0; devices = []; disks = first.disks.items })
+      (frames_are n levels all some allowed.count allowed.each)
+      ∙ ap (λ (ds : List ℕ). record { levels = levels; frames = (opening n levels []).frames; history = []; last_ticket = 0; devices = []; disks = ds }) numbers;
 }
   where
     none : (i : ℕ) → ◌≡◌ {A = Option ℕ} None (Some i) → ⊥
@@ -255,11 +260,13 @@ power_on_so ledger n levels exact some agrees = record {
     had k b System may = (replicate page_size 0, (bytes_eq-Decides (replicate page_size 0) (replicate page_size 0)).1 refl)
     had k b (OneDevice id) (p, low, there, bit) = absurd (none id there)
 
-pub is_power_on : (ledger : Ledger) (n levels : ℕ) (exact : Bool) (devices : List Device) (frames : List BelievedFrame) → 4 ≤ n → Agrees ledger [] → devices ≡ []
-    → frames ≡ believed_first n → IsPowerOn (known_first ledger levels exact devices frames) n levels
-is_power_on ledger n levels exact devices frames some agrees d f =
-    subst (λ (ds : List Device). IsPowerOn (known_first ledger levels exact ds frames) n levels) (sym d)
-    (subst (λ (fs : List BelievedFrame). IsPowerOn (known_first ledger levels exact [] fs) n levels) (sym f) (power_on_so ledger n levels exact some agrees))
+pub is_power_on : (first : Known) (ledger : Ledger) (n levels : ℕ) (disks : List ℕ) (exact : Bool) (devices : List Device) (frames : List BelievedFrame)
+    → 4 ≤ n → Agrees ledger [] → devices ≡ [] → frames ≡ believed_first n → first.disks.items ≡ disks
+    → IsPowerOn (known_first first ledger levels exact devices frames) n levels disks
+is_power_on first ledger n levels disks exact devices frames some agrees d f numbers =
+    subst (λ (ds : List Device). IsPowerOn (known_first first ledger levels exact ds frames) n levels disks) (sym d)
+    (subst (λ (fs : List BelievedFrame). IsPowerOn (known_first first ledger levels exact [] fs) n levels disks) (sym f)
+    (power_on_so first ledger n levels disks exact some agrees numbers))
 
 -- where each frame has a possible owner, some frames are allowed
 pub some_allowed : (known : Known) (past : Past) → IsTrueOf known past → All HasSomeOwner known.frames → SomeAreAllowed known past

@@ -1,5 +1,6 @@
 -- States that a belief allows, where what it knows of frames stays; and refusals.
 use Rattle.std.proofs.Common.{◌≡◌, ◌∙◌, ℕ, zero, suc, Bool, IsTrue, List, [], ◌∷◌, Option, None, Some, MatchOption, length, slice_get, slice_set, refl, sym, ap, subst}
+use Rattle.iom_base.specs.Accesses.{read_of}
 use Rattle.iom_ledger.specs.declared.refusal.Refusal.{Refusal}
 use Rattle.iom_ledger.specs.Refusals.{first_that_applies, IsRefusedBy}
 use Rattle.iom_base.specs.declared.owner.Owner.{Owner}
@@ -17,7 +18,7 @@ use Rattle.iom_judge.specs.Steps.{IsExplained}
 
 -- a choice, where nothing is chosen
 pub any_choice : Choice
-any_choice = record { directory = []; taken = []; frame = 0; device = 0; page = 0 }
+any_choice = record { directory = []; taken = []; frame = 0; device = 0; page = 0; access = read_of 0 1 }
 
 pub same_state : (state : State) → state ≡ state
 same_state state = refl

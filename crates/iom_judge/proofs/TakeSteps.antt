@@ -5,6 +5,7 @@ use Rattle.std.specs.Option.{option_map, option_map_or}
 use Rattle.std.proofs.lemmas.Bool.{false≢true}
 use Rattle.std.proofs.lemmas.List.Elements.{All-head}
 use Rattle.std.proofs.lemmas.Option.{slice_get_within, slice_get-map}
+use Rattle.iom_base.specs.Accesses.{read_of}
 use Rattle.iom_base.specs.GrantRights.{rights_of}
 use Rattle.iom_base.specs.Sizes.{device_limit}
 use Rattle.iom_base.specs.declared.grant_rights.GrantRights.{GrantRights}
@@ -46,6 +47,7 @@ become old ledger devices frames = record {
   last_ticket = old.last_ticket;
   last_confirmed = old.last_confirmed;
   devices = devices;
+  disks = old.disks;
   frames = frames;
   is_exact = old.is_exact;
 }
@@ -178,7 +180,7 @@ attach_explained old past id place mode ats device devices new is_true none is_p
             frames = frames_before old.frames id place frames;
             allowed = allowed_before old past past.history old.ledger devices new true id place (MayBeFree old.frames old.ledger None) frames t ids allowed;
             step = (
-              record { directory = pages; taken = tables; frame = 0; device = 0; page = 0 },
+              record { directory = pages; taken = tables; frame = 0; device = 0; page = 0; access = read_of 0 1 },
               (attached_as pages tables state id mode ats place device devices frames none
                   (both_free state pages tables
                   (systems_were_free old past past.history old.ledger devices new true id place None frames is_true t ids allowed)
@@ -265,7 +267,7 @@ grant_explained old past id place page frame rights device ledger new granted is
             frames = before;
             allowed = was;
             step = (
-              record { directory = []; taken = tables; frame = 0; device = 0; page = 0 },
+              record { directory = []; taken = tables; frame = 0; device = 0; page = 0; access = read_of 0 1 },
               (granted_as tables (state_of old past.history before) id page frame rights history frames (none before was.count open_frame)
                   (devices_were_free old past history ledger old.devices new false id place (Some frame) frames is_true t refl allowed)
                   refl same (state_of (become old ledger old.devices new) history frames)).0 refl,

@@ -4,6 +4,7 @@ use Rattle.std.specs.Prelude.{codes, ⊤}
 use Rattle.std.specs.Borrow.{Bor}
 use Rattle.std.specs.Fmt.{decimal}
 use Rattle.std.specs.Str.Parse.{AllDigits, digits_value}
+use Rattle.std.proofs.lemmas.Bool.{false≢true}
 use Rattle.std.proofs.lemmas.Fmt.{decimal-digits_value}
 use Rattle.std.proofs.lemmas.List.{flat_map_more}
 use Rattle.std.proofs.lemmas.Str.Parse.{IsNumeralModel, numerals_by_value, tells_digits}
@@ -14,7 +15,7 @@ use Rattle.iom_machine.specs.declared.outcome.Outcome.TheVariants as outcomes
 use Rattle.iom_script.specs.Grammar.{IsEventLine}
 use Rattle.iom_script.specs.Lines.{line_of}
 use Rattle.iom_script.specs.Words.{◌␣◌, IsNumber}
-use Rattle.iom_judge.specs.TraceLines.{frames_text, tables_text, on_text, SaysLine}
+use Rattle.iom_judge.specs.TraceLines.{frames_text, tables_text, on_text, MayShow, SaysLine}
 use Rattle.iom_judge.specs.declared.trace.TraceLine.TheVariants as lines
 
 own : IsNumeralModel (AllDigits 10) (digits_value 10)
@@ -48,20 +49,24 @@ on_behind behind word frames frame is number = ap (λ (l : List ℕ). codes "; "
 pub step_alone : (said answered answer : List ℕ) (event : Event) (outcome : Outcome) (tables : List ℕ) → IsEventLine said event → line_of outcome ≡ answer ++ 10 ∷ [] → answered ≡ answer
     → SaysLine (said ++ codes " => " ++ answered) (lines.Step event outcome false None) tables
 step_alone said answered answer event outcome tables says tells is =
-    inl (said, answer, says, tells, ap (λ (l : List ℕ). said ++ codes " => " ++ l) is ∙ sym (append-nil (said ++ codes " => " ++ answer)))
+    inl ((λ shown. absurd (false≢true shown), tt), (said, answer, says, tells, ap (λ (l : List ℕ). said ++ codes " => " ++ l) is ∙ sym (append-nil (said ++ codes " => " ++ answer))))
 
 -- and with something behind
 pub step_behind : (said answered answer behind : List ℕ) (event : Event) (outcome : Outcome) (has_tables : Bool) (on : Option ℕ) (tables : List ℕ) → IsEventLine said event
+    → MayShow event outcome has_tables on
     → line_of outcome ≡ answer ++ 10 ∷ [] → answered ≡ answer ++ codes "; " ++ behind → codes "; " ++ behind ≡ tables_text has_tables tables ++ on_text on
     → SaysLine (said ++ codes " => " ++ answered) (lines.Step event outcome has_tables on) tables
-step_behind said answered answer behind event outcome has_tables on tables says tells is shown =
+step_behind said answered answer behind event outcome has_tables on tables says may tells is shown =
     inl (
-      said,
-      answer,
-      says,
-      tells,
-      ap (λ (l : List ℕ). said ++ codes " => " ++ l) (is ∙ append_assoc answer (codes "; ") behind ∙ ap (λ (l : List ℕ). answer ++ l) shown)
-          ∙ sym (append_assoc (said ++ codes " => ") answer (tables_text has_tables tables ++ on_text on)),
+      may,
+      (
+        said,
+        answer,
+        says,
+        tells,
+        ap (λ (l : List ℕ). said ++ codes " => " ++ l) (is ∙ append_assoc answer (codes "; ") behind ∙ ap (λ (l : List ℕ). answer ++ l) shown)
+            ∙ sym (append_assoc (said ++ codes " => ") answer (tables_text has_tables tables ++ on_text on)),
+      ),
     )
 
 -- the claim that a frame is given to somebody else

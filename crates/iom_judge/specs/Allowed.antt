@@ -83,4 +83,5 @@ state_of known history frames = record {
   history = history;
   last_ticket = known.last_ticket;
   devices = known.devices;
+  disks = known.disks.items;
 }

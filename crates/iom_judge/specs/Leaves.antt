@@ -72,6 +72,7 @@ with_confirmed_up_to old ledger last = record {
   last_ticket = old.last_ticket;
   last_confirmed = last;
   devices = old.devices;
+  disks = old.disks;
   frames = old.frames;
   is_exact = old.is_exact;
 }

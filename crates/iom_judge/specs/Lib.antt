@@ -1,5 +1,7 @@
 pub mod Allowed
 pub mod Asked
+pub mod Certificates
+pub mod Certified
 pub mod Contents
 pub mod Leaves
 pub mod Lines

@@ -60,6 +60,7 @@ with_belief old frames is_exact = record {
   last_ticket = old.last_ticket;
   last_confirmed = old.last_confirmed;
   devices = old.devices;
+  disks = old.disks;
   frames = frames;
   is_exact = is_exact;
 }

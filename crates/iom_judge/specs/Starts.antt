@@ -11,12 +11,12 @@ abbrev pub frame_of_zeros : ℕ → BelievedFrame
 frame_of_zeros owners = record { owners = owners; bytes = []; other = None }
 
 -- There is a past with no entry that is true of it, and with that the one state that is allowed is the machine's at power-on.
-pub record IsPowerOn (known : Known) (frames levels : ℕ) : Type 0 where
+pub record IsPowerOn (known : Known) (frames levels : ℕ) (disks : List ℕ) : Type 0 where
   pub past : Past
   pub starts : past.history ≡ []
   pub is_true : IsTrueOf known past
-  pub is_allowed : AreAllowed known past (opening frames levels).frames
-  pub is_opening : (all : List Frame) → AreAllowed known past all → state_of known past.history all ≡ opening frames levels
+  pub is_allowed : AreAllowed known past (opening frames levels disks).frames
+  pub is_opening : (all : List Frame) → AreAllowed known past all → state_of known past.history all ≡ opening frames levels disks
 
 -- some frames are allowed
 abbrev pub SomeAreAllowed : Known → Past → Type 0

@@ -1,5 +1,5 @@
 -- What a line of a trace says: a script's line, ` => `, and the line of what came of it, with what is shown behind that.
-use Rattle.std.specs.Prelude.{◌≡◌, ◌⊎◌, ℕ, Bool, true, false, List, [], ◌∷◌, ◌++◌, Option, None, Some, codes, ⊤}
+use Rattle.std.specs.Prelude.{◌≡◌, ◌⊎◌, ℕ, Bool, true, false, List, [], ◌∷◌, ◌++◌, Option, None, Some, IfSome, IsTrue, codes, ⊤}
 use Rattle.std.specs.List.{flat_map}
 use Rattle.std.specs.Fmt.{decimal}
 use Rattle.iom_machine.specs.declared.event.Event.{Event}
@@ -26,6 +26,22 @@ abbrev pub on_text : Option ℕ → List ℕ
 on_text (Some frame) = codes "; on " ++ decimal frame
 on_text None = []
 
+-- whether frames are taken for tables where this comes of the event
+abbrev pub takes_frames : Event → Outcome → Bool
+takes_frames (events.Attach id mode ats) outcomes.Done = true
+takes_frames (events.Grant id page frame rights) outcomes.Done = true
+takes_frames _ _ = false
+
+-- whether an access is accepted
+abbrev pub is_accepted : Outcome → Bool
+is_accepted (outcomes.Accepted number) = true
+is_accepted _ = false
+
+-- Tables are shown only where frames are taken for them, and a frame only where an access is accepted.
+abbrev pub MayShow : Event → Outcome → Bool → Option ℕ → Type 0
+MayShow event outcome has_tables on =
+    (IsTrue has_tables → IsTrue (takes_frames event outcome)) × IfSome on (λ frame. IsTrue (is_accepted outcome))
+
 -- the event's line, ` => `, and the line of the outcome, with this behind it
 abbrev pub IsStepLine : List ℕ → Event → Outcome → List ℕ → Type 0
 IsStepLine line event outcome behind =
@@ -42,5 +58,6 @@ abbrev pub SaysLine : List ℕ → TraceLine → List ℕ → Type 0
 SaysLine line Nothing tables = is_spoken line ≡ false
 SaysLine line (World size) tables = (said : List ℕ) × IsWorldLine said size × (line ≡ said ++ codes " => ok")
 SaysLine line (Step event outcome has_tables on) tables =
-    IsStepLine line event outcome (tables_text has_tables tables ++ on_text on) ⊎ IsHandoffLine line event outcome
+    (MayShow event outcome has_tables on × IsStepLine line event outcome (tables_text has_tables tables ++ on_text on))
+    ⊎ IsHandoffLine line event outcome
 SaysLine line Bad tables = ⊤

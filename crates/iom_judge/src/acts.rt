@@ -23,7 +23,8 @@ fn may_refuse_restart(why: Refusal) -> bool
 
 /// What may come of a restart.
 pub(crate) fn restarts(known: &Known, outcome: &Outcome) -> bool
-    ensures { IsTrue result → (past : Past) → IsTrueOf known.now past → IsExplained known.now known.now events.Restart outcome.now past }
+    ensures { IsTrue result → (past : Past) → IsTrueOf known.now past
+        → IsExplained known.now known.now events.Restart outcome.now past }
 {
     match outcome {
         Outcome::Done => true,
@@ -34,14 +35,16 @@ pub(crate) fn restarts(known: &Known, outcome: &Outcome) -> bool
 
 /// What may come of a fetch.
 pub(crate) fn fetches(known: &Known, outcome: &Outcome) -> bool
-    ensures { IsTrue result → (past : Past) → IsTrueOf known.now past → IsExplained known.now known.now events.Fetch outcome.now past }
+    ensures { IsTrue result → (past : Past) → IsTrueOf known.now past
+        → IsExplained known.now known.now events.Fetch outcome.now past }
 {
     matches!(outcome, Outcome::Fetched(_))
 }
 
 /// What may come of a timeout.
 pub(crate) fn times_out(known: &Known, outcome: &Outcome) -> bool
-    ensures { IsTrue result → (past : Past) → IsTrueOf known.now past → IsExplained known.now known.now events.Timeout outcome.now past }
+    ensures { IsTrue result → (past : Past) → IsTrueOf known.now past
+        → IsExplained known.now known.now events.Timeout outcome.now past }
 {
     match outcome {
         Outcome::TimedOut => true,
@@ -52,7 +55,8 @@ pub(crate) fn times_out(known: &Known, outcome: &Outcome) -> bool
 
 /// What may come where the driver asks for a fault record.
 pub(crate) fn takes_record(known: &Known, outcome: &Outcome) -> bool
-    ensures { IsTrue result → (past : Past) → IsTrueOf known.now past → IsExplained known.now known.now events.Faults outcome.now past }
+    ensures { IsTrue result → (past : Past) → IsTrueOf known.now past
+        → IsExplained known.now known.now events.Faults outcome.now past }
 {
     match outcome {
         Outcome::Record(_) => true,
@@ -63,7 +67,8 @@ pub(crate) fn takes_record(known: &Known, outcome: &Outcome) -> bool
 
 /// What may come where a message is dropped.
 pub(crate) fn drops(known: &Known, place: u64, outcome: &Outcome) -> bool
-    ensures { IsTrue result → (past : Past) → IsTrueOf known.now past → IsExplained known.now known.now (events.Drop place) outcome.now past }
+    ensures { IsTrue result → (past : Past) → IsTrueOf known.now past
+        → IsExplained known.now known.now (events.Drop place) outcome.now past }
 {
     match outcome {
         Outcome::Dropped => true,
@@ -74,7 +79,8 @@ pub(crate) fn drops(known: &Known, place: u64, outcome: &Outcome) -> bool
 
 /// What may come where a message is repeated.
 pub(crate) fn repeats(known: &Known, place: u64, outcome: &Outcome) -> bool
-    ensures { IsTrue result → (past : Past) → IsTrueOf known.now past → IsExplained known.now known.now (events.Repeat place) outcome.now past }
+    ensures { IsTrue result → (past : Past) → IsTrueOf known.now past
+        → IsExplained known.now known.now (events.Repeat place) outcome.now past }
 {
     match outcome {
         Outcome::Repeated => true,
@@ -86,7 +92,8 @@ pub(crate) fn repeats(known: &Known, place: u64, outcome: &Outcome) -> bool
 
 /// What may come of a delivery, but for an answer to a question.
 pub(crate) fn delivers(known: &Known, place: u64, outcome: &Outcome) -> bool
-    ensures { IsTrue result → (past : Past) → IsTrueOf known.now past → IsExplained known.now known.now (events.Deliver place) outcome.now past }
+    ensures { IsTrue result → (past : Past) → IsTrueOf known.now past
+        → IsExplained known.now known.now (events.Deliver place) outcome.now past }
 {
     match outcome {
         Outcome::Kept => true,

@@ -114,7 +114,8 @@ pub(crate) fn request(
     outcome: &Outcome,
     frame: u32,
 ) -> Result<bool, AllocError>
-    ensures { IfOk result (λ may. IsTrue may → (event : Event) → IsAskedBy event asked.way asked.device asked.access → (past : Past) → IsTrueOf known.old past
+    ensures { IfOk result (λ may. IsTrue may → (event : Event) → IsAskedBy event asked.way asked.device asked.access
+        → (past : Past) → IsTrueOf known.old past
         → IsExplained known.old known.new event outcome.now past) }
 {
     let Asked {

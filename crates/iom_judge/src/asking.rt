@@ -1,8 +1,13 @@
 // Requests, of each of the three ways in which one goes to memory.
-ghost use Rattle.std.specs.Prelude.{◌≡◌, ◌≢◌, ◌<◌, ◌∷◌, ◌++◌, [], ℕ, length, slice_get, slice_set, MatchOption, OnOk, Some};
+ghost use Rattle.std.specs.Prelude.{◌≡◌, ◌≢◌, ◌<◌, ◌∷◌, ◌++◌, [], ℕ, length, slice_get, slice_set};
+ghost use Rattle.std.specs.Prelude.{MatchOption, OnOk, IfOk, IsTrue, Some, true, false};
+ghost use Rattle.iom_machine.specs.BlockDevices.{IsAnswered};
+ghost use Rattle.iom_machine.specs.Judging.{StandsAt};
 ghost use Rattle.iom_machine.specs.ThroughCache.{at_frame};
 ghost use Rattle.iom_machine.specs.declared.outcome.Outcome.TheVariants.{Accepted};
 ghost use Rattle.iom_machine.specs.declared.state.Device.{Device};
+ghost use Rattle.iom_judge.specs.Allowed.{Past, IsTrueOf};
+ghost use Rattle.iom_judge.specs.Steps.{IsLedBack};
 
 use crate::cached::{
     may_answer_cached, may_answer_translated, may_fault_translated, may_find_no_context,
@@ -100,6 +105,59 @@ fn accept(
     Ok(())
 }
 
+/// An access of the device at the place that the IOMMU translates. Where it is accepted, that is on this frame.
+pub(crate) fn answer(
+    known: &mut Known,
+    place: usize,
+    access: Access,
+    outcome: &Outcome,
+    frame: u32,
+) -> Result<bool, AllocError>
+    requires { place < length known.old.devices }
+    ensures { IfOk result (λ may. IsTrue may → (device : Device) → slice_get known.old.devices place ≡ Some device
+        → StandsAt known.old.devices device.id place → (past : Past) → IsTrueOf known.old past
+        → IsLedBack known.old known.new (λ before after. IsAnswered false before device access frame outcome.now after) past) }
+{
+    let device = &known.devices.as_slice()[place];
+    if !may_answer(known, device, &access, frame, outcome) {
+        return Ok(false);
+    }
+    match accepted_number(outcome) {
+        None => Ok(true),
+        Some(number) => {
+            accept(&mut known.devices, place, number, access, frame)?;
+            Ok(true)
+        }
+    }
+}
+
+/// An access of the device at the place through its own cache. Where it is accepted, that is on this frame.
+pub(crate) fn answer_through_cache(
+    known: &mut Known,
+    place: usize,
+    access: Access,
+    outcome: &Outcome,
+    frame: u32,
+) -> Result<bool, AllocError>
+    requires { place < length known.old.devices }
+    ensures { IfOk result (λ may. IsTrue may → (device : Device) → slice_get known.old.devices place ≡ Some device
+        → StandsAt known.old.devices device.id place → (past : Past) → IsTrueOf known.old past
+        → IsLedBack known.old known.new (λ before after. IsAnswered true before device access frame outcome.now after) past) }
+{
+    let device = &known.devices.as_slice()[place];
+    if !may_answer_cached(known, device, &access, frame, outcome) {
+        return Ok(false);
+    }
+    match accepted_number(outcome) {
+        None => Ok(true),
+        Some(number) => {
+            let sent = at_frame(access, frame);
+            accept(&mut known.devices, place, number, sent, frame)?;
+            Ok(true)
+        }
+    }
+}
+
 impl Known {
     ghost use Rattle.std.specs.Prelude.{IsTrue, IfOk};
     ghost use Rattle.iom_machine.specs.Machine.{Requests, RequestsTranslated, RequestsThroughCache};
@@ -124,16 +182,7 @@ impl Known {
         if !device.kind.sends_untranslated() {
             return Ok(answers_unable(outcome));
         }
-        if !may_answer(self, device, &access, frame, outcome) {
-            return Ok(false);
-        }
-        match accepted_number(outcome) {
-            None => Ok(true),
-            Some(number) => {
-                accept(&mut self.devices, place, number, access, frame)?;
-                Ok(true)
-            }
-        }
+        answer(self, place, access, outcome, frame)
     }
 
     /// A request that says it is translated already.
@@ -169,16 +218,6 @@ impl Known {
         if !device.kind.sends_through_cache() {
             return Ok(answers_unable(outcome));
         }
-        if !may_answer_cached(self, device, &access, frame, outcome) {
-            return Ok(false);
-        }
-        match accepted_number(outcome) {
-            None => Ok(true),
-            Some(number) => {
-                let sent = at_frame(access, frame);
-                accept(&mut self.devices, place, number, sent, frame)?;
-                Ok(true)
-            }
-        }
+        answer_through_cache(self, place, access, outcome, frame)
     }
 }

@@ -7,34 +7,38 @@ ghost use Rattle.iom_judge.specs.Owners.{MustLack, IsNarrowed};
 ghost use Rattle.iom_judge.specs.Steps.{IsExplained};
 
 use crate::devices::{place_of, set_attachment};
+use crate::disks::take_out;
 use crate::known::Known;
 use crate::reasons::{attach_refusal, is_memory, plug_refusal, refuses, tells_too_few};
 use crate::scarce::{may_lack_frames, may_lack_runs};
 use crate::taking::take;
 use iom_base::{DeviceId, MAX_DEVICES, Mode, Sequence};
 use iom_ledger::Refusal;
-use iom_machine::{Attachment, Device, DeviceKind, Outcome};
+use iom_machine::{Attachment, Device, NewDevice, Outcome};
 use std::alloc::{AllocError, Global};
 
-/// A plug that is done.
+/// A plug that is done. Its disk, if it has one, is put into no other device.
 fn plug_done(
     alloc: Global,
     known: &mut Known,
     id: DeviceId,
-    kind: DeviceKind,
+    what: NewDevice,
 ) -> Result<bool, AllocError>
-    ensures { IfOk result (λ done. IsTrue done → (past : Past) → IsTrueOf known.old past → IsExplained known.old known.new (Plug id kind) Done past) }
+    ensures { IfOk result (λ done. IsTrue done → (past : Past) → IsTrueOf known.old past
+        → IsExplained known.old known.new (Plug id what) Done past) }
 {
-    if plug_refusal(known, id).is_some() {
+    if plug_refusal(known, id, what).is_some() {
         return Ok(false);
     }
     known.devices.push(Device {
         id,
-        kind,
+        kind: what.kind(),
+        has_disk: what.disk().is_some(),
         attachment: Attachment::Detached,
         accepted: 0,
         in_flight: Sequence::new(alloc),
     })?;
+    take_out(&mut known.disks, what.disk());
     Ok(true)
 }
 
@@ -43,14 +47,15 @@ pub(crate) fn plug(
     alloc: Global,
     known: &mut Known,
     id: DeviceId,
-    kind: DeviceKind,
+    what: NewDevice,
     outcome: &Outcome,
 ) -> Result<bool, AllocError>
-    ensures { IfOk result (λ may. IsTrue may → (past : Past) → IsTrueOf known.old past → IsExplained known.old known.new (Plug id kind) outcome.now past) }
+    ensures { IfOk result (λ may. IsTrue may → (past : Past) → IsTrueOf known.old past
+        → IsExplained known.old known.new (Plug id what) outcome.now past) }
 {
     match outcome {
-        Outcome::Done => plug_done(alloc, known, id, kind),
-        Outcome::Refused(why) => Ok(refuses(plug_refusal(known, id), is_memory(*why), *why)),
+        Outcome::Done => plug_done(alloc, known, id, what),
+        Outcome::Refused(why) => Ok(refuses(plug_refusal(known, id, what), is_memory(*why), *why)),
         _ => Ok(false),
     }
 }
@@ -63,7 +68,8 @@ fn attach_done(
     ats: bool,
     tables: Option<&[u32]>,
 ) -> bool
-    ensures { IsTrue result → (past : Past) → IsTrueOf known.old past → IsExplained known.old known.new (Attach id mode ats) Done past }
+    ensures { IsTrue result → (past : Past) → IsTrueOf known.old past
+        → IsExplained known.old known.new (Attach id mode ats) Done past }
 {
     let Some(place) = place_of(known.devices.as_slice(), id) else {
         return false;
@@ -99,7 +105,8 @@ fn may_lack_tables(known: &mut Known, mode: Mode) -> bool
 
 /// An attach that is refused.
 fn attach_refused(known: &mut Known, id: DeviceId, mode: Mode, ats: bool, why: Refusal) -> bool
-    ensures { IsTrue result → (past : Past) → IsTrueOf known.old past → IsExplained known.old known.new (Attach id mode ats) (Refused why) past }
+    ensures { IsTrue result → (past : Past) → IsTrueOf known.old past
+        → IsExplained known.old known.new (Attach id mode ats) (Refused why) past }
 {
     let first = attach_refusal(known, id, ats);
     if tells_too_few(first, why) {
@@ -117,7 +124,8 @@ pub(crate) fn attach(
     outcome: &Outcome,
     tables: Option<&[u32]>,
 ) -> bool
-    ensures { IsTrue result → (past : Past) → IsTrueOf known.old past → IsExplained known.old known.new (Attach id mode ats) outcome.now past }
+    ensures { IsTrue result → (past : Past) → IsTrueOf known.old past
+        → IsExplained known.old known.new (Attach id mode ats) outcome.now past }
 {
     match outcome {
         Outcome::Done => attach_done(known, id, mode, ats, tables),

@@ -1,8 +1,10 @@
 // What is believed of the machine's state after the lines so far.
-ghost use Rattle.std.specs.Prelude.{◌≡◌, ◌≤◌, [], IsTrue, IfOk, true};
+ghost use Rattle.std.specs.Prelude.{◌≡◌, ◌↔◌, ◌≤◌, [], IsTrue, IfOk};
 ghost use Rattle.iom_machine.specs.declared.event.Event.{Event};
 ghost use Rattle.iom_judge.specs.Allowed.{Past, IsTrueOf};
 ghost use Rattle.iom_judge.specs.Asked.{IsAskedBy};
+ghost use Rattle.iom_judge.specs.Certificates.{four_disks};
+ghost use Rattle.iom_judge.specs.Starts.{IsPowerOn};
 ghost use Rattle.iom_judge.specs.Steps.{IsExplained};
 
 use crate::asked::{Asked, read_by, request, write_by};
@@ -12,11 +14,13 @@ use crate::doubts::{Doubts, frame_at, possible_frames};
 use crate::in_flight::drop_oldest;
 use crate::known::Known;
 use crate::messages::Messages;
-use crate::owners::may_be_somebodys;
+use crate::owners::{may_be_nobodys, may_be_somebodys};
 use crate::polls::{begin_poll, end_poll, poll};
 use crate::processor::{peek, poke};
 use crate::releases::Releases;
 use crate::requests::answers_absent;
+use crate::subject::Subject;
+use crate::unseen::Run;
 use crate::versions::Versions;
 use iom_base::{AccessKind, DeviceId, PAGE_SIZE};
 use iom_machine::{Event, Outcome};
@@ -39,10 +43,17 @@ pub(crate) struct Belief {
     pub(crate) versions: Versions,
     pub(crate) messages: Messages,
     pub(crate) releases: Releases,
+    /// Whether nothing that is possible was left out of whose the frames are, beyond what is known of it.
+    pub(crate) is_whole: bool,
+    /// Whether none was of what they hold.
+    pub(crate) is_whole_in_bytes: bool,
 }
 
+/// The numbers of the disks that a world has at power-on.
+const DISKS: [u64; 4] = [0, 1, 2, 3];
+
 /// Whether the frame may hold other bytes than those that are believed first.
-fn has_other(known: &Known, frame: u32) -> bool {
+pub(crate) fn has_other(known: &Known, frame: u32) -> bool {
     match known.frames.as_slice().get(frame as usize) {
         None => false,
         Some(believed) => believed.other.is_some(),
@@ -53,24 +64,33 @@ impl Belief {
     /// What is believed at power-on.
     pub(crate) fn power_on(alloc: Global, frames: u32, levels: u8) -> Result<Belief, AllocError>
         requires { 4 ≤ frames }
+        ensures { IfOk result (λ belief. IsPowerOn belief.known frames levels four_disks) }
     {
         Ok(Belief {
-            known: Known::power_on(alloc, frames, levels)?,
+            known: Known::power_on(alloc, frames, levels, &DISKS)?,
             doubts: Doubts::new(alloc),
             versions: Versions::new(alloc),
             messages: Messages::new(alloc),
             releases: Releases::new(alloc),
+            is_whole: true,
+            is_whole_in_bytes: true,
         })
     }
 
     /// Whether nothing that is possible was left out.
-    pub(crate) fn is_exact(&self) -> bool {
-        self.known.is_exact
+    fn is_exact(&self) -> bool {
+        self.known.is_exact && self.is_whole
+    }
+
+    /// Whether what may not come of what the line is about can't come: nothing was left out of what that depends on.
+    pub(crate) fn decides(&self, subject: Subject) -> bool {
+        (self.is_exact() || !subject.is_about_frames())
+            && (self.is_whole_in_bytes || !subject.is_about_bytes())
     }
 
     /// Whether nothing is believed of a frame in more than one way, but for whose it is.
-    fn is_settled(&self) -> bool
-        ensures { self.now.doubts.all.items ≡ [] → self.now.versions.all.items ≡ [] → result ≡ true }
+    pub(crate) fn is_settled(&self) -> bool
+        ensures { IsTrue result ↔ ((self.now.doubts.all.items ≡ []) × (self.now.versions.all.items ≡ [])) }
     {
         self.doubts.is_empty() && self.versions.is_known()
     }
@@ -84,7 +104,9 @@ impl Belief {
         outcome: &Outcome,
         on: Option<u32>,
     ) -> Result<bool, AllocError>
-        ensures { IfOk result (λ may. IsTrue may → (event : Event) → IsAskedBy event asked.way asked.device asked.access → (past : Past) → IsTrueOf self.old.known past
+        ensures { IfOk result (λ may. IsTrue may
+            → (event : Event) → IsAskedBy event asked.way asked.device asked.access
+            → (past : Past) → IsTrueOf self.old.known past
             → IsExplained self.old.known self.new.known event outcome.now past) }
     {
         if !matches!(outcome, Outcome::Accepted(_)) {
@@ -102,22 +124,23 @@ impl Belief {
         };
         let may_come = request(&mut self.known, asked, outcome, frame)?;
         if may_come {
-            self.doubts.accept(&self.known, device, way, kind, frames)?;
+            self.doubts
+                .accept(&self.known, device, way, kind, frames, None)?;
         }
         Ok(may_come)
     }
 
     /// A poll.
-    fn poll(&mut self, alloc: Global, outcome: &Outcome) -> bool {
+    fn poll(&mut self, alloc: Global, outcome: &Outcome) -> Result<bool, AllocError> {
         let Outcome::Confirmed { first, last, .. } = outcome else {
-            return poll(alloc, &mut self.known, outcome);
+            return Ok(poll(alloc, &mut self.known, outcome));
         };
         if !begin_poll(&mut self.known, *first, *last) {
-            return false;
+            return Ok(false);
         }
         self.versions.forget_reserved(&self.known);
-        self.doubts.narrow(&mut self.known);
-        end_poll(alloc, &mut self.known)
+        self.doubts.narrow(alloc, &mut self.known)?;
+        Ok(end_poll(alloc, &mut self.known))
     }
 
     /// A commit, where it isn't known on which frame the access is, or what the frame holds.
@@ -134,6 +157,11 @@ impl Belief {
             return Ok(matches!(outcome, Outcome::NothingInFlight));
         };
         let doubt = self.doubts.place_of_oldest(device);
+        if let Some(doubt) = doubt {
+            if self.doubts.is_of_step(doubt) {
+                return self.commit_step(alloc, place, doubt, outcome);
+            }
+        }
         let mut frames = Vec::new(alloc);
         match doubt.and_then(|place| self.doubts.at(place)) {
             None => frames.push(made.frame)?,
@@ -143,6 +171,9 @@ impl Belief {
         let (kind, asked) = (made.access.kind, made.access.len);
         match (outcome, kind) {
             (Outcome::Read(bytes), AccessKind::Read) => {
+                if let [frame] = frames.as_slice() {
+                    self.reveal(alloc, *frame, offset, bytes.as_slice())?;
+                }
                 self.commit_read(place, doubt, frames, offset, bytes.as_slice(), asked)
             }
             (Outcome::Wrote(len), AccessKind::Write) if *len == asked => {
@@ -177,6 +208,7 @@ impl Belief {
         if let Some(doubt) = doubt {
             self.doubts.decide(&mut self.known, doubt, frame);
         }
+        self.doubts.close_all(&frames, offset, bytes.len())?;
         if place < self.known.devices.as_slice().len() {
             drop_oldest(&mut self.known.devices, place);
         }
@@ -184,7 +216,7 @@ impl Belief {
     }
 
     /// One of the frames, which are the only ones that may have these bytes, has them.
-    fn keep_one(&mut self, frames: &[u32], offset: usize, bytes: &[u8]) {
+    pub(crate) fn keep_one(&mut self, frames: &[u32], offset: usize, bytes: &[u8]) {
         for frame in frames {
             if !has_other(&self.known, *frame) {
                 return;
@@ -236,6 +268,7 @@ impl Belief {
         if let Some(doubt) = doubt {
             self.doubts.forget(doubt);
         }
+        self.doubts.close_all(frames, offset, bytes.len())?;
         let is_whole = match frames {
             [frame] => self.write(alloc, *frame, offset, bytes)?,
             _ => self
@@ -292,6 +325,7 @@ impl Belief {
                 return Ok(may_come);
             };
             let offset = (address % PAGE_SIZE) as usize;
+            self.doubts.close(Run::new(frame, offset, bytes.len()))?;
             if !self.versions.write(alloc, frame, offset, bytes)? {
                 self.known.is_exact = false;
             }
@@ -299,8 +333,8 @@ impl Belief {
         Ok(may_come)
     }
 
-    /// A peek.
-    fn peek(
+    /// A peek, where memory may be in several ways.
+    fn peek_versions(
         &mut self,
         alloc: Global,
         address: u64,
@@ -330,6 +364,25 @@ impl Belief {
         Ok(true)
     }
 
+    /// A peek.
+    fn peek(
+        &mut self,
+        alloc: Global,
+        address: u64,
+        len: u64,
+        outcome: &Outcome,
+    ) -> Result<bool, AllocError> {
+        let (Outcome::Bytes(bytes), Ok(frame)) = (outcome, u32::try_from(address / PAGE_SIZE))
+        else {
+            return self.peek_versions(alloc, address, len, outcome);
+        };
+        let offset = (address % PAGE_SIZE) as usize;
+        self.reveal(alloc, frame, offset, bytes.as_slice())?;
+        let may_come = self.peek_versions(alloc, address, len, outcome)?;
+        self.doubts.close(Run::new(frame, offset, bytes.len()))?;
+        Ok(may_come)
+    }
+
     /// Whether this may come of the event, where the lines so far are lawful. Where it may, what is believed afterwards is
     /// what may be so then: where nothing was in doubt, each state that what is known allows then is one to which the
     /// machine comes so, from one that it allowed before.
@@ -344,6 +397,9 @@ impl Belief {
             → IfOk result (λ may. IsTrue may → (past : Past) → IsTrueOf self.old.known past
             → IsExplained self.old.known self.new.known event outcome.now past) }
     {
+        if let Event::Step { device } = &event {
+            return self.take_step(alloc, *device, outcome, shown.on);
+        }
         if let Some(asked) = read_by(alloc, &event) {
             return self.ask_for(alloc, asked, outcome, shown.on);
         }
@@ -365,12 +421,12 @@ impl Belief {
             → IfOk result (λ may. IsTrue may → (past : Past) → IsTrueOf self.old.known past
             → IsExplained self.old.known self.new.known event.now outcome.now past) }
     {
-        let question = self.messages.question_of(event);
+        let question = self.question_of(event, outcome);
         if self.is_settled() {
             return self.known.act(alloc, event, outcome, tables, question);
         }
         match event {
-            Event::Poll => Ok(self.poll(alloc, outcome)),
+            Event::Poll => self.poll(alloc, outcome),
             Event::Commit { device } => self.commit(alloc, *device, outcome),
             Event::Poke { address, bytes } => {
                 self.poke(alloc, *address, bytes.as_slice(), outcome)
@@ -392,6 +448,15 @@ impl Belief {
                 self.releases.note(*ticket, *device, None)?;
             }
             (Event::Poll, Outcome::Confirmed { last, .. }) => self.releases.confirm(*last),
+            (Event::Attach { .. } | Event::Grant { .. }, Outcome::Done) => {
+                self.doubts.leave_taken(&self.known);
+            }
+            // bytes that weren't followed may have shown that the frame is somebody's, and it need not be
+            (Event::Peek { address, .. }, Outcome::Bytes(_))
+                if !self.is_whole_in_bytes && !may_be_nobodys(&self.known, *address / PAGE_SIZE) =>
+                {
+                    self.is_whole = false;
+                }
             _ => {}
         }
         self.messages.note(event, outcome)

@@ -33,7 +33,8 @@ fn is_next_ticket(known: &Known, ticket: u32) -> bool
 
 /// A detach under the ticket.
 fn detach_under(known: &mut Known, id: DeviceId, ticket: u32) -> bool
-    ensures { IsTrue result → (past : Past) → IsTrueOf known.old past → IsExplained known.old known.new (Detach id) (Ticket ticket) past }
+    ensures { IsTrue result → (past : Past) → IsTrueOf known.old past
+        → IsExplained known.old known.new (Detach id) (Ticket ticket) past }
 {
     let Some(place) = place_of(known.devices.as_slice(), id) else {
         return false;
@@ -51,7 +52,8 @@ fn detach_under(known: &mut Known, id: DeviceId, ticket: u32) -> bool
 
 /// A detach.
 pub(crate) fn detach(known: &mut Known, id: DeviceId, outcome: &Outcome) -> bool
-    ensures { IsTrue result → (past : Past) → IsTrueOf known.old past → IsExplained known.old known.new (Detach id) outcome.now past }
+    ensures { IsTrue result → (past : Past) → IsTrueOf known.old past
+        → IsExplained known.old known.new (Detach id) outcome.now past }
 {
     match outcome {
         Outcome::Ticket(ticket) => detach_under(known, id, *ticket),
@@ -64,7 +66,8 @@ pub(crate) fn detach(known: &mut Known, id: DeviceId, outcome: &Outcome) -> bool
 
 /// A release under the ticket.
 fn release_under(known: &mut Known, id: DeviceId, page: u64, ticket: u32) -> bool
-    ensures { IsTrue result → (past : Past) → IsTrueOf known.old past → IsExplained known.old known.new (Release id page) (Ticket ticket) past }
+    ensures { IsTrue result → (past : Past) → IsTrueOf known.old past
+        → IsExplained known.old known.new (Release id page) (Ticket ticket) past }
 {
     if release_refusal(known, id, page).is_some() {
         return false;
@@ -85,7 +88,8 @@ fn release_under(known: &mut Known, id: DeviceId, page: u64, ticket: u32) -> boo
 
 /// A release.
 pub(crate) fn release(known: &mut Known, id: DeviceId, page: u64, outcome: &Outcome) -> bool
-    ensures { IsTrue result → (past : Past) → IsTrueOf known.old past → IsExplained known.old known.new (Release id page) outcome.now past }
+    ensures { IsTrue result → (past : Past) → IsTrueOf known.old past
+        → IsExplained known.old known.new (Release id page) outcome.now past }
 {
     match outcome {
         Outcome::Ticket(ticket) => release_under(known, id, page, *ticket),
@@ -102,7 +106,8 @@ pub(crate) fn release(known: &mut Known, id: DeviceId, page: u64, outcome: &Outc
 
 /// A quarantine under the ticket.
 fn quarantine_under(known: &mut Known, id: DeviceId, ticket: u32) -> bool
-    ensures { IsTrue result → (past : Past) → IsTrueOf known.old past → IsExplained known.old known.new (Quarantine id) (Ticket ticket) past }
+    ensures { IsTrue result → (past : Past) → IsTrueOf known.old past
+        → IsExplained known.old known.new (Quarantine id) (Ticket ticket) past }
 {
     let Some(place) = place_of(known.devices.as_slice(), id) else {
         return false;
@@ -124,7 +129,8 @@ fn quarantine_under(known: &mut Known, id: DeviceId, ticket: u32) -> bool
 
 /// A quarantine.
 pub(crate) fn quarantine(known: &mut Known, id: DeviceId, outcome: &Outcome) -> bool
-    ensures { IsTrue result → (past : Past) → IsTrueOf known.old past → IsExplained known.old known.new (Quarantine id) outcome.now past }
+    ensures { IsTrue result → (past : Past) → IsTrueOf known.old past
+        → IsExplained known.old known.new (Quarantine id) outcome.now past }
 {
     match outcome {
         Outcome::Ticket(ticket) => quarantine_under(known, id, *ticket),
@@ -151,7 +157,8 @@ fn revive_done(known: &mut Known, id: DeviceId) -> bool
 
 /// A revival.
 pub(crate) fn revive(known: &mut Known, id: DeviceId, outcome: &Outcome) -> bool
-    ensures { IsTrue result → (past : Past) → IsTrueOf known.old past → IsExplained known.old known.new (Revive id) outcome.now past }
+    ensures { IsTrue result → (past : Past) → IsTrueOf known.old past
+        → IsExplained known.old known.new (Revive id) outcome.now past }
 {
     match outcome {
         Outcome::Done => revive_done(known, id),

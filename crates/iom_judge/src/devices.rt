@@ -1,5 +1,5 @@
 // Where a device stands, and how it is attached.
-ghost use Rattle.std.specs.Prelude.{◌≡◌, ◌==◌, ◌<◌, find, length, slice_get, slice_set, MatchOption, None, Some};
+ghost use Rattle.std.specs.Prelude.{◌≡◌, ◌==◌, ◌<◌, find, length, slice_get, slice_set, MatchOption, None, Some, true, false};
 ghost use Rattle.iom_machine.specs.declared.state.Device.{Device};
 ghost use Rattle.std.specs.Option.{option_copied};
 ghost use Rattle.iom_machine.specs.Judging.{StandsAt, attachment_in};
@@ -65,13 +65,25 @@ fn leaving_under(ticket: u32, attachment: Attachment) -> Attachment
     }
 }
 
-/// The device leaves under the ticket, where it is attached.
+/// The device has a disk.
+pub(crate) fn give_disk(devices: &mut Sequence<Device>, place: usize)
+    requires { place < length devices.old }
+    ensures { (device : Device) → slice_get devices.old place ≡ Some device
+        → devices.new ≡ slice_set devices.old place (record device { has_disk = true }) }
+{
+    let device = devices.item_mut(place);
+    device.has_disk = true;
+}
+
+/// The device leaves under the ticket, where it is attached, and has no disk any more.
 pub(crate) fn start_leaving(devices: &mut Sequence<Device>, place: usize, ticket: u32)
     requires { place < length devices.old }
     ensures { (device : Device) → slice_get devices.old place ≡ Some device
-        → devices.new ≡ slice_set devices.old place (record device { attachment = leaving_under ticket device.attachment }) }
+        → devices.new ≡ slice_set devices.old place
+        (record device { has_disk = false; attachment = leaving_under ticket device.attachment }) }
 {
     let device = devices.item_mut(place);
+    device.has_disk = false;
     device.attachment = leaving_under(ticket, device.attachment);
 }
 

@@ -1,7 +1,9 @@
-// Accesses in flight of devices in both stages: on which frame each is, a guest's tables said, and the lines may not.
+// Accesses of which the lines don't show all. A device in both stages has them on a frame that its guest's tables
+// chose; of an access of a block device's step neither its kind is shown, nor its place and its bytes.
 use crate::devices::place_of;
 use crate::known::Known;
-use crate::reach::may;
+use crate::reached::{frames_open_to, marks_of};
+use crate::unseen::UnseenWrite;
 use crate::way::Way;
 use iom_base::{Access, AccessKind, DeviceId, Mode, PAGE_SIZE};
 use iom_machine::{Attachment, Device};
@@ -9,13 +11,23 @@ use std::alloc::{AllocError, Global};
 
 /// An access in flight that may be on one of several frames. What is known has it on the first.
 #[derive(Drop)]
-pub(crate) struct Doubt {
-    pub(crate) device: DeviceId,
+pub(crate) struct Flight {
+    device: DeviceId,
     /// The access is the device's accepted one with this number.
     number: u64,
     kind: AccessKind,
     is_cached: bool,
     pub(crate) frames: Vec<u32>,
+    /// Where a step began the access, the frames on which it may be a write. What is known has a read of one byte.
+    pub(crate) writable: Option<Vec<u32>>,
+}
+
+/// An access in doubt.
+#[derive(Drop)]
+pub(crate) enum Doubt {
+    InFlight(Flight),
+    /// One that was made, and whose bytes weren't seen yet.
+    Written(UnseenWrite),
 }
 
 /// Whether a request of the device is, or was, translated in both stages.
@@ -37,7 +49,8 @@ pub(crate) fn frame_at(known: &Known, id: DeviceId, page: u64) -> Option<u32> {
     Some(pair.0)
 }
 
-/// The frames on which the access of a device in both stages may be accepted; none, of another device.
+/// The frames on which the access of a device in both stages may be accepted; none, of another device. Its address
+/// has nothing to do with them.
 pub(crate) fn possible_frames(
     alloc: Global,
     way: Way,
@@ -45,36 +58,24 @@ pub(crate) fn possible_frames(
     id: DeviceId,
     access: &Access,
 ) -> Result<Vec<u32>, AllocError> {
-    let mut frames = Vec::new(alloc);
     let Some(place) = place_of(known.devices.as_slice(), id) else {
-        return Ok(frames);
+        return Ok(Vec::new(alloc));
     };
     let device = &known.devices.as_slice()[place];
-    if !has_both_stages(device.attachment) {
-        return Ok(frames);
+    if way == Way::Forged || !has_both_stages(device.attachment) {
+        return Ok(Vec::new(alloc));
     }
-    for index in 0..known.ledger.page_count(id) {
-        if let Some(page) = known.ledger.page_at(id, index) {
-            if let Some(frame) = frame_at(known, id, page) {
-                if !frames.as_slice().contains(&frame)
-                    && way.may_accept(known, device, access, frame)
-                {
-                    frames.push(frame)?;
-                }
-            }
-        }
-    }
-    Ok(frames)
+    frames_open_to(alloc, known, device, access.kind)
 }
 
-/// The accesses in flight whose frame isn't known, in the order of acceptance.
+/// The accesses of which the lines don't show all, in the order of acceptance; once it is made, in that of the commits.
 #[derive(Drop)]
 pub(crate) struct Doubts {
-    all: Vec<Doubt>,
+    pub(crate) all: Vec<Doubt>,
 }
 
 /// The access of the device is on the frame.
-fn put(known: &mut Known, doubt: &Doubt, frame: u32) {
+fn put(known: &mut Known, doubt: &Flight, frame: u32) {
     let Some(place) = place_of(known.devices.as_slice(), doubt.device) else {
         return;
     };
@@ -93,8 +94,37 @@ fn put(known: &mut Known, doubt: &Doubt, frame: u32) {
     }
 }
 
+impl Flight {
+    /// The access is on a frame that its device still reaches.
+    fn narrow(&mut self, alloc: Global, known: &mut Known) -> Result<(), AllocError> {
+        let reached = marks_of(alloc, known, self.device, self.kind)?;
+        self.frames.retain(|frame| reached.has(*frame));
+        if let Some(writable) = &mut self.writable {
+            let reached = marks_of(alloc, known, self.device, AccessKind::Write)?;
+            writable.retain(|frame| reached.has(*frame));
+        }
+        if let Some(frame) = self.frames.first().copied() {
+            put(known, self, frame);
+        }
+        Ok(())
+    }
+
+    /// Whether it isn't in doubt any longer.
+    fn is_settled(&self) -> bool {
+        self.writable.is_none() && self.frames.len() <= 1
+    }
+}
+
+/// Whether the doubt is an access in flight that isn't in doubt any longer.
+fn is_over(doubt: &Doubt) -> bool {
+    match doubt {
+        Doubt::InFlight(flight) => flight.is_settled(),
+        Doubt::Written(_) => false,
+    }
+}
+
 impl Doubts {
-    ghost use Rattle.std.specs.Prelude.{◌≡◌, [], true};
+    ghost use Rattle.std.specs.Prelude.{◌≡◌, ◌↔◌, [], IsTrue};
 
     pub(crate) fn new(alloc: Global) -> Doubts {
         Doubts {
@@ -103,7 +133,7 @@ impl Doubts {
     }
 
     pub(crate) fn is_empty(&self) -> bool
-        ensures { self.now.all.items ≡ [] → result ≡ true }
+        ensures { IsTrue result ↔ (self.now.all.items ≡ []) }
     {
         self.all.is_empty()
     }
@@ -116,38 +146,34 @@ impl Doubts {
         way: Way,
         kind: AccessKind,
         frames: Vec<u32>,
+        writable: Option<Vec<u32>>,
     ) -> Result<(), AllocError> {
         let Some(place) = place_of(known.devices.as_slice(), id) else {
             return Ok(());
         };
-        if frames.len() > 1 {
-            self.all.push(Doubt {
-                device: id,
-                number: known.devices.as_slice()[place].accepted,
-                kind,
-                is_cached: way == Way::Cached,
-                frames,
-            })?;
+        let flight = Flight {
+            device: id,
+            number: known.devices.as_slice()[place].accepted,
+            kind,
+            is_cached: way == Way::Cached,
+            frames,
+            writable,
+        };
+        if !flight.is_settled() {
+            self.all.push(Doubt::InFlight(flight))?;
         }
         Ok(())
     }
 
     /// Each access is on a frame that its device still reaches.
-    pub(crate) fn narrow(&mut self, known: &mut Known) {
+    pub(crate) fn narrow(&mut self, alloc: Global, known: &mut Known) -> Result<(), AllocError> {
         for place in 0..self.all.len() {
-            let Some(doubt) = self.all.get_mut(place) else {
-                break;
-            };
-            let (device, kind) = (doubt.device, doubt.kind);
-            let reached = &*known;
-            doubt
-                .frames
-                .retain(|frame| may(reached, device, *frame, kind));
-            if let Some(frame) = doubt.frames.first().copied() {
-                put(known, doubt, frame);
+            if let Some(Doubt::InFlight(flight)) = self.all.get_mut(place) {
+                flight.narrow(alloc, known)?;
             }
         }
-        self.all.retain(|doubt| doubt.frames.len() > 1);
+        self.all.retain(|doubt| !is_over(doubt));
+        Ok(())
     }
 
     /// Whether the device's oldest access in flight is one of these: where in the list.
@@ -156,15 +182,26 @@ impl Doubts {
             .accepted
             .saturating_sub(device.in_flight.as_slice().len() as u64);
         for (place, doubt) in self.all.iter().enumerate() {
-            if doubt.device == device.id && doubt.number == made.saturating_add(1) {
-                return Some(place);
+            if let Doubt::InFlight(flight) = doubt {
+                if flight.device == device.id && flight.number == made.saturating_add(1) {
+                    return Some(place);
+                }
             }
         }
         None
     }
 
-    pub(crate) fn at(&self, place: usize) -> Option<&Doubt> {
-        self.all.get(place)
+    pub(crate) fn at(&self, place: usize) -> Option<&Flight> {
+        match self.all.get(place)? {
+            Doubt::InFlight(flight) => Some(flight),
+            Doubt::Written(_) => None,
+        }
+    }
+
+    /// Whether a step began it.
+    pub(crate) fn is_of_step(&self, place: usize) -> bool {
+        self.at(place)
+            .is_some_and(|flight| flight.writable.is_some())
     }
 
     /// The access isn't in flight any longer.
@@ -177,8 +214,9 @@ impl Doubts {
     /// The access is on this frame, and isn't in doubt any longer.
     pub(crate) fn decide(&mut self, known: &mut Known, place: usize, frame: u32) {
         if place < self.all.len() {
-            let doubt = self.all.remove(place);
-            put(known, &doubt, frame);
+            if let Doubt::InFlight(flight) = self.all.remove(place) {
+                put(known, &flight, frame);
+            }
         }
     }
 }

@@ -2,6 +2,7 @@
 use crate::belief::Belief;
 use crate::devices::device_with;
 use crate::doubts::{frame_at, possible_frames};
+use crate::messages::Sent;
 use crate::outcomes::CAUSES;
 use crate::owners::{is_unreached, may_be_nobodys, may_be_somebodys};
 use crate::reasons::{
@@ -219,6 +220,12 @@ impl Belief {
             words.say(format!(in words.alloc; "nothing of {id:06x} is in flight")?)?;
             return words.could(format!(in words.alloc; "none")?);
         };
+        let doubt = self.doubts.place_of_oldest(device);
+        if doubt.is_some_and(|place| self.doubts.is_of_step(place)) {
+            return words.say(format!(in words.alloc;
+                "the oldest access of {id:06x} in flight is one that a step began, and isn't shown"
+            )?);
+        }
         let (frame, len) = (made.frame, made.access.len);
         let offset = made.access.address % PAGE_SIZE;
         match made.access.kind {
@@ -233,6 +240,34 @@ impl Belief {
                     "the oldest access of {id:06x} in flight is a write of {len} bytes at offset {offset} of frame {frame}"
                 )?)?;
                 words.could(format!(in words.alloc; "wrote {len}")?)
+            }
+        }
+    }
+
+    /// Says what is known of a block device that takes a step, and which of its answers are never in doubt.
+    fn say_step(&self, words: &mut Words, id: DeviceId) -> Result<(), AllocError> {
+        let Some(device) = device_with(self.known.devices.as_slice(), id) else {
+            return self.say_absent(words, id);
+        };
+        if !device.kind.is_block_device() {
+            words.say(format!(in words.alloc; "{id:06x} isn't a block device")?)?;
+            return words.could(format!(in words.alloc; "refused 21 WrongKind")?);
+        }
+        say_attachment(words, device)?;
+        let count = device.in_flight.as_slice().len();
+        words.say(format!(in words.alloc; "{count} of its accesses are in flight")?)?;
+        words.could(format!(in words.alloc; "idle, waiting, chain, finished, down")?)
+    }
+
+    /// Says what is known of the page that is asked for, where that is known.
+    fn say_question(&self, words: &mut Words, question: Sent) -> Result<(), AllocError> {
+        match question.page {
+            Some(page) => self.say_page(words, question.device, page),
+            None => {
+                let id = question.device;
+                words.say(format!(in words.alloc;
+                    "a step of {id:06x} asked, of a page that isn't shown"
+                )?)
             }
         }
     }
@@ -324,9 +359,11 @@ impl Belief {
     fn say_call(&self, words: &mut Words, subject: Subject) -> Result<(), AllocError> {
         let known = &self.known;
         match subject {
-            Subject::Plug(id) => {
-                self.could_call(words, plug_refusal(known, id), "ok, refused 15 Memory")
-            }
+            Subject::Plug { device, new } => self.could_call(
+                words,
+                plug_refusal(known, device, new),
+                "ok, refused 15 Memory",
+            ),
             Subject::Attach { device, ats } => self.could_call(
                 words,
                 attach_refusal(known, device, ats),
@@ -347,6 +384,7 @@ impl Belief {
     fn say(&self, alloc: Global, words: &mut Words, subject: Subject) -> Result<(), AllocError> {
         match subject {
             Subject::Access { .. } => self.say_access(alloc, words, subject),
+            Subject::Step(id) => self.say_step(words, id),
             Subject::Commit(id) => self.say_commit(words, id),
             Subject::Poll => self.say_poll(words),
             Subject::Frame(frame) => self.say_frame(words, frame),
@@ -361,7 +399,7 @@ impl Belief {
             } => self.say_grant(words, device, page, frame),
             Subject::Message(place) => match self.messages.question_at(place) {
                 None => words.say(format!(in alloc; "no question is at place {place}")?),
-                Some(question) => self.say_page(words, question.device, question.page),
+                Some(question) => self.say_question(words, question),
             },
             Subject::Device(id) => match device_with(self.known.devices.as_slice(), id) {
                 None => self.say_absent(words, id),

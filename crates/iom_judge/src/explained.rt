@@ -27,10 +27,11 @@ impl Known {
         tables: Option<&[u32]>,
         question: Option<Question>,
     ) -> Result<bool, AllocError>
-        ensures { IfOk result (λ may. IsTrue may → (past : Past) → IsTrueOf self.old past → IsExplained self.old self.new event.now outcome.now past) }
+        ensures { IfOk result (λ may. IsTrue may → (past : Past) → IsTrueOf self.old past
+            → IsExplained self.old self.new event.now outcome.now past) }
     {
         match event {
-            Event::Plug { device, kind } => plug(alloc, self, *device, *kind, outcome),
+            Event::Plug { device, new } => plug(alloc, self, *device, *new, outcome),
             Event::Grant {
                 device,
                 page,
@@ -55,7 +56,8 @@ impl Known {
 
     /// The same of events of which no memory is taken and no frame.
     fn act_alone(&mut self, event: &Event, outcome: &Outcome, question: Option<Question>) -> bool
-        ensures { IsTrue result → (past : Past) → IsTrueOf self.old past → IsExplained self.old self.new event.now outcome.now past }
+        ensures { IsTrue result → (past : Past) → IsTrueOf self.old past
+            → IsExplained self.old self.new event.now outcome.now past }
     {
         match event {
             Event::Detach { device } => detach(self, *device, outcome),
@@ -69,6 +71,15 @@ impl Known {
             Event::Ask { device, .. } => self.ask(*device, outcome),
             Event::Forge { device, .. } => self.forge(*device, outcome),
             Event::Reset { device } => self.reset(*device, outcome),
+            Event::Medium { device, disk } => self.medium(*device, *disk, outcome),
+            Event::Queue {
+                device,
+                size,
+                descriptors,
+                available,
+                used,
+            } => self.queue(*device, *size, *descriptors, *available, *used, outcome),
+            Event::Status { device } => self.status(*device, outcome),
             Event::Deliver { place } => self.deliver(*place, outcome, question),
             Event::Drop { place } => drops(self, *place, outcome),
             Event::Repeat { place } => repeats(self, *place, outcome),
@@ -80,7 +91,8 @@ impl Known {
 
     /// The same of a delivery.
     fn deliver(&self, place: u64, outcome: &Outcome, question: Option<Question>) -> bool
-        ensures { IsTrue result → (past : Past) → IsTrueOf self.now past → IsExplained self.now self.now (events.Deliver place) outcome.now past }
+        ensures { IsTrue result → (past : Past) → IsTrueOf self.now past
+            → IsExplained self.now self.now (events.Deliver place) outcome.now past }
     {
         match outcome {
             Outcome::Answered(told) => match question {

@@ -29,7 +29,8 @@ fn grant_done(
     rights: GrantRights,
     tables: Option<&[u32]>,
 ) -> Result<bool, AllocError>
-    ensures { IfOk result (λ done. IsTrue done → (past : Past) → IsTrueOf known.old past → IsExplained known.old known.new (Grant id page frame rights) Done past) }
+    ensures { IfOk result (λ done. IsTrue done → (past : Past) → IsTrueOf known.old past
+        → IsExplained known.old known.new (Grant id page frame rights) Done past) }
 {
     let Some(place) = place_of(known.devices.as_slice(), id) else {
         return Ok(false);
@@ -154,7 +155,8 @@ pub(crate) fn grant(
     outcome: &Outcome,
     tables: Option<&[u32]>,
 ) -> Result<bool, AllocError>
-    ensures { IfOk result (λ may. IsTrue may → (past : Past) → IsTrueOf known.old past → IsExplained known.old known.new (Grant id page frame rights) outcome.now past) }
+    ensures { IfOk result (λ may. IsTrue may → (past : Past) → IsTrueOf known.old past
+        → IsExplained known.old known.new (Grant id page frame rights) outcome.now past) }
 {
     match outcome {
         Outcome::Done => grant_done(known, id, page, frame, rights, tables),

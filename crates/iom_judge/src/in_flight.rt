@@ -19,7 +19,8 @@ pub(crate) fn is_idle(device: &Device) -> bool
 /// The oldest access in flight of the device at the place.
 pub(crate) fn oldest(devices: &[Device], place: usize) -> Option<&AcceptedAccess>
     requires { place < length devices.now }
-    ensures { (device : Device) → slice_get devices.now place ≡ Some device → option_copied result ≡ slice_get device.in_flight 0 }
+    ensures { (device : Device) → slice_get devices.now place ≡ Some device
+        → option_copied result ≡ slice_get device.in_flight 0 }
 {
     devices[place].in_flight.as_slice().first()
 }

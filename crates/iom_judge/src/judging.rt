@@ -1,51 +1,21 @@
 // A trace, judged line by line.
+ghost use Rattle.std.specs.Prelude.{◌≡◌, ◌++◌, ◌∷◌, [], ℕ, List, Option, None, IfOk, IfSome, IsSomeAnd, IsTrue, MatchOption, false, true};
+ghost use Rattle.iom_script.specs.Grammar.{is_spoken};
+ghost use Rattle.iom_judge.specs.Allowed.{Past, IsTrueOf};
+ghost use Rattle.iom_judge.specs.Certificates.{four_disks, is_certificate, IsLawfulTrace, SaysStep};
+ghost use Rattle.iom_judge.specs.Certified.{AreLines, CertifyIf, GoesOn, HasJudged};
+ghost use Rattle.iom_judge.specs.Starts.{IsPowerOn, SomeAreAllowed};
+
 use crate::belief::{Belief, Shown};
 use crate::line::read_line;
-use crate::reading::{Lines, NextLine};
+use crate::reading::Lines;
 use crate::subject::Subject;
-use crate::trace::TraceLine;
+use crate::trace::{NextLine, TraceLine};
+use crate::verdict::Verdict;
 use iom_machine::{Event, Outcome};
 use iom_script::{LineBuffer, WorldSize};
 use std::alloc::Global;
-use std::fmt;
-use std::io::{self, Read};
-
-/// What the judge finds of a trace, whose lines count from 1.
-#[derive(Drop)]
-pub enum Verdict {
-    /// The lines are those of a run.
-    Lawful,
-    /// Those before this line are, after which it may not come, and why.
-    Unlawful { line: u64, reason: String },
-    /// In no way that was followed this line may come, and not each way was.
-    Undecided { line: u64, reason: String },
-    /// Those before this line are; it isn't in the grammar.
-    Bad { line: u64 },
-}
-
-impl Verdict {
-    /// The line at which the trace isn't found lawful.
-    pub fn line(&self) -> Option<u64> {
-        match self {
-            Verdict::Lawful => None,
-            Verdict::Unlawful { line, .. }
-            | Verdict::Undecided { line, .. }
-            | Verdict::Bad { line } => { Some(*line) }
-        }
-    }
-}
-
-/// What is found, as `iommu-judge` prints it.
-impl fmt::Display for Verdict {
-    fn fmt<W: fmt::Write>(&self, f: &mut fmt::Formatter<W>) -> fmt::Result {
-        match self {
-            Verdict::Lawful => f.write_str("lawful"),
-            Verdict::Unlawful { line, reason } => write!(f, "line {line}: unlawful: {reason}"),
-            Verdict::Undecided { line, reason } => write!(f, "line {line}: not decided: {reason}"),
-            Verdict::Bad { line } => write!(f, "line {line} isn't in the grammar"),
-        }
-    }
-}
+use std::io::{self, ErrorKind, Read};
 
 /// The judge of a trace, after the lines so far.
 #[derive(Drop)]
@@ -55,22 +25,32 @@ struct Judge {
     tables: Vec<u32>,
     belief: Option<Belief>,
     line: u64,
+    /// Whether before no line anything was in doubt.
+    is_certified: bool,
 }
 
 impl Judge {
-    fn new(alloc: Global) -> io::Result<Judge> {
+    fn new(alloc: Global) -> io::Result<Judge>
+        ensures { IfOk result (λ judge. CertifyIf judge.is_certified judge.belief []) }
+    {
         Ok(Judge {
             alloc,
             printed: LineBuffer::new(alloc)?,
             tables: Vec::new(alloc),
             belief: None,
             line: 0,
+            is_certified: true,
         })
     }
 
     /// The world has this size.
-    fn begin(&mut self, size: WorldSize) -> io::Result<Option<Verdict>> {
-        if size.frames < 4 || size.frames > 4096 || size.levels > 3 {
+    fn begin(&mut self, size: WorldSize) -> io::Result<Option<Verdict>>
+        ensures { IfOk result (λ found. MatchOption found
+            ((self.old.belief ≡ None) × (self.new.is_certified ≡ self.old.is_certified)
+            × IsSomeAnd self.new.belief (λ belief. IsPowerOn belief.known size.frames size.levels four_disks))
+            (λ verdict. is_certificate verdict ≡ false)) }
+    {
+        if self.belief.is_some() || size.frames < 4 || size.frames > 4096 || size.levels > 3 {
             return Ok(Some(Verdict::Bad { line: self.line }));
         }
         let belief = Belief::power_on(self.alloc, size.frames as u32, size.levels as u8)?;
@@ -85,7 +65,11 @@ impl Judge {
         outcome: &Outcome,
         has_tables: bool,
         on: Option<u32>,
-    ) -> io::Result<Option<Verdict>> {
+    ) -> io::Result<Option<Verdict>>
+        ensures { IfOk result (λ found. MatchOption found
+            (GoesOn self.old.is_certified self.old.belief event outcome.now self.new.is_certified self.new.belief)
+            (λ verdict. is_certificate verdict ≡ false)) }
+    {
         let alloc = self.alloc;
         let line = self.line;
         let Some(belief) = &mut self.belief else {
@@ -97,11 +81,13 @@ impl Judge {
             tables: if has_tables { Some(tables) } else { None },
             on,
         };
+        let was_settled = belief.is_settled();
         if belief.step(alloc, event, outcome, shown)? {
+            self.is_certified = self.is_certified && was_settled;
             return Ok(None);
         }
         let reason = belief.reason(alloc, subject)?;
-        Ok(Some(if belief.is_exact() || !subject.is_about_frames() {
+        Ok(Some(if belief.decides(subject) {
             Verdict::Unlawful { line, reason }
         } else {
             Verdict::Undecided { line, reason }
@@ -109,7 +95,12 @@ impl Judge {
     }
 
     /// What the next line is found, if it ends the trace.
-    fn take(&mut self, line: &[u8]) -> io::Result<Option<Verdict>> {
+    fn take(&mut self, line: &[u8]) -> io::Result<Option<Verdict>>
+        ensures { (lines : List (List ℕ)) → CertifyIf self.old.is_certified self.old.belief lines
+            → IfOk result (λ found. MatchOption found
+            (CertifyIf self.new.is_certified self.new.belief (lines ++ line.now ∷ []))
+            (λ verdict. is_certificate verdict ≡ false)) }
+    {
         self.line = self.line.saturating_add(1);
         let has_world = self.belief.is_some();
         let read = read_line(
@@ -131,12 +122,43 @@ impl Judge {
             } => self.go_on(event, &outcome, has_tables, on),
         }
     }
+
+    /// Whether some state is allowed, with each past that is true of what is known.
+    fn is_possible(&self) -> bool
+        ensures { IsTrue result → IfSome self.now.belief (λ belief. (past : Past) → IsTrueOf belief.known past
+            → SomeAreAllowed belief.known past) }
+    {
+        match &self.belief {
+            None => true,
+            Some(belief) => belief.known.is_possible(),
+        }
+    }
+
+    /// What is found of the lines, where there are no others.
+    fn end(&self) -> Verdict
+        ensures { (text : List ℕ) (lines : List (List ℕ)) → CertifyIf self.now.is_certified self.now.belief lines
+            → AreLines lines text → IsTrue (is_certificate result) → IsLawfulTrace text }
+    {
+        Verdict::Lawful {
+            is_certified: self.is_certified && self.is_possible(),
+        }
+    }
 }
 
 /// What is found of the next line, if that ends the trace.
-fn judge_next<R: Read>(judge: &mut Judge, lines: &mut Lines<'_, R>) -> io::Result<Option<Verdict>> {
-    match lines.next_line()? {
-        NextLine::End => Ok(Some(Verdict::Lawful)),
+fn judge_next<R: Read>(
+    judge: &mut Judge,
+    lines: &mut Lines,
+    reader: &mut R,
+) -> io::Result<Option<Verdict>>
+    ensures { (first : Option (List ℕ))
+        → HasJudged judge.old.is_certified judge.old.belief lines.old.buffer.items lines.old.start lines.old.end first (R.remaining reader.old)
+        → IfOk result (λ found. MatchOption found
+        (HasJudged judge.new.is_certified judge.new.belief lines.new.buffer.items lines.new.start lines.new.end first (R.remaining reader.new))
+        (λ verdict. IsTrue (is_certificate verdict) → IfSome first IsLawfulTrace)) }
+{
+    match lines.next_line(reader)? {
+        NextLine::End => Ok(Some(judge.end())),
         NextLine::Broken => Ok(Some(Verdict::Bad {
             line: judge.line.saturating_add(1),
         })),
@@ -145,19 +167,28 @@ fn judge_next<R: Read>(judge: &mut Judge, lines: &mut Lines<'_, R>) -> io::Resul
 }
 
 /// What is found of the lines.
-fn judge_lines<R: Read>(judge: &mut Judge, lines: &mut Lines<'_, R>) -> io::Result<Verdict> {
+fn judge_lines<R: Read>(judge: &mut Judge, lines: &mut Lines, reader: &mut R) -> io::Result<Verdict>
+    ensures { (first : Option (List ℕ))
+        → HasJudged judge.old.is_certified judge.old.belief lines.old.buffer.items lines.old.start lines.old.end first (R.remaining reader.old)
+        → IfOk result (λ verdict. IsTrue (is_certificate verdict) → IfSome first IsLawfulTrace) }
+{
     for _ in 0..u64::MAX {
-        if let Some(verdict) = judge_next(judge, lines)? {
+        if let Some(verdict) = judge_next(judge, lines, reader)? {
             return Ok(verdict);
         }
     }
-    Ok(Verdict::Lawful)
+    Err(io::Error::from(ErrorKind::Other))
 }
 
 /// What the judge finds of the trace that the reader has. It is judged line by line, and the memory that this takes
 /// doesn't grow with it.
-pub fn judge_trace<R: Read>(alloc: Global, reader: &mut R) -> io::Result<Verdict> {
+///
+/// A trace that is certified is lines of a run of the ledger machine from power-on, with some choice of what they don't
+/// show, and the sentences of the headline hold of that run.
+pub fn judge_trace<R: Read>(alloc: Global, reader: &mut R) -> io::Result<Verdict>
+    ensures { IfOk result (λ verdict. IsTrue (is_certificate verdict) → IfSome (R.remaining reader.old) IsLawfulTrace) }
+{
     let mut judge = Judge::new(alloc)?;
-    let mut lines = Lines::new(alloc, reader)?;
-    judge_lines(&mut judge, &mut lines)
+    let mut lines = Lines::new(alloc)?;
+    judge_lines(&mut judge, &mut lines, reader)
 }

@@ -18,6 +18,8 @@ pub struct Known {
     pub(crate) last_confirmed: u32,
     /// In the order of plugging.
     pub(crate) devices: Sequence<Device>,
+    /// The numbers of the disks that were never put into a device.
+    pub(crate) disks: Vec<u64>,
     pub(crate) frames: Sequence<BelievedFrame>,
     /// Whether nothing that is possible was left out.
     pub(crate) is_exact: bool,
@@ -49,17 +51,32 @@ fn frames_at_first(alloc: Global, frames: u32) -> Result<Sequence<BelievedFrame>
     Ok(all)
 }
 
+/// A list of these numbers.
+fn numbers_of(alloc: Global, disks: &[u64]) -> Result<Vec<u64>, AllocError>
+    ensures { IfOk result (λ numbers. numbers.items ≡ disks.now) }
+{
+    let mut numbers = Vec::new(alloc);
+    numbers.extend_from_slice(disks)?;
+    Ok(numbers)
+}
+
 impl Known {
     ghost use Rattle.std.specs.Prelude.{◌≡◌, IfOk, length};
     ghost use Rattle.iom_judge.specs.Starts.{IsPowerOn};
     ghost use Rattle.iom_ledger.specs.History.{confirms};
     ghost use Rattle.iom_judge.specs.Allowed.{Past, IsTrueOf};
 
-    /// What is known at power-on.
-    pub fn power_on(alloc: Global, frames: u32, levels: u8) -> Result<Known, AllocError>
+    /// What is known at power-on, with so many frames and levels of the device directory, and disks of these numbers.
+    pub fn power_on(
+        alloc: Global,
+        frames: u32,
+        levels: u8,
+        disks: &[u64],
+    ) -> Result<Known, AllocError>
         requires { 4 ≤ frames }
-        ensures { IfOk result (λ known. IsPowerOn known frames levels) }
+        ensures { IfOk result (λ known. IsPowerOn known frames levels disks.now) }
     {
+        let numbers = numbers_of(alloc, disks)?;
         let all = frames_at_first(alloc, frames)?;
         let devices = Sequence::with_capacity(alloc, MAX_DEVICES)?;
         let ledger = Ledger::new(alloc, frames)?;
@@ -69,6 +86,7 @@ impl Known {
             last_ticket: 0,
             last_confirmed: 0,
             devices,
+            disks: numbers,
             frames: all,
             is_exact: true,
         })

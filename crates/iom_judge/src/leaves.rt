@@ -55,7 +55,8 @@ fn once_confirmed(last: u32, attachment: Attachment) -> Attachment
 /// The device is detached, where it has left.
 fn detach(devices: &mut Sequence<Device>, place: usize, last: u32)
     requires { place < length devices.old }
-    ensures { (device : Device) → slice_get devices.old place ≡ Some device → devices.new ≡ slice_set devices.old place (device_once_by last device) }
+    ensures { (device : Device) → slice_get devices.old place ≡ Some device
+        → devices.new ≡ slice_set devices.old place (device_once_by last device) }
 {
     let device = devices.item_mut(place);
     device.attachment = once_confirmed(last, device.attachment);
@@ -82,7 +83,8 @@ fn without_device(owners: u64, device: usize) -> u64
 /// The other bytes of a frame that may have been given back as zeros, or be nobody's as before. False where one of the
 /// ways in which it may hold bytes was left out.
 fn zero_too(alloc: Global, other: &mut Option<Sequence<u8>>) -> bool
-    ensures { (bytes : List ℕ) → IsSomeAnd other.new (λ it. bytes ≡ bytes_believed it) → IsSomeAnd other.old (λ it. bytes ≡ bytes_believed it) ⊎ (bytes ≡ bytes_believed []) }
+    ensures { (bytes : List ℕ) → IsSomeAnd other.new (λ it. bytes ≡ bytes_believed it)
+        → IsSomeAnd other.old (λ it. bytes ≡ bytes_believed it) ⊎ (bytes ≡ bytes_believed []) }
 {
     if let Some(it) = other {
         return are_zero(it.as_slice());

@@ -1,10 +1,11 @@
 // How a line of a trace is read.
-ghost use Rattle.std.specs.Prelude.{◌≡◌, ◌↔◌, ◌<◌, ◌++◌, ℕ, List, [], length, slice_index, IfSome, IfOk, IsTrue, MatchOption, None, codes, true, false, ⊤};
+ghost use Rattle.std.specs.Prelude.{◌≡◌, ◌≢◌, ◌↔◌, ◌<◌, ◌++◌, ℕ, List, [], length, slice_index, IfSome, IfOk, IsTrue, MatchOption, None, codes, true, false, ⊤};
 ghost use Rattle.iom_machine.specs.declared.event.Event.TheVariants as events;
 ghost use Rattle.iom_machine.specs.declared.outcome.Outcome.TheVariants as outcomes;
+ghost use Rattle.iom_script.specs.Grammar.{is_spoken};
 ghost use Rattle.iom_script.specs.Words.{◌␣◌, IsNumber};
 ghost use Rattle.iom_judge.specs.declared.trace.TraceLine.TheVariants as lines;
-ghost use Rattle.iom_judge.specs.TraceLines.{frames_text, tables_text, on_text, SaysLine};
+ghost use Rattle.iom_judge.specs.TraceLines.{frames_text, is_accepted, takes_frames, tables_text, on_text, MayShow, SaysLine};
 
 use crate::outcomes::{read_outcome, without_prefix};
 use crate::trace::{Behind, TraceLine};
@@ -92,8 +93,17 @@ fn read_frames(text: &[u8], frames: &mut Vec<u32>) -> Result<bool, AllocError>
 }
 
 /// Whether the event takes frames for tables, where it is done.
-fn takes_frames(event: &Event, outcome: &Outcome) -> bool {
+fn takes_frames(event: &Event, outcome: &Outcome) -> bool
+    ensures { result ≡ takes_frames event.now outcome.now }
+{
     matches!(event, Event::Attach { .. } | Event::Grant { .. }) && matches!(outcome, Outcome::Done)
+}
+
+/// Whether an access is accepted.
+fn is_accepted(outcome: &Outcome) -> bool
+    ensures { result ≡ is_accepted outcome.now }
+{
+    matches!(outcome, Outcome::Accepted(_))
 }
 
 /// Reads what is shown behind an answer: `tables F F ..` behind the `ok` of an attach or a grant, `on F` behind
@@ -105,7 +115,8 @@ fn read_behind(
     tables: &mut Vec<u32>,
 ) -> Result<Option<Behind>, AllocError>
     requires { tables.old.items ≡ [] }
-    ensures { IfOk result (λ read. IfSome read (λ it. codes "; " ++ behind.now ≡ tables_text it.has_tables tables.new.items ++ on_text it.on)) }
+    ensures { IfOk result (λ read. IfSome read (λ it. MayShow event.now outcome.now it.has_tables it.on
+        × (codes "; " ++ behind.now ≡ tables_text it.has_tables tables.new.items ++ on_text it.on))) }
 {
     if let Some(text) = without_prefix(behind, b"tables") {
         if !takes_frames(event, outcome) || !read_frames(text, tables)? {
@@ -119,7 +130,7 @@ fn read_behind(
     let Some(word) = without_prefix(behind, b"on ") else {
         return Ok(None);
     };
-    if !matches!(outcome, Outcome::Accepted(_)) {
+    if !is_accepted(outcome) {
         return Ok(None);
     }
     match frame_of(word) {
@@ -227,7 +238,8 @@ pub(crate) fn read_line(
     has_world: bool,
     line: &[u8],
 ) -> Result<TraceLine, AllocError>
-    ensures { IfOk result (λ read. SaysLine line.now read tables.new.items) }
+    ensures says { IfOk result (λ read. SaysLine line.now read tables.new.items) }
+    ensures spoken { IfOk result (λ read. read ≢ lines.Nothing → is_spoken line.now ≡ true) }
 {
     if !is_spoken(line) {
         return Ok(TraceLine::Nothing);

@@ -1,7 +1,7 @@
 // The messages under way, as far as the lines of a run show them (PCI Express Base Specification, chapter 10, "Address
 // Translation Services"): they stand in a list, one that is taken closes up, and one that is sent goes last.
 use iom_base::DeviceId;
-use iom_machine::{CommandName, Event, Fetched, Outcome};
+use iom_machine::{BlockStep, CommandName, Event, Fetched, Outcome};
 use std::alloc::{AllocError, Global};
 
 /// So many messages are under way at most; one more is lost.
@@ -14,10 +14,18 @@ pub struct Question {
     pub(crate) page: u64,
 }
 
+/// A question under way.
+#[derive(Clone, Copy)]
+pub(crate) struct Sent {
+    pub(crate) device: DeviceId,
+    /// Of what page it is; none, where a block device's step asked it, which doesn't show that.
+    pub(crate) page: Option<u64>,
+}
+
 /// The messages under way, each of them a question or another one.
 #[derive(Drop)]
 pub(crate) struct Messages {
-    under_way: Vec<Option<Question>>,
+    under_way: Vec<Option<Sent>>,
 }
 
 impl Messages {
@@ -28,12 +36,12 @@ impl Messages {
     }
 
     /// The question at the place, if there is one.
-    pub(crate) fn question_at(&self, place: u64) -> Option<Question> {
+    pub(crate) fn question_at(&self, place: u64) -> Option<Sent> {
         self.at(place).flatten()
     }
 
     /// The question whose delivery the event is, if it is one.
-    pub(crate) fn question_of(&self, event: &Event) -> Option<Question> {
+    pub(crate) fn question_of(&self, event: &Event) -> Option<Sent> {
         match event {
             Event::Deliver { place } => self.question_at(*place),
             _ => None,
@@ -41,12 +49,12 @@ impl Messages {
     }
 
     /// The message at the place.
-    fn at(&self, place: u64) -> Option<Option<Question>> {
+    fn at(&self, place: u64) -> Option<Option<Sent>> {
         self.under_way.get(place as usize).copied()
     }
 
     /// The message goes last, where there is room for it.
-    fn send(&mut self, message: Option<Question>) -> Result<(), AllocError> {
+    fn send(&mut self, message: Option<Sent>) -> Result<(), AllocError> {
         if self.under_way.len() < MOST_MESSAGES {
             self.under_way.push(message)?;
         }
@@ -80,9 +88,13 @@ impl Messages {
     /// Notes what this changes that comes of the event.
     pub(crate) fn note(&mut self, event: &Event, outcome: &Outcome) -> Result<(), AllocError> {
         match (event, outcome) {
-            (Event::Ask { device, page }, Outcome::Sent) => self.send(Some(Question {
+            (Event::Ask { device, page }, Outcome::Sent) => self.send(Some(Sent {
                 device: *device,
-                page: page.number(),
+                page: Some(page.number()),
+            })),
+            (Event::Step { device }, Outcome::Stepped(BlockStep::Asked)) => self.send(Some(Sent {
+                device: *device,
+                page: None,
             })),
             (Event::Forge { .. }, Outcome::Sent) => self.send(None),
             // the request to invalidate

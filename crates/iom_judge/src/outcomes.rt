@@ -5,8 +5,9 @@ use arrayvec::ArrayVec;
 use iom_base::{Cause, Rights};
 use iom_fabric::Translation;
 use iom_ledger::Refusal;
-use iom_machine::{CommandName, Event, FaultRecord, Fetched, Outcome};
+use iom_machine::{BlockStep, CommandName, Event, FaultRecord, Fetched, Outcome};
 use iom_script::LineBuffer;
+use iom_virtqueue::ChainFault;
 
 static REFUSALS: [Refusal; 23] = [
     Refusal::NoSuchDevice,
@@ -180,6 +181,52 @@ fn none_of(event: &Event) -> Outcome {
     }
 }
 
+/// What `waiting` says of the event: that a step's access isn't made yet, or that the IOMMU waits with a command.
+fn waiting_of(event: &Event) -> Outcome {
+    match event {
+        Event::Step { .. } => Outcome::Stepped(BlockStep::Waiting),
+        _ => Outcome::Fetched(Fetched::Waiting),
+    }
+}
+
+/// The fault in a chain of descriptors that the word names.
+fn chain_of(text: &str) -> Option<ChainFault> {
+    match text {
+        "Loop" => Some(ChainFault::Loop),
+        "BadIndex" => Some(ChainFault::BadIndex),
+        "Order" => Some(ChainFault::Order),
+        "Indirect" => Some(ChainFault::Indirect),
+        "TooLong" => Some(ChainFault::TooLong),
+        "Short" => Some(ChainFault::Short),
+        _ => None,
+    }
+}
+
+/// The request that `HEAD LEN` says is done.
+fn finished_of(text: &str) -> Option<BlockStep> {
+    let (head, len) = text.split_once(' ')?;
+    Some(BlockStep::Finished {
+        head: head.parse().ok()?,
+        len: len.parse().ok()?,
+    })
+}
+
+/// An outcome of an event of a block device that the word and the rest may tell.
+fn outcome_of_step(word: &str, rest: &str) -> Option<Outcome> {
+    match word {
+        "idle" => Some(Outcome::Stepped(BlockStep::Idle)),
+        "asked" => Some(Outcome::Stepped(BlockStep::Asked)),
+        "chain" => {
+            let fault = chain_of(rest)?;
+            Some(Outcome::Stepped(BlockStep::Chain(fault)))
+        }
+        "finished" => finished_of(rest).map(Outcome::Stepped),
+        "down" => Some(Outcome::Stepped(BlockStep::Down)),
+        "status" => rest.parse().ok().map(Outcome::Status),
+        _ => None,
+    }
+}
+
 /// An outcome of a message, or of an access through a cache, that the word and the rest may tell.
 fn outcome_of_message(word: &str, rest: &str) -> Option<Outcome> {
     match word {
@@ -210,7 +257,7 @@ fn outcome_of(event: &Event, line: &str) -> Option<Outcome> {
         "record" => record_of(rest).map(Outcome::Record),
         "no" => nothing_of(rest),
         "did" => command_of(rest).map(|name| Outcome::Fetched(Fetched::Did(name))),
-        "waiting" => Some(Outcome::Fetched(Fetched::Waiting)),
+        "waiting" => Some(waiting_of(event)),
         "empty" => Some(Outcome::Fetched(Fetched::Empty)),
         "stopped" => Some(Outcome::Fetched(Fetched::Stopped)),
         "timed-out" => Some(Outcome::TimedOut),
@@ -223,7 +270,7 @@ fn outcome_of(event: &Event, line: &str) -> Option<Outcome> {
         "none" => Some(none_of(event)),
         "bytes" => bytes_of(rest).map(Outcome::Bytes),
         "free" => answer_of(rest).map(Outcome::Free),
-        _ => outcome_of_message(word, rest),
+        _ => outcome_of_message(word, rest).or(outcome_of_step(word, rest)),
     }
 }
 

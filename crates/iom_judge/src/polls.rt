@@ -107,7 +107,8 @@ fn poll_confirmed(alloc: Global, known: &mut Known, first: u32, last: u32) -> bo
 
 /// A poll.
 pub(crate) fn poll(alloc: Global, known: &mut Known, outcome: &Outcome) -> bool
-    ensures { IsTrue result → (past : Past) → IsTrueOf known.old past → IsExplained known.old known.new events.Poll outcome.now past }
+    ensures { IsTrue result → (past : Past) → IsTrueOf known.old past
+        → IsExplained known.old known.new events.Poll outcome.now past }
 {
     match outcome {
         Outcome::Confirmed { first, last, .. } => poll_confirmed(alloc, known, *first, *last),

@@ -136,7 +136,8 @@ pub(crate) fn peek(known: &mut Known, address: u64, len: u64, outcome: &Outcome)
 
 /// The frame is free, where it may be.
 fn be_free(known: &mut Known, frame: u64) -> bool
-    ensures { IsTrue result → (past : Past) → IsTrueOf known.old past → IsExplained known.old known.new (events.Free frame) (outcomes.Free true) past }
+    ensures { IsTrue result → (past : Past) → IsTrueOf known.old past
+        → IsExplained known.old known.new (events.Free frame) (outcomes.Free true) past }
 {
     let Some(number) = number_of(frame) else {
         return false;
@@ -160,7 +161,8 @@ fn be_free(known: &mut Known, frame: u64) -> bool
 
 /// The frame isn't free, where it need not be: a device reaches it, or it is somebody's.
 fn be_taken(known: &mut Known, frame: u64) -> bool
-    ensures { IsTrue result → (past : Past) → IsTrueOf known.old past → IsExplained known.old known.new (events.Free frame) (outcomes.Free false) past }
+    ensures { IsTrue result → (past : Past) → IsTrueOf known.old past
+        → IsExplained known.old known.new (events.Free frame) (outcomes.Free false) past }
 {
     let Some(number) = number_of(frame) else {
         return false;
@@ -187,7 +189,8 @@ fn be_taken(known: &mut Known, frame: u64) -> bool
 
 /// The question whether the frame is free.
 pub(crate) fn free(known: &mut Known, frame: u64, outcome: &Outcome) -> bool
-    ensures { IsTrue result → (past : Past) → IsTrueOf known.old past → IsExplained known.old known.new (events.Free frame) outcome.now past }
+    ensures { IsTrue result → (past : Past) → IsTrueOf known.old past
+        → IsExplained known.old known.new (events.Free frame) outcome.now past }
 {
     match outcome {
         Outcome::Refused(why) => refuses(frame_refusal(known, frame), false, *why),

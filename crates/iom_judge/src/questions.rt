@@ -121,7 +121,8 @@ fn may_each(known: &Known, id: DeviceId, frame: u32, rights: Rights) -> bool
 
 /// Whether the frame lingers somewhere for each kind of access that the rights allow.
 fn lingers_each(known: &Known, id: DeviceId, frame: u32, rights: Rights) -> bool
-    ensures { IsTrue result → (past : Past) → IsTrueOf known.now past → IsForEachKind rights (LingersSomewhere past.history id frame) }
+    ensures { IsTrue result → (past : Past) → IsTrueOf known.now past
+        → IsForEachKind rights (LingersSomewhere past.history id frame) }
 {
     if !rights.allows(AccessKind::Read) {
         return false;

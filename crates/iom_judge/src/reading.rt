@@ -1,6 +1,10 @@
 // The lines of a reader, one at a time.
-ghost use Rattle.std.specs.Prelude.{◌≤◌, length, vec_len};
+ghost use Rattle.std.specs.Prelude.{◌≡◌, ◌-◌, ◌≤◌, ◌<◌, ◌++◌, ◌∷◌, [], ℕ, List, Option, None, drop, length, slice_range, take, IfOk, MatchOption, ⊤};
+ghost use Rattle.std.specs.Io.{ReadsAtMost};
+ghost use Rattle.std.specs.Io.KnownBytes.{IsAtEnd, ReadConsumes};
+ghost use Rattle.iom_judge.specs.Certified.{Holds, HasTaken, TakesNext};
 
+use crate::trace::NextLine;
 use memchr::memchr;
 use std::alloc::{AllocError, Global};
 use std::io::{self, ErrorKind, Read};
@@ -11,29 +15,20 @@ pub(crate) const LONGEST_LINE: usize = 65536;
 /// Room for such a line, and for what is read behind it.
 const BUFFER_SIZE: usize = 2 * LONGEST_LINE;
 
-/// What the next line is.
-#[derive(Clone, Copy)]
-pub(crate) enum NextLine {
-    /// The bytes of the buffer from the first place to the second, which doesn't count.
-    Line(usize, usize),
-    /// It is too long, or the last one has no line feed.
-    Broken,
-    /// There is no other.
-    End,
-}
-
-/// The lines of a reader.
+/// What was read of a reader, and isn't taken yet.
 #[derive(Drop)]
-pub(crate) struct Lines<'a, R> {
-    reader: &'a mut R,
+pub(crate) struct Lines {
     buffer: Vec<u8>,
-    /// Where the bytes begin that aren't read yet, and where they end.
+    /// Where the bytes begin that aren't taken yet, and where they end.
     start: usize,
     end: usize,
 }
 
 /// One read. A read that is interrupted is tried again, and no other.
-fn read_once<R: Read>(reader: &mut R, buffer: &mut [u8]) -> io::Result<usize> {
+fn read_once<R: Read>(reader: &mut R, buffer: &mut [u8]) -> io::Result<usize>
+    ensures bound { ReadsAtMost result buffer.new }
+    ensures bytes { ReadConsumes (R.remaining reader.old) (R.remaining reader.new) result buffer.new }
+{
     for _ in 0..u64::MAX {
         match reader.read(buffer) {
             Ok(count) => return Ok(count),
@@ -47,10 +42,22 @@ fn read_once<R: Read>(reader: &mut R, buffer: &mut [u8]) -> io::Result<usize> {
     Err(io::Error::from(ErrorKind::Other))
 }
 
-impl<'a, R: Read> Lines<'a, R> {
-    pub(crate) fn new(alloc: Global, reader: &'a mut R) -> Result<Lines<'a, R>, AllocError> {
+/// One read, into the buffer from the place on.
+fn read_behind<R: Read>(reader: &mut R, buffer: &mut [u8], end: usize) -> io::Result<usize>
+    requires { end ≤ length buffer.old }
+    ensures bound { ReadsAtMost result (drop end buffer.new) }
+    ensures bytes { ReadConsumes (R.remaining reader.old) (R.remaining reader.new) result (drop end buffer.new) }
+    ensures front { take end buffer.new ≡ take end buffer.old }
+    ensures len { length buffer.new ≡ length buffer.old }
+{
+    read_once(reader, &mut buffer[end..])
+}
+
+impl Lines {
+    pub(crate) fn new(alloc: Global) -> Result<Lines, AllocError>
+        ensures { IfOk result (λ lines. Holds lines.buffer.items lines.start lines.end []) }
+    {
         Ok(Lines {
-            reader,
             buffer: vec![in alloc; 0u8; BUFFER_SIZE]?,
             start: 0,
             end: 0,
@@ -58,12 +65,19 @@ impl<'a, R: Read> Lines<'a, R> {
     }
 
     /// The bytes of the buffer between these places.
-    pub(crate) fn between(&self, start: usize, end: usize) -> &[u8] {
+    pub(crate) fn between(&self, start: usize, end: usize) -> &[u8]
+        ensures { start ≤ end → end ≤ length self.now.buffer.items → result.now ≡ slice_range self.now.buffer.items start end }
+    {
         self.buffer.get(start..end).unwrap_or(&[])
     }
 
     /// Takes the line that ends in the buffer, if one does.
-    fn take_line(&mut self) -> Option<NextLine> {
+    fn take_line(&mut self) -> Option<NextLine>
+        ensures { (lines : List (List ℕ)) (first now : Option (List ℕ))
+            → HasTaken lines self.old.buffer.items self.old.start self.old.end first now
+            → MatchOption result (HasTaken lines self.new.buffer.items self.new.start self.new.end first now)
+            (TakesNext lines self.new.buffer.items self.new.start self.new.end first now) }
+    {
         let rest = self.buffer.get(self.start..self.end)?;
         let length = memchr(b'\n', rest)?;
         let start = self.start;
@@ -75,8 +89,13 @@ impl<'a, R: Read> Lines<'a, R> {
         Some(NextLine::Line(start, end))
     }
 
-    /// Moves what isn't read yet to the front.
-    fn move_to_front(&mut self) {
+    /// Moves what isn't taken yet to the front.
+    fn move_to_front(&mut self)
+        ensures holds { (waiting : List ℕ) → Holds self.old.buffer.items self.old.start self.old.end waiting
+            → Holds self.new.buffer.items self.new.start self.new.end waiting }
+        ensures start { self.new.start ≡ 0 }
+        ensures end { self.new.end ≡ self.old.end - self.old.start }
+    {
         if self.start < self.end && self.end <= self.buffer.len() {
             self.buffer.copy_within(self.start..self.end, 0);
         }
@@ -84,8 +103,28 @@ impl<'a, R: Read> Lines<'a, R> {
         self.start = 0;
     }
 
+    /// Reads once, behind what isn't taken yet, and gives how many bytes came: none at the end alone.
+    fn read_more<R: Read>(&mut self, reader: &mut R) -> io::Result<usize>
+        ensures { (lines : List (List ℕ)) (first : Option (List ℕ))
+            → HasTaken lines self.old.buffer.items self.old.start self.old.end first (R.remaining reader.old)
+            → self.old.start ≡ 0 → self.old.end < 65536
+            → IfOk result (λ count. HasTaken lines self.new.buffer.items self.new.start self.new.end first (R.remaining reader.new)
+            × (count ≡ 0 → IsAtEnd (R.remaining reader.new))) }
+    {
+        if self.end > self.buffer.len() {
+            return Err(io::Error::from(ErrorKind::Other));
+        }
+        let count = read_behind(reader, self.buffer.as_mut_slice(), self.end)?;
+        self.end = self.end.saturating_add(count);
+        Ok(count)
+    }
+
     /// The next line.
-    pub(crate) fn next_line(&mut self) -> io::Result<NextLine> {
+    pub(crate) fn next_line<R: Read>(&mut self, reader: &mut R) -> io::Result<NextLine>
+        ensures { (lines : List (List ℕ)) (first : Option (List ℕ))
+            → HasTaken lines self.old.buffer.items self.old.start self.old.end first (R.remaining reader.old)
+            → IfOk result (TakesNext lines self.new.buffer.items self.new.start self.new.end first (R.remaining reader.new)) }
+    {
         for _ in 0..u64::MAX {
             if let Some(line) = self.take_line() {
                 return Ok(line);
@@ -94,20 +133,14 @@ impl<'a, R: Read> Lines<'a, R> {
                 return Ok(NextLine::Broken);
             }
             self.move_to_front();
-            if self.end > self.buffer.len() {
-                return Ok(NextLine::Broken);
-            }
-            let (_read, room) = self.buffer.split_at_mut(self.end);
-            let count = read_once(self.reader, room)?;
-            if count == 0 {
+            if self.read_more(reader)? == 0 {
                 return Ok(if self.end > 0 {
                     NextLine::Broken
                 } else {
                     NextLine::End
                 });
             }
-            self.end = self.end.saturating_add(count);
         }
-        Ok(NextLine::End)
+        Err(io::Error::from(ErrorKind::Other))
     }
 }

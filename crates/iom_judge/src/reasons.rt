@@ -11,10 +11,11 @@ ghost use Rattle.iom_machine.specs.Refusals.{is_detached, is_leaving, is_quarant
 ghost use Rattle.iom_judge.specs.Allowed.{Past, IsTrueOf, state_of};
 
 use crate::devices::{attachment_in, device_with};
+use crate::disks::is_missing;
 use crate::known::Known;
 use iom_base::{DeviceId, MAX_DEVICES, PAGE_LIMIT};
 use iom_ledger::{MAX_PENDING, Refusal};
-use iom_machine::Attachment;
+use iom_machine::{Attachment, NewDevice};
 
 /// Whether the device is plugged in.
 fn plugged(known: &Known, id: DeviceId) -> bool
@@ -56,7 +57,8 @@ fn attached(attachment: Attachment) -> bool
 
 /// Whether the device holds something at the page.
 fn held(known: &Known, id: DeviceId, page: u64) -> bool
-    ensures { (past : Past) (frames : List Frame) → IsTrueOf known.now past → result ≡ is_held (state_of known.now past.history frames) id page }
+    ensures { (past : Past) (frames : List Frame) → IsTrueOf known.now past
+        → result ≡ is_held (state_of known.now past.history frames) id page }
 {
     known.ledger.holds(id, page).is_some()
 }
@@ -105,7 +107,8 @@ fn either(first: bool, second: bool) -> bool
 
 /// Whether the device holds something, or something lingers for it.
 fn still_granted(known: &Known, id: DeviceId) -> bool
-    ensures { (past : Past) (frames : List Frame) → IsTrueOf known.now past → result ≡ has_grants (state_of known.now past.history frames) id }
+    ensures { (past : Past) (frames : List Frame) → IsTrueOf known.now past
+        → result ≡ has_grants (state_of known.now past.history frames) id }
 {
     let held = known.ledger.holds_anything(id);
     let lingering = known.ledger.lingers_anything(id);
@@ -122,13 +125,15 @@ fn may_still_reach(known: &Known, attachment: Attachment) -> bool
     }
 }
 
-pub(crate) fn plug_refusal(known: &Known, id: DeviceId) -> Option<Refusal>
-    ensures { result ≡ first_that_applies (plug_reasons (bare known.now) id) }
+pub(crate) fn plug_refusal(known: &Known, id: DeviceId, what: NewDevice) -> Option<Refusal>
+    ensures { result ≡ first_that_applies (plug_reasons (bare known.now) id what) }
 {
     if plugged(known, id) {
         Some(Refusal::AlreadyPlugged)
     } else if known.devices.as_slice().len() >= MAX_DEVICES {
         Some(Refusal::TooManyDevices)
+    } else if is_missing(&known.disks, what.disk()) {
+        Some(Refusal::BadMedium)
     } else {
         None
     }
@@ -198,7 +203,8 @@ pub(crate) fn early_grant_refusal(known: &Known, id: DeviceId, frame: u64) -> Op
 /// Whether something is held at the page, or lingers there.
 fn busy(known: &Known, id: DeviceId, page: u64) -> bool
     ensures { (past : Past) (frames : List Frame) → IsTrueOf known.now past
-        → result ≡ (is_held (state_of known.now past.history frames) id page || is_lingering (state_of known.now past.history frames) id page) }
+        → result ≡ (is_held (state_of known.now past.history frames) id page
+        || is_lingering (state_of known.now past.history frames) id page) }
 {
     !known.ledger.is_vacant(id, page)
 }
@@ -218,7 +224,9 @@ fn late_grant_refusal_by(page: u64, is_busy: bool) -> Option<Refusal>
 /// Why one is refused afterwards, where the frame is nobody's.
 pub(crate) fn late_grant_refusal(known: &Known, id: DeviceId, page: u64) -> Option<Refusal>
     ensures { (past : Past) (frames : List Frame) → IsTrueOf known.now past
-        → result ≡ first_that_applies (late_grant_reasons_by page (is_held (state_of known.now past.history frames) id page || is_lingering (state_of known.now past.history frames) id page)) }
+        → result ≡ first_that_applies (late_grant_reasons_by page
+        (is_held (state_of known.now past.history frames) id page
+        || is_lingering (state_of known.now past.history frames) id page)) }
 {
     let is_busy = busy(known, id, page);
     late_grant_refusal_by(page, is_busy)
@@ -226,7 +234,8 @@ pub(crate) fn late_grant_refusal(known: &Known, id: DeviceId, page: u64) -> Opti
 
 /// Whether no reason applies to a grant of a frame that is nobody's.
 pub(crate) fn may_grant(known: &Known, id: DeviceId, page: u64, frame: u64) -> bool
-    ensures { IsTrue result → (past : Past) (frames : List Frame) → IsTrueOf known.now past → length frames ≡ length known.now.frames
+    ensures { IsTrue result → (past : Past) (frames : List Frame) → IsTrueOf known.now past
+        → length frames ≡ length known.now.frames
         → is_reserved frames frame ≡ false → NoneApplies (grant_reasons (state_of known.now past.history frames) id page frame) }
 {
     if early_grant_refusal(known, id, frame).is_some() {

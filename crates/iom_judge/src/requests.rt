@@ -123,7 +123,8 @@ pub(crate) fn accepts_cut_off(
     access: &Access,
     frame: u32,
 ) -> bool
-    ensures { IsTrue result → (past : Past) → IsTrueOf known.now past → MayAcceptCutOff ticket mode past.history id access.now frame }
+    ensures { IsTrue result → (past : Past) → IsTrueOf known.now past
+        → MayAcceptCutOff ticket mode past.history id access.now frame }
 {
     if known.is_confirmed(ticket) {
         return false;
@@ -164,7 +165,8 @@ fn faults_in_one_stage(
     cause: Cause,
     fault: Cause,
 ) -> bool
-    ensures { IsTrue result → (past : Past) → IsTrueOf known.now past → HoldsNoneFor past.history id access.now × (cause ≡ fault) }
+    ensures { IsTrue result → (past : Past) → IsTrueOf known.now past
+        → HoldsNoneFor past.history id access.now × (cause ≡ fault) }
 {
     if !is_same_cause(cause, fault) {
         return false;

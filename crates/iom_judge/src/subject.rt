@@ -1,6 +1,6 @@
 use crate::way::Way;
 use iom_base::{AccessKind, DeviceId, PAGE_SIZE};
-use iom_machine::Event;
+use iom_machine::{Event, NewDevice};
 
 /// What a line is about, for the words of a reason.
 #[derive(Clone, Copy)]
@@ -16,7 +16,10 @@ pub(crate) enum Subject {
     Detach(DeviceId),
     Quarantine(DeviceId),
     Revive(DeviceId),
-    Plug(DeviceId),
+    Plug {
+        device: DeviceId,
+        new: NewDevice,
+    },
     Grant {
         device: DeviceId,
         page: u64,
@@ -34,6 +37,8 @@ pub(crate) enum Subject {
         len: u64,
         kind: AccessKind,
     },
+    /// A step of a block device.
+    Step(DeviceId),
     Commit(DeviceId),
     Poll,
     /// The message at the place.
@@ -70,7 +75,10 @@ impl Subject {
     /// What the event is about.
     pub(crate) fn of(event: &Event) -> Subject {
         match event {
-            Event::Plug { device, .. } => Subject::Plug(*device),
+            Event::Plug { device, new } => Subject::Plug {
+                device: *device,
+                new: *new,
+            },
             Event::Attach { device, ats, .. } => Subject::Attach {
                 device: *device,
                 ats: *ats,
@@ -137,9 +145,13 @@ impl Subject {
     fn of_other(event: &Event) -> Subject {
         match event {
             Event::Commit { device } => Subject::Commit(*device),
-            Event::Ask { device, .. } | Event::Forge { device, .. } | Event::Reset { device } => {
-                Subject::Device(*device)
-            }
+            Event::Step { device } => Subject::Step(*device),
+            Event::Ask { device, .. }
+            | Event::Forge { device, .. }
+            | Event::Reset { device }
+            | Event::Medium { device, .. }
+            | Event::Queue { device, .. }
+            | Event::Status { device } => { Subject::Device(*device) }
             Event::Poll => Subject::Poll,
             Event::Deliver { place } | Event::Drop { place } | Event::Repeat { place } => {
                 Subject::Message(*place)
@@ -160,6 +172,14 @@ impl Subject {
             | Subject::Commit(_)
             | Subject::Frame(_)
             | Subject::Free(_) => true,
+            _ => false,
+        }
+    }
+
+    /// Whether it depends on what they hold.
+    pub(crate) fn is_about_bytes(self) -> bool {
+        match self {
+            Subject::Commit(_) | Subject::Frame(_) => true,
             _ => false,
         }
     }

@@ -21,6 +21,17 @@ pub(crate) enum TraceLine {
     Bad,
 }
 
+/// What the next line of a reader is.
+#[derive(Clone, Copy)]
+pub(crate) enum NextLine {
+    /// The bytes of the buffer from the first place to the second, which doesn't count.
+    Line(usize, usize),
+    /// It is too long, or the last one has no line feed.
+    Broken,
+    /// There is no other.
+    End,
+}
+
 /// What is shown behind an answer.
 #[derive(Clone, Copy)]
 pub(crate) struct Behind {

@@ -127,7 +127,7 @@ pub(crate) struct Versions {
 }
 
 impl Versions {
-    ghost use Rattle.std.specs.Prelude.{◌≡◌, [], true};
+    ghost use Rattle.std.specs.Prelude.{◌≡◌, ◌↔◌, [], IsTrue};
 
     pub(crate) fn new(alloc: Global) -> Versions {
         Versions {
@@ -137,7 +137,7 @@ impl Versions {
 
     /// Whether memory is known.
     pub(crate) fn is_known(&self) -> bool
-        ensures { self.now.all.items ≡ [] → result ≡ true }
+        ensures { IsTrue result ↔ (self.now.all.items ≡ []) }
     {
         self.all.is_empty()
     }

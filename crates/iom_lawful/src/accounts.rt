@@ -10,7 +10,7 @@ use crate::driver::Driver;
 use crate::reaches::{Reach, frames_of, reaches_after, reaches_of};
 use crate::requests::asked_by;
 use crate::states::copy_state;
-use iom_base::{AccessKind, DeviceId, Mode, PAGE_SIZE};
+use iom_base::{Access, AccessKind, DeviceId, Mode, PAGE_SIZE};
 use iom_machine::{Attachment, Choice, Device, Event, Outcome, State, judge};
 use std::alloc::{AllocError, Global};
 
@@ -132,8 +132,9 @@ fn possible_frames(
     reaches: &[Reach],
     event: &Event,
     outcome: &Outcome,
+    wanted: &Access,
 ) -> Result<Vec<u32>, AllocError> {
-    if let (Some(asked), Outcome::Accepted(_)) = (asked_by(event), outcome) {
+    if let (Some(asked), Outcome::Accepted(_)) = (asked_by(event, wanted), outcome) {
         if has_both_stages(state, asked.device) {
             return frames_of(alloc, reaches, asked.device, asked.kind);
         }
@@ -174,7 +175,7 @@ impl Account {
         let Some(frame) = told.possible.first().copied() else {
             return Ok(());
         };
-        let Some(asked) = asked_by(told.event) else {
+        let Some(asked) = asked_by(told.event, &told.choice.access) else {
             return Ok(());
         };
         if let Some(known) = self.frames.get_mut(told.number) {
@@ -381,9 +382,11 @@ pub(crate) fn make_guess(
             break;
         }
         let reaches = reaches_of(alloc, account.state.history.as_slice())?;
-        let possible = possible_frames(alloc, &account.state, &reaches, event, outcome)?;
+        let wanted = driver.wanted_by(alloc, event, outcome)?;
+        let state = &account.state;
+        let possible = possible_frames(alloc, state, &reaches, event, outcome, &wanted)?;
         let guessed = possible.first().copied();
-        let choice = driver.choose(alloc, &account.state, &reaches, event, outcome, guessed)?;
+        let choice = driver.choose(alloc, state, &reaches, event, outcome, wanted, guessed)?;
         let told = Told {
             number,
             event,

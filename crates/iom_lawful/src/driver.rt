@@ -6,10 +6,11 @@ ghost use Rattle.iom_lawful.specs.declared.reaches.Reach.{Reach};
 ghost use Rattle.iom_lawful.specs.Tables.{is_reached_by, MayBecomeTable, NoneMayBecomeTable, IsHighestForTable, AreHighestForTables, named_by, WantsFrames, TakesHighest};
 ghost use Rattle.iom_lawful.specs.Tables.{is_among, MayBecomeRoot, AreFourForRoot, NoFourForRoot, IsHighestForRoot, TakesRoot, takes_root};
 
+use crate::blocks::Blocks;
 use crate::messages::Messages;
 use crate::reaches::{Reach, frame_at};
 use crate::requests::asked_by;
-use iom_base::{DeviceId, Mode, PAGE_SIZE, Sequence};
+use iom_base::{Access, DeviceId, Mode, PAGE_SIZE, Sequence};
 use iom_machine::{Choice, Event, Outcome, State};
 use std::alloc::{AllocError, Global};
 
@@ -197,20 +198,21 @@ struct Needs {
     named: Option<u64>,
 }
 
-/// The frame of the page that a request names, if the event is one.
-fn frame_of_page(reaches: &[Reach], event: &Event) -> Option<u32> {
-    let access = asked_by(event)?;
+/// The frame of the page of the access that the event asks for, if it asks for one.
+fn frame_of_page(reaches: &[Reach], event: &Event, worked_out: &Access) -> Option<u32> {
+    let access = asked_by(event, worked_out)?;
     frame_at(reaches, access.device, access.address / PAGE_SIZE)
 }
 
 /// What a run shows of what the machine doesn't know: which tables each device has, which pages the device directory
-/// has, which devices are leaving, and which messages are under way.
+/// has, which devices are leaving, which messages are under way, and what the block devices do.
 #[derive(Drop)]
 pub(crate) struct Driver {
     tables: Vec<Table>,
     pages: Vec<DirectoryPage>,
     leaving: Vec<Leaving>,
     messages: Messages,
+    blocks: Blocks,
 }
 
 impl Driver {
@@ -220,6 +222,7 @@ impl Driver {
             pages: Vec::new(alloc),
             leaving: Vec::new(alloc),
             messages: Messages::new(alloc),
+            blocks: Blocks::new(alloc),
         }
     }
 
@@ -313,8 +316,26 @@ impl Driver {
             .retain(|leaving| leaving.ticket < first || last < leaving.ticket);
     }
 
-    /// Notes which devices are leaving, which have left, and which messages are under way.
-    fn note(&mut self, event: &Event, outcome: &Outcome) -> Result<(), AllocError> {
+    /// The access that the event asks for where this comes of it, if it is a step of a block device.
+    pub(crate) fn wanted_by(
+        &mut self,
+        alloc: Global,
+        event: &Event,
+        outcome: &Outcome,
+    ) -> Result<Access, AllocError> {
+        self.blocks.wanted_by(alloc, event, outcome)
+    }
+
+    /// Notes which devices are leaving, which have left, which messages are under way, and what becomes of block
+    /// devices.
+    fn note(
+        &mut self,
+        alloc: Global,
+        state: &State,
+        event: &Event,
+        outcome: &Outcome,
+        wanted: &Access,
+    ) -> Result<(), AllocError> {
         match (event, outcome) {
             (Event::Detach { device }, Outcome::Ticket(ticket)) => {
                 self.leaving.push(Leaving {
@@ -325,12 +346,13 @@ impl Driver {
             (Event::Poll, Outcome::Confirmed { first, last, .. }) => self.forget(*first, *last),
             _ => {}
         }
-        self.messages.note(event, outcome)
+        self.blocks.note(alloc, state, event, outcome)?;
+        self.messages.note(event, outcome, wanted)
     }
 
     /// What the driver and the IOMMU choose where this comes of the event. The pages of the device directory come
-    /// before the tables. A request is on the frame that was guessed, or, where none was, on that of its page; a
-    /// delivery is that of the question at its place.
+    /// before the tables. A request is on the frame that was guessed, or, where none was, on that of its page; that of
+    /// a block device's step is the one that it wanted; a delivery is that of the question at its place.
     pub(crate) fn choose(
         &mut self,
         alloc: Global,
@@ -338,6 +360,7 @@ impl Driver {
         reaches: &[Reach],
         event: &Event,
         outcome: &Outcome,
+        wanted: Access,
         guessed: Option<u32>,
     ) -> Result<Choice, AllocError>
         requires { length state.now.frames ≤ 2 ^ 32 }
@@ -358,14 +381,15 @@ impl Driver {
             tables
         };
         let asked = self.messages.delivered_by(event);
-        self.note(event, outcome)?;
-        let frame = guessed.or(frame_of_page(reaches, event));
+        self.note(alloc, state, event, outcome, &wanted)?;
+        let frame = guessed.or(frame_of_page(reaches, event, &wanted));
         Ok(Choice {
             directory,
             taken,
             frame: frame.unwrap_or(0),
             device: asked.map_or(0, |question| question.device),
             page: asked.map_or(0, |question| question.page),
+            access: wanted,
         })
     }
 }

@@ -1,7 +1,7 @@
 ghost use Rattle.std.specs.Prelude.{◌≡◌, ◌+◌, ◌<◌, ◌≤◌, ◌^◌, IfSome, IfOk, length};
 ghost use Rattle.iom_machine.specs.PowerOn.{opening};
 ghost use Rattle.iom_script.specs.Grammar.{IsWorldSize};
-ghost use Rattle.iom_lawful.specs.Outputs.{IsRunFrom, IsOutputOf};
+ghost use Rattle.iom_lawful.specs.Outputs.{four_disks, IsRunFrom, IsOutputOf};
 
 use crate::accounts::{Guess, make_guess};
 use crate::driver::Driver;
@@ -47,13 +47,16 @@ impl fmt::Display for Found {
     }
 }
 
+/// The numbers of the disks of the programs whose outputs are judged.
+const DISKS: [u64; 4] = [0, 1, 2, 3];
+
 /// The state at power-on of a world of this size.
 fn opening_of(alloc: Global, size: WorldSize) -> Result<State, AllocError>
     requires { IsWorldSize size }
-    ensures value { IfOk result (λ state. state ≡ opening size.frames size.levels) }
+    ensures value { IfOk result (λ state. state ≡ opening size.frames size.levels four_disks) }
     ensures frames { IfOk result (λ state. length state.frames ≤ 2 ^ 32) }
 {
-    power_on(alloc, size.frames as u32, size.levels as u8)
+    power_on(alloc, size.frames as u32, size.levels as u8, &DISKS)
 }
 
 /// What the judge finds where these outcomes come of the events, one after another. The first is that of this line.
@@ -79,7 +82,8 @@ fn judge_lines(
         };
         let reaches = reaches_of(alloc, reached.history.as_slice())?;
         let guessed = guess.frame(number);
-        let choice = driver.choose(alloc, &reached, &reaches, event, outcome, guessed)?;
+        let wanted = driver.wanted_by(alloc, event, outcome)?;
+        let choice = driver.choose(alloc, &reached, &reaches, event, outcome, wanted, guessed)?;
         match judge(alloc, reached, event, outcome, &choice)? {
             None => return Ok(Found::Unlawful { line }),
             Some(next) => reached = next,
@@ -124,7 +128,7 @@ fn judge_outcomes(
     outcomes: &[Outcome],
 ) -> Result<Found, AllocError>
     requires { IsWorldSize size }
-    ensures { IfOk result (λ found. found ≡ Found.Lawful → IsRunFrom (opening size.frames size.levels) events.now outcomes.now) }
+    ensures { IfOk result (λ found. found ≡ Found.Lawful → IsRunFrom (opening size.frames size.levels four_disks) events.now outcomes.now) }
 {
     let opening = opening_of(alloc, size)?;
     let mut driver = Driver::new(alloc);

@@ -7,6 +7,8 @@
 #![tactic(auto)]
 
 mod accounts;
+mod blocks;
+mod disk;
 mod driver;
 mod judging;
 mod messages;

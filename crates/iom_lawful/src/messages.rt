@@ -1,7 +1,7 @@
 // The messages under way, as far as the lines of a run show them (PCI Express Base Specification, chapter 10, "Address
 // Translation Services"): they stand in a list, one that is taken closes up, and one that is sent goes last.
-use iom_base::DeviceId;
-use iom_machine::{CommandName, Event, Fetched, Outcome};
+use iom_base::{Access, DeviceId, PAGE_SIZE};
+use iom_machine::{BlockStep, CommandName, Event, Fetched, Outcome};
 use std::alloc::{AllocError, Global};
 
 /// So many messages are under way at most; one more is lost.
@@ -72,13 +72,24 @@ impl Messages {
         }
     }
 
-    /// Notes what this changes that comes of the event.
-    pub(crate) fn note(&mut self, event: &Event, outcome: &Outcome) -> Result<(), AllocError> {
+    /// Notes what this changes that comes of the event. A step of a block device wanted this access.
+    pub(crate) fn note(
+        &mut self,
+        event: &Event,
+        outcome: &Outcome,
+        wanted: &Access,
+    ) -> Result<(), AllocError> {
         match (event, outcome) {
             (Event::Ask { device, page }, Outcome::Sent) => self.send(Some(Question {
                 device: *device,
                 page: page.number(),
             })),
+            (Event::Step { device }, Outcome::Stepped(BlockStep::Asked)) => {
+                self.send(Some(Question {
+                    device: *device,
+                    page: wanted.address / PAGE_SIZE,
+                }))
+            }
             (Event::Forge { .. }, Outcome::Sent) => self.send(None),
             // the request to invalidate
             (Event::Fetch, Outcome::Fetched(Fetched::Did(CommandName::AtsInval))) => {

@@ -5,8 +5,9 @@ use arrayvec::ArrayVec;
 use iom_base::{Cause, Rights};
 use iom_fabric::Translation;
 use iom_ledger::Refusal;
-use iom_machine::{CommandName, Event, FaultRecord, Fetched, Outcome};
+use iom_machine::{BlockStep, CommandName, Event, FaultRecord, Fetched, Outcome};
 use iom_script::LineBuffer;
+use iom_virtqueue::ChainFault;
 use std::alloc::{AllocError, Global};
 
 static REFUSALS: [Refusal; 23] = [
@@ -200,6 +201,48 @@ fn outcome_of_message(word: &str, rest: &str) -> Option<Outcome> {
     }
 }
 
+/// What `waiting` says of the event: that a fetch found a fence that waits, or a block device waits.
+fn waiting_of(event: &Event) -> Outcome {
+    match event {
+        Event::Step { .. } => Outcome::Stepped(BlockStep::Waiting),
+        _ => Outcome::Fetched(Fetched::Waiting),
+    }
+}
+
+fn chain_fault_of(text: &str) -> Option<ChainFault> {
+    match text {
+        "Loop" => Some(ChainFault::Loop),
+        "BadIndex" => Some(ChainFault::BadIndex),
+        "Order" => Some(ChainFault::Order),
+        "Indirect" => Some(ChainFault::Indirect),
+        "TooLong" => Some(ChainFault::TooLong),
+        "Short" => Some(ChainFault::Short),
+        _ => None,
+    }
+}
+
+/// The request that `HEAD LEN` says is finished.
+fn finished_of(text: &str) -> Option<BlockStep> {
+    let (head, len) = text.split_once(' ')?;
+    Some(BlockStep::Finished {
+        head: head.parse().ok()?,
+        len: len.parse().ok()?,
+    })
+}
+
+/// A step of a block device that the word and the rest may tell.
+fn step_of(word: &str, rest: &str) -> Option<Outcome> {
+    let step = match word {
+        "idle" => BlockStep::Idle,
+        "asked" => BlockStep::Asked,
+        "chain" => BlockStep::Chain(chain_fault_of(rest)?),
+        "finished" => finished_of(rest)?,
+        "down" => BlockStep::Down,
+        _ => return None,
+    };
+    Some(Outcome::Stepped(step))
+}
+
 /// An outcome that the line may tell of the event. Whether it does is seen by printing it.
 fn outcome_of(event: &Event, line: &str) -> Option<Outcome> {
     let (word, rest) = line.split_once(' ').unwrap_or((line, ""));
@@ -211,7 +254,7 @@ fn outcome_of(event: &Event, line: &str) -> Option<Outcome> {
         "record" => record_of(rest).map(Outcome::Record),
         "no" => nothing_of(rest),
         "did" => command_of(rest).map(|name| Outcome::Fetched(Fetched::Did(name))),
-        "waiting" => Some(Outcome::Fetched(Fetched::Waiting)),
+        "waiting" => Some(waiting_of(event)),
         "empty" => Some(Outcome::Fetched(Fetched::Empty)),
         "stopped" => Some(Outcome::Fetched(Fetched::Stopped)),
         "timed-out" => Some(Outcome::TimedOut),
@@ -224,7 +267,8 @@ fn outcome_of(event: &Event, line: &str) -> Option<Outcome> {
         "none" => Some(none_of(event)),
         "bytes" => bytes_of(rest).map(Outcome::Bytes),
         "free" => answer_of(rest).map(Outcome::Free),
-        _ => outcome_of_message(word, rest),
+        "status" => rest.parse().ok().map(Outcome::Status),
+        _ => outcome_of_message(word, rest).or(step_of(word, rest)),
     }
 }
 

@@ -43,6 +43,7 @@ fn copy_devices(alloc: Global, devices: &[Device]) -> Result<Sequence<Device>, A
         copies.push(Device {
             id: device.id,
             kind: device.kind,
+            has_disk: device.has_disk,
             attachment: device.attachment,
             accepted: device.accepted,
             in_flight: copy_flights(alloc, device.in_flight.as_slice())?,
@@ -54,11 +55,13 @@ fn copy_devices(alloc: Global, devices: &[Device]) -> Result<Sequence<Device>, A
 /// A state that is the same.
 pub(crate) fn copy_state(alloc: Global, state: &State) -> Result<State, AllocError> {
     let history = Vec::from_slice(alloc, state.history.as_slice())?;
+    let disks = Vec::from_slice(alloc, state.disks.as_slice())?;
     Ok(State {
         levels: state.levels,
         frames: copy_frames(alloc, state.frames.as_slice())?,
         history: Sequence::from_vec(history),
         last_ticket: state.last_ticket,
         devices: copy_devices(alloc, state.devices.as_slice())?,
+        disks: Sequence::from_vec(disks),
     })
 }

@@ -41,7 +41,7 @@ pub(crate) fn are_found(
 }
 
 /// Each form of a line.
-static LINES: [&str; 44] = [
+static LINES: [&str; 56] = [
     "ok",
     "refused 12 TooManyPending",
     "ticket 4294967295",
@@ -86,10 +86,22 @@ static LINES: [&str; 44] = [
     "closed 18446744073709551615",
     "dropped",
     "repeated",
+    "idle",
+    "asked",
+    "chain Loop",
+    "chain BadIndex",
+    "chain Order",
+    "chain Indirect",
+    "chain TooLong",
+    "chain Short",
+    "finished 65535 513",
+    "down",
+    "status 0",
+    "status 255",
 ];
 
 /// Lines that tell no outcome.
-static NO_LINES: [&str; 47] = [
+static NO_LINES: [&str; 56] = [
     "",
     "Ok",
     "ok ",
@@ -137,6 +149,15 @@ static NO_LINES: [&str; 47] = [
     "invalidated",
     "closed",
     "closed 18446744073709551616",
+    "idle 1",
+    "chain",
+    "chain loop",
+    "chain Loops",
+    "finished 0",
+    "finished 65536 0",
+    "finished 0 4294967296",
+    "status",
+    "status 256",
 ];
 
 /// A script of one event, of which each line of an outcome is read, though most aren't lawful.

@@ -70,6 +70,20 @@ fn the_highest_frame_in_both_is_found(rt: HostRuntime) -> Result<(), Fail> {
     Ok(())
 }
 
+// Of the common frames those below the limit are counted, also in the middle of a word.
+#[test]
+fn the_frames_in_both_are_counted(rt: HostRuntime) -> Result<(), Fail> {
+    let all = full(rt.alloc())?;
+    let set = set_of(rt.alloc(), &[3, 63, 64, 130, 5000])?;
+    expect_eq(&rt, &set.count_in_both(&all, 6000), &5);
+    expect_eq(&rt, &set.count_in_both(&all, 131), &4);
+    expect_eq(&rt, &set.count_in_both(&all, 130), &3);
+    expect_eq(&rt, &set.count_in_both(&all, 64), &2);
+    expect_eq(&rt, &set.count_in_both(&all, 3), &0);
+    expect_eq(&rt, &all.count_in_both(&all, 100), &100);
+    Ok(())
+}
+
 /// The highest frame of both below 4,096, besides the named one, is this.
 fn is_highest(rt: &impl Abort, set: &FrameSet, all: &FrameSet, named: Option<u32>, highest: u32) {
     let found = set.highest_in_both(all, 4096, named);

@@ -32,6 +32,7 @@ enum Step {
     IsReserved(u32),
     HighestFree(u32, Option<u32>),
     HasFree(u32, Option<u32>),
+    CountFree,
     Take(Owner, Option<u32>),
     TakeFour(Owner),
     GiveBack(Owner),
@@ -46,6 +47,7 @@ enum Answer {
     Nothing,
     Is(bool),
     Frame(Option<u32>),
+    Count(u32),
     Word(Option<u64>),
 }
 
@@ -83,6 +85,11 @@ impl Bench {
         self.tables.has_free(&self.ledger, count, named)
     }
 
+    fn count_free(&self) -> u32 {
+        let _frames = self.memory.frames();
+        self.tables.count_free(&self.ledger)
+    }
+
     fn take(&mut self, owner: Owner, named: Option<u32>) -> Option<u32> {
         self.tables
             .take(&mut self.memory, &self.ledger, owner, named)
@@ -109,6 +116,7 @@ impl Bench {
             Step::IsReserved(frame) => Answer::Is(self.tables.is_reserved(frame)),
             Step::HighestFree(limit, named) => Answer::Frame(self.highest_free(limit, named)),
             Step::HasFree(count, named) => Answer::Is(self.has_free(count, named)),
+            Step::CountFree => Answer::Count(self.count_free()),
             Step::Take(owner, named) => Answer::Frame(self.take(owner, named)),
             Step::TakeFour(owner) => Answer::Frame(self.take_four(owner)),
             Step::GiveBack(owner) => {
@@ -133,12 +141,14 @@ impl Bench {
     }
 }
 
-const HIGHEST: [(Step, Answer); 17] = [
+const HIGHEST: [(Step, Answer); 19] = [
     (Step::IsReserved(59), Answer::Is(false)),
     (Step::IsReserved(60), Answer::Is(true)),
     (Step::IsReserved(63), Answer::Is(true)),
     (Step::IsReserved(64), Answer::Is(false)),
+    (Step::CountFree, Answer::Count(60)),
     (Step::Grant(59), Answer::Nothing),
+    (Step::CountFree, Answer::Count(59)),
     (Step::HighestFree(64, None), Answer::Frame(Some(58))),
     (Step::HighestFree(1, Some(0)), Answer::Frame(None)),
     (Step::Store(58, 7), Answer::Nothing),

@@ -8,26 +8,28 @@ use Rattle.std.proofs.lemmas.Option.{slice_get-get_or}
 use Rattle.iom_machine.specs.declared.event.Event.{Event}
 use Rattle.iom_machine.specs.declared.event.Event.TheVariants as events
 use Rattle.iom_machine.specs.declared.outcome.Outcome.{Outcome}
-use Rattle.iom_machine.specs.declared.outcome.Outcome.TheVariants.{Done, Refused, Ticket, Confirmed, NoneConfirmed, Record, NoRecord, Fetched, TimedOut, NoEffect, Accepted, Busy, BadSpan, Fault, Miss, Read, Wrote, NothingInFlight, Bytes, Free}
+use Rattle.iom_machine.specs.declared.outcome.Outcome.TheVariants.{Done, Refused, Ticket, Confirmed, NoneConfirmed, Record, NoRecord, Fetched, TimedOut, NoEffect, Accepted, Busy, BadSpan, Fault, Miss, Read, Wrote, NothingInFlight, Bytes, Free, Stepped}
 use Rattle.iom_base.specs.declared.access.Access.{Access}
 use Rattle.iom_base.specs.declared.access.AcceptedAccess.{AcceptedAccess}
 use Rattle.iom_machine.specs.declared.state.Device.{Device}
-use Rattle.iom_machine.specs.declared.state.DeviceKind.{DeviceKind}
+use Rattle.iom_machine.specs.declared.state.NewDevice.{NewDevice}
 use Rattle.iom_machine.specs.declared.state.State.{State}
 use Rattle.iom_machine.specs.Devices.{device_of, replaced_device}
 use Rattle.iom_base.specs.Accesses.{read_of, write_of}
-use Rattle.iom_machine.specs.Kinds.{sends_untranslated, sends_through_cache, is_any_kind}
+use Rattle.iom_machine.specs.Kinds.{is_block_device, sends_untranslated, sends_through_cache, is_any_kind}
+use Rattle.iom_machine.specs.BlockDevices.{Inserts, IsAnswered, TakesStep}
 use Rattle.iom_machine.specs.Requests.{MayAnswer, state_after, with_accepted}
 use Rattle.iom_machine.specs.ThroughCache.{at_frame, MayAnswerThroughCache, state_after_cached}
-use Rattle.iom_machine.specs.Machine.{Requests, RequestsThroughCache, Makes, Commits, Step, Run, plugged_device}
+use Rattle.iom_machine.specs.Machine.{Requests, RequestsThroughCache, InsertsDisk, Steps, Makes, Commits, Step, Run, plugged_device}
 use Rattle.iom_ledger.specs.Refusals.{first_that_applies}
-use Rattle.iom_machine.specs.Refusals.{plug_reasons}
-use Rattle.iom_machine.specs.Headline.{Asked, asked_untranslated, asked_through_cache, asked_by, access_sent, AreSent, accepted_by, accepted_in, made_by, made_in, AccessesInFlightWereAccepted}
+use Rattle.iom_machine.specs.Refusals.{has_cache, plug_reasons}
+use Rattle.iom_machine.specs.Headline.{Asked, asked_untranslated, asked_through_cache, asked_by, IsSentOf, AreSent, accepted_by, accepted_in, made_by, made_in, AccessesInFlightWereAccepted}
 use Rattle.iom_machine.specs.PowerOn.{opening}
 use Rattle.iom_ledger.specs.History.{History}
-use Rattle.iom_machine.specs.Leaving.{device_once_confirmed}
+use Rattle.iom_machine.specs.Leaving.{leaving_under, device_once_confirmed}
 use Rattle.iom_machine.specs.Tickets.{with_confirmed}
-use Rattle.iom_machine.proofs.InFlightLemmas.{act_cases, some_case, found_device, same-translated, same-asks, same-forges, same-delivers, same-drops, same-repeats, same-resets}
+use Rattle.iom_machine.proofs.InFlightLemmas.{act_cases, some_case, found_device, same-sets_queue, same-tells_status, same-translated, same-asks, same-forges, same-delivers, same-drops, same-repeats, same-resets}
+use Rattle.iom_virtqueue.specs.Layouts.{layout_of}
 use Rattle.iom_machine.proofs.LeavingLemmas.{found_once_confirmed}
 
 -- the accesses of a device in flight; none where there is no device
@@ -60,8 +62,8 @@ pub data DevicesChange (event : Event) (outcome : Outcome) (old new : State) : T
   stay : ((id : ℕ) → NothingFlows event outcome id) → new.devices ≡ old.devices → DevicesChange event outcome old new
   leave : ((id : ℕ) → NothingFlows event outcome id) → (history : History) → new.devices ≡ map (device_once_confirmed history) old.devices
       → DevicesChange event outcome old new
-  enters : (id : ℕ) (kind : DeviceKind) → device_of old id ≡ None → ((other : ℕ) → NothingFlows event outcome other)
-      → new.devices ≡ old.devices ++ plugged_device id kind ∷ [] → DevicesChange event outcome old new
+  enters : (id : ℕ) (what : NewDevice) → device_of old id ≡ None → ((other : ℕ) → NothingFlows event outcome other)
+      → new.devices ≡ old.devices ++ plugged_device id what ∷ [] → DevicesChange event outcome old new
   changes : (id : ℕ) (device now : Device) → device_of old id ≡ Some device → now.id ≡ device.id
       → Flows (accepted_by event outcome id) (made_by event outcome id) (Some device) (Some now)
       → ((other : ℕ) → (id == other) ≡ false → NothingFlows event outcome other)
@@ -111,14 +113,14 @@ found_besides (d ∷ devices) id now other own differ = by (d.id == id) refl (fo
     by false e rest = ap (λ found. cond (d.id == other) (Some d) found) rest
 
 -- what flows of each device in a step
-flows-enters : (devices : List Device) (id : ℕ) (kind : DeviceKind) (other : ℕ) → Flows [] 0 (find (λ d. d.id == other) devices) (find (λ d. d.id == other) (devices ++ plugged_device id kind ∷ []))
-flows-enters devices id kind other =
-    subst (λ found. Flows [] 0 (find (λ d. d.id == other) devices) found) (sym (find-append (λ (d : Device). d.id == other) devices (plugged_device id kind ∷ [])))
+flows-enters : (devices : List Device) (id : ℕ) (what : NewDevice) (other : ℕ) → Flows [] 0 (find (λ d. d.id == other) devices) (find (λ d. d.id == other) (devices ++ plugged_device id what ∷ []))
+flows-enters devices id what other =
+    subst (λ found. Flows [] 0 (find (λ d. d.id == other) devices) found) (sym (find-append (λ (d : Device). d.id == other) devices (plugged_device id what ∷ [])))
     (by (find (λ d. d.id == other) devices) (id == other))
   where
-    by : (found : Option Device) (b : Bool) → Flows [] 0 found (option_or found (cond b (Some (plugged_device id kind)) None))
+    by : (found : Option Device) (b : Bool) → Flows [] 0 found (option_or found (cond b (Some (plugged_device id what)) None))
     by (Some device) b = nothing (Some device)
-    by None true = same_flights None (Some (plugged_device id kind)) refl refl
+    by None true = same_flights None (Some (plugged_device id what)) refl refl
     by None false = nothing None
 
 flows-changes : (event : Event) (outcome : Outcome) (devices : List Device) (id : ℕ) (device now : Device) → find (λ d. d.id == id) devices ≡ Some device → now.id ≡ device.id
@@ -160,9 +162,9 @@ flows-change event outcome old new (DevicesChange.stay none same) id =
 flows-change event outcome old new (DevicesChange.leave none history same) id =
     subst (λ devices. Flows (accepted_by event outcome id) (made_by event outcome id) (device_of old id) (find (λ d. d.id == id) devices)) (sym same)
     (quiet event outcome id _ _ (none id) (flows-leave history old.devices id))
-flows-change event outcome old new (DevicesChange.enters entered kind absent none same) id =
+flows-change event outcome old new (DevicesChange.enters entered what absent none same) id =
     subst (λ devices. Flows (accepted_by event outcome id) (made_by event outcome id) (device_of old id) (find (λ d. d.id == id) devices)) (sym same)
-    (quiet event outcome id _ _ (none id) (flows-enters old.devices entered kind id))
+    (quiet event outcome id _ _ (none id) (flows-enters old.devices entered what id))
 flows-change event outcome old new (DevicesChange.changes changed device now at own flows others same) id =
     subst (λ devices. Flows (accepted_by event outcome id) (made_by event outcome id) (device_of old id) (find (λ d. d.id == id) devices)) (sym same)
     (flows-changes event outcome old.devices changed device now at own flows others id)
@@ -218,8 +220,8 @@ own_ids-leave history (device ∷ devices) own =
 own_ids-change : (event : Event) (outcome : Outcome) (old new : State) → DevicesChange event outcome old new → HaveOwnIds old.devices → HaveOwnIds new.devices
 own_ids-change event outcome old new (DevicesChange.stay none same) own = subst HaveOwnIds (sym same) own
 own_ids-change event outcome old new (DevicesChange.leave none history same) own = subst HaveOwnIds (sym same) (own_ids-leave history old.devices own)
-own_ids-change event outcome old new (DevicesChange.enters id kind absent none same) own =
-    subst HaveOwnIds (sym same) (own_ids-enters old.devices (plugged_device id kind) own absent)
+own_ids-change event outcome old new (DevicesChange.enters id what absent none same) own =
+    subst HaveOwnIds (sym same) (own_ids-enters old.devices (plugged_device id what) own absent)
 own_ids-change event outcome old new (DevicesChange.changes id device now at is flows others same) own =
     subst HaveOwnIds (sym same) (own_ids-replaced old.devices device.id now is own)
 
@@ -235,7 +237,7 @@ own_ids-found (d ∷ devices) (suc k) device own at = by (d.id == device.id) ref
     by true e rest = let none : find (λ x. x.id == device.id) devices ≡ None = subst (λ n. find (λ x. x.id == n) devices ≡ None) (eqb-true d.id device.id e) own.0 in cc
 
 -- one more access of a device is in flight
-AreSent-push : (waiting : List Asked) (flights : List AcceptedAccess) (asked : Asked) (flight : AcceptedAccess) → AreSent waiting flights → flight.access ≡ access_sent flight.frame asked
+AreSent-push : (waiting : List Asked) (flights : List AcceptedAccess) (asked : Asked) (flight : AcceptedAccess) → AreSent waiting flights → IsSentOf asked flight
     → AreSent (waiting ++ asked ∷ []) (flights ++ flight ∷ [])
 AreSent-push [] [] asked flight sent its = (its, tt)
 AreSent-push (first ∷ waiting) (own ∷ flights) asked flight sent its = (sent.0, AreSent-push waiting flights asked flight sent.1 its)
@@ -244,7 +246,7 @@ AreSent-push (first ∷ waiting) [] asked flight sent its = absurd sent
 
 -- where the event asked for it
 change-accepted : (old new : State) (event : Event) (number id : ℕ) (device : Device) (asked : Asked) (entered : AcceptedAccess) → device_of old id ≡ Some device
-    → asked_by event ≡ Some (id, asked) → entered.access ≡ access_sent entered.frame asked → ((told : Outcome) (other : ℕ) → made_by event told other ≡ 0)
+    → asked_by event ≡ Some (id, asked) → IsSentOf asked entered → ((told : Outcome) (other : ℕ) → made_by event told other ≡ 0)
     → new ≡ with_accepted old device entered.access entered.frame → DevicesChange event (Accepted number) old new
 change-accepted old new event number id device asked entered at asks its none_made same =
     DevicesChange.changes id device (record device { accepted = device.accepted + 1; in_flight = device.in_flight ++ entered ∷ [] }) at refl
@@ -270,40 +272,89 @@ stays_quiet : (event : Event) (told : Outcome) (old new : State) → ((other : �
     → DevicesChange event told old new
 stays_quiet event told old new none none_made same = DevicesChange.stay (λ other. (none other, none_made other)) (ap (λ (s : State). s.devices) same)
 
+-- where the event asks for nothing and makes nothing, and the devices stay
+stays_asking : (event : Event) (outcome : Outcome) (old new : State) → asked_by event ≡ None → ((other : ℕ) → made_by event outcome other ≡ 0) → new.devices ≡ old.devices
+    → DevicesChange event outcome old new
+stays_asking event outcome old new asks none_made same = DevicesChange.stay (λ other. (none outcome other, none_made other)) same
+  where
+    none : (told : Outcome) (other : ℕ) → accepted_by event told other ≡ []
+    none (Accepted number) other = ap (λ (found : Option (ℕ × Asked)). option_map_or (λ asked. if asked.0 == other then asked.1 ∷ [] else []) found []) asks
+    none _ other = refl
+
+-- An access that is asked for is answered: by the IOMMU, or through a cache.
+change-answer : (chosen : ℕ) (old new : State) (event : Event) (outcome : Outcome) (id : ℕ) (asked : Asked) (access : Access) (device : Device) → device_of old id ≡ Some device
+    → asked_by event ≡ Some (id, asked) → IsSentOf asked (record { access = access; frame = chosen }) → ((told : Outcome) (other : ℕ) → made_by event told other ≡ 0)
+    → MayAnswer old device access chosen outcome → new ≡ state_after old device access chosen outcome → DevicesChange event outcome old new
+change-answer chosen old new event (Accepted number) id asked access device at asks sent none_made answer same =
+    change-accepted old new event number id device asked (record { access = access; frame = chosen }) at asks sent none_made same
+change-answer chosen old new event BadSpan id asked access device at asks sent none_made answer same = stays_quiet event BadSpan old new (λ other. refl) (none_made BadSpan) same
+change-answer chosen old new event Busy id asked access device at asks sent none_made answer same = stays_quiet event Busy old new (λ other. refl) (none_made Busy) same
+change-answer chosen old new event (Fault cause) id asked access device at asks sent none_made answer same =
+    stays_quiet event (Fault cause) old new (λ other. refl) (none_made (Fault cause)) same
+change-answer chosen old new event _ id asked access device at asks sent none_made answer same = absurd answer
+
+change-cached : (chosen : ℕ) (old new : State) (event : Event) (outcome : Outcome) (id : ℕ) (asked : Asked) (access : Access) (device : Device) → device_of old id ≡ Some device
+    → asked_by event ≡ Some (id, asked) → IsSentOf asked (record { access = at_frame chosen access; frame = chosen }) → ((told : Outcome) (other : ℕ) → made_by event told other ≡ 0)
+    → MayAnswerThroughCache old device access chosen outcome → new ≡ state_after_cached old device access chosen outcome → DevicesChange event outcome old new
+change-cached chosen old new event (Accepted number) id asked access device at asks sent none_made answer same =
+    change-accepted old new event number id device asked (record { access = at_frame chosen access; frame = chosen }) at asks sent none_made same
+change-cached chosen old new event BadSpan id asked access device at asks sent none_made answer same = stays_quiet event BadSpan old new (λ other. refl) (none_made BadSpan) same
+change-cached chosen old new event Busy id asked access device at asks sent none_made answer same = stays_quiet event Busy old new (λ other. refl) (none_made Busy) same
+change-cached chosen old new event Miss id asked access device at asks sent none_made answer same = stays_quiet event Miss old new (λ other. refl) (none_made Miss) same
+change-cached chosen old new event (Fault cause) id asked access device at asks sent none_made answer same =
+    stays_quiet event (Fault cause) old new (λ other. refl) (none_made (Fault cause)) same
+change-cached chosen old new event _ id asked access device at asks sent none_made answer same = absurd answer
+
 -- the step of a request
 change-requests : (chosen : ℕ) (old new : State) (event : Event) (outcome : Outcome) (id : ℕ) (access : Access) → Requests chosen old id access outcome new
     → asked_by event ≡ asked_untranslated id access → ((told : Outcome) (other : ℕ) → made_by event told other ≡ 0) → DevicesChange event outcome old new
 change-requests chosen old new event outcome id access step asks none_made = elim (act_cases sends_untranslated _ old id outcome new step) [
   | inl (why, told, same) ↦ stays_quiet event outcome old new (λ other. ap (λ o. accepted_by event o other) told) (none_made outcome) same
-  | inr (device, at, answer) ↦ by device at outcome answer.0 answer.1
+  | inr (device, at, answer) ↦ change-answer chosen old new event outcome id (Asked.Named access false) access device at asks refl none_made answer.0 answer.1
 ]
-  where
-    by : (device : Device) → device_of old id ≡ Some device → (told : Outcome) → MayAnswer old device access chosen told → new ≡ state_after old device access chosen told
-        → DevicesChange event told old new
-    by device at (Accepted number) answer same =
-        change-accepted old new event number id device _ (record { access = access; frame = chosen }) at asks refl none_made same
-    by device at BadSpan answer same = stays_quiet event BadSpan old new (λ other. refl) (none_made BadSpan) same
-    by device at Busy answer same = stays_quiet event Busy old new (λ other. refl) (none_made Busy) same
-    by device at (Fault cause) answer same = stays_quiet event (Fault cause) old new (λ other. refl) (none_made (Fault cause)) same
-    by device at _ answer same = absurd answer
 
 -- the step of an access through a cache
 change-through_cache : (chosen : ℕ) (old new : State) (event : Event) (outcome : Outcome) (id : ℕ) (access : Access) → RequestsThroughCache chosen old id access outcome new
     → asked_by event ≡ asked_through_cache id access → ((told : Outcome) (other : ℕ) → made_by event told other ≡ 0) → DevicesChange event outcome old new
 change-through_cache chosen old new event outcome id access step asks none_made = elim (act_cases sends_through_cache _ old id outcome new step) [
   | inl (why, told, same) ↦ stays_quiet event outcome old new (λ other. ap (λ o. accepted_by event o other) told) (none_made outcome) same
-  | inr (device, at, answer) ↦ by device at outcome answer.0 answer.1
+  | inr (device, at, answer) ↦ change-cached chosen old new event outcome id (Asked.Named access true) access device at asks refl none_made answer.0 answer.1
+]
+
+-- the step of a block device
+change-answered : (access : Access) (chosen : ℕ) (old new : State) (id : ℕ) (outcome : Outcome) (device : Device) (b : Bool) → device_of old id ≡ Some device
+    → IsAnswered b old device access chosen outcome new → DevicesChange (events.Step id) outcome old new
+change-answered access chosen old new id outcome device false at answer =
+    change-answer chosen old new (events.Step id) outcome id Asked.Chosen access device at refl tt (λ told other. refl) answer.0 answer.1
+change-answered access chosen old new id outcome device true at answer =
+    change-cached chosen old new (events.Step id) outcome id Asked.Chosen access device at refl tt (λ told other. refl) answer.0 answer.1
+
+change-steps : (access : Access) (chosen : ℕ) (old new : State) (id : ℕ) (outcome : Outcome) → Steps access chosen old id outcome new → DevicesChange (events.Step id) outcome old new
+change-steps access chosen old new id outcome step = elim (act_cases is_block_device _ old id outcome new step) [
+  | inl (why, told, same) ↦ stays_quiet (events.Step id) outcome old new (λ other. ap (λ o. accepted_by (events.Step id) o other) told) (λ other. refl) same
+  | inr (device, at, takes) ↦ by device at outcome takes
 ]
   where
-    by : (device : Device) → device_of old id ≡ Some device → (told : Outcome) → MayAnswerThroughCache old device access chosen told
-        → new ≡ state_after_cached old device access chosen told → DevicesChange event told old new
-    by device at (Accepted number) answer same =
-        change-accepted old new event number id device _ (record { access = at_frame chosen access; frame = chosen }) at asks refl none_made same
-    by device at BadSpan answer same = stays_quiet event BadSpan old new (λ other. refl) (none_made BadSpan) same
-    by device at Busy answer same = stays_quiet event Busy old new (λ other. refl) (none_made Busy) same
-    by device at Miss answer same = stays_quiet event Miss old new (λ other. refl) (none_made Miss) same
-    by device at (Fault cause) answer same = stays_quiet event (Fault cause) old new (λ other. refl) (none_made (Fault cause)) same
-    by device at _ answer same = absurd answer
+    by : (device : Device) → device_of old id ≡ Some device → (told : Outcome) → TakesStep old device access chosen told new → DevicesChange (events.Step id) told old new
+    by device at (Stepped step) takes = stays_quiet (events.Step id) (Stepped step) old new (λ other. refl) (λ other. refl) takes.1
+    by device at (Accepted number) takes = change-answered access chosen old new id (Accepted number) device (has_cache device.kind) at takes.1
+    by device at Busy takes = change-answered access chosen old new id Busy device (has_cache device.kind) at takes.1
+    by device at (Fault cause) takes = change-answered access chosen old new id (Fault cause) device (has_cache device.kind) at takes.1
+    by device at _ takes = absurd takes
+
+-- a disk is put into a device
+change-inserts : (disk : ℕ) (old new : State) (id : ℕ) (outcome : Outcome) → InsertsDisk disk old id outcome new → DevicesChange (events.Medium id disk) outcome old new
+change-inserts disk old new id outcome step = elim (act_cases is_block_device _ old id outcome new step) [
+  | inl (why, told, same) ↦ stays_asking (events.Medium id disk) outcome old new refl (λ other. refl) (ap (λ (s : State). s.devices) same)
+  | inr (device, at, inserts) ↦ by device at outcome inserts
+]
+  where
+    by : (device : Device) → device_of old id ≡ Some device → (told : Outcome) → Inserts disk old device told new → DevicesChange (events.Medium id disk) told old new
+    by device at Done inserts = DevicesChange.changes id device (record device { has_disk = true }) at refl
+        (same_flights (Some device) (Some (record device { has_disk = true })) refl refl)
+        (λ other differ. (refl, refl)) (ap (λ (s : State). s.devices) inserts.1)
+    by device at (Refused why) inserts = stays_asking (events.Medium id disk) (Refused why) old new refl (λ other. refl) (ap (λ (s : State). s.devices) inserts.1)
+    by device at _ inserts = absurd inserts
 
 -- the oldest access is made
 made_first : (in_flight : List AcceptedAccess) (made : AcceptedAccess) → slice_get in_flight 0 ≡ Some made → in_flight ≡ made ∷ drop 1 in_flight
@@ -349,28 +400,20 @@ change-commits old new id outcome step = elim (act_cases is_any_kind _ old id ou
     by device at NothingInFlight makes = stays_quiet (events.Commit id) NothingInFlight old new (λ other. refl) (λ other. refl) makes.1
     by device at _ makes = absurd makes
 
--- where the event asks for nothing and makes nothing, and the devices stay
-stays_asking : (event : Event) (outcome : Outcome) (old new : State) → asked_by event ≡ None → ((other : ℕ) → made_by event outcome other ≡ 0) → new.devices ≡ old.devices
-    → DevicesChange event outcome old new
-stays_asking event outcome old new asks none_made same = DevicesChange.stay (λ other. (none outcome other, none_made other)) same
-  where
-    none : (told : Outcome) (other : ℕ) → accepted_by event told other ≡ []
-    none (Accepted number) other = ap (λ (found : Option (ℕ × Asked)). option_map_or (λ asked. if asked.0 == other then asked.1 ∷ [] else []) found []) asks
-    none _ other = refl
-
 -- a device that is plugged in was absent
-plug_finds_nothing : (state : State) (id : ℕ) → first_that_applies (plug_reasons state id) ≡ None → device_of state id ≡ None
-plug_finds_nothing state id none = by (device_of state id) refl none
+plug_finds_nothing : (state : State) (id : ℕ) (what : NewDevice) → first_that_applies (plug_reasons state id what) ≡ None → device_of state id ≡ None
+plug_finds_nothing state id what none = by (device_of state id) refl none
   where
-    by : (found : Option Device) → device_of state id ≡ found → first_that_applies (plug_reasons state id) ≡ None → device_of state id ≡ None
+    by : (found : Option Device) → device_of state id ≡ found → first_that_applies (plug_reasons state id what) ≡ None → device_of state id ≡ None
     by None at h = at
     by (Some device) at h = cc
 
 pub devices-step : (old new : State) (event : Event) (outcome : Outcome) → Step old event outcome new → DevicesChange event outcome old new
-devices-step old new (events.Plug id kind) Done (choice, step) =
-    DevicesChange.enters id _ (plug_finds_nothing old id step.0) (λ other. (refl, refl)) (ap (λ (s : State). s.devices) step.1)
-devices-step old new (events.Plug id kind) (Refused why) (choice, step) = stays_asking _ _ old new refl (λ other. refl) (ap (λ (s : State). s.devices) step.1)
-devices-step old new (events.Plug id kind) _ (choice, step) = absurd step
+devices-step old new (events.Plug id what) Done (choice, step) =
+    DevicesChange.enters id _ (plug_finds_nothing old id what step.0) (λ other. (refl, refl)) (ap (λ (s : State). s.devices) step.1)
+devices-step old new (events.Plug id what) (Refused why) (choice, step) = stays_asking _ _ old new refl (λ other. refl) (ap (λ (s : State). s.devices) step.1)
+devices-step old new (events.Plug id what) _ (choice, step) = absurd step
+devices-step old new (events.Medium id disk) outcome (choice, step) = change-inserts disk old new id outcome step
 devices-step old new (events.Attach id mode ats) Done (choice, step) =
     let found = some_case (device_of old id) _ step.2 in
     DevicesChange.changes id found.0 (record found.0 { attachment = _ }) found.1 refl
@@ -380,8 +423,8 @@ devices-step old new (events.Attach id mode ats) (Refused why) (choice, step) = 
 devices-step old new (events.Attach id mode ats) _ (choice, step) = absurd step
 devices-step old new (events.Detach id) (Ticket ticket) (choice, step) =
     let found = some_case (device_of old id) _ step.2 in
-    DevicesChange.changes id found.0 (record found.0 { attachment = _ }) found.1 refl
-    (same_flights (Some found.0) (Some (record found.0 { attachment = _ })) refl refl)
+    DevicesChange.changes id found.0 (record found.0 { has_disk = false; attachment = leaving_under ticket found.0.attachment }) found.1 refl
+    (same_flights (Some found.0) (Some (record found.0 { has_disk = false; attachment = leaving_under ticket found.0.attachment })) refl refl)
     (λ other differ. (refl, refl)) (ap (λ (s : State). s.devices) found.2)
 devices-step old new (events.Detach id) (Refused why) (choice, step) = stays_asking _ _ old new refl (λ other. refl) (ap (λ (s : State). s.devices) step.1)
 devices-step old new (events.Detach id) _ (choice, step) = absurd step
@@ -432,6 +475,11 @@ devices-step old new (events.Deliver place) outcome (choice, step) = stays_askin
 devices-step old new (events.Drop place) outcome (choice, step) = stays_asking _ _ old new refl (λ other. refl) (ap (λ (s : State). s.devices) (same-drops old new outcome step))
 devices-step old new (events.Repeat place) outcome (choice, step) = stays_asking _ _ old new refl (λ other. refl) (ap (λ (s : State). s.devices) (same-repeats old new outcome step))
 devices-step old new (events.Reset id) outcome (choice, step) = stays_asking _ _ old new refl (λ other. refl) (ap (λ (s : State). s.devices) (same-resets old new id outcome step))
+devices-step old new (events.Queue id size descriptors available used) outcome (choice, step) =
+    stays_asking _ _ old new refl (λ other. refl) (ap (λ (s : State). s.devices) (same-sets_queue (layout_of size descriptors available used) old new id outcome step))
+devices-step old new (events.Step id) outcome (choice, step) = change-steps choice.access choice.frame old new id outcome step
+devices-step old new (events.Status id) outcome (choice, step) =
+    stays_asking _ _ old new refl (λ other. refl) (ap (λ (s : State). s.devices) (same-tells_status old new id outcome step))
 devices-step old new (events.Commit id) outcome (choice, step) = change-commits old new id outcome step
 devices-step old new (events.Poke address bytes) Done (choice, step) = stays_asking _ _ old new refl (λ other. refl) (ap (λ (s : State). s.devices) step.2)
 devices-step old new (events.Poke address bytes) (Refused why) (choice, step) = stays_asking _ _ old new refl (λ other. refl) (ap (λ (s : State). s.devices) step.2)
@@ -479,11 +527,11 @@ own_ids-run old new (event ∷ events) (outcome ∷ outcomes) (mid, step, run) o
 
 -- each access in flight was accepted at an event of its own
 pub in_flight_were_accepted : AccessesInFlightWereAccepted
-in_flight_were_accepted state events outcomes (frames, levels, run) k d below =
+in_flight_were_accepted state events outcomes (frames, levels, disks, run) k d below =
     let device = get_or state.devices k d in
     let at : slice_get state.devices k ≡ Some device = slice_get-get_or state.devices k d below in
-    let there : device_of state device.id ≡ Some device = own_ids-found state.devices k device (own_ids-run (opening frames levels) state events outcomes run tt) at in
+    let there : device_of state device.id ≡ Some device = own_ids-found state.devices k device (own_ids-run (opening frames levels disks) state events outcomes run tt) at in
     let flows : Flows (accepted_in events outcomes device.id) (made_in events outcomes device.id) None (Some device) =
-    subst (λ found. Flows (accepted_in events outcomes device.id) (made_in events outcomes device.id) None found) there (flows-run (opening frames levels) state events outcomes run device.id) in
+    subst (λ found. Flows (accepted_in events outcomes device.id) (made_in events outcomes device.id) None found) there (flows-run (opening frames levels disks) state events outcomes run device.id) in
     let from = flows [] tt in
     record { made = from.made; waiting = from.later; as_many = from.as_many; in_order = from.in_order; in_flight = from.sent; counted = from.counted ∙ omega arith }

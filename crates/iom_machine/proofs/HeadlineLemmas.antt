@@ -32,8 +32,8 @@ use Rattle.iom_machine.specs.Machine.{Requests, Makes, Step, Run, with_oldest_ma
 use Rattle.iom_machine.specs.Headline.{IsReached, byte_in, IsOldest, IsOutside, AreNamedBytes, TouchesItsOwn, Asked, asked_untranslated, asked_through_cache, AsksFor, IsOneStage, GrantsFrame, NoneGrants, TouchesFrame}
 use Rattle.iom_machine.proofs.ReachLemmas.{NamesFrame, reach_before}
 use Rattle.iom_machine.proofs.ByteLemmas.{slice_get-set_same, slice_get-set_other, slice_get-written_inside, slice_get-written_outside, slice_get-range, length-range}
-use Rattle.iom_machine.proofs.InFlightLemmas.{act_cases, able_act, some_case, All-at, AllInFlight-of, found_device, asked_parts}
-use Rattle.iom_machine.proofs.SoundLemmas.{IsSound, IsWhole, Change, change-step, sound_if_reached}
+use Rattle.iom_machine.proofs.InFlightLemmas.{act_cases, able_act, some_case, All-at, AllInFlight-of, found_device, IsWhole}
+use Rattle.iom_machine.proofs.SoundLemmas.{IsSound, Change, change-step, sound_if_reached}
 
 pub in_flight_may : (state : State) → IsReached state → EachInFlightMay state
 in_flight_may state reached = (sound_if_reached state reached).reaches
@@ -213,16 +213,27 @@ asked_where_held chosen old new id frame device access outcome step there raw on
     let own : device.id ≡ id = (found_device old.devices id device there).1 in
     answered_where_held chosen old new frame device access outcome answer.0 answer.1 one within room (subst (λ i. HoldsFor old.history i access frame) (sym own) held)
 
--- an access that the IOMMU translates is not one through a cache
+-- a device that asks for an access is the one that asks for it, and the access the one that it asks for
+asked_parts : (d id : ℕ) (its asked : Asked) → ◌≡◌ {A = Option (ℕ × Asked)} (Some (d, its)) (Some (id, asked)) → (d ≡ id) × (its ≡ asked)
+asked_parts d id its asked same =
+    let pairs : ◌≡◌ {A = ℕ × Asked} (d, its) (id, asked) = cc in (ap (λ (p : ℕ × Asked). p.0) pairs, ap (λ (p : ℕ × Asked). p.1) pairs)
+
+-- an access that the IOMMU translates is not one through a cache, nor one of a step
 translated_parts : (d id : ℕ) (its access : Access) → asked_untranslated d its ≡ asked_untranslated id access → (d ≡ id) × (its ≡ access)
 translated_parts d id its access asks =
-    let parts = asked_parts d id (record { access = its; through_cache = false }) (record { access = access; through_cache = false }) asks in
-    (parts.0, ap (λ (a : Asked). a.access) parts.1)
+    let parts = asked_parts d id (Asked.Named its false) (Asked.Named access false) asks in
+    let same : Asked.Named its false ≡ Asked.Named access false = parts.1 in (parts.0, cc)
 
 cached_is_none : (d id : ℕ) (its access : Access) → asked_through_cache d its ≡ asked_untranslated id access → ⊥
 cached_is_none d id its access asks =
-    let parts = asked_parts d id (record { access = its; through_cache = true }) (record { access = access; through_cache = false }) asks in
-    let same : true ≡ false = ap (λ (a : Asked). a.through_cache) parts.1 in cc
+    let parts = asked_parts d id (Asked.Named its true) (Asked.Named access false) asks in
+    let same : Asked.Named its true ≡ Asked.Named access false = parts.1 in
+    let flags : true ≡ false = cc in cc
+
+chosen_is_none : (d id : ℕ) (access : Access) → ◌≡◌ {A = Option (ℕ × Asked)} (Some (d, Asked.Chosen)) (asked_untranslated id access) → ⊥
+chosen_is_none d id access asks =
+    let parts = asked_parts d id Asked.Chosen (Asked.Named access false) asks in
+    let same : Asked.Chosen ≡ Asked.Named access false = parts.1 in cc
 
 pub accepted_on_its_frame : (old new : State) (event : Event) (outcome : Outcome) (id frame : ℕ) (device : Device) (access : Access)
     → Step old event outcome new → AsksFor event id access → IsPlugged old id device → device.kind ≡ Raw → IsOneStage device → IsWithinPage access → ¬ IsBusy device.in_flight
@@ -240,6 +251,8 @@ accepted_on_its_frame old new (events.ReadThroughCache d address len) outcome id
     absurd (cached_is_none d id (read_of address len) access asks)
 accepted_on_its_frame old new (events.WriteThroughCache d address bytes) outcome id frame device access step asks there raw one within room held =
     absurd (cached_is_none d id (write_of address bytes) access asks)
+accepted_on_its_frame old new (events.Step d) outcome id frame device access step asks there raw one within room held =
+    absurd (chosen_is_none d id access asks)
 accepted_on_its_frame old new _ outcome id frame device access step asks there raw one within room held = cc
 
 -- a frame that is free stays so, after an entry that doesn't grant it
@@ -314,7 +327,7 @@ pub commits_are_answered : (state : State) (id : ℕ) → IsReached state → (o
 commits_are_answered state id reached = by (device_of state id) refl
   where
     none_chosen : Choice
-    none_chosen = record { directory = []; taken = []; frame = 0; device = 0; page = 0 }
+    none_chosen = record { directory = []; taken = []; frame = 0; device = 0; page = 0; access = read_of 0 0 }
 
     by : (found : Option Device) → device_of state id ≡ found → (outcome : Outcome) × (new : State) × Step state (events.Commit id) outcome new
     by None absent = (Refused NoSuchDevice, state, (none_chosen, rw absent (refl, refl)))

@@ -12,7 +12,7 @@ use Rattle.iom_ledger.specs.History.{History, May}
 use Rattle.iom_machine.specs.declared.event.Event.{Event}
 use Rattle.iom_machine.specs.declared.event.Event.TheVariants as events
 use Rattle.iom_machine.specs.declared.outcome.Outcome.{Outcome}
-use Rattle.iom_machine.specs.declared.outcome.Outcome.TheVariants.{Done, Refused, Ticket, Confirmed, NoneConfirmed, Record, NoRecord, Fetched, TimedOut, NoEffect, Accepted, Busy, BadSpan, Fault, Miss, Sent, Lost, Answered, Kept, Stale, AnswerRefused, Ignored, Invalidated, Closed, NotClosed, Dropped, Repeated, NoMessage, Read, Wrote, NothingInFlight, Bytes, Free}
+use Rattle.iom_machine.specs.declared.outcome.Outcome.TheVariants.{Done, Refused, Ticket, Confirmed, NoneConfirmed, Record, NoRecord, Fetched, TimedOut, NoEffect, Accepted, Busy, BadSpan, Fault, Miss, Sent, Lost, Answered, Kept, Stale, AnswerRefused, Ignored, Invalidated, Closed, NotClosed, Dropped, Repeated, NoMessage, Read, Wrote, NothingInFlight, Bytes, Free, Stepped}
 use Rattle.iom_base.specs.declared.access.Access.{Access}
 use Rattle.iom_machine.specs.declared.state.Attachment.{Attachment}
 use Rattle.iom_machine.specs.declared.state.Attachment.TheVariants.{Detached, Attached, Quarantined, Leaving}
@@ -24,14 +24,20 @@ use Rattle.iom_base.specs.declared.mode.Mode.TheVariants.{First, Second, Both}
 use Rattle.iom_machine.specs.declared.state.State.{State}
 use Rattle.iom_machine.specs.Devices.{device_of, replaced_device}
 use Rattle.iom_base.specs.Accesses.{read_of, write_of, page_of, offset_of, IsWithinPage}
-use Rattle.iom_machine.specs.Kinds.{sends_untranslated, forges, sends_through_cache, asks_questions, is_any_kind}
+use Rattle.iom_base.specs.declared.access.AccessKind.{AccessKind}
+use Rattle.iom_base.specs.declared.access.AccessKind.TheVariants as kinds
+use Rattle.iom_machine.specs.BlockDevices.{Inserts, HasBytes, MayWant, IsAnswered, TakesStep}
+use Rattle.iom_machine.specs.Refusals.{has_cache}
+use Rattle.iom_virtqueue.specs.declared.layout.Layout.{Layout}
+use Rattle.iom_virtqueue.specs.Layouts.{layout_of}
+use Rattle.iom_machine.specs.Kinds.{is_block_device, sends_untranslated, forges, sends_through_cache, asks_questions, is_any_kind}
 use Rattle.iom_machine.specs.Messages.{Sends, Delivers, Drops, Repeats}
 use Rattle.iom_machine.specs.Requests.{MayAcceptFormerly, MayAccept, MayAnswer, state_after, with_accepted}
 use Rattle.iom_machine.specs.ThroughCache.{at_frame, MayGoThrough, MayAnswerThroughCache, state_after_cached}
-use Rattle.iom_machine.specs.Machine.{IfItCan, Acts, Requests, RequestsTranslated, RequestsThroughCache, Asks, Forges, Resets, Makes, Commits, Step}
+use Rattle.iom_machine.specs.Machine.{IfItCan, Acts, Requests, RequestsTranslated, RequestsThroughCache, Asks, Forges, Resets, InsertsDisk, SetsQueue, Steps, TellsStatus, Makes, Commits, Step}
 use Rattle.iom_machine.specs.Leaving.{device_once_confirmed}
 use Rattle.iom_machine.specs.Tickets.{with_confirmed}
-use Rattle.iom_machine.specs.Headline.{Asked, asked_by, access_sent}
+use Rattle.iom_machine.specs.Headline.{Asked, asked_by, IsSentOf}
 use Rattle.iom_machine.proofs.ReachLemmas.{contains_head, contains_tail}
 
 -- a fact by cases of an option, with the case that it is
@@ -131,20 +137,37 @@ abbrev pub IsAcceptance : Outcome → Type 0
 IsAcceptance (Accepted number) = ⊤
 IsAcceptance _ = ⊥
 
--- a device that asks for an access is the one that asks for it, and the access the one that it asks for
-pub asked_parts : (d id : ℕ) (its asked : Asked) → ◌≡◌ {A = Option (ℕ × Asked)} (Some (d, its)) (Some (id, asked)) → (d ≡ id) × (its ≡ asked)
-asked_parts d id its asked same =
-    let pairs : ◌≡◌ {A = ℕ × Asked} (d, its) (id, asked) = cc in (ap (λ (p : ℕ × Asked). p.0) pairs, ap (λ (p : ℕ × Asked). p.1) pairs)
-
 -- the event asked for the access in flight, and was answered that it is accepted
 abbrev pub IsAccepted : Event → Outcome → ℕ → AcceptedAccess → Type 0
-IsAccepted event (Accepted number) id flight = (asked : Asked) × (asked_by event ≡ Some (id, asked)) × (flight.access ≡ access_sent flight.frame asked)
+IsAccepted event (Accepted number) id flight = (asked : Asked) × (asked_by event ≡ Some (id, asked)) × IsSentOf asked flight
 IsAccepted event _ id flight = ⊥
 
-pub accepted_if : (event : Event) (outcome : Outcome) (id : ℕ) (asked : Asked) (flight : AcceptedAccess) → asked_by event ≡ Some (id, asked) → flight.access ≡ access_sent flight.frame asked
+pub accepted_if : (event : Event) (outcome : Outcome) (id : ℕ) (asked : Asked) (flight : AcceptedAccess) → asked_by event ≡ Some (id, asked) → IsSentOf asked flight
     → IsAcceptance outcome → IsAccepted event outcome id flight
 accepted_if event (Accepted number) id asked flight asks sent accepts = (asked, asks, sent)
 accepted_if event _ id asked flight asks sent never = absurd never
+
+-- an access names as many bytes as it has
+abbrev pub NamesItsBytes : Access → Type 0
+NamesItsBytes access = access.kind ≡ kinds.Write → length access.bytes ≡ access.len
+
+read_names : (address len : ℕ) → NamesItsBytes (read_of address len)
+read_names address len write = let same : kinds.Read ≡ kinds.Write = write in cc
+
+write_names : (address : ℕ) (bytes : List ℕ) → NamesItsBytes (write_of address bytes)
+write_names address bytes write = refl
+
+-- and so does one that a step may begin
+wanted_names : (access : Access) → MayWant access → NamesItsBytes access
+wanted_names access wanted write = by access.kind write wanted.1
+  where
+    by : (kind : AccessKind) → kind ≡ kinds.Write → HasBytes kind access.len access.bytes → length access.bytes ≡ access.len
+    by kinds.Read write has = cc
+    by kinds.Write write has = has
+
+-- an access that stays within its page, and a write with as many bytes as it names
+abbrev pub IsWhole : ℕ → AcceptedAccess → Type 0
+IsWhole id flight = IsWithinPage flight.access × NamesItsBytes flight.access
 
 -- what a cache may have may be reached
 went_through_reach : (attachment : Attachment) (state : State) (id : ℕ) (access : Access) (frame : ℕ) → MayGoThrough attachment state id access frame → May state.history id frame access.kind
@@ -217,6 +240,50 @@ in_flight-through_cache P chosen old new id access outcome step enters all = eli
   | inr (device, at, answer) ↦ in_flight-cached P chosen old new id device access outcome at answer.0 answer.1 enters all
 ]
 
+-- of an access that a step of a block device begins
+in_flight-answered : (P : ℕ → AcceptedAccess → Type 0) (chosen : ℕ) (old new : State) (id : ℕ) (device : Device) (access : Access) (outcome : Outcome) (b : Bool) → device_of old id ≡ Some device
+    → MayWant access → IsAnswered b old device access chosen outcome new
+    → ((flight : AcceptedAccess) → IsAcceptance outcome → IsWhole id flight → StillMay old.history id flight → P id flight)
+    → AllInFlight P old.devices → AllInFlight P new.devices
+in_flight-answered P chosen old new id device access outcome false at wanted answer enters all =
+    in_flight-answer P chosen old new id device access outcome at answer.0 answer.1
+    (λ accepts within may. enters (record { access = access; frame = chosen }) accepts (within, wanted_names access wanted) may) all
+in_flight-answered P chosen old new id device access outcome true at wanted answer enters all =
+    in_flight-cached P chosen old new id device access outcome at answer.0 answer.1
+    (λ accepts within may. enters (record { access = at_frame chosen access; frame = chosen }) accepts (within, wanted_names access wanted) may) all
+
+in_flight-steps : (P : ℕ → AcceptedAccess → Type 0) (access : Access) (chosen : ℕ) (old new : State) (id : ℕ) (outcome : Outcome) → Steps access chosen old id outcome new
+    → ((flight : AcceptedAccess) → IsAcceptance outcome → IsWhole id flight → StillMay old.history id flight → P id flight)
+    → AllInFlight P old.devices → AllInFlight P new.devices
+in_flight-steps P access chosen old new id outcome step enters all = elim (act_cases is_block_device _ old id outcome new step) [
+  | inl (why, told, same) ↦ subst (λ (s : State). AllInFlight P s.devices) (sym same) all
+  | inr (device, at, takes) ↦ by device at outcome takes enters
+]
+  where
+    by : (device : Device) → device_of old id ≡ Some device → (told : Outcome) → TakesStep old device access chosen told new
+        → ((flight : AcceptedAccess) → IsAcceptance told → IsWhole id flight → StillMay old.history id flight → P id flight) → AllInFlight P new.devices
+    by device at (Stepped step) takes enters = subst (λ (s : State). AllInFlight P s.devices) (sym takes.1) all
+    by device at (Accepted number) takes enters =
+        in_flight-answered P chosen old new id device access (Accepted number) (has_cache device.kind) at takes.0 takes.1 enters all
+    by device at Busy takes enters = in_flight-answered P chosen old new id device access Busy (has_cache device.kind) at takes.0 takes.1 enters all
+    by device at (Fault cause) takes enters =
+        in_flight-answered P chosen old new id device access (Fault cause) (has_cache device.kind) at takes.0 takes.1 enters all
+    by device at _ takes enters = absurd takes
+
+-- where a disk is put into a device
+in_flight-inserts : (P : ℕ → AcceptedAccess → Type 0) (disk : ℕ) (old new : State) (id : ℕ) (outcome : Outcome) → InsertsDisk disk old id outcome new
+    → AllInFlight P old.devices → AllInFlight P new.devices
+in_flight-inserts P disk old new id outcome step all = elim (act_cases is_block_device _ old id outcome new step) [
+  | inl (why, told, same) ↦ subst (λ (s : State). AllInFlight P s.devices) (sym same) all
+  | inr (device, at, inserts) ↦ by device at outcome inserts
+]
+  where
+    by : (device : Device) → device_of old id ≡ Some device → (told : Outcome) → Inserts disk old device told new → AllInFlight P new.devices
+    by device at Done inserts =
+        subst (λ (s : State). AllInFlight P s.devices) (sym inserts.1) (AllInFlight-with P old.devices device.id _ all (AllInFlight-of P old.devices id device at all))
+    by device at (Refused why) inserts = subst (λ (s : State). AllInFlight P s.devices) (sym inserts.1) all
+    by device at _ inserts = absurd inserts
+
 -- where the oldest access of a device is made
 in_flight-made : (P : ℕ → AcceptedAccess → Type 0) (old : State) (id : ℕ) (device : Device) → device_of old id ≡ Some device → AllInFlight P old.devices
     → AllInFlight P (replaced_device old.devices device.id (record device { in_flight = drop 1 device.in_flight }))
@@ -250,7 +317,7 @@ devices_leave : (P : ℕ → AcceptedAccess → Type 0) (old new : State) (histo
 devices_leave P old new history same all =
     subst (AllInFlight P) (sym same) (All-map (λ (device : Device). All (P device.id) device.in_flight) (device_once_confirmed history) old.devices all)
 
--- the steps of messages, of resets, and of translated requests of devices that forge them, change nothing
+-- the steps of messages, of resets, of queues that are set, of statuses, and of translated requests of devices that forge them, change nothing
 same-sends : (old new : State) (outcome : Outcome) → Sends old outcome new → new ≡ old
 same-sends old new Sent step = step
 same-sends old new Lost step = step
@@ -272,6 +339,18 @@ pub same-resets : (old new : State) (id : ℕ) (outcome : Outcome) → Resets ol
 same-resets old new id outcome step = elim (act_cases is_any_kind _ old id outcome new step) [
   | inl (why, told, same) ↦ same
   | inr (device, at, done) ↦ done.1
+]
+
+pub same-sets_queue : (layout : Layout) (old new : State) (id : ℕ) (outcome : Outcome) → SetsQueue layout old id outcome new → new ≡ old
+same-sets_queue layout old new id outcome step = elim (act_cases is_block_device _ old id outcome new step) [
+  | inl (why, told, same) ↦ same
+  | inr (device, at, sets) ↦ sets.1
+]
+
+pub same-tells_status : (old new : State) (id : ℕ) (outcome : Outcome) → TellsStatus old id outcome new → new ≡ old
+same-tells_status old new id outcome step = elim (act_cases is_block_device _ old id outcome new step) [
+  | inl (why, told, same) ↦ same
+  | inr (device, at, tells) ↦ tells.1
 ]
 
 pub same-translated : (old new : State) (id : ℕ) (access : Access) (outcome : Outcome) → RequestsTranslated old id access outcome new → new ≡ old
@@ -305,12 +384,13 @@ same-repeats old new _ step = absurd step
 
 -- A step keeps each fact of each access in flight, where it is true of those that enter.
 pub in_flight-step : (P : ℕ → AcceptedAccess → Type 0) (old new : State) (event : Event) (outcome : Outcome) → Step old event outcome new
-    → ((id : ℕ) (flight : AcceptedAccess) → IsAccepted event outcome id flight → IsWithinPage flight.access → StillMay old.history id flight → P id flight)
+    → ((id : ℕ) (flight : AcceptedAccess) → IsAccepted event outcome id flight → IsWhole id flight → StillMay old.history id flight → P id flight)
     → AllInFlight P old.devices → AllInFlight P new.devices
-in_flight-step P old new (events.Plug id kind) Done (choice, step) enters all =
+in_flight-step P old new (events.Plug id what) Done (choice, step) enters all =
     subst (λ (s : State). AllInFlight P s.devices) (sym step.1) (All-push (λ (d : Device). All (P d.id) d.in_flight) old.devices _ all (All-nil (P id)))
-in_flight-step P old new (events.Plug id kind) (Refused why) (choice, step) enters all = devices_stay P old new (ap (λ (s : State). s.devices) step.1) all
-in_flight-step P old new (events.Plug id kind) _ (choice, step) enters all = absurd step
+in_flight-step P old new (events.Plug id what) (Refused why) (choice, step) enters all = devices_stay P old new (ap (λ (s : State). s.devices) step.1) all
+in_flight-step P old new (events.Plug id what) _ (choice, step) enters all = absurd step
+in_flight-step P old new (events.Medium id disk) outcome (choice, step) enters all = in_flight-inserts P disk old new id outcome step all
 in_flight-step P old new (events.Attach id mode ats) Done (choice, step) enters all =
     let found = some_case (device_of old id) _ step.2 in
     subst (λ (s : State). AllInFlight P s.devices) (sym found.2) (AllInFlight-with P old.devices found.0.id _ all (AllInFlight-of P old.devices id found.0 found.1 all))
@@ -354,24 +434,31 @@ in_flight-step P old new events.Faults NoRecord (choice, step) enters all = devi
 in_flight-step P old new events.Faults _ (choice, step) enters all = absurd step
 in_flight-step P old new (events.Read id address len) outcome (choice, step) enters all =
     in_flight-requests P choice.frame old new id (read_of address len) outcome step
-    (λ accepts within may. enters id _ (accepted_if (events.Read id address len) outcome id _ _ refl refl accepts) within may) all
+    (λ accepts within may. enters id _ (accepted_if (events.Read id address len) outcome id _ _ refl refl accepts) (within, read_names address len) may) all
 in_flight-step P old new (events.Write id address bytes) outcome (choice, step) enters all =
     in_flight-requests P choice.frame old new id (write_of address bytes) outcome step
-    (λ accepts within may. enters id _ (accepted_if (events.Write id address bytes) outcome id _ _ refl refl accepts) within may) all
+    (λ accepts within may. enters id _ (accepted_if (events.Write id address bytes) outcome id _ _ refl refl accepts) (within, write_names address bytes) may) all
 in_flight-step P old new (events.ReadTranslated id address len) outcome (choice, step) enters all = devices_stay P old new (ap (λ (s : State). s.devices) (same-translated old new id (read_of address len) outcome step)) all
 in_flight-step P old new (events.WriteTranslated id address bytes) outcome (choice, step) enters all = devices_stay P old new (ap (λ (s : State). s.devices) (same-translated old new id (write_of address bytes) outcome step)) all
 in_flight-step P old new (events.ReadThroughCache id address len) outcome (choice, step) enters all =
     in_flight-through_cache P choice.frame old new id (read_of address len) outcome step
-    (λ accepts within may. enters id _ (accepted_if (events.ReadThroughCache id address len) outcome id _ _ refl refl accepts) within may) all
+    (λ accepts within may. enters id _ (accepted_if (events.ReadThroughCache id address len) outcome id _ _ refl refl accepts) (within, read_names address len) may) all
 in_flight-step P old new (events.WriteThroughCache id address bytes) outcome (choice, step) enters all =
     in_flight-through_cache P choice.frame old new id (write_of address bytes) outcome step
-    (λ accepts within may. enters id _ (accepted_if (events.WriteThroughCache id address bytes) outcome id _ _ refl refl accepts) within may) all
+    (λ accepts within may. enters id _ (accepted_if (events.WriteThroughCache id address bytes) outcome id _ _ refl refl accepts) (within, write_names address bytes) may) all
 in_flight-step P old new (events.Ask id page) outcome (choice, step) enters all = devices_stay P old new (ap (λ (s : State). s.devices) (same-asks old new id outcome step)) all
 in_flight-step P old new (events.Forge id serial) outcome (choice, step) enters all = devices_stay P old new (ap (λ (s : State). s.devices) (same-forges old new id outcome step)) all
 in_flight-step P old new (events.Deliver place) outcome (choice, step) enters all = devices_stay P old new (ap (λ (s : State). s.devices) (same-delivers choice.device choice.page old new outcome step)) all
 in_flight-step P old new (events.Drop place) outcome (choice, step) enters all = devices_stay P old new (ap (λ (s : State). s.devices) (same-drops old new outcome step)) all
 in_flight-step P old new (events.Repeat place) outcome (choice, step) enters all = devices_stay P old new (ap (λ (s : State). s.devices) (same-repeats old new outcome step)) all
 in_flight-step P old new (events.Reset id) outcome (choice, step) enters all = devices_stay P old new (ap (λ (s : State). s.devices) (same-resets old new id outcome step)) all
+in_flight-step P old new (events.Queue id size descriptors available used) outcome (choice, step) enters all =
+    devices_stay P old new (ap (λ (s : State). s.devices) (same-sets_queue (layout_of size descriptors available used) old new id outcome step)) all
+in_flight-step P old new (events.Step id) outcome (choice, step) enters all =
+    in_flight-steps P choice.access choice.frame old new id outcome step
+    (λ flight accepts whole may. enters id flight (accepted_if (events.Step id) outcome id Asked.Chosen flight refl tt accepts) whole may) all
+in_flight-step P old new (events.Status id) outcome (choice, step) enters all =
+    devices_stay P old new (ap (λ (s : State). s.devices) (same-tells_status old new id outcome step)) all
 in_flight-step P old new (events.Commit id) outcome (choice, step) enters all = in_flight-commits P old new id outcome step all
 in_flight-step P old new (events.Poke address bytes) Done (choice, step) enters all = devices_stay P old new (ap (λ (s : State). s.devices) step.2) all
 in_flight-step P old new (events.Poke address bytes) (Refused why) (choice, step) enters all = devices_stay P old new (ap (λ (s : State). s.devices) step.2) all

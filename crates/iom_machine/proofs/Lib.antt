@@ -15,3 +15,4 @@ pub mod VerdictLemmas
 pub mod HistoryLoops
 pub mod ProcessorLemmas
 pub mod QuestionLemmas
+pub mod BlockLemmas

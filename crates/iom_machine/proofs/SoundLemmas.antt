@@ -18,7 +18,7 @@ use Rattle.iom_ledger.specs.History.{History, May, Pair, held_at, confirms}
 use Rattle.iom_machine.specs.declared.event.Event.{Event}
 use Rattle.iom_machine.specs.declared.event.Event.TheVariants as events
 use Rattle.iom_machine.specs.declared.outcome.Outcome.{Outcome}
-use Rattle.iom_machine.specs.declared.outcome.Outcome.TheVariants.{Done, Refused, Ticket, Confirmed, NoneConfirmed, Record, NoRecord, Fetched, TimedOut, NoEffect, Accepted, BadSpan, Read, Wrote, NothingInFlight, Bytes, Free}
+use Rattle.iom_machine.specs.declared.outcome.Outcome.TheVariants.{Done, Refused, Ticket, Confirmed, NoneConfirmed, Record, NoRecord, Fetched, TimedOut, NoEffect, Accepted, Busy, BadSpan, Fault, Read, Wrote, NothingInFlight, Bytes, Free, Stepped}
 use Rattle.iom_base.specs.declared.access.Access.{Access}
 use Rattle.iom_machine.specs.declared.state.Device.{Device}
 use Rattle.iom_machine.specs.declared.state.Frame.{Frame}
@@ -30,23 +30,21 @@ use Rattle.iom_machine.specs.Frames.{with_frame, reserved_for, stored}
 use Rattle.iom_machine.specs.Devices.{device_of, EachInFlightMay}
 use Rattle.iom_ledger.specs.Confirmations.{confirmed_from}
 use Rattle.iom_ledger.specs.Refusals.{NoneApplies, first_that_applies}
-use Rattle.iom_machine.specs.Refusals.{grant_reasons, is_held, is_lingering}
-use Rattle.iom_base.specs.Accesses.{read_of, write_of, offset_of, IsWithinPage}
-use Rattle.iom_machine.specs.Kinds.{sends_untranslated, sends_through_cache, is_any_kind}
-use Rattle.iom_machine.specs.Requests.{state_after}
+use Rattle.iom_machine.specs.Refusals.{grant_reasons, has_cache, is_held, is_lingering}
+use Rattle.iom_base.specs.Accesses.{read_of, write_of, offset_of}
+use Rattle.iom_machine.specs.Kinds.{is_block_device, sends_untranslated, sends_through_cache, is_any_kind}
+use Rattle.iom_machine.specs.BlockDevices.{Inserts, IsAnswered, TakesStep}
+use Rattle.iom_machine.specs.Requests.{state_after, with_accepted}
 use Rattle.iom_machine.specs.ThroughCache.{at_frame, state_after_cached}
-use Rattle.iom_machine.specs.Machine.{Requests, RequestsThroughCache, Makes, Commits, Step, Run}
+use Rattle.iom_machine.specs.Machine.{Requests, RequestsThroughCache, InsertsDisk, Steps, Makes, Commits, Step, Run}
 use Rattle.iom_machine.specs.PowerOn.{opening, empty_frame}
 use Rattle.iom_machine.specs.Leaving.{is_of_left, given_back}
 use Rattle.iom_machine.specs.Tickets.{with_confirmed}
-use Rattle.iom_machine.specs.Headline.{GrantsFrame, Asked, asked_by, access_sent, IsReached}
+use Rattle.iom_machine.specs.Headline.{GrantsFrame, IsReached}
+use Rattle.iom_virtqueue.specs.Layouts.{layout_of}
 use Rattle.iom_machine.proofs.ReachLemmas.{NamesFrame, reach_before, reach_after_grant, reach_after_release, reach_after_release_of_all}
 use Rattle.iom_machine.proofs.ByteLemmas.{length-with_bytes}
-use Rattle.iom_machine.proofs.InFlightLemmas.{act_cases, some_case, All-at, AllInFlight, AllInFlight-of, AllInFlight-weaker, StillMay, IsAccepted, asked_parts, same-translated, same-asks, same-forges, same-delivers, same-drops, same-repeats, same-resets, in_flight-step}
-
--- an access that stays within its page, and a write with as many bytes as it names
-abbrev pub IsWhole : ℕ → AcceptedAccess → Type 0
-IsWhole id flight = IsWithinPage flight.access × (flight.access.kind ≡ kinds.Write → length flight.access.bytes ≡ flight.access.len)
+use Rattle.iom_machine.proofs.InFlightLemmas.{act_cases, some_case, All-at, AllInFlight, AllInFlight-of, AllInFlight-weaker, StillMay, IsWhole, same-sets_queue, same-tells_status, same-translated, same-asks, same-forges, same-delivers, same-drops, same-repeats, same-resets, in_flight-step}
 
 -- the frames have a page of bytes each
 abbrev pub AreWholeFrames : List Frame → Type 0
@@ -175,6 +173,56 @@ same_ledger-commits old new id outcome step = elim (act_cases is_any_kind _ old 
     by device NothingInFlight makes = all_same old new makes.1
     by device _ makes = absurd makes
 
+same_ledger-inserts : (disk : ℕ) (old new : State) (id : ℕ) (outcome : Outcome) → InsertsDisk disk old id outcome new → SameLedger old new
+same_ledger-inserts disk old new id outcome step = elim (act_cases is_block_device _ old id outcome new step) [
+  | inl (why, told, same) ↦ all_same old new same
+  | inr (device, at, inserts) ↦ by device outcome inserts
+]
+  where
+    by : (device : Device) (told : Outcome) → Inserts disk old device told new → SameLedger old new
+    by device Done inserts = (ap (λ (s : State). s.history) inserts.1, ap (λ (s : State). s.last_ticket) inserts.1)
+    by device (Refused why) inserts = all_same old new inserts.1
+    by device _ inserts = absurd inserts
+
+-- a step of a block device: it begins no access, or is answered as a request
+step_cases : (access : Access) (chosen : ℕ) (old new : State) (device : Device) (outcome : Outcome) → TakesStep old device access chosen outcome new
+    → (new ≡ old) ⊎ IsAnswered (has_cache device.kind) old device access chosen outcome new
+step_cases access chosen old new device (Stepped step) takes = inl takes.1
+step_cases access chosen old new device (Accepted number) takes = inr takes.1
+step_cases access chosen old new device Busy takes = inr takes.1
+step_cases access chosen old new device (Fault cause) takes = inr takes.1
+step_cases access chosen old new device _ takes = absurd takes
+
+-- what an answer keeps that is neither a device nor a disk
+kept_by_answer : {X : Type 0} (part : State → X) → ((s : State) (devices : List Device) → part (record s { devices = devices }) ≡ part s)
+    → (access : Access) (chosen : ℕ) (old new : State) (device : Device) (outcome : Outcome) (b : Bool) → IsAnswered b old device access chosen outcome new → part new ≡ part old
+kept_by_answer part keeps access chosen old new device outcome false answer = ap part answer.1 ∙ by outcome
+  where
+    by : (told : Outcome) → part (state_after old device access chosen told) ≡ part old
+    by (Accepted number) = keeps old (with_accepted old device access chosen).devices
+    by _ = refl
+kept_by_answer part keeps access chosen old new device outcome true answer = ap part answer.1 ∙ by outcome
+  where
+    by : (told : Outcome) → part (state_after_cached old device access chosen told) ≡ part old
+    by (Accepted number) = keeps old (with_accepted old device (at_frame chosen access) chosen).devices
+    by _ = refl
+
+kept_by_step : {X : Type 0} (part : State → X) → ((s : State) (devices : List Device) → part (record s { devices = devices }) ≡ part s)
+    → (access : Access) (chosen : ℕ) (old new : State) (id : ℕ) (outcome : Outcome) → Steps access chosen old id outcome new → part new ≡ part old
+kept_by_step part keeps access chosen old new id outcome step = elim (act_cases is_block_device _ old id outcome new step) [
+  | inl (why, told, same) ↦ ap part same
+  | inr (device, at, takes) ↦ elim (step_cases access chosen old new device outcome takes) [
+    | inl same ↦ ap part same
+    | inr answer ↦ kept_by_answer part keeps access chosen old new device outcome (has_cache device.kind) answer
+  ]
+]
+
+same_ledger-steps : (access : Access) (chosen : ℕ) (old new : State) (id : ℕ) (outcome : Outcome) → Steps access chosen old id outcome new → SameLedger old new
+same_ledger-steps access chosen old new id outcome step = (
+  kept_by_step (λ (s : State). s.history) (λ s devices. refl) access chosen old new id outcome step,
+  kept_by_step (λ (s : State). s.last_ticket) (λ s devices. refl) access chosen old new id outcome step,
+)
+
 -- How a step changes the ledger.
 pub data Change (event : Event) (outcome : Outcome) (old new : State) : Type 0 where
   ledger_stays : SameLedger old new → Change event outcome old new
@@ -188,9 +236,10 @@ unchanged : (event : Event) (outcome : Outcome) (old new : State) → new ≡ ol
 unchanged event outcome old new same = Change.ledger_stays (all_same old new same)
 
 pub change-step : (old new : State) (event : Event) (outcome : Outcome) → Step old event outcome new → Change event outcome old new
-change-step old new (events.Plug id kind) Done (choice, step) = Change.ledger_stays (ap (λ (s : State). s.history) step.1, ap (λ (s : State). s.last_ticket) step.1)
-change-step old new (events.Plug id kind) (Refused why) (choice, step) = unchanged _ _ old new step.1
-change-step old new (events.Plug id kind) _ (choice, step) = absurd step
+change-step old new (events.Plug id what) Done (choice, step) = Change.ledger_stays (ap (λ (s : State). s.history) step.1, ap (λ (s : State). s.last_ticket) step.1)
+change-step old new (events.Plug id what) (Refused why) (choice, step) = unchanged _ _ old new step.1
+change-step old new (events.Plug id what) _ (choice, step) = absurd step
+change-step old new (events.Medium id disk) outcome (choice, step) = Change.ledger_stays (same_ledger-inserts disk old new id outcome step)
 change-step old new (events.Attach id mode ats) Done (choice, step) =
     let found = some_case (device_of old id) _ step.2 in Change.ledger_stays (ap (λ (s : State). s.history) found.2, ap (λ (s : State). s.last_ticket) found.2)
 change-step old new (events.Attach id mode ats) (Refused why) (choice, step) = unchanged _ _ old new step.1
@@ -246,6 +295,10 @@ change-step old new (events.Deliver place) outcome (choice, step) = unchanged _ 
 change-step old new (events.Drop place) outcome (choice, step) = unchanged _ _ old new (same-drops old new outcome step)
 change-step old new (events.Repeat place) outcome (choice, step) = unchanged _ _ old new (same-repeats old new outcome step)
 change-step old new (events.Reset id) outcome (choice, step) = unchanged _ _ old new (same-resets old new id outcome step)
+change-step old new (events.Queue id size descriptors available used) outcome (choice, step) =
+    unchanged _ _ old new (same-sets_queue (layout_of size descriptors available used) old new id outcome step)
+change-step old new (events.Step id) outcome (choice, step) = Change.ledger_stays (same_ledger-steps choice.access choice.frame old new id outcome step)
+change-step old new (events.Status id) outcome (choice, step) = unchanged _ _ old new (same-tells_status old new id outcome step)
 change-step old new (events.Commit id) outcome (choice, step) = Change.ledger_stays (same_ledger-commits old new id outcome step)
 change-step old new (events.Poke address bytes) Done (choice, step) = Change.ledger_stays (ap (λ (s : State). s.history) step.2, ap (λ (s : State). s.last_ticket) step.2)
 change-step old new (events.Poke address bytes) (Refused why) (choice, step) = unchanged _ _ old new step.2
@@ -342,6 +395,20 @@ same_frames-through_cache chosen old new id access outcome step = elim (act_case
     by device (Accepted number) same = ap (λ (s : State). s.frames) same
     by device _ same = ap (λ (s : State). s.frames) same
 
+same_frames-steps : (access : Access) (chosen : ℕ) (old new : State) (id : ℕ) (outcome : Outcome) → Steps access chosen old id outcome new → new.frames ≡ old.frames
+same_frames-steps access chosen old new id outcome step = kept_by_step (λ (s : State). s.frames) (λ s devices. refl) access chosen old new id outcome step
+
+same_frames-inserts : (disk : ℕ) (old new : State) (id : ℕ) (outcome : Outcome) → InsertsDisk disk old id outcome new → new.frames ≡ old.frames
+same_frames-inserts disk old new id outcome step = elim (act_cases is_block_device _ old id outcome new step) [
+  | inl (why, told, same) ↦ ap (λ (s : State). s.frames) same
+  | inr (device, at, inserts) ↦ by device outcome inserts
+]
+  where
+    by : (device : Device) (told : Outcome) → Inserts disk old device told new → new.frames ≡ old.frames
+    by device Done inserts = ap (λ (s : State). s.frames) inserts.1
+    by device (Refused why) inserts = ap (λ (s : State). s.frames) inserts.1
+    by device _ inserts = absurd inserts
+
 -- what is kept where a frame gets an owner
 abbrev pub KeptByOwners : (List Frame → Type 0) → Type 0
 KeptByOwners P = (frames : List Frame) (number : ℕ) (owner : Owner) → P frames → P (with_frame frames number (λ frame. record frame { owner = Some owner }))
@@ -385,9 +452,10 @@ frames-commits W P written old new id outcome all step its = elim (act_cases is_
 -- A step keeps what reserving frames keeps, and giving them back, and making the writes in flight, and the processor's own.
 pub frames-step : (W : AcceptedAccess → Type 0) (P : List Frame → Type 0) → KeptByOwners P → KeptByReturns P → KeptByWrites W P → KeptByPokes P
     → (old new : State) (event : Event) (outcome : Outcome) → AllInFlight (λ id flight. W flight) old.devices → Step old event outcome new → P old.frames → P new.frames
-frames-step W P owned returned written poked old new (events.Plug id kind) Done all (choice, step) its = subst P (sym (ap (λ (s : State). s.frames) step.1)) its
-frames-step W P owned returned written poked old new (events.Plug id kind) (Refused why) all (choice, step) its = subst P (sym (ap (λ (s : State). s.frames) step.1)) its
-frames-step W P owned returned written poked old new (events.Plug id kind) _ all (choice, step) its = absurd step
+frames-step W P owned returned written poked old new (events.Plug id what) Done all (choice, step) its = subst P (sym (ap (λ (s : State). s.frames) step.1)) its
+frames-step W P owned returned written poked old new (events.Plug id what) (Refused why) all (choice, step) its = subst P (sym (ap (λ (s : State). s.frames) step.1)) its
+frames-step W P owned returned written poked old new (events.Plug id what) _ all (choice, step) its = absurd step
+frames-step W P owned returned written poked old new (events.Medium id disk) outcome all (choice, step) its = subst P (sym (same_frames-inserts disk old new id outcome step)) its
 frames-step W P owned returned written poked old new (events.Attach id mode ats) Done all (choice, step) its =
     let found = some_case (device_of old id) _ step.2 in
     subst P (sym (ap (λ (s : State). s.frames) found.2))
@@ -442,6 +510,11 @@ frames-step W P owned returned written poked old new (events.Deliver place) outc
 frames-step W P owned returned written poked old new (events.Drop place) outcome all (choice, step) its = subst P (sym (ap (λ (s : State). s.frames) (same-drops old new outcome step))) its
 frames-step W P owned returned written poked old new (events.Repeat place) outcome all (choice, step) its = subst P (sym (ap (λ (s : State). s.frames) (same-repeats old new outcome step))) its
 frames-step W P owned returned written poked old new (events.Reset id) outcome all (choice, step) its = subst P (sym (ap (λ (s : State). s.frames) (same-resets old new id outcome step))) its
+frames-step W P owned returned written poked old new (events.Queue id size descriptors available used) outcome all (choice, step) its =
+    subst P (sym (ap (λ (s : State). s.frames) (same-sets_queue (layout_of size descriptors available used) old new id outcome step))) its
+frames-step W P owned returned written poked old new (events.Step id) outcome all (choice, step) its =
+    subst P (sym (same_frames-steps choice.access choice.frame old new id outcome step)) its
+frames-step W P owned returned written poked old new (events.Status id) outcome all (choice, step) its = subst P (sym (ap (λ (s : State). s.frames) (same-tells_status old new id outcome step))) its
 frames-step W P owned returned written poked old new (events.Commit id) outcome all (choice, step) its = frames-commits W P written old new id outcome all step its
 frames-step W P owned returned written poked old new (events.Poke address bytes) Done all (choice, step) its =
     subst P (sym (ap (λ (s : State). s.frames) step.2)) (poked old.frames (address / 4096) (address % 4096) bytes step.0.1 its)
@@ -503,41 +576,12 @@ same_size-step old new event outcome step =
     (λ frames number offset bytes fits same. length-with_frame frames number (λ frame. record frame { bytes = with_bytes frame.bytes offset bytes }) ∙ same)
     old new event outcome (λ k d below. all_so _) step refl
 
--- an access that is asked for names as many bytes as it has
-abbrev pub NamesItsBytes : Access → Type 0
-NamesItsBytes access = access.kind ≡ kinds.Write → length access.bytes ≡ access.len
-
-read_names : (address len : ℕ) → NamesItsBytes (read_of address len)
-read_names address len write = let same : kinds.Read ≡ kinds.Write = write in cc
-
-write_names : (address : ℕ) (bytes : List ℕ) → NamesItsBytes (write_of address bytes)
-write_names address bytes write = refl
-
-asked_names : (event : Event) (id : ℕ) (asked : Asked) → asked_by event ≡ Some (id, asked) → NamesItsBytes asked.access
-asked_names (events.Read d address len) id asked asks = subst (λ (a : Asked). NamesItsBytes a.access) (asked_parts d id _ asked asks).1 (read_names address len)
-asked_names (events.Write d address bytes) id asked asks = subst (λ (a : Asked). NamesItsBytes a.access) (asked_parts d id _ asked asks).1 (write_names address bytes)
-asked_names (events.ReadThroughCache d address len) id asked asks = subst (λ (a : Asked). NamesItsBytes a.access) (asked_parts d id _ asked asks).1 (read_names address len)
-asked_names (events.WriteThroughCache d address bytes) id asked asks = subst (λ (a : Asked). NamesItsBytes a.access) (asked_parts d id _ asked asks).1 (write_names address bytes)
-asked_names _ id asked asks = cc
-
--- and so has the access that is sent of it
-sent_names : (frame : ℕ) (asked : Asked) → NamesItsBytes asked.access → NamesItsBytes (access_sent frame asked)
-sent_names frame asked names = by asked.through_cache
-  where
-    by : (b : Bool) → NamesItsBytes (if b then at_frame frame asked.access else asked.access)
-    by true = names
-    by false = names
-
-named_bytes : (event : Event) (outcome : Outcome) (id : ℕ) (flight : AcceptedAccess) → IsAccepted event outcome id flight → NamesItsBytes flight.access
-named_bytes event (Accepted number) id flight (asked, asks, sent) = subst NamesItsBytes (sym sent) (sent_names flight.frame asked (asked_names event id asked asks))
-named_bytes event _ id flight accepted = absurd accepted
-
 pub sound-step : (old new : State) (event : Event) (outcome : Outcome) → IsSound old → Step old event outcome new → IsSound new
 sound-step old new event outcome sound step =
     let change = change-step old new event outcome step in
     record {
-      reaches = reaches-change event outcome old new change sound.tickets (in_flight-step (StillMay old.history) old new event outcome step (λ id flight accepted within may. may) sound.reaches);
-      whole = in_flight-step IsWhole old new event outcome step (λ id flight accepted within may. (within, named_bytes event outcome id flight accepted)) sound.whole;
+      reaches = reaches-change event outcome old new change sound.tickets (in_flight-step (StillMay old.history) old new event outcome step (λ id flight accepted whole may. may) sound.reaches);
+      whole = in_flight-step IsWhole old new event outcome step (λ id flight accepted whole may. whole) sound.whole;
       tickets = tickets-change event outcome old new change sound.tickets;
       frames = frames-step (IsWhole 0) AreWholeFrames
           (λ frames number owner all. All-with_frame (λ (f : Frame). length f.bytes ≡ 4096) frames number (λ frame. record frame { owner = Some owner }) (λ frame its. its) all)
@@ -556,8 +600,8 @@ never_before : (device frame : ℕ) (kind : AccessKind) → ¬ May [] device fra
 never_before device frame kind (page, rights, inl holds, allowed) = let none : ◌≡◌ {A = Option Pair} None (Some (frame, rights)) = holds in cc
 never_before device frame kind (page, rights, inr (ticket, (k, below, at)), allowed) = omega arith
 
-pub sound-opening : (frames levels : ℕ) → IsSound (opening frames levels)
-sound-opening frames levels = record {
+pub sound-opening : (frames levels : ℕ) (disks : List ℕ) → IsSound (opening frames levels disks)
+sound-opening frames levels disks = record {
   reaches = All-nil (λ (d : Device). All (StillMay [] d.id) d.in_flight);
   whole = All-nil (λ (d : Device). All (IsWhole d.id) d.in_flight);
   tickets = λ t c. cc;
@@ -568,4 +612,5 @@ sound-opening frames levels = record {
 
 -- every state that is reached is sound
 pub sound_if_reached : (state : State) → IsReached state → IsSound state
-sound_if_reached state (events, outcomes, (frames, levels, run)) = sound-run (opening frames levels) state events outcomes (sound-opening frames levels) run
+sound_if_reached state (events, outcomes, (frames, levels, disks, run)) =
+    sound-run (opening frames levels disks) state events outcomes (sound-opening frames levels disks) run

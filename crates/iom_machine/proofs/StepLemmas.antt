@@ -1,5 +1,6 @@
 -- A step that the judge decides, with the next state shown.
-use Rattle.std.proofs.Common.{◌≡◌, ◌↔◌, ℕ, Bool, true, false, IsTrue, refl, List, Option, None, Some, Result, Ok, Err, IfOk, slice_get, sym, ap, subst, ◌∙◌}
+use Rattle.std.proofs.Common.{◌≡◌, ◌↔◌, ℕ, Bool, true, false, IsTrue, refl, List, Option, None, Some, Result, Ok, Err, IfOk, get_or, slice_get, sym, ap, subst, ◌∙◌}
+use Rattle.std.proofs.lemmas.Option.{get_or_from_slice_get}
 use Rattle.std.specs.declared.alloc.AllocError.{AllocError}
 use Rattle.iom_ledger.specs.declared.refusal.Refusal.TheVariants.{NoSuchDevice, WrongKind}
 use Rattle.iom_machine.specs.declared.outcome.Outcome.{Outcome}
@@ -60,13 +61,22 @@ own_place devices id place device is_place at =
     let own = (found_device devices id device (is_place.1 ∙ at)).1 in subst (λ i. StandsAt devices i place) (sym own) is_place
 
 -- the same, whatever memory did
+pub able_if_ok : (can : DeviceKind → Bool) (result : Result (Option State) AllocError) (Q : Device → State → Type 0) (old : State) (id : ℕ) (outcome : Outcome) (device : Device)
+    → device_of old id ≡ Some device → can device.kind ≡ true
+    → IfOk result (λ next. (new : State) → (next ≡ Some new) ↔ Q device new) → IfOk result (λ next. (new : State) → (next ≡ Some new) ↔ Acts can (λ d. Q d new) old id outcome new)
+able_if_ok can (Ok next) Q old id outcome device there able decides = acts_there can next Q old id outcome device there able decides
+able_if_ok can (Err e) Q old id outcome device there able decides = decides
+
 pub acts_if_ok : (result : Result (Option State) AllocError) (Q : Device → State → Type 0) (old : State) (id : ℕ) (outcome : Outcome) (device : Device) → device_of old id ≡ Some device
     → IfOk result (λ next. (new : State) → (next ≡ Some new) ↔ Q device new) → IfOk result (λ next. (new : State) → (next ≡ Some new) ↔ Acts is_any_kind (λ d. Q d new) old id outcome new)
-acts_if_ok (Ok next) Q old id outcome device there decides = acts_there is_any_kind next Q old id outcome device there refl decides
-acts_if_ok (Err e) Q old id outcome device there decides = decides
+acts_if_ok result Q old id outcome device there decides = able_if_ok is_any_kind result Q old id outcome device there refl decides
 
 -- what is so for each device at the place is so for the one that is there
 pub at_device : (result : Result (Option State) AllocError) (A B : Device → Type 0) (R : Option State → Device → Type 0) (device : Device) → A device → B device
     → IfOk result (λ next. (d : Device) → A d → B d → R next d) → IfOk result (λ next. R next device)
 at_device (Ok next) A B R device a b decides = decides device a b
 at_device (Err e) A B R device a b decides = decides
+
+-- what is read at a place is the device that stands there
+pub read_again : (devices : List Device) (place : ℕ) (device read : Device) → slice_get devices place ≡ Some device → read ≡ get_or devices place read → device ≡ read
+read_again devices place device read at is = sym (is ∙ get_or_from_slice_get devices place device read at)

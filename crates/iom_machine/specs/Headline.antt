@@ -6,7 +6,7 @@ use Rattle.iom_ledger.specs.History.{May}
 use Rattle.iom_machine.specs.declared.event.Event.{Event}
 use Rattle.iom_machine.specs.declared.event.Event.TheVariants as events
 use Rattle.iom_machine.specs.declared.outcome.Outcome.{Outcome}
-use Rattle.iom_machine.specs.declared.outcome.Outcome.TheVariants.{Done, Refused, Ticket, Confirmed, NoneConfirmed, Record, NoRecord, Fetched, TimedOut, NoEffect, Accepted, Busy, BadSpan, Fault, Miss, Sent, Lost, Answered, Kept, Stale, AnswerRefused, Ignored, Invalidated, Closed, NotClosed, Dropped, Repeated, NoMessage, Read, Wrote, NothingInFlight, Bytes, Free}
+use Rattle.iom_machine.specs.declared.outcome.Outcome.TheVariants.{Done, Refused, Ticket, Confirmed, NoneConfirmed, Record, NoRecord, Fetched, TimedOut, NoEffect, Accepted, Busy, BadSpan, Fault, Miss, Sent, Lost, Answered, Kept, Stale, AnswerRefused, Ignored, Invalidated, Closed, NotClosed, Dropped, Repeated, NoMessage, Read, Wrote, NothingInFlight, Bytes, Free, Stepped, Status}
 use Rattle.iom_base.specs.declared.access.Access.{Access}
 use Rattle.iom_machine.specs.declared.state.Attachment.TheVariants.{Attached}
 use Rattle.iom_machine.specs.declared.state.Device.{Device}
@@ -25,7 +25,7 @@ use Rattle.iom_machine.specs.PowerOn.{opening}
 
 -- these events from power-on may have had these outcomes, and left the state
 abbrev pub IsReachedBy : List Event → List Outcome → State → Type 0
-IsReachedBy events outcomes state = (frames levels : ℕ) × Run (opening frames levels) events outcomes state
+IsReachedBy events outcomes state = (frames levels : ℕ) × (disks : List ℕ) × Run (opening frames levels disks) events outcomes state
 
 -- some list of events from power-on leaves the state
 abbrev pub IsReached : State → Type 0
@@ -66,23 +66,25 @@ TouchesItsOwn old id (Refused why) new = new.frames ≡ old.frames
 -- no other outcome comes of a commit
 TouchesItsOwn old id _ new = ⊥
 
--- an access that is asked for, and whether through the device's own cache
-pub record Asked : Type 0 where
-  pub access : Access
-  pub through_cache : Bool
+-- What is asked for: an access that the event names, through the device's own cache or not; or one of a block device, which its step chose.
+pub data Asked : Type 0 where
+  Named : (access : Access) → (through_cache : Bool) → Asked
+  Chosen : Asked
 
 abbrev pub asked_untranslated : ℕ → Access → Option (ℕ × Asked)
-asked_untranslated id access = Some (id, record { access = access; through_cache = false })
+asked_untranslated id access = Some (id, Asked.Named access false)
 
 abbrev pub asked_through_cache : ℕ → Access → Option (ℕ × Asked)
-asked_through_cache id access = Some (id, record { access = access; through_cache = true })
+asked_through_cache id access = Some (id, Asked.Named access true)
 
 -- The access that the event asks for, with the device that asks. A request that says it is translated already is never accepted, and so asks for none.
+-- A step of a block device asks for one, if any.
 abbrev pub asked_by : Event → Option (ℕ × Asked)
 asked_by (events.Read id address len) = asked_untranslated id (read_of address len)
 asked_by (events.Write id address bytes) = asked_untranslated id (write_of address bytes)
 asked_by (events.ReadThroughCache id address len) = asked_through_cache id (read_of address len)
 asked_by (events.WriteThroughCache id address bytes) = asked_through_cache id (write_of address bytes)
+asked_by (events.Step id) = Some (id, Asked.Chosen)
 asked_by (events.ReadTranslated id address len) = None
 asked_by (events.WriteTranslated id address bytes) = None
 asked_by (events.Ask id page) = None
@@ -91,7 +93,10 @@ asked_by (events.Deliver place) = None
 asked_by (events.Drop place) = None
 asked_by (events.Repeat place) = None
 asked_by (events.Reset id) = None
-asked_by (events.Plug id kind) = None
+asked_by (events.Queue id size descriptors available used) = None
+asked_by (events.Status id) = None
+asked_by (events.Plug id what) = None
+asked_by (events.Medium id disk) = None
 asked_by (events.Attach id mode ats) = None
 asked_by (events.Detach id) = None
 asked_by (events.Grant id page frame rights) = None
@@ -147,6 +152,8 @@ accepted_by event (Wrote len) id = []
 accepted_by event NothingInFlight id = []
 accepted_by event (Bytes bytes) id = []
 accepted_by event (Free is_free) id = []
+accepted_by event (Stepped step) id = []
+accepted_by event (Status status) id = []
 
 -- the accesses of the device that are accepted at the events, in order
 abbrev pub accepted_in : List Event → List Outcome → ℕ → List Asked
@@ -161,7 +168,8 @@ made_by (events.Commit d) NothingInFlight id = 0
 made_by (events.Commit d) (Refused why) id = 0
 -- no other outcome comes of a commit
 made_by (events.Commit d) _ id = 0
-made_by (events.Plug d kind) outcome id = 0
+made_by (events.Plug d what) outcome id = 0
+made_by (events.Medium d disk) outcome id = 0
 made_by (events.Attach d mode ats) outcome id = 0
 made_by (events.Detach d) outcome id = 0
 made_by (events.Grant d page frame rights) outcome id = 0
@@ -185,6 +193,9 @@ made_by (events.Deliver place) outcome id = 0
 made_by (events.Drop place) outcome id = 0
 made_by (events.Repeat place) outcome id = 0
 made_by (events.Reset d) outcome id = 0
+made_by (events.Queue d size descriptors available used) outcome id = 0
+made_by (events.Step d) outcome id = 0
+made_by (events.Status d) outcome id = 0
 made_by (events.Poke address bytes) outcome id = 0
 made_by (events.Peek address len) outcome id = 0
 made_by (events.Free frame) outcome id = 0
@@ -194,14 +205,19 @@ abbrev pub made_in : List Event → List Outcome → ℕ → ℕ
 made_in (event ∷ events) (outcome ∷ outcomes) id = made_by event outcome id + made_in events outcomes id
 made_in _ _ id = 0
 
--- the access that goes to memory, of what was asked for: through the device's own cache it is at its physical address
-abbrev pub access_sent : ℕ → Asked → Access
-access_sent frame asked = if asked.through_cache then at_frame frame asked.access else asked.access
+-- the access that goes to memory, of one that was named: through the device's own cache it is at its physical address
+abbrev pub access_sent : ℕ → Access → Bool → Access
+access_sent frame access through_cache = if through_cache then at_frame frame access else access
+
+-- the access in flight is what was sent of what was asked for; of one that a step chose it is any
+abbrev pub IsSentOf : Asked → AcceptedAccess → Type 0
+IsSentOf (Asked.Named access through_cache) flight = flight.access ≡ access_sent flight.frame access through_cache
+IsSentOf Asked.Chosen flight = ⊤
 
 -- these accesses in flight are what was sent of those that were asked for, one by one
 abbrev pub AreSent : List Asked → List AcceptedAccess → Type 0
 AreSent [] [] = ⊤
-AreSent (asked ∷ others) (flight ∷ flights) = (flight.access ≡ access_sent flight.frame asked) × AreSent others flights
+AreSent (asked ∷ others) (flight ∷ flights) = IsSentOf asked flight × AreSent others flights
 AreSent _ _ = ⊥
 
 -- The accesses of the device that were accepted at these events are, in order, those that were made, and then those that are in flight; and the device
@@ -224,7 +240,8 @@ GrantsFrame (events.Grant id page named rights) Done frame = named ≡ frame
 GrantsFrame (events.Grant id page named rights) (Refused why) frame = ⊥
 -- no other outcome comes of a grant
 GrantsFrame (events.Grant id page named rights) _ frame = ⊥
-GrantsFrame (events.Plug id kind) outcome frame = ⊥
+GrantsFrame (events.Plug id what) outcome frame = ⊥
+GrantsFrame (events.Medium id disk) outcome frame = ⊥
 GrantsFrame (events.Attach id mode ats) outcome frame = ⊥
 GrantsFrame (events.Detach id) outcome frame = ⊥
 GrantsFrame (events.Release id page) outcome frame = ⊥
@@ -247,6 +264,9 @@ GrantsFrame (events.Deliver place) outcome frame = ⊥
 GrantsFrame (events.Drop place) outcome frame = ⊥
 GrantsFrame (events.Repeat place) outcome frame = ⊥
 GrantsFrame (events.Reset id) outcome frame = ⊥
+GrantsFrame (events.Queue id size descriptors available used) outcome frame = ⊥
+GrantsFrame (events.Step id) outcome frame = ⊥
+GrantsFrame (events.Status id) outcome frame = ⊥
 GrantsFrame (events.Commit id) outcome frame = ⊥
 GrantsFrame (events.Poke address bytes) outcome frame = ⊥
 GrantsFrame (events.Peek address len) outcome frame = ⊥
@@ -265,7 +285,8 @@ TouchesFrame old (events.Commit id) NothingInFlight frame = ⊥
 TouchesFrame old (events.Commit id) (Refused why) frame = ⊥
 -- no other outcome comes of a commit
 TouchesFrame old (events.Commit id) _ frame = ⊥
-TouchesFrame old (events.Plug id kind) outcome frame = ⊥
+TouchesFrame old (events.Plug id what) outcome frame = ⊥
+TouchesFrame old (events.Medium id disk) outcome frame = ⊥
 TouchesFrame old (events.Attach id mode ats) outcome frame = ⊥
 TouchesFrame old (events.Detach id) outcome frame = ⊥
 TouchesFrame old (events.Grant id page named rights) outcome frame = ⊥
@@ -289,6 +310,9 @@ TouchesFrame old (events.Deliver place) outcome frame = ⊥
 TouchesFrame old (events.Drop place) outcome frame = ⊥
 TouchesFrame old (events.Repeat place) outcome frame = ⊥
 TouchesFrame old (events.Reset id) outcome frame = ⊥
+TouchesFrame old (events.Queue id size descriptors available used) outcome frame = ⊥
+TouchesFrame old (events.Step id) outcome frame = ⊥
+TouchesFrame old (events.Status id) outcome frame = ⊥
 -- the processor is no device
 TouchesFrame old (events.Poke address bytes) outcome frame = ⊥
 TouchesFrame old (events.Peek address len) outcome frame = ⊥
@@ -335,7 +359,7 @@ abbrev pub AccessesInFlightMay : Type 0
 AccessesInFlightMay = (state : State) → IsReached state → EachInFlightMay state
 
 -- Every access in flight was asked for by an earlier event of its own, of its device, with that address, length and bytes, and accepted; where it goes
--- through the device's own cache, at the physical address of that one.
+-- through the device's own cache, at the physical address of that one. That of a block device was asked for by a step of its own, which names none.
 abbrev pub AccessesInFlightWereAccepted : Type 0
 AccessesInFlightWereAccepted =
     (state : State) (events : List Event) (outcomes : List Outcome) → IsReachedBy events outcomes state

@@ -19,8 +19,9 @@ use Rattle.iom_machine.specs.declared.outcome.Outcome.{Outcome}
 use Rattle.iom_machine.specs.declared.state.State.{State}
 use Rattle.iom_base.specs.Accesses.{read_of, write_of}
 use Rattle.iom_machine.specs.Devices.{replaced_device}
-use Rattle.iom_machine.specs.Machine.{Plugs, Attaches, Detaches, Grants, Releases, Quarantines, Revives, Restarts, TimesOut, Resets, Requests, RequestsTranslated, RequestsThroughCache}
+use Rattle.iom_machine.specs.Machine.{Plugs, Attaches, Detaches, Grants, Releases, Quarantines, Revives, Restarts, TimesOut, Resets, InsertsDisk, SetsQueue, Steps, TellsStatus, Requests, RequestsTranslated, RequestsThroughCache}
 use Rattle.iom_machine.specs.Leaving.{has_left}
+use Rattle.iom_virtqueue.specs.Layouts.{layout_of}
 
 -- whether the device holds the frame at the page, with such a right
 abbrev pub holds_for : History → ℕ → ℕ → AccessKind → ℕ → Bool
@@ -106,7 +107,7 @@ CountsAll count n IsOfSort = (found : List ℕ) × ListsAll found n IsOfSort × 
 
 -- the step of a call of the driver; no other event is one
 abbrev pub CallStep : Choice → State → Event → Outcome → State → Type 0
-CallStep choice old (events.Plug id kind) outcome new = Plugs old id kind outcome new
+CallStep choice old (events.Plug id what) outcome new = Plugs old id what outcome new
 CallStep choice old (events.Attach id mode ats) outcome new = Attaches choice.directory choice.taken old id mode ats outcome new
 CallStep choice old (events.Detach id) outcome new = Detaches old id outcome new
 CallStep choice old (events.Grant id page frame rights) outcome new = Grants choice.taken old id page frame rights outcome new
@@ -121,6 +122,15 @@ RecoveryStep old events.Restart outcome new = Restarts old outcome new
 RecoveryStep old events.Timeout outcome new = TimesOut old outcome new
 RecoveryStep old (events.Reset id) outcome new = Resets old id outcome new
 RecoveryStep old _ outcome new = ⊥
+
+-- the step of an event that only a block device takes; no other event is one
+abbrev pub BlockDeviceStep : Choice → State → Event → Outcome → State → Type 0
+BlockDeviceStep choice old (events.Medium id disk) outcome new = InsertsDisk disk old id outcome new
+BlockDeviceStep choice old (events.Queue id size descriptors available used) outcome new =
+    SetsQueue (layout_of size descriptors available used) old id outcome new
+BlockDeviceStep choice old (events.Step id) outcome new = Steps choice.access choice.frame old id outcome new
+BlockDeviceStep choice old (events.Status id) outcome new = TellsStatus old id outcome new
+BlockDeviceStep choice old _ outcome new = ⊥
 
 -- the step of a request that the IOMMU translates; no other event is one
 abbrev pub UntranslatedStep : ℕ → State → Event → Outcome → State → Type 0

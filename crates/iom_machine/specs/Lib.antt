@@ -1,6 +1,8 @@
 pub mod Frames
 pub mod Devices
 pub mod Tickets
+pub mod Traces
+pub mod Disks
 pub mod Refusals
 pub mod Requests
 pub mod Kinds
@@ -8,6 +10,7 @@ pub mod Translated
 pub mod ThroughCache
 pub mod Questions
 pub mod Messages
+pub mod BlockDevices
 pub mod PowerOn
 pub mod Leaving
 pub mod CuttingOff

@@ -1,5 +1,5 @@
 -- The ledger machine: what may come of each event, and the state after it.
-use Rattle.std.specs.Prelude.{◌≡◌, ◌↔◌, ℕ, ◌+◌, ◌/◌, ◌%◌, Bool, true, false, List, [], ◌∷◌, ◌++◌, All, Some, MatchOption, IsTrue, length, IsSomeAnd, slice_get, slice_range, drop, ⊤}
+use Rattle.std.specs.Prelude.{◌≡◌, ◌↔◌, ℕ, ◌+◌, ◌/◌, ◌%◌, Bool, true, false, List, [], ◌∷◌, ◌++◌, All, Some, MatchOption, is_some, IsTrue, length, IsSomeAnd, slice_get, slice_range, drop}
 use Rattle.iom_base.specs.declared.access.AccessKind.TheVariants as kinds
 use Rattle.iom_base.specs.declared.grant_rights.GrantRights.{GrantRights}
 use Rattle.iom_ledger.specs.declared.entry.HistoryEntry.TheVariants as entry
@@ -17,7 +17,7 @@ use Rattle.iom_base.specs.declared.access.Access.{Access}
 use Rattle.iom_machine.specs.declared.state.Attachment.TheVariants.{Detached, Attached}
 use Rattle.iom_machine.specs.declared.state.Device.{Device}
 use Rattle.iom_machine.specs.declared.state.DeviceKind.{DeviceKind}
-use Rattle.iom_machine.specs.declared.state.DeviceKind.TheVariants.{Raw, Ats, Block, CachedBlock}
+use Rattle.iom_machine.specs.declared.state.NewDevice.{NewDevice}
 use Rattle.iom_base.specs.declared.access.AcceptedAccess.{AcceptedAccess}
 use Rattle.iom_base.specs.declared.mode.Mode.{Mode}
 use Rattle.iom_base.specs.declared.owner.Owner.TheVariants.{System, OneDevice}
@@ -28,64 +28,30 @@ use Rattle.iom_machine.specs.Tickets.{AreNextTickets, with_confirmed}
 use Rattle.iom_ledger.specs.Refusals.{NoneApplies, IsRefusedBy}
 use Rattle.iom_machine.specs.Refusals.{MayRefusePlug, MayRefuseAttach, MayRefuseGrant, MayRefuseRestart, MayFindNoPlace, NeverElse, plug_reasons, attach_reasons, detach_reasons, grant_reasons, release_reasons, quarantine_reasons, revive_reasons, frame_reasons, poke_reasons}
 use Rattle.iom_base.specs.Accesses.{read_of, write_of, offset_of}
-use Rattle.iom_machine.specs.Kinds.{sends_untranslated, forges, sends_through_cache, asks_questions, is_any_kind}
+use Rattle.iom_machine.specs.Disks.{without_disk}
+use Rattle.iom_machine.specs.Kinds.{kind_of, disk_of, is_block_device, sends_untranslated, forges, sends_through_cache, asks_questions, is_any_kind}
 use Rattle.iom_machine.specs.Requests.{MayAnswer, state_after}
 use Rattle.iom_machine.specs.Translated.{MayAnswerTranslated}
 use Rattle.iom_machine.specs.ThroughCache.{MayAnswerThroughCache, state_after_cached}
 use Rattle.iom_machine.specs.Messages.{Sends, Delivers, Drops, Repeats}
+use Rattle.iom_machine.specs.BlockDevices.{Inserts, MaySet, IsStatus, TakesStep}
+use Rattle.iom_virtqueue.specs.declared.layout.Layout.{Layout}
+use Rattle.iom_virtqueue.specs.Layouts.{layout_of}
 use Rattle.iom_machine.specs.Leaving.{leaving_under, with_left}
 use Rattle.iom_machine.specs.CuttingOff.{cut_off_under, attached_again}
 
--- whether there are devices of this kind, so far: block devices come later
-abbrev pub is_built : DeviceKind → Bool
-is_built Raw = true
-is_built Ats = true
-is_built Block = false
-is_built CachedBlock = false
+-- a device as it is plugged in: detached, with nothing in flight, and with its disk, if it is a block device
+abbrev pub plugged_device : ℕ → NewDevice → Device
+plugged_device id what =
+    record { id = id; kind = kind_of what; has_disk = is_some (disk_of what); attachment = Detached; accepted = 0; in_flight = [] }
 
--- The event can come, so far: all but the plugging in of a block device. The steps below say what that leads to all the same; nothing that asks for
--- this takes it yet.
-abbrev pub IsEvent : Event → Type 0
-IsEvent (events.Plug id kind) = is_built kind ≡ true
-IsEvent (events.Attach id mode ats) = ⊤
-IsEvent (events.Detach id) = ⊤
-IsEvent (events.Grant id page frame rights) = ⊤
-IsEvent (events.Release id page) = ⊤
-IsEvent (events.Quarantine id) = ⊤
-IsEvent (events.Revive id) = ⊤
-IsEvent events.Restart = ⊤
-IsEvent events.Fetch = ⊤
-IsEvent events.Timeout = ⊤
-IsEvent events.Poll = ⊤
-IsEvent events.Faults = ⊤
-IsEvent (events.Read id address len) = ⊤
-IsEvent (events.Write id address bytes) = ⊤
-IsEvent (events.ReadTranslated id address len) = ⊤
-IsEvent (events.WriteTranslated id address bytes) = ⊤
-IsEvent (events.ReadThroughCache id address len) = ⊤
-IsEvent (events.WriteThroughCache id address bytes) = ⊤
-IsEvent (events.Ask id page) = ⊤
-IsEvent (events.Forge id serial) = ⊤
-IsEvent (events.Deliver place) = ⊤
-IsEvent (events.Drop place) = ⊤
-IsEvent (events.Repeat place) = ⊤
-IsEvent (events.Reset id) = ⊤
-IsEvent (events.Commit id) = ⊤
-IsEvent (events.Poke address bytes) = ⊤
-IsEvent (events.Peek address len) = ⊤
-IsEvent (events.Free frame) = ⊤
-
--- a device as it is plugged in: detached, with nothing in flight
-abbrev pub plugged_device : ℕ → DeviceKind → Device
-plugged_device id kind = record { id = id; kind = kind; attachment = Detached; accepted = 0; in_flight = [] }
-
--- A device is plugged in.
-abbrev pub Plugs : State → ℕ → DeviceKind → Outcome → State → Type 0
-Plugs old id kind Done new =
-    NoneApplies (plug_reasons old id)
-    × (new ≡ record old { devices = old.devices ++ plugged_device id kind ∷ [] })
-Plugs old id kind (Refused why) new = IsRefusedBy (plug_reasons old id) MayRefusePlug why × (new ≡ old)
-Plugs old id kind _ new = ⊥
+-- A device is plugged in. Its disk is in no other device, ever.
+abbrev pub Plugs : State → ℕ → NewDevice → Outcome → State → Type 0
+Plugs old id what Done new =
+    NoneApplies (plug_reasons old id what)
+    × (new ≡ record old { devices = old.devices ++ plugged_device id what ∷ []; disks = without_disk (disk_of what) old.disks })
+Plugs old id what (Refused why) new = IsRefusedBy (plug_reasons old id what) MayRefusePlug why × (new ≡ old)
+Plugs old id what _ new = ⊥
 
 -- A device is attached. Some free frames become pages of the device directory, which are the system's, and some become the device's tables.
 abbrev pub Attaches : (pages taken : List ℕ) → State → ℕ → Mode → Bool → Outcome → State → Type 0
@@ -100,11 +66,12 @@ Attaches pages taken old id mode ats (Refused why) new =
 Attaches pages taken old id mode ats _ new = ⊥
 
 -- A device that holds nothing, and for which nothing lingers, is detached: it leaves under the next ticket, and keeps its frames until that is confirmed.
+-- It has no disk any more.
 abbrev pub Detaches : State → ℕ → Outcome → State → Type 0
 Detaches old id (Ticket ticket) new =
     NoneApplies (detach_reasons old id) × (ticket ≡ old.last_ticket + 1)
     × IsSomeAnd (device_of old id) (λ device.
-    new ≡ record (with_device old (record device { attachment = leaving_under ticket device.attachment })) { last_ticket = ticket })
+    new ≡ record (with_device old (record device { has_disk = false; attachment = leaving_under ticket device.attachment })) { last_ticket = ticket })
 Detaches old id (Refused why) new = IsRefusedBy (detach_reasons old id) MayFindNoPlace why × (new ≡ old)
 Detaches old id _ new = ⊥
 
@@ -219,6 +186,22 @@ Forges old id outcome new = Acts forges (λ device. Sends old outcome new) old i
 abbrev pub Resets : State → ℕ → Outcome → State → Type 0
 Resets old id outcome new = Acts is_any_kind (λ device. (outcome ≡ Done) × (new ≡ old)) old id outcome new
 
+-- A disk is put into a block device.
+abbrev pub InsertsDisk : ℕ → State → ℕ → Outcome → State → Type 0
+InsertsDisk disk old id outcome new = Acts is_block_device (λ device. Inserts disk old device outcome new) old id outcome new
+
+-- The queue of a block device is set. Nothing changes that the machine knows.
+abbrev pub SetsQueue : Layout → State → ℕ → Outcome → State → Type 0
+SetsQueue layout old id outcome new = Acts is_block_device (λ device. MaySet layout outcome × (new ≡ old)) old id outcome new
+
+-- A block device takes a step. Where that begins an access which is accepted, that is on the frame.
+abbrev pub Steps : Access → ℕ → State → ℕ → Outcome → State → Type 0
+Steps access frame old id outcome new = Acts is_block_device (λ device. TakesStep old device access frame outcome new) old id outcome new
+
+-- The status of a block device is read. Nothing changes that the machine knows.
+abbrev pub TellsStatus : State → ℕ → Outcome → State → Type 0
+TellsStatus old id outcome new = Acts is_block_device (λ device. IsStatus outcome × (new ≡ old)) old id outcome new
+
 -- the state, where the oldest access of the device is in flight no more
 abbrev pub with_oldest_made : State → Device → State
 with_oldest_made state device = with_device state (record device { in_flight = drop 1 device.in_flight })
@@ -283,7 +266,8 @@ TellsFree old frame _ new = ⊥
 
 -- The event may have this outcome, and leave this state, where what the outcome doesn't show is chosen so.
 abbrev pub ChosenStep : Choice → State → Event → Outcome → State → Type 0
-ChosenStep choice old (events.Plug id kind) outcome new = Plugs old id kind outcome new
+ChosenStep choice old (events.Plug id what) outcome new = Plugs old id what outcome new
+ChosenStep choice old (events.Medium id disk) outcome new = InsertsDisk disk old id outcome new
 ChosenStep choice old (events.Attach id mode ats) outcome new = Attaches choice.directory choice.taken old id mode ats outcome new
 ChosenStep choice old (events.Detach id) outcome new = Detaches old id outcome new
 ChosenStep choice old (events.Grant id page frame rights) outcome new = Grants choice.taken old id page frame rights outcome new
@@ -307,6 +291,10 @@ ChosenStep choice old (events.Deliver place) outcome new = Delivers choice.devic
 ChosenStep choice old (events.Drop place) outcome new = Drops old outcome new
 ChosenStep choice old (events.Repeat place) outcome new = Repeats old outcome new
 ChosenStep choice old (events.Reset id) outcome new = Resets old id outcome new
+ChosenStep choice old (events.Queue id size descriptors available used) outcome new =
+    SetsQueue (layout_of size descriptors available used) old id outcome new
+ChosenStep choice old (events.Step id) outcome new = Steps choice.access choice.frame old id outcome new
+ChosenStep choice old (events.Status id) outcome new = TellsStatus old id outcome new
 ChosenStep choice old (events.Commit id) outcome new = Commits old id outcome new
 ChosenStep choice old (events.Poke address bytes) outcome new = Pokes old address bytes outcome new
 ChosenStep choice old (events.Peek address len) outcome new = Peeks old address len outcome new

@@ -1,14 +1,19 @@
-use crate::state::DeviceKind;
+use crate::state::NewDevice;
 use iom_base::{DeviceId, GrantRights, Mode, Sequence};
 use iom_fabric::PageNumber;
 
 /// One thing that happens: a call of the driver, an act of a device or a step of the IOMMU.
 #[derive(Drop)]
 pub enum Event {
-    /// A device of the kind is plugged in.
+    /// A device is plugged in, with its disk, if it is a block device.
     Plug {
         device: DeviceId,
-        kind: DeviceKind,
+        new: NewDevice,
+    },
+    /// The disk with this number is put into the block device.
+    Medium {
+        device: DeviceId,
+        disk: u64,
     },
     /// The driver is asked to attach the device in the mode, with ATS or without.
     Attach {
@@ -110,8 +115,25 @@ pub enum Event {
     Repeat {
         place: u64,
     },
-    /// The device is reset: it forgets what it was told of translations.
+    /// The device is reset: it forgets what it was told of translations, and a block device what it was at.
     Reset {
+        device: DeviceId,
+    },
+    /// The block device's driver sets its queue: so many descriptors, with its parts at these addresses
+    /// (virtio 1.2, section 2.7, "Split Virtqueues").
+    Queue {
+        device: DeviceId,
+        size: u64,
+        descriptors: u64,
+        available: u64,
+        used: u64,
+    },
+    /// The block device takes its next step.
+    Step {
+        device: DeviceId,
+    },
+    /// The block device's status is read (virtio 1.2, section 2.1, "Device Status Field").
+    Status {
         device: DeviceId,
     },
     /// The oldest accepted access of the device is made.

@@ -8,7 +8,7 @@ ghost use Rattle.iom_machine.specs.Headline.{AccessesInFlightMay, AccessesInFlig
 /// and unconfirmed; a raw, one-stage device's access to a page it so holds is accepted on that very
 /// frame; and a frame shown free is touched by no device until granted again. Every access in flight
 /// was asked for by its device and accepted, keeps its bytes, may still reach its frame, and
-/// can be made.
+/// can be made. That of a block device was asked for by a step of it, which names no access.
 pub fn reclaim_theorem()
     ensures made { MadeAccessesTouchTheirOwn }
     ensures accepted { HeldPagesAreAccepted }

@@ -8,7 +8,8 @@
 //! `Questions.antt` what a device may be told that asks for a translation, and `ThroughCache.antt`
 //! what may come of an access through its cache (address translation services: PCI Express Base
 //! Specification, chapter 10); `CuttingOff.antt` how a device that doesn't answer is cut off, and
-//! attached again. The layers above are proved to take lawful steps alone, and the laws of this
+//! attached again; `BlockDevices.antt` what a block device may do, of whose requests the machine
+//! knows nothing (virtio 1.2). The layers above are proved to take lawful steps alone, and the laws of this
 //! crate say what every run of lawful steps has.
 #![tactic(auto)]
 
@@ -30,7 +31,7 @@ pub use event::Event;
 pub use headline::reclaim_theorem;
 pub use laws::grants_are_at_pages;
 pub use line::{Line, Verdict};
-pub use outcome::{CommandName, FaultRecord, Fetched, Outcome, Trace};
+pub use outcome::{BlockStep, CommandName, FaultRecord, Fetched, Outcome, Trace};
 pub use sink::Sink;
 pub use start::power_on;
-pub use state::{Attachment, Device, DeviceKind, Frame, State};
+pub use state::{Attachment, Device, DeviceKind, Frame, NewDevice, State};

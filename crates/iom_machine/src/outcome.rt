@@ -2,6 +2,7 @@ use arrayvec::ArrayVec;
 use iom_base::Cause;
 use iom_fabric::Translation;
 use iom_ledger::Refusal;
+use iom_virtqueue::ChainFault;
 
 /// A command of the IOMMU's command queue, by its name.
 #[derive(Clone, Copy, PartialEq, Eq, Debug)]
@@ -30,6 +31,23 @@ pub enum Fetched {
 #[derive(Clone, Copy, PartialEq, Eq, Debug)]
 pub struct FaultRecord {
     pub words: [u64; 4],
+}
+
+/// What a block device's step was that began no access.
+#[derive(Clone, Copy, PartialEq, Eq, Debug)]
+pub enum BlockStep {
+    /// No queue is set, or the driver has no new request.
+    Idle,
+    /// The access that it began isn't made yet.
+    Waiting,
+    /// Its own cache has no translation that lets its access through: it asks for one.
+    Asked,
+    /// The chain of descriptors has this fault, and the device is down.
+    Chain(ChainFault),
+    /// The request that begins at this descriptor is done, and so many bytes were written.
+    Finished { head: u16, len: u32 },
+    /// It is down until it is reset.
+    Down,
 }
 
 /// What comes of an event.
@@ -109,6 +127,10 @@ pub enum Outcome {
     Bytes(ArrayVec<u8, 4096>),
     /// Whether the frame is free.
     Free(bool),
+    /// A block device took a step, which began no access.
+    Stepped(BlockStep),
+    /// The status of a block device.
+    Status(u8),
 }
 
 /// Counts that stand beside an outcome.

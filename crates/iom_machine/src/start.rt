@@ -17,11 +17,12 @@ pub(crate) fn new_frame(alloc: Global) -> Result<Frame, AllocError>
     })
 }
 
-/// The state at power-on, with so many frames and levels of the device directory: nothing is granted
-/// or plugged in, all bytes are zero, and the last four frames are the system's.
-pub fn power_on(alloc: Global, frames: u32, levels: u8) -> Result<State, AllocError>
+/// The state at power-on, with so many frames and levels of the device directory, and disks of these
+/// numbers: nothing is granted or plugged in, all bytes are zero, and the last four frames are the
+/// system's.
+pub fn power_on(alloc: Global, frames: u32, levels: u8, disks: &[u64]) -> Result<State, AllocError>
     requires { 4 ≤ frames }
-    ensures value { IfOk result (λ state. state ≡ opening frames levels) }
+    ensures value { IfOk result (λ state. state ≡ opening frames levels disks.now) }
     ensures size { IfOk result (λ state. length state.frames ≡ frames) }
 {
     let mut items = Vec::new(alloc);
@@ -31,11 +32,14 @@ pub fn power_on(alloc: Global, frames: u32, levels: u8) -> Result<State, AllocEr
     let mut all = Sequence::from_vec(items);
     let last_four = [frames - 4, frames - 3, frames - 2, frames - 1];
     reserve(&mut all, &last_four, Owner::System);
+    let mut numbers = Vec::new(alloc);
+    numbers.extend_from_slice(disks)?;
     Ok(State {
         levels,
         frames: all,
         history: Sequence::new(alloc),
         last_ticket: 0,
         devices: Sequence::new(alloc),
+        disks: Sequence::from_vec(numbers),
     })
 }

@@ -14,6 +14,15 @@ pub enum DeviceKind {
     CachedBlock,
 }
 
+/// What is plugged in: a device of a kind, and the number of the disk that it has, if it is a block device.
+#[derive(Clone, Copy, PartialEq, Eq, Debug)]
+pub enum NewDevice {
+    Raw,
+    Ats,
+    Block { disk: u64 },
+    CachedBlock { disk: u64 },
+}
+
 /// How a device is attached.
 #[derive(Clone, Copy, PartialEq, Eq, Debug)]
 pub enum Attachment {
@@ -38,6 +47,8 @@ pub struct Frame {
 pub struct Device {
     pub id: DeviceId,
     pub kind: DeviceKind,
+    /// Whether it is a block device with a disk.
+    pub has_disk: bool,
     pub attachment: Attachment,
     /// How many of its accesses were ever accepted.
     pub accepted: u64,
@@ -57,4 +68,6 @@ pub struct State {
     pub last_ticket: u32,
     /// In the order of plugging.
     pub devices: Sequence<Device>,
+    /// The numbers of the disks that were never put into a device.
+    pub disks: Sequence<u64>,
 }

@@ -498,17 +498,21 @@ fn busy_comes_before_the_cache(rt: HostRuntime) -> Result<(), Fail> {
     are_refused(&rt, &EIGHT_CACHED, &CHANGED_EIGHT)
 }
 
-/// Of each kind: whether it has a cache, sends requests that the IOMMU translates, forges, sends requests through
-/// its cache, and asks.
-static KINDS: [(DeviceKind, [bool; 5]); 4] = [
-    (DeviceKind::Raw, [false, true, true, false, true]),
-    (DeviceKind::Ats, [true, true, false, true, true]),
-    (DeviceKind::Block, [false, false, false, false, false]),
-    (DeviceKind::CachedBlock, [true, false, false, false, false]),
+/// Of each kind: whether it is a block device, has a cache, sends requests that the IOMMU translates, forges, sends
+/// requests through its cache, and asks.
+static KINDS: [(DeviceKind, [bool; 6]); 4] = [
+    (DeviceKind::Raw, [false, false, true, true, false, true]),
+    (DeviceKind::Ats, [false, true, true, false, true, true]),
+    (DeviceKind::Block, [true, false, false, false, false, false]),
+    (
+        DeviceKind::CachedBlock,
+        [true, true, false, false, false, false],
+    ),
 ];
 
-fn does_of(kind: DeviceKind) -> [bool; 5] {
+fn does_of(kind: DeviceKind) -> [bool; 6] {
     [
+        kind.is_block_device(),
         kind.has_cache(),
         kind.sends_untranslated(),
         kind.forges(),

@@ -9,6 +9,8 @@
 #[cfg(test)]
 mod ats;
 #[cfg(test)]
+mod block_devices;
+#[cfg(test)]
 mod expect;
 #[cfg(test)]
 mod lines;

@@ -1,11 +1,12 @@
 // Lists of lines, as the tests write them, for the judge.
 use crate::expect::expect_eq;
 use arrayvec::ArrayVec;
-use iom_base::{Cause, DeviceId, GrantRights, Mode, Rights, Sequence};
+use iom_base::{Access, AccessKind, Cause, DeviceId, GrantRights, Mode, Rights, Sequence};
 use iom_fabric::{PageNumber, Translation};
 use iom_ledger::Refusal;
 use iom_machine::{
-    Choice, DeviceKind, Event, FaultRecord, Fetched, Line, Outcome, Verdict, judge_run, power_on,
+    BlockStep, Choice, Event, FaultRecord, Fetched, Line, NewDevice, Outcome, Verdict, judge_run,
+    power_on,
 };
 use std::alloc::Global;
 use std::process::Abort;
@@ -26,6 +27,11 @@ pub(crate) enum Does<'a> {
     Plug(DeviceId),
     /// As a device with a cache.
     PlugAts(DeviceId),
+    /// As a block device with this disk.
+    PlugBlock(DeviceId, u64),
+    /// As one with a cache.
+    PlugCachedBlock(DeviceId, u64),
+    Medium(DeviceId, u64),
     Attach(DeviceId, &'a [u32]),
     /// The first frames become pages of the device directory.
     AttachBelow(DeviceId, &'a [u32], &'a [u32]),
@@ -53,6 +59,15 @@ pub(crate) enum Does<'a> {
     Drop(u64),
     Repeat(u64),
     Reset(DeviceId),
+    /// The size, and the addresses of the three parts.
+    Queue(DeviceId, u64, u64, u64, u64),
+    /// A step that wants no access.
+    Step(DeviceId),
+    /// One that wants to read so many bytes at the address.
+    StepRead(DeviceId, u64, u64),
+    /// One that wants to write the bytes at the address.
+    StepWrite(DeviceId, u64, &'a [u8]),
+    Status(DeviceId),
     Commit(DeviceId),
     Poke(u64, &'a [u8]),
     Peek(u64, u64),
@@ -101,6 +116,8 @@ pub(crate) enum Comes<'a> {
     Nothing,
     Bytes(&'a [u8]),
     Free(bool),
+    Stepped(BlockStep),
+    Status(u8),
 }
 
 fn bytes_of(alloc: Global, bytes: &[u8]) -> Result<Sequence<u8>, Fail> {
@@ -119,8 +136,8 @@ fn numbers_of(alloc: Global, numbers: &[u32]) -> Result<Sequence<u32>, Fail> {
     Ok(made)
 }
 
-fn plug(device: DeviceId, kind: DeviceKind) -> Event {
-    Event::Plug { device, kind }
+fn plug(device: DeviceId, new: NewDevice) -> Event {
+    Event::Plug { device, new }
 }
 
 fn attach(device: DeviceId, mode: Mode, ats: bool) -> Event {
@@ -130,8 +147,10 @@ fn attach(device: DeviceId, mode: Mode, ats: bool) -> Event {
 /// The call of the driver, if it is one.
 fn call_of(does: &Does) -> Option<Event> {
     match *does {
-        Does::Plug(device) => Some(plug(device, DeviceKind::Raw)),
-        Does::PlugAts(device) => Some(plug(device, DeviceKind::Ats)),
+        Does::Plug(device) => Some(plug(device, NewDevice::Raw)),
+        Does::PlugAts(device) => Some(plug(device, NewDevice::Ats)),
+        Does::PlugBlock(device, disk) => Some(plug(device, NewDevice::Block { disk })),
+        Does::PlugCachedBlock(device, disk) => Some(plug(device, NewDevice::CachedBlock { disk })),
         Does::Attach(device, _) => Some(attach(device, Mode::First, false)),
         Does::AttachBelow(device, _, _) => Some(attach(device, Mode::First, false)),
         Does::AttachIn(device, mode, _) => Some(attach(device, mode, false)),
@@ -214,7 +233,29 @@ fn act_of(alloc: Global, does: &Does) -> Result<Option<Event>, Fail> {
     })
 }
 
+/// What only a block device takes, if it is that.
+fn block_event_of(does: &Does) -> Option<Event> {
+    match *does {
+        Does::Medium(device, disk) => Some(Event::Medium { device, disk }),
+        Does::Queue(device, size, descriptors, available, used) => Some(Event::Queue {
+            device,
+            size,
+            descriptors,
+            available,
+            used,
+        }),
+        Does::Step(device) => Some(Event::Step { device }),
+        Does::StepRead(device, _, _) => Some(Event::Step { device }),
+        Does::StepWrite(device, _, _) => Some(Event::Step { device }),
+        Does::Status(device) => Some(Event::Status { device }),
+        _ => None,
+    }
+}
+
 fn event_of(alloc: Global, does: &Does) -> Result<Event, Fail> {
+    if let Some(event) = block_event_of(does) {
+        return Ok(event);
+    }
     if let Some(act) = act_of(alloc, does)? {
         return Ok(act);
     }
@@ -291,6 +332,8 @@ fn outcome_of(comes: &Comes) -> Outcome {
         Comes::Nothing => Outcome::NothingInFlight,
         Comes::Bytes(bytes) => Outcome::Bytes(few(bytes)),
         Comes::Free(is_free) => Outcome::Free(is_free),
+        Comes::Stepped(step) => Outcome::Stepped(step),
+        Comes::Status(status) => Outcome::Status(status),
     }
 }
 
@@ -330,6 +373,23 @@ fn question_of(comes: &Comes) -> (DeviceId, u64) {
     }
 }
 
+/// The access that a step wants.
+fn access_of(alloc: Global, does: &Does) -> Result<Access, Fail> {
+    let (address, len, kind, bytes): (u64, u64, AccessKind, &[u8]) = match *does {
+        Does::StepRead(_, address, len) => (address, len, AccessKind::Read, &[]),
+        Does::StepWrite(_, address, bytes) => {
+            (address, bytes.len() as u64, AccessKind::Write, bytes)
+        }
+        _ => (0, 0, AccessKind::Read, &[]),
+    };
+    Ok(Access {
+        address,
+        len,
+        kind,
+        bytes: bytes_of(alloc, bytes)?,
+    })
+}
+
 fn choice_of(alloc: Global, does: &Does, comes: &Comes) -> Result<Choice, Fail> {
     let (device, page) = question_of(comes);
     Ok(Choice {
@@ -338,6 +398,7 @@ fn choice_of(alloc: Global, does: &Does, comes: &Comes) -> Result<Choice, Fail> 
         frame: frame_of(comes),
         device,
         page,
+        access: access_of(alloc, does)?,
     })
 }
 
@@ -349,9 +410,12 @@ pub(crate) fn line_of(alloc: Global, does: &Does, comes: &Comes) -> Result<Line,
     })
 }
 
-/// The first of the lines that may not come, in a world of 64 frames and one directory level.
+/// The numbers of the disks.
+const DISKS: [u64; 4] = [0, 1, 2, 3];
+
+/// The first of the lines that may not come, in a world of 64 frames, one directory level and four disks.
 fn judged(alloc: Global, lines: &[Line]) -> Result<Option<usize>, Fail> {
-    match judge_run(alloc, power_on(alloc, 64, 1)?, lines)? {
+    match judge_run(alloc, power_on(alloc, 64, 1, &DISKS)?, lines)? {
         Verdict::Lawful(_) => Ok(None),
         Verdict::Unlawful { line } => Ok(Some(line)),
     }

@@ -499,7 +499,7 @@ fn detach_is_judged(rt: HostRuntime) -> Result<(), Fail> {
 
 /// How many devices there are once the line has come, the first after power-on.
 fn devices_after(alloc: Global, line: &Line) -> Result<usize, Fail> {
-    let opening = power_on(alloc, 64, 1)?;
+    let opening = power_on(alloc, 64, 1, &[])?;
     match judge(alloc, opening, &line.event, &line.outcome, &line.choice)? {
         Some(state) => Ok(state.devices.as_slice().len()),
         None => Err(Fail::new("an unlawful step")),

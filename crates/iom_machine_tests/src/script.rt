@@ -3,8 +3,9 @@ use arrayvec::ArrayVec;
 use iom_base::{Cause, GrantRights, Mode, Rights};
 use iom_fabric::Translation;
 use iom_ledger::Refusal;
-use iom_machine::{CommandName, DeviceKind, Event, FaultRecord, Fetched, Outcome};
+use iom_machine::{BlockStep, CommandName, Event, FaultRecord, Fetched, NewDevice, Outcome, Trace};
 use iom_script::{LineBuffer, ScriptFault, WorldSize, parse};
+use iom_virtqueue::ChainFault;
 use std::process::Abort;
 use std::test::Fail;
 
@@ -133,6 +134,63 @@ fn lines_tell_what_becomes_of_messages(rt: HostRuntime) -> Result<(), Fail> {
     is_told(&rt, &mut out, &Outcome::Dropped, b"dropped\n");
     is_told(&rt, &mut out, &Outcome::Repeated, b"repeated\n");
     is_told(&rt, &mut out, &Outcome::NoMessage, b"none\n");
+    Ok(())
+}
+
+#[test]
+fn lines_tell_what_block_devices_do(rt: HostRuntime) -> Result<(), Fail> {
+    let mut out = LineBuffer::new(rt.alloc())?;
+    let finished = Outcome::Stepped(BlockStep::Finished {
+        head: u16::MAX,
+        len: 513,
+    });
+    is_told(&rt, &mut out, &Outcome::Stepped(BlockStep::Idle), b"idle\n");
+    is_told(
+        &rt,
+        &mut out,
+        &Outcome::Stepped(BlockStep::Waiting),
+        b"waiting\n",
+    );
+    is_told(
+        &rt,
+        &mut out,
+        &Outcome::Stepped(BlockStep::Asked),
+        b"asked\n",
+    );
+    is_told(&rt, &mut out, &finished, b"finished 65535 513\n");
+    is_told(&rt, &mut out, &Outcome::Stepped(BlockStep::Down), b"down\n");
+    is_told(&rt, &mut out, &Outcome::Status(255), b"status 255\n");
+    Ok(())
+}
+
+/// Ends the test where a fault of a chain has another name.
+fn is_named(rt: &impl Abort, out: &mut LineBuffer, fault: ChainFault, line: &[u8]) {
+    is_told(rt, out, &Outcome::Stepped(BlockStep::Chain(fault)), line);
+}
+
+#[test]
+fn faults_of_chains_have_names(rt: HostRuntime) -> Result<(), Fail> {
+    let mut out = LineBuffer::new(rt.alloc())?;
+    is_named(&rt, &mut out, ChainFault::Loop, b"chain Loop\n");
+    is_named(&rt, &mut out, ChainFault::BadIndex, b"chain BadIndex\n");
+    is_named(&rt, &mut out, ChainFault::Order, b"chain Order\n");
+    is_named(&rt, &mut out, ChainFault::Indirect, b"chain Indirect\n");
+    is_named(&rt, &mut out, ChainFault::TooLong, b"chain TooLong\n");
+    is_named(&rt, &mut out, ChainFault::Short, b"chain Short\n");
+    Ok(())
+}
+
+#[test]
+fn counts_stand_beside_an_outcome(rt: HostRuntime) -> Result<(), Fail> {
+    let mut out = LineBuffer::new(rt.alloc())?;
+    out.append_trace(&Trace {
+        tickets: 1,
+        flight: 0,
+        messages: u64::MAX,
+        free: 60,
+    });
+    let line = b"= tickets 1 flight 0 messages 18446744073709551615 free 60\n".as_slice();
+    expect(&rt, out.as_slice() == line);
     Ok(())
 }
 
@@ -293,7 +351,7 @@ fn asks_as_said(events: &[Event]) -> bool {
         [
             Event::Plug {
                 device: 10,
-                kind: DeviceKind::Ats,
+                new: NewDevice::Ats,
             },
             Event::Attach {
                 device: 10,
@@ -375,6 +433,65 @@ fn lines_of_ats_are_read(rt: HostRuntime) -> Result<(), Fail> {
         }
         _ => Err(Fail::new("other lines")),
     }
+}
+
+/// The lines of block devices.
+const BLOCK_DEVICES: &[u8] = b"\
+    world 64 1\n\
+    device 00000a blk 18446744073709551615\n\
+    device 00000b ablk 0\n\
+    medium 00000a 3\n\
+    queue 00000a 8 0x3000 0xffffffffffffffff 0x30c0\n\
+    step 00000a\n\
+    status 00000b\n";
+
+/// Whether the events plug in and put a disk in as those lines say.
+fn plugs_as_said(events: &[Event]) -> bool {
+    match events {
+        [
+            Event::Plug {
+                device: 10,
+                new: NewDevice::Block { disk: u64::MAX },
+            },
+            Event::Plug {
+                device: 11,
+                new: NewDevice::CachedBlock { disk: 0 },
+            },
+            Event::Medium {
+                device: 10,
+                disk: 3,
+            },
+        ] => true,
+        _ => false,
+    }
+}
+
+/// Whether the events are the others of them.
+fn steps_as_said(events: &[Event]) -> bool {
+    match events {
+        [
+            Event::Queue {
+                device: 10,
+                size: 8,
+                descriptors: 0x3000,
+                available: u64::MAX,
+                used: 0x30c0,
+            },
+            Event::Step { device: 10 },
+            Event::Status { device: 11 },
+        ] => true,
+        _ => false,
+    }
+}
+
+#[test]
+fn lines_of_block_devices_are_read(rt: HostRuntime) -> Result<(), Fail> {
+    let script = parse(rt.alloc(), BLOCK_DEVICES)?;
+    let events = script.events.as_slice();
+    expect_eq(&rt, &events.len(), &6);
+    expect(&rt, events.get(..3).is_some_and(plugs_as_said));
+    expect(&rt, events.get(3..).is_some_and(steps_as_said));
+    Ok(())
 }
 
 const BOUNDARIES: &[u8] = b"\
@@ -487,8 +604,25 @@ const BAD_SECOND: &[u8] = b"\
     |world 64 1\ndevice 000001 Ats\n\
     |world 64 1\ndevice 000001 atss\n\
     |world 64 1\ndevice 000001 blk\n\
-    |world 64 1\ndevice 000001 blk 0\n\
-    |world 64 1\ndevice 000001 ablk 0\n\
+    |world 64 1\ndevice 000001 blk \n\
+    |world 64 1\ndevice 000001 blk 00\n\
+    |world 64 1\ndevice 000001 blk 18446744073709551616\n\
+    |world 64 1\ndevice 000001 blk 0 1\n\
+    |world 64 1\ndevice 000001 ablk\n\
+    |world 64 1\ndevice 000001 ablk 0x0\n\
+    |world 64 1\ndevice 000001 raw 0\n\
+    |world 64 1\nmedium 000001\n\
+    |world 64 1\nmedium 000001 01\n\
+    |world 64 1\nqueue 000001 8 0x0 0x80\n\
+    |world 64 1\nqueue 000001 8 0x0 0x80 0x\n\
+    |world 64 1\nqueue 000001 8 0x0 0x80 0xC0\n\
+    |world 64 1\nqueue 000001 8 0x0 0x80 0x000000000000000c0\n\
+    |world 64 1\nqueue 000001 8 0x0 0x80 0xc0 \n\
+    |world 64 1\nqueue 000001 0x8 0x0 0x80 0xc0\n\
+    |world 64 1\nqueue 000001 8 0 128 192\n\
+    |world 64 1\nstep\n\
+    |world 64 1\nstep 000001 1\n\
+    |world 64 1\nstatus 1\n\
     |world 64 1\ndevice 00001 raw\n\
     |world 64 1\ndevice 0000001 raw\n\
     |world 64 1\ndevice 00000A raw\n\

@@ -77,5 +77,7 @@ fn a_ninth_access_is_refused(rt: HostRuntime) -> Result<(), Fail> {
     expect(&rt, accept(&rt, &mut flights, 7, 8, b"").is_none());
     expect(&rt, accept(&rt, &mut flights, 7, 8, b"\xcc").is_none());
     expect_eq(&rt, &flights.count(7), &8);
+    expect_eq(&rt, &flights.accepted(7), &8);
+    expect_eq(&rt, &flights.count_all(), &8);
     Ok(())
 }

@@ -1,9 +1,19 @@
 // What the lines don't show, by the rule of the driver: the highest free frames become tables.
 
 use crate::run::Step;
-use iom_base::{DeviceId, Mode, Sequence};
+use iom_base::{Access, AccessKind, DeviceId, Mode, Sequence};
 use iom_machine::{Choice, Event, Outcome};
 use std::alloc::{AllocError, Global};
+
+/// No access: no block device takes a step here.
+fn no_access(alloc: Global) -> Access {
+    Access {
+        address: 0,
+        len: 1,
+        kind: AccessKind::Read,
+        bytes: Sequence::new(alloc),
+    }
+}
 
 /// The root of the device in its first stage, below the four frames that are the system's.
 const FIRST_ROOT: [u32; 1] = [59];
@@ -60,6 +70,7 @@ impl Choices {
             frame: step.frame.unwrap_or(0),
             device: 0,
             page: 0,
+            access: no_access(alloc),
         })
     }
 }

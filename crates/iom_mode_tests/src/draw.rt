@@ -1,7 +1,7 @@
 // What happens next in a drawn run.
 
 ghost use Rattle.std.specs.Prelude.{◌<◌, IfOk};
-ghost use Rattle.iom_machine.specs.Machine.{IsEvent};
+ghost use Rattle.iom_world.specs.Happens.{IsNoChoice};
 
 use iom_base::{DeviceId, GrantRights, Sequence};
 use iom_machine::Event;
@@ -90,7 +90,7 @@ impl Draw {
 
     /// A grant of one of the frames at one of the pages, mostly for reading and writing.
     fn grant(&mut self) -> Event
-        ensures { IsEvent result }
+        ensures { IsNoChoice result }
     {
         Event::Grant {
             device: self.device(),
@@ -106,7 +106,7 @@ impl Draw {
 
     /// A release of one of the pages, seldom of one of those in which the guest's tables stand.
     fn release(&mut self) -> Event
-        ensures { IsEvent result }
+        ensures { IsNoChoice result }
     {
         Event::Release {
             device: self.device(),
@@ -120,7 +120,7 @@ impl Draw {
 
     /// A read up to the end of a page, so that it takes in the frame's name.
     fn read(&mut self) -> Event
-        ensures { IsEvent result }
+        ensures { IsNoChoice result }
     {
         let before = self.below(8);
         Event::Read {
@@ -132,7 +132,7 @@ impl Draw {
 
     /// A write of an entry of a table, and behind it of a word that no other write has.
     fn write(&mut self, alloc: Global, own: u64) -> Result<Event, AllocError>
-        ensures { IfOk result (λ event. IsEvent event) }
+        ensures { IfOk result (λ event. IsNoChoice event) }
     {
         let place = if self.below(2) == 0 {
             self.below(8)
@@ -149,7 +149,7 @@ impl Draw {
 
     /// An event that isn't a poke. A write of it ends with this word.
     pub(crate) fn event(&mut self, alloc: Global, own: u64) -> Result<Event, AllocError>
-        ensures { IfOk result (λ event. IsEvent event) }
+        ensures { IfOk result (λ event. IsNoChoice event) }
     {
         match self.below(24) {
             0..=3 => Ok(self.grant()),

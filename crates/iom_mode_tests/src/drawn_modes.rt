@@ -10,7 +10,7 @@ use std::test::Fail;
 
 /// How many of the steps the judge finds lawful, up to the first that isn't.
 fn lawful(alloc: Global, steps: &[Step]) -> Result<usize, AllocError> {
-    let mut state = power_on(alloc, 64, 1)?;
+    let mut state = power_on(alloc, 64, 1, &[])?;
     let mut choices = Choices::new(alloc);
     for (number, step) in steps.iter().enumerate() {
         if state.frames.as_slice().len() > 64 {

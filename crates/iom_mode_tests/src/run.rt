@@ -1,11 +1,11 @@
 // A run of the world, and on which frame each access of it was.
 
 ghost use Rattle.std.specs.Prelude.{◌<◌, IfOk};
-ghost use Rattle.iom_machine.specs.Machine.{IsEvent};
+ghost use Rattle.iom_world.specs.Happens.{IsNoChoice};
 
 use crate::draw::{Draw, FIRST_FRAME, FRAMES, NAME_AT, bytes_of};
 use iom_base::{DeviceId, GrantRights, Mode};
-use iom_machine::{DeviceKind, Event, Outcome};
+use iom_machine::{Event, NewDevice, Outcome};
 use iom_world::World;
 use std::alloc::Global;
 use std::test::Fail;
@@ -56,7 +56,7 @@ pub(crate) struct Run {
 
 impl Run {
     fn happen(&mut self, event: Event) -> Result<(), Fail>
-        requires { IsEvent event }
+        requires { IsNoChoice event }
     {
         if self.world.events() < 1000000 {
             let outcome = self.world.step(&event);
@@ -70,15 +70,15 @@ impl Run {
     }
 
     fn plug_and_attach(&mut self, device: DeviceId, mode: Mode) -> Result<(), Fail> {
-        let kind = DeviceKind::Raw;
-        self.happen(Event::Plug { device, kind })?;
+        let new = NewDevice::Raw;
+        self.happen(Event::Plug { device, new })?;
         let ats = false;
         self.happen(Event::Attach { device, mode, ats })
     }
 
     /// A world of 64 frames, to which nothing has happened.
     fn new(alloc: Global) -> Result<Box<Run>, Fail> {
-        let world = World::new(alloc, 64, 1)?;
+        let world = World::new(alloc, 64, 1, &[])?;
         let run = Run {
             alloc,
             world: Box::new(alloc, world)?,

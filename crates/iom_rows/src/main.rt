@@ -7,10 +7,11 @@
 #![tactic(auto)]
 
 use iom_judge::{judge_trace, trace_of};
+use iom_runner::{program_disks, run};
 use std::alloc::Global;
 use std::fs;
 
-const ROWS: [&str; 30] = [
+static ROWS: [&str; 42] = [
     "empty-script",
     "first-path",
     "grant-boundaries",
@@ -41,7 +42,22 @@ const ROWS: [&str; 30] = [
     "loss-timeout-restart",
     "reset-between",
     "quarantine-and-revival",
+    "self-pointing-descriptor",
+    "failing-disk",
+    "same-head-again",
+    "block-device-with-cache",
+    "chain-fault-1-badindex",
+    "chain-fault-2-badindex",
+    "chain-fault-3-badindex",
+    "chain-fault-4-indirect",
+    "chain-fault-5-toolong",
+    "chain-fault-6-short",
+    "chain-fault-7-order",
+    "lost-message-to-quarantine",
 ];
+
+/// The row that is run with `--trace`.
+const COUNTED: &str = "lost-message-to-quarantine";
 
 /// The number of the first line that differs, counted from 1.
 fn first_difference(printed: &str, wanted: &str) -> usize {
@@ -51,9 +67,10 @@ fn first_difference(printed: &str, wanted: &str) -> usize {
 }
 
 /// How what the script prints compares with what is wanted, and the fault that it ends with.
-fn compared(alloc: Global, script: &str, wanted: &str) -> anyhow::Result<String> {
+fn compared(alloc: Global, script: &str, wanted: &str, trace: bool) -> anyhow::Result<String> {
     let mut lines = Vec::new(alloc);
-    let done = iom_runner::run(alloc, &mut script.as_bytes(), &mut lines);
+    let disks = program_disks(alloc)?;
+    let done = run(alloc, &mut script.as_bytes(), &mut lines, disks, trace);
     let printed = String::from_utf8(lines)?;
     let compared = if printed.as_str() == wanted {
         format!(in alloc; "as written")?
@@ -67,20 +84,39 @@ fn compared(alloc: Global, script: &str, wanted: &str) -> anyhow::Result<String>
     }
 }
 
+/// The lines but those of counts.
+fn outcomes_of(alloc: Global, wanted: &str) -> anyhow::Result<String> {
+    let mut outcomes = String::new(alloc);
+    for line in wanted.lines() {
+        if !line.starts_with("= ") {
+            outcomes.push_str(line)?;
+            outcomes.push('\n')?;
+        }
+    }
+    Ok(outcomes)
+}
+
 /// What is found of the script with what is wanted of it, as a trace.
 fn judged(alloc: Global, script: &str, wanted: &str) -> anyhow::Result<String> {
-    let trace = trace_of(alloc, script, wanted)?;
+    let outcomes = outcomes_of(alloc, wanted)?;
+    let trace = trace_of(alloc, script, &outcomes)?;
     let verdict = judge_trace(alloc, &mut trace.as_bytes())?;
     Ok(format!(in alloc; "{verdict}")?)
 }
 
+/// Runs the row with this name, and tells how it compares, and what is found of it.
+fn tell_row(rt: &HostRuntime, name: &str) -> anyhow::Result<()> {
+    let script = fs::read_to_string(rt, format!(in rt.alloc(); "{name}.script")?)?;
+    let wanted = fs::read_to_string(rt, format!(in rt.alloc(); "{name}.out")?)?;
+    let compared = compared(rt.alloc(), &script, &wanted, name == COUNTED)?;
+    let judged = judged(rt.alloc(), &script, &wanted)?;
+    println!(rt; "{name}: {compared}; {judged}")?;
+    Ok(())
+}
+
 fn main(rt: HostRuntime) -> anyhow::Result<()> {
-    for name in ROWS {
-        let script = fs::read_to_string(&rt, format!(in rt.alloc(); "{name}.script")?)?;
-        let wanted = fs::read_to_string(&rt, format!(in rt.alloc(); "{name}.out")?)?;
-        let compared = compared(rt.alloc(), &script, &wanted)?;
-        let judged = judged(rt.alloc(), &script, &wanted)?;
-        println!(rt; "{name}: {compared}; {judged}")?;
+    for name in &ROWS {
+        tell_row(&rt, name)?;
     }
     Ok(())
 }

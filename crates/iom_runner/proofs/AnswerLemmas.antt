@@ -1,7 +1,7 @@
 -- Every event has an answer, in every state that is reached: so each run goes on to the end of the events.
-use Rattle.std.proofs.Common.{◌≡◌, ◌≢◌, ◌+◌, ◌%◌, ◌≤◌, ◌++◌, ◌∙◌, ℕ, inl, inr, Bool, true, false, List, [], ◌∷◌, length, Option, Some, None, MatchOption, unwrap_or, refl, sym, ap, subst, arith}
-use Rattle.std.proofs.lemmas.Bool.{cases_lt}
-use Rattle.std.proofs.lemmas.List.Elements.{All-nil}
+use Rattle.std.proofs.Common.{◌≡◌, ◌≢◌, ◌+◌, ◌%◌, ◌≤◌, ◌⊎◌, ◌++◌, ◌∙◌, ℕ, inl, inr, Bool, true, false, List, [], ◌∷◌, length, Option, Some, None, MatchOption, is_some, unwrap_or, refl, sym, ap, subst, arith}
+use Rattle.std.proofs.lemmas.Bool.{cases_lt, cases_eq, false≢true}
+use Rattle.std.proofs.lemmas.List.Elements.{All-nil, All-cons}
 use Rattle.iom_base.specs.Causes.{page_fault_of, guest_page_fault_of}
 use Rattle.iom_base.specs.declared.cause.Cause.TheVariants.{TransactionTypeDisallowed}
 use Rattle.iom_base.specs.Rights.{allows}
@@ -10,13 +10,15 @@ use Rattle.iom_base.specs.declared.rights.Rights.{Rights}
 use Rattle.iom_base.specs.GrantRights.{rights_of}
 use Rattle.iom_ledger.specs.declared.entry.HistoryEntry.TheVariants as entry
 use Rattle.iom_ledger.specs.declared.refusal.Refusal.{Refusal}
-use Rattle.iom_ledger.specs.declared.refusal.Refusal.TheVariants.{NoSuchDevice, WrongKind}
+use Rattle.iom_ledger.specs.declared.refusal.Refusal.TheVariants.{NoSuchDevice, WrongKind, BadMedium, BadQueue}
 use Rattle.iom_ledger.specs.History.{Pair, held_at}
 use Rattle.iom_machine.specs.declared.event.Event.{Event}
 use Rattle.iom_machine.specs.declared.event.Event.TheVariants as events
 use Rattle.iom_machine.specs.declared.outcome.Fetched.TheVariants.{Empty}
 use Rattle.iom_machine.specs.declared.outcome.Outcome.{Outcome}
-use Rattle.iom_machine.specs.declared.outcome.Outcome.TheVariants.{Done, Refused, Ticket, NoneConfirmed, NoRecord, NoEffect, Fetched, Accepted, Busy, BadSpan, Fault, Miss, Lost, NoMessage}
+use Rattle.iom_machine.specs.declared.outcome.Outcome.TheVariants.{Done, Refused, Ticket, NoneConfirmed, NoRecord, NoEffect, Fetched, Accepted, Busy, BadSpan, Fault, Miss, Lost, NoMessage, Stepped, Status}
+use Rattle.iom_machine.specs.declared.outcome.BlockStep.TheVariants.{Idle}
+use Rattle.iom_machine.specs.declared.outcome.Trace.{Trace}
 use Rattle.iom_base.specs.declared.access.Access.{Access}
 use Rattle.iom_machine.specs.declared.state.Attachment.{Attachment}
 use Rattle.iom_machine.specs.declared.state.Attachment.TheVariants.{Detached, Attached, Quarantined, Leaving}
@@ -29,11 +31,14 @@ use Rattle.iom_machine.specs.Devices.{device_of, with_device}
 use Rattle.iom_machine.specs.Frames.{IsFree}
 use Rattle.iom_machine.specs.Headline.{IsReached}
 use Rattle.iom_machine.specs.Leaving.{leaving_under}
-use Rattle.iom_machine.specs.Kinds.{sends_untranslated, forges, sends_through_cache, asks_questions, is_any_kind}
-use Rattle.iom_machine.specs.Machine.{Step, Acts, Requests, RequestsTranslated, RequestsThroughCache, Resets, Run, plugged_device}
+use Rattle.iom_machine.specs.Kinds.{disk_of, is_block_device, sends_untranslated, forges, sends_through_cache, asks_questions, is_any_kind}
+use Rattle.iom_machine.specs.Machine.{Step, Acts, Requests, RequestsTranslated, RequestsThroughCache, Resets, InsertsDisk, SetsQueue, Steps, TellsStatus, Run, plugged_device}
+use Rattle.iom_machine.specs.BlockDevices.{Inserts, with_disk, MaySet, IsStatus, TakesStep}
+use Rattle.iom_machine.specs.Disks.{is_among, without_disk}
 use Rattle.iom_machine.specs.Messages.{Sends}
 use Rattle.iom_machine.specs.PowerOn.{opening}
 use Rattle.iom_machine.specs.declared.state.DeviceKind.{DeviceKind}
+use Rattle.iom_machine.specs.declared.state.NewDevice.{NewDevice}
 use Rattle.iom_ledger.specs.Refusals.{first_that_applies, IsRefusedBy}
 use Rattle.iom_machine.specs.Refusals.{MayRefusePlug, MayRefuseAttach, MayRefuseGrant, MayFindNoPlace, NeverElse, plug_reasons, attach_reasons, detach_reasons, grant_reasons, release_reasons, quarantine_reasons, revive_reasons}
 use Rattle.iom_base.specs.Accesses.{read_of, write_of, page_of, IsWithinPage}
@@ -42,7 +47,11 @@ use Rattle.iom_machine.specs.ThroughCache.{MayAnswerThroughCache, state_after_ca
 use Rattle.iom_machine.specs.Translated.{MayAnswerTranslated}
 use Rattle.iom_machine.proofs.HeadlineLemmas.{commits_are_answered}
 use Rattle.iom_machine.proofs.ProcessorLemmas.{poke_is_answered, peek_is_answered, free_is_answered}
-use Rattle.iom_world.proofs.RunLemmas.{no_choice, frame_chosen, run_more}
+use Rattle.iom_world.proofs.EventLemmas.{no_access, no_choice, frame_chosen}
+use Rattle.iom_virtqueue.specs.declared.layout.Layout.{Layout}
+use Rattle.iom_virtqueue.specs.Layouts.{IsLayout, layout_of}
+use Rattle.iom_runner.specs.Text.{AreThere, AreTraces}
+use Rattle.iom_runner.proofs.CountedLemmas.{some_trace}
 
 -- the event has an answer in the state
 abbrev IsAnswered : State → Event → Type 0
@@ -52,12 +61,13 @@ IsAnswered state event = (outcome : Outcome) × (new : State) × Step state even
 refused_first : (reasons : List (Bool × Refusal)) (MayCome : Refusal → Type 0) (why : Refusal) → first_that_applies reasons ≡ Some why → IsRefusedBy reasons MayCome why
 refused_first reasons MayCome why some = subst (λ found. MatchOption found (MayCome why) (λ first. why ≡ first)) (sym some) refl
 
-plug_is_answered : (state : State) (id : ℕ) (kind : DeviceKind) → IsAnswered state (events.Plug id kind)
-plug_is_answered state id kind = by (first_that_applies (plug_reasons state id)) refl
+plug_is_answered : (state : State) (id : ℕ) (what : NewDevice) → IsAnswered state (events.Plug id what)
+plug_is_answered state id what = by (first_that_applies (plug_reasons state id what)) refl
   where
-    by : (found : Option Refusal) → first_that_applies (plug_reasons state id) ≡ found → IsAnswered state (events.Plug id kind)
-    by None none = (Done, record state { devices = state.devices ++ plugged_device id kind ∷ [] }, (no_choice, (none, refl)))
-    by (Some why) some = (Refused why, state, (no_choice, (refused_first (plug_reasons state id) MayRefusePlug why some, refl)))
+    by : (found : Option Refusal) → first_that_applies (plug_reasons state id what) ≡ found → IsAnswered state (events.Plug id what)
+    by None none =
+        (Done, record state { devices = state.devices ++ plugged_device id what ∷ []; disks = without_disk (disk_of what) state.disks }, (no_choice, (none, refl)))
+    by (Some why) some = (Refused why, state, (no_choice, (refused_first (plug_reasons state id what) MayRefusePlug why some, refl)))
 
 attach_is_answered : (state : State) (id : ℕ) (mode : Mode) (ats : Bool) → IsAnswered state (events.Attach id mode ats)
 attach_is_answered state id mode ats = found (device_of state id) refl
@@ -102,7 +112,7 @@ detach_is_answered state id = found (device_of state id) refl
     by : (device : Device) → device_of state id ≡ Some device → (reason : Option Refusal) → first_that_applies (detach_reasons state id) ≡ reason → IsAnswered state (events.Detach id)
     by device there None none = (
       Ticket (state.last_ticket + 1),
-      record (with_device state (record device { attachment = leaving_under (state.last_ticket + 1) device.attachment })) { last_ticket = state.last_ticket + 1 },
+      record (with_device state (record device { has_disk = false; attachment = leaving_under (state.last_ticket + 1) device.attachment })) { last_ticket = state.last_ticket + 1 },
       (no_choice, (none, refl, rw there refl)),
     )
     by device there (Some why) some = (Refused why, state, (no_choice, (refused_first (detach_reasons state id) MayFindNoPlace why some, refl)))
@@ -271,9 +281,59 @@ message_is_answered can state id = act_is_answered can (λ device frame outcome 
 reset_is_answered : (state : State) (id : ℕ) → Comes (λ frame outcome new. Resets state id outcome new)
 reset_is_answered state id = act_is_answered is_any_kind (λ device frame outcome new. (outcome ≡ Done) × (new ≡ state)) state id (λ device. (0, Done, state, (refl, refl)))
 
+-- a disk goes in, where the device has none and the disk was in none
+medium_is_answered : (state : State) (id disk : ℕ) → Comes (λ frame outcome new. InsertsDisk disk state id outcome new)
+medium_is_answered state id disk = act_is_answered is_block_device (λ device frame outcome new. Inserts disk state device outcome new) state id
+    (λ device. by device device.has_disk refl (is_among state.disks disk) refl)
+  where
+    by : (device : Device) (has : Bool) → device.has_disk ≡ has → (b : Bool) → is_among state.disks disk ≡ b → Comes (λ frame outcome new. Inserts disk state device outcome new)
+    by device false free true there = (0, Done, with_disk disk state device, ((free, there), refl))
+    by device false free false absent = (0, Refused BadMedium, state, (((λ may. false≢true (sym absent ∙ may.1)), refl), refl))
+    by device true taken b is = (0, Refused BadMedium, state, (((λ may. false≢true (sym may.0 ∙ taken)), refl), refl))
+
+-- a queue may lie so, or not
+layout_or_not : (layout : Layout) → IsLayout layout ⊎ (¬ IsLayout layout)
+layout_or_not layout = elim (cases_lt layout.size 1) [
+  | inl none ↦ inr (λ is. let some : 1 ≤ layout.size = is.some in omega arith)
+  | inr some ↦ elim (cases_lt 256 layout.size) [
+    | inl many ↦ inr (λ is. let most : layout.size ≤ 256 = is.most in omega arith)
+    | inr most ↦ elim (cases_eq (256 % layout.size) 0) [
+      | inr odd ↦ inr (λ is. odd is.power)
+      | inl power ↦ elim (cases_eq (layout.descriptor_table % 16) 0) [
+        | inr odd ↦ inr (λ is. odd is.descriptor_table)
+        | inl descriptors ↦ elim (cases_eq (layout.available_ring % 2) 0) [
+          | inr odd ↦ inr (λ is. odd is.available_ring)
+          | inl available ↦ elim (cases_eq (layout.used_ring % 4) 0) [
+            | inr odd ↦ inr (λ is. odd is.used_ring)
+            | inl used ↦ inl (record { some = some; most = most; power = power; descriptor_table = descriptors; available_ring = available; used_ring = used })
+          ]
+        ]
+      ]
+    ]
+  ]
+]
+
+queue_is_answered : (state : State) (id : ℕ) (layout : Layout) → Comes (λ frame outcome new. SetsQueue layout state id outcome new)
+queue_is_answered state id layout = act_is_answered is_block_device (λ device frame outcome new. MaySet layout outcome × (new ≡ state)) state id
+    (λ device. elim (layout_or_not layout) [
+      | inl is ↦ (0, Done, state, (is, refl))
+      | inr other ↦ (0, Refused BadQueue, state, ((other, refl), refl))
+    ])
+
+-- a step may find nothing to do
+step_is_answered : (state : State) (id : ℕ) → Comes (λ frame outcome new. Steps no_access frame state id outcome new)
+step_is_answered state id =
+    act_is_answered is_block_device (λ device frame outcome new. TakesStep state device no_access frame outcome new) state id (λ device. (0, Stepped Idle, state, (tt, refl)))
+
+-- a status may be any
+status_is_answered : (state : State) (id : ℕ) → Comes (λ frame outcome new. TellsStatus state id outcome new)
+status_is_answered state id =
+    act_is_answered is_block_device (λ device frame outcome new. IsStatus outcome × (new ≡ state)) state id (λ device. (0, Status 0, state, (tt, refl)))
+
 -- every event is answered
 is_answered : (state : State) (event : Event) → IsReached state → IsAnswered state event
-is_answered state (events.Plug id kind) reached = plug_is_answered state id kind
+is_answered state (events.Plug id what) reached = plug_is_answered state id what
+is_answered state (events.Medium id disk) reached = let told = medium_is_answered state id disk in (told.1, told.2, (no_choice, told.3))
 is_answered state (events.Attach id mode ats) reached = attach_is_answered state id mode ats
 is_answered state (events.Detach id) reached = detach_is_answered state id
 is_answered state (events.Grant id page frame rights) reached = grant_is_answered state id page frame rights
@@ -303,34 +363,66 @@ is_answered state (events.Forge id serial) reached = let told = message_is_answe
 is_answered state (events.Deliver place) reached = (NoMessage, state, (no_choice, refl))
 is_answered state (events.Drop place) reached = (NoMessage, state, (no_choice, refl))
 is_answered state (events.Repeat place) reached = (NoMessage, state, (no_choice, refl))
+is_answered state (events.Queue id size descriptors available used) reached =
+    let told = queue_is_answered state id (layout_of size descriptors available used) in (told.1, told.2, (no_choice, told.3))
+is_answered state (events.Step id) reached = let told = step_is_answered state id in (told.1, told.2, (frame_chosen told.0, told.3))
+is_answered state (events.Status id) reached = let told = status_is_answered state id in (told.1, told.2, (no_choice, told.3))
 is_answered state (events.Commit id) reached = commits_are_answered state id reached
 is_answered state (events.Poke address bytes) reached = let told = poke_is_answered state address bytes in (told.0, told.1, (no_choice, told.2))
 is_answered state (events.Peek address len) reached = let told = peek_is_answered state address len reached in (told.0, told.1, (no_choice, told.2))
 is_answered state (events.Free frame) reached = let told = free_is_answered state frame in (told.0, told.1, (no_choice, told.2))
 
+-- a run goes on by a step at its end
+run_more : (old mid new : State) (events : List Event) (outcomes : List Outcome) (event : Event) (outcome : Outcome)
+    → Run old events outcomes mid → Step mid event outcome new → Run old (events ++ event ∷ []) (outcomes ++ outcome ∷ []) new
+run_more old mid new [] [] event outcome ran step =
+    (new, subst (λ (state : State). Step state event outcome new) ran step, refl)
+run_more old mid new [] (other ∷ outcomes) event outcome ran step = absurd ran
+run_more old mid new (other ∷ events) [] event outcome ran step = absurd ran
+run_more old mid new (first ∷ events) (told ∷ outcomes) event outcome ran step =
+    (ran.0, ran.1, run_more ran.0 mid new events outcomes event outcome ran.2 step)
+
 -- a state that is reached, after one more step
 reached-step : (old new : State) (event : Event) (outcome : Outcome) → IsReached old → Step old event outcome new → IsReached new
-reached-step old new event outcome (events, outcomes, (frames, levels, run)) step =
-    (events ++ event ∷ [], outcomes ++ outcome ∷ [], (frames, levels, run_more (opening frames levels) old new events outcomes event outcome run step))
+reached-step old new event outcome (events, outcomes, (frames, levels, disks, run)) step =
+    (events ++ event ∷ [], outcomes ++ outcome ∷ [], (frames, levels, disks, run_more (opening frames levels disks) old new events outcomes event outcome run step))
 
--- every list of events has a run
-has_run : (state : State) (events : List Event) → IsReached state → (outcomes : List Outcome) × (last : State) × Run state events outcomes last
-has_run state [] reached = ([], state, refl)
-has_run state (event ∷ events) reached =
+-- a run, and the counts beside its outcomes
+abbrev pub CountedRun : State → List Event → List Outcome → List (Option Trace) → State → Type 0
+CountedRun state events outcomes traces last = (run : Run state events outcomes last) × AreTraces state events outcomes traces last run
+
+-- every list of events has a run, with counts or without
+has_run : (counts : Bool) (state : State) (events : List Event) → IsReached state
+    → (outcomes : List Outcome) × (traces : List (Option Trace)) × (last : State) × CountedRun state events outcomes traces last × AreThere counts traces
+has_run counts state [] reached = ([], [], state, (refl, tt), All-nil (λ (trace : Option Trace). is_some trace ≡ counts))
+has_run counts state (event ∷ events) reached =
     let told = is_answered state event reached in
-    let rest = has_run told.1 events (reached-step state told.1 event told.0 reached told.2) in
-    (told.0 ∷ rest.0, rest.1, (told.1, told.2, rest.2))
+    let rest = has_run counts told.1 events (reached-step state told.1 event told.0 reached told.2) in
+    let trace = some_trace counts told.1 in (
+      told.0 ∷ rest.0,
+      trace.0 ∷ rest.1,
+      rest.2,
+      ((told.1, told.2, rest.3.0), (trace.2, rest.3.1)),
+      All-cons (λ (t : Option Trace). is_some t ≡ counts) trace.0 rest.1 trace.1 rest.4,
+    )
 
 -- a run, and then another
-run-append : (old mid new : State) (events later : List Event) (outcomes told : List Outcome) → Run old events outcomes mid → Run mid later told new → Run old (events ++ later) (outcomes ++ told) new
-run-append old mid new [] later [] told run rest = subst (λ (s : State). Run s later told new) run rest
-run-append old mid new [] later (outcome ∷ outcomes) told run rest = absurd run
-run-append old mid new (event ∷ events) later [] told run rest = absurd run
-run-append old mid new (event ∷ events) later (outcome ∷ outcomes) told (next, step, run) rest = (next, step, run-append next mid new events later outcomes told run rest)
+run-append : (old mid new : State) (events later : List Event) (outcomes told : List Outcome) (traces more : List (Option Trace))
+    → CountedRun old events outcomes traces mid → CountedRun mid later told more new → CountedRun old (events ++ later) (outcomes ++ told) (traces ++ more) new
+run-append old mid new [] later [] told [] more ran rest = subst (λ (s : State). CountedRun s later told more new) ran.0 rest
+run-append old mid new [] later [] told (trace ∷ traces) more ran rest = absurd ran.1
+run-append old mid new [] later (outcome ∷ outcomes) told traces more ran rest = absurd ran.0
+run-append old mid new (event ∷ events) later [] told traces more ran rest = absurd ran.0
+run-append old mid new (event ∷ events) later (outcome ∷ outcomes) told [] more ran rest = absurd ran.1
+run-append old mid new (event ∷ events) later (outcome ∷ outcomes) told (trace ∷ traces) more ((next, step, run), are) rest =
+    let all = run-append next mid new events later outcomes told traces more (run, are.1) rest in
+    ((next, step, all.0), (are.0, all.1))
 
 -- each run from power-on over some events goes on over later ones
-pub goes_on : (frames levels : ℕ) (mid : State) (events later : List Event) (outcomes : List Outcome) → Run (opening frames levels) events outcomes mid
-    → (told : List Outcome) × (last : State) × Run (opening frames levels) (events ++ later) (outcomes ++ told) last
-goes_on frames levels mid events later outcomes run =
-    let rest = has_run mid later (events, outcomes, (frames, levels, run)) in
-    (rest.0, rest.1, run-append (opening frames levels) mid rest.1 events later outcomes rest.0 run rest.2)
+pub goes_on : (counts : Bool) (frames levels : ℕ) (disks : List ℕ) (mid : State) (events later : List Event) (outcomes : List Outcome) (traces : List (Option Trace))
+    → CountedRun (opening frames levels disks) events outcomes traces mid
+    → (told : List Outcome) × (more : List (Option Trace)) × (last : State)
+    × CountedRun (opening frames levels disks) (events ++ later) (outcomes ++ told) (traces ++ more) last × AreThere counts more
+goes_on counts frames levels disks mid events later outcomes traces ran =
+    let rest = has_run counts mid later (events, outcomes, (frames, levels, disks, ran.0)) in
+    (rest.0, rest.1, rest.2, run-append (opening frames levels disks) mid rest.2 events later outcomes rest.0 traces rest.1 ran rest.3, rest.4)

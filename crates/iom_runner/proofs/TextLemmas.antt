@@ -1,5 +1,5 @@
 -- The text of a script, and what a fault says of it.
-use Rattle.std.proofs.Common.{◌≡◌, ◌≢◌, ◌<◌, ◌∙◌, ℕ, inl, inr, List, [], take, Option, None, Some, MatchOption, IfSome, Result, Ok, Err, OnOk, OnErr, IfErr, unwrap_or, refl, sym, ap, subst, subst₂}
+use Rattle.std.proofs.Common.{◌≡◌, ◌≢◌, ◌<◌, ◌∙◌, ℕ, Bool, inl, inr, List, [], take, Option, None, Some, MatchOption, IfSome, Result, Ok, Err, OnOk, OnErr, IfErr, unwrap_or, refl, sym, ap, subst, subst₂}
 use Rattle.std.proofs.KnownBytes.{Keeps-refl}
 use Rattle.std.specs.Io.KnownBytes.{Appends}
 use Rattle.iom_machine.specs.declared.event.Event.{Event}
@@ -14,9 +14,10 @@ use Rattle.iom_runner.specs.declared.faults.ProgramFault.TheVariants as programs
 use Rattle.iom_runner.specs.declared.faults.RunFault.{RunFault}
 use Rattle.iom_runner.specs.declared.faults.RunFault.TheVariants as faults
 use Rattle.iom_runner.specs.Bytes.{ExplainsUnparsed}
+use Rattle.iom_runner.specs.Disks.{program_setting}
 use Rattle.iom_runner.specs.Reading.{IsReadFault}
 use Rattle.iom_runner.specs.Runs.{TellsScript, RunsBytes, RunsProgram, AreLeft}
-use Rattle.iom_runner.specs.Text.{TellsRun, TellsWorld, TellsSoFar, IsTextOf, WritesRun, BeginsRun, BeginsRunSoFar}
+use Rattle.iom_runner.specs.Text.{Setting, TellsRun, TellsPlatform, TellsSoFar, IsTextOf, WritesRun, BeginsRun, BeginsRunSoFar}
 use Rattle.iom_runner.specs.Writing.{AppendsFront, AppendsPart}
 
 -- what tells a run from power-on tells a script with a world of that size
@@ -45,64 +46,69 @@ whole_script None bytes limit script big read is = is
 whole_script (Some input) bytes limit script big read is = front_script input limit script big (subst (λ b. IsScript b script) read is)
 
 -- nothing is written where the bytes couldn't be read
-pub unread : (input : List ℕ) (written : Option (List ℕ)) (result : Result (Unit {0}) RunFault) (fault : RunFault) → result ≡ Err fault → IsReadFault fault → RunsBytes input result written written
-unread input written result fault is (inl reading) = subst (λ r. RunsBytes input r written written) (sym (is ∙ ap (λ f. Err f) reading)) (Keeps-refl written)
-unread input written result fault is (inr memory) = subst (λ r. RunsBytes input r written written) (sym (is ∙ ap (λ f. Err f) memory)) (Keeps-refl written)
+pub unread : (setting : Setting) (input : List ℕ) (written : Option (List ℕ)) (result : Result (Unit {0}) RunFault) (fault : RunFault) → result ≡ Err fault → IsReadFault fault → RunsBytes setting input result written written
+unread setting input written result fault is (inl reading) = subst (λ r. RunsBytes setting input r written written) (sym (is ∙ ap (λ f. Err f) reading)) (Keeps-refl written)
+unread setting input written result fault is (inr memory) = subst (λ r. RunsBytes setting input r written written) (sym (is ∙ ap (λ f. Err f) memory)) (Keeps-refl written)
 
-explained : (known : Option (List ℕ)) (bytes : List ℕ) (limit : ℕ) (written : Option (List ℕ)) (fault : RunFault) → 1048576 < limit
-    → IfSome known (λ input. bytes ≡ take limit input) → ExplainsUnparsed bytes fault → RunsBytes (input_of known bytes) (Err fault) written written
-explained None bytes limit written (faults.Script number) big read explains = (explains, Keeps-refl written)
-explained (Some input) bytes limit written (faults.Script number) big read explains =
+explained : (setting : Setting) (known : Option (List ℕ)) (bytes : List ℕ) (limit : ℕ) (written : Option (List ℕ)) (fault : RunFault) → 1048576 < limit
+    → IfSome known (λ input. bytes ≡ take limit input) → ExplainsUnparsed bytes fault → RunsBytes setting (input_of known bytes) (Err fault) written written
+explained setting None bytes limit written (faults.Script number) big read explains = (explains, Keeps-refl written)
+explained setting (Some input) bytes limit written (faults.Script number) big read explains =
     (front_fault input limit number big (subst (λ b. IsFirstBadLine b number) read explains), Keeps-refl written)
-explained known bytes limit written faults.Memory big read explains = Keeps-refl written
-explained known bytes limit written faults.Reading big read explains = absurd explains
-explained known bytes limit written faults.Writing big read explains = absurd explains
+explained setting known bytes limit written faults.Memory big read explains = Keeps-refl written
+explained setting known bytes limit written faults.Reading big read explains = absurd explains
+explained setting known bytes limit written faults.Writing big read explains = absurd explains
 
 -- nothing is written where the bytes weren't parsed
-pub unparsed : (known : Option (List ℕ)) (bytes : List ℕ) (limit : ℕ) (written : Option (List ℕ)) (result : Result (Unit {0}) RunFault) (fault : RunFault) → 1048576 < limit
-    → IfSome known (λ input. bytes ≡ take limit input) → ExplainsUnparsed bytes fault → result ≡ Err fault → RunsBytes (input_of known bytes) result written written
-unparsed known bytes limit written result fault big read explains is =
-    subst (λ r. RunsBytes (input_of known bytes) r written written) (sym is) (explained known bytes limit written fault big read explains)
+pub unparsed : (setting : Setting) (known : Option (List ℕ)) (bytes : List ℕ) (limit : ℕ) (written : Option (List ℕ)) (result : Result (Unit {0}) RunFault) (fault : RunFault) → 1048576 < limit
+    → IfSome known (λ input. bytes ≡ take limit input) → ExplainsUnparsed bytes fault → result ≡ Err fault → RunsBytes setting (input_of known bytes) result written written
+unparsed setting known bytes limit written result fault big read explains is =
+    subst (λ r. RunsBytes setting (input_of known bytes) r written written) (sym is) (explained setting known bytes limit written fault big read explains)
 
 -- bytes that are a script are told as one
-pub runs_script : (input : List ℕ) (script : Script) (result : Result (Unit {0}) RunFault) (old new : Option (List ℕ)) → IsScript input script → TellsScript script result old new
-    → RunsBytes input result old new
-runs_script input script (Ok done) old new is told = (script, is, told)
-runs_script input script (Err faults.Writing) old new is told = (script, is, told.0, told.1)
-runs_script input script (Err faults.Memory) old new is told = told.1
-runs_script input script (Err faults.Reading) old new is told = absurd told
-runs_script input script (Err (faults.Script number)) old new is told = absurd told
+pub runs_script : (setting : Setting) (input : List ℕ) (script : Script) (result : Result (Unit {0}) RunFault) (old new : Option (List ℕ)) → IsScript input script → TellsScript setting script result old new
+    → RunsBytes setting input result old new
+runs_script setting input script (Ok done) old new is told = (script, is, told)
+runs_script setting input script (Err faults.Writing) old new is told = (script, is, told.0, told.1)
+runs_script setting input script (Err faults.Memory) old new is told = told.1
+runs_script setting input script (Err faults.Reading) old new is told = absurd told
+runs_script setting input script (Err (faults.Script number)) old new is told = absurd told
 
 -- the program ends as the run of the bytes does, where that goes well
-pub program_ran : (input : List ℕ) (ran : Result (Unit {0}) RunFault) (done : Unit {0}) (old new : Option (List ℕ)) → ran ≡ Ok done → RunsBytes input ran old new
-    → RunsProgram input (Ok done) old new
-program_ran input ran done old new is runs = subst (λ r. RunsBytes input r old new) is runs
+pub program_ran : (setting : Setting) (input : List ℕ) (ran : Result (Unit {0}) RunFault) (done : Unit {0}) (old new : Option (List ℕ)) → ran ≡ Ok done → RunsBytes setting input ran old new
+    → RunsProgram setting input (Ok done) old new
+program_ran setting input ran done old new is runs = subst (λ r. RunsBytes setting input r old new) is runs
 
 -- and where it fails
-pub program_failed : (input : List ℕ) (ran : Result (Unit {0}) RunFault) (result : Result (Unit {0}) ProgramFault) (fault : RunFault) (old new : Option (List ℕ))
-    → ran ≡ Err fault → result ≡ Err (programs.Run fault) → RunsBytes input ran old new → RunsProgram input result old new
-program_failed input ran result fault old new is ends runs =
-    subst (λ r. RunsProgram input r old new) (sym ends) (subst (λ r. RunsBytes input r old new) is runs)
+pub program_failed : (setting : Setting) (input : List ℕ) (ran : Result (Unit {0}) RunFault) (result : Result (Unit {0}) ProgramFault) (fault : RunFault) (old new : Option (List ℕ))
+    → ran ≡ Err fault → result ≡ Err (programs.Run fault) → RunsBytes setting input ran old new → RunsProgram setting input result old new
+program_failed setting input ran result fault old new is ends runs =
+    subst (λ r. RunsProgram setting input r old new) (sym ends) (subst (λ r. RunsBytes setting input r old new) is runs)
+
+-- with the program's disks, and counts where these are asked for
+pub program_as : (counts flag : Bool) (input : List ℕ) (result : Result (Unit {0}) ProgramFault) (old new : Option (List ℕ)) → counts ≡ flag
+    → RunsProgram (program_setting counts) input result old new → RunsProgram (program_setting flag) input result old new
+program_as counts flag input result old new same runs = subst (λ b. RunsProgram (program_setting b) input result old new) same runs
 
 -- a lawful command line isn't read for want of memory alone
-pub words_unread : (input : List ℕ) (result : Result (Unit {0}) ProgramFault) (fault : ArgsFault) (written : Option (List ℕ)) → result ≡ Err (programs.Args fault)
-    → fault ≢ args_faults.Bad → RunsProgram input result written written
-words_unread input result args_faults.Bad written is lawful = absurd (lawful refl)
-words_unread input result args_faults.Memory written is lawful = subst (λ r. RunsProgram input r written written) (sym is) (Keeps-refl written)
+pub words_unread : (setting : Setting) (input : List ℕ) (result : Result (Unit {0}) ProgramFault) (fault : ArgsFault) (written : Option (List ℕ)) → result ≡ Err (programs.Args fault)
+    → fault ≢ args_faults.Bad → RunsProgram setting input result written written
+words_unread setting input result args_faults.Bad written is lawful = absurd (lawful refl)
+words_unread setting input result args_faults.Memory written is lawful = subst (λ r. RunsProgram setting input r written written) (sym is) (Keeps-refl written)
 
 -- nothing is written where memory failed
-pub untold : (script : Script) (size : WorldSize) (written : Option (List ℕ)) (result : Result (Unit {0}) RunFault) (fault : RunFault) → script.world ≡ Some size
-    → result ≡ Err fault → fault ≡ faults.Memory → TellsScript script result written written
-untold script size written result fault there is memory =
-    subst (λ r. TellsScript script r written written) (sym (is ∙ ap (λ f. Err f) memory)) ((λ none. cc), Keeps-refl written)
+pub untold : (setting : Setting) (script : Script) (size : WorldSize) (written : Option (List ℕ)) (result : Result (Unit {0}) RunFault) (fault : RunFault) → script.world ≡ Some size
+    → result ≡ Err fault → fault ≡ faults.Memory → TellsScript setting script result written written
+untold setting script size written result fault there is memory =
+    subst (λ r. TellsScript setting script r written written) (sym (is ∙ ap (λ f. Err f) memory)) ((λ none. cc), Keeps-refl written)
 
 -- a run of the events of a script, in a world of its size, tells the script
-pub told_script : (script : Script) (size : WorldSize) (events : List Event) (result : Result (Unit {0}) RunFault) (old new : Option (List ℕ))
-    → script.world ≡ Some size → events ≡ script.events → OnOk result (WritesRun size events old new) → OnErr result (BeginsRun size events old new)
-    → OnErr result (BeginsRunSoFar size events old new) → IfErr result (λ fault. fault ≡ faults.Writing) → TellsScript script result old new
-told_script script size events (Ok done) old new is same told front so_far writing = of_script TellsWorld (Appends old new) script size events is same told
-told_script script size events (Err fault) old new is same told front so_far writing =
-    subst (λ f. TellsScript script (Err f) old new) (sym writing) (of_script TellsRun (AppendsFront old new) script size events is same front, of_script TellsSoFar (AppendsPart old new) script size events is same so_far)
+pub told_script : (setting : Setting) (script : Script) (size : WorldSize) (events : List Event) (result : Result (Unit {0}) RunFault) (old new : Option (List ℕ))
+    → script.world ≡ Some size → events ≡ script.events → OnOk result (WritesRun setting size events old new) → OnErr result (BeginsRun setting size events old new)
+    → OnErr result (BeginsRunSoFar setting size events old new) → IfErr result (λ fault. fault ≡ faults.Writing) → TellsScript setting script result old new
+told_script setting script size events (Ok done) old new is same told front so_far writing = of_script (TellsPlatform setting) (Appends old new) script size events is same told
+told_script setting script size events (Err fault) old new is same told front so_far writing =
+    subst (λ f. TellsScript setting script (Err f) old new) (sym writing) (of_script (TellsRun setting) (AppendsFront old new) script size events is same front, of_script (TellsSoFar setting) (AppendsPart old new) script size events is same so_far)
 
 -- what is told by way of a writer, where the writer began and ended so
 pub told_by : {W : Type 0} (contents : W → Option (List ℕ)) (Tells : Option (List ℕ) → Option (List ℕ) → Type 0) (old start end new : W) → start ≡ old → end ≡ new

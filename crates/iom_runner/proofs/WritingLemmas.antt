@@ -1,13 +1,17 @@
 -- What is written, a part after another.
-use Rattle.std.proofs.Common.{◌≡◌, ◌-◌, ◌<◌, ◌++◌, ◌∙◌, ℕ, List, [], ◌∷◌, length, take, drop, Option, None, Some, Result, Ok, Err, OnErr, refl, sym, ap, subst, append_assoc, append-nil, arith, length-drop, take-append-drop}
+use Rattle.std.proofs.Common.{◌≡◌, ◌-◌, ◌<◌, ◌++◌, ◌∙◌, ℕ, suc, Bool, List, [], ◌∷◌, length, take, drop, Option, None, Some, is_some, Result, Ok, Err, OnErr, refl, sym, ap, subst, append_assoc, append-nil, arith, length-drop, take-append-drop}
 use Rattle.std.proofs.lemmas.List.{take_all}
+use Rattle.std.proofs.lemmas.List.Elements.{All-nil, All-cons}
 use Rattle.std.specs.Io.KnownBytes.{Appends, Keeps}
 use Rattle.std.proofs.KnownBytes.{Appends-nil, Appends-trans, Appends-kept}
 use Rattle.iom_machine.specs.declared.outcome.Outcome.{Outcome}
-use Rattle.iom_script.specs.Lines.{line_of, lines_of}
-use Rattle.iom_world.specs.Runs.{TakesAll}
+use Rattle.iom_machine.specs.declared.outcome.Trace.{Trace}
+use Rattle.iom_platform.specs.Runs.{TakesAll}
+use Rattle.iom_script.specs.Lines.{line_of, trace_line}
 use Rattle.iom_runner.specs.declared.writing.LineWriter.{LineWriter}
-use Rattle.iom_runner.specs.Writing.{AppendsFront, AppendsPart, TakesText, TakesLine}
+use Rattle.iom_runner.specs.Text.{AreThere}
+use Rattle.iom_runner.specs.Told.{told_line, told_lines}
+use Rattle.iom_runner.specs.Writing.{AppendsFront, AppendsPart, wants_counts, TakesText, FailsAt, TakesLine, FailsWriting}
 
 -- nothing is written of a text
 pub front-none : (known : Option (List ℕ)) (text : List ℕ) → AppendsFront known known text
@@ -49,20 +53,70 @@ part-after old mid new written text first (front, next, rest, is, wrote) = (
 pub takes-more : {W : Type 0} (contents : W → Option (List ℕ)) (old mid new : LineWriter W) (text more : List ℕ)
     → TakesText contents old text mid → TakesText contents mid more new → TakesText contents old (text ++ more) new
 takes-more contents old mid new text more (same, written, wrote, is) (same_later, written_later, wrote_later, is_later) = (
-  same_later ∙ same,
+  (same_later.0 ∙ same.0, same_later.1 ∙ same.1),
   written ++ written_later,
   Appends-trans _ _ _ written written_later wrote wrote_later,
   sym (append_assoc old.buffer text more) ∙ ap (λ l. l ++ more) is ∙ append_assoc written mid.buffer more ∙ ap (λ l. written ++ l) is_later
       ∙ sym (append_assoc written written_later new.buffer),
 )
 
--- a sink takes the lines of outcomes
-pub takes-lines : {W : Type 0} (contents : W → Option (List ℕ)) (old new : LineWriter W) (outcomes : List Outcome)
-    → TakesAll (TakesLine contents) old outcomes new → TakesText contents old (lines_of outcomes) new
-takes-lines contents old new [] all =
-    subst (λ (s : LineWriter _). TakesText contents old [] s) (sym all) (refl, [], Appends-nil (contents old.writer.now), append-nil old.buffer)
-takes-lines contents old new (outcome ∷ outcomes) (mid, put, all) =
-    takes-more contents old mid new (line_of outcome) (lines_of outcomes) put (takes-lines contents mid new outcomes all)
+-- a sink takes the lines of outcomes, with those of their counts
+pub takes-lines : {W : Type 0} (contents : W → Option (List ℕ)) (old new : LineWriter W) (outcomes : List Outcome) (traces : List (Option Trace))
+    → TakesAll wants_counts (TakesLine contents) old outcomes traces new → TakesText contents old (told_lines outcomes traces) new
+takes-lines contents old new [] [] all =
+    subst (λ (s : LineWriter _). TakesText contents old [] s) (sym all) ((refl, refl), [], Appends-nil (contents old.writer.now), append-nil old.buffer)
+takes-lines contents old new [] (trace ∷ traces) all = absurd all
+takes-lines contents old new (outcome ∷ outcomes) [] all = absurd all
+takes-lines contents old new (outcome ∷ outcomes) (trace ∷ traces) (mid, wanted, put, all) =
+    takes-more contents old mid new (told_line outcome trace) (told_lines outcomes traces) put (takes-lines contents mid new outcomes traces all)
+
+-- the counts are there each time, or never, as the sink wants them
+pub counts-there : {W : Type 0} (contents : W → Option (List ℕ)) (counts : Bool) (old new : LineWriter W) (outcomes : List Outcome) (traces : List (Option Trace))
+    → old.counts ≡ counts → TakesAll wants_counts (TakesLine contents) old outcomes traces new → AreThere counts traces
+counts-there contents counts old new [] [] same all = All-nil (λ (t : Option Trace). is_some t ≡ counts)
+counts-there contents counts old new [] (trace ∷ traces) same all = absurd all
+counts-there contents counts old new (outcome ∷ outcomes) [] same all = absurd all
+counts-there contents counts old new (outcome ∷ outcomes) (trace ∷ traces) same (mid, wanted, put, all) =
+    All-cons (λ (t : Option Trace). is_some t ≡ counts) trace traces (wanted ∙ same) (counts-there contents counts mid new outcomes traces (put.0.1 ∙ same) all)
+
+-- there are as many counts as outcomes
+pub as-many : {W : Type 0} (contents : W → Option (List ℕ)) (old new : LineWriter W) (outcomes : List Outcome) (traces : List (Option Trace))
+    → TakesAll wants_counts (TakesLine contents) old outcomes traces new → length outcomes ≡ length traces
+as-many contents old new [] [] all = refl
+as-many contents old new [] (trace ∷ traces) all = absurd all
+as-many contents old new (outcome ∷ outcomes) [] all = absurd all
+as-many contents old new (outcome ∷ outcomes) (trace ∷ traces) (mid, wanted, put, all) = ap (λ n. suc n) (as-many contents mid new outcomes traces all)
+
+-- the lines of outcomes, and of later ones
+pub lines-append : (outcomes later : List Outcome) (traces more : List (Option Trace)) → length outcomes ≡ length traces
+    → told_lines (outcomes ++ later) (traces ++ more) ≡ told_lines outcomes traces ++ told_lines later more
+lines-append [] later [] more same = refl
+lines-append [] later (trace ∷ traces) more same = cc
+lines-append (outcome ∷ outcomes) later [] more same = cc
+lines-append (outcome ∷ outcomes) later (trace ∷ traces) more same =
+    let rest : length outcomes ≡ length traces = cc in
+    ap (λ l. told_line outcome trace ++ l) (lines-append outcomes later traces more rest) ∙ sym (append_assoc (told_line outcome trace) (told_lines outcomes traces) (told_lines later more))
+
+-- a sink fails at a text, and so at a longer one
+pub fails-longer : {W : Type 0} (contents : W → Option (List ℕ)) (old new : LineWriter W) (text more : List ℕ) → FailsAt contents old text new → FailsAt contents old (text ++ more) new
+fails-longer contents old new text more (same, part) =
+    (same, subst (AppendsPart (contents old.writer.now) (contents new.writer.now)) (append_assoc old.buffer text more) (part-longer _ _ (old.buffer ++ text) more part))
+
+-- a sink fails at the line of an outcome, and so at that with its counts
+pub fails-line : {W : Type 0} (contents : W → Option (List ℕ)) (old new : LineWriter W) (outcome : Outcome) (trace : Option Trace) → FailsAt contents old (line_of outcome) new
+    → FailsWriting contents old outcome trace new
+fails-line contents old new outcome None failed = failed
+fails-line contents old new outcome (Some trace) failed = fails-longer contents old new (line_of outcome) (trace_line trace) failed
+
+-- a sink takes a text, and fails at another
+pub fails-later : {W : Type 0} (contents : W → Option (List ℕ)) (old mid new : LineWriter W) (text more : List ℕ) → TakesText contents old text mid → FailsAt contents mid more new
+    → FailsAt contents old (text ++ more) new
+fails-later contents old mid new text more (same, written, wrote, is) (same_later, part) = (
+  (same_later.0 ∙ same.0, same_later.1 ∙ same.1),
+  subst (AppendsPart (contents old.writer.now) (contents new.writer.now))
+      (sym (append_assoc written mid.buffer more) ∙ ap (λ l. l ++ more) (sym is) ∙ append_assoc old.buffer text more)
+      (part-after _ _ _ written (mid.buffer ++ more) wrote part),
+)
 
 -- a sink that had nothing took a text, and then all of the buffer is written
 pub all_written : {W : Type 0} (contents : W → Option (List ℕ)) (old mid : LineWriter W) (new : Option (List ℕ)) (text : List ℕ)
@@ -75,6 +129,11 @@ pub part_written : {W : Type 0} (contents : W → Option (List ℕ)) (old mid : 
     → old.buffer ≡ [] → TakesText contents old text mid → AppendsPart (contents mid.writer.now) new mid.buffer → AppendsPart (contents old.writer.now) new text
 part_written contents old mid new text empty (same, written, wrote, is) last =
     subst (AppendsPart (contents old.writer.now) new) (sym (sym (ap (λ l. l ++ text) empty) ∙ is)) (part-after _ _ new written mid.buffer wrote last)
+
+-- a sink that had nothing failed at a text
+pub part_failed : {W : Type 0} (contents : W → Option (List ℕ)) (old new : LineWriter W) (text : List ℕ) → old.buffer ≡ [] → FailsAt contents old text new
+    → AppendsPart (contents old.writer.now) (contents new.writer.now) text
+part_failed contents old new text empty failed = subst (λ b. AppendsPart (contents old.writer.now) (contents new.writer.now) (b ++ text)) empty failed.1
 
 -- what is so anyway is so at an error
 pub at_err : {T E P : Type 0} (result : Result T E) → P → OnErr result P

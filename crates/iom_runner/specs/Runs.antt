@@ -8,33 +8,33 @@ use Rattle.iom_runner.specs.declared.faults.RunFault.{RunFault}
 use Rattle.iom_runner.specs.declared.faults.RunFault.TheVariants.{Reading, Writing, Memory, Script as BadLine}
 use Rattle.iom_runner.specs.declared.faults.ProgramFault.{ProgramFault}
 use Rattle.iom_runner.specs.declared.faults.ProgramFault.TheVariants.{Args, Run}
-use Rattle.iom_runner.specs.Text.{WritesText, BeginsText, BeginsTextSoFar}
+use Rattle.iom_runner.specs.Text.{Setting, WritesText, BeginsText, BeginsTextSoFar}
 
--- Telling a script ends so. Where it ends well, its text is written, told of a run that a world goes through. Where writing fails, what was written is a
+-- Telling a script ends so. Where it ends well, its text is written, told of a run that a platform goes through. Where writing fails, what was written is a
 -- beginning of that, and one, but not all, of the text of its first events. Where memory fails, nothing is written, and the script says something.
-abbrev pub TellsScript : Script → Result (Unit {0}) RunFault → Option (List ℕ) → Option (List ℕ) → Type 0
-TellsScript script (Ok done) old new = WritesText script old new
-TellsScript script (Err Writing) old new = BeginsText script old new × BeginsTextSoFar script old new
-TellsScript script (Err Memory) old new = (script.world ≢ None) × Keeps old new
-TellsScript script (Err Reading) old new = ⊥
-TellsScript script (Err (BadLine number)) old new = ⊥
+abbrev pub TellsScript : Setting → Script → Result (Unit {0}) RunFault → Option (List ℕ) → Option (List ℕ) → Type 0
+TellsScript setting script (Ok done) old new = WritesText setting script old new
+TellsScript setting script (Err Writing) old new = BeginsText setting script old new × BeginsTextSoFar setting script old new
+TellsScript setting script (Err Memory) old new = (script.world ≢ None) × Keeps old new
+TellsScript setting script (Err Reading) old new = ⊥
+TellsScript setting script (Err (BadLine number)) old new = ⊥
 
 -- Running bytes ends so. Bytes that are a script are told as one. Of others nothing is written, and their first bad line is named. Where reading fails, or
 -- memory, nothing is written.
-abbrev pub RunsBytes : List ℕ → Result (Unit {0}) RunFault → Option (List ℕ) → Option (List ℕ) → Type 0
-RunsBytes input (Ok done) old new = (script : Script) × IsScript input script × WritesText script old new
-RunsBytes input (Err Writing) old new =
-    (script : Script) × IsScript input script × BeginsText script old new × BeginsTextSoFar script old new
-RunsBytes input (Err (BadLine number)) old new = IsFirstBadLine input number × Keeps old new
-RunsBytes input (Err Reading) old new = Keeps old new
-RunsBytes input (Err Memory) old new = Keeps old new
+abbrev pub RunsBytes : Setting → List ℕ → Result (Unit {0}) RunFault → Option (List ℕ) → Option (List ℕ) → Type 0
+RunsBytes setting input (Ok done) old new = (script : Script) × IsScript input script × WritesText setting script old new
+RunsBytes setting input (Err Writing) old new =
+    (script : Script) × IsScript input script × BeginsText setting script old new × BeginsTextSoFar setting script old new
+RunsBytes setting input (Err (BadLine number)) old new = IsFirstBadLine input number × Keeps old new
+RunsBytes setting input (Err Reading) old new = Keeps old new
+RunsBytes setting input (Err Memory) old new = Keeps old new
 
 -- The program over a lawful command line ends as running the bytes does, or for want of memory before anything is read.
-abbrev pub RunsProgram : List ℕ → Result (Unit {0}) ProgramFault → Option (List ℕ) → Option (List ℕ) → Type 0
-RunsProgram input (Ok done) old new = RunsBytes input (Ok done) old new
-RunsProgram input (Err (Run fault)) old new = RunsBytes input (Err fault) old new
-RunsProgram input (Err (Args args_faults.Memory)) old new = Keeps old new
-RunsProgram input (Err (Args args_faults.Bad)) old new = ⊥
+abbrev pub RunsProgram : Setting → List ℕ → Result (Unit {0}) ProgramFault → Option (List ℕ) → Option (List ℕ) → Type 0
+RunsProgram setting input (Ok done) old new = RunsBytes setting input (Ok done) old new
+RunsProgram setting input (Err (Run fault)) old new = RunsBytes setting input (Err fault) old new
+RunsProgram setting input (Err (Args args_faults.Memory)) old new = Keeps old new
+RunsProgram setting input (Err (Args args_faults.Bad)) old new = ⊥
 
 -- the bytes are those that are left to be read, where these are known
 abbrev pub AreLeft : List ℕ → Option (List ℕ) → Type 0

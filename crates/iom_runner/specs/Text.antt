@@ -1,70 +1,97 @@
 -- The text of a script: what is right to print for it.
-use Rattle.std.specs.Prelude.{◌≡◌, ℕ, List, [], ◌++◌, take, Option, MatchOption}
+use Rattle.std.specs.Prelude.{◌≡◌, ℕ, Bool, ⊤, List, [], ◌∷◌, ◌++◌, map, take, All, Option, MatchOption, IfSome, is_some}
 use Rattle.std.specs.Io.KnownBytes.{Appends}
 use Rattle.iom_machine.specs.declared.event.Event.{Event}
 use Rattle.iom_machine.specs.declared.outcome.Outcome.{Outcome}
 use Rattle.iom_machine.specs.declared.outcome.Outcome.TheVariants.{Done}
+use Rattle.iom_machine.specs.declared.outcome.Trace.{Trace}
 use Rattle.iom_machine.specs.declared.state.State.{State}
 use Rattle.iom_machine.specs.Machine.{Run}
 use Rattle.iom_machine.specs.PowerOn.{opening}
 use Rattle.iom_machine.specs.Reclaim.{Reclaims}
+use Rattle.iom_machine.specs.Traces.{IsTrace}
+use Rattle.iom_platform.specs.PowerOn.{BeginsAt, numbered, number_of}
+use Rattle.iom_platform.specs.Runs.{AreCounts, AreOutcomes}
+use Rattle.iom_platform.specs.Seen.{Seen}
 use Rattle.iom_script.specs.declared.script.Script.{Script}
 use Rattle.iom_script.specs.declared.script.WorldSize.{WorldSize}
-use Rattle.iom_script.specs.Lines.{line_of, lines_of}
-use Rattle.iom_world.specs.declared.world.World.{World}
-use Rattle.iom_world.specs.PowerOn.{BeginsAt}
-use Rattle.iom_world.specs.Runs.{AreOutcomes}
+use Rattle.iom_virtio_blk.specs.Disks.{DiskState}
+use Rattle.iom_runner.specs.Told.{told_line, told_lines}
 use Rattle.iom_runner.specs.Writing.{AppendsFront, AppendsPart}
 
+-- what scripts are run with: the disks that are at hand, whose numbers are their places from 0, and whether the counts stand behind each line
+pub record Setting : Type 0 where
+  pub disks : List DiskState
+  pub counts : Bool
+
 -- the state at power-on
-abbrev pub power_on : WorldSize → State
-power_on size = opening size.frames size.levels
+abbrev pub power_on : Setting → WorldSize → State
+power_on setting size = opening size.frames size.levels (map number_of (numbered 0 setting.disks))
 
--- a line for the world, `ok`, and one for each outcome
-abbrev pub run_text : List Outcome → List ℕ
-run_text outcomes = line_of Done ++ lines_of outcomes
+-- a line for the world, `ok`, and one for each outcome, each with the line of its counts, where there are any
+abbrev pub run_text : Option Trace → List Outcome → List (Option Trace) → List ℕ
+run_text first outcomes traces = told_line Done first ++ told_lines outcomes traces
 
--- the text of a run over the events from power-on, of which the sentences of the headline hold
-abbrev pub TellsRun : WorldSize → List Event → List ℕ → Type 0
-TellsRun size events text =
-    (outcomes : List Outcome) × (last : State) × (run : Run (power_on size) events outcomes last)
-    × Reclaims (power_on size) events outcomes last run × (text ≡ run_text outcomes)
+-- there are counts each time, or never
+abbrev pub AreThere : Bool → List (Option Trace) → Type 0
+AreThere counts traces = All (λ (trace : Option Trace). is_some trace ≡ counts) traces
 
--- the text of such a run that a world goes through from its own power-on; each event also does to it what the machine doesn't see
-abbrev pub TellsWorld : WorldSize → List Event → List ℕ → Type 0
-TellsWorld size events text =
-    (world new : World) × (outcomes : List Outcome) × (last : State)
-    × BeginsAt size.frames size.levels world × (are : AreOutcomes (power_on size) world events outcomes last new)
-    × Reclaims (power_on size) events outcomes last are.run × (text ≡ run_text outcomes)
+-- the counts beside each outcome of a run are those of the state that its event leads to
+abbrev pub AreTraces : (state : State) (events : List Event) (outcomes : List Outcome) → List (Option Trace) → (last : State) → Run state events outcomes last → Type 0
+AreTraces state [] [] [] last run = ⊤
+AreTraces state (event ∷ events) (outcome ∷ outcomes) (trace ∷ traces) last (next, step, rest) =
+    IfSome trace (IsTrace next) × AreTraces next events outcomes traces last rest
+AreTraces state _ _ _ last run = ⊥
+
+-- the text of a run over the events from power-on, of which the sentences of the headline hold; the counts are those of its states, from power-on on
+abbrev pub TellsRun : Setting → WorldSize → List Event → List ℕ → Type 0
+TellsRun setting size events text =
+    (outcomes : List Outcome) × (last : State) × (first : Option Trace) × (traces : List (Option Trace))
+    × (run : Run (power_on setting size) events outcomes last)
+    × Reclaims (power_on setting size) events outcomes last run
+    × AreThere setting.counts (first ∷ traces) × IfSome first (IsTrace (power_on setting size))
+    × AreTraces (power_on setting size) events outcomes traces last run
+    × (text ≡ run_text first outcomes traces)
+
+-- the text of such a run that a platform goes through from its own power-on; each event also does to it what the machine doesn't see, and the counts are
+-- also those of the messages under way
+abbrev pub TellsPlatform : Setting → WorldSize → List Event → List ℕ → Type 0
+TellsPlatform setting size events text =
+    (old new : Seen) × (outcomes : List Outcome) × (last : State) × (first : Option Trace) × (traces : List (Option Trace))
+    × BeginsAt size.frames size.levels setting.disks old
+    × (are : AreOutcomes (power_on setting size) old events outcomes traces last new)
+    × Reclaims (power_on setting size) events outcomes last are.run
+    × AreThere setting.counts (first ∷ traces) × AreCounts (power_on setting size) old.world first
+    × (text ≡ run_text first outcomes traces)
 
 -- the text of such a run over some of the events, from the first on
-abbrev pub TellsSoFar : WorldSize → List Event → List ℕ → Type 0
-TellsSoFar size events text = (count : ℕ) × TellsWorld size (take count events) text
+abbrev pub TellsSoFar : Setting → WorldSize → List Event → List ℕ → Type 0
+TellsSoFar setting size events text = (count : ℕ) × TellsPlatform setting size (take count events) text
 
--- known contents grow by the text of a run over the events that a world goes through
-abbrev pub WritesRun : WorldSize → List Event → Option (List ℕ) → Option (List ℕ) → Type 0
-WritesRun size events old new = (text : List ℕ) × TellsWorld size events text × Appends old new text
+-- known contents grow by the text of a run over the events that a platform goes through
+abbrev pub WritesRun : Setting → WorldSize → List Event → Option (List ℕ) → Option (List ℕ) → Type 0
+WritesRun setting size events old new = (text : List ℕ) × TellsPlatform setting size events text × Appends old new text
 
 -- known contents grow by a beginning of the text of a run over the events
-abbrev pub BeginsRun : WorldSize → List Event → Option (List ℕ) → Option (List ℕ) → Type 0
-BeginsRun size events old new = (text : List ℕ) × TellsRun size events text × AppendsFront old new text
+abbrev pub BeginsRun : Setting → WorldSize → List Event → Option (List ℕ) → Option (List ℕ) → Type 0
+BeginsRun setting size events old new = (text : List ℕ) × TellsRun setting size events text × AppendsFront old new text
 
--- known contents grow by a beginning, but not by all, of the text of a run over the first events that a world goes through
-abbrev pub BeginsRunSoFar : WorldSize → List Event → Option (List ℕ) → Option (List ℕ) → Type 0
-BeginsRunSoFar size events old new = (text : List ℕ) × TellsSoFar size events text × AppendsPart old new text
+-- known contents grow by a beginning, but not by all, of the text of a run over the first events that a platform goes through
+abbrev pub BeginsRunSoFar : Setting → WorldSize → List Event → Option (List ℕ) → Option (List ℕ) → Type 0
+BeginsRunSoFar setting size events old new = (text : List ℕ) × TellsSoFar setting size events text × AppendsPart old new text
 
 -- The text of a script, by what tells the text of events in a world of some size: nothing where the script says nothing; else that of its events.
 abbrev pub IsTextOf : (WorldSize → List Event → List ℕ → Type 0) → Script → List ℕ → Type 0
 IsTextOf Tells script text = MatchOption script.world (text ≡ []) (λ size. Tells size script.events text)
 
--- known contents grow by a text of the script, told of a run that a world goes through
-abbrev pub WritesText : Script → Option (List ℕ) → Option (List ℕ) → Type 0
-WritesText script old new = (text : List ℕ) × IsTextOf TellsWorld script text × Appends old new text
+-- known contents grow by a text of the script, told of a run that a platform goes through
+abbrev pub WritesText : Setting → Script → Option (List ℕ) → Option (List ℕ) → Type 0
+WritesText setting script old new = (text : List ℕ) × IsTextOf (TellsPlatform setting) script text × Appends old new text
 
 -- known contents grow by a beginning of a text of the script
-abbrev pub BeginsText : Script → Option (List ℕ) → Option (List ℕ) → Type 0
-BeginsText script old new = (text : List ℕ) × IsTextOf TellsRun script text × AppendsFront old new text
+abbrev pub BeginsText : Setting → Script → Option (List ℕ) → Option (List ℕ) → Type 0
+BeginsText setting script old new = (text : List ℕ) × IsTextOf (TellsRun setting) script text × AppendsFront old new text
 
--- known contents grow by a beginning, but not by all, of a text of the script's first events, told of a run that a world goes through
-abbrev pub BeginsTextSoFar : Script → Option (List ℕ) → Option (List ℕ) → Type 0
-BeginsTextSoFar script old new = (text : List ℕ) × IsTextOf TellsSoFar script text × AppendsPart old new text
+-- known contents grow by a beginning, but not by all, of a text of the script's first events, told of a run that a platform goes through
+abbrev pub BeginsTextSoFar : Setting → Script → Option (List ℕ) → Option (List ℕ) → Type 0
+BeginsTextSoFar setting script old new = (text : List ℕ) × IsTextOf (TellsSoFar setting) script text × AppendsPart old new text

@@ -1,7 +1,7 @@
 // What a command line says.
-ghost use Rattle.std.specs.Prelude.{◌≡◌, ◌≢◌, true, map, option_map, slice_get, IfOk, Err};
+ghost use Rattle.std.specs.Prelude.{◌≡◌, ◌≢◌, true, map, option_map, IfOk, Err};
 ghost use Rattle.clap.specs.Simple.{app_of};
-ghost use Rattle.iom_runner.specs.CommandLine.{is_file, is_command_line, file_command};
+ghost use Rattle.iom_runner.specs.CommandLine.{is_trace, is_file, is_command_line, wants_trace, named_file, program_command};
 
 use crate::faults::ArgsFault;
 use clap::error::ErrorKind;
@@ -11,8 +11,17 @@ use std::alloc::{AllocError, Global};
 /// What a command line says.
 #[derive(Debug, Drop)]
 pub struct Args<'a> {
+    /// Whether the counts are to stand behind each line.
+    pub trace: bool,
     /// The file that the script is in. None where it is on standard input.
     pub file: Option<&'a str>,
+}
+
+/// Whether the word asks for the counts.
+fn is_trace(word: &str) -> bool
+    ensures { result ≡ is_trace word.now }
+{
+    word == "--trace"
 }
 
 /// Whether the word can name a file: it isn't empty, and doesn't begin with `-`.
@@ -25,33 +34,39 @@ fn is_file(word: &str) -> bool
     }
 }
 
-/// Whether the words are a lawful command line: none, or a file.
+/// Whether the words are a lawful command line: none, `--trace`, a file, or `--trace` and a file.
 fn is_lawful(words: &[&str]) -> bool
     ensures { result ≡ is_command_line (map (λ word. word.now) words.now) }
 {
     match words {
         [] => true,
-        [file] => is_file(file),
+        [word] => is_trace(word) || is_file(word),
+        [flag, file] => is_trace(flag) && is_file(file),
         _ => false,
     }
 }
 
-/// The parser of the command line: one file, which may be left out, and no flag.
+/// The parser of the command line: one flag, and one file, which may be left out.
 fn parser<'a>(alloc: Global) -> Result<Command<'a>, AllocError>
-    ensures { IfOk result (λ command. app_of command ≡ file_command) }
+    ensures { IfOk result (λ command. app_of command ≡ program_command) }
 {
+    let trace = Arg::new(alloc, "trace")
+        .long("trace")
+        .action(ArgAction::SetTrue);
     let file = Arg::new(alloc, "file").action(ArgAction::Set);
     Command::new(alloc, "iommu-run")
         .no_binary_name(true)
         .disable_help_flag(true)
         .disable_version_flag(true)
+        .arg(trace)?
         .arg(file)
 }
 
-/// What the words after the program's name say: nothing, or a file.
+/// What the words after the program's name say: `--trace` or not, and a file or none.
 pub fn read_words<'a>(alloc: Global, words: &'a [&'a str]) -> Result<Args<'a>, ArgsFault>
-    // The file is the first word, if there is one.
-    ensures file { IfOk result (λ args. option_map (λ file. file.now) args.file ≡ slice_get (map (λ word. word.now) words.entry.now) 0) }
+    // The flag is the first word, if it is there; and the file the last that isn't the flag.
+    ensures trace { IfOk result (λ args. args.trace ≡ wants_trace (map (λ word. word.now) words.entry.now)) }
+    ensures file { IfOk result (λ args. option_map (λ file. file.now) args.file ≡ named_file (map (λ word. word.now) words.entry.now)) }
 
     // A command line is a bad one exactly where it isn't lawful.
     ensures lawful { is_command_line (map (λ word. word.now) words.entry.now) ≡ true → result ≢ Err ArgsFault.Bad }
@@ -65,6 +80,7 @@ pub fn read_words<'a>(alloc: Global, words: &'a [&'a str]) -> Result<Args<'a>, A
     };
     match command.try_get_matches_from(words) {
         Ok(matches) => Ok(Args {
+            trace: matches.get_flag("trace"),
             file: matches.get_str("file"),
         }),
         Err(fault) => match fault.kind() {

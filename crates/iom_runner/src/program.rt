@@ -1,12 +1,14 @@
 // The program `iommu-run`, from its command line to its exit status.
-ghost use Rattle.std.specs.Prelude.{◌≡◌, ◌≢◌, ℕ, List, [], true, map, Err};
+ghost use Rattle.std.specs.Prelude.{◌≡◌, ◌≢◌, ℕ, List, true, map, Err, None};
 ghost use Rattle.std.specs.Io.KnownBytes.{Keeps};
-ghost use Rattle.iom_runner.specs.CommandLine.{is_command_line};
+ghost use Rattle.iom_runner.specs.CommandLine.{is_command_line, wants_trace, named_file};
+ghost use Rattle.iom_runner.specs.Disks.{program_setting};
+ghost use Rattle.iom_runner.specs.Reading.{ConsumesAtMost};
 ghost use Rattle.iom_runner.specs.Runs.{RunsProgram, AreLeft};
 
 use crate::arguments::read_words;
+use crate::disks::run_with_disks;
 use crate::faults::{ArgsFault, ProgramFault, RunFault};
-use crate::runner::run;
 use std::alloc::Global;
 use std::env;
 use std::fs::{self, Files};
@@ -27,8 +29,9 @@ fn words_of(rt: &HostRuntime) -> Result<Vec<String>, ArgsFault> {
     Ok(words)
 }
 
-/// Runs the script in the file that the words name, or the one on the input where they name none, and
-/// writes its lines to the output. A file that can't be opened can't be read.
+/// Runs the script in the file that the words name, or the one on the input where they name none, with the
+/// program's disks, and writes its lines to the output, with the counts where the words ask for these. A file
+/// that can't be opened can't be read.
 pub fn run_words<F: Files, R: Read, W: Write>(
     files: &F,
     alloc: Global,
@@ -40,19 +43,22 @@ pub fn run_words<F: Files, R: Read, W: Write>(
     ensures unlawful { is_command_line (map (λ word. word.now) words.entry.now) ≢ true
         → (result ≡ Err (ProgramFault.Args ArgsFault.Bad)) × Keeps (W.contents output.old) (W.contents output.new) }
 
-    // A lawful one is run: without a word the input is the script, and else a file is, of some bytes.
+    // A lawful one is run: where it names no file the input is the script, and else a file is, of some bytes.
     ensures ran { is_command_line (map (λ word. word.now) words.entry.now) ≡ true → (bytes : List ℕ)
-        × (words.entry.now ≡ [] → AreLeft bytes (R.remaining input.old))
-        × RunsProgram bytes result (W.contents output.old) (W.contents output.new) }
+        × (named_file (map (λ word. word.now) words.entry.now) ≡ None → AreLeft bytes (R.remaining input.old))
+        × RunsProgram (program_setting (wants_trace (map (λ word. word.now) words.entry.now))) bytes result (W.contents output.old) (W.contents output.new) }
+
+    // Of the input at most one byte more is taken than a script may have.
+    ensures consumed { ConsumesAtMost 1048577 (R.remaining input.old) (R.remaining input.new) }
 
     // Where the words name a file, or are no command line, nothing is read from the input.
-    ensures unread { words.entry.now ≢ [] → Keeps (R.remaining input.old) (R.remaining input.new) }
+    ensures unread { named_file (map (λ word. word.now) words.entry.now) ≢ None → Keeps (R.remaining input.old) (R.remaining input.new) }
 {
     let args = read_words(alloc, words)?;
     match args.file {
-        None => run(alloc, input, output)?,
+        None => run_with_disks(alloc, input, output, args.trace)?,
         Some(path) => match fs::open(files, path) {
-            Ok(mut file) => run(alloc, &mut file, output)?,
+            Ok(mut file) => run_with_disks(alloc, &mut file, output, args.trace)?,
             Err(_) => return Err(ProgramFault::Run(RunFault::Reading)),
         },
     }

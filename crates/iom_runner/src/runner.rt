@@ -1,86 +1,96 @@
 // A script, from its bytes to the bytes of its lines.
-ghost use Rattle.std.specs.Prelude.{◌≡◌, ◌+◌, ◌<◌, ◌^◌, List, [], ℕ, length, All, OnOk, OnErr, IfOk, IfErr, IfSome};
-ghost use Rattle.iom_machine.specs.Machine.{IsEvent};
+ghost use Rattle.std.specs.Prelude.{◌≡◌, ◌+◌, ◌<◌, ◌^◌, List, [], ℕ, length, OnOk, OnErr, IfOk, IfErr, IfSome};
+ghost use Rattle.iom_platform.specs.PowerOn.{BeginsAt};
+ghost use Rattle.iom_platform.specs.Seen.{platform_seen, states_of};
 ghost use Rattle.iom_script.specs.declared.script.WorldSize.{WorldSize};
 ghost use Rattle.iom_script.specs.Grammar.{IsScript, IsWorldSize};
-ghost use Rattle.iom_world.specs.PowerOn.{BeginsAt};
 ghost use Rattle.iom_runner.specs.Bytes.{ExplainsUnparsed};
+ghost use Rattle.iom_runner.specs.Disks.{setting_of};
 ghost use Rattle.iom_runner.specs.Reading.{ConsumesAtMost};
 ghost use Rattle.iom_runner.specs.Runs.{TellsScript, RunsBytes, AreLeft};
-ghost use Rattle.iom_runner.specs.Text.{WritesRun, BeginsRun, BeginsRunSoFar};
+ghost use Rattle.iom_runner.specs.Text.{Setting, WritesRun, BeginsRun, BeginsRunSoFar};
 ghost use Rattle.iom_runner.specs.Writing.{KeepsWriter};
 
 use crate::faults::RunFault;
 use crate::reading::read_script;
 use crate::writing::{LineWriter, WriteFault};
 use iom_machine::{Event, Outcome, Sink};
+use iom_platform::Platform;
 use iom_script::{LineBuffer, Script, WorldSize, parse};
-use iom_world::World;
+use iom_virtio_blk::Disk;
 use std::alloc::Global;
 use std::io::{Read, Write};
 
 /// The script that the bytes say.
-fn script_of(alloc: Global, bytes: &[u8]) -> Result<Script, RunFault>
+pub(crate) fn script_of(alloc: Global, bytes: &[u8]) -> Result<Script, RunFault>
     ensures script { IfOk result (IsScript bytes.now) }
-    ensures events { IfOk result (λ script. All IsEvent script.events) }
     ensures world { IfOk result (λ script. IfSome script.world IsWorldSize) }
     ensures fault { IfErr result (ExplainsUnparsed bytes.now) }
 {
     Ok(parse(alloc, bytes)?)
 }
 
-/// The world at power-on, of that size.
-fn world_of(alloc: Global, size: WorldSize) -> Result<World, RunFault>
+/// The platform at power-on, of that size, with these disks.
+fn platform_of<D: Disk>(
+    alloc: Global,
+    size: WorldSize,
+    disks: Vec<D>,
+) -> Result<Platform<D>, RunFault>
     requires { IsWorldSize size }
-    ensures begins { IfOk result (BeginsAt size.frames size.levels) }
+    ensures begins { IfOk result (λ platform. BeginsAt size.frames size.levels (states_of D.held D.failed disks.items) (platform_seen D.held D.failed platform)) }
     ensures fault { IfErr result (λ fault. fault ≡ RunFault.Memory) }
 {
-    World::new(alloc, size.frames as u32, size.levels as u8).map_err(|_| RunFault::Memory)
+    Platform::new(alloc, size.frames as u32, size.levels as u8, disks).map_err(|_| RunFault::Memory)
 }
 
 /// Writes the line of the world, and that of each event, which happens in it.
-fn tell_events<W: Write>(
-    world: &mut World,
+fn tell_events<W: Write, D: Disk>(
+    platform: &mut Platform<D>,
     events: &[Event],
     lines: &mut LineWriter<'_, W>,
 ) -> Result<(), WriteFault>
-    requires events { All IsEvent events.now }
-    requires count { world.old.events + length events.now < 2 ^ 64 }
+    requires count { platform.old.world.events + length events.now < 2 ^ 64 }
     requires empty { lines.old.buffer ≡ [] }
-    ensures same_writer { (size : WorldSize) → BeginsAt size.frames size.levels world.old → KeepsWriter lines.old lines.new }
-    ensures told { (size : WorldSize) → BeginsAt size.frames size.levels world.old
-        → OnOk result (WritesRun size events.now (W.contents lines.old.writer.now) (W.contents lines.new.writer.now)) }
-    ensures front { (size : WorldSize) → BeginsAt size.frames size.levels world.old
-        → OnErr result (BeginsRun size events.now (W.contents lines.old.writer.now) (W.contents lines.new.writer.now)) }
-    ensures so_far { (size : WorldSize) → BeginsAt size.frames size.levels world.old
-        → OnErr result (BeginsRunSoFar size events.now (W.contents lines.old.writer.now) (W.contents lines.new.writer.now)) }
+    ensures same_writer { (setting : Setting) (size : WorldSize) → BeginsAt size.frames size.levels setting.disks (platform_seen D.held D.failed platform.old)
+        → KeepsWriter lines.old lines.new }
+    ensures told { (setting : Setting) (size : WorldSize) → BeginsAt size.frames size.levels setting.disks (platform_seen D.held D.failed platform.old)
+        → lines.old.counts ≡ setting.counts → OnOk result (WritesRun setting size events.now (W.contents lines.old.writer.now) (W.contents lines.new.writer.now)) }
+    ensures front { (setting : Setting) (size : WorldSize) → BeginsAt size.frames size.levels setting.disks (platform_seen D.held D.failed platform.old)
+        → lines.old.counts ≡ setting.counts → OnErr result (BeginsRun setting size events.now (W.contents lines.old.writer.now) (W.contents lines.new.writer.now)) }
+    ensures so_far { (setting : Setting) (size : WorldSize) → BeginsAt size.frames size.levels setting.disks (platform_seen D.held D.failed platform.old)
+        → lines.old.counts ≡ setting.counts → OnErr result (BeginsRunSoFar setting size events.now (W.contents lines.old.writer.now) (W.contents lines.new.writer.now)) }
 {
-    lines.put(&Outcome::Done)?;
-    world.run(events, lines)?;
+    let trace = platform.trace_for(lines);
+    lines.put(&Outcome::Done, trace)?;
+    platform.run(events, lines)?;
     lines.write_out()
 }
 
-/// The same, to the writer, by way of the buffer.
-fn tell_run<W: Write>(
-    world: &mut World,
+/// The same, to the writer, by way of the buffer; with the counts or without.
+fn tell_run<W: Write, D: Disk>(
+    platform: &mut Platform<D>,
     events: &[Event],
+    counts: bool,
     buffer: LineBuffer,
     writer: &mut W,
 ) -> Result<(), RunFault>
-    requires events { All IsEvent events.now }
-    requires count { world.old.events + length events.now < 2 ^ 64 }
+    requires count { platform.old.world.events + length events.now < 2 ^ 64 }
     requires empty { buffer ≡ [] }
-    ensures told { (size : WorldSize) → BeginsAt size.frames size.levels world.old
-        → OnOk result (WritesRun size events.now (W.contents writer.old) (W.contents writer.new)) }
-    ensures front { (size : WorldSize) → BeginsAt size.frames size.levels world.old
-        → OnErr result (BeginsRun size events.now (W.contents writer.old) (W.contents writer.new)) }
-    ensures so_far { (size : WorldSize) → BeginsAt size.frames size.levels world.old
-        → OnErr result (BeginsRunSoFar size events.now (W.contents writer.old) (W.contents writer.new)) }
+    ensures told { (setting : Setting) (size : WorldSize) → BeginsAt size.frames size.levels setting.disks (platform_seen D.held D.failed platform.old)
+        → counts ≡ setting.counts → OnOk result (WritesRun setting size events.now (W.contents writer.old) (W.contents writer.new)) }
+    ensures front { (setting : Setting) (size : WorldSize) → BeginsAt size.frames size.levels setting.disks (platform_seen D.held D.failed platform.old)
+        → counts ≡ setting.counts → OnErr result (BeginsRun setting size events.now (W.contents writer.old) (W.contents writer.new)) }
+    ensures so_far { (setting : Setting) (size : WorldSize) → BeginsAt size.frames size.levels setting.disks (platform_seen D.held D.failed platform.old)
+        → counts ≡ setting.counts → OnErr result (BeginsRunSoFar setting size events.now (W.contents writer.old) (W.contents writer.new)) }
     ensures fault { IfErr result (λ fault. fault ≡ RunFault.Writing) }
 {
-    let mut lines = LineWriter::new(buffer, writer);
-    let told = tell_events(world, events, &mut lines);
-    let LineWriter { buffer: _, writer } = lines;
+    let mut lines = LineWriter::new(buffer, writer, counts);
+    let told = tell_events(platform, events, &mut lines);
+    let LineWriter {
+        buffer: _,
+        writer,
+        counts: _,
+    } = lines;
     // No effect at run time: from this use the proof reads what the writer holds.
     let _ = &*writer;
     match told {
@@ -97,33 +107,50 @@ fn empty_buffer(alloc: Global) -> Result<LineBuffer, RunFault>
     LineBuffer::new(alloc).map_err(|_| RunFault::Memory)
 }
 
-/// Writes the lines of the script.
-fn tell<W: Write>(alloc: Global, script: &Script, writer: &mut W) -> Result<(), RunFault>
-    requires events { All IsEvent script.now.events }
+/// Writes the lines of the script, which is run with these disks; with the counts or without.
+pub(crate) fn tell<W: Write, D: Disk>(
+    alloc: Global,
+    script: &Script,
+    disks: Vec<D>,
+    counts: bool,
+    writer: &mut W,
+) -> Result<(), RunFault>
     requires world { IfSome script.now.world IsWorldSize }
-    ensures { TellsScript script.now result (W.contents writer.old) (W.contents writer.new) }
+    ensures { TellsScript (setting_of D.held D.failed disks.items counts) script.now result (W.contents writer.old) (W.contents writer.new) }
 {
     let Some(size) = script.world else {
         return Ok(());
     };
     let buffer = empty_buffer(alloc)?;
-    let mut world = world_of(alloc, size)?;
-    tell_run(&mut world, script.events.as_slice(), buffer, writer)
+    let mut platform = platform_of(alloc, size, disks)?;
+    tell_run(
+        &mut platform,
+        script.events.as_slice(),
+        counts,
+        buffer,
+        writer,
+    )
 }
 
-/// Reads a script, runs its events in a world at power-on, and writes a line for the world and one for
-/// each event. Of bytes that aren't a script it writes nothing, and names their first bad line. Where
-/// writing fails, what was written is a beginning of the text; where reading fails, or memory, nothing is
-/// written.
-pub fn run<R: Read, W: Write>(alloc: Global, reader: &mut R, writer: &mut W) -> Result<(), RunFault>
+/// Reads a script, runs its events in a world at power-on, with these disks, and writes a line for the world
+/// and one for each event; with `trace` each is followed by the line of the counts that stand there. Of bytes
+/// that aren't a script it writes nothing, and names their first bad line. Where writing fails, what was written
+/// is a beginning of the text; where reading fails, or memory, nothing is written.
+pub fn run<R: Read, W: Write, D: Disk>(
+    alloc: Global,
+    reader: &mut R,
+    writer: &mut W,
+    disks: Vec<D>,
+    trace: bool,
+) -> Result<(), RunFault>
     // Of a reader whose bytes aren't known, it is so of some bytes.
     ensures ran { (input : List ℕ) × AreLeft input (R.remaining reader.old)
-        × RunsBytes input result (W.contents writer.old) (W.contents writer.new) }
+        × RunsBytes (setting_of D.held D.failed disks.items trace) input result (W.contents writer.old) (W.contents writer.new) }
 
     // Of the reader at most one byte more is taken than a script may have.
     ensures consumed { ConsumesAtMost 1048577 (R.remaining reader.old) (R.remaining reader.new) }
 {
     let bytes = read_script(alloc, reader)?;
     let script = script_of(alloc, &bytes)?;
-    tell(alloc, &script, writer)
+    tell(alloc, &script, disks, trace, writer)
 }

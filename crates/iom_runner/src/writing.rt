@@ -3,9 +3,10 @@ ghost use Rattle.std.specs.Prelude.{◌≡◌, ◌≢◌, [], OnOk, OnErr, IfErr
 ghost use Rattle.std.specs.Io.{WritesAtMost};
 ghost use Rattle.std.specs.IoError.{error_kind};
 ghost use Rattle.std.specs.Io.KnownBytes.{Appends, WriteAppends};
-ghost use Rattle.iom_runner.specs.Writing.{AppendsPart, KeepsWriter, TakesLine, FailsWriting};
+ghost use Rattle.iom_script.specs.Lines.{line_of, trace_line};
+ghost use Rattle.iom_runner.specs.Writing.{AppendsPart, KeepsWriter, wants_counts, TakesText, FailsAt, TakesLine, FailsWriting};
 
-use iom_machine::{Outcome, Sink};
+use iom_machine::{Outcome, Sink, Trace};
 use iom_script::LineBuffer;
 use std::io::{self, ErrorKind, Write};
 
@@ -56,20 +57,27 @@ pub(crate) fn write_all<W: Write>(writer: &mut W, bytes: &[u8]) -> io::Result<()
     Ok(())
 }
 
-/// A sink that puts the line of each outcome into a buffer, and writes the buffer out when it is nearly
-/// full. It takes no memory.
+/// A sink that puts the line of each outcome into a buffer, and behind it the line of its counts where it wants
+/// these, and writes the buffer out when it is nearly full. It takes no memory.
 pub(crate) struct LineWriter<'a, W> {
     pub(crate) buffer: LineBuffer,
     pub(crate) writer: &'a mut W,
+    /// Whether it wants the counts.
+    pub(crate) counts: bool,
 }
 
 impl<'a, W: Write> LineWriter<'a, W> {
-    pub(crate) fn new(buffer: LineBuffer, writer: &'a mut W) -> LineWriter<'a, W>
+    pub(crate) fn new(buffer: LineBuffer, writer: &'a mut W, counts: bool) -> LineWriter<'a, W>
         ensures buffer { result.buffer ≡ buffer }
         ensures same_writer { result.writer.ghost_name ≡ writer.entry.ghost_name }
         ensures contents { result.writer.now ≡ writer.old }
+        ensures counts { result.counts ≡ counts }
     {
-        LineWriter { buffer, writer }
+        LineWriter {
+            buffer,
+            writer,
+            counts,
+        }
     }
 
     /// Writes out the lines in the buffer. At a fault a beginning of them was written, and not all.
@@ -83,22 +91,56 @@ impl<'a, W: Write> LineWriter<'a, W> {
         self.buffer.clear();
         Ok(())
     }
-}
 
-impl<W: Write> Sink for LineWriter<'_, W> {
-    type Fault = WriteFault;
-
-    ghost takes = { TakesLine W.contents };
-
-    ghost fails = { FailsWriting W.contents };
-
-    // Written into the loop of a run: a call would save and restore registers for each event.
+    /// Puts the line of the outcome into the buffer.
     #[inline(always)]
-    fn put(&mut self, outcome: &Outcome) -> Result<(), WriteFault> {
+    fn put_line(&mut self, outcome: &Outcome) -> Result<(), WriteFault>
+        ensures taken { OnOk result (TakesText W.contents self.old (line_of outcome.now) self.new) }
+        ensures failed { OnErr result (FailsAt W.contents self.old (line_of outcome.now) self.new) }
+    {
         if !self.buffer.has_room() {
             self.write_out()?;
         }
         self.buffer.append_line(outcome);
         Ok(())
+    }
+
+    /// Puts the line of the counts into the buffer.
+    // Apart from what is written into the loop of a run, where counts are seldom wanted.
+    #[inline(never)]
+    fn put_trace(&mut self, trace: &Trace) -> Result<(), WriteFault>
+        ensures taken { OnOk result (TakesText W.contents self.old (trace_line trace.now) self.new) }
+        ensures failed { OnErr result (FailsAt W.contents self.old (trace_line trace.now) self.new) }
+    {
+        if !self.buffer.has_room() {
+            self.write_out()?;
+        }
+        self.buffer.append_trace(trace);
+        Ok(())
+    }
+}
+
+impl<W: Write> Sink for LineWriter<'_, W> {
+    type Fault = WriteFault;
+
+    ghost wants = { wants_counts };
+
+    ghost takes = { TakesLine W.contents };
+
+    ghost fails = { FailsWriting W.contents };
+
+    #[inline(always)]
+    fn wants_trace(&self) -> bool {
+        self.counts
+    }
+
+    // Written into the loop of a run: a call would save and restore registers for each event.
+    #[inline(always)]
+    fn put(&mut self, outcome: &Outcome, trace: Option<Trace>) -> Result<(), WriteFault> {
+        self.put_line(outcome)?;
+        match trace {
+            None => Ok(()),
+            Some(trace) => self.put_trace(&trace),
+        }
     }
 }

@@ -10,7 +10,7 @@ use Rattle.iom_machine.specs.declared.event.Event.{Event}
 use Rattle.iom_machine.specs.declared.event.Event.TheVariants as events
 use Rattle.iom_script.specs.declared.script.WorldSize.{WorldSize}
 use Rattle.iom_script.specs.Words.{Reads, ◌␣◌, IsNumber}
-use Rattle.iom_script.specs.Cuts.{start_of, IsLineOf, IsLineWith, single_starts, starts_under_a, starts_under_d, starts_under_f, starts_under_p, starts_under_r, starts_under_t}
+use Rattle.iom_script.specs.Cuts.{start_of, IsLineOf, IsLineWith, single_starts, starts_under_a, starts_under_d, starts_under_f, starts_under_p, starts_under_q, starts_under_r, starts_under_s, starts_under_t}
 use Rattle.iom_script.specs.Grammar.{IsEventLine, IsWorldSize, IsWorldLine}
 use Rattle.iom_script.proofs.ReadsLemmas.{reads_some, reads_none, read_holds, read_only, read_nothing}
 use Rattle.iom_script.proofs.FieldLemmas.{Followed}
@@ -46,12 +46,14 @@ starts_under byte =
     else (if byte == 100 then starts_under_d
     else (if byte == 102 then starts_under_f
     else (if byte == 103 then codes "grant " ∷ []
+    else (if byte == 109 then codes "medium " ∷ []
     else (if byte == 112 then starts_under_p
-    else (if byte == 113 then codes "quarantine " ∷ []
+    else (if byte == 113 then starts_under_q
     else (if byte == 114 then starts_under_r
+    else (if byte == 115 then starts_under_s
     else (if byte == 116 then starts_under_t
     else (if byte == 119 then codes "write " ∷ []
-    else [])))))))))
+    else [])))))))))))
 
 -- each line is a single word, or begins in one of the ways of its first byte
 found_under : (event : Event) (more : List ℕ) → Contains single_starts (start_of event) ⊎ Contains (starts_under (get_or (start_of event ++ more) 0 0)) (start_of event)
@@ -62,7 +64,8 @@ found_under (events.WriteThroughCache device address bytes) more = inr (3, omega
 found_under (events.Commit device) more = inr (0, omega arith, refl)
 found_under (events.Deliver place) more = inr (0, omega arith, refl)
 found_under (events.Drop place) more = inr (1, omega arith, refl)
-found_under (events.Plug device kind) more = inr (2, omega arith, refl)
+found_under (events.Plug device new) more = inr (2, omega arith, refl)
+found_under (events.Medium device disk) more = inr (0, omega arith, refl)
 found_under (events.Detach device) more = inr (3, omega arith, refl)
 found_under events.Fetch more = inl (1, omega arith, refl)
 found_under events.Faults more = inl (2, omega arith, refl)
@@ -78,7 +81,10 @@ found_under (events.Repeat place) more = inr (2, omega arith, refl)
 found_under (events.Reset device) more = inr (3, omega arith, refl)
 found_under (events.Revive device) more = inr (4, omega arith, refl)
 found_under events.Restart more = inl (3, omega arith, refl)
-found_under (events.Quarantine device) more = inr (0, omega arith, refl)
+found_under (events.Queue device size descriptors available used) more = inr (0, omega arith, refl)
+found_under (events.Quarantine device) more = inr (1, omega arith, refl)
+found_under (events.Step device) more = inr (0, omega arith, refl)
+found_under (events.Status device) more = inr (1, omega arith, refl)
 found_under events.Timeout more = inl (4, omega arith, refl)
 found_under (events.ReadTranslated device address len) more = inr (0, omega arith, refl)
 found_under (events.WriteTranslated device address bytes) more = inr (1, omega arith, refl)

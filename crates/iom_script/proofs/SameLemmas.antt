@@ -8,7 +8,8 @@ use Rattle.iom_machine.specs.declared.event.Event.{Event}
 use Rattle.iom_machine.specs.declared.event.Event.TheVariants.{Plug, Attach, Detach, Grant, Release, Fetch, Poll, Faults, Read, Write, Commit, Poke, Peek, Free}
 use Rattle.iom_machine.specs.declared.event.Event.TheVariants.{ReadTranslated, WriteTranslated, ReadThroughCache, WriteThroughCache, Ask, Forge, Deliver, Drop, Repeat}
 use Rattle.iom_machine.specs.declared.event.Event.TheVariants.{Quarantine, Revive, Restart, Timeout, Reset}
-use Rattle.iom_machine.specs.declared.state.DeviceKind.TheVariants.{Raw, Ats, Block, CachedBlock}
+use Rattle.iom_machine.specs.declared.event.Event.TheVariants.{Medium, Queue, Step, Status}
+use Rattle.iom_machine.specs.declared.state.NewDevice.TheVariants.{Raw, Ats, Block, CachedBlock}
 use Rattle.iom_base.specs.declared.mode.Mode.{Mode}
 use Rattle.iom_base.specs.declared.mode.Mode.TheVariants.{First, Second, Both}
 use Rattle.iom_script.specs.declared.script.WorldSize.{WorldSize}
@@ -25,6 +26,7 @@ use Rattle.iom_script.proofs.FieldLemmas.{HasNoSpace, Followed}
 use Rattle.iom_script.proofs.EventLemmas.{AttachingOf, never_both, other_line, device_event, device_from, PlugWords, attach_event, attach_from, AttachWords, grant_event, grant_from, GrantWords, release_event, release_from, ReleaseWords, read_event, read_from, ReadWords, write_event, write_from, WriteWords, commit_event, commit_from, detach_event, detach_from, poke_event, poke_from, PokeWords, peek_event, peek_from, PeekWords, free_event, free_from, faults_only}
 use Rattle.iom_script.proofs.AtsEventLemmas.{aread_event, aread_from, awrite_event, awrite_from, tread_event, tread_from, twrite_event, twrite_from, ask_event, ask_from, AskWords, forge_event, forge_from, ForgeWords, deliver_event, deliver_from, drop_event, drop_from, repeat_event, repeat_from}
 use Rattle.iom_script.proofs.RecoveryEventLemmas.{quarantine_event, quarantine_from, revive_event, revive_from, restart_only, timeout_only, reset_event, reset_from}
+use Rattle.iom_script.proofs.BlockEventLemmas.{medium_event, medium_from, MediumWords, queue_event, queue_from, QueueWords, step_event, step_from, status_event, status_from}
 
 -- the text says one value
 abbrev SaysOne : {X : Type 0} → (List ℕ → X → Type 0) → Type 0
@@ -89,17 +91,31 @@ attaching_same text (m, true) (n, true) p q =
     let words = cut_is_one 32 p.0 q.0 (codes "ats") (codes "ats") (mode_without_space p.0 m p.1) (mode_without_space q.0 n q.1) (sym p.2 ∙ q.2) in
     ap (λ (mode : Mode). let how : Mode × Bool = (mode, true) in how) (mode_same q.0 m n (subst (λ w. IsMode w m) words.0 p.1) q.1)
 
-kind_same : SaysOne IsKind
+-- the number of a disk behind a word
+disk_same : (word : List ℕ) (k l : List ℕ) (x y : ℕ) → IsNumber k x → IsNumber l y → word ␣ k ≡ word ␣ l → x ≡ y
+disk_same word k l x y p q same = number_same k x y p (subst (λ t. IsNumber t y) (sym (append_cancel_left (word ␣ []) k l (behind word k ∙ same ∙ sym (behind word l)))) q)
+  where
+    behind : (before after : List ℕ) → (before ␣ []) ++ after ≡ before ␣ after
+    behind [] after = refl
+    behind (b ∷ before) after = ap (λ l. b ∷ l) (behind before after)
+
+pub kind_same : SaysOne IsKind
 kind_same text Raw Raw p q = refl
 kind_same text Ats Ats p q = refl
 kind_same text Raw Ats p q = absurd (never_both (codes "raw") (codes "ats") [] [] refl (sym p ∙ q))
 kind_same text Ats Raw p q = absurd (never_both (codes "ats") (codes "raw") [] [] refl (sym p ∙ q))
-kind_same text Block y p q = absurd p
-kind_same text CachedBlock y p q = absurd p
-kind_same text Raw Block p q = absurd q
-kind_same text Raw CachedBlock p q = absurd q
-kind_same text Ats Block p q = absurd q
-kind_same text Ats CachedBlock p q = absurd q
+kind_same text Raw (Block y) p q = absurd (never_both (codes "raw") (codes "blk ") [] q.0 refl (sym p ∙ q.2))
+kind_same text Raw (CachedBlock y) p q = absurd (never_both (codes "raw") (codes "ablk ") [] q.0 refl (sym p ∙ q.2))
+kind_same text Ats (Block y) p q = absurd (never_both (codes "ats") (codes "blk ") [] q.0 refl (sym p ∙ q.2))
+kind_same text Ats (CachedBlock y) p q = absurd (never_both (codes "ats") (codes "ablk ") [] q.0 refl (sym p ∙ q.2))
+kind_same text (Block x) Raw p q = absurd (never_both (codes "blk ") (codes "raw") p.0 [] refl (sym p.2 ∙ q))
+kind_same text (Block x) Ats p q = absurd (never_both (codes "blk ") (codes "ats") p.0 [] refl (sym p.2 ∙ q))
+kind_same text (Block x) (Block y) p q = ap (λ (k : ℕ). Block k) (disk_same (codes "blk") p.0 q.0 x y p.1 q.1 (sym p.2 ∙ q.2))
+kind_same text (Block x) (CachedBlock y) p q = absurd (never_both (codes "blk ") (codes "ablk ") p.0 q.0 refl (sym p.2 ∙ q.2))
+kind_same text (CachedBlock x) Raw p q = absurd (never_both (codes "ablk ") (codes "raw") p.0 [] refl (sym p.2 ∙ q))
+kind_same text (CachedBlock x) Ats p q = absurd (never_both (codes "ablk ") (codes "ats") p.0 [] refl (sym p.2 ∙ q))
+kind_same text (CachedBlock x) (Block y) p q = absurd (never_both (codes "ablk ") (codes "blk ") p.0 q.0 refl (sym p.2 ∙ q.2))
+kind_same text (CachedBlock x) (CachedBlock y) p q = ap (λ (k : ℕ). CachedBlock k) (disk_same (codes "ablk") p.0 q.0 x y p.1 q.1 (sym p.2 ∙ q.2))
 
 pub page_same : SaysOne IsPage
 page_same text x y p q = number_same text x y p.0 q.0
@@ -130,10 +146,10 @@ poll_same b q = absurd (other_line (codes "poll") [] b refl q)
 
 -- a line says one event
 pub event_same : (line : List ℕ) (a b : Event) → IsEventLine line a → IsEventLine line b → a ≡ b
-event_same line (Plug device kind) b p q =
+event_same line (Plug device new) b p q =
     let text = p.0 ␣ p.1 in
-    event_by_words device_event (PlugWords text) (Plug device kind) b (followed_same IsDevice IsKind device_without_space device_same kind_same text)
-    (device_from text (Plug device kind) (p.0, p.1, p.2, p.3, refl)) (device_from text b (subst (λ l. IsEventLine l b) p.4 q))
+    event_by_words device_event (PlugWords text) (Plug device new) b (followed_same IsDevice IsKind device_without_space device_same kind_same text)
+    (device_from text (Plug device new) (p.0, p.1, p.2, p.3, refl)) (device_from text b (subst (λ l. IsEventLine l b) p.4 q))
 event_same line (Attach device mode ats) b p q =
     let text = p.0 ␣ p.1 in
     event_by_words attach_event (AttachWords text) (Attach device mode ats) b (followed_same IsDevice AttachingOf device_without_space device_same attaching_same text)
@@ -224,6 +240,24 @@ event_same line (Revive device) b p q =
 event_same line (Reset device) b p q =
     event_by_words reset_event (IsDevice p.0) (Reset device) b (device_same p.0)
     (reset_from p.0 (Reset device) (p.0, p.1, refl)) (reset_from p.0 b (subst (λ l. IsEventLine l b) p.2 q))
+event_same line (Medium device disk) b p q =
+    let text = p.0 ␣ p.1 in
+    event_by_words medium_event (MediumWords text) (Medium device disk) b (followed_same IsDevice IsNumber device_without_space device_same number_same text)
+    (medium_from text (Medium device disk) (p.0, p.1, p.2, p.3, refl)) (medium_from text b (subst (λ l. IsEventLine l b) p.4 q))
+event_same line (Queue device size descriptors available used) b p q =
+    let text = p.0 ␣ p.1 ␣ p.2 ␣ p.3 ␣ p.4 in
+    event_by_words queue_event (QueueWords text) (Queue device size descriptors available used) b
+    (followed_same IsDevice (Followed IsNumber (Followed IsAddress (Followed IsAddress IsAddress))) device_without_space device_same
+    (followed_same IsNumber (Followed IsAddress (Followed IsAddress IsAddress)) number_without_space number_same
+    (followed_same IsAddress (Followed IsAddress IsAddress) address_without_space address_same
+    (followed_same IsAddress IsAddress address_without_space address_same address_same))) text)
+    (queue_from text (Queue device size descriptors available used) (p.0, p.1, p.2, p.3, p.4, p.5, p.6, p.7, p.8, p.9, refl)) (queue_from text b (subst (λ l. IsEventLine l b) p.10 q))
+event_same line (Step device) b p q =
+    event_by_words step_event (IsDevice p.0) (Step device) b (device_same p.0)
+    (step_from p.0 (Step device) (p.0, p.1, refl)) (step_from p.0 b (subst (λ l. IsEventLine l b) p.2 q))
+event_same line (Status device) b p q =
+    event_by_words status_event (IsDevice p.0) (Status device) b (device_same p.0)
+    (status_from p.0 (Status device) (p.0, p.1, refl)) (status_from p.0 b (subst (λ l. IsEventLine l b) p.2 q))
 event_same line Restart b p q = restart_only b (subst (λ l. IsEventLine l b) p q)
 event_same line Timeout b p q = timeout_only b (subst (λ l. IsEventLine l b) p q)
 

@@ -7,6 +7,7 @@ use Rattle.iom_machine.specs.declared.event.Event.{Event}
 use Rattle.iom_machine.specs.declared.event.Event.TheVariants.{Plug, Attach, Detach, Grant, Release, Fetch, Poll, Faults, Read, Write, Commit, Poke, Peek, Free}
 use Rattle.iom_machine.specs.declared.event.Event.TheVariants.{ReadTranslated, WriteTranslated, ReadThroughCache, WriteThroughCache, Ask, Forge, Deliver, Drop, Repeat}
 use Rattle.iom_machine.specs.declared.event.Event.TheVariants.{Quarantine, Revive, Restart, Timeout, Reset}
+use Rattle.iom_machine.specs.declared.event.Event.TheVariants.{Medium, Queue, Step, Status}
 use Rattle.iom_script.specs.Words.{◌␣◌, IsWithout, IsNumber}
 use Rattle.iom_script.specs.Digits.{hex_digit, hex_digits, hex_of}
 use Rattle.iom_script.specs.Grammar.{IsEventLine}
@@ -55,7 +56,8 @@ pub record LeadsWithNumber (text : List ℕ) (number count : ℕ) : Type 0 where
 
 -- what the line of an event begins with: its first word, and a space where others follow
 abbrev pub start_of : Event → List ℕ
-start_of (Plug device kind) = codes "device "
+start_of (Plug device new) = codes "device "
+start_of (Medium device disk) = codes "medium "
 start_of (Attach device mode ats) = codes "attach "
 start_of (Detach device) = codes "detach "
 start_of (Grant device page frame rights) = codes "grant "
@@ -83,6 +85,9 @@ start_of (Revive device) = codes "revive "
 start_of Restart = codes "restart"
 start_of Timeout = codes "timeout"
 start_of (Reset device) = codes "reset "
+start_of (Queue device size descriptors available used) = codes "queue "
+start_of (Step device) = codes "step "
+start_of (Status device) = codes "status "
 
 -- the line begins with one of these, and says the event
 abbrev pub IsLineOf : List (List ℕ) → List ℕ → Event → Type 0
@@ -112,9 +117,17 @@ starts_under_f = codes "free " ∷ codes "forge " ∷ []
 abbrev pub starts_under_p : List (List ℕ)
 starts_under_p = codes "peek " ∷ codes "poke " ∷ []
 
+-- how those under `q` begin
+abbrev pub starts_under_q : List (List ℕ)
+starts_under_q = codes "queue " ∷ codes "quarantine " ∷ []
+
 -- how those under `r` begin
 abbrev pub starts_under_r : List (List ℕ)
 starts_under_r = codes "read " ∷ codes "release " ∷ codes "repeat " ∷ codes "reset " ∷ codes "revive " ∷ []
+
+-- how those under `s` begin
+abbrev pub starts_under_s : List (List ℕ)
+starts_under_s = codes "step " ∷ codes "status " ∷ []
 
 -- how those under `t` begin
 abbrev pub starts_under_t : List (List ℕ)

@@ -1,12 +1,12 @@
 ghost use Rattle.std.specs.Prelude.{◌≡◌, ◌≤◌, ◌↔◌, codes, IfOk, IsTrue};
 ghost use Rattle.iom_script.specs.Words.{Reads};
-ghost use Rattle.iom_script.specs.Cuts.{IsLineWith, IsLineOf, single_starts, starts_under_a, starts_under_d, starts_under_f, starts_under_p, starts_under_r, starts_under_t};
+ghost use Rattle.iom_script.specs.Cuts.{IsLineWith, IsLineOf, single_starts, starts_under_a, starts_under_d, starts_under_f, starts_under_p, starts_under_q, starts_under_r, starts_under_s, starts_under_t};
 ghost use Rattle.iom_script.specs.Grammar.{IsEventLine, IsWorldLine};
 
 use crate::script::WorldSize;
 use crate::words::{
-    address_and, after, attaching_of, bytes_of, device_and, device_of, is_word, kind_of,
-    number_and, number_of, page_of, right_of,
+    address_and, address_of, after, attaching_of, bytes_of, device_and, device_of, is_word,
+    kind_of, number_and, number_of, page_of, right_of,
 };
 use iom_machine::Event;
 use std::alloc::{AllocError, Global};
@@ -98,14 +98,24 @@ fn release(line: &[u8]) -> Option<Event>
     Some(Event::Release { device, page })
 }
 
-/// `device ID KIND`
+/// `device ID KIND`, with the number of a disk where the kind is that of a block device
 fn plug(line: &[u8]) -> Option<Event>
     ensures { Reads result (IsLineWith (codes "device ") line.now) }
 {
     let arguments = after(line, b"device ")?;
     let (device, rest) = device_and(arguments)?;
-    let kind = kind_of(rest)?;
-    Some(Event::Plug { device, kind })
+    let new = kind_of(rest)?;
+    Some(Event::Plug { device, new })
+}
+
+/// `medium ID K`
+fn medium(line: &[u8]) -> Option<Event>
+    ensures { Reads result (IsLineWith (codes "medium ") line.now) }
+{
+    let arguments = after(line, b"medium ")?;
+    let (device, rest) = device_and(arguments)?;
+    let disk = number_of(rest)?;
+    Some(Event::Medium { device, disk })
 }
 
 /// `attach ID MODE`, with `ats` behind it or not
@@ -152,6 +162,43 @@ fn reset(line: &[u8]) -> Option<Event>
     let arguments = after(line, b"reset ")?;
     let device = device_of(arguments)?;
     Some(Event::Reset { device })
+}
+
+/// `queue ID SIZE DESC AVAIL USED`
+fn queue(line: &[u8]) -> Option<Event>
+    ensures { Reads result (IsLineWith (codes "queue ") line.now) }
+{
+    let arguments = after(line, b"queue ")?;
+    let (device, rest) = device_and(arguments)?;
+    let (size, rest) = number_and(rest)?;
+    let (descriptors, rest) = address_and(rest)?;
+    let (available, rest) = address_and(rest)?;
+    let used = address_of(rest)?;
+    Some(Event::Queue {
+        device,
+        size,
+        descriptors,
+        available,
+        used,
+    })
+}
+
+/// `step ID`
+fn step(line: &[u8]) -> Option<Event>
+    ensures { Reads result (IsLineWith (codes "step ") line.now) }
+{
+    let arguments = after(line, b"step ")?;
+    let device = device_of(arguments)?;
+    Some(Event::Step { device })
+}
+
+/// `status ID`
+fn status(line: &[u8]) -> Option<Event>
+    ensures { Reads result (IsLineWith (codes "status ") line.now) }
+{
+    let arguments = after(line, b"status ")?;
+    let device = device_of(arguments)?;
+    Some(Event::Status { device })
 }
 
 /// `free FRAME`
@@ -379,6 +426,20 @@ fn under_d(line: &[u8]) -> Option<Event>
     first_of!(deliver(line), lose(line), plug(line), detach(line))
 }
 
+/// A line under `q`.
+fn under_q(line: &[u8]) -> Option<Event>
+    ensures { Reads result (IsLineOf starts_under_q line.now) }
+{
+    first_of!(queue(line), quarantine(line))
+}
+
+/// A line under `s`.
+fn under_s(line: &[u8]) -> Option<Event>
+    ensures { Reads result (IsLineOf starts_under_s line.now) }
+{
+    first_of!(step(line), status(line))
+}
+
 /// A line under `t`.
 fn under_t(alloc: Global, line: &[u8]) -> Result<Option<Event>, AllocError>
     ensures { IfOk result (λ event. Reads event (IsLineOf starts_under_t line.now)) }
@@ -411,7 +472,9 @@ pub fn event_of(alloc: Global, line: &[u8]) -> Result<Option<Event>, AllocError>
         b'p' => under_p(alloc, line),
         b't' => under_t(alloc, line),
         b'f' => Ok(under_f(line)),
-        b'q' => Ok(quarantine(line)),
+        b'q' => Ok(under_q(line)),
+        b's' => Ok(under_s(line)),
+        b'm' => Ok(medium(line)),
         _ => Ok(None),
     }
 }

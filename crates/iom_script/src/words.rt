@@ -7,7 +7,7 @@ ghost use Rattle.iom_script.specs.Cuts.{shown, shown_rest, with_rest, IsCut, Beg
 use crate::lanes::eight_bytes;
 use iom_base::{DeviceId, GrantRights, Mode, Sequence};
 use iom_fabric::PageNumber;
-use iom_machine::DeviceKind;
+use iom_machine::NewDevice;
 use memchr::{memchr, memchr_iter};
 use std::alloc::{AllocError, Global};
 
@@ -214,17 +214,23 @@ pub(crate) fn attaching_of(text: &[u8]) -> Option<(Mode, bool)>
     Some((mode, true))
 }
 
-/// The kind of device that the word says.
-pub(crate) fn kind_of(text: &[u8]) -> Option<DeviceKind>
+/// What the words say that is plugged in.
+pub(crate) fn kind_of(text: &[u8]) -> Option<NewDevice>
     ensures { Reads result (IsKind text.now) }
 {
-    if text == b"raw".as_slice() {
-        Some(DeviceKind::Raw)
-    } else if text == b"ats".as_slice() {
-        Some(DeviceKind::Ats)
-    } else {
-        None
+    if is_word(text, b"raw") {
+        return Some(NewDevice::Raw);
     }
+    if is_word(text, b"ats") {
+        return Some(NewDevice::Ats);
+    }
+    if let Some(number) = after(text, b"blk ") {
+        let disk = number_of(number)?;
+        return Some(NewDevice::Block { disk });
+    }
+    let number = after(text, b"ablk ")?;
+    let disk = number_of(number)?;
+    Some(NewDevice::CachedBlock { disk })
 }
 
 /// The byte that two hexadecimal digits say.
@@ -289,6 +295,24 @@ pub(crate) fn number_and(text: &[u8]) -> Option<(u64, &[u8])>
         return None;
     }
     Some((number, &text[count + 1..]))
+}
+
+/// Whether an address can have so many digits.
+fn is_digit_count(digits: usize) -> bool
+    ensures { IsTrue result ↔ ((1 ≤ digits) × (digits ≤ 16)) }
+{
+    (1..=16).contains(&digits)
+}
+
+/// The address that the word says.
+pub(crate) fn address_of(text: &[u8]) -> Option<u64>
+    ensures { Reads result (IsAddress text.now) }
+{
+    let digits = after(text, b"0x")?;
+    if !is_digit_count(digits.len()) {
+        return None;
+    }
+    hex_number(digits)
 }
 
 /// The address that the first word says, and what follows it.

@@ -1,4 +1,5 @@
 pub mod ChoiceLemmas
+pub mod CountLemmas
 pub mod GivingLemmas
 pub mod MarkLemmas
 pub mod FourLemmas

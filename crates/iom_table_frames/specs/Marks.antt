@@ -1,5 +1,6 @@
 -- Marks of reserved frames, and free frames.
-use Rattle.std.specs.Prelude.{◌≡◌, ◌≢◌, ℕ, zero, suc, ◌-◌, ◌<◌, ◌≤◌, Bool, false, ⊤, List, length, ◌++◌, replicate, Option, None, Some, is_some, slice_get}
+use Rattle.std.specs.Prelude.{◌≡◌, ◌≢◌, ℕ, zero, suc, ◌-◌, ◌<◌, ◌≤◌, Bool, false, ⊤, List, length, ◌++◌, replicate, Option, None, Some, is_some, slice_get, All, Contains, nat_eq}
+use Rattle.std.specs.List.{IsDistinct}
 use Rattle.std.specs.Option.{option_map_or}
 use Rattle.iom_ledger.specs.declared.ledger.Ledger.{Ledger}
 use Rattle.iom_ledger.specs.Shown.{IsFreeIn}
@@ -37,6 +38,16 @@ abbrev pub HasFree : List (Option Owner) → Ledger → Option ℕ → ℕ → �
 HasFree marks ledger named zero limit = ⊤
 HasFree marks ledger named (suc count) limit =
     (frame : ℕ) × (frame < limit) × IsFreeForTable marks ledger named frame × HasFree marks ledger named count frame
+
+-- so many numbers are of this sort: those of a list without repetition, in which each of the sort is
+abbrev pub AreSoMany : (ℕ → Type 0) → ℕ → Type 0
+AreSoMany IsOfSort count =
+    (numbers : List ℕ) × IsDistinct nat_eq numbers × All IsOfSort numbers × ((number : ℕ) → IsOfSort number → Contains numbers number)
+    × (length numbers ≡ count)
+
+-- it is a frame of memory, and free
+abbrev pub IsFreeInMemory : List (Option Owner) → Ledger → ℕ → Type 0
+IsFreeInMemory marks ledger frame = (frame < length marks) × IsFreeForTable marks ledger None frame
 
 -- each frame of the owner's has no owner any more and bytes of zero, and no other mark or byte changes
 pub record GivesBack (owner : Owner) (old new : List (Option Owner)) (before after : List (List ℕ)) : Type 0 where

@@ -1,7 +1,7 @@
 ghost use Rattle.std.specs.Prelude.{◌≡◌, ◌↔◌, ◌+◌, ◌-◌, ◌^◌, ◌<◌, ◌≤◌, length, replicate, IfOk, IsTrue, None, Some, slice_get, slice_set, MatchOption};
 ghost use Rattle.std.specs.Option.{option_map_or};
 ghost use Rattle.iom_phys_mem.specs.Words.{zeroed};
-ghost use Rattle.iom_table_frames.specs.Marks.{is_marked, opening_marks, IsFreeForTable, NoneIsFree, IsHighestFree, HasFree, GivesBack};
+ghost use Rattle.iom_table_frames.specs.Marks.{is_marked, opening_marks, IsFreeForTable, NoneIsFree, IsHighestFree, HasFree, GivesBack, AreSoMany, IsFreeInMemory};
 
 use iom_base::{FRAME_SIZE, Owner};
 use iom_frame_set::FrameSet;
@@ -95,6 +95,15 @@ impl TableFrames {
             }
         }
         true
+    }
+
+    /// How many frames of memory are free. Looks at a word for 64 of them.
+    pub fn count_free(&self, ledger: &Ledger) -> u32
+        requires { length self.now < 2 ^ 32 }
+        ensures { AreSoMany (IsFreeInMemory self.now ledger.now) result }
+    {
+        self.unreserved
+            .count_in_both(ledger.free_frames(), self.marks.len() as u32)
     }
 
     /// Reserves the frame for the owner, and makes its bytes zero.

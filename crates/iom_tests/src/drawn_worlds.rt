@@ -1,19 +1,29 @@
 //! Drawn events: the judge of the ledger machine finds each step of the world lawful.
 
 ghost use Rattle.std.specs.Prelude.{◌<◌, IfOk};
-ghost use Rattle.iom_machine.specs.Machine.{IsEvent};
+ghost use Rattle.iom_world.specs.Happens.{IsNoChoice};
 
 use crate::expect::expect_eq;
-use iom_base::{DeviceId, GrantRights, Mode, Sequence};
-use iom_machine::{Choice, DeviceKind, Event, Outcome, State, judge, power_on};
+use iom_base::{Access, AccessKind, DeviceId, GrantRights, Mode, Sequence};
+use iom_machine::{Choice, Event, NewDevice, Outcome, State, judge, power_on};
 use iom_world::World;
 use std::alloc::{AllocError, Global};
 use std::test::Fail;
 
+/// No access: no block device takes a step here.
+fn no_access(alloc: Global) -> Access {
+    Access {
+        address: 0,
+        len: 1,
+        kind: AccessKind::Read,
+        bytes: Sequence::new(alloc),
+    }
+}
+
 /// A write of so many bytes, the numbers from 0 on.
 fn write(alloc: Global, device: DeviceId, address: u64, len: u64) -> Result<Event, AllocError>
     requires { len < 256 }
-    ensures { IfOk result (λ event. IsEvent event) }
+    ensures { IfOk result (λ event. IsNoChoice event) }
 {
     let mut bytes = Sequence::new(alloc);
     for number in 0..len {
@@ -46,7 +56,7 @@ impl Draw {
 
     /// An event over three devices, the pages 0 to 7 and the frames 4 to 11.
     fn event(&mut self, alloc: Global) -> Result<Event, AllocError>
-        ensures { IfOk result (λ event. IsEvent event) }
+        ensures { IfOk result (λ event. IsNoChoice event) }
     {
         let device = self.below(3) as DeviceId;
         let page = self.below(8);
@@ -56,7 +66,7 @@ impl Draw {
         match self.below(12) {
             0 => Ok(Event::Plug {
                 device,
-                kind: DeviceKind::Raw,
+                new: NewDevice::Raw,
             }),
             1 => Ok(Event::Attach {
                 device,
@@ -197,6 +207,7 @@ impl Known {
             frame,
             device: 0,
             page: 0,
+            access: no_access(alloc),
         })
     }
 }
@@ -212,7 +223,7 @@ struct Play {
 
 impl Play {
     fn new(alloc: Global, seed: u64) -> Result<Box<Play>, Fail> {
-        let world = World::new(alloc, 64, 1)?;
+        let world = World::new(alloc, 64, 1, &[])?;
         let play = Play {
             alloc,
             world: Box::new(alloc, world)?,
@@ -237,7 +248,7 @@ impl Play {
 /// How many of the events drawn from this seed the judge finds lawful, up to the first that isn't.
 fn lawful(alloc: Global, seed: u64, count: u32) -> Result<u32, Fail> {
     let mut play = Play::new(alloc, seed)?;
-    let mut state = power_on(alloc, 64, 1)?;
+    let mut state = power_on(alloc, 64, 1, &[])?;
     for number in 0..count {
         match play.next(state)? {
             Some(next) => state = next,

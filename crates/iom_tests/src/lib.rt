@@ -1,4 +1,4 @@
-//! Calls of the public functions of `iom_world` and `iom_runner`, on their happy paths and at their edges:
+//! Calls of the public functions of `iom_world`, `iom_platform` and `iom_runner`, on their happy paths and at their edges:
 //! one module for each, and one for worlds that are drawn. Those of the crates below have crates of their own.
 //!
 //! The crate has tests alone, and nothing stands on it. It stands apart from the crates that it calls
@@ -7,9 +7,13 @@
 #![tactic(auto)]
 
 #[cfg(test)]
+mod block_devices;
+#[cfg(test)]
 mod drawn_worlds;
 #[cfg(test)]
 mod expect;
+#[cfg(test)]
+mod platform;
 #[cfg(test)]
 mod runner;
 #[cfg(test)]

@@ -2,6 +2,7 @@ ghost use Rattle.std.specs.Prelude.{Some};
 
 use crate::expect::{expect, expect_eq};
 use iom_runner::{ArgsFault, ProgramFault, RunFault, read_words, run, run_words};
+use iom_virtio_blk::MemoryDisk;
 use std::alloc::Global;
 use std::io::{self, ErrorKind, Read, Write};
 use std::process::Abort;
@@ -98,6 +99,11 @@ impl Write for Stingy {
     }
 }
 
+/// Runs a script without disks, and writes its lines without counts.
+fn told<R: Read, W: Write>(alloc: Global, reader: &mut R, writer: &mut W) -> Result<(), RunFault> {
+    run(alloc, reader, writer, Vec::<MemoryDisk>::new(alloc), false)
+}
+
 /// The status of a run: 0, or that of its fault.
 fn status(done: Result<(), RunFault>) -> u8 {
     match done {
@@ -146,8 +152,29 @@ const FIRST_PATH_LINES: &[u8] = b"\
 #[test]
 fn the_first_path_is_told(rt: HostRuntime) -> Result<(), Fail> {
     let mut out = Vec::new(rt.alloc());
-    run(rt.alloc(), &mut FIRST_PATH, &mut out)?;
+    told(rt.alloc(), &mut FIRST_PATH, &mut out)?;
     assert_eq!(rt; out.as_slice(), FIRST_PATH_LINES);
+    Ok(())
+}
+
+/// A page is granted and released, and the ticket isn't confirmed.
+const COUNTED: &[u8] = b"world 64 1\ndevice 000001 raw\nattach 000001 first\n\
+    grant 000001 3 5 rw\nread 000001 0x3000 1\nrelease 000001 3\n";
+
+/// Four frames are the system's. The device's root takes one, and the page's tables two.
+const COUNTED_LINES: &[u8] = b"\
+    ok\n= tickets 0 flight 0 messages 0 free 60\n\
+    ok\n= tickets 0 flight 0 messages 0 free 60\n\
+    ok\n= tickets 0 flight 0 messages 0 free 59\n\
+    ok\n= tickets 0 flight 0 messages 0 free 56\n\
+    accepted 1\n= tickets 0 flight 1 messages 0 free 56\n\
+    ticket 1\n= tickets 1 flight 1 messages 0 free 56\n";
+
+#[test]
+fn counts_stand_behind_each_line(rt: HostRuntime) -> Result<(), Fail> {
+    let mut out = Vec::new(rt.alloc());
+    run_words(&rt, rt.alloc(), &["--trace"], &mut COUNTED, &mut out)?;
+    assert_eq!(rt; out.as_slice(), COUNTED_LINES);
     Ok(())
 }
 
@@ -156,7 +183,7 @@ fn short_reads_and_writes_are_continued(rt: HostRuntime) -> Result<(), Fail> {
     for at_once in 1..9usize {
         let mut input = Slow::new(FIRST_PATH, at_once, usize::MAX);
         let mut out = Stingy::new(rt.alloc(), at_once, usize::MAX);
-        run(rt.alloc(), &mut input, &mut out)?;
+        told(rt.alloc(), &mut input, &mut out)?;
         assert_eq!(rt; out.got.as_slice(), FIRST_PATH_LINES);
     }
     Ok(())
@@ -167,7 +194,7 @@ fn a_failing_read_writes_nothing(rt: HostRuntime) -> Result<(), Fail> {
     for calls in 0..9usize {
         let mut input = Slow::new(FIRST_PATH, 30, calls);
         let mut out = Stingy::new(rt.alloc(), 7, usize::MAX);
-        match run(rt.alloc(), &mut input, &mut out) {
+        match told(rt.alloc(), &mut input, &mut out) {
             Err(RunFault::Reading) => {}
             _ => return Err(Fail::new("no fault of reading")),
         }
@@ -180,7 +207,7 @@ fn a_failing_read_writes_nothing(rt: HostRuntime) -> Result<(), Fail> {
 fn a_failing_write_leaves_a_beginning(rt: HostRuntime) -> Result<(), Fail> {
     for room in 0..FIRST_PATH_LINES.len() {
         let mut out = Stingy::new(rt.alloc(), 10, room);
-        match run(rt.alloc(), &mut FIRST_PATH, &mut out) {
+        match told(rt.alloc(), &mut FIRST_PATH, &mut out) {
             Err(RunFault::Writing) => {}
             _ => return Err(Fail::new("no fault of writing")),
         }
@@ -193,7 +220,7 @@ fn a_failing_write_leaves_a_beginning(rt: HostRuntime) -> Result<(), Fail> {
 fn a_write_of_no_bytes_is_a_fault(rt: HostRuntime) -> Result<(), Fail> {
     let mut out = Stingy::new(rt.alloc(), 10, 20);
     out.takes_nothing = true;
-    match run(rt.alloc(), &mut FIRST_PATH, &mut out) {
+    match told(rt.alloc(), &mut FIRST_PATH, &mut out) {
         Err(RunFault::Writing) => {}
         _ => return Err(Fail::new("no fault of writing")),
     }
@@ -206,7 +233,7 @@ fn a_script_that_says_nothing_prints_nothing(rt: HostRuntime) -> Result<(), Fail
     let silent: [&[u8]; 3] = [b"", b"\n# nothing\n", b"# a\0b\r\xff\n"];
     for mut script in silent {
         let mut out = Vec::new(rt.alloc());
-        run(rt.alloc(), &mut script, &mut out)?;
+        told(rt.alloc(), &mut script, &mut out)?;
         assert!(rt; out.is_empty());
     }
     Ok(())
@@ -216,7 +243,7 @@ fn a_script_that_says_nothing_prints_nothing(rt: HostRuntime) -> Result<(), Fail
 fn is_bad_at(rt: &(impl Abort + AllocGlobal), script: &[u8], number: u64) -> Result<(), Fail> {
     let mut rest = script;
     let mut out = Vec::new(rt.alloc());
-    match run(rt.alloc(), &mut rest, &mut out) {
+    match told(rt.alloc(), &mut rest, &mut out) {
         Err(RunFault::Script(named)) => expect_eq(rt, &named, &number),
         _ => return Err(Fail::new("no bad line")),
     }
@@ -250,7 +277,7 @@ fn a_bad_line_is_named(rt: HostRuntime) -> Result<(), Fail> {
 fn a_megabyte_of_one_line_is_bad(rt: HostRuntime) -> Result<(), Fail> {
     let script = many(rt.alloc(), b"", b"poll", 262145)?;
     let mut out = Vec::new(rt.alloc());
-    let done = run(rt.alloc(), &mut script.as_slice(), &mut out);
+    let done = told(rt.alloc(), &mut script.as_slice(), &mut out);
     assert_eq!(rt; status(done), 2u8);
     assert!(rt; out.is_empty());
     Ok(())
@@ -262,7 +289,7 @@ fn a_megabyte_of_lines_is_told(rt: HostRuntime) -> Result<(), Fail> {
     let script = many(rt.alloc(), b"world 64 1\n", b"poll\n", 209713)?;
     let lines = many(rt.alloc(), b"ok\n", b"confirmed -\n", 209713)?;
     let mut out = Vec::new(rt.alloc());
-    run(rt.alloc(), &mut script.as_slice(), &mut out)?;
+    told(rt.alloc(), &mut script.as_slice(), &mut out)?;
     assert!(rt; out.as_slice() == lines.as_slice());
     Ok(())
 }
@@ -273,7 +300,7 @@ fn many_short_writes_are_continued(rt: HostRuntime) -> Result<(), Fail> {
     let script = many(rt.alloc(), b"world 64 1\n", b"poll\n", 7000)?;
     let lines = many(rt.alloc(), b"ok\n", b"confirmed -\n", 7000)?;
     let mut out = Stingy::new(rt.alloc(), 1, usize::MAX);
-    run(rt.alloc(), &mut script.as_slice(), &mut out)?;
+    told(rt.alloc(), &mut script.as_slice(), &mut out)?;
     assert!(rt; out.got.as_slice() == lines.as_slice());
     Ok(())
 }
@@ -345,8 +372,19 @@ fn names_file(rt: &(impl Abort + AllocGlobal), file: &str) -> Result<(), Fail> {
     Ok(())
 }
 
-fn names_none(alloc: Global) -> Result<bool, Fail> {
-    Ok(read_words(alloc, &[])?.file.is_none())
+/// Ends the test where `--trace` before this word isn't read as the flag and the file.
+fn wants_counts(rt: &(impl Abort + AllocGlobal), file: &str) -> Result<(), Fail> {
+    let words = ["--trace", file];
+    let read = read_words(rt.alloc(), &words)?;
+    assert!(rt; read.trace);
+    assert_eq!(rt; read.file, Some(file));
+    Ok(())
+}
+
+/// Whether these words name no file, and ask for counts or don't.
+fn names_none(alloc: Global, words: &[&str], trace: bool) -> Result<bool, Fail> {
+    let read = read_words(alloc, words)?;
+    Ok(read.file.is_none() && read.trace == trace)
 }
 
 fn is_bad(alloc: Global, words: &[&str]) -> bool {
@@ -355,7 +393,7 @@ fn is_bad(alloc: Global, words: &[&str]) -> bool {
 
 static FILES: [&str; 5] = ["a", "a b-c", "/", "\u{e9}=\u{1f600}", "help"];
 
-static BAD_WORDS: [&[&str]; 7] = [
+static BAD_WORDS: [&[&str]; 11] = [
     &[""],
     &["-"],
     &["--"],
@@ -363,13 +401,19 @@ static BAD_WORDS: [&[&str]; 7] = [
     &["-h"],
     &["a", "b"],
     &["--", "a"],
+    &["a", "--trace"],
+    &["--trace", "--trace"],
+    &["--trace", ""],
+    &["--trace", "a", "b"],
 ];
 
 #[test]
 fn command_lines_are_read(rt: HostRuntime) -> Result<(), Fail> {
-    expect(&rt, names_none(rt.alloc())?);
+    expect(&rt, names_none(rt.alloc(), &[], false)?);
+    expect(&rt, names_none(rt.alloc(), &["--trace"], true)?);
     for file in &FILES {
         names_file(&rt, file)?;
+        wants_counts(&rt, file)?;
     }
     for words in &BAD_WORDS {
         expect(&rt, is_bad(rt.alloc(), words));

@@ -1,49 +1,26 @@
-ghost use Rattle.std.specs.Prelude.{◌≡◌, ◌+◌, ◌≤◌, All, length};
-ghost use Rattle.iom_machine.specs.Machine.{IsEvent};
+ghost use Rattle.iom_world.specs.Happens.{IsNoChoice};
 
 use crate::expect::{expect, expect_eq};
 use iom_base::{Cause, DeviceId, GrantRights, Mode};
-use iom_machine::{CommandName, DeviceKind, Event, Fetched, Outcome, Sink};
+use iom_machine::{CommandName, Event, Fetched, NewDevice, Outcome};
 use iom_world::World;
 use std::alloc::Global;
 use std::process::Abort;
 use std::test::Fail;
 
-/// A sink that takes so many outcomes, and fails at the next.
-#[derive(Drop)]
-struct Room {
-    left: u32,
-}
-
-impl Sink for Room {
-    type Fault = ();
-
-    ghost takes = { λ old outcome new. old.left ≡ new.left + 1 };
-
-    ghost fails = { λ old outcome new. (old.left ≡ 0) × (new ≡ old) };
-
-    fn put(&mut self, outcome: &Outcome) -> Result<(), ()> {
-        if self.left == 0 {
-            return Err(());
-        }
-        self.left -= 1;
-        Ok(())
-    }
-}
-
 /// A raw device is plugged in.
 fn plug(device: DeviceId) -> Event
-    ensures { IsEvent result }
+    ensures { IsNoChoice result }
 {
     Event::Plug {
         device,
-        kind: DeviceKind::Raw,
+        new: NewDevice::Raw,
     }
 }
 
 /// The device is attached in its first stage.
 fn attach(device: DeviceId) -> Event
-    ensures { IsEvent result }
+    ensures { IsNoChoice result }
 {
     Event::Attach {
         device,
@@ -54,13 +31,13 @@ fn attach(device: DeviceId) -> Event
 
 /// A world of 64 frames. Boxed: of what a test owns in place each later proof would carry every part.
 fn opened(alloc: Global) -> Result<Box<World>, Fail> {
-    let world = World::new(alloc, 64, 1)?;
+    let world = World::new(alloc, 64, 1, &[])?;
     Ok(Box::new(alloc, world)?)
 }
 
 /// What comes of the event; None where too many came before it.
 fn step(world: &mut World, event: &Event) -> Option<Outcome>
-    requires { IsEvent event.now }
+    requires { IsNoChoice event.now }
 {
     if world.events() > 1000000 {
         return None;
@@ -79,7 +56,7 @@ fn granted(alloc: Global) -> Result<Box<World>, Fail> {
 
 /// Frame 5 to device 1 at page 3.
 fn grant() -> Event
-    ensures { IsEvent result }
+    ensures { IsNoChoice result }
 {
     Event::Grant {
         device: 1,
@@ -103,7 +80,7 @@ fn is_same(seen: &Outcome, expected: &Outcome) -> bool {
 
 /// Ends the test where something else comes of the event.
 fn tells(rt: &impl Abort, world: &mut World, event: Event, expected: Outcome)
-    requires { IsEvent event }
+    requires { IsNoChoice event }
 {
     match step(world, &event) {
         Some(seen) => expect(rt, is_same(&seen, &expected)),
@@ -133,7 +110,7 @@ fn did(name: CommandName) -> Outcome {
 
 /// So many bytes from four below the end of page 3.
 fn read_of(len: u64) -> Event
-    ensures { IsEvent result }
+    ensures { IsNoChoice result }
 {
     Event::Read {
         device: 1,
@@ -167,28 +144,6 @@ fn a_released_page_is_confirmed_and_served_no_more(rt: HostRuntime) -> Result<()
     Ok(())
 }
 
-/// What is left of a sink's room once it took the outcomes of the events, and whether it took them all.
-fn left(world: &mut World, events: &[Event], room: u32) -> (u32, bool)
-    requires count { length events.now ≤ 16 }
-    requires events { All IsEvent events.now }
-{
-    let mut sink = Room { left: room };
-    let done = world.events() < 1000000 && world.run(events, &mut sink).is_ok();
-    (sink.left, done)
-}
-
-/// A sink with room for two outcomes fails at the third, and the event after it doesn't happen.
-#[test]
-fn a_run_stops_where_the_sink_fails(rt: HostRuntime) -> Result<(), Fail> {
-    let mut world = opened(rt.alloc())?;
-    let events = [Event::Fetch, Event::Poll, Event::Fetch, Event::Poll];
-    expect_eq(&rt, &left(&mut world, &events, 2), &(0, false));
-    expect_eq(&rt, &world.events(), &3);
-    expect_eq(&rt, &left(&mut world, &events[..2], 9), &(7, true));
-    expect_eq(&rt, &world.events(), &5);
-    Ok(())
-}
-
 /// Frames, levels of the directory, and whether there is a world of this size.
 static SIZES: [(u32, u8, bool); 6] = [
     (64, 1, true),
@@ -200,7 +155,7 @@ static SIZES: [(u32, u8, bool); 6] = [
 ];
 
 fn is_size(alloc: Global, frames: u32, levels: u8) -> bool {
-    World::new(alloc, frames, levels).is_ok()
+    World::new(alloc, frames, levels, &[]).is_ok()
 }
 
 /// Sizes of memory and levels of the directory that there are not.
@@ -209,52 +164,4 @@ fn a_world_has_64_to_4096_frames_and_1_to_3_levels(rt: HostRuntime) {
     for (frames, levels, good) in &SIZES {
         expect_eq(&rt, &is_size(rt.alloc(), *frames, *levels), good);
     }
-}
-
-/// A sink that keeps of each outcome whether it is a refusal.
-#[derive(Drop)]
-struct Kept {
-    refused: Vec<bool>,
-}
-
-impl Sink for Kept {
-    type Fault = std::alloc::AllocError;
-
-    ghost takes = { λ old outcome new. length new.refused.items ≡ length old.refused.items + 1 };
-
-    ghost fails = { λ old outcome new. length new.refused.items ≡ length old.refused.items };
-
-    fn put(&mut self, outcome: &Outcome) -> Result<(), std::alloc::AllocError> {
-        self.refused.push(matches!(outcome, Outcome::Refused(_)))?;
-        Ok(())
-    }
-}
-
-/// Which of the events are refused.
-fn refused_of(alloc: Global, world: &mut World, events: &[Event]) -> Result<Vec<bool>, Fail>
-    requires count { length events.now ≤ 16 }
-    requires events { All IsEvent events.now }
-{
-    let mut kept = Kept {
-        refused: Vec::new(alloc),
-    };
-    if world.events() < 1000000 {
-        world.run(events, &mut kept)?;
-    }
-    Ok(kept.refused)
-}
-
-/// A sink over a list takes the outcome of each event, in order.
-#[test]
-fn a_list_takes_each_outcome(rt: HostRuntime) -> Result<(), Fail> {
-    let mut world = opened(rt.alloc())?;
-    let device = 1;
-    let events = [attach(device), plug(device), plug(device), attach(device)];
-    let refused = refused_of(rt.alloc(), &mut world, &events)?;
-    expect_eq(
-        &rt,
-        &refused.as_slice(),
-        &[true, false, true, false].as_slice(),
-    );
-    Ok(())
 }

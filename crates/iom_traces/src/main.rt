@@ -6,13 +6,15 @@ use anyhow::Context;
 use iom_judge::judge_trace;
 use std::fs;
 
-const NAMES: [&str; 6] = [
+const NAMES: [&str; 8] = [
     "fence-that-does-not-drain",
     "fence-that-drains",
     "early-handoff",
     "stale-translation",
     "tables-anywhere",
     "reserved-and-free",
+    "block-device",
+    "block-device-in-flight",
 ];
 
 fn main(rt: HostRuntime) -> anyhow::Result<()> {

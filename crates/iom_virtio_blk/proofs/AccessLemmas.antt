@@ -1,9 +1,9 @@
 -- What a device wants, and what the bytes that came are.
-use Rattle.std.proofs.Common.{◌≡◌, ◌≢◌, ℕ, ◌+◌, ◌-◌, ◌%◌, ◌<◌, ◌≤◌, List, length, take, drop, min, Option, Some, None, refl, sym, subst, arith, length-take, length-drop}
+use Rattle.std.proofs.Common.{◌≡◌, ◌≢◌, ℕ, ◌+◌, ◌-◌, ◌%◌, ◌<◌, ◌≤◌, List, length, take, drop, Option, Some, None, refl, sym, subst, arith, length-take, length-drop}
 use Rattle.iom_virtqueue.specs.declared.spans.Piece.{Piece}
 use Rattle.iom_virtqueue.specs.declared.phase.Phase.{Phase}
 use Rattle.iom_virtqueue.specs.declared.phase.Phase.TheVariants.{AvailableIndex, RingEntry, Table, Served, UsedElement, UsedIndex, Faulted}
-use Rattle.iom_virtqueue.specs.Chains.{Chain, byte_count, IsChain}
+use Rattle.iom_virtqueue.specs.Chains.{Chain, byte_count}
 use Rattle.iom_virtqueue.specs.Accesses.{Access, nothing, AreOf, LiesInPage}
 use Rattle.iom_virtqueue.specs.Queues.{QueueState, wanted, wanted_in as queue_wants}
 use Rattle.iom_virtqueue.proofs.SpanLemmas.{IsCut, piece_of-within, piece_of-cut, piece_of-there}
@@ -12,7 +12,7 @@ use Rattle.iom_virtio_blk.specs.declared.serving.Serving.{Serving}
 use Rattle.iom_virtio_blk.specs.declared.serving.Job.{Job}
 use Rattle.iom_virtio_blk.specs.declared.serving.Job.TheVariants.{Header, Reading, Writing, Ending}
 use Rattle.iom_virtio_blk.specs.Serving.{access_at, access_in, piece_in, piece_len, IsUnderWayIn, IsUnderWay}
-use Rattle.iom_virtio_blk.specs.Blocks.{IsReady, wants_in, wanted_by, replied}
+use Rattle.iom_virtio_blk.specs.Blocks.{wants_in, wanted_by, replied}
 use Rattle.iom_virtio_blk.specs.declared.step.Reply.TheVariants.{Accepted}
 
 -- the bytes of data are some, among those of the chain, and of one sector

@@ -1,12 +1,12 @@
 -- How the map of a disk goes on with its history.
-use Rattle.std.proofs.Common.{◌≡◌, ◌≢◌, ℕ, ◌+◌, ◌-◌, ◌*◌, ◌/◌, ◌%◌, ◌<◌, ◌≤◌, ◌⊎◌, ◌∙◌, inl, inr, List, [], ◌∷◌, ◌++◌, length, take, drop, slice_get, slice_set, Option, Some, None, refl, sym, ap, true, false, subst, arith, length-append, length-take, length-drop}
+use Rattle.std.proofs.Common.{◌≡◌, ◌≢◌, ℕ, ◌+◌, ◌-◌, ◌*◌, ◌/◌, ◌<◌, ◌≤◌, ◌⊎◌, ◌∙◌, inl, inr, List, [], ◌∷◌, ◌++◌, length, take, drop, slice_get, slice_set, Option, Some, None, sym, subst, arith, length-append, length-drop}
 use Rattle.std.proofs.Math.ListN.{set}
 use Rattle.std.proofs.lemmas.List.{take_all}
 use Rattle.std.proofs.lemmas.Grind.{common_steps}
-use Rattle.std.proofs.lemmas.Option.{gets, slice_get_within}
+use Rattle.std.proofs.lemmas.Option.{gets}
 use Rattle.std.proofs.lemmas.Bool.{cases_order, cases_lt}
 use Rattle.iom_virtio_blk.specs.Disks.{DiskState, KeepsSectors, DidWrite, Tears}
-use Rattle.iom_virtio_blk.specs.Histories.{Entry, inserted, gave, failed, Gives, IsApart, MayHold, IsDisk, IsMap}
+use Rattle.iom_virtio_blk.specs.Histories.{Entry, inserted, gave, failed, Gives, MayHold, IsDisk, IsMap}
 use Rattle.iom_virtio_blk.proofs.SectorLemmas.{same_sector}
 
 -- a list with one element put in its place

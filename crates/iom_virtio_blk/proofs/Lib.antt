@@ -3,3 +3,4 @@ pub mod SectorLemmas
 pub mod HistoryLemmas
 pub mod ToldLemmas
 pub mod StepLemmas
+pub mod DiskStays

@@ -1,5 +1,5 @@
 -- Sectors of data that grows, and the buffer that gathers one.
-use Rattle.std.proofs.Common.{◌≡◌, ◌∙◌, ℕ, ◌+◌, ◌-◌, ◌*◌, ◌/◌, ◌%◌, ◌<◌, ◌≤◌, List, ◌++◌, length, take, drop, refl, sym, ap, subst, arith, append_assoc, length-append, length-take, length-drop}
+use Rattle.std.proofs.Common.{◌≡◌, ◌∙◌, ℕ, ◌+◌, ◌-◌, ◌≤◌, List, ◌++◌, length, take, drop, refl, sym, ap, subst, arith, length-append, length-take, length-drop}
 use Rattle.std.proofs.lemmas.List.{take-append-le, drop-append-le, length-take-le, take_all}
 use Rattle.std.proofs.Math.Seq.{take-append_seam}
 use Rattle.iom_virtio_blk.specs.Blocks.{overlaid}

@@ -1,15 +1,13 @@
 -- How the history of a disk goes on with a step of its device.
-use Rattle.std.proofs.Common.{◌≡◌, ◌≢◌, ◌∙◌, ℕ, ◌+◌, ◌-◌, ◌/◌, ◌%◌, ◌<◌, ◌≤◌, ◌⊎◌, ◌==◌, ◌&&◌, inl, inr, cond, Bool, true, false, List, [], ◌∷◌, ◌++◌, length, take, drop, Option, Some, None, IsSome, refl, sym, ap, subst, arith}
+use Rattle.std.proofs.Common.{◌≡◌, ◌≢◌, ◌∙◌, ℕ, ◌==◌, ◌&&◌, inl, inr, cond, Bool, true, false, List, [], ◌∷◌, length, Option, Some, None, IsSome, refl, sym, ap, subst, arith}
 use Rattle.std.proofs.lemmas.Grind.{common_steps}
 use Rattle.iom_virtqueue.specs.declared.phase.Phase.{Phase}
 use Rattle.iom_virtqueue.specs.declared.phase.Phase.TheVariants.{AvailableIndex, RingEntry, Table, Served, UsedElement, UsedIndex, Faulted}
-use Rattle.iom_virtqueue.specs.Accesses.{AreOf}
 use Rattle.iom_virtio_blk.specs.declared.front.Front.{Front}
-use Rattle.iom_virtio_blk.specs.declared.request.Plan.{Plan}
-use Rattle.iom_virtio_blk.specs.declared.request.Plan.TheVariants.{ReadDisk, WriteDisk, FlushDisk, End}
+use Rattle.iom_virtio_blk.specs.declared.request.Plan.TheVariants.{WriteDisk, FlushDisk, End}
 use Rattle.iom_virtio_blk.specs.declared.request.RequestStatus.{RequestStatus}
 use Rattle.iom_virtio_blk.specs.declared.request.RequestStatus.TheVariants.{Ok, IoError, Unsupported}
-use Rattle.iom_virtqueue.specs.Queues.{QueueState, after, fault_of}
+use Rattle.iom_virtqueue.specs.Queues.{QueueState, after}
 use Rattle.iom_virtio_blk.specs.declared.serving.Serving.{Serving}
 use Rattle.iom_virtio_blk.specs.declared.serving.Job.{Job}
 use Rattle.iom_virtio_blk.specs.declared.serving.Job.TheVariants.{Header, Reading, Writing, Ending}
@@ -17,12 +15,12 @@ use Rattle.iom_virtio_blk.specs.declared.stage.Stage.{Stage}
 use Rattle.iom_virtio_blk.specs.declared.stage.Stage.TheVariants.{Reset, FeaturesOk, DriverOk, NeedsReset}
 use Rattle.iom_virtio_blk.specs.declared.step.Step.{Step}
 use Rattle.iom_virtio_blk.specs.declared.step.Step.TheVariants.{Idle, Waiting, Down, Chain, Finished, Wants}
-use Rattle.iom_virtio_blk.specs.Disks.{DiskState, sector_count, DidRead, IsThere}
-use Rattle.iom_virtio_blk.specs.Requests.{plan_of, fits}
+use Rattle.iom_virtio_blk.specs.Disks.{DiskState, sector_count, IsThere}
+use Rattle.iom_virtio_blk.specs.Requests.{plan_of}
 use Rattle.iom_virtio_blk.specs.Serving.{unread, piece_in, piece_len, data_in, data_out, IsUnderWayIn}
-use Rattle.iom_virtio_blk.specs.Blocks.{IsReady, IsTaking, wanted_by, planned, kind_in, sector_in, buffer_in, serving_in, call_in, queue_in, after_served, call_after}
-use Rattle.iom_virtio_blk.specs.Steps.{Device, device, Calls, settled, Serves, TakesQueue, UsesIn, GoesOnIn, serving_from, taken_front, Steps}
-use Rattle.iom_virtio_blk.specs.Histories.{Entry, gave, failed, inserted, IsMap, InWork, Gave, IsRest, TellsDisk, told, told_in, history_after}
+use Rattle.iom_virtio_blk.specs.Blocks.{IsReady, IsTaking, planned, kind_in, sector_in, buffer_in, serving_in, call_in, queue_in}
+use Rattle.iom_virtio_blk.specs.Steps.{Device, device, Calls, settled, Serves, TakesQueue, UsesIn, GoesOnIn, serving_from, Steps}
+use Rattle.iom_virtio_blk.specs.Histories.{Entry, gave, failed, inserted, IsMap, InWork, TellsDisk, told, told_in, history_after}
 use Rattle.iom_virtio_blk.proofs.AccessLemmas.{IsData, data_came, piece-few}
 use Rattle.iom_virtio_blk.proofs.ToldLemmas.{Goes, IsGiving, header-goes, reading-goes, data-goes}
 

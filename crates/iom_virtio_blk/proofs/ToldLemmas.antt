@@ -1,13 +1,12 @@
 -- How the history of a disk goes on with a request.
-use Rattle.std.proofs.Common.{◌≡◌, ◌≢◌, ◌∙◌, ℕ, ◌+◌, ◌-◌, ◌*◌, ◌/◌, ◌%◌, ◌<◌, ◌≤◌, ◌==◌, ◌&&◌, eqb, cond, Bool, true, false, nat_le, List, [], ◌∷◌, ◌++◌, length, take, drop, slice_get, Option, Some, None, refl, sym, ap, subst, arith, length-append}
+use Rattle.std.proofs.Common.{◌≡◌, ◌≢◌, ◌∙◌, ℕ, ◌+◌, ◌-◌, ◌*◌, ◌/◌, ◌%◌, ◌<◌, ◌≤◌, ◌==◌, cond, Bool, true, false, nat_le, List, [], ◌∷◌, ◌++◌, length, take, drop, slice_get, Option, Some, None, refl, sym, ap, subst, arith, length-append}
 use Rattle.std.proofs.lemmas.Grind.{common_steps}
-use Rattle.std.proofs.lemmas.Bool.{eqb-false, eqb-true, leb-false, leb-true}
+use Rattle.std.proofs.lemmas.Bool.{eqb-false, eqb-true}
 use Rattle.iom_virtqueue.specs.Chains.{Chain, byte_count}
 use Rattle.iom_virtio_blk.specs.declared.request.RequestStatus.{RequestStatus}
 use Rattle.iom_virtio_blk.specs.declared.request.RequestStatus.TheVariants.{Ok, IoError, Unsupported}
 use Rattle.iom_virtio_blk.specs.declared.request.Plan.{Plan}
 use Rattle.iom_virtio_blk.specs.declared.request.Plan.TheVariants.{ReadDisk, WriteDisk, FlushDisk, End}
-use Rattle.iom_virtio_blk.specs.declared.step.Call.{Call}
 use Rattle.iom_virtio_blk.specs.declared.step.Call.TheVariants.{Read, Write, Flush}
 use Rattle.iom_virtio_blk.specs.declared.serving.Serving.{Serving}
 use Rattle.iom_virtio_blk.specs.declared.serving.Job.{Job}
@@ -16,7 +15,7 @@ use Rattle.iom_virtio_blk.specs.Disks.{DiskState, KeepsSectors, DidRead, DidWrit
 use Rattle.iom_virtio_blk.specs.Serving.{begun, call_of, with_header, call_with_header, with_written, call_with_written, with_data, call_with_data, data_in, data_out}
 use Rattle.iom_virtio_blk.specs.Blocks.{overlaid}
 use Rattle.iom_virtio_blk.specs.Steps.{Calls, settled}
-use Rattle.iom_virtio_blk.specs.Histories.{Entry, gave, failed, inserted, IsMap, InWork, Gave, IsRest, told}
+use Rattle.iom_virtio_blk.specs.Histories.{Entry, gave, IsMap, InWork, told}
 use Rattle.iom_virtio_blk.proofs.HistoryLemmas.{IsMap-kept, IsMap-begun, IsMap-more, IsMap-write, IsMap-tears}
 use Rattle.iom_virtio_blk.proofs.SectorLemmas.{rest_grows, buffer_filled}
 

@@ -1,5 +1,5 @@
 -- A block device, all but its disk, between two calls.
-use Rattle.std.specs.Prelude.{◌≡◌, ◌≢◌, ℕ, ◌+◌, ◌-◌, ◌/◌, ◌%◌, ◌<◌, Bool, true, false, List, ◌++◌, length, take, drop, Option, Some, None}
+use Rattle.std.specs.Prelude.{◌≡◌, ◌≢◌, ◌⊎◌, ℕ, ◌+◌, ◌-◌, ◌%◌, Bool, true, false, List, ◌++◌, length, take, drop, Option, Some, None}
 use Rattle.iom_virtqueue.specs.declared.phase.Phase.{Phase}
 use Rattle.iom_virtqueue.specs.declared.phase.Phase.TheVariants.{Served, UsedElement, Faulted}
 use Rattle.iom_virtqueue.specs.Descriptors.{number_at}
@@ -17,7 +17,7 @@ use Rattle.iom_virtio_blk.specs.declared.serving.Serving.{Serving}
 use Rattle.iom_virtio_blk.specs.declared.serving.Job.{Job}
 use Rattle.iom_virtio_blk.specs.declared.serving.Job.TheVariants.{Header, Reading, Writing, Ending}
 use Rattle.iom_virtio_blk.specs.Requests.{plan_of}
-use Rattle.iom_virtio_blk.specs.Serving.{unread, access_in, piece_in, piece_len, data_out, data_in, with_header, call_with_header, with_written, call_with_written, with_data, call_with_data, IsUnderWay}
+use Rattle.iom_virtio_blk.specs.Serving.{access_in, piece_in, piece_len, data_out, data_in, with_header, call_with_header, with_written, call_with_written, with_data, call_with_data, IsUnderWay}
 
 -- which access the device wants: the queue's, or while a chain is served that of the request
 abbrev pub wants_in : Phase → Front → Access
@@ -64,6 +64,10 @@ given_up stage b = record b { stage = stage; is_made = false; waits = None; aske
 -- a fault: the device is to be reset
 abbrev pub down : Front → Front
 down b = given_up NeedsReset b
+
+-- the access that it waits for was made, and gave these bytes: it takes them, or is to be reset where they aren't as many as it wants
+abbrev pub EndsWaiting : Front → List ℕ → Front → Type 0
+EndsWaiting old bytes new = (AreOf bytes (wanted_by old) × TakesBytes old bytes new) ⊎ ((¬ AreOf bytes (wanted_by old)) × (new ≡ down old))
 
 -- what became of the access that it wants: it is this one of its accesses; it is to be tried again, perhaps with a page that was asked for and that
 -- is remembered until then; it was refused

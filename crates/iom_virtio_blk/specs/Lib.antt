@@ -7,3 +7,4 @@ pub mod Blocks
 pub mod Steps
 pub mod ReadyProps
 pub mod Histories
+pub mod MemoryDisks

@@ -1,5 +1,5 @@
 -- What holds of a device between two calls has one proof at most.
-use Rattle.std.specs.Prelude.{◌≡◌, ◌≢◌, ℕ, ◌<◌, ◌≤◌, List, length, true, None}
+use Rattle.std.specs.Prelude.{◌≡◌, ℕ, List, length, None}
 use Rattle.std.specs.Coded.{Coded-set, coded_ℕ, coded_bool, coded_option, le_prop}
 use Rattle.iom_virtqueue.specs.Accesses.{Access, nothing, reads, writes, AreOf}
 use Rattle.iom_virtqueue.specs.Chains.{Chain}
@@ -8,7 +8,7 @@ use Rattle.iom_virtio_blk.specs.declared.serving.Serving.{Serving}
 use Rattle.iom_virtio_blk.specs.declared.serving.Job.{Job}
 use Rattle.iom_virtio_blk.specs.declared.serving.Job.TheVariants.{Header, Reading, Writing, Ending}
 use Rattle.iom_virtio_blk.specs.declared.request.RequestStatus.TheVariants.{Ok, IoError, Unsupported}
-use Rattle.iom_virtio_blk.specs.Serving.{IsUnderWayIn, IsUnderWay}
+use Rattle.iom_virtio_blk.specs.Serving.{IsUnderWayIn}
 use Rattle.iom_virtio_blk.specs.Blocks.{IsReady, wanted_by}
 
 number_prop : (x y : ℕ) → IsProp (x ≡ y)

@@ -1,7 +1,7 @@
 -- A step of a block device, with its disk.
-use Rattle.std.specs.Prelude.{◌≡◌, ◌≢◌, ℕ, ◌<◌, ◌⊎◌, Bool, true, false, if◌then◌else◌, List, length, Option, Some, None, IsSome}
+use Rattle.std.specs.Prelude.{◌≡◌, ◌≢◌, ℕ, ◌⊎◌, Bool, true, false, List, Option, Some, None, IsSome}
 use Rattle.iom_virtqueue.specs.declared.phase.Phase.{Phase}
-use Rattle.iom_virtqueue.specs.declared.phase.Phase.TheVariants.{AvailableIndex, RingEntry, Table, Served, UsedElement, UsedIndex, Faulted}
+use Rattle.iom_virtqueue.specs.declared.phase.Phase.TheVariants.{AvailableIndex, Served, UsedIndex}
 use Rattle.iom_virtqueue.specs.Descriptors.{number_at}
 use Rattle.iom_virtqueue.specs.Accesses.{access_of, LiesInPage}
 use Rattle.iom_virtqueue.specs.Queues.{fault_of, after, new_requests}

@@ -6,7 +6,7 @@ ghost use Rattle.iom_virtio_blk.specs.declared.stage.Stage.TheVariants.{Reset};
 ghost use Rattle.iom_virtio_blk.specs.Features.{flush_of};
 ghost use Rattle.iom_virtio_blk.specs.Stages.{device_status};
 ghost use Rattle.iom_virtio_blk.specs.Disks.{disk_in};
-ghost use Rattle.iom_virtio_blk.specs.Blocks.{IsReady, IsAsking, IsTaking, TakesBytes, replied, given_up, down, negotiated, with_queue, wanted_by};
+ghost use Rattle.iom_virtio_blk.specs.Blocks.{IsReady, IsAsking, IsTaking, EndsWaiting, replied, given_up, down, negotiated, with_queue, wanted_by};
 ghost use Rattle.iom_virtio_blk.specs.Steps.{device, Steps, Serves, Calls};
 ghost use Rattle.iom_virtio_blk.specs.Histories.{Entry, inserted, TellsDisk, history_after};
 ghost use Rattle.iom_virtio_blk.specs.ReadyProps.{IsReady-prop};
@@ -94,10 +94,10 @@ impl<D: Disk> Blk<D> {
     }
 
     /// The access of this number was made, with these bytes where it was a read. They are taken only where the device began this
-    /// access itself since its last reset, and waits for it still.
+    /// access itself since its last reset, and waits for it still. Where they aren't as many as it wants, which can't come of a
+    /// port that makes what it accepted, the device is to be reset.
     pub fn made(&mut self, number: u64, bytes: &[u8])
-        requires { self.old.front.waits ≡ Some number → AreOf bytes.now (wanted_by self.old.front) }
-        ensures own { self.old.front.waits ≡ Some number → TakesBytes self.old.front bytes.now self.new.front }
+        ensures own { self.old.front.waits ≡ Some number → EndsWaiting self.old.front bytes.now self.new.front }
         ensures others { self.old.front.waits ≢ Some number → self.new.front ≡ self.old.front }
         ensures disk { self.new.drive ≡ self.old.drive }
     {

@@ -1,4 +1,4 @@
-ghost use Rattle.std.specs.Prelude.{◌≡◌, ◌≢◌, ◌+◌, ◌-◌, ◌%◌, ◌≤◌, ◌<◌, ℕ, length, Some, None, true, false, is_some, unwrap_or, IsSome, MatchBool};
+ghost use Rattle.std.specs.Prelude.{◌≡◌, ◌≢◌, ◌↔◌, IsTrue, ◌+◌, ◌-◌, ◌%◌, ◌≤◌, ◌<◌, ℕ, length, Some, None, true, false, is_some, unwrap_or, IsSome, MatchBool};
 ghost use Rattle.iom_virtqueue.specs.Accesses.{AreOf, LiesInPage, access_of};
 ghost use Rattle.iom_virtqueue.specs.Chains.{byte_count};
 ghost use Rattle.iom_virtqueue.specs.Layouts.{IsLayout};
@@ -10,7 +10,7 @@ ghost use Rattle.iom_virtio_blk.specs.declared.stage.Stage.TheVariants.{Reset, F
 ghost use Rattle.iom_virtio_blk.specs.Stages.{device_status};
 ghost use Rattle.iom_virtio_blk.specs.Serving.{IsUnderWay};
 ghost use Rattle.iom_virtio_blk.specs.Features.{flush_of};
-ghost use Rattle.iom_virtio_blk.specs.Blocks.{wanted_by, IsReady, IsAsking, IsTaking, TakesBytes, replied, given_up, down, negotiated, with_queue, overlaid, after_served, call_after, buffer_in, serving_in, call_in};
+ghost use Rattle.iom_virtio_blk.specs.Blocks.{wanted_by, IsReady, IsAsking, IsTaking, TakesBytes, EndsWaiting, replied, given_up, down, negotiated, with_queue, overlaid, after_served, call_after, buffer_in, serving_in, call_in};
 ghost use Rattle.iom_virtio_blk.specs.Steps.{QueueSteps, settled};
 
 use crate::features::flush_of;
@@ -133,20 +133,48 @@ impl Front {
         }
     }
 
+    /// Whether these bytes are those of the access that it wants: as many as it reads, and none where it writes.
+    fn takes(&self, bytes: &[u8]) -> bool
+        requires ready { IsReady self.now }
+        ensures { IsTrue result ↔ AreOf bytes.now (wanted_by self.now) }
+    {
+        match self.wants() {
+            Want::Nothing => false,
+            Want::Read { len, .. } => bytes.len() == usize::from(len),
+            Want::Write { .. } => bytes.is_empty(),
+        }
+    }
+
+    /// The device takes the bytes of the access that it wants.
+    fn take(&mut self, bytes: &[u8])
+        requires ready { IsReady self.old }
+        requires running { self.old.stage ≡ DriverOk }
+        requires bytes { AreOf bytes.now (wanted_by self.old) }
+        ensures taken { TakesBytes self.old bytes.now self.new }
+        ensures ready { IsReady self.new }
+    {
+        self.got.clear();
+        self.got.try_extend_from_slice(bytes).unwrap();
+        self.is_made = true;
+        self.waits = None;
+    }
+
     /// The access of this number was made, with these bytes where it was a read. The device takes them
-    /// only where that is the access which it began itself since its last reset, and still waits for.
+    /// only where that is the access which it began itself since its last reset, and still waits for. Where
+    /// they aren't as many as it wants, it is to be reset.
     pub(crate) fn made(&mut self, number: u64, bytes: &[u8])
         requires ready { IsReady self.old }
-        requires bytes { self.old.waits ≡ Some number → AreOf bytes.now (wanted_by self.old) }
-        ensures own { self.old.waits ≡ Some number → TakesBytes self.old bytes.now self.new }
+        ensures own { self.old.waits ≡ Some number → EndsWaiting self.old bytes.now self.new }
         ensures others { self.old.waits ≢ Some number → self.new ≡ self.old }
         ensures ready { IsReady self.new }
     {
-        if self.waits == Some(number) {
-            self.got.clear();
-            self.got.try_extend_from_slice(bytes).unwrap();
-            self.is_made = true;
-            self.waits = None;
+        if self.waits != Some(number) {
+            return;
+        }
+        if self.takes(bytes) {
+            self.take(bytes);
+        } else {
+            self.give_up(Stage::NeedsReset);
         }
     }
 

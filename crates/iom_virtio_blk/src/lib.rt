@@ -18,6 +18,7 @@ mod disk;
 mod drive;
 mod features;
 mod front;
+mod memory_disk;
 mod request;
 mod serving;
 mod stage;
@@ -29,5 +30,6 @@ pub use features::{
     OFFERED_FEATURES, REQUIRED_FEATURES, VIRTIO_BLK_F_FLUSH, VIRTIO_F_ACCESS_PLATFORM,
     VIRTIO_F_VERSION_1,
 };
+pub use memory_disk::MemoryDisk;
 pub use request::RequestStatus;
 pub use step::{Reply, Step};

@@ -11,4 +11,8 @@ mod chains;
 #[cfg(test)]
 mod disk;
 #[cfg(test)]
+mod guest;
+#[cfg(test)]
 mod requests;
+#[cfg(test)]
+mod sizes;

@@ -1,10 +1,11 @@
 -- A request keeps the facts, be it translated or not, or through a device's own cache, where fewer accesses were accepted than events are counted.
-use Rattle.std.proofs.Common.{◌≡◌, ◌^◌, ◌<◌, ℕ, sym, subst}
+use Rattle.std.proofs.Common.{◌≡◌, ◌^◌, ◌<◌, ℕ, Bool, sym, subst}
 use Rattle.iom_base.specs.declared.access.Access.{Access}
 use Rattle.iom_driver.specs.declared.driver.Driver.{Driver}
 use Rattle.iom_driver.specs.Seen.{state_of}
 use Rattle.iom_iommu.specs.Parts.{flights_of}
 use Rattle.iom_machine.specs.declared.outcome.Outcome.{Outcome}
+use Rattle.iom_machine.specs.declared.state.DeviceKind.{DeviceKind}
 use Rattle.iom_world.specs.Below.{LawsBelow}
 use Rattle.iom_world.specs.Parts.{Parts}
 use Rattle.iom_world.specs.Requests.{AsksAccess, AsksTranslated}
@@ -36,10 +37,10 @@ service_laws laws = record {
   };
 }
 
-pub keeps_asked_counted : LawsBelow → (driver : Driver) (old new : Parts) (events id : ℕ) (access : Access) (told : Outcome) → AreSound old events → IsSoundDriver old.driver → old.driver ≡ state_of driver
-    → (flights_of old.iommu).so_far < events → access.address < 2 ^ 64 → AsksAccess old id access told new → AreSound new events
-keeps_asked_counted laws driver old new events id access told sound own is below fits asks =
-    keeps_asked (service_laws laws) old new events id access told sound own
+pub keeps_asked_counted : (can : DeviceKind → Bool) → LawsBelow → (driver : Driver) (old new : Parts) (events id : ℕ) (access : Access) (told : Outcome) → AreSound old events → IsSoundDriver old.driver → old.driver ≡ state_of driver
+    → (flights_of old.iommu).so_far < events → access.address < 2 ^ 64 → AsksAccess can old id access told new → AreSound new events
+keeps_asked_counted can laws driver old new events id access told sound own is below fits asks =
+    keeps_asked can (service_laws laws) old new events id access told sound own
     (subst StaysReady (sym is) (stays_of laws.stays driver)) (subst StaysReported (sym is) (reported_of laws.reported driver)) below fits asks
 
 pub keeps_translated_counted : LawsBelow → (driver : Driver) (old new : Parts) (events id : ℕ) (access : Access) (told : Outcome) → AreSound old events → IsSoundDriver old.driver → old.driver ≡ state_of driver
@@ -48,8 +49,8 @@ keeps_translated_counted laws driver old new events id access told sound own is 
     keeps_translated (service_laws laws) old new events id access told sound own
     (subst StaysReady (sym is) (stays_of laws.stays driver)) (subst StaysReported (sym is) (reported_of laws.reported driver)) below asks
 
-pub keeps_through_cache_counted : LawsBelow → (driver : Driver) (old new : Parts) (events id : ℕ) (access : Access) (told : Outcome) → AreSound old events → IsSoundDriver old.driver → old.driver ≡ state_of driver
-    → (flights_of old.iommu).so_far < events → AsksThroughCache old id access told new → AreSound new events
-keeps_through_cache_counted laws driver old new events id access told sound own is below asks =
-    keeps_through_cache (service_laws laws) old new events id access told sound own
+pub keeps_through_cache_counted : (can : DeviceKind → Bool) → LawsBelow → (driver : Driver) (old new : Parts) (events id : ℕ) (access : Access) (told : Outcome) → AreSound old events → IsSoundDriver old.driver → old.driver ≡ state_of driver
+    → (flights_of old.iommu).so_far < events → AsksThroughCache can old id access told new → AreSound new events
+keeps_through_cache_counted can laws driver old new events id access told sound own is below asks =
+    keeps_through_cache can (service_laws laws) old new events id access told sound own
     (subst StaysReady (sym is) (stays_of laws.stays driver)) (subst StaysReported (sym is) (reported_of laws.reported driver)) below asks

@@ -6,7 +6,8 @@ use Rattle.iom_ats_cache.specs.Cache.{Cache, empty_cache}
 use Rattle.iom_driver.specs.declared.device.Device as driver
 use Rattle.iom_driver.specs.Devices.{detached, device_of, is_plugged, is_trusted}
 use Rattle.iom_driver.proofs.Lists.{differs}
-use Rattle.iom_machine.specs.declared.state.DeviceKind.{DeviceKind}
+use Rattle.iom_machine.specs.declared.state.NewDevice.{NewDevice}
+use Rattle.iom_machine.specs.Kinds.{kind_of, disk_of}
 use Rattle.iom_machine.specs.Refusals.{has_cache}
 use Rattle.iom_world.specs.declared.device.Device.{Device}
 use Rattle.iom_world.specs.Caches.{device_with, kind_in, cache_in, HasItsCache}
@@ -48,40 +49,40 @@ pub kind_absent : (devices : List Device) (id : ℕ) → HaveNot devices id → 
 kind_absent devices id absent = ap (option_map (λ (device : Device). device.kind)) (absent_device devices id absent)
 
 -- what each is then
-pub kind_pushed : (devices : List Device) (id : ℕ) (kind : DeviceKind) (d : ℕ) → HaveNot devices id
-    → kind_in (devices ++ new_device id kind ∷ []) d ≡ (if id == d then Some kind else kind_in devices d)
-kind_pushed devices id kind d absent = ap (option_map (λ (device : Device). device.kind)) (pushed_device devices (new_device id kind) d) ∙ by (id == d) refl
+pub kind_pushed : (devices : List Device) (id : ℕ) (what : NewDevice) (d : ℕ) → HaveNot devices id
+    → kind_in (devices ++ new_device id what ∷ []) d ≡ (if id == d then Some (kind_of what) else kind_in devices d)
+kind_pushed devices id what d absent = ap (option_map (λ (device : Device). device.kind)) (pushed_device devices (new_device id what) d) ∙ by (id == d) refl
   where
     by : (b : Bool) → (id == d) ≡ b
-        → option_map (λ (device : Device). device.kind) (or_one (device_with devices d) (if b then Some (new_device id kind) else None)) ≡ (if b then Some kind else kind_in devices d)
+        → option_map (λ (device : Device). device.kind) (or_one (device_with devices d) (if b then Some (new_device id what) else None)) ≡ (if b then Some (kind_of what) else kind_in devices d)
     by true is =
         let none : device_with devices d ≡ None = subst (λ k. device_with devices k ≡ None) (eqb-true id d is) (absent_device devices id absent) in
-        ap (λ found. option_map (λ (device : Device). device.kind) (or_one found (Some (new_device id kind)))) none
+        ap (λ found. option_map (λ (device : Device). device.kind) (or_one found (Some (new_device id what)))) none
     by false is = ap (option_map (λ (device : Device). device.kind)) (or_none (device_with devices d))
 
 -- a new cache is in epoch 0, and has nothing
-pub epoch_pushed : (devices : List Device) (id : ℕ) (kind : DeviceKind) (d : ℕ) → epoch_in (devices ++ new_device id kind ∷ []) d ≡ epoch_in devices d
-epoch_pushed devices id kind d =
-    ap (λ found. option_map_or (λ (cache : Cache). cache.epoch) (cache_in found) 0) (pushed_device devices (new_device id kind) d) ∙ by (device_with devices d) (id == d) (has_cache kind)
+pub epoch_pushed : (devices : List Device) (id : ℕ) (what : NewDevice) (d : ℕ) → epoch_in (devices ++ new_device id what ∷ []) d ≡ epoch_in devices d
+epoch_pushed devices id what d =
+    ap (λ found. option_map_or (λ (cache : Cache). cache.epoch) (cache_in found) 0) (pushed_device devices (new_device id what) d) ∙ by (device_with devices d) (id == d) (has_cache (kind_of what))
   where
     by : (found : Option Device) (b k : Bool)
-        → option_map_or (λ (cache : Cache). cache.epoch) (cache_in (or_one found (if b then Some (record { id = id; kind = kind; cache = if k then Some empty_cache else None }) else None))) 0
+        → option_map_or (λ (cache : Cache). cache.epoch) (cache_in (or_one found (if b then Some (record { id = id; kind = kind_of what; has_disk = is_some (disk_of what); cache = if k then Some empty_cache else None }) else None))) 0
         ≡ option_map_or (λ (cache : Cache). cache.epoch) (cache_in found) 0
     by (Some device) b k = refl
     by None true true = refl
     by None true false = refl
     by None false k = refl
 
-pub entries_pushed : (devices : List Device) (id : ℕ) (kind : DeviceKind) → entries_in (devices ++ new_device id kind ∷ []) ≡ entries_in devices
-entries_pushed [] id kind = by (has_cache kind)
+pub entries_pushed : (devices : List Device) (id : ℕ) (what : NewDevice) → entries_in (devices ++ new_device id what ∷ []) ≡ entries_in devices
+entries_pushed [] id what = by (has_cache (kind_of what))
   where
     by : (k : Bool) → entries_by id (if k then Some empty_cache else None) ++ [] ≡ []
     by true = refl
     by false = refl
-entries_pushed (first ∷ others) id kind = ap (λ l. entries_by first.id first.cache ++ l) (entries_pushed others id kind)
+entries_pushed (first ∷ others) id what = ap (λ l. entries_by first.id first.cache ++ l) (entries_pushed others id what)
 
-pub its_cache : (id : ℕ) (kind : DeviceKind) → HasItsCache (new_device id kind)
-its_cache id kind = by (has_cache kind)
+pub its_cache : (id : ℕ) (what : NewDevice) → HasItsCache (new_device id what)
+its_cache id what = by (has_cache (kind_of what))
   where
     by : (k : Bool) → is_some (if k then Some empty_cache else None) ≡ k
     by true = refl

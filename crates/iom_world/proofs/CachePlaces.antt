@@ -1,5 +1,5 @@
--- Where a device stands, by its id, and what changes where its cache is set.
-use Rattle.std.proofs.Common.{suc, zero, ◌≡◌, ◌≢◌, ◌<◌, ◌∙◌, ℕ, List, [], ◌∷◌, length, Option, Some, None, slice_get, refl, ap, inl, inr, arith}
+-- Where a device stands, by its id, and what changes where its cache is set, or whether it has a disk.
+use Rattle.std.proofs.Common.{suc, zero, ◌≡◌, ◌≢◌, ◌<◌, ◌∙◌, ℕ, Bool, List, [], ◌∷◌, length, Option, Some, None, slice_get, refl, ap, inl, inr, arith}
 use Rattle.std.proofs.lemmas.Bool.Decides.{eqb_tells}
 use Rattle.std.proofs.lemmas.Bool.{eq-eqb}
 use Rattle.iom_ats_cache.specs.Cache.{Cache}
@@ -8,7 +8,7 @@ use Rattle.iom_world.specs.declared.device.Device.{Device}
 use Rattle.iom_fabric.specs.declared.message.Range.{Range}
 use Rattle.iom_fabric.specs.declared.message.Translation.{Translation}
 use Rattle.iom_machine.specs.declared.outcome.Outcome.TheVariants.{Ignored}
-use Rattle.iom_world.specs.Caches.{device_with, cache_in, cache_of, with_cache, IsPlaceOf}
+use Rattle.iom_world.specs.Caches.{device_with, cache_in, cache_of, with_cache, with_has_disk, IsPlaceOf}
 use Rattle.iom_world.specs.Deliveries.{TakesInto, Obeys}
 
 -- an id that no device has
@@ -24,11 +24,11 @@ place_is [] id place device at own none = cc
 place_is (first ∷ others) id zero device at own none =
     let same : first ≡ device = cc in
     let own_first : first.id ≡ id = ap (λ (d : Device). d.id) same ∙ own in
-    (first, refl, rw (eq-eqb first.id id own_first) refl, (λ cache. rw (eq-eqb first.id id own_first) refl))
+    (first, refl, rw (eq-eqb first.id id own_first) refl, (λ cache. rw (eq-eqb first.id id own_first) refl), (λ has. rw (eq-eqb first.id id own_first) refl))
 place_is (first ∷ others) id (suc place) device at own none =
     let other = differs first.id id (none 0 first (omega arith) refl) in
     let rest = place_is others id place device at own (λ k d lt there. none (suc k) d (omega arith) there) in
-    (rest.0, rest.1, rw other rest.2, (λ cache. rw other (ap (λ ds. first ∷ ds) (rest.3 cache))))
+    (rest.0, rest.1, rw other rest.2, (λ cache. rw other (ap (λ ds. first ∷ ds) (rest.3 cache))), (λ has. rw other (ap (λ ds. first ∷ ds) (rest.4 has))))
 
 -- where there is no such device, nothing is set
 pub with_none : (devices : List Device) (id : ℕ) (cache : Option Cache) → device_with devices id ≡ None → with_cache devices id cache ≡ devices
@@ -36,6 +36,16 @@ with_none [] id cache none = refl
 with_none (device ∷ others) id cache none = elim (eqb_tells device.id id) [
   | inl e ↦ absurd (some_none (rw e.0 at none))
   | inr ne ↦ rw ne.0 (ap (λ ds. device ∷ ds) (with_none others id cache (rw ne.0 at none)))
+]
+  where
+    some_none : ◌≡◌ {A = Option Device} (Some device) None → ⊥
+    some_none same = cc
+
+pub has_none : (devices : List Device) (id : ℕ) (has : Bool) → device_with devices id ≡ None → with_has_disk devices id has ≡ devices
+has_none [] id has none = refl
+has_none (device ∷ others) id has none = elim (eqb_tells device.id id) [
+  | inl e ↦ absurd (some_none (rw e.0 at none))
+  | inr ne ↦ rw ne.0 (ap (λ ds. device ∷ ds) (has_none others id has (rw ne.0 at none)))
 ]
   where
     some_none : ◌≡◌ {A = Option Device} (Some device) None → ⊥

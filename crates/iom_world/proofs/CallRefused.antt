@@ -1,5 +1,5 @@
 -- A refusal of a call of the driver changes nothing, and a fetch is never refused.
-use Rattle.std.proofs.Common.{◌≡◌, ◌+◌, ◌-◌, ◌==◌, ◌∙◌, ℕ, Bool, true, false, Result, Ok, Err, refl, sym, ap, subst, if◌then◌else◌}
+use Rattle.std.proofs.Common.{◌≡◌, ◌+◌, ◌-◌, ◌==◌, ◌∙◌, inl, inr, ℕ, Bool, true, false, List, Result, Ok, Err, refl, sym, ap, subst, if◌then◌else◌}
 use Rattle.iom_base.specs.declared.grant_rights.GrantRights.{GrantRights}
 use Rattle.iom_base.specs.declared.mode.Mode.{Mode}
 use Rattle.iom_driver.specs.declared.answers.Polled.{Polled}
@@ -15,8 +15,10 @@ use Rattle.iom_ledger.specs.declared.refusal.Refusal.{Refusal}
 use Rattle.iom_machine.specs.declared.outcome.Fetched.{Fetched}
 use Rattle.iom_machine.specs.declared.outcome.Outcome.{Outcome}
 use Rattle.iom_machine.specs.declared.outcome.Outcome.TheVariants as outcome
-use Rattle.iom_machine.specs.declared.state.DeviceKind.{DeviceKind}
+use Rattle.iom_machine.specs.declared.state.NewDevice.{NewDevice}
+use Rattle.iom_machine.specs.Kinds.{kind_of}
 use Rattle.iom_world.specs.Answers.{told_of, ticket_told_of}
+use Rattle.iom_world.specs.BlockDevices.{devices_left}
 use Rattle.iom_world.specs.Does.{PlugsDevice, AttachesDevice, GrantsPage, ReleasesPage, DetachesDevice, FetchesNext, PollsTickets, polled_told_of, devices_after, AddsRow}
 use Rattle.iom_world.specs.Happens.{AreSame, SameIfRefused}
 use Rattle.iom_world.specs.Parts.{Parts}
@@ -48,10 +50,11 @@ same_parts old new same = subst (λ parts. AreSame old parts) (sym same) (record
 done_refused : (why : Refusal) → outcome.Done ≡ outcome.Refused why → ⊥
 done_refused why same = cc
 
-pub plug_refused : (old new : Parts) (id : ℕ) (kind : DeviceKind) (told : Outcome) → PlugsDevice old id kind told new → SameIfRefused told old new
-plug_refused old new id kind told does why is = by does.answer (sym does.told_so ∙ is) does.call does.row does.devices
+pub plug_refused : (disks : List ℕ) (old new : Parts) (id : ℕ) (what : NewDevice) (told : Outcome) → PlugsDevice disks old id what told new → SameIfRefused told old new
+plug_refused disks old new id what told (inl lacks) why is = same_parts old new lacks.same
+plug_refused disks old new id what told (inr does) why is = by does.answer (sym does.told_so ∙ is) does.call does.row does.devices
   where
-    by : (answer : Result (Unit {0}) Refusal) → told_of answer ≡ outcome.Refused why → AnswersPlug old.driver id (has_cache kind) answer new.driver → AddsRow answer old.iommu id new.iommu → new.devices ≡ devices_after answer old.devices id kind → AreSame old new
+    by : (answer : Result (Unit {0}) Refusal) → told_of answer ≡ outcome.Refused why → AnswersPlug old.driver id (has_cache (kind_of what)) answer new.driver → AddsRow answer old.iommu id new.iommu → new.devices ≡ devices_after answer old.devices id what → AreSame old new
     by (Ok done) refused call row devices = absurd (done_refused why refused)
     by (Err reason) refused call row devices = same_of old new does.memory row devices does.fabric call.1
 
@@ -77,11 +80,12 @@ release_refused old new id page told does why is = by does.answer (sym does.told
     by (Err reason) refused call = same_of old new call.2 call.3 does.devices does.fabric call.1
 
 pub detach_refused : (old new : Parts) (id : ℕ) (told : Outcome) → DetachesDevice old id told new → SameIfRefused told old new
-detach_refused old new id told does why is = by does.answer (sym does.told_so ∙ is) does.call.effect
+detach_refused old new id told does why is = by does.answer (sym does.told_so ∙ is) does.call.effect does.devices
   where
-    by : (answer : Result answers.Ticket Refusal) → ticket_told_of answer ≡ outcome.Refused why → DoesDetach mmio old.driver old.memory old.iommu id answer new.driver new.memory new.iommu → AreSame old new
-    by (Ok ticket) refused call = cc
-    by (Err reason) refused call = same_of old new call.1 call.2 does.devices does.fabric call.0
+    by : (answer : Result answers.Ticket Refusal) → ticket_told_of answer ≡ outcome.Refused why → DoesDetach mmio old.driver old.memory old.iommu id answer new.driver new.memory new.iommu
+        → new.devices ≡ devices_left answer old.devices id → AreSame old new
+    by (Ok ticket) refused call devices = cc
+    by (Err reason) refused call devices = same_of old new call.1 call.2 devices does.fabric call.0
 
 pub fetch_refused : (old new : Parts) (told : Outcome) → FetchesNext old told new → SameIfRefused told old new
 fetch_refused old new told does why is = absurd (never (sym does.told_so ∙ is))

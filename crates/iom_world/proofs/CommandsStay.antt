@@ -26,11 +26,13 @@ use Rattle.iom_iommu.specs.Translated.{ServesTranslated}
 use Rattle.iom_fault_queue.specs.Fields.{untranslated_of, translated_of}
 use Rattle.iom_table_frames.specs.Marks.{is_marked}
 use Rattle.iom_machine.specs.declared.state.DeviceKind.{DeviceKind}
+use Rattle.iom_machine.specs.declared.state.NewDevice.{NewDevice}
 use Rattle.iom_iommu.specs.Parts.{registers_of, flights_of}
 use Rattle.iom_ledger.specs.declared.refusal.Refusal.{Refusal}
 use Rattle.iom_machine.specs.declared.event.Event.{Event}
 use Rattle.iom_machine.specs.declared.event.Event.TheVariants as events
 use Rattle.iom_machine.specs.declared.outcome.Outcome.{Outcome}
+use Rattle.iom_machine.specs.declared.outcome.Outcome.TheVariants as outcome
 use Rattle.iom_base.specs.declared.cause.Cause.{Cause}
 use Rattle.iom_base.specs.Sizes.{page_size}
 use Rattle.iom_fabric.specs.declared.fabric.OnLink.{OnLink}
@@ -41,12 +43,16 @@ use Rattle.iom_fabric.specs.declared.message.Translation.TheVariants.{Page, Refu
 use Rattle.iom_fault_queue.specs.declared.transaction.Transaction.{Transaction}
 use Rattle.iom_fault_queue.specs.declared.transaction.Transaction.TheVariants.{AtsRequest}
 use Rattle.iom_fault_queue.specs.Records.{record_of}
-use Rattle.iom_machine.specs.Kinds.{asks_questions, forges}
+use Rattle.iom_machine.specs.Kinds.{asks_questions, forges, is_block_device, sends_untranslated, sends_through_cache}
 use Rattle.iom_machine.specs.ThroughCache.{at_frame}
 use Rattle.iom_stage_walk.specs.declared.walked.WalkFault.{WalkFault}
 use Rattle.iom_tlb.specs.declared.trans_cache.Translation.{Translation}
 use Rattle.iom_tlb.specs.Content.{Content as Translations}
-use Rattle.iom_world.specs.Caches.{IsAble, epoch_in}
+use Rattle.iom_virtqueue.specs.declared.layout.Layout.{Layout}
+use Rattle.iom_virtqueue.specs.Layouts.{layout_of}
+use Rattle.iom_copies.specs.Attachments.{caches_translations}
+use Rattle.iom_world.specs.BlockDevices.{InsertsMedium, SetsQueue, AsksIfMissed, GoesToMemory, BeginsAccess, TakesStep, TellsStatus}
+use Rattle.iom_world.specs.Caches.{IsAble, epoch_in, kind_in}
 use Rattle.iom_world.specs.Commits.{CommitsAccess}
 use Rattle.iom_world.specs.Deliveries.{AnswersAsked, Arrives, ArrivesIfAny, DeliversMessage}
 use Rattle.iom_world.specs.Messages.{Sends}
@@ -103,8 +109,9 @@ grant_keeps old new events id page frame rights told sound does = by does.answer
     by (Ok done) (admitted, takes) = tables_keep_system old.driver old.memory id page frame rights new.driver new.memory sound.ready.stand.size takes
     by (Err why) (refused, driver, memory) = λ n system. ap (λ m. slice_get m n) memory
 
-plug_keeps : (old new : Parts) (id : ℕ) (kind : DeviceKind) (told : Outcome) → PlugsDevice old id kind told new → waiting_in new ≡ waiting_in old
-plug_keeps old new id kind told does = by does.answer does.row
+plug_keeps : (disks : List ℕ) (old new : Parts) (id : ℕ) (what : NewDevice) (told : Outcome) → PlugsDevice disks old id what told new → waiting_in new ≡ waiting_in old
+plug_keeps disks old new id what told (inl lacks) = ap waiting_in lacks.same
+plug_keeps disks old new id what told (inr does) = by does.answer does.row
   where
     by : (answer : Result (Unit {0}) Refusal) → AddsRow answer old.iommu id new.iommu → waiting_in new ≡ waiting_in old
     by (Ok done) row = waits_same old new does.memory row.registers
@@ -131,9 +138,9 @@ answer_keeps Served transaction old new events id access sound own reported driv
 answer_keeps Served transaction old new events id access sound own reported driver devices fabric (reply.Fault cause) answers =
     report_waiting old new events sound own (report_leaves old new events id access sound reported driver devices fabric cause answers)
 
-asks_keep : (old new : Parts) (events id : ℕ) (access : Access) (told : Outcome) → AreSound old events → IsSoundDriver old.driver → StaysReported old.driver
-    → AsksAccess old id access told new → waiting_in new ≡ waiting_in old
-asks_keep old new events id access told sound own reported asks = elim asks [
+asks_keep : (can : DeviceKind → Bool) (old new : Parts) (events id : ℕ) (access : Access) (told : Outcome) → AreSound old events → IsSoundDriver old.driver → StaysReported old.driver
+    → AsksAccess can old id access told new → waiting_in new ≡ waiting_in old
+asks_keep can old new events id access told sound own reported asks = elim asks [
   | inl unknown ↦ ap waiting_in unknown.same
   | inr (inl unable) ↦ ap waiting_in unable.same
   | inr (inr (able, replied)) ↦ answer_keeps (ServesRequest old.memory old.iommu id access) (untranslated_of access.kind) old new events id access sound own reported replied.driver replied.devices replied.fabric replied.reply replied.call
@@ -160,11 +167,11 @@ tries_keep old new events id access told sound own reported (inl far) = ap waiti
 tries_keep old new events id access told sound own reported (inr (inl full)) = ap waiting_in full.3
 tries_keep old new events id access told sound own reported (inr (inr finds)) = finds_keep (cached_frame old id access) old new events id access told sound own reported finds.2
 
-through_cache_keep : (old new : Parts) (events id : ℕ) (access : Access) (told : Outcome) → AreSound old events → IsSoundDriver old.driver → StaysReported old.driver
-    → AsksThroughCache old id access told new → waiting_in new ≡ waiting_in old
-through_cache_keep old new events id access told sound own reported (inl unknown) = ap waiting_in unknown.same
-through_cache_keep old new events id access told sound own reported (inr (inl unable)) = ap waiting_in unable.same
-through_cache_keep old new events id access told sound own reported (inr (inr tried)) = tries_keep old new events id access told sound own reported tried.1
+through_cache_keep : (can : DeviceKind → Bool) (old new : Parts) (events id : ℕ) (access : Access) (told : Outcome) → AreSound old events → IsSoundDriver old.driver → StaysReported old.driver
+    → AsksThroughCache can old id access told new → waiting_in new ≡ waiting_in old
+through_cache_keep can old new events id access told sound own reported (inl unknown) = ap waiting_in unknown.same
+through_cache_keep can old new events id access told sound own reported (inr (inl unable)) = ap waiting_in unable.same
+through_cache_keep can old new events id access told sound own reported (inr (inr tried)) = tries_keep old new events id access told sound own reported tried.1
 
 -- nor does a message change them, but for a question whose fault is reported
 sends_keep : (can : DeviceKind → Bool) (old new : Parts) (id : ℕ) (message : Message) (told : Outcome)
@@ -233,32 +240,74 @@ commits_keep old new events id told sound own commits = elim commits [
 pub poke_keeps : (old : Parts) (events address : ℕ) (bytes : List ℕ) (told : Outcome) (memory : List (List ℕ)) → AreSound old events → StoresIfAny old address bytes told memory → KeepsSystem old memory
 poke_keeps old events address bytes told memory sound stores n system = (stores_keep old events address bytes told memory sound stores).1 n System system
 
-pub commands_stay : (old new : Parts) (before : ℕ) (event : Event) (told : Outcome) → AreSound old before → IsSoundDriver old.driver → StaysReported old.driver → Does old event told new → KeepsCommands event old new
-commands_stay old new before (events.Release id page) told sound own reported does = tt
-commands_stay old new before (events.Detach id) told sound own reported does = tt
-commands_stay old new before (events.Quarantine id) told sound own reported does = tt
-commands_stay old new before events.Restart told sound own reported does = tt
-commands_stay old new before events.Fetch told sound own reported does = tt
-commands_stay old new before (events.Revive id) told sound own reported does = revival_commands old new before id told sound own does
-commands_stay old new before events.Timeout told sound own reported does = timeout_commands old new told does
-commands_stay old new before (events.Reset id) told sound own reported does = reset_commands old new id told does
-commands_stay old new before (events.Plug id kind) told sound own reported does = plug_keeps old new id kind told does
-commands_stay old new before (events.Attach id mode ats) told sound own reported does = attach_keeps old new before id mode ats told sound own does
-commands_stay old new before (events.Grant id page frame rights) told sound own reported does = waits_still old new before sound own (ap registers_of does.iommu) (grant_keeps old new before id page frame rights told sound does)
-commands_stay old new before events.Poll told sound own reported does = waits_still old new before sound own (ap registers_of does.iommu) (poll_keeps old new told does)
-commands_stay old new before events.Faults told sound own reported does = taken_waiting old new before told sound own does
-commands_stay old new before (events.Read id address len) told sound own reported does = asks_keep old new before id (read_of address len) told sound own reported does
-commands_stay old new before (events.Write id address bytes) told sound own reported does = asks_keep old new before id (write_of address bytes) told sound own reported does
-commands_stay old new before (events.Commit id) told sound own reported does = commits_keep old new before id told sound own does
-commands_stay old new before (events.Poke address bytes) told sound own reported does = waits_still old new before sound own (ap registers_of does.iommu) (poke_keeps old before address bytes told new.memory sound does.memory)
-commands_stay old new before (events.Peek address len) told sound own reported does = ap waiting_in does.1
-commands_stay old new before (events.Free frame) told sound own reported does = ap waiting_in does.1
-commands_stay old new before (events.ReadTranslated id address len) told sound own reported does = translated_keep old new before id (read_of address len) told sound own reported does
-commands_stay old new before (events.WriteTranslated id address bytes) told sound own reported does = translated_keep old new before id (write_of address bytes) told sound own reported does
-commands_stay old new before (events.ReadThroughCache id address len) told sound own reported does = through_cache_keep old new before id (read_of address len) told sound own reported does
-commands_stay old new before (events.WriteThroughCache id address bytes) told sound own reported does = through_cache_keep old new before id (write_of address bytes) told sound own reported does
-commands_stay old new before (events.Ask id page) told sound own reported does = sends_keep asks_questions old new id (sent.Ask (epoch_in old.devices id) page) told does
-commands_stay old new before (events.Forge id serial) told sound own reported does = sends_keep forges old new id (sent.InvDone serial) told does
-commands_stay old new before (events.Deliver place) told sound own reported does = delivered_keep old new before place told sound own reported does
-commands_stay old new before (events.Drop place) told sound own reported does = ap waiting_in does.dropped
-commands_stay old new before (events.Repeat place) told sound own reported does = ap waiting_in does.repeated
+-- what block devices do changes them only by a fault that is reported
+medium_keeps : (disks : List ℕ) (old new : Parts) (id disk : ℕ) (told : Outcome) → InsertsMedium disks old id disk told new → waiting_in new ≡ waiting_in old
+medium_keeps disks old new id disk told (inl unknown) = ap waiting_in unknown.same
+medium_keeps disks old new id disk told (inr (inl unable)) = ap waiting_in unable.same
+medium_keeps disks old new id disk told (inr (inr (device, is, inl puts))) = ap waiting_in puts.2
+medium_keeps disks old new id disk told (inr (inr (device, is, inr refuses))) = ap waiting_in refuses.2
+
+queue_keeps : (old new : Parts) (id : ℕ) (layout : Layout) (told : Outcome) → SetsQueue old id layout told new → waiting_in new ≡ waiting_in old
+queue_keeps old new id layout told (inl unknown) = ap waiting_in unknown.same
+queue_keeps old new id layout told (inr (inl unable)) = ap waiting_in unable.same
+queue_keeps old new id layout told (inr (inr (able, inl sets))) = ap waiting_in sets.2
+queue_keeps old new id layout told (inr (inr (able, inr refuses))) = ap waiting_in refuses.2
+
+asked_if_missed : (first : Outcome) (between new : Parts) (id : ℕ) (access : Access) (told : Outcome) → AsksIfMissed first between id access told new → waiting_in new ≡ waiting_in between
+asked_if_missed outcome.Miss between new id access told asks = ap waiting_in asks.1
+asked_if_missed _ between new id access told asks = ap waiting_in asks.1
+
+begins_keep : (old new : Parts) (events id : ℕ) (access : Access) (told : Outcome) → AreSound old events → IsSoundDriver old.driver → StaysReported old.driver
+    → BeginsAccess old id access told new → waiting_in new ≡ waiting_in old
+begins_keep old new events id access told sound own reported begins = by (caches_translations (kind_in old.devices id)) begins
+  where
+    by : (has_cache : Bool) → GoesToMemory has_cache old id access told new → waiting_in new ≡ waiting_in old
+    by false asks = asks_keep is_block_device old new events id access told sound own reported asks
+    by true goes =
+        asked_if_missed goes.first goes.between new id access told goes.asks
+        ∙ through_cache_keep is_block_device old goes.between events id access goes.first sound own reported goes.tries
+
+step_keeps : (old new : Parts) (events id : ℕ) (told : Outcome) → AreSound old events → IsSoundDriver old.driver → StaysReported old.driver → TakesStep old id told new → waiting_in new ≡ waiting_in old
+step_keeps old new events id told sound own reported (inl (access, fits, may, begins)) = begins_keep old new events id access told sound own reported begins
+step_keeps old new events id told sound own reported (inr (step, rest, inl unknown)) = ap waiting_in unknown.same
+step_keeps old new events id told sound own reported (inr (step, rest, inr (inl unable))) = ap waiting_in unable.same
+step_keeps old new events id told sound own reported (inr (step, rest, inr (inr (able, is, same)))) = ap waiting_in same
+
+status_keeps : (old new : Parts) (id status : ℕ) (told : Outcome) → TellsStatus old id status told new → waiting_in new ≡ waiting_in old
+status_keeps old new id status told (inl unknown) = ap waiting_in unknown.same
+status_keeps old new id status told (inr (inl unable)) = ap waiting_in unable.same
+status_keeps old new id status told (inr (inr (able, is, same))) = ap waiting_in same
+
+pub commands_stay : (disks : List ℕ) (old new : Parts) (before : ℕ) (event : Event) (told : Outcome) → AreSound old before → IsSoundDriver old.driver → StaysReported old.driver → Does disks old event told new → KeepsCommands event old new
+commands_stay disks old new before (events.Release id page) told sound own reported does = tt
+commands_stay disks old new before (events.Detach id) told sound own reported does = tt
+commands_stay disks old new before (events.Quarantine id) told sound own reported does = tt
+commands_stay disks old new before events.Restart told sound own reported does = tt
+commands_stay disks old new before events.Fetch told sound own reported does = tt
+commands_stay disks old new before (events.Revive id) told sound own reported does = revival_commands old new before id told sound own does
+commands_stay disks old new before events.Timeout told sound own reported does = timeout_commands old new told does
+commands_stay disks old new before (events.Reset id) told sound own reported does = reset_commands old new id told does
+commands_stay disks old new before (events.Plug id what) told sound own reported does = plug_keeps disks old new id what told does
+commands_stay disks old new before (events.Attach id mode ats) told sound own reported does = attach_keeps old new before id mode ats told sound own does
+commands_stay disks old new before (events.Grant id page frame rights) told sound own reported does = waits_still old new before sound own (ap registers_of does.iommu) (grant_keeps old new before id page frame rights told sound does)
+commands_stay disks old new before events.Poll told sound own reported does = waits_still old new before sound own (ap registers_of does.iommu) (poll_keeps old new told does)
+commands_stay disks old new before events.Faults told sound own reported does = taken_waiting old new before told sound own does
+commands_stay disks old new before (events.Read id address len) told sound own reported does = asks_keep sends_untranslated old new before id (read_of address len) told sound own reported does
+commands_stay disks old new before (events.Write id address bytes) told sound own reported does = asks_keep sends_untranslated old new before id (write_of address bytes) told sound own reported does
+commands_stay disks old new before (events.Commit id) told sound own reported does = commits_keep old new before id told sound own does
+commands_stay disks old new before (events.Poke address bytes) told sound own reported does = waits_still old new before sound own (ap registers_of does.iommu) (poke_keeps old before address bytes told new.memory sound does.memory)
+commands_stay disks old new before (events.Peek address len) told sound own reported does = ap waiting_in does.1
+commands_stay disks old new before (events.Free frame) told sound own reported does = ap waiting_in does.1
+commands_stay disks old new before (events.ReadTranslated id address len) told sound own reported does = translated_keep old new before id (read_of address len) told sound own reported does
+commands_stay disks old new before (events.WriteTranslated id address bytes) told sound own reported does = translated_keep old new before id (write_of address bytes) told sound own reported does
+commands_stay disks old new before (events.ReadThroughCache id address len) told sound own reported does = through_cache_keep sends_through_cache old new before id (read_of address len) told sound own reported does
+commands_stay disks old new before (events.WriteThroughCache id address bytes) told sound own reported does = through_cache_keep sends_through_cache old new before id (write_of address bytes) told sound own reported does
+commands_stay disks old new before (events.Ask id page) told sound own reported does = sends_keep asks_questions old new id (sent.Ask (epoch_in old.devices id) page) told does
+commands_stay disks old new before (events.Forge id serial) told sound own reported does = sends_keep forges old new id (sent.InvDone serial) told does
+commands_stay disks old new before (events.Deliver place) told sound own reported does = delivered_keep old new before place told sound own reported does
+commands_stay disks old new before (events.Drop place) told sound own reported does = ap waiting_in does.dropped
+commands_stay disks old new before (events.Repeat place) told sound own reported does = ap waiting_in does.repeated
+commands_stay disks old new before (events.Medium id disk) told sound own reported does = medium_keeps disks old new id disk told does
+commands_stay disks old new before (events.Queue id size descriptors available used) told sound own reported does = queue_keeps old new id (layout_of size descriptors available used) told does
+commands_stay disks old new before (events.Step id) told sound own reported does = step_keeps old new before id told sound own reported does
+commands_stay disks old new before (events.Status id) told sound own reported does = status_keeps old new id does.0 told does.1

@@ -18,7 +18,7 @@ use Rattle.iom_driver.specs.declared.device.Stages.{Stages}
 use Rattle.iom_driver.specs.Devices.{attachment_of, is_plugged, owned_stages, owned_stages_of, is_trusted, with_attachment}
 use Rattle.iom_driver.specs.Directory.{context_for}
 use Rattle.iom_driver.specs.Layout.{completion_frame, completion_address, directory_frame}
-use Rattle.iom_driver.specs.Leaving.{QueuesDetach, IsToldOfDetach, DoesDetach}
+use Rattle.iom_driver.specs.Leaving.{QueuesDetach, IsToldOfDetach, DoesDetach, AnswersDetach}
 use Rattle.iom_driver.specs.Ready.{IsReady}
 use Rattle.iom_driver.specs.Reasons.{why_not_detach, HasGrants}
 use Rattle.iom_driver.specs.State.{DriverState}
@@ -32,12 +32,16 @@ use Rattle.iom_ledger.specs.Shown.{Agrees, held_in, lingering_in}
 use Rattle.iom_machine.specs.declared.outcome.Outcome.{Outcome}
 use Rattle.iom_machine.specs.declared.state.Attachment.TheVariants as shown
 use Rattle.iom_registers.specs.declared.registers.Registers.{Registers}
+use Rattle.iom_world.specs.declared.device.Device.{Device}
+use Rattle.iom_world.specs.BlockDevices.{devices_left}
+use Rattle.iom_world.specs.Caches.{epoch_in}
 use Rattle.iom_world.specs.Devices.{shown_attachment}
 use Rattle.iom_world.specs.Does.{DetachesDevice}
 use Rattle.iom_world.specs.Parts.{Parts}
 use Rattle.iom_world.specs.Read.{space_in, space_at, values_of, accesses_of}
 use Rattle.iom_world.specs.Sound.{AreSound, known_ids, row_ids}
 use Rattle.iom_world.proofs.DeviceLemmas.{shown_set, trusted_set, ids_set, attachment_set, attachment_other}
+use Rattle.iom_world.proofs.BlockKeeps.{left_sound}
 use Rattle.iom_world.proofs.CachedLemmas.{spaces_owned}
 use Rattle.iom_world.proofs.QueuedLemmas.{queued_space}
 use Rattle.iom_world.proofs.DriverKeeps.{attached_is}
@@ -154,12 +158,27 @@ module _ (old new : Parts) (events id ticket : ℕ) (sound : AreSound old events
       (ungranted old.driver (registers_of old.iommu) id admitted)
       (λ h agrees. subst (λ (s : DriverState). Agrees s.ledger h) (sym queues.driver) agrees)))
 
-pub keeps_detached : (old new : Parts) (events id : ℕ) (told : Outcome) → AreSound old events → IsSoundDriver old.driver → IsReady new.driver new.memory (registers_of new.iommu)
-    → DetachesDevice old id told new → AreSound new events
-keeps_detached old new events id told sound own ready detaches = by detaches.answer detaches.call.told detaches.call.effect
+-- what the driver does keeps the facts, where the devices are the same
+keeps_called : (old new : Parts) (events id : ℕ) → AreSound old events → IsSoundDriver old.driver → IsReady new.driver new.memory (registers_of new.iommu)
+    → (answer : Result answers.Ticket Refusal) → AnswersDetach mmio old.driver old.memory old.iommu id answer new.driver new.memory new.iommu
+    → new.devices ≡ old.devices → new.fabric ≡ old.fabric → AreSound new events
+keeps_called old new events id sound own ready answer call devices fabric = by answer call.told call.effect
   where
     by : (answer : Result answers.Ticket Refusal)
         → ((granted : Bool) → (IsTrue granted → HasGrants old.driver.ledger id) × (HasGrants old.driver.ledger id → IsTrue granted) → IsToldOfDetach old.driver (registers_of old.iommu) granted id answer)
         → DoesDetach mmio old.driver old.memory old.iommu id answer new.driver new.memory new.iommu → AreSound new events
-    by (Ok ticket) admitted queues = detached_sound old new events id ticket.0 sound own ready admitted queues detaches.devices detaches.fabric
-    by (Err why) refused (driver_stays, memory_stays, iommu_stays) = rw (driver_stays, memory_stays, iommu_stays, detaches.devices, detaches.fabric) sound
+    by (Ok ticket) admitted queues = detached_sound old new events id ticket.0 sound own ready admitted queues devices fabric
+    by (Err why) refused (driver_stays, memory_stays, iommu_stays) = rw (driver_stays, memory_stays, iommu_stays, devices, fabric) sound
+
+-- and then its disk goes, and a block device is reset
+pub keeps_detached : (old new : Parts) (events id : ℕ) (told : Outcome) → AreSound old events → IsSoundDriver old.driver → IsReady new.driver new.memory (registers_of new.iommu)
+    → epoch_in old.devices id < events → DetachesDevice old id told new → AreSound new events
+keeps_detached old new events id told sound own ready below detaches =
+    subst (λ (devices : List Device). AreSound (record new { devices = devices }) events) (sym detaches.devices) (by detaches.answer)
+  where
+    called : AreSound (record new { devices = old.devices }) events
+    called = keeps_called old (record new { devices = old.devices }) events id sound own ready detaches.answer detaches.call refl detaches.fabric
+
+    by : (answer : Result answers.Ticket Refusal) → AreSound (record new { devices = devices_left answer old.devices id }) events
+    by (Ok ticket) = left_sound (record new { devices = old.devices }) events id called below
+    by (Err why) = called

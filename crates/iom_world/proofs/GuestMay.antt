@@ -102,7 +102,9 @@ pub guest_tables_for : ServiceLaws → (parts : Parts) (counted : ℕ) (event : 
     → ReadsGuestTablesFor event parts state.history
 guest_tables_for laws parts counted (events.Read id address len) sound own state shows = reads_guest_tables laws parts counted sound own state shows id (read_of address len)
 guest_tables_for laws parts counted (events.Write id address bytes) sound own state shows = reads_guest_tables laws parts counted sound own state shows id (write_of address bytes)
-guest_tables_for laws parts counted (events.Plug id kind) sound own state shows = tt
+guest_tables_for laws parts counted (events.Step id) sound own state shows = λ access. reads_guest_tables laws parts counted sound own state shows id access
+guest_tables_for laws parts counted (events.Plug id what) sound own state shows = tt
+guest_tables_for laws parts counted (events.Medium id disk) sound own state shows = tt
 guest_tables_for laws parts counted (events.Attach id mode ats) sound own state shows = tt
 guest_tables_for laws parts counted (events.Detach id) sound own state shows = tt
 guest_tables_for laws parts counted (events.Grant id page frame rights) sound own state shows = tt
@@ -125,6 +127,8 @@ guest_tables_for laws parts counted (events.Deliver place) sound own state shows
 guest_tables_for laws parts counted (events.Drop place) sound own state shows = tt
 guest_tables_for laws parts counted (events.Repeat place) sound own state shows = tt
 guest_tables_for laws parts counted (events.Reset id) sound own state shows = tt
+guest_tables_for laws parts counted (events.Queue id size descriptors available used) sound own state shows = tt
+guest_tables_for laws parts counted (events.Status id) sound own state shows = tt
 guest_tables_for laws parts counted (events.Poke address bytes) sound own state shows = tt
 guest_tables_for laws parts counted (events.Peek address len) sound own state shows = tt
 guest_tables_for laws parts counted (events.Free frame) sound own state shows = tt

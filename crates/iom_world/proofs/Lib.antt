@@ -2,6 +2,8 @@ pub mod AskedLemmas
 pub mod AtsContexts
 pub mod AttachStep
 pub mod BackFrames
+pub mod BlockKeeps
+pub mod BlockSteps
 pub mod CallRefused
 pub mod ChoiceLemmas
 pub mod CommandsStay
@@ -14,15 +16,19 @@ pub mod CachedLemmas
 pub mod CachedMay
 pub mod ConfirmScenes
 pub mod ContextKeeps
+pub mod CountLemmas
 pub mod CutOffLemmas
 pub mod DetachKeeps
 pub mod DetachStep
 pub mod DeliverKeeps
 pub mod DeliverStep
 pub mod DeviceLemmas
+pub mod DiskLemmas
+pub mod DiskPlaces
 pub mod DriverKeeps
 pub mod DriverLemmas
 pub mod EntryMay
+pub mod EventLemmas
 pub mod FetchKeeps
 pub mod FetchStep
 pub mod FlightMay
@@ -70,7 +76,6 @@ pub mod RequestKeeps
 pub mod RequestStep
 pub mod RowLemmas
 pub mod RowPlaces
-pub mod RunLemmas
 pub mod SceneCalls
 pub mod SceneSteps
 pub mod ServedLemmas

@@ -112,16 +112,20 @@ present devices id kind at = by (device_with devices id) refl at
     by None is none = cc
     by (Some device) is at = ap is_some is
 
+pub question_sound : (old : Parts) (events id page : ℕ) → AreSound old events → page < 2 ^ 52 → is_some (device_with old.devices id) ≡ true
+    → AreSound (record old { fabric = with_sent old.fabric id (sent.Ask (epoch_in old.devices id) page) }) events
+question_sound old events id page sound fits there =
+    sent_sound old events id (sent.Ask (epoch_in old.devices id) page) sound (there, fits)
+    (λ scene shows x mine.
+    subst (MayBeSent scene) (sym (the_one (Question id (epoch_in old.devices id) page) x mine))
+    (λ honest. let same : scene.epoch_of id ≡ epoch_in old.devices id = ap (λ (t : Traffic). t.epoch_of id) shows.traffic in omega (arith, same)))
+
 pub keeps_question : (old new : Parts) (events id page : ℕ) (told : Outcome) → AreSound old events → page < 2 ^ 52 → AsksQuestion old id page told new → AreSound new events
 keeps_question old new events id page told sound fits asks = elim asks [
   | inl unknown ↦ subst (λ parts. AreSound parts events) (sym unknown.same) sound
   | inr (inl unable) ↦ subst (λ parts. AreSound parts events) (sym unable.same) sound
   | inr (inr (able, sends)) ↦
-      subst (λ parts. AreSound parts events) (sym sends.sent)
-      (sent_sound old events id (sent.Ask (epoch_in old.devices id) page) sound (present old.devices id able.0 able.1, fits)
-      (λ scene shows x there.
-      subst (MayBeSent scene) (sym (the_one (Question id (epoch_in old.devices id) page) x there))
-      (λ honest. let same : scene.epoch_of id ≡ epoch_in old.devices id = ap (λ (t : Traffic). t.epoch_of id) shows.traffic in omega (arith, same))))
+      subst (λ parts. AreSound parts events) (sym sends.sent) (question_sound old events id page sound fits (present old.devices id able.0 able.1))
 ]
 
 -- A DEVICE SAYS that a request is done

@@ -100,7 +100,7 @@ pub forged_step : (old new : Parts) (id serial : ℕ) (told : Outcome) → Forge
 forged_step old new id serial told asks state shows = sends_step forges old new id (sent.InvDone serial) told asks state shows
 
 -- the message alone changes
-shows_fabric : (old new : Parts) (fabric : List OnLink) (state : State) → new ≡ record old { fabric = fabric } → PartsShow old state → PartsShow new state
+pub shows_fabric : (old new : Parts) (fabric : List OnLink) (state : State) → new ≡ record old { fabric = fabric } → PartsShow old state → PartsShow new state
 shows_fabric old new fabric state is shows = subst (λ parts. PartsShow parts state) (sym is) (record {
   ledger = shows.ledger;
   frames = shows.frames;

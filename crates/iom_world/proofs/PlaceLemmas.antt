@@ -22,6 +22,7 @@ abbrev pub attached_so : List FlightRow → Device → Attachment → machine.De
 attached_so rows device attachment = record {
   id = device.id;
   kind = device.kind;
+  has_disk = device.has_disk;
   attachment = attachment;
   accepted = accepted_of rows device.id;
   in_flight = in_flight_of rows device.id;

@@ -22,12 +22,13 @@ use Rattle.iom_ledger.specs.declared.refusal.Refusal.TheVariants.{AlreadyPlugged
 use Rattle.iom_ledger.specs.Refusals.{NoneApplies}
 use Rattle.iom_ledger.specs.Shown.{Agrees}
 use Rattle.iom_machine.specs.declared.outcome.Outcome.{Outcome}
-use Rattle.iom_machine.specs.declared.state.DeviceKind.{DeviceKind}
+use Rattle.iom_machine.specs.declared.state.NewDevice.{NewDevice}
+use Rattle.iom_machine.specs.Kinds.{kind_of}
 use Rattle.iom_registers.specs.declared.registers.Registers.{Registers}
 use Rattle.iom_registers.specs.Queues.{command_status}
 use Rattle.iom_world.specs.declared.device.Device.{Device}
 use Rattle.iom_world.specs.Devices.{shown_attachment}
-use Rattle.iom_world.specs.Does.{PlugsDevice, AddsRow, new_device, devices_after}
+use Rattle.iom_world.specs.Does.{PlugsIn, AddsRow, new_device, devices_after}
 use Rattle.iom_tlb.specs.Chosen.{ioatc}
 use Rattle.iom_world.specs.Parts.{Parts}
 use Rattle.iom_world.specs.Read.{space_in, values_of, access_of, accesses_of}
@@ -92,9 +93,9 @@ accesses_pushed : (rows : List FlightRow) (id : ℕ) → accesses_of (rows ++ ne
 accesses_pushed [] id = refl
 accesses_pushed (row ∷ rows) id = ap (λ l. map (access_of row.device) row.waiting ++ l) (accesses_pushed rows id)
 
-module _ (old new : Parts) (events id : ℕ) (kind : DeviceKind) (sound : AreSound old events) (ready : IsReady new.driver new.memory (registers_of new.iommu))
-    (admitted : NoneApplies (why_not_plug old.driver id)) (driver_now : new.driver ≡ record old.driver { devices = old.driver.devices ++ detached id (has_cache kind) ∷ [] })
-    (row : AddsDevice old.iommu id true new.iommu) (devices : new.devices ≡ old.devices ++ new_device id kind ∷ []) (memory : new.memory ≡ old.memory) (fabric : new.fabric ≡ old.fabric) where
+module _ (old new : Parts) (events id : ℕ) (what : NewDevice) (sound : AreSound old events) (ready : IsReady new.driver new.memory (registers_of new.iommu))
+    (admitted : NoneApplies (why_not_plug old.driver id)) (driver_now : new.driver ≡ record old.driver { devices = old.driver.devices ++ detached id (has_cache (kind_of what)) ∷ [] })
+    (row : AddsDevice old.iommu id true new.iommu) (devices : new.devices ≡ old.devices ++ new_device id what ∷ []) (memory : new.memory ≡ old.memory) (fabric : new.fabric ≡ old.fabric) where
   leaves : LeavesWord old new
   leaves = record { size = ap (λ m. length m) memory; word = ap (λ m. slice_get m (completion_frame (length old.memory))) memory }
 
@@ -114,41 +115,41 @@ module _ (old new : Parts) (events id : ℕ) (kind : DeviceKind) (sound : AreSou
   absent = absent_known old.driver.devices old.devices id sound.known.driver free
 
   trusts_as : (b : Bool) (one : Bool) (d : ℕ) → one ≡ caches_translations (kind_in old.devices d)
-      → (if b then has_cache kind else one) ≡ caches_translations (if b then Some kind else kind_in old.devices d)
+      → (if b then has_cache (kind_of what) else one) ≡ caches_translations (if b then Some (kind_of what) else kind_in old.devices d)
   trusts_as true one d same = refl
   trusts_as false one d same = same
 
   known_now : AreKnown new
   known_now = record {
-    own_ids = rw devices (own_ids_new old.devices (new_device id kind) id sound.known.own_ids absent refl);
-    driver = ap (λ (d : DriverState). known_ids d.devices) driver_now ∙ map_pushed (λ (d : driver.Device). d.id) old.driver.devices (detached id (has_cache kind))
-        ∙ ap (λ ids. ids ++ id ∷ []) sound.known.driver ∙ sym (ap ids_of devices ∙ map_pushed (λ (d : Device). d.id) old.devices (new_device id kind));
+    own_ids = rw devices (own_ids_new old.devices (new_device id what) id sound.known.own_ids absent refl);
+    driver = ap (λ (d : DriverState). known_ids d.devices) driver_now ∙ map_pushed (λ (d : driver.Device). d.id) old.driver.devices (detached id (has_cache (kind_of what)))
+        ∙ ap (λ ids. ids ++ id ∷ []) sound.known.driver ∙ sym (ap ids_of devices ∙ map_pushed (λ (d : Device). d.id) old.devices (new_device id what));
     iommu = ap row_ids rows_now ∙ map_pushed (λ (r : FlightRow). r.device) (flights_of old.iommu).rows (new_row id)
-        ∙ ap (λ ids. ids ++ id ∷ []) sound.known.iommu ∙ sym (ap ids_of devices ∙ map_pushed (λ (d : Device). d.id) old.devices (new_device id kind));
-    caches = rw devices (All-push HasItsCache old.devices (new_device id kind) sound.known.caches (its_cache id kind));
-    askers = rw (devices, fabric) (λ k d lt. asker_pushed old.devices (new_device id kind) (get_or old.fabric k d) (sound.known.askers k d lt));
+        ∙ ap (λ ids. ids ++ id ∷ []) sound.known.iommu ∙ sym (ap ids_of devices ∙ map_pushed (λ (d : Device). d.id) old.devices (new_device id what));
+    caches = rw devices (All-push HasItsCache old.devices (new_device id what) sound.known.caches (its_cache id what));
+    askers = rw (devices, fabric) (λ k d lt. asker_pushed old.devices (new_device id what) (get_or old.fabric k d) (sound.known.askers k d lt));
     trusted = λ d.
-        ap (λ (s : DriverState). is_trusted s.devices d) driver_now ∙ trusted_pushed old.driver.devices id (has_cache kind) d free
+        ap (λ (s : DriverState). is_trusted s.devices d) driver_now ∙ trusted_pushed old.driver.devices id (has_cache (kind_of what)) d free
         ∙ trusts_as (id == d) (is_trusted old.driver.devices d) d (sound.known.trusted d)
-        ∙ sym (ap (λ (ds : List Device). caches_translations (kind_in ds d)) devices ∙ ap caches_translations (kind_pushed old.devices id kind d absent));
+        ∙ sym (ap (λ (ds : List Device). caches_translations (kind_in ds d)) devices ∙ ap caches_translations (kind_pushed old.devices id what d absent));
   }
 
   traffic_now : (values_of new).traffic ≡ (values_of old).traffic
   traffic_now =
       ap (λ (ds : List Device). traffic_of ds new.fabric (slots_of new.iommu)) devices
-      ∙ ap (λ (es : List Copy). record (traffic_of (old.devices ++ new_device id kind ∷ []) new.fabric (slots_of new.iommu)) { entries = es }) (entries_pushed old.devices id kind)
+      ∙ ap (λ (es : List Copy). record (traffic_of (old.devices ++ new_device id what ∷ []) new.fabric (slots_of new.iommu)) { entries = es }) (entries_pushed old.devices id what)
       ∙ ap (λ (es : ℕ → ℕ). record (traffic_of old.devices new.fabric (slots_of new.iommu)) { epoch_of = es })
-      (same_function (epoch_in (old.devices ++ new_device id kind ∷ [])) (epoch_in old.devices) (epoch_pushed old.devices id kind))
+      (same_function (epoch_in (old.devices ++ new_device id what ∷ [])) (epoch_in old.devices) (epoch_pushed old.devices id what))
       ∙ ap (λ (ms : List OnLink). traffic_of old.devices ms (slots_of new.iommu)) fabric
       ∙ ap (traffic_of old.devices old.fabric) row.slots
 
   attachments_now : (other : ℕ) → attachment_of new.driver.devices other ≡ attachment_of old.driver.devices other
-  attachments_now other = ap (λ (d : DriverState). attachment_of d.devices other) driver_now ∙ attachment_plugged old.driver.devices id (has_cache kind) other
+  attachments_now other = ap (λ (d : DriverState). attachment_of d.devices other) driver_now ∙ attachment_plugged old.driver.devices id (has_cache (kind_of what)) other
 
-  plugs_one : PlugsOne (values_of old) (values_of new) id kind
+  plugs_one : PlugsOne (values_of old) (values_of new) id (kind_of what)
   plugs_one = record {
     free = kind_absent old.devices id absent;
-    kinds = λ d. ap (λ (ds : List Device). kind_in ds d) devices ∙ kind_pushed old.devices id kind d absent;
+    kinds = λ d. ap (λ (ds : List Device). kind_in ds d) devices ∙ kind_pushed old.devices id what d absent;
     agrees = λ h agrees. subst (λ (s : DriverState). Agrees s.ledger h) (sym driver_now) agrees;
     address = ap completion_address leaves.size;
     waiting = same_waiting old new events sound row.registers (ap (λ m. slice_get m (command_frame (length old.memory))) memory);
@@ -175,15 +176,15 @@ module _ (old new : Parts) (events id : ℕ) (kind : DeviceKind) (sound : AreSou
       sound_from old new events sound leaves
       (record { status = ap command_status row.registers; frames = row.frames; so_far = counted_now; slots = row.slots })
       (ap (λ (d : DriverState). d.started) driver_now) ready known_now
-      (λ d. subst (λ (n : ℕ). n ≤ events) (sym (ap (λ (ds : List Device). epoch_in ds d) devices ∙ epoch_pushed old.devices id kind d)) (sound.epochs d))
+      (λ d. subst (λ (n : ℕ). n ≤ events) (sym (ap (λ (ds : List Device). epoch_in ds d) devices ∙ epoch_pushed old.devices id what d)) (sound.epochs d))
       (subst (λ (d : DriverState). d.given < 2 ^ 32) (sym driver_now) sound.small)
       (λ other context cached. ap (λ a. option_map context_for (owned_stages a)) (attachments_now other) ∙ sound.contexts other context (sym (contexts_now other) ∙ cached))
-      (∥∥₁_map sound.copies (plug_scene (values_of old) (values_of new) id kind plugs_one))
+      (∥∥₁_map sound.copies (plug_scene (values_of old) (values_of new) id (kind_of what) plugs_one))
 
-pub keeps_plugged : (old new : Parts) (events id : ℕ) (kind : DeviceKind) (told : Outcome) → AreSound old events → IsReady new.driver new.memory (registers_of new.iommu)
-    → PlugsDevice old id kind told new → AreSound new events
-keeps_plugged old new events id kind told sound ready plugs = by plugs.answer plugs.call plugs.row plugs.devices
+pub keeps_plugged : (disks : List ℕ) (old new : Parts) (events id : ℕ) (what : NewDevice) (told : Outcome) → AreSound old events → IsReady new.driver new.memory (registers_of new.iommu)
+    → PlugsIn disks old id what told new → AreSound new events
+keeps_plugged disks old new events id what told sound ready plugs = by plugs.answer plugs.call plugs.row plugs.devices
   where
-    by : (answer : Result (Unit {0}) Refusal) → AnswersPlug old.driver id (has_cache kind) answer new.driver → AddsRow answer old.iommu id new.iommu → new.devices ≡ devices_after answer old.devices id kind → AreSound new events
-    by (Ok done) (admitted, driver_now) row devices = plugged_sound old new events id kind sound ready admitted driver_now row devices plugs.memory plugs.fabric
+    by : (answer : Result (Unit {0}) Refusal) → AnswersPlug old.driver id (has_cache (kind_of what)) answer new.driver → AddsRow answer old.iommu id new.iommu → new.devices ≡ devices_after answer old.devices id what → AreSound new events
+    by (Ok done) (admitted, driver_now) row devices = plugged_sound old new events id what sound ready admitted driver_now row devices plugs.memory plugs.fabric
     by (Err why) (refused, driver_stays) row devices = rw (plugs.memory, row, driver_stays, devices, plugs.fabric) sound

@@ -243,8 +243,9 @@ not_some b (Some x) same = rw same refl
 
 -- THE CALLS
 
+-- the driver's reasons against a plug are the machine's first two
 pub plug_first : (parts : Parts) (events : ℕ) (state : State) (id : ℕ) → AreSound parts events → PartsShow parts state
-    → first_that_applies (machine.plug_reasons state id) ≡ first_that_applies (why_not_plug parts.driver id)
+    → first_that_applies ((machine.is_plugged state id, AlreadyPlugged) ∷ (nat_le 16 (length state.devices), TooManyDevices) ∷ []) ≡ first_that_applies (why_not_plug parts.driver id)
 plug_first parts events state id sound shows =
     let d = parts.driver in
     let rows = (flights_of parts.iommu).rows in
@@ -261,7 +262,7 @@ pub how_shown : (parts : Parts) (events : ℕ) (state : State) (id : ℕ) → Ar
 how_shown parts events state id sound shows = attachment_shown parts.driver.devices (flights_of parts.iommu).rows parts.devices state id sound.known.driver shows.devices
 
 -- whether it has a cache of its own
-kind_shown : (known : List driver.Device) (rows : List FlightRow) (devices : List Device) (id : ℕ)
+pub kind_shown : (known : List driver.Device) (rows : List FlightRow) (devices : List Device) (id : ℕ)
     → option_map_or (λ (device : declared.Device). has_cache device.kind) (shown_of known rows devices id) false ≡ caches_translations (kind_in devices id)
 kind_shown known rows [] id = refl
 kind_shown known rows (device ∷ others) id = elim (eqb_tells device.id id) [ inl e ↦ rw e.0 refl | inr ne ↦ rw ne.0 (kind_shown known rows others id) ]

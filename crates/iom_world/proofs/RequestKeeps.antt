@@ -21,6 +21,7 @@ use Rattle.iom_iommu.specs.Requests.{Accepts, Refuses, faulted_of, fault_of, Ans
 use Rattle.iom_machine.specs.declared.outcome.Outcome.{Outcome}
 use Rattle.iom_stage_walk.specs.declared.walked.WalkFault.{WalkFault}
 use Rattle.iom_machine.specs.declared.state.Attachment.TheVariants as shown
+use Rattle.iom_machine.specs.declared.state.DeviceKind.{DeviceKind}
 use Rattle.iom_base.specs.declared.mode.Mode.{Mode}
 use Rattle.iom_tlb.specs.declared.space.Space.{Space}
 use Rattle.iom_tlb.specs.declared.trans_cache.Translation.{Translation}
@@ -292,9 +293,9 @@ module _ (laws : ServiceLaws) (old new : Parts) (events id : ℕ) (access : Acce
   keeps_replied fits BadSpan call = keeps_same call.2 call.1
   keeps_replied fits (Fault cause) call = keeps_fault fits cause call
 
-pub keeps_asked : ServiceLaws → (old new : Parts) (events id : ℕ) (access : Access) (told : Outcome) → AreSound old events → IsSoundDriver old.driver → StaysReady old.driver
-    → StaysReported old.driver → (flights_of old.iommu).so_far < events → access.address < 2 ^ 64 → AsksAccess old id access told new → AreSound new events
-keeps_asked laws old new events id access told sound own stays reported below fits asks = elim asks [
+pub keeps_asked : (can : DeviceKind → Bool) → ServiceLaws → (old new : Parts) (events id : ℕ) (access : Access) (told : Outcome) → AreSound old events → IsSoundDriver old.driver → StaysReady old.driver
+    → StaysReported old.driver → (flights_of old.iommu).so_far < events → access.address < 2 ^ 64 → AsksAccess can old id access told new → AreSound new events
+keeps_asked can laws old new events id access told sound own stays reported below fits asks = elim asks [
   | inl unknown ↦ subst (λ parts. AreSound parts events) (sym unknown.same) sound
   | inr (inl unable) ↦ subst (λ parts. AreSound parts events) (sym unable.same) sound
   | inr (inr answered) ↦ keeps_replied laws old new events id access sound own stays reported answered.1.driver answered.1.devices answered.1.fabric below fits answered.1.reply answered.1.call

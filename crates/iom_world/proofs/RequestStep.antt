@@ -29,7 +29,7 @@ use Rattle.iom_base.specs.declared.owner.Owner.TheVariants.{System}
 use Rattle.iom_machine.specs.declared.state.Device as machine
 use Rattle.iom_machine.specs.declared.state.State.{State}
 use Rattle.iom_machine.specs.Devices.{replaced_device}
-use Rattle.iom_machine.specs.Machine.{Acts, Requests}
+use Rattle.iom_machine.specs.Machine.{Acts}
 use Rattle.iom_machine.specs.Requests as requests
 use Rattle.iom_machine.specs.Requests.{MayAccept, MayFault, MayAnswer, IsBusy, state_after, with_accepted}
 use Rattle.iom_ledger.specs.Shown.{Agrees, held_in}
@@ -57,7 +57,6 @@ use Rattle.iom_world.proofs.StayLemmas.{not_owned}
 use Rattle.iom_world.proofs.WalkLemmas.{NoneIsHeldFor, FaultsBy}
 use Rattle.iom_world.proofs.CachedMay.{cached_accept}
 use Rattle.iom_machine.specs.declared.state.DeviceKind.{DeviceKind}
-use Rattle.iom_machine.specs.Kinds.{sends_untranslated}
 use Rattle.iom_world.specs.declared.device.Device.{Device}
 use Rattle.iom_world.specs.Caches.{kind_in}
 use Rattle.iom_world.proofs.PresentLemmas.{kind_present}
@@ -134,9 +133,13 @@ may_fault (driver.Quarantined ticket stage) parts state id access cause own show
 may_fault (driver.Leaving ticket stage) parts state id access cause own shows is (inl page) = inr (shows.none_later ticket (own.leaving id ticket stage is).0, page)
 may_fault (driver.Leaving ticket stage) parts state id access cause own shows is (inr none) = inl (none ∙ ap (λ l. cause_at l id) (sym shows.levels))
 
+-- the machine may answer the access of a device so, on the frame, if it is of a kind that can ask for it
+abbrev pub RequestsAs : (DeviceKind → Bool) → ℕ → State → ℕ → Access → Outcome → State → Type 0
+RequestsAs can frame state id access told next = Acts can (λ device. MayAnswer state device access frame told × (next ≡ state_after state device access frame told)) state id told next
+
 -- what a request leads to: the machine may answer so, and shows the parts then
-abbrev Steps : State → ℕ → Access → Outcome → Parts → Type 0
-Steps state id access told new = (frame : ℕ) × (next : State) × Requests frame state id access told next × PartsShow new next
+abbrev Steps : (DeviceKind → Bool) → State → ℕ → Access → Outcome → Parts → Type 0
+Steps can state id access told new = (frame : ℕ) × (next : State) × RequestsAs can frame state id access told next × PartsShow new next
 
 -- nothing changes that the machine shows, though other contexts are cached, and reserved frames have other bytes
 pub shows_where : (old new : Parts) (state : State) → ShowsFrames new.memory old.driver.marks state.frames → new.driver ≡ old.driver → new.devices ≡ old.devices
@@ -231,26 +234,26 @@ module _ (old new : Parts) (events id : ℕ) (sound : AreSound old events) (stat
         },
       )
 
-module _ (laws : ServiceLaws) (old new : Parts) (events id : ℕ) (access : Access) (sound : AreSound old events) (own : IsSoundDriver old.driver) (fits : access.address < 2 ^ 64)
+module _ (can : DeviceKind → Bool) (laws : ServiceLaws) (old new : Parts) (events id : ℕ) (access : Access) (sound : AreSound old events) (own : IsSoundDriver old.driver) (fits : access.address < 2 ^ 64)
     (reported : StaysReported old.driver) (driver : new.driver ≡ old.driver) (devices : new.devices ≡ old.devices) (state : State) (shows : PartsShow old state)
-    (is : IsFound old.driver.devices (flights_of old.iommu).rows old.devices id) (able : sends_untranslated is.device.kind ≡ true) (fabric : new.fabric ≡ old.fabric) where
+    (is : IsFound old.driver.devices (flights_of old.iommu).rows old.devices id) (able : can is.device.kind ≡ true) (fabric : new.fabric ≡ old.fabric) where
   abbrev MayTell : ℕ → State → Outcome → machine.Device → Type 0
   MayTell frame next told device = MayAnswer state device access frame told × (next ≡ state_after state device access frame told)
 
   step_same : (told : Outcome) → MayAnswer state (shown_device old.driver.devices (flights_of old.iommu).rows is.device) access 0 told
       → state ≡ state_after state (shown_device old.driver.devices (flights_of old.iommu).rows is.device) access 0 told
-      → ShowsFrames new.memory old.driver.marks state.frames → flights_of new.iommu ≡ flights_of old.iommu → Steps state id access told new
+      → ShowsFrames new.memory old.driver.marks state.frames → flights_of new.iommu ≡ flights_of old.iommu → Steps can state id access told new
   step_same told may stays frames flights = (
     0,
     state,
-    acts_at sends_untranslated (MayTell 0 state told) old state id told state shows.devices is able (may, stays),
+    acts_at can (MayTell 0 state told) old state id told state shows.devices is able (may, stays),
     shows_where old new state frames driver devices flights shows,
   )
 
   same_frames : new.memory ≡ old.memory → ShowsFrames new.memory old.driver.marks state.frames
   same_frames memory = rw memory shows.frames
 
-  step_fault : (cause : Cause) → RefusesRequest old.memory old.iommu id access cause new.memory new.iommu → Steps state id access (outcome.Fault cause) new
+  step_fault : (cause : Cause) → RefusesRequest old.memory old.iommu id access cause new.memory new.iommu → Steps can state id access (outcome.Fault cause) new
   step_fault cause call =
       let faults = (served laws old events sound own id access.address access.kind ioatc.SURE (translations_of old.iommu) (translations_of new.iommu) (Err call.fault) fits call.served).0 in
       let leaves = report_leaves old new events id access sound reported driver devices fabric cause call in
@@ -262,7 +265,7 @@ module _ (laws : ServiceLaws) (old new : Parts) (events id : ℕ) (access : Acce
       )
       refl (shows_reported old new state leaves sound.ready.stand.size own shows) call.flights
 
-  step_accept : new.memory ≡ old.memory → (number : ℕ) → AcceptsRequest old.memory old.iommu id access number new.iommu → Steps state id access (outcome.Accepted number) new
+  step_accept : new.memory ≡ old.memory → (number : ℕ) → AcceptsRequest old.memory old.iommu id access number new.iommu → Steps can state id access (outcome.Accepted number) new
   step_accept memory number call =
       let it = call.accepted in
       let answers = served laws old events sound own id access.address access.kind ioatc.SURE (translations_of old.iommu) (translations_of new.iommu) (Ok (record { frame = call.frame; rights = call.rights })) fits call.served in
@@ -270,7 +273,7 @@ module _ (laws : ServiceLaws) (old new : Parts) (events id : ℕ) (access : Acce
       let after = accepted_shown old new events id sound state shows is access call.frame number memory driver devices it in (
         call.frame,
         next,
-        acts_at sends_untranslated (MayTell call.frame next (outcome.Accepted number)) old state id (outcome.Accepted number) next shows.devices is able (
+        acts_at can (MayTell call.frame next (outcome.Accepted number)) old state id (outcome.Accepted number) next shows.devices is able (
           (
             (call.within, not_busy old new events id sound state shows is it.row it.stands it.room),
             subst (λ n. MayAccept (shown_attachment (attachment_of old.driver.devices n)) state n access call.frame) (sym is.own)
@@ -282,35 +285,35 @@ module _ (laws : ServiceLaws) (old new : Parts) (events id : ℕ) (access : Acce
         after.1,
       )
 
-  step_replied : (reply : Reply) → AnswersRequest old.memory old.iommu id access reply new.memory new.iommu → Steps state id access (reply_told_of reply) new
+  step_replied : (reply : Reply) → AnswersRequest old.memory old.iommu id access reply new.memory new.iommu → Steps can state id access (reply_told_of reply) new
   step_replied (Accepted number) call = step_accept call.1 number call.0
   step_replied Busy call = step_same outcome.Busy (call.0, is_busy old new events id sound state shows is call.1) refl (same_frames call.3) (ap flights_of call.2)
   step_replied BadSpan call = step_same outcome.BadSpan call.0 refl (same_frames call.2) (ap flights_of call.1)
   step_replied (Fault cause) call = step_fault cause call
 
-pub request_step : ServiceLaws → (old new : Parts) (events id : ℕ) (access : Access) (told : Outcome) → AreSound old events → IsSoundDriver old.driver → StaysReported old.driver
-    → access.address < 2 ^ 64 → AsksAccess old id access told new
-    → (state : State) → PartsShow old state → (frame : ℕ) × (next : State) × Requests frame state id access told next × PartsShow new next
-request_step laws old new events id access told sound own reported fits asks state shows = elim asks [
+pub request_step : (can : DeviceKind → Bool) → ServiceLaws → (old new : Parts) (events id : ℕ) (access : Access) (told : Outcome) → AreSound old events → IsSoundDriver old.driver → StaysReported old.driver
+    → access.address < 2 ^ 64 → AsksAccess can old id access told new
+    → (state : State) → PartsShow old state → (frame : ℕ) × (next : State) × RequestsAs can frame state id access told next × PartsShow new next
+request_step can laws old new events id access told sound own reported fits asks state shows = elim asks [
   | inl unknown ↦ (
     0,
     state,
-    acts_absent sends_untranslated (λ device. MayAnswer state device access 0 told × (state ≡ state_after state device access 0 told)) old state id told shows.devices unknown.absent unknown.told_so,
+    acts_absent can (λ device. MayAnswer state device access 0 told × (state ≡ state_after state device access 0 told)) old state id told shows.devices unknown.absent unknown.told_so,
     shows_same old new state unknown.same shows,
   )
   | inr (inl unable) ↦
       let is = present_found old.driver.devices (flights_of old.iommu).rows old.devices id (kind_present old.devices id unable.kind unable.there) in (
         0,
         state,
-        acts_unable sends_untranslated (λ device. MayAnswer state device access 0 told × (state ≡ state_after state device access 0 told)) old state id told shows.devices is
-            (ap sends_untranslated (kind_found old.driver.devices (flights_of old.iommu).rows old.devices id unable.kind is unable.there) ∙ unable.cannot) unable.told_so,
+        acts_unable can (λ device. MayAnswer state device access 0 told × (state ≡ state_after state device access 0 told)) old state id told shows.devices is
+            (ap can (kind_found old.driver.devices (flights_of old.iommu).rows old.devices id unable.kind is unable.there) ∙ unable.cannot) unable.told_so,
         shows_same old new state unable.same shows,
       )
   | inr (inr answered) ↦
       let kind = answered.0.0 in
       let is = present_found old.driver.devices (flights_of old.iommu).rows old.devices id (kind_present old.devices id kind answered.0.1) in
       let reply = answered.1 in
-      let step = step_replied laws old new events id access sound own fits reported reply.driver reply.devices state shows is
-      (ap sends_untranslated (kind_found old.driver.devices (flights_of old.iommu).rows old.devices id kind is answered.0.1) ∙ answered.0.2) reply.fabric reply.reply reply.call in
-      (step.0, step.1, subst (λ t. Requests step.0 state id access t step.1) (sym reply.told_so) step.2, step.3)
+      let step = step_replied can laws old new events id access sound own fits reported reply.driver reply.devices state shows is
+      (ap can (kind_found old.driver.devices (flights_of old.iommu).rows old.devices id kind is answered.0.1) ∙ answered.0.2) reply.fabric reply.reply reply.call in
+      (step.0, step.1, subst (λ t. RequestsAs can step.0 state id access t step.1) (sym reply.told_so) step.2, step.3)
 ]

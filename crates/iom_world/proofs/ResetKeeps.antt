@@ -133,7 +133,7 @@ found_there devices id kind at = by (device_with devices id) at
     by None at = cc
     by (Some device) at = refl
 
-reset_sound : (old : Parts) (events id : ℕ) → AreSound old events → epoch_in old.devices id < events → is_some (device_with old.devices id) ≡ true
+pub reset_sound : (old : Parts) (events id : ℕ) → AreSound old events → epoch_in old.devices id < events → is_some (device_with old.devices id) ≡ true
     → AreSound (record old { devices = with_reset old.devices id }) events
 reset_sound old events id sound below found =
     let new : Parts = record old { devices = with_reset old.devices id } in
@@ -153,7 +153,7 @@ keeps_reset old new events id told sound below resets = elim resets [
 ]
 
 -- what the machine knows of the devices is the same
-shows_reset : (old new : Parts) (id : ℕ) (state : State) → new ≡ record old { devices = with_reset old.devices id } → PartsShow old state → PartsShow new state
+pub shows_reset : (old new : Parts) (id : ℕ) (state : State) → new ≡ record old { devices = with_reset old.devices id } → PartsShow old state → PartsShow new state
 shows_reset old new id state is shows = subst (λ parts. PartsShow parts state) (sym is) (record {
   ledger = shows.ledger;
   frames = shows.frames;

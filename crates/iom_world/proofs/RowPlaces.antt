@@ -58,6 +58,7 @@ same_shown known rows rows' device same = ap (λ (row : Option FlightRow). of_ro
     of_row row = record {
       id = device.id;
       kind = device.kind;
+      has_disk = device.has_disk;
       attachment = shown_attachment (attachment_of known device.id);
       accepted = option_map_or (λ (r : FlightRow). r.accepted) row 0;
       in_flight = option_map_or (λ (r : FlightRow). map (λ (flight : NumberedAccess). flight.accepted) r.waiting) row [];

@@ -105,8 +105,8 @@ four_marked n le =
     ∙ set_last_four bare None (Some System) n (omega arith)
 
 -- what the ledger machine sees of the frames at power-on
-pub shows_frames : (n levels : ℕ) → IsMemorySize n → ShowsFrames (replicate n zeroed) (opening_marks n) (opening n levels).frames
-shows_frames n levels size =
+pub shows_frames : (n levels : ℕ) (disks : List ℕ) → IsMemorySize n → ShowsFrames (replicate n zeroed) (opening_marks n) (opening n levels disks).frames
+shows_frames n levels disks size =
     let le : 64 ≤ n = size.0 in
     let long : length (replicate n zeroed) ≡ n = length-replicate n zeroed in
     let memory : List (List ℕ) = replicate n zeroed in
@@ -122,7 +122,7 @@ shows_frames n levels size =
     let two = shows_reserved memory memory one_mark _ (n - 3) System one (rw long (omega arith)) marked_1 (λ k ne. refl) refl in
     let three = shows_reserved memory memory two_marks _ (n - 2) System two (rw long (omega arith)) marked_2 (λ k ne. refl) refl in
     let four = shows_reserved memory memory three_marks _ (n - 1) System three (rw long (omega arith)) marked_3 (λ k ne. refl) refl in
-    subst (λ (marks : List (Option Owner)). ShowsFrames memory marks (opening n levels).frames) (four_marked n (omega arith)) four
+    subst (λ (marks : List (Option Owner)). ShowsFrames memory marks (opening n levels disks).frames) (four_marked n (omega arith)) four
 
 -- a frame of zeros, where a word of zero is stored at its beginning, and one that is put where it stands
 zero_stays : with_bytes zeroed 0 (little_bytes 4 0) ≡ zeroed
@@ -339,10 +339,10 @@ module _ (n levels : ℕ) (first next : DriverState) (before memory : List (List
         ∙ ap (λ (d : DriverState). turned_on mmio n (mmio.after power Ddtp (ddtp_of n d.levels))) started.opening_driver.rest,
   )
 
-  pub shows_started : PartsShow parts (opening n levels)
-  shows_started = record {
+  pub shows_started : (disks : List ℕ) → PartsShow parts (opening n levels disks)
+  shows_started disks = record {
     ledger = agrees;
-    frames = rw (memory_is, ap (λ (d : DriverState). d.marks) driver_is) (shows_frames n levels started.size);
+    frames = rw (memory_is, ap (λ (d : DriverState). d.marks) driver_is) (shows_frames n levels disks started.size);
     devices = rw started.unplugged refl;
     given = rw given_none refl;
     confirmed = rw confirmed_none refl;

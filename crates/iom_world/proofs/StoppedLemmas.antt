@@ -45,7 +45,8 @@ use Rattle.iom_machine.specs.declared.outcome.Fetched.TheVariants as tells
 use Rattle.iom_machine.specs.declared.outcome.Outcome.{Outcome}
 use Rattle.iom_machine.specs.declared.outcome.Outcome.TheVariants as outcome
 use Rattle.iom_machine.specs.declared.state.DeviceKind.{DeviceKind}
-use Rattle.iom_machine.specs.Kinds.{asks_questions, forges}
+use Rattle.iom_machine.specs.declared.state.NewDevice.{NewDevice}
+use Rattle.iom_machine.specs.Kinds.{asks_questions, forges, is_block_device, sends_untranslated, sends_through_cache}
 use Rattle.iom_machine.specs.ThroughCache.{at_frame}
 use Rattle.iom_page_table.specs.Sv39.{unmapped}
 use Rattle.iom_phys_mem.specs.Words.{word_at}
@@ -54,7 +55,11 @@ use Rattle.iom_tlb.specs.Content.{Content as Translations}
 use Rattle.iom_tlb.specs.declared.trans_cache.Translation.{Translation}
 use Rattle.iom_stage_walk.specs.declared.walked.WalkFault.{WalkFault}
 use Rattle.iom_world.specs.Answers.{told_of}
-use Rattle.iom_world.specs.Caches.{IsAble, epoch_in}
+use Rattle.iom_virtqueue.specs.declared.layout.Layout.{Layout}
+use Rattle.iom_virtqueue.specs.Layouts.{layout_of}
+use Rattle.iom_copies.specs.Attachments.{caches_translations}
+use Rattle.iom_world.specs.BlockDevices.{InsertsMedium, SetsQueue, AsksIfMissed, GoesToMemory, TakesStep, TellsStatus}
+use Rattle.iom_world.specs.Caches.{IsAble, epoch_in, kind_in}
 use Rattle.iom_world.specs.Commits.{CommitsAccess}
 use Rattle.iom_world.specs.Deliveries.{AnswersAsked, Arrives, ArrivesIfAny, DeliversMessage}
 use Rattle.iom_world.specs.Does.{Does, PlugsDevice, AddsRow, AttachesDevice, ReleasesPage, DetachesDevice, FetchesNext, TakesReport, fetch_named}
@@ -133,8 +138,9 @@ module _ (old : Parts) (before : ℕ) (sound : AreSound old before) (own : IsSou
   not_the_ring = let many = own.sizes.size.0 in let size = sound.ready.stand.size in omega (arith, size, many)
 
   -- A CALL OF THE DRIVER
-  plugged : (new : Parts) (id : ℕ) (kind : DeviceKind) (told : Outcome) → PlugsDevice old id kind told new → LeavesFence old new.memory new.iommu
-  plugged new id kind told does = by does.answer does.row
+  plugged : (disks : List ℕ) (new : Parts) (id : ℕ) (what : NewDevice) (told : Outcome) → PlugsDevice disks old id what told new → LeavesFence old new.memory new.iommu
+  plugged disks new id what told (inl lacks) = same_parts new lacks.same
+  plugged disks new id what told (inr does) = by does.answer does.row
     where
       by : (answer : Result (Unit {0}) Refusal) → AddsRow answer old.iommu id new.iommu → LeavesFence old new.memory new.iommu
       by (Ok done) row = registers_stay new.memory new.iommu does.memory (ap command_status row.registers) row.frames
@@ -241,8 +247,8 @@ module _ (old : Parts) (before : ℕ) (sound : AreSound old before) (own : IsSou
     answered Served transaction new id access driver devices fabric (reply.Fault cause) answers =
         reported_stays new (report_leaves old new before id access sound reported driver devices fabric cause answers)
 
-    asked : (new : Parts) (id : ℕ) (access : Access) (told : Outcome) → AsksAccess old id access told new → LeavesFence old new.memory new.iommu
-    asked new id access told asks = elim asks [
+    asked : (can : DeviceKind → Bool) (new : Parts) (id : ℕ) (access : Access) (told : Outcome) → AsksAccess can old id access told new → LeavesFence old new.memory new.iommu
+    asked can new id access told asks = elim asks [
       | inl unknown ↦ same_parts new unknown.same
       | inr (inl unable) ↦ same_parts new unable.same
       | inr (inr (able, replied)) ↦
@@ -268,10 +274,27 @@ module _ (old : Parts) (before : ℕ) (sound : AreSound old before) (own : IsSou
     tried new id access told (inr (inl full)) = same_parts new full.3
     tried new id access told (inr (inr finds)) = found (cached_frame old id access) new id access told finds.2
 
-    through_cache : (new : Parts) (id : ℕ) (access : Access) (told : Outcome) → AsksThroughCache old id access told new → LeavesFence old new.memory new.iommu
-    through_cache new id access told (inl unknown) = same_parts new unknown.same
-    through_cache new id access told (inr (inl unable)) = same_parts new unable.same
-    through_cache new id access told (inr (inr tries)) = tried new id access told tries.1
+    through_cache : (can : DeviceKind → Bool) (new : Parts) (id : ℕ) (access : Access) (told : Outcome) → AsksThroughCache can old id access told new → LeavesFence old new.memory new.iommu
+    through_cache can new id access told (inl unknown) = same_parts new unknown.same
+    through_cache can new id access told (inr (inl unable)) = same_parts new unable.same
+    through_cache can new id access told (inr (inr tries)) = tried new id access told tries.1
+
+    -- A BLOCK DEVICE'S STEP
+    missed : (first : Outcome) (between new : Parts) (id : ℕ) (access : Access) (told : Outcome) → AsksIfMissed first between id access told new
+        → LeavesFence old between.memory between.iommu → LeavesFence old new.memory new.iommu
+    missed outcome.Miss between new id access told asks leaves = subst (λ (p : Parts). LeavesFence old p.memory p.iommu) (sym asks.1) leaves
+    missed _ between new id access told asks leaves = subst (λ (p : Parts). LeavesFence old p.memory p.iommu) (sym asks.1) leaves
+
+    goes : (has_cache : Bool) (new : Parts) (id : ℕ) (access : Access) (told : Outcome) → GoesToMemory has_cache old id access told new → LeavesFence old new.memory new.iommu
+    goes false new id access told asks = asked is_block_device new id access told asks
+    goes true new id access told does =
+        missed does.first does.between new id access told does.asks (through_cache is_block_device does.between id access does.first does.tries)
+
+    stepped : (new : Parts) (id : ℕ) (told : Outcome) → TakesStep old id told new → LeavesFence old new.memory new.iommu
+    stepped new id told (inl (access, fits, may, begins)) = goes (caches_translations (kind_in old.devices id)) new id access told begins
+    stepped new id told (inr (step, rest, inl unknown)) = same_parts new unknown.same
+    stepped new id told (inr (step, rest, inr (inl unable))) = same_parts new unable.same
+    stepped new id told (inr (step, rest, inr (inr (able, is, same)))) = same_parts new same
 
     -- A MESSAGE IS DELIVERED
     told_device : (new : Parts) (device epoch page : ℕ) (others : List OnLink) (told : Outcome) → AnswersAsked old device epoch page others told new → LeavesFence old new.memory new.iommu
@@ -327,6 +350,24 @@ module _ (old : Parts) (before : ℕ) (sound : AreSound old before) (own : IsSou
     | inr resets ↦ subst (λ (p : Parts). LeavesFence old p.memory p.iommu) (sym resets.2) nothing
   ]
 
+  -- A DISK IS PUT IN, A QUEUE IS SET, A STATUS IS TOLD
+  inserted : (disks : List ℕ) (new : Parts) (id disk : ℕ) (told : Outcome) → InsertsMedium disks old id disk told new → LeavesFence old new.memory new.iommu
+  inserted disks new id disk told (inl unknown) = same_parts new unknown.same
+  inserted disks new id disk told (inr (inl unable)) = same_parts new unable.same
+  inserted disks new id disk told (inr (inr (device, is, inl puts))) = subst (λ (p : Parts). LeavesFence old p.memory p.iommu) (sym puts.2) nothing
+  inserted disks new id disk told (inr (inr (device, is, inr refuses))) = same_parts new refuses.2
+
+  queue_set : (new : Parts) (id : ℕ) (layout : Layout) (told : Outcome) → SetsQueue old id layout told new → LeavesFence old new.memory new.iommu
+  queue_set new id layout told (inl unknown) = same_parts new unknown.same
+  queue_set new id layout told (inr (inl unable)) = same_parts new unable.same
+  queue_set new id layout told (inr (inr (able, inl sets))) = subst (λ (p : Parts). LeavesFence old p.memory p.iommu) (sym sets.2) nothing
+  queue_set new id layout told (inr (inr (able, inr refuses))) = same_parts new refuses.2
+
+  status_told : (new : Parts) (id status : ℕ) (told : Outcome) → TellsStatus old id status told new → LeavesFence old new.memory new.iommu
+  status_told new id status told (inl unknown) = same_parts new unknown.same
+  status_told new id status told (inr (inl unable)) = same_parts new unable.same
+  status_told new id status told (inr (inr (able, is, same))) = same_parts new same
+
   -- A FETCH is answered Stopped: no command is taken
   takes_none : is_processing_commands (registers_of old.iommu) ≡ false
   takes_none = processes old before sound ∙ ap not stopped
@@ -359,34 +400,39 @@ module _ (old new : Parts) (before counted : ℕ) (sound : AreSound old before) 
       by (Err why) (refused, driver, memory, iommu) = stays (same_both old before sound own stopped new.memory new.iommu memory iommu)
 
   -- EACH EVENT
-  pub stays_stopped : (event : Event) (told : Outcome) → Does old event told new → StaysStopped event told old new
-  stays_stopped (events.Plug id kind) told does = stays (plugged old before sound own stopped new id kind told does)
-  stays_stopped (events.Attach id mode ats) told does = stays (attached old before sound own stopped new id mode ats told does)
-  stays_stopped (events.Detach id) told does = stays (detached old before sound own stopped new id told does)
-  stays_stopped (events.Grant id page frame rights) told does =
+  pub stays_stopped : (disks : List ℕ) (event : Event) (told : Outcome) → Does disks old event told new → StaysStopped event told old new
+  stays_stopped disks (events.Plug id what) told does = stays (plugged old before sound own stopped disks new id what told does)
+  stays_stopped disks (events.Attach id mode ats) told does = stays (attached old before sound own stopped new id mode ats told does)
+  stays_stopped disks (events.Detach id) told does = stays (detached old before sound own stopped new id told does)
+  stays_stopped disks (events.Grant id page frame rights) told does =
       stays (system_alone old before sound own stopped new.memory new.iommu does.iommu (grant_keeps old new before id page frame rights told sound does))
-  stays_stopped (events.Release id page) told does = stays (released old before sound own stopped new id page told does)
-  stays_stopped (events.Quarantine id) told does = stays (quarantined old before sound own stopped new id told does)
-  stays_stopped (events.Revive id) told does = stays (revived old before sound own stopped new id told does)
-  stays_stopped events.Restart told does = restarted told does
-  stays_stopped events.Fetch told does = let after = fetched old before sound own stopped new told does in (after.0, stays after.1)
-  stays_stopped events.Timeout told does = stays (given_up old before sound own stopped new told does)
-  stays_stopped events.Poll told does = stays (system_alone old before sound own stopped new.memory new.iommu does.iommu (poll_keeps old new told does))
-  stays_stopped events.Faults told does = stays (taken old before sound own stopped new told does)
-  stays_stopped (events.Read id address len) told does = stays (asked old before sound own stopped reported new id (read_of address len) told does)
-  stays_stopped (events.Write id address bytes) told does = stays (asked old before sound own stopped reported new id (write_of address bytes) told does)
-  stays_stopped (events.Commit id) told does = stays (committed old before sound own stopped new id told does)
-  stays_stopped (events.ReadTranslated id address len) told does = stays (translated old before sound own stopped reported new id (read_of address len) told does)
-  stays_stopped (events.WriteTranslated id address bytes) told does = stays (translated old before sound own stopped reported new id (write_of address bytes) told does)
-  stays_stopped (events.ReadThroughCache id address len) told does = stays (through_cache old before sound own stopped reported new id (read_of address len) told does)
-  stays_stopped (events.WriteThroughCache id address bytes) told does = stays (through_cache old before sound own stopped reported new id (write_of address bytes) told does)
-  stays_stopped (events.Ask id page) told does = stays (sends old before sound own stopped asks_questions new id (sent.Ask (epoch_in old.devices id) page) told does)
-  stays_stopped (events.Forge id serial) told does = stays (sends old before sound own stopped forges new id (sent.InvDone serial) told does)
-  stays_stopped (events.Deliver place) told does = stays (delivered old before sound own stopped reported new place told does)
-  stays_stopped (events.Drop place) told does = stays (subst (λ (p : Parts). LeavesFence old p.memory p.iommu) (sym does.dropped) (nothing old before sound own stopped))
-  stays_stopped (events.Repeat place) told does = stays (subst (λ (p : Parts). LeavesFence old p.memory p.iommu) (sym does.repeated) (nothing old before sound own stopped))
-  stays_stopped (events.Reset id) told does = stays (reset old before sound own stopped new id told does)
-  stays_stopped (events.Poke address bytes) told does =
+  stays_stopped disks (events.Release id page) told does = stays (released old before sound own stopped new id page told does)
+  stays_stopped disks (events.Quarantine id) told does = stays (quarantined old before sound own stopped new id told does)
+  stays_stopped disks (events.Revive id) told does = stays (revived old before sound own stopped new id told does)
+  stays_stopped disks events.Restart told does = restarted told does
+  stays_stopped disks events.Fetch told does = let after = fetched old before sound own stopped new told does in (after.0, stays after.1)
+  stays_stopped disks events.Timeout told does = stays (given_up old before sound own stopped new told does)
+  stays_stopped disks events.Poll told does = stays (system_alone old before sound own stopped new.memory new.iommu does.iommu (poll_keeps old new told does))
+  stays_stopped disks events.Faults told does = stays (taken old before sound own stopped new told does)
+  stays_stopped disks (events.Read id address len) told does = stays (asked old before sound own stopped reported sends_untranslated new id (read_of address len) told does)
+  stays_stopped disks (events.Write id address bytes) told does = stays (asked old before sound own stopped reported sends_untranslated new id (write_of address bytes) told does)
+  stays_stopped disks (events.Commit id) told does = stays (committed old before sound own stopped new id told does)
+  stays_stopped disks (events.ReadTranslated id address len) told does = stays (translated old before sound own stopped reported new id (read_of address len) told does)
+  stays_stopped disks (events.WriteTranslated id address bytes) told does = stays (translated old before sound own stopped reported new id (write_of address bytes) told does)
+  stays_stopped disks (events.ReadThroughCache id address len) told does = stays (through_cache old before sound own stopped reported sends_through_cache new id (read_of address len) told does)
+  stays_stopped disks (events.WriteThroughCache id address bytes) told does = stays (through_cache old before sound own stopped reported sends_through_cache new id (write_of address bytes) told does)
+  stays_stopped disks (events.Ask id page) told does = stays (sends old before sound own stopped asks_questions new id (sent.Ask (epoch_in old.devices id) page) told does)
+  stays_stopped disks (events.Forge id serial) told does = stays (sends old before sound own stopped forges new id (sent.InvDone serial) told does)
+  stays_stopped disks (events.Deliver place) told does = stays (delivered old before sound own stopped reported new place told does)
+  stays_stopped disks (events.Drop place) told does = stays (subst (λ (p : Parts). LeavesFence old p.memory p.iommu) (sym does.dropped) (nothing old before sound own stopped))
+  stays_stopped disks (events.Repeat place) told does = stays (subst (λ (p : Parts). LeavesFence old p.memory p.iommu) (sym does.repeated) (nothing old before sound own stopped))
+  stays_stopped disks (events.Reset id) told does = stays (reset old before sound own stopped new id told does)
+  stays_stopped disks (events.Poke address bytes) told does =
       stays (system_alone old before sound own stopped new.memory new.iommu does.iommu (poke_keeps old before address bytes told new.memory sound does.memory))
-  stays_stopped (events.Peek address len) told does = stays (same_parts old before sound own stopped new does.1)
-  stays_stopped (events.Free frame) told does = stays (same_parts old before sound own stopped new does.1)
+  stays_stopped disks (events.Peek address len) told does = stays (same_parts old before sound own stopped new does.1)
+  stays_stopped disks (events.Free frame) told does = stays (same_parts old before sound own stopped new does.1)
+  stays_stopped disks (events.Medium id disk) told does = stays (inserted old before sound own stopped disks new id disk told does)
+  stays_stopped disks (events.Queue id size descriptors available used) told does =
+      stays (queue_set old before sound own stopped new id (layout_of size descriptors available used) told does)
+  stays_stopped disks (events.Step id) told does = stays (stepped old before sound own stopped reported new id told does)
+  stays_stopped disks (events.Status id) told does = stays (status_told old before sound own stopped new id does.0 told does.1)

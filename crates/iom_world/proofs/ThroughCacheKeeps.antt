@@ -1,5 +1,5 @@
 -- What stays true of a world when a device has an access through its own cache: what goes through is an entry there, and so no copy outlives what it copies.
-use Rattle.std.proofs.Common.{◌≡◌, ◌<◌, ◌∙◌, inl, inr, ℕ, Option, None, Some, Result, Ok, Contains, is_some, refl, sym, ap, subst}
+use Rattle.std.proofs.Common.{◌≡◌, ◌<◌, ◌∙◌, inl, inr, ℕ, Bool, Option, None, Some, Result, Ok, Contains, is_some, refl, sym, ap, subst}
 use Rattle.iom_base.specs.declared.access.Access.{Access}
 use Rattle.iom_base.specs.Accesses.{page_of}
 use Rattle.std.proofs.lemmas.Bool.{false≢true}
@@ -11,6 +11,7 @@ use Rattle.iom_iommu.specs.declared.reply.Reply.TheVariants.{Accepted, Busy, Bad
 use Rattle.iom_iommu.specs.Parts.{contexts_of, translations_of, flights_of}
 use Rattle.iom_iommu.specs.Translated.{AnswersTranslated, AcceptsTranslated}
 use Rattle.iom_machine.specs.declared.outcome.Outcome.{Outcome}
+use Rattle.iom_machine.specs.declared.state.DeviceKind.{DeviceKind}
 use Rattle.iom_machine.specs.Refusals.{is_quarantined}
 use Rattle.iom_machine.specs.ThroughCache.{at_frame}
 use Rattle.iom_stage_walk.specs.declared.walked.WalkFault.{WalkFault}
@@ -92,9 +93,9 @@ module _ (laws : ServiceLaws) (old new : Parts) (events id : ℕ) (access : Acce
   tries (inr (inl full)) = stays_as full.3
   tries (inr (inr finds)) = by_frame (cached_frame old id access) refl finds.2
 
-pub keeps_through_cache : ServiceLaws → (old new : Parts) (events id : ℕ) (access : Access) (told : Outcome) → AreSound old events → IsSoundDriver old.driver → StaysReady old.driver
-    → StaysReported old.driver → (flights_of old.iommu).so_far < events → AsksThroughCache old id access told new → AreSound new events
-keeps_through_cache laws old new events id access told sound own stays reported below asks = elim asks [
+pub keeps_through_cache : (can : DeviceKind → Bool) → ServiceLaws → (old new : Parts) (events id : ℕ) (access : Access) (told : Outcome) → AreSound old events → IsSoundDriver old.driver → StaysReady old.driver
+    → StaysReported old.driver → (flights_of old.iommu).so_far < events → AsksThroughCache can old id access told new → AreSound new events
+keeps_through_cache can laws old new events id access told sound own stays reported below asks = elim asks [
   | inl unknown ↦ subst (λ parts. AreSound parts events) (sym unknown.same) sound
   | inr (inl unable) ↦ subst (λ parts. AreSound parts events) (sym unable.same) sound
   | inr (inr tried) ↦ tries laws old new events id access told sound own stays reported below tried.1

@@ -1,5 +1,5 @@
 -- An access of a device through its own cache is a lawful step of the ledger machine.
-use Rattle.std.proofs.Common.{◌≡◌, ◌∙◌, inl, inr, ℕ, true, Option, None, Some, Result, Ok, Err, refl, sym, ap, subst, arith}
+use Rattle.std.proofs.Common.{◌≡◌, ◌∙◌, inl, inr, ℕ, Bool, true, Option, None, Some, Result, Ok, Err, refl, sym, ap, subst, arith}
 use Rattle.iom_base.specs.declared.access.Access.{Access}
 use Rattle.iom_base.specs.Accesses.{IsWithinPage, page_of}
 use Rattle.iom_base.specs.declared.cause.Cause.{Cause}
@@ -16,8 +16,8 @@ use Rattle.iom_machine.specs.declared.outcome.Outcome.{Outcome}
 use Rattle.iom_machine.specs.declared.outcome.Outcome.TheVariants as outcome
 use Rattle.iom_machine.specs.declared.state.Device as machine
 use Rattle.iom_machine.specs.declared.state.State.{State}
-use Rattle.iom_machine.specs.Kinds.{sends_through_cache}
-use Rattle.iom_machine.specs.Machine.{RequestsThroughCache}
+use Rattle.iom_machine.specs.declared.state.DeviceKind.{DeviceKind}
+use Rattle.iom_machine.specs.Machine.{Acts}
 use Rattle.iom_machine.specs.Requests.{with_accepted, cause_without_context}
 use Rattle.iom_machine.specs.Translated.{MayLackContext}
 use Rattle.iom_machine.specs.ThroughCache.{at_frame, MayGoThrough, MayAnswerThroughCache, state_after_cached}
@@ -42,18 +42,23 @@ use Rattle.iom_world.proofs.TranslatedKeeps.{never_accepted}
 use Rattle.iom_world.proofs.TranslatedStep.{told_cause}
 use Rattle.iom_world.proofs.ThroughCacheKeeps.{accepted_frame}
 
--- what it leads to: the machine may answer so, on some frame, and shows the parts then
-abbrev Steps : State → ℕ → Access → Outcome → Parts → Type 0
-Steps state id access told new = (frame : ℕ) × (next : State) × RequestsThroughCache frame state id access told next × PartsShow new next
+-- the machine may answer the access of a device through its own cache so, on the frame, if it is of a kind that can have one
+abbrev pub GoesAs : (DeviceKind → Bool) → ℕ → State → ℕ → Access → Outcome → State → Type 0
+GoesAs can frame state id access told next =
+    Acts can (λ device. MayAnswerThroughCache state device access frame told × (next ≡ state_after_cached state device access frame told)) state id told next
 
-module _ (laws : ServiceLaws) (old new : Parts) (events id : ℕ) (access : Access) (sound : AreSound old events) (own : IsSoundDriver old.driver) (reported : StaysReported old.driver) (state : State) (shows : PartsShow old state)
-    (is : IsFound old.driver.devices (flights_of old.iommu).rows old.devices id) (able : sends_through_cache is.device.kind ≡ true) where
+-- what it leads to: the machine may answer so, on some frame, and shows the parts then
+abbrev Steps : (DeviceKind → Bool) → State → ℕ → Access → Outcome → Parts → Type 0
+Steps can state id access told new = (frame : ℕ) × (next : State) × GoesAs can frame state id access told next × PartsShow new next
+
+module _ (can : DeviceKind → Bool) (laws : ServiceLaws) (old new : Parts) (events id : ℕ) (access : Access) (sound : AreSound old events) (own : IsSoundDriver old.driver) (reported : StaysReported old.driver) (state : State) (shows : PartsShow old state)
+    (is : IsFound old.driver.devices (flights_of old.iommu).rows old.devices id) (able : can is.device.kind ≡ true) where
   abbrev MayTell : ℕ → State → Outcome → machine.Device → Type 0
   MayTell frame next told device = MayAnswerThroughCache state device access frame told × (next ≡ state_after_cached state device access frame told)
 
   step_same : (told : Outcome) → MayAnswerThroughCache state (shown_device old.driver.devices (flights_of old.iommu).rows is.device) access 0 told
-      → state ≡ state_after_cached state (shown_device old.driver.devices (flights_of old.iommu).rows is.device) access 0 told → PartsShow new state → Steps state id access told new
-  step_same told may stays shown = (0, state, acts_at sends_through_cache (MayTell 0 state told) old state id told state shows.devices is able (may, stays), shown)
+      → state ≡ state_after_cached state (shown_device old.driver.devices (flights_of old.iommu).rows is.device) access 0 told → PartsShow new state → Steps can state id access told new
+  step_same told may stays shown = (0, state, acts_at can (MayTell 0 state told) old state id told state shows.devices is able (may, stays), shown)
 
   -- of an entry that was found
   module _ (within : IsWithinPage access) (room : HasRoom (flights_of old.iommu) id) (frame : ℕ) (entry : HasEntry old.devices id (page_of access) access.kind frame)
@@ -61,7 +66,7 @@ module _ (laws : ServiceLaws) (old new : Parts) (events id : ℕ) (access : Acce
     unchanged : new.memory ≡ old.memory → new.iommu ≡ old.iommu → PartsShow new state
     unchanged memory iommu = shows_where old new state (rw memory shows.frames) driver devices (ap flights_of iommu) shows
 
-    step_accept : IsUsable old id → new.memory ≡ old.memory → (number : ℕ) → AcceptsTranslated old.memory old.iommu id (at_frame frame access) number new.iommu → Steps state id access (outcome.Accepted number) new
+    step_accept : IsUsable old id → new.memory ≡ old.memory → (number : ℕ) → AcceptsTranslated old.memory old.iommu id (at_frame frame access) number new.iommu → Steps can state id access (outcome.Accepted number) new
     step_accept usable memory number call =
         let same = accepted_frame laws old new events id access frame number sound own entry usable call in
         let it = subst (λ n. IsAccepted (flights_of old.iommu) id (record { access = at_frame frame access; frame = n }) number (flights_of new.iommu)) same call.accepted in
@@ -69,7 +74,7 @@ module _ (laws : ServiceLaws) (old new : Parts) (events id : ℕ) (access : Acce
         let after = accepted_shown old new events id sound state shows is (at_frame frame access) frame number memory driver devices it in (
           frame,
           next,
-          acts_at sends_through_cache (MayTell frame next (outcome.Accepted number)) old state id (outcome.Accepted number) next shows.devices is able (
+          acts_at can (MayTell frame next (outcome.Accepted number)) old state id (outcome.Accepted number) next shows.devices is able (
             (
               (within, not_busy old new events id sound state shows is room.row room.stands room.room),
               subst (λ n. MayGoThrough (shown_attachment (attachment_of old.driver.devices n)) state n access frame) (sym is.own)
@@ -88,7 +93,7 @@ module _ (laws : ServiceLaws) (old new : Parts) (events id : ℕ) (access : Acce
     -- of a device that is cut off no context is found
     step_fault : (ticket : ℕ) (stage : Stages) → attachment_of old.driver.devices id ≡ attached.Quarantined ticket stage
         → ats_context_for old.memory (registers_of old.iommu) (contexts_of old.iommu) id ≡ Err (cause_at old.driver.levels id)
-        → (cause : Cause) → RefusesTranslated old.memory old.iommu id (at_frame frame access) cause new.memory new.iommu → Steps state id access (outcome.Fault cause) new
+        → (cause : Cause) → RefusesTranslated old.memory old.iommu id (at_frame frame access) cause new.memory new.iommu → Steps can state id access (outcome.Fault cause) new
     step_fault ticket stage at found cause call =
         let leaves = report_leaves old new events id (at_frame frame access) sound reported driver devices fabric cause call in
         let same = call.told ∙ told_cause old.memory (at_frame frame access) (ats_context_for old.memory (registers_of old.iommu) (contexts_of old.iommu) id) (cause_at old.driver.levels id)
@@ -102,7 +107,7 @@ module _ (laws : ServiceLaws) (old new : Parts) (events id : ℕ) (access : Acce
         )
         refl (shows_where old new state (shows_reported old new state leaves sound.ready.stand.size own shows) driver devices call.flights shows)
 
-    step_replied : (reply : Reply) → AnswersTranslated old.memory old.iommu id (at_frame frame access) reply new.memory new.iommu → Steps state id access (reply_told_of reply) new
+    step_replied : (reply : Reply) → AnswersTranslated old.memory old.iommu id (at_frame frame access) reply new.memory new.iommu → Steps can state id access (reply_told_of reply) new
     step_replied (Accepted number) call = elim (usable_or old id) [
       | inl usable ↦ step_accept usable call.1 number call.0
       | inr (ticket, stage, at, none) ↦
@@ -116,42 +121,42 @@ module _ (laws : ServiceLaws) (old new : Parts) (events id : ℕ) (access : Acce
     ]
 
   by_frame : IsWithinPage access → HasRoom (flights_of old.iommu) id → (found : Option ℕ) → cached_frame old id access ≡ found → (told : Outcome) → FindsFrame found old id access told new
-      → Steps state id access told new
+      → Steps can state id access told new
   by_frame within room None at told misses =
-      subst (λ t. Steps state id access t new) (sym misses.0)
+      subst (λ t. Steps can state id access t new) (sym misses.0)
       (step_same outcome.Miss (within, not_busy old new events id sound state shows is room.row room.stands room.room) refl (shows_same old new state misses.1 shows))
   by_frame within room (Some frame) at told answered =
-      subst (λ t. Steps state id access t new) (sym answered.told_so)
+      subst (λ t. Steps can state id access t new) (sym answered.told_so)
       (step_replied within room frame (found_entry old.devices id (page_of access) access.kind frame at) answered.driver answered.devices answered.fabric answered.reply answered.call)
 
-  tries : (told : Outcome) → TriesCache old id access told new → Steps state id access told new
-  tries told (inl outside) = subst (λ t. Steps state id access t new) (sym outside.1) (step_same outcome.BadSpan outside.0 refl (shows_same old new state outside.2 shows))
+  tries : (told : Outcome) → TriesCache old id access told new → Steps can state id access told new
+  tries told (inl outside) = subst (λ t. Steps can state id access t new) (sym outside.1) (step_same outcome.BadSpan outside.0 refl (shows_same old new state outside.2 shows))
   tries told (inr (inl full)) =
-      subst (λ t. Steps state id access t new) (sym full.2)
+      subst (λ t. Steps can state id access t new) (sym full.2)
       (step_same outcome.Busy (full.0, is_busy old new events id sound state shows is full.1) refl (shows_same old new state full.3 shows))
   tries told (inr (inr finds)) = by_frame finds.0 finds.1 (cached_frame old id access) refl told finds.2
 
-pub through_cache_step : ServiceLaws → (old new : Parts) (events id : ℕ) (access : Access) (told : Outcome) → AreSound old events → IsSoundDriver old.driver → StaysReported old.driver
-    → AsksThroughCache old id access told new → (state : State) → PartsShow old state
-    → (frame : ℕ) × (next : State) × RequestsThroughCache frame state id access told next × PartsShow new next
-through_cache_step laws old new events id access told sound own reported asks state shows = elim asks [
+pub through_cache_step : (can : DeviceKind → Bool) → ServiceLaws → (old new : Parts) (events id : ℕ) (access : Access) (told : Outcome) → AreSound old events → IsSoundDriver old.driver → StaysReported old.driver
+    → AsksThroughCache can old id access told new → (state : State) → PartsShow old state
+    → (frame : ℕ) × (next : State) × GoesAs can frame state id access told next × PartsShow new next
+through_cache_step can laws old new events id access told sound own reported asks state shows = elim asks [
   | inl unknown ↦ (
     0,
     state,
-    acts_absent sends_through_cache (λ device. MayAnswerThroughCache state device access 0 told × (state ≡ state_after_cached state device access 0 told)) old state id told shows.devices unknown.absent unknown.told_so,
+    acts_absent can (λ device. MayAnswerThroughCache state device access 0 told × (state ≡ state_after_cached state device access 0 told)) old state id told shows.devices unknown.absent unknown.told_so,
     shows_same old new state unknown.same shows,
   )
   | inr (inl unable) ↦
       let is = present_found old.driver.devices (flights_of old.iommu).rows old.devices id (kind_present old.devices id unable.kind unable.there) in (
         0,
         state,
-        acts_unable sends_through_cache (λ device. MayAnswerThroughCache state device access 0 told × (state ≡ state_after_cached state device access 0 told)) old state id told shows.devices is
-            (ap sends_through_cache (kind_found old.driver.devices (flights_of old.iommu).rows old.devices id unable.kind is unable.there) ∙ unable.cannot) unable.told_so,
+        acts_unable can (λ device. MayAnswerThroughCache state device access 0 told × (state ≡ state_after_cached state device access 0 told)) old state id told shows.devices is
+            (ap can (kind_found old.driver.devices (flights_of old.iommu).rows old.devices id unable.kind is unable.there) ∙ unable.cannot) unable.told_so,
         shows_same old new state unable.same shows,
       )
   | inr (inr tried) ↦
       let kind = tried.0.0 in
       let is = present_found old.driver.devices (flights_of old.iommu).rows old.devices id (kind_present old.devices id kind tried.0.1) in
-      tries laws old new events id access sound own reported state shows is
-      (ap sends_through_cache (kind_found old.driver.devices (flights_of old.iommu).rows old.devices id kind is tried.0.1) ∙ tried.0.2) told tried.1
+      tries can laws old new events id access sound own reported state shows is
+      (ap can (kind_found old.driver.devices (flights_of old.iommu).rows old.devices id kind is tried.0.1) ∙ tried.0.2) told tried.1
 ]

@@ -6,7 +6,7 @@ use Rattle.iom_driver.specs.Laws.{ReadyStays, ReadyAfterRecord}
 use Rattle.iom_page_table.specs.Laws.{WalkReachesLeaf, WalkFaultsElse}
 use Rattle.iom_page_table.specs.GuestLaws.{GuestWalkReachesLeaf, GuestLeaves, GuestWalkFaultsElse, GuestTablesFault}
 use Rattle.iom_machine.specs.declared.event.Event.{Event}
-use Rattle.iom_machine.specs.declared.event.Event.TheVariants.{Read, Write, ReadTranslated, WriteTranslated, ReadThroughCache, WriteThroughCache, Ask, Forge, Deliver, Drop, Repeat, Quarantine, Revive, Restart, Timeout, Reset}
+use Rattle.iom_machine.specs.declared.event.Event.TheVariants.{Read, Write, ReadTranslated, WriteTranslated, ReadThroughCache, WriteThroughCache, Ask, Forge, Deliver, Drop, Repeat, Quarantine, Revive, Restart, Timeout, Reset, Medium, Queue}
 use Rattle.iom_stage_walk.specs.Laws.{OneEnd, OneEndSecond, WritesAsReadsSecond, WritesAsReadsBoth, GuestFramesAreLed}
 
 pub record LawsBelow : Type 0 where
@@ -52,3 +52,9 @@ IsOfRecovery Restart = Unit {0}
 IsOfRecovery Timeout = Unit {0}
 IsOfRecovery (Reset device) = Unit {0}
 IsOfRecovery _ = ⊥
+
+-- the event puts a disk into a block device, or sets its queue
+abbrev pub IsOfBlockDevice : Event → Type 0
+IsOfBlockDevice (Medium device disk) = Unit {0}
+IsOfBlockDevice (Queue device size descriptors available used) = Unit {0}
+IsOfBlockDevice _ = ⊥

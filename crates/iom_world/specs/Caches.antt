@@ -1,4 +1,4 @@
--- The devices by their ids: what each is, and its own cache of translations, if it has one.
+-- The devices by their ids: what each is, its own cache of translations, if it has one, and whether it has a disk.
 use Rattle.std.specs.Prelude.{◌≡◌, ℕ, ◌==◌, Bool, true, List, [], ◌∷◌, find, slice_get, slice_set, Option, None, Some, option_map, is_some, if◌then◌else◌}
 use Rattle.std.specs.List.{All}
 use Rattle.std.specs.Option.{option_map_or}
@@ -41,11 +41,17 @@ abbrev pub with_cache : List Device → ℕ → Option Cache → List Device
 with_cache [] id cache = []
 with_cache (device ∷ others) id cache = if device.id == id then (record device { cache = cache }) ∷ others else device ∷ with_cache others id cache
 
--- the device that stands there is the one with the id, and a cache that is set there is set for it
+-- the devices, where the one with this id has a disk, or has none
+abbrev pub with_has_disk : List Device → ℕ → Bool → List Device
+with_has_disk [] id has = []
+with_has_disk (device ∷ others) id has = if device.id == id then (record device { has_disk = has }) ∷ others else device ∷ with_has_disk others id has
+
+-- the device that stands there is the one with the id, and a cache that is set there is set for it, and so is whether it has a disk
 abbrev pub IsPlaceOf : List Device → ℕ → ℕ → Type 0
 IsPlaceOf devices id place =
     (device : Device) × (slice_get devices place ≡ Some device) × (device_with devices id ≡ Some device)
     × ((cache : Option Cache) → slice_set devices place (record device { cache = cache }) ≡ with_cache devices id cache)
+    × ((has : Bool) → slice_set devices place (record device { has_disk = has }) ≡ with_has_disk devices id has)
 
 -- a device has a cache exactly where its kind does
 abbrev pub HasItsCache : Device → Type 0

@@ -1,4 +1,4 @@
--- What the ledger machine sees of the devices: their kinds are the world's, how they are attached the driver knows, and what is in flight the IOMMU.
+-- What the ledger machine sees of the devices: their kinds are the world's, and whether they have disks, how they are attached the driver knows, and what is in flight the IOMMU.
 use Rattle.std.specs.Prelude.{ℕ, List, [], map}
 use Rattle.std.specs.Option.{option_map_or}
 use Rattle.iom_base.specs.declared.access.AcceptedAccess.{AcceptedAccess}
@@ -32,6 +32,7 @@ abbrev pub shown_device : List known.Device → List FlightRow → Device → ma
 shown_device known rows device = record {
   id = device.id;
   kind = device.kind;
+  has_disk = device.has_disk;
   attachment = shown_attachment (attachment_of known device.id);
   accepted = accepted_of rows device.id;
   in_flight = in_flight_of rows device.id;

@@ -1,5 +1,6 @@
 -- What an event does to a world, and what comes of it.
 use Rattle.std.specs.Prelude.{◌≡◌, ℕ, ◌+◌, ⊤, true, List, length, Option}
+use Rattle.iom_base.specs.declared.access.Access.{Access}
 use Rattle.iom_base.specs.Accesses.{read_of, write_of}
 use Rattle.iom_command_queue.specs.declared.entry.QueueEntry.{QueueEntry}
 use Rattle.iom_command_queue.specs.Waiting.{commands_in}
@@ -18,10 +19,10 @@ use Rattle.iom_machine.specs.Machine.{Step}
 use Rattle.iom_phys_mem.specs.Words.{word_at}
 use Rattle.iom_registers.specs.Queues.{command_status}
 use Rattle.iom_world.specs.declared.world.World.{World}
-use Rattle.iom_world.specs.Does.{Does}
+use Rattle.iom_world.specs.Does.{Does, disks_after}
 use Rattle.iom_world.specs.Parts.{Parts}
 use Rattle.iom_world.specs.Requests.{ReadsGuestTables}
-use Rattle.iom_world.specs.Seen.{parts_of}
+use Rattle.iom_world.specs.Seen.{parts_of, disks_of}
 use Rattle.iom_world.specs.Shows.{Shows}
 
 -- all is the same but what room the driver's ledger has
@@ -37,6 +38,12 @@ pub record AreSame (old new : Parts) : Type 0 where
 abbrev pub SameIfRefused : Outcome → Parts → Parts → Type 0
 SameIfRefused told old new = (why : Refusal) → told ≡ Refused why → AreSame old new
 
+-- the event is answered by the world alone; a block device's step, and its status, are the device's own
+abbrev pub IsNoChoice : Event → Type 0
+IsNoChoice (events.Step device) = ⊥
+IsNoChoice (events.Status device) = ⊥
+IsNoChoice _ = ⊤
+
 -- the commands that wait, read off memory and registers
 abbrev pub waiting_in : Parts → List QueueEntry
 waiting_in parts = commands_in parts.memory (registers_of parts.iommu)
@@ -48,7 +55,8 @@ KeepsCommands (events.Detach device) old new = ⊤
 KeepsCommands (events.Quarantine device) old new = ⊤
 KeepsCommands events.Restart old new = ⊤
 KeepsCommands events.Fetch old new = ⊤
-KeepsCommands (events.Plug device kind) old new = waiting_in new ≡ waiting_in old
+KeepsCommands (events.Plug device what) old new = waiting_in new ≡ waiting_in old
+KeepsCommands (events.Medium device disk) old new = waiting_in new ≡ waiting_in old
 KeepsCommands (events.Attach device mode ats) old new = waiting_in new ≡ waiting_in old
 KeepsCommands (events.Grant device page frame rights) old new = waiting_in new ≡ waiting_in old
 KeepsCommands events.Poll old new = waiting_in new ≡ waiting_in old
@@ -68,15 +76,20 @@ KeepsCommands (events.Repeat place) old new = waiting_in new ≡ waiting_in old
 KeepsCommands (events.Revive id) old new = waiting_in new ≡ waiting_in old
 KeepsCommands events.Timeout old new = waiting_in new ≡ waiting_in old
 KeepsCommands (events.Reset id) old new = waiting_in new ≡ waiting_in old
+KeepsCommands (events.Queue id size descriptors available used) old new = waiting_in new ≡ waiting_in old
+KeepsCommands (events.Step id) old new = waiting_in new ≡ waiting_in old
+KeepsCommands (events.Status id) old new = waiting_in new ≡ waiting_in old
 KeepsCommands (events.Poke address bytes) old new = waiting_in new ≡ waiting_in old
 KeepsCommands (events.Peek address len) old new = waiting_in new ≡ waiting_in old
 KeepsCommands (events.Free frame) old new = waiting_in new ≡ waiting_in old
 
--- a request is translated by a guest's own tables only where the device may read them
+-- a request is translated by a guest's own tables only where the device may read them; of a block device, whichever access its step wants
 abbrev pub ReadsGuestTablesFor : Event → Parts → History → Type 0
 ReadsGuestTablesFor (events.Read id address len) old history = ReadsGuestTables old history id (read_of address len)
 ReadsGuestTablesFor (events.Write id address bytes) old history = ReadsGuestTables old history id (write_of address bytes)
-ReadsGuestTablesFor (events.Plug id kind) old history = ⊤
+ReadsGuestTablesFor (events.Step id) old history = (access : Access) → ReadsGuestTables old history id access
+ReadsGuestTablesFor (events.Plug id what) old history = ⊤
+ReadsGuestTablesFor (events.Medium id disk) old history = ⊤
 ReadsGuestTablesFor (events.Attach id mode ats) old history = ⊤
 ReadsGuestTablesFor (events.Detach id) old history = ⊤
 ReadsGuestTablesFor (events.Grant id page frame rights) old history = ⊤
@@ -89,6 +102,8 @@ ReadsGuestTablesFor events.Timeout old history = ⊤
 ReadsGuestTablesFor events.Poll old history = ⊤
 ReadsGuestTablesFor events.Faults old history = ⊤
 ReadsGuestTablesFor (events.Reset id) old history = ⊤
+ReadsGuestTablesFor (events.Queue id size descriptors available used) old history = ⊤
+ReadsGuestTablesFor (events.Status id) old history = ⊤
 ReadsGuestTablesFor (events.Commit id) old history = ⊤
 ReadsGuestTablesFor (events.ReadTranslated id address len) old history = ⊤
 ReadsGuestTablesFor (events.WriteTranslated id address bytes) old history = ⊤
@@ -127,12 +142,13 @@ StaysStopped events.Fetch told old new = (told ≡ Fetched tells.Stopped) × Rem
 StaysStopped _ told old new = RemainsStopped old new
 
 -- An event that is answered so. It is a lawful step of the ledger machine, from every state that the world shows, to one that it shows then. It does to
--- memory, IOMMU, driver and devices what the call behind it says; commands that wait change by a release, a detach, a quarantine, a restart and a fetch
--- alone. A guest's own tables are read from frames that the device may read. From a timeout to the next restart no fence is done. A refusal changes nothing.
--- And the event is counted.
+-- memory, IOMMU, driver and devices what the call behind it says; a disk that is put into a device was in none before, and won't be again. Commands that
+-- wait change by a release, a detach, a quarantine, a restart and a fetch alone. A guest's own tables are read from frames that the device may read. From a
+-- timeout to the next restart no fence is done. A refusal changes nothing. And the event is counted.
 pub record Happens (old : World) (event : Event) (told : Outcome) (new : World) : Type 0 where
   pub step : (state : State) → Shows old state → (next : State) × Step state event told next × Shows new next
-  pub does : Does (parts_of old) event told (parts_of new)
+  pub does : Does (disks_of old) (parts_of old) event told (parts_of new)
+  pub disks : disks_of new ≡ disks_after event told (disks_of old)
   pub commands : KeepsCommands event (parts_of old) (parts_of new)
   pub guest : (state : State) → Shows old state → ReadsGuestTablesFor event (parts_of old) state.history
   pub stopped : HasTimedOut (parts_of old) → StaysStopped event told (parts_of old) (parts_of new)

@@ -23,7 +23,8 @@ pub mod Commits
 pub mod Processor
 pub mod Answers
 pub mod Recovery
+pub mod BlockDevices
 pub mod Does
 pub mod Happens
-pub mod Runs
 pub mod Below
+pub mod Counts

@@ -1,5 +1,5 @@
 -- A world at power-on, whole: the machine's state that it shows, and what the machine doesn't see.
-use Rattle.std.specs.Prelude.{◌≡◌, ℕ, [], replicate}
+use Rattle.std.specs.Prelude.{◌≡◌, ℕ, List, [], replicate}
 use Rattle.iom_driver.specs.Calls.{turned_on}
 use Rattle.iom_driver.specs.Layout.{ddtp_of}
 use Rattle.iom_iommu.specs.Parts.{IsAtPowerOn, mmio}
@@ -16,10 +16,10 @@ abbrev pub IsStartedIommu : ℕ → ℕ → Iommu → Type 0
 IsStartedIommu frames levels iommu =
     (cold : Iommu) × IsAtPowerOn frames cold × (iommu ≡ turned_on mmio frames (mmio.after cold Ddtp (ddtp_of frames levels)))
 
--- the world begins, with so many frames of memory and levels of the device directory: it shows the machine at power-on; each byte of memory is zero, those
+-- the world begins, with so many frames of memory and levels of the device directory, and disks of these numbers: it shows the machine at power-on; each byte of memory is zero, those
 -- of the system's frames too; its IOMMU is started, no command waits, no message is under way, and no event was counted
-pub record BeginsAt (frames levels : ℕ) (world : World) : Type 0 where
-  pub shows : Shows world (opening frames levels)
+pub record BeginsAt (frames levels : ℕ) (disks : List ℕ) (world : World) : Type 0 where
+  pub shows : Shows world (opening frames levels disks)
   pub memory : world.memory ≡ replicate frames zeroed
   pub iommu : IsStartedIommu frames levels world.iommu
   pub commands : commands_of world ≡ []

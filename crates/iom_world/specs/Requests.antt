@@ -1,5 +1,5 @@
 -- What a device's request is answered, and what it leaves: by what the IOMMU finds in its caches and in memory.
-use Rattle.std.specs.Prelude.{◌≡◌, ℕ, ◌⊎◌, ⊤, All, List, Option, None, Some, Ok}
+use Rattle.std.specs.Prelude.{◌≡◌, ℕ, ◌⊎◌, ⊤, Bool, All, List, Option, None, Some, Ok}
 use Rattle.iom_base.specs.declared.access.Access.{Access}
 use Rattle.iom_base.specs.declared.access.AccessKind.TheVariants.{Read}
 use Rattle.iom_base.specs.declared.ppn.Ppn.{Ppn}
@@ -21,7 +21,8 @@ use Rattle.iom_stage_walk.specs.Both.{ReachesBoth}
 use Rattle.iom_stage_walk.specs.Paths.{first_levels}
 use Rattle.iom_stage_walk.specs.Second.{second_levels}
 use Rattle.iom_world.specs.Parts.{Parts}
-use Rattle.iom_machine.specs.Kinds.{sends_untranslated, forges}
+use Rattle.iom_machine.specs.declared.state.DeviceKind.{DeviceKind}
+use Rattle.iom_machine.specs.Kinds.{forges}
 use Rattle.iom_world.specs.Caches.{IsAble}
 use Rattle.iom_world.specs.OwnIommu.{Iommu}
 use Rattle.iom_world.specs.Unable.{IsUnknown, IsUnable}
@@ -42,11 +43,11 @@ pub record IsReplied (Call : Reply → List (List ℕ) → Iommu → Type 0) (ol
   pub devices : new.devices ≡ old.devices
   pub fabric : new.fabric ≡ old.fabric
 
--- A DEVICE ASKS for an access
-abbrev pub AsksAccess : Parts → ℕ → Access → Outcome → Parts → Type 0
-AsksAccess old id access told new =
-    IsUnknown old id told new ⊎ IsUnable sends_untranslated old id told new
-    ⊎ (IsAble sends_untranslated old.devices id × IsReplied (AnswersRequest old.memory old.iommu id access) old told new)
+-- A DEVICE ASKS for an access, if it is of a kind that can
+abbrev pub AsksAccess : (DeviceKind → Bool) → Parts → ℕ → Access → Outcome → Parts → Type 0
+AsksAccess can old id access told new =
+    IsUnknown old id told new ⊎ IsUnable can old id told new
+    ⊎ (IsAble can old.devices id × IsReplied (AnswersRequest old.memory old.iommu id access) old told new)
 
 -- A DEVICE SAYS of a request that it is translated already
 abbrev pub AsksTranslated : Parts → ℕ → Access → Outcome → Parts → Type 0

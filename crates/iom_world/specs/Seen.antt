@@ -1,5 +1,5 @@
--- A world by its parts, and the commands that wait in it.
-use Rattle.std.specs.Prelude.{List}
+-- A world by its parts, the commands that wait in it, and the disks at hand.
+use Rattle.std.specs.Prelude.{ℕ, List}
 use Rattle.iom_command_queue.specs.declared.entry.QueueEntry.{QueueEntry}
 use Rattle.iom_command_queue.specs.Waiting.{commands_in}
 use Rattle.iom_driver.specs.Seen.{state_of}
@@ -12,3 +12,7 @@ parts_of world = record { memory = world.memory; iommu = world.iommu; driver = s
 
 abbrev pub commands_of : World → List QueueEntry
 commands_of world = commands_in world.memory (registers_of world.iommu)
+
+-- the numbers of the disks that were never put into a device
+abbrev pub disks_of : World → List ℕ
+disks_of world = world.disks.items

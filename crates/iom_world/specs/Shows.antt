@@ -9,7 +9,7 @@ use Rattle.iom_world.specs.Devices.{shown_devices}
 use Rattle.iom_world.specs.Frames.{ShowsFrames}
 use Rattle.iom_iommu.specs.Parts.{flights_of}
 use Rattle.iom_world.specs.Parts.{Parts}
-use Rattle.iom_world.specs.Seen.{parts_of}
+use Rattle.iom_world.specs.Seen.{parts_of, disks_of}
 
 -- the driver's ledger agrees with the history; the same frames are reserved, for the same owners, and all others have the same bytes; the devices are the
 -- same, with what they have in flight; the last tickets given and confirmed are the same, all up to that are confirmed and none after it; and the directory has as many
@@ -24,6 +24,6 @@ pub record PartsShow (parts : Parts) (state : State) : Type 0 where
   pub none_later : (ticket : ℕ) → parts.driver.confirmed < ticket → confirms state.history ticket ≡ false
   pub levels : state.levels ≡ parts.driver.levels
 
--- a world does by its parts
+-- a world does by its parts, and the same disks were never in a device
 abbrev pub Shows : World → State → Type 0
-Shows world state = PartsShow (parts_of world) state
+Shows world state = PartsShow (parts_of world) state × (state.disks ≡ disks_of world)

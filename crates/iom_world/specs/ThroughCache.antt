@@ -1,6 +1,6 @@
 -- An access of a device through its own cache of translations: what the cache has goes to the IOMMU as a translated request (PCI Express Base
 -- Specification, section 10.2).
-use Rattle.std.specs.Prelude.{◌≡◌, ◌⊎◌, ℕ, Option, None, Some}
+use Rattle.std.specs.Prelude.{◌≡◌, ◌⊎◌, ℕ, Bool, Option, None, Some}
 use Rattle.std.specs.Option.{option_and_then}
 use Rattle.iom_ats_cache.specs.Cache.{Cache, frame_for}
 use Rattle.iom_base.specs.declared.access.Access.{Access}
@@ -10,8 +10,11 @@ use Rattle.iom_iommu.specs.Parts.{flights_of}
 use Rattle.iom_iommu.specs.Translated.{AnswersTranslated}
 use Rattle.iom_machine.specs.declared.outcome.Outcome.{Outcome}
 use Rattle.iom_machine.specs.declared.outcome.Outcome.TheVariants as outcome
-use Rattle.iom_machine.specs.Kinds.{sends_through_cache}
+use Rattle.iom_machine.specs.declared.state.DeviceKind.{DeviceKind}
+use Rattle.iom_machine.specs.Kinds.{is_block_device, sends_through_cache}
 use Rattle.iom_machine.specs.ThroughCache.{at_frame}
+use Rattle.iom_world.specs.declared.sender.Sender.{Sender}
+use Rattle.iom_world.specs.declared.sender.Sender.TheVariants as sender
 use Rattle.iom_world.specs.Caches.{IsAble, cache_of}
 use Rattle.iom_world.specs.Parts.{Parts}
 use Rattle.iom_world.specs.Requests.{IsReplied}
@@ -33,8 +36,13 @@ TriesCache old id access told new =
     ⊎ (IsWithinPage access × IsFull (flights_of old.iommu) id × (told ≡ outcome.Busy) × (new ≡ old))
     ⊎ (IsWithinPage access × HasRoom (flights_of old.iommu) id × FindsFrame (cached_frame old id access) old id access told new)
 
--- A DEVICE ASKS for an access through its cache
-abbrev pub AsksThroughCache : Parts → ℕ → Access → Outcome → Parts → Type 0
-AsksThroughCache old id access told new =
-    IsUnknown old id told new ⊎ IsUnable sends_through_cache old id told new
-    ⊎ (IsAble sends_through_cache old.devices id × TriesCache old id access told new)
+-- A DEVICE ASKS for an access through its cache, if it is of a kind that can
+abbrev pub AsksThroughCache : (DeviceKind → Bool) → Parts → ℕ → Access → Outcome → Parts → Type 0
+AsksThroughCache can old id access told new =
+    IsUnknown old id told new ⊎ IsUnable can old id told new
+    ⊎ (IsAble can old.devices id × TriesCache old id access told new)
+
+-- the kinds of devices that can so: at an event of their own, or at a step
+abbrev pub kinds_of : Sender → DeviceKind → Bool
+kinds_of sender.Ats = sends_through_cache
+kinds_of sender.Block = is_block_device

@@ -5,7 +5,7 @@ use Rattle.arrayvec.specs.ArrayVec.{ArrayVec}
 use Rattle.iom_machine.specs.declared.outcome.Outcome.{Outcome}
 use Rattle.iom_machine.specs.declared.outcome.Outcome.TheVariants as outcome
 use Rattle.iom_world.specs.declared.told.Told.{Told}
-use Rattle.iom_world.specs.declared.told.Told.TheVariants.{Done, Refused, Ticket, Confirmed, NoneConfirmed, Record, NoRecord, Fetched, TimedOut, NoEffect, Accepted, Busy, BadSpan, Fault, Wrote, NothingInFlight, Free, Miss, Sent, Lost, Answered, Kept, Stale, AnswerRefused, Ignored, Invalidated, Closed, NotClosed, Dropped, Repeated, NoMessage}
+use Rattle.iom_world.specs.declared.told.Told.TheVariants.{Done, Refused, Ticket, Confirmed, NoneConfirmed, Record, NoRecord, Fetched, TimedOut, NoEffect, Accepted, Busy, BadSpan, Fault, Wrote, NothingInFlight, Free, Miss, Sent, Lost, Answered, Kept, Stale, AnswerRefused, Ignored, Invalidated, Closed, NotClosed, Dropped, Repeated, NoMessage, Stepped, Status}
 
 -- the outcome that says the same
 abbrev pub outcome_of : Told → Outcome
@@ -40,6 +40,8 @@ outcome_of (NotClosed serial) = outcome.NotClosed serial
 outcome_of Dropped = outcome.Dropped
 outcome_of Repeated = outcome.Repeated
 outcome_of NoMessage = outcome.NoMessage
+outcome_of (Stepped step) = outcome.Stepped step
+outcome_of (Status status) = outcome.Status status
 
 -- a read was made, and gave these bytes
 abbrev pub TellsBytes : Outcome → List ℕ → Type 0

@@ -2,7 +2,7 @@
 ghost use Rattle.std.specs.Prelude.{◌≡◌, ◌+◌, ◌<◌, ◌≤◌, length};
 ghost use Rattle.iom_base.specs.Sizes.{page_size};
 ghost use Rattle.iom_world.specs.Commits.{CommitsAccess, TellsRead};
-ghost use Rattle.iom_world.specs.Seen.{parts_of};
+ghost use Rattle.iom_world.specs.Seen.{parts_of, disks_of};
 
 use crate::below::laws_below;
 use crate::kept_outcomes::KeptOutcomes;
@@ -31,6 +31,7 @@ impl World {
     /// device is in flight, or no device has the id.
     pub(crate) fn commit<'a>(&mut self, id: DeviceId, kept: &'a mut KeptOutcomes) -> &'a mut Outcome
         ensures does { CommitsAccess (parts_of self.old) id result.now (parts_of self.new) }
+        ensures disks { disks_of self.new ≡ disks_of self.old }
         ensures events { self.new.events ≡ self.old.events }
     {
         laws_below();

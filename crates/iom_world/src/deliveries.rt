@@ -7,7 +7,7 @@ ghost use Rattle.iom_fabric.specs.declared.fabric.OnLink.{OnLink};
 ghost use Rattle.iom_iommu.specs.Parts.{frames_of};
 ghost use Rattle.iom_world.specs.Caches.{cache_of, epoch_in, with_cache};
 ghost use Rattle.iom_world.specs.Deliveries.{TakesInto, Obeys, Arrives, DeliversMessage};
-ghost use Rattle.iom_world.specs.Seen.{parts_of};
+ghost use Rattle.iom_world.specs.Seen.{parts_of, disks_of};
 ghost use Rattle.iom_world.specs.Told.{outcome_of};
 
 use crate::below::laws_below;
@@ -107,6 +107,7 @@ impl World {
         requires epochs { (id : ℕ) → epoch_in self.old.devices.items id < self.old.events }
         requires count { self.old.events < 2 ^ 64 }
         ensures does { DeliversMessage (parts_of self.old) place (outcome_of result) (parts_of self.new) }
+        ensures disks { disks_of self.new ≡ disks_of self.old }
         ensures events { self.new.events ≡ self.old.events }
     {
         laws_below();

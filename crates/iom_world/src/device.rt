@@ -1,5 +1,5 @@
 //! A plugged device, as the world keeps it.
-ghost use Rattle.std.specs.Prelude.{◌≡◌, ◌+◌, ◌<◌, ◌^◌, None, MatchOption};
+ghost use Rattle.std.specs.Prelude.{◌≡◌, ◌+◌, ◌<◌, ◌^◌, None, MatchOption, is_some};
 ghost use Rattle.std.specs.Option.{option_and_then};
 ghost use Rattle.iom_ats_cache.specs.Cache.{Cache, frame_for};
 ghost use Rattle.iom_world.specs.Caches.{epoch_of, device_with, IsPlaceOf};
@@ -19,18 +19,32 @@ use iom_machine::DeviceKind;
 pub struct Device {
     pub(crate) id: DeviceId,
     pub(crate) kind: DeviceKind,
+    /// Whether it is a block device with a disk.
+    pub(crate) has_disk: bool,
     /// Its own cache of translations, where its kind has one.
     pub(crate) cache: Option<Atc>,
 }
 
 /// The cache of a device that is plugged in, with nothing in it, where its kind has one.
-pub(crate) fn new_cache(kind: DeviceKind) -> Option<Atc>
+fn new_cache(kind: DeviceKind) -> Option<Atc>
     ensures { result ≡ new_cache kind }
 {
     if kind.has_cache() {
         Some(Atc::new())
     } else {
         None
+    }
+}
+
+/// A device that is plugged in, with its disk, if one is named.
+pub(crate) fn new_device(id: DeviceId, kind: DeviceKind, disk: Option<u64>) -> Device
+    ensures { result ≡ record { id = id; kind = kind; has_disk = is_some disk; cache = new_cache kind } }
+{
+    Device {
+        id,
+        kind,
+        has_disk: disk.is_some(),
+        cache: new_cache(kind),
     }
 }
 

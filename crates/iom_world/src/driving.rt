@@ -1,10 +1,12 @@
 // What the driver is asked to do.
-ghost use Rattle.std.specs.Prelude.{◌≡◌, ◌+◌, ◌≤◌, ◌^◌};
+ghost use Rattle.std.specs.Prelude.{◌≡◌, ◌+◌, ◌<◌, ◌≤◌, ◌^◌, ℕ};
 ghost use Rattle.iom_world.specs.Answers.{told_of, ticket_told_of};
+ghost use Rattle.iom_world.specs.Caches.{epoch_in};
 ghost use Rattle.iom_world.specs.Does.{polled_told_of, report_told_of, AttachesDevice, GrantsPage, ReleasesPage, DetachesDevice, PollsTickets, TakesReport};
-ghost use Rattle.iom_world.specs.Seen.{parts_of};
+ghost use Rattle.iom_world.specs.Seen.{parts_of, disks_of};
 ghost use Rattle.iom_world.specs.Told.{outcome_of};
 
+use crate::block_devices::let_go;
 use crate::told::Told;
 use crate::world::World;
 use iom_base::{DeviceId, GrantRights, Mode};
@@ -68,6 +70,7 @@ impl World {
     /// A device is attached in the mode, with ATS or without.
     pub(crate) fn attach(&mut self, id: DeviceId, mode: Mode, ats: bool) -> Told
         ensures does { AttachesDevice (parts_of self.old) id mode ats (outcome_of result) (parts_of self.new) }
+        ensures disks { disks_of self.new ≡ disks_of self.old }
         ensures events { self.new.events ≡ self.old.events }
     {
         Told::of(self.driver.attach(&mut self.memory, id, mode, ats))
@@ -76,6 +79,7 @@ impl World {
     /// A device gets a frame at a page.
     pub(crate) fn grant(&mut self, id: DeviceId, page: u64, frame: u64, rights: GrantRights) -> Told
         ensures does { GrantsPage (parts_of self.old) id page frame rights (outcome_of result) (parts_of self.new) }
+        ensures disks { disks_of self.new ≡ disks_of self.old }
         ensures events { self.new.events ≡ self.old.events }
     {
         Told::of(self.driver.grant(&mut self.memory, id, page, frame, rights))
@@ -84,6 +88,7 @@ impl World {
     /// What a device holds at a page is released.
     pub(crate) fn release(&mut self, id: DeviceId, page: u64) -> Told
         ensures does { ReleasesPage (parts_of self.old) id page (outcome_of result) (parts_of self.new) }
+        ensures disks { disks_of self.new ≡ disks_of self.old }
         ensures events { self.new.events ≡ self.old.events }
     {
         let answer = self
@@ -92,18 +97,23 @@ impl World {
         Told::of_ticket(answer)
     }
 
-    /// A device is detached: it leaves until the ticket is confirmed.
+    /// A device is detached: it leaves until the ticket is confirmed, and its disk goes at once.
     pub(crate) fn detach(&mut self, id: DeviceId) -> Told
+        requires epochs { (id : ℕ) → epoch_in self.old.devices.items id < self.old.events }
+        requires count { self.old.events < 2 ^ 64 }
         ensures does { DetachesDevice (parts_of self.old) id (outcome_of result) (parts_of self.new) }
+        ensures disks { disks_of self.new ≡ disks_of self.old }
         ensures events { self.new.events ≡ self.old.events }
     {
         let answer = self.driver.detach(&mut self.memory, &mut self.iommu, id);
+        let_go(&mut self.devices, id, &answer);
         Told::of_ticket(answer)
     }
 
     /// The driver learns which tickets' fences are done, and forgets what waited for them: what a device that is leaving had is given back.
     pub(crate) fn poll(&mut self) -> Told
         ensures does { PollsTickets (parts_of self.old) (outcome_of result) (parts_of self.new) }
+        ensures disks { disks_of self.new ≡ disks_of self.old }
         ensures events { self.new.events ≡ self.old.events }
     {
         match self.driver.poll(&mut self.memory, &self.iommu) {
@@ -116,6 +126,7 @@ impl World {
     /// that were dropped before.
     pub(crate) fn faults(&mut self) -> Told
         ensures does { TakesReport (parts_of self.old) (outcome_of result) (parts_of self.new) }
+        ensures disks { disks_of self.new ≡ disks_of self.old }
         ensures events { self.new.events ≡ self.old.events }
     {
         Told::of_report(self.driver.faults(&self.memory, &mut self.iommu))

@@ -2,7 +2,7 @@
 ghost use Rattle.std.specs.Prelude.{◌≡◌, ◌+◌, ◌<◌, ◌^◌};
 ghost use Rattle.iom_iommu.specs.Parts.{slots_of};
 ghost use Rattle.iom_world.specs.Does.{name_of_command, fetch_named, FetchesNext};
-ghost use Rattle.iom_world.specs.Seen.{parts_of};
+ghost use Rattle.iom_world.specs.Seen.{parts_of, disks_of};
 ghost use Rattle.iom_world.specs.Told.{outcome_of};
 
 use crate::below::laws_below;
@@ -44,6 +44,7 @@ impl World {
         requires below { (slots_of self.old.iommu).last < self.old.events }
         requires count { (slots_of self.old.iommu).last + 1 < 2 ^ 64 }
         ensures does { FetchesNext (parts_of self.old) (outcome_of result) (parts_of self.new) }
+        ensures disks { disks_of self.new ≡ disks_of self.old }
         ensures events { self.new.events ≡ self.old.events }
     {
         laws_below();

@@ -1,4 +1,4 @@
-//! Where the outcomes of a run are told.
+//! Where the outcomes of events are told.
 ghost use Rattle.std.specs.Prelude.{◌≡◌};
 ghost use Rattle.iom_world.specs.Told.{outcome_of};
 
@@ -7,9 +7,9 @@ use arrayvec::ArrayVec;
 use iom_machine::Outcome;
 
 /// A place for each kind of outcome, so that what a place held before is of the same kind as what is
-/// told there next, and only what differs is written.
+/// told there next, and only what differs is written. Who takes many events keeps one for all of them.
 #[derive(Drop)]
-pub(crate) struct KeptOutcomes {
+pub struct KeptOutcomes {
     /// Of a read that was made, with its bytes.
     pub(crate) made: Outcome,
     /// Of a read of the processor, with its bytes.
@@ -45,10 +45,13 @@ pub(crate) struct KeptOutcomes {
     dropped: Outcome,
     repeated: Outcome,
     no_message: Outcome,
+    stepped: Outcome,
+    status: Outcome,
 }
 
 impl KeptOutcomes {
-    pub(crate) fn new() -> KeptOutcomes {
+    /// Places that hold nothing yet.
+    pub fn new() -> KeptOutcomes {
         KeptOutcomes {
             made: Outcome::Read(ArrayVec::new()),
             shown: Outcome::Bytes(ArrayVec::new()),
@@ -83,6 +86,8 @@ impl KeptOutcomes {
             dropped: Outcome::Dropped,
             repeated: Outcome::Repeated,
             no_message: Outcome::NoMessage,
+            stepped: Outcome::Done,
+            status: Outcome::Done,
         }
     }
 
@@ -121,6 +126,8 @@ impl KeptOutcomes {
             Told::Dropped => &mut self.dropped,
             Told::Repeated => &mut self.repeated,
             Told::NoMessage => &mut self.no_message,
+            Told::Stepped(_) => &mut self.stepped,
+            Told::Status(_) => &mut self.status,
         }
     }
 
@@ -131,17 +138,7 @@ impl KeptOutcomes {
         ensures { result.now ≡ outcome_of told }
     {
         let place = self.place_for(&told);
-        told.tell::<true>(place);
-        place
-    }
-
-    /// The same, for who may be told any kind.
-    #[inline(always)]
-    pub(crate) fn tell_any(&mut self, told: Told) -> &mut Outcome
-        ensures { result.now ≡ outcome_of told }
-    {
-        let place = self.place_for(&told);
-        told.tell::<false>(place);
+        told.tell(place);
         place
     }
 }

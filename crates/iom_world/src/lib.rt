@@ -1,18 +1,23 @@
-//! The world: memory, the IOMMU, its driver and the devices, as one value that takes a list of events and
-//! answers each with one outcome.
+//! The world: memory, the IOMMU, its driver and the devices, as one value that takes events and answers each
+//! with one outcome.
 //!
 //! Page tables stand in memory and are walked for every request (RISC-V Privileged Architecture,
 //! "Sv39"); the driver and the IOMMU talk in commands of 16 bytes and in registers (RISC-V IOMMU
-//! Architecture Specification, section 3.1 and chapter 5). The layer above may rely on [`World::run`]
-//! being a run of the ledger machine, whatever the events are, and so on the sentences of the reclaim
-//! theorem. Of each event [`World::run`] and [`World::step`] also say what it does to memory, IOMMU, driver
-//! and devices: the relation that the driver or the IOMMU states of its own call.
+//! Architecture Specification, section 3.1 and chapter 5). The layer above may rely on each event
+//! ([`World::take`], [`World::begin`], [`World::rest`], [`World::tell_status`]) being a lawful step of the
+//! ledger machine, from every state that the world shows to one that it shows then, whatever the event is;
+//! and on what it does to memory, IOMMU, driver and devices: the relation that the driver or the IOMMU
+//! states of its own call. Of block devices (virtio 1.2) the world has the caches and knows which have a
+//! disk; their queues and disks are for the layer above, and so is a whole run.
 #![tactic(auto)]
 
 mod below;
+mod block_devices;
 mod commits;
+mod counts;
 mod deliveries;
 mod device;
+mod disks;
 mod driving;
 mod fetching;
 mod kept_outcomes;
@@ -21,11 +26,13 @@ mod plugging;
 mod processor;
 mod recovery;
 mod requests;
-mod run;
+mod sender;
 mod start;
+mod stepping;
 mod through_cache;
 mod told;
 mod translated;
 mod world;
 
+pub use kept_outcomes::KeptOutcomes;
 pub use world::World;

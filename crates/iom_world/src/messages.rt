@@ -3,7 +3,7 @@
 ghost use Rattle.std.specs.Prelude.{◌≡◌, if◌then◌else◌};
 ghost use Rattle.iom_machine.specs.declared.outcome.Outcome.TheVariants as outcome;
 ghost use Rattle.iom_world.specs.Messages.{range_of, sent_told, repeat_told, with_fetched, AsksQuestion, ForgesCompletion, DropsMessage, RepeatsMessage};
-ghost use Rattle.iom_world.specs.Seen.{parts_of};
+ghost use Rattle.iom_world.specs.Seen.{parts_of, disks_of};
 ghost use Rattle.iom_world.specs.Told.{outcome_of};
 
 use crate::told::Told;
@@ -65,6 +65,7 @@ impl World {
     /// are under way; `Refused(NoSuchDevice)`, and `Refused(WrongKind)` for a block device.
     pub(crate) fn ask(&mut self, id: DeviceId, page: PageNumber) -> Told
         ensures does { AsksQuestion (parts_of self.old) id page (outcome_of result) (parts_of self.new) }
+        ensures disks { disks_of self.new ≡ disks_of self.old }
         ensures events { self.new.events ≡ self.old.events }
     {
         let Some(device) = self.device_with(id) else {
@@ -83,6 +84,7 @@ impl World {
     /// question is; only a raw device does so.
     pub(crate) fn forge(&mut self, id: DeviceId, serial: u64) -> Told
         ensures does { ForgesCompletion (parts_of self.old) id serial (outcome_of result) (parts_of self.new) }
+        ensures disks { disks_of self.new ≡ disks_of self.old }
         ensures events { self.new.events ≡ self.old.events }
     {
         let Some(kind) = self.kind_of(id) else {
@@ -97,6 +99,7 @@ impl World {
     /// The message at the place is lost; `NoMessage` where there is none.
     pub(crate) fn drop_message(&mut self, place: u64) -> Told
         ensures does { DropsMessage (parts_of self.old) place (outcome_of result) (parts_of self.new) }
+        ensures disks { disks_of self.new ≡ disks_of self.old }
         ensures events { self.new.events ≡ self.old.events }
     {
         if self.fabric.drop(place as usize) {
@@ -110,6 +113,7 @@ impl World {
     /// is none.
     pub(crate) fn repeat(&mut self, place: u64) -> Told
         ensures does { RepeatsMessage (parts_of self.old) place (outcome_of result) (parts_of self.new) }
+        ensures disks { disks_of self.new ≡ disks_of self.old }
         ensures events { self.new.events ≡ self.old.events }
     {
         Told::of_repeat(self.fabric.repeat(place as usize))

@@ -1,17 +1,20 @@
 // Which devices there are, and how one is plugged in.
 ghost use Rattle.std.specs.Prelude.{◌≡◌, ◌↔◌, IsTrue, option_map};
-ghost use Rattle.iom_world.specs.Caches.{kind_in, device_with};
-ghost use Rattle.iom_world.specs.Does.{PlugsDevice};
-ghost use Rattle.iom_world.specs.Seen.{parts_of};
+ghost use Rattle.iom_machine.specs.declared.event.Event.TheVariants as events;
+ghost use Rattle.iom_copies.specs.Attachments.{caches_translations};
+ghost use Rattle.iom_world.specs.Caches.{kind_in, device_with, epoch_in};
+ghost use Rattle.iom_world.specs.Does.{PlugsDevice, disks_after};
+ghost use Rattle.iom_world.specs.Seen.{parts_of, disks_of};
 ghost use Rattle.iom_world.specs.Places.{IsPresent};
 ghost use Rattle.iom_world.specs.Told.{outcome_of};
 
-use crate::device::{Device, new_cache};
+use crate::device::{Device, new_device};
+use crate::disks::{is_missing, take_out};
 use crate::told::Told;
 use crate::world::World;
 use iom_base::{DeviceId, MAX_DEVICES};
 use iom_ledger::Refusal;
-use iom_machine::DeviceKind;
+use iom_machine::{DeviceKind, NewDevice};
 
 impl World {
     /// Whether a device is plugged in with this id.
@@ -29,7 +32,7 @@ impl World {
     }
 
     /// What the device with this id is, if one is plugged in.
-    pub(crate) fn kind_of(&self, id: DeviceId) -> Option<DeviceKind>
+    pub fn kind_of(&self, id: DeviceId) -> Option<DeviceKind>
         ensures { result ≡ kind_in self.now.devices.items id }
     {
         self.devices
@@ -38,17 +41,43 @@ impl World {
             .map(|device| device.kind)
     }
 
-    /// A device is plugged in, attached to nothing and with nothing in flight. The driver learns of it once
-    /// there is room for it: so nothing is half done.
-    pub(crate) fn plug(&mut self, id: DeviceId, kind: DeviceKind) -> Told
-        ensures does { PlugsDevice (parts_of self.old) id kind (outcome_of result) (parts_of self.new) }
+    /// The epoch of its cache; 0 where it has none, or isn't plugged in.
+    pub fn epoch_of(&self, id: DeviceId) -> u64
+        ensures { result ≡ epoch_in self.now.devices.items id }
+    {
+        match self.device_with(id) {
+            Some(device) => device.epoch(),
+            None => 0,
+        }
+    }
+
+    /// Whether it is plugged in, and of a kind that has a cache.
+    pub(crate) fn has_cache(&self, id: DeviceId) -> bool
+        ensures { result ≡ caches_translations (kind_in self.now.devices.items id) }
+    {
+        match self.kind_of(id) {
+            Some(kind) => kind.has_cache(),
+            None => false,
+        }
+    }
+
+    /// A device is plugged in, attached to nothing and with nothing in flight; a block device with the disk that
+    /// it names. The driver learns of it once there is room for it: so nothing is half done.
+    pub(crate) fn plug(&mut self, id: DeviceId, what: NewDevice) -> Told
+        ensures does { PlugsDevice (disks_of self.old) (parts_of self.old) id what (outcome_of result) (parts_of self.new) }
+        ensures disks { disks_of self.new ≡ disks_after (events.Plug id what) (outcome_of result) (disks_of self.old) }
         ensures events { self.new.events ≡ self.old.events }
     {
+        let kind = what.kind();
+        let disk = what.disk();
         if self.is_plugged(id) {
             return Told::Refused(Refusal::AlreadyPlugged);
         }
         if self.devices.len() >= MAX_DEVICES {
             return Told::Refused(Refusal::TooManyDevices);
+        }
+        if is_missing(&self.disks, disk) {
+            return Told::Refused(Refusal::BadMedium);
         }
         if self.devices.reserve(1).is_err() {
             return Told::Refused(Refusal::Memory);
@@ -57,8 +86,8 @@ impl World {
             return Told::Refused(why);
         }
         self.iommu.add(id);
-        let cache = new_cache(kind);
-        self.devices.push(Device { id, kind, cache }).unwrap();
+        take_out(&mut self.disks, disk);
+        self.devices.push(new_device(id, kind, disk)).unwrap();
         Told::Done
     }
 }

@@ -1,7 +1,7 @@
 // What the processor writes and reads, and what it is told of a frame.
 ghost use Rattle.std.specs.Prelude.{◌≡◌, ◌+◌, ◌≤◌, length};
 ghost use Rattle.iom_base.specs.Bytes.{with_bytes};
-ghost use Rattle.iom_world.specs.Seen.{parts_of};
+ghost use Rattle.iom_world.specs.Seen.{parts_of, disks_of};
 ghost use Rattle.iom_world.specs.Processor.{PokesBytes, PeeksBytes, AsksFree};
 ghost use Rattle.iom_world.specs.Told.{outcome_of};
 
@@ -28,6 +28,7 @@ impl World {
     /// `FrameOutOfRange` or `FrameReserved`.
     pub(crate) fn poke(&mut self, address: u64, bytes: &[u8]) -> Told
         ensures does { PokesBytes (parts_of self.old) address bytes.now (outcome_of result) (parts_of self.new) }
+        ensures disks { disks_of self.new ≡ disks_of self.old }
         ensures events { self.new.events ≡ self.old.events }
     {
         laws_below();

@@ -3,7 +3,7 @@ ghost use Rattle.std.specs.Prelude.{◌≡◌, ◌+◌, ◌<◌, ◌^◌, ℕ, i
 ghost use Rattle.iom_machine.specs.declared.outcome.Outcome.TheVariants as outcome;
 ghost use Rattle.iom_world.specs.Caches.{epoch_in};
 ghost use Rattle.iom_world.specs.Recovery.{with_reset, QuarantinesDevice, RevivesDevice, RestartsQueue, TimesOutFence, ResetsDevice};
-ghost use Rattle.iom_world.specs.Seen.{parts_of};
+ghost use Rattle.iom_world.specs.Seen.{parts_of, disks_of};
 ghost use Rattle.iom_world.specs.Told.{outcome_of};
 
 use crate::device::{Device, place_of};
@@ -13,7 +13,7 @@ use iom_base::DeviceId;
 use iom_ledger::Refusal;
 
 /// The device with this id is reset, if there is one.
-fn reset(devices: &mut Vec<Device>, id: DeviceId)
+pub(crate) fn reset(devices: &mut Vec<Device>, id: DeviceId)
     requires { epoch_in devices.old.items id + 1 < 2 ^ 64 }
     ensures { devices.new.items ≡ with_reset devices.old.items id }
 {
@@ -39,6 +39,7 @@ impl World {
     /// A device is cut off: what it holds lingers until the ticket is confirmed.
     pub(crate) fn quarantine(&mut self, id: DeviceId) -> Told
         ensures does { QuarantinesDevice (parts_of self.old) id (outcome_of result) (parts_of self.new) }
+        ensures disks { disks_of self.new ≡ disks_of self.old }
         ensures events { self.new.events ≡ self.old.events }
     {
         let answer = self
@@ -53,6 +54,7 @@ impl World {
         requires epochs { (id : ℕ) → epoch_in self.old.devices.items id < self.old.events }
         requires count { self.old.events < 2 ^ 64 }
         ensures does { RevivesDevice (parts_of self.old) id (outcome_of result) (parts_of self.new) }
+        ensures disks { disks_of self.new ≡ disks_of self.old }
         ensures events { self.new.events ≡ self.old.events }
     {
         if let Err(why) = self.driver.may_revive(id) {
@@ -65,6 +67,7 @@ impl World {
     /// The command queue is emptied, and filled with what is still needed.
     pub(crate) fn restart(&mut self) -> Told
         ensures does { RestartsQueue (parts_of self.old) (outcome_of result) (parts_of self.new) }
+        ensures disks { disks_of self.new ≡ disks_of self.old }
         ensures events { self.new.events ≡ self.old.events }
     {
         Told::of(self.driver.restart(&mut self.memory, &mut self.iommu))
@@ -73,6 +76,7 @@ impl World {
     /// A fence that waits for devices is given up; `NoEffect` where none does.
     pub(crate) fn timeout(&mut self) -> Told
         ensures does { TimesOutFence (parts_of self.old) (outcome_of result) (parts_of self.new) }
+        ensures disks { disks_of self.new ≡ disks_of self.old }
         ensures events { self.new.events ≡ self.old.events }
     {
         Told::of_timeout(self.iommu.timeout())
@@ -83,6 +87,7 @@ impl World {
         requires epochs { (id : ℕ) → epoch_in self.old.devices.items id < self.old.events }
         requires count { self.old.events < 2 ^ 64 }
         ensures does { ResetsDevice (parts_of self.old) device (outcome_of result) (parts_of self.new) }
+        ensures disks { disks_of self.new ≡ disks_of self.old }
         ensures events { self.new.events ≡ self.old.events }
     {
         let Some(_kind) = self.kind_of(device) else {

@@ -2,8 +2,9 @@
 ghost use Rattle.std.specs.Prelude.{◌≡◌, ◌+◌, ◌<◌, ◌^◌};
 ghost use Rattle.iom_base.specs.Accesses.{read_of, write_of};
 ghost use Rattle.iom_iommu.specs.Parts.{flights_of};
+ghost use Rattle.iom_machine.specs.Kinds.{sends_untranslated};
 ghost use Rattle.iom_world.specs.Requests.{AsksAccess, reply_told_of};
-ghost use Rattle.iom_world.specs.Seen.{parts_of};
+ghost use Rattle.iom_world.specs.Seen.{parts_of, disks_of};
 ghost use Rattle.iom_world.specs.Told.{outcome_of};
 
 use crate::below::laws_below;
@@ -34,8 +35,9 @@ impl World {
     pub(crate) fn read(&mut self, id: DeviceId, address: u64, len: u64) -> Told
         requires below { (flights_of self.old.iommu).so_far < self.old.events }
         requires count { (flights_of self.old.iommu).so_far + 1 < 2 ^ 64 }
-        ensures does { AsksAccess (parts_of self.old) id (read_of address len) (outcome_of result) (parts_of self.new) }
+        ensures does { AsksAccess sends_untranslated (parts_of self.old) id (read_of address len) (outcome_of result) (parts_of self.new) }
         ensures fits { address < 2 ^ 64 }
+        ensures disks { disks_of self.new ≡ disks_of self.old }
         ensures events { self.new.events ≡ self.old.events }
     {
         laws_below();
@@ -55,8 +57,9 @@ impl World {
     pub(crate) fn write(&mut self, id: DeviceId, address: u64, bytes: &[u8]) -> Told
         requires below { (flights_of self.old.iommu).so_far < self.old.events }
         requires count { (flights_of self.old.iommu).so_far + 1 < 2 ^ 64 }
-        ensures does { AsksAccess (parts_of self.old) id (write_of address bytes.now) (outcome_of result) (parts_of self.new) }
+        ensures does { AsksAccess sends_untranslated (parts_of self.old) id (write_of address bytes.now) (outcome_of result) (parts_of self.new) }
         ensures fits { address < 2 ^ 64 }
+        ensures disks { disks_of self.new ≡ disks_of self.old }
         ensures events { self.new.events ≡ self.old.events }
     {
         laws_below();

@@ -7,7 +7,7 @@ use arrayvec::ArrayVec;
 use iom_base::Cause;
 use iom_fabric::Translation;
 use iom_ledger::Refusal;
-use iom_machine::{FaultRecord, Fetched, Outcome};
+use iom_machine::{BlockStep, FaultRecord, Fetched, Outcome};
 
 /// What comes of an event, but for bytes that are read. An outcome is as large as a page, since those
 /// stand in it; this is small, and is handed from call to call.
@@ -50,6 +50,8 @@ pub(crate) enum Told {
     Dropped,
     Repeated,
     NoMessage,
+    Stepped(BlockStep),
+    Status(u8),
 }
 
 impl Told {
@@ -97,6 +99,8 @@ impl Told {
             Told::Dropped => Outcome::Dropped,
             Told::Repeated => Outcome::Repeated,
             Told::NoMessage => Outcome::NoMessage,
+            Told::Stepped(step) => Outcome::Stepped(step),
+            Told::Status(status) => Outcome::Status(status),
         }
     }
 
@@ -110,10 +114,9 @@ impl Told {
     }
 
     /// Makes the outcome in the place say the same. Where it is one of this kind, only what differs is
-    /// written: a new one would be a whole page. Where the caller knows the kind, a new one is written in
-    /// place; where it may be any, by a call of its own.
+    /// written: a new one would be a whole page.
     #[inline(always)]
-    pub(crate) fn tell<const KIND_IS_KNOWN: bool>(self, place: &mut Outcome)
+    pub(crate) fn tell(self, place: &mut Outcome)
         ensures { place.new ≡ outcome_of self }
     {
         match (self, &mut *place) {
@@ -165,13 +168,11 @@ impl Told {
             (Told::Invalidated(serial), Outcome::Invalidated(held)) => *held = serial,
             (Told::Closed(serial), Outcome::Closed(held)) => *held = serial,
             (Told::NotClosed(serial), Outcome::NotClosed(held)) => *held = serial,
+            (Told::Stepped(step), Outcome::Stepped(held)) => *held = step,
+            (Told::Status(status), Outcome::Status(held)) => *held = status,
             _ => {
-                if KIND_IS_KNOWN {
-                    *place = self.outcome();
-                } else {
-                    let told = self;
-                    told.replace(place);
-                }
+                let told = self;
+                told.replace(place);
             }
         }
     }

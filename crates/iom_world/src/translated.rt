@@ -4,7 +4,7 @@ ghost use Rattle.std.specs.Prelude.{◌≡◌, ◌+◌, ◌<◌, ◌^◌};
 ghost use Rattle.iom_base.specs.Accesses.{read_of, write_of};
 ghost use Rattle.iom_iommu.specs.Parts.{flights_of};
 ghost use Rattle.iom_world.specs.Requests.{AsksTranslated};
-ghost use Rattle.iom_world.specs.Seen.{parts_of};
+ghost use Rattle.iom_world.specs.Seen.{parts_of, disks_of};
 ghost use Rattle.iom_world.specs.Told.{outcome_of};
 
 use crate::below::laws_below;
@@ -20,6 +20,7 @@ impl World {
         requires below { (flights_of self.old.iommu).so_far < self.old.events }
         requires count { (flights_of self.old.iommu).so_far + 1 < 2 ^ 64 }
         ensures does { AsksTranslated (parts_of self.old) id (read_of address len) (outcome_of result) (parts_of self.new) }
+        ensures disks { disks_of self.new ≡ disks_of self.old }
         ensures events { self.new.events ≡ self.old.events }
     {
         laws_below();
@@ -40,6 +41,7 @@ impl World {
         requires below { (flights_of self.old.iommu).so_far < self.old.events }
         requires count { (flights_of self.old.iommu).so_far + 1 < 2 ^ 64 }
         ensures does { AsksTranslated (parts_of self.old) id (write_of address bytes.now) (outcome_of result) (parts_of self.new) }
+        ensures disks { disks_of self.new ≡ disks_of self.old }
         ensures events { self.new.events ≡ self.old.events }
     {
         laws_below();

@@ -18,6 +18,8 @@ pub struct World {
     pub(crate) devices: Vec<Device>,
     /// The messages under way.
     pub(crate) fabric: Fabric,
+    /// The numbers of the disks that were never put into a device.
+    pub(crate) disks: Vec<u64>,
     /// How many events there were.
     pub(crate) events: u64,
     ghost sound: { IsSoundWorld memory iommu driver devices.items fabric events } by { sound_prop memory iommu driver devices.items fabric events },

@@ -58,7 +58,7 @@ fn tell(rt: &HostRuntime, name: &str, verdict: &Verdict) -> io::Result<u8> {
             eprintln!(rt; "iommu-judge: {name}: {verdict}")?;
             Ok(NOT_IN_GRAMMAR)
         }
-        Verdict::Lawful => {
+        Verdict::Lawful { .. } => {
             println!(rt; "{verdict}")?;
             Ok(LAWFUL)
         }

@@ -5,13 +5,14 @@ ghost use Rattle.iom_machine.specs.Frames.{IsFree};
 ghost use Rattle.iom_machine.specs.Refusals.{MayRefusePlug, MayRefuseAttach, MayRefuseGrant, MayFindNoPlace};
 ghost use Rattle.iom_machine.specs.Machine.{Plugs, Attaches, Detaches, Grants, Releases, Fetches, TakesRecord};
 
+use crate::decide::block_devices::without_disk;
 use crate::decide::devices::{place_of, set_attachment, start_leaving};
 use crate::decide::frames::{are_fewer_free, are_fewer_runs_free, are_free_besides, reserve};
 use crate::decide::reasons::{
     attach_refusal, detach_refusal, grant_refusal, plug_refusal, refuses, release_refusal,
 };
 use crate::outcome::Outcome;
-use crate::state::{Attachment, Device, DeviceKind, State};
+use crate::state::{Attachment, Device, NewDevice, State};
 use iom_base::{DeviceId, GrantRights, Mode, Owner, Sequence};
 use iom_ledger::{HistoryEntry, Refusal};
 use std::alloc::{AllocError, Global};
@@ -57,21 +58,24 @@ pub(crate) fn judge_plug(
     alloc: Global,
     state: State,
     id: DeviceId,
-    kind: DeviceKind,
+    what: NewDevice,
     outcome: &Outcome,
 ) -> Result<Option<State>, AllocError>
-    ensures { IfOk result (λ next. (new : State) → (next ≡ Some new) ↔ Plugs state id kind outcome.now new) }
+    ensures { IfOk result (λ next. (new : State) → (next ≡ Some new) ↔ Plugs state id what outcome.now new) }
 {
-    let first = plug_refusal(&state, id);
+    let first = plug_refusal(&state, id, what);
     match outcome {
         Outcome::Done => {
             if first.is_some() {
                 return Ok(None);
             }
             let mut next = state;
+            let left = without_disk(alloc, next.disks.as_slice(), what.disk())?;
+            next.disks = left;
             next.devices.push(Device {
                 id,
-                kind,
+                kind: what.kind(),
+                has_disk: what.disk().is_some(),
                 attachment: Attachment::Detached,
                 accepted: 0,
                 in_flight: Sequence::new(alloc),

@@ -1,5 +1,5 @@
 // Where a device stands, and how it changes.
-ghost use Rattle.std.specs.Prelude.{◌≡◌, ◌<◌, ◌==◌, [], ◌∷◌, ◌++◌, length, find, slice_get, slice_set, MatchOption, OnOk, Some, None, drop};
+ghost use Rattle.std.specs.Prelude.{◌≡◌, ◌<◌, ◌==◌, true, false, [], ◌∷◌, ◌++◌, length, find, slice_get, slice_set, MatchOption, OnOk, Some, None, drop};
 ghost use Rattle.std.specs.Option.{option_copied};
 ghost use Rattle.iom_machine.specs.Judging.{StandsAt};
 ghost use Rattle.iom_machine.specs.Leaving.{leaving_under};
@@ -67,6 +67,16 @@ pub(crate) fn set_attachment(devices: &mut Sequence<Device>, place: usize, attac
     device.attachment = attachment;
 }
 
+/// The device has a disk.
+pub(crate) fn give_disk(devices: &mut Sequence<Device>, place: usize)
+    requires { place < length devices.old }
+    ensures { (device : Device) → slice_get devices.old place ≡ Some device
+        → devices.new ≡ slice_set devices.old place (record device { has_disk = true }) }
+{
+    let device = devices.item_mut(place);
+    device.has_disk = true;
+}
+
 /// What is attached leaves under the ticket.
 fn leaving_under(ticket: u32, attachment: Attachment) -> Attachment
     ensures { result ≡ leaving_under ticket attachment }
@@ -77,13 +87,14 @@ fn leaving_under(ticket: u32, attachment: Attachment) -> Attachment
     }
 }
 
-/// The device leaves under the ticket, where it is attached.
+/// The device leaves under the ticket, where it is attached, and has no disk any more.
 pub(crate) fn start_leaving(devices: &mut Sequence<Device>, place: usize, ticket: u32)
     requires { place < length devices.old }
     ensures { (device : Device) → slice_get devices.old place ≡ Some device
-        → devices.new ≡ slice_set devices.old place (record device { attachment = leaving_under ticket device.attachment }) }
+        → devices.new ≡ slice_set devices.old place (record device { has_disk = false; attachment = leaving_under ticket device.attachment }) }
 {
     let device = devices.item_mut(place);
+    device.has_disk = false;
     device.attachment = leaving_under(ticket, device.attachment);
 }
 

@@ -2,11 +2,12 @@
 ghost use Rattle.std.specs.Prelude.{◌≡◌, ◌↔◌, ◌^◌, ◌≤◌, Some, IfOk, IfSome, length};
 ghost use Rattle.iom_machine.specs.declared.state.State.{State};
 ghost use Rattle.iom_machine.specs.Machine.{ChosenStep};
-ghost use Rattle.iom_machine.specs.Judging.{CallStep, RecoveryStep};
+ghost use Rattle.iom_machine.specs.Judging.{CallStep, RecoveryStep, BlockDeviceStep};
 ghost use Rattle.iom_machine.specs.Verdicts.{IsVerdict, RunsAreChosen};
 
 mod absent;
 mod accesses;
+pub(crate) mod block_devices;
 mod calls;
 mod commits;
 pub(crate) mod cut_off;
@@ -27,6 +28,7 @@ mod translated;
 
 use crate::choice::Choice;
 use crate::decide::accesses::{decide_through_cache, decide_translated, decide_untranslated};
+use crate::decide::block_devices::{judge_medium, judge_queue, judge_status, judge_step};
 use crate::decide::calls::{
     judge_attach, judge_detach, judge_faults, judge_fetch, judge_grant, judge_plug, judge_release,
 };
@@ -56,7 +58,7 @@ fn decide_call(
 {
     let taken = choice.taken.as_slice();
     match event {
-        Event::Plug { device, kind } => judge_plug(alloc, state, *device, *kind, outcome),
+        Event::Plug { device, new } => judge_plug(alloc, state, *device, *new, outcome),
         Event::Attach { device, mode, ats } => {
             let pages = choice.directory.as_slice();
             Ok(judge_attach(state, *device, *mode, *ats, outcome, pages, taken))
@@ -91,6 +93,39 @@ fn decide_recovery(
     }
 }
 
+/// The state after an event that only a block device takes, where it may come so.
+fn decide_block_device(
+    alloc: Global,
+    state: State,
+    event: &Event,
+    outcome: &Outcome,
+    choice: &Choice,
+) -> Result<Option<State>, AllocError>
+    ensures { IfOk result (λ next. (new : State) → (next ≡ Some new) ↔ BlockDeviceStep choice.now state event.now outcome.now new) }
+{
+    match event {
+        Event::Medium { device, disk } => judge_medium(alloc, state, *device, *disk, outcome),
+        Event::Queue {
+            device,
+            size,
+            descriptors,
+            available,
+            used,
+        } => Ok(judge_queue(
+            state,
+            *device,
+            *size,
+            *descriptors,
+            *available,
+            *used,
+            outcome,
+        )),
+        Event::Step { device } => judge_step(alloc, state, *device, outcome, choice),
+        Event::Status { device } => Ok(judge_status(state, *device, outcome)),
+        _ => Ok(None),
+    }
+}
+
 /// The state after the event, where it may come so.
 fn decide(
     alloc: Global,
@@ -113,6 +148,8 @@ fn decide(
         | Event::Restart
         | Event::Timeout
         | Event::Reset { .. } => decide_recovery(state, event, outcome),
+        Event::Medium { .. } | Event::Queue { .. } | Event::Step { .. } | Event::Status { .. } =>
+            decide_block_device(alloc, state, event, outcome, choice),
         Event::Fetch => Ok(judge_fetch(state, outcome)),
         Event::Poll => judge_poll(alloc, state, outcome),
         Event::Faults => Ok(judge_faults(state, outcome)),

@@ -2,6 +2,7 @@
 ghost use Rattle.std.specs.Prelude.{◌≡◌, ◌↔◌, ◌<◌, ◌≤◌, ◌∷◌, [], ◌||◌, ◌-◌, not, nat_le, IsTrue, MatchOption, OnSome, find, ◌==◌};
 ghost use Rattle.std.specs.Option.{option_map_or};
 ghost use Rattle.iom_machine.specs.declared.state.Attachment.TheVariants.{Detached};
+ghost use Rattle.iom_machine.specs.Disks.{is_missing};
 ghost use Rattle.iom_machine.specs.Tickets.{pending_tickets};
 ghost use Rattle.iom_ledger.specs.Refusals.{first_that_applies};
 ghost use Rattle.iom_machine.specs.Refusals.{plug_reasons, attach_reasons, detach_reasons, grant_reasons, release_reasons, quarantine_reasons, revive_reasons, frame_reasons, poke_reasons};
@@ -9,12 +10,13 @@ ghost use Rattle.iom_machine.specs.Refusals.{is_plugged, attachment_of, is_detac
 ghost use Rattle.iom_machine.specs.Refusals.{is_trusted, id_limit, is_too_wide, is_held, is_lingering, has_grants};
 ghost use Rattle.iom_machine.specs.Judging.{attachment_in};
 
+use crate::decide::block_devices::is_among;
 use crate::decide::devices::device_with;
 use crate::decide::frames::has_owner;
 use crate::decide::history::{
     grants_left, is_confirmed, last_ticket_confirmed, lingers_at, pair_held,
 };
-use crate::state::{Attachment, Device, State};
+use crate::state::{Attachment, Device, NewDevice, State};
 use iom_base::{DeviceId, MAX_DEVICES, PAGE_LIMIT};
 use iom_ledger::{HistoryEntry, MAX_PENDING, Refusal};
 
@@ -132,13 +134,25 @@ fn still_granted(state: &State, id: DeviceId) -> bool
     grants_left(state.history.as_slice(), id)
 }
 
-pub(crate) fn plug_refusal(state: &State, id: DeviceId) -> Option<Refusal>
-    ensures { result ≡ first_that_applies (plug_reasons state.now id) }
+/// Whether a disk is named that isn't one of these.
+fn missing(disks: &[u64], named: Option<u64>) -> bool
+    ensures { result ≡ is_missing disks.now named }
+{
+    match named {
+        None => false,
+        Some(disk) => !is_among(disks, disk),
+    }
+}
+
+pub(crate) fn plug_refusal(state: &State, id: DeviceId, what: NewDevice) -> Option<Refusal>
+    ensures { result ≡ first_that_applies (plug_reasons state.now id what) }
 {
     if plugged(state, id) {
         Some(Refusal::AlreadyPlugged)
     } else if state.devices.as_slice().len() >= MAX_DEVICES {
         Some(Refusal::TooManyDevices)
+    } else if missing(state.disks.as_slice(), what.disk()) {
+        Some(Refusal::BadMedium)
     } else {
         None
     }

@@ -215,7 +215,7 @@ fn faults(state: &State, device: &Device, access: &Access, cause: Cause) -> bool
 }
 
 /// Whether a plugged device's request may be answered so.
-fn may_answer(
+pub(crate) fn may_answer(
     state: &State,
     device: &Device,
     access: &Access,
@@ -234,7 +234,7 @@ fn may_answer(
 }
 
 /// The state after the answer.
-fn after_answer(
+pub(crate) fn after_answer(
     state: State,
     place: usize,
     access: Access,

@@ -94,7 +94,7 @@ fn finds_no_context(state: &State, device: &Device, access: &Access, cause: Caus
 }
 
 /// Whether this may come of a plugged device's access through its cache.
-fn may_answer(
+pub(crate) fn may_answer(
     state: &State,
     device: &Device,
     access: &Access,
@@ -114,7 +114,7 @@ fn may_answer(
 }
 
 /// The state after it.
-fn after_answer(
+pub(crate) fn after_answer(
     state: State,
     place: usize,
     access: Access,

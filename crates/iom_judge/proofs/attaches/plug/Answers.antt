@@ -11,10 +11,10 @@ returns-in-Done c = rw c.in-Done.is c.plug_done.ensures
 
 pub returns-in-Refused : goal.returns-in-Refused
 returns-in-Refused c told past is =
-    stays c.args.known.now (events.Plug c.args.id c.args.kind) c.args.outcome.now past is
+    stays c.args.known.now (events.Plug c.args.id c.args.what) c.args.outcome.now past is
     (λ frames allowed.
     let state = state_of c.args.known.now past.history frames in
-    let refused : IsRefusedBy (plug_reasons state c.args.id) MayRefusePlug c.in-Refused.why =
-    refused_by c.plug_refusal.result (plug_reasons state c.args.id) c.is_memory.result MayRefusePlug c.in-Refused.why c.plug_refusal.ensures
+    let refused : IsRefusedBy (plug_reasons state c.args.id c.args.what) MayRefusePlug c.in-Refused.why =
+    refused_by c.plug_refusal.result (plug_reasons state c.args.id c.args.what) c.is_memory.result MayRefusePlug c.in-Refused.why c.plug_refusal.ensures
     (λ memory. subst MayRefusePlug (sym (c.is_memory.ensures.0 memory)) tt) (c.refuses.ensures.0 told) in
     rw c.in-Refused.is (refused, same_state state))

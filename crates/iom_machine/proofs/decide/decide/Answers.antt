@@ -3,7 +3,7 @@ use Rattle.iom_machine.proofs.decide.decide.Goals as goal
 
 pub returns-in-Plug : goal.returns-in-Plug
 returns-in-Plug c = elim c.in-Plug.is [
-  | inl (device, kind, is) ↦ rw is (rw is at c.decide_call.ensures)
+  | inl (device, what, is) ↦ rw is (rw is at c.decide_call.ensures)
   | inr (inl (device, mode, ats, is)) ↦ rw is (rw is at c.decide_call.ensures)
   | inr (inr (inl (device, is))) ↦ rw is (rw is at c.decide_call.ensures)
   | inr (inr (inr (inl (device, page, frame, rights, is)))) ↦ rw is (rw is at c.decide_call.ensures)
@@ -35,4 +35,12 @@ returns-in-Quarantine c = elim c.in-Quarantine.is [
   | inr (inr (inl is)) ↦ rw is (rw is at c.decide_recovery.ensures)
   | inr (inr (inr (inl is))) ↦ rw is (rw is at c.decide_recovery.ensures)
   | inr (inr (inr (inr (device, is)))) ↦ rw is (rw is at c.decide_recovery.ensures)
+]
+
+pub returns-in-Medium : goal.returns-in-Medium
+returns-in-Medium c = elim c.in-Medium.is [
+  | inl (device, disk, is) ↦ rw is (rw is at c.decide_block_device.ensures)
+  | inr (inl (device, size, descriptors, available, used, is)) ↦ rw is (rw is at c.decide_block_device.ensures)
+  | inr (inr (inl (device, is))) ↦ rw is (rw is at c.decide_block_device.ensures)
+  | inr (inr (inr (device, is))) ↦ rw is (rw is at c.decide_block_device.ensures)
 ]

@@ -33,4 +33,10 @@ pub returns-in-102 : goal.returns-in-102
 returns-in-102 c = under_first c.args.line.now c.in-Some-first.first.now 102 c.under_f.result c.in_default.ensures c.in-Some-first.ensures.value c.in-102.is c.under_f.ensures
 
 pub returns-in-113 : goal.returns-in-113
-returns-in-113 c = under_first c.args.line.now c.in-Some-first.first.now 113 c.quarantine.result c.in_default.ensures c.in-Some-first.ensures.value c.in-113.is c.quarantine.ensures
+returns-in-113 c = under_first c.args.line.now c.in-Some-first.first.now 113 c.under_q.result c.in_default.ensures c.in-Some-first.ensures.value c.in-113.is c.under_q.ensures
+
+pub returns-in-115 : goal.returns-in-115
+returns-in-115 c = under_first c.args.line.now c.in-Some-first.first.now 115 c.under_s.result c.in_default.ensures c.in-Some-first.ensures.value c.in-115.is c.under_s.ensures
+
+pub returns-in-109 : goal.returns-in-109
+returns-in-109 c = under_first c.args.line.now c.in-Some-first.first.now 109 c.medium.result c.in_default.ensures c.in-Some-first.ensures.value c.in-109.is c.medium.ensures

@@ -1,4 +1,5 @@
 use Rattle.std.proofs.Common.{◌≡◌, ◌==◌, [], Some, find, refl, sym}
+use Rattle.iom_base.specs.Accesses.{read_of}
 use Rattle.iom_judge.proofs.known.Known.answer.Goals as goal
 
 pub returns-in-Some : goal.returns-in-Some
@@ -10,6 +11,6 @@ returns-in-Some c told place past is =
       from_before = λ frames allowed. record {
         frames = frames;
         allowed = allowed;
-        step = (record { directory = []; taken = []; frame = 0; device = c.args.asker; page = c.args.page }, (rw asked (c.may_tell.ensures told past frames is), refl));
+        step = (record { directory = []; taken = []; frame = 0; device = c.args.asker; page = c.args.page; access = read_of 0 1 }, (rw asked (c.may_tell.ensures told past frames is), refl));
       };
     }

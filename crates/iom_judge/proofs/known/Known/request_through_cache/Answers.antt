@@ -1,36 +1,33 @@
-use Rattle.std.proofs.Common.{◌≡◌, ◌∙◌, [], Some, slice_get, refl, sym, subst}
+use Rattle.std.proofs.Common.{◌≡◌, ◌∙◌, true, IsTrue, Some, slice_get, refl, sym}
 use Rattle.std.proofs.lemmas.Option.{slice_get_read}
+use Rattle.iom_machine.specs.BlockDevices.{IsAnswered}
+use Rattle.iom_machine.specs.Judging.{StandsAt}
 use Rattle.iom_machine.specs.Kinds.{sends_through_cache}
-use Rattle.iom_machine.specs.ThroughCache.{MayAnswerThroughCache, state_after_cached}
-use Rattle.iom_machine.specs.declared.outcome.Outcome.{Outcome}
-use Rattle.iom_judge.specs.Allowed.{state_of}
-use Rattle.iom_judge.proofs.RequestSteps.{able_step, led_stays, same_after_cached, accepted_cached_explained}
+use Rattle.iom_machine.specs.Machine.{RequestsThroughCache}
+use Rattle.iom_machine.specs.declared.state.Device.{Device}
+use Rattle.iom_machine.specs.declared.state.State.{State}
+use Rattle.iom_machine.proofs.StepLemmas.{own_place}
+use Rattle.iom_judge.specs.Allowed.{Past, IsTrueOf}
+use Rattle.iom_judge.specs.Steps.{IsLedBack}
+use Rattle.iom_judge.proofs.AskedSteps.{if_ok_as}
+use Rattle.iom_judge.proofs.RequestSteps.{acts_led}
 use Rattle.iom_judge.proofs.known.Known.request_through_cache.Goals as goal
 
-pub returns-in-None : goal.returns-in-None
-returns-in-None c told past is =
+pub returns : goal.returns
+returns c =
+    let old = c.args.self.now in
     let place = rw c.as_slice.ensures at c.in-Some.ensures in
     let device = c.index-as_slice-place.result in
-    let at : slice_get c.args.self.now.devices c.in-Some.place ≡ Some device =
-    slice_get_read c.args.self.now.devices _ c.in-Some.place device refl place.0 (rw c.as_slice-2.ensures at c.index-as_slice-place.is) in
-    led_stays c.args.self.now _ past is
-    (λ frames. able_step sends_through_cache
-    (λ dev. MayAnswerThroughCache (state_of c.args.self.now past.history frames) dev c.args.access c.args.frame c.args.outcome.now
-    × (state_of c.args.self.now past.history frames ≡ state_after_cached (state_of c.args.self.now past.history frames) dev c.args.access c.args.frame c.args.outcome.now))
-    (state_of c.args.self.now past.history frames) (state_of c.args.self.now past.history frames) c.args.id c.args.outcome.now device (place.1 ∙ at)
-    (sym c.sends_through_cache.ensures ∙ c.if-not-sends_through_cache.false) (
-      c.may_answer_cached.ensures c.if-not-may_answer_cached.false past frames is,
-      same_after_cached (state_of c.args.self.now past.history frames) device c.args.access c.args.frame c.args.outcome.now c.in-None.ensures,
-    ))
-
-pub returns-in_ok-accept-in-Some-accepted_number : goal.returns-in_ok-accept-in-Some-accepted_number
-returns-in_ok-accept-in-Some-accepted_number c told past is =
-    let place = rw c.as_slice.ensures at c.in-Some.ensures in
-    let device = c.index-as_slice-place.result in
-    let at : slice_get c.args.self.now.devices c.in-Some.place ≡ Some device =
-    slice_get_read c.args.self.now.devices _ c.in-Some.place device refl place.0 (rw c.as_slice-2.ensures at c.index-as_slice-place.is) in
-    let answer = subst (λ (o : Outcome). MayAnswerThroughCache (state_of c.args.self.now past.history []) device c.args.access c.args.frame o) c.in-Some-accepted_number.ensures
-    (c.may_answer_cached.ensures c.if-not-may_answer_cached.false past [] is) in
-    accepted_cached_explained c.args.self.now past _ c.args.id c.in-Some.place c.in-Some-accepted_number.number c.args.frame c.args.access device c.args.outcome.now is place at
-    (sym c.sends_through_cache.ensures ∙ c.if-not-sends_through_cache.false) (λ frames. c.may_answer_cached.ensures c.if-not-may_answer_cached.false past frames is) c.in-Some-accepted_number.ensures answer.2
-    (rw c.at_frame-sent.ensures at c.in_ok-accept-in-Some-accepted_number.ensures device at)
+    let at : slice_get old.devices c.in-Some.place ≡ Some device =
+    slice_get_read old.devices _ c.in-Some.place device refl place.0 (rw c.as_slice-2.ensures at c.index-as_slice-place.is) in
+    if_ok_as c.answer_through_cache.result
+    (λ may. IsTrue may → (dev : Device) → slice_get old.devices c.in-Some.place ≡ Some dev → StandsAt old.devices dev.id c.in-Some.place
+    → (past : Past) → IsTrueOf old past
+    → IsLedBack old c.answer_through_cache.new.known (λ before after. IsAnswered true before dev c.args.access c.args.frame c.args.outcome.now after) past)
+    (λ may. IsTrue may → (past : Past) → IsTrueOf old past
+    → IsLedBack old c.answer_through_cache.new.known (λ before after. RequestsThroughCache c.args.frame before c.args.id c.args.access c.args.outcome.now after) past)
+    (λ may led told past is. acts_led sends_through_cache old c.answer_through_cache.new.known past c.args.id c.in-Some.place c.args.outcome.now device
+    (λ (before : State) (dev : Device) (after : State). IsAnswered true before dev c.args.access c.args.frame c.args.outcome.now after) place at
+    (sym c.sends_through_cache.ensures ∙ c.if-not-sends_through_cache.false)
+    (led told device at (own_place old.devices c.args.id c.in-Some.place device place at) past is))
+    c.answer_through_cache.ensures

@@ -1,4 +1,3 @@
-use Rattle.std.proofs.Common.{Option, Some, sym, subst}
 use Rattle.iom_virtio_blk.proofs.StepLemmas.{tells_inserted}
 use Rattle.iom_virtio_blk.proofs.blk.Blk.insert.Goals as goal
 

@@ -1,4 +1,4 @@
-use Rattle.std.proofs.Common.{refl}
+use Rattle.std.proofs.Common.{refl, arith}
 use Rattle.iom_driver.specs.Seen.{state_of}
 use Rattle.iom_world.specs.Answers.{ticket_told_of}
 use Rattle.iom_world.specs.Parts.{Parts}
@@ -7,11 +7,14 @@ use Rattle.iom_world.proofs.DriverLemmas.{sound_driver}
 use Rattle.iom_world.proofs.DetachKeeps.{keeps_detached}
 use Rattle.iom_world.proofs.world.World.detach.Goals as goal
 
+pub let_go-requires : goal.let_go-requires
+let_go-requires c = let below = c.requires.epochs c.args.id in let count = c.requires.count in omega (arith, below, count)
+
 pub invariant_of-self : goal.invariant_of-self
 invariant_of-self c =
     let world = c.args.self.now in
-    let new : Parts = record { memory = c.detach-answer.new.memory; iommu = c.detach-answer.new.io; driver = state_of c.detach-answer.new.self; devices = world.devices.items; fabric = world.fabric } in
+    let new : Parts = record { memory = c.detach-answer.new.memory; iommu = c.detach-answer.new.io; driver = state_of c.detach-answer.new.self; devices = c.let_go.new.devices.items; fabric = world.fabric } in
     record {
-      sound = keeps_detached (parts_of world) new world.events c.args.id (ticket_told_of c.detach-answer.result) world.sound (sound_driver world.driver) c.detach-answer.ensures.ready
-          record { answer = c.detach-answer.result; told_so = refl; call = c.detach-answer.ensures.effect; devices = refl; fabric = refl };
+      sound = keeps_detached (parts_of world) new world.events c.args.id (ticket_told_of c.detach-answer.result) world.sound (sound_driver world.driver) c.detach-answer.ensures.ready (c.requires.epochs c.args.id)
+          record { answer = c.detach-answer.result; told_so = refl; call = c.detach-answer.ensures.effect; devices = c.let_go.ensures; fabric = refl };
     }

@@ -1,6 +1,6 @@
 use Rattle.std.proofs.Common.{arith}
 use Rattle.iom_world.specs.Seen.{parts_of}
-use Rattle.iom_world.proofs.RunLemmas.{sound_counted, below_counted, serials_counted, epochs_counted}
+use Rattle.iom_world.proofs.EventLemmas.{sound_counted, below_counted, serials_counted, epochs_counted}
 use Rattle.iom_world.proofs.world.World.dispatch.Goals as goal
 
 pub invariant_of-self : goal.invariant_of-self
@@ -29,3 +29,9 @@ dispatch_ats-requires-clause-below c = let world = c.args.self.now in below_coun
 
 pub dispatch_ats-requires-clause-epochs : goal.dispatch_ats-requires-clause-epochs
 dispatch_ats-requires-clause-epochs c = let world = c.args.self.now in epochs_counted (parts_of world) world.events world.sound
+
+pub dispatch_block-requires-clause-epochs : goal.dispatch_block-requires-clause-epochs
+dispatch_block-requires-clause-epochs c = let world = c.args.self.now in epochs_counted (parts_of world) world.events world.sound
+
+pub detach-requires-clause-epochs : goal.detach-requires-clause-epochs
+detach-requires-clause-epochs c = let world = c.args.self.now in epochs_counted (parts_of world) world.events world.sound

@@ -1,4 +1,4 @@
-use Rattle.std.proofs.Common.{refl}
+use Rattle.std.proofs.Common.{refl, sym}
 use Rattle.iom_driver.specs.Seen.{state_of}
 use Rattle.iom_world.proofs.StartLemmas.{IsStarted, sound_started, shows_started, memory_is, iommu_started}
 use Rattle.iom_world.proofs.world.World.new.Goals as goal
@@ -30,7 +30,7 @@ returns-clause-begins c =
       quiet = c.new-fabric.ensures;
     } in
     record {
-      shows = shows_started _ _ _ _ _ _ _ _ _ _ started;
+      shows = (shows_started _ _ _ _ _ _ _ _ _ _ started c.args.disks.now, sym c.in-Ok-numbers_of.ensures);
       memory = memory_is _ _ _ _ _ _ _ _ _ _ started;
       iommu = iommu_started _ _ _ _ _ _ _ _ _ _ started;
       commands = c.start.ensures.effect.empty;

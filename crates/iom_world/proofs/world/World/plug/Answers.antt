@@ -1,64 +1,88 @@
-use Rattle.std.proofs.Common.{rules, refl, subst, arith, Ok, Err}
+use Rattle.std.proofs.Common.{◌≡◌, ◌∙◌, rules, inr, ℕ, List, false, refl, sym, ap, subst, arith, Ok, Err}
 use Rattle.iom_driver.specs.Calls.{AnswersPlug}
-use Rattle.iom_machine.specs.Refusals.{has_cache}
 use Rattle.iom_driver.specs.Seen.{state_of}
-use Rattle.iom_ledger.specs.declared.refusal.Refusal.TheVariants.{AlreadyPlugged, TooManyDevices, Memory}
+use Rattle.iom_ledger.specs.declared.refusal.Refusal.TheVariants.{Memory}
+use Rattle.iom_machine.specs.Disks.{is_missing}
+use Rattle.iom_machine.specs.Kinds.{kind_of, disk_of}
+use Rattle.iom_machine.specs.Refusals.{has_cache}
 use Rattle.iom_machine.specs.declared.outcome.Outcome.TheVariants.{Done}
 use Rattle.iom_world.specs.Parts.{Parts}
 use Rattle.iom_world.specs.Places.{IsAbsent}
-use Rattle.iom_world.specs.Seen.{parts_of}
+use Rattle.iom_world.specs.Seen.{parts_of, disks_of}
 use Rattle.iom_world.proofs.PlugKeeps.{keeps_plugged}
-use Rattle.iom_world.proofs.PlugRefused.{already_plugged, too_many, no_memory, absent_if_not, added_new, ready_still}
+use Rattle.iom_world.proofs.PlugRefused.{plugged_already, plugged_many, lacks_disk, no_memory, absent_if_not, added_new, ready_still}
 use Rattle.iom_world.proofs.world.World.plug.Goals as goal
 
 pub returns-then-is_plugged-clause-does : goal.returns-then-is_plugged-clause-does
 returns-then-is_plugged-clause-does c =
     let world = c.args.self.now in
-    record {
-      answer = Err AlreadyPlugged;
-      told_so = refl;
-      call = already_plugged (state_of world.driver) world.devices.items c.args.id (has_cache c.args.kind) world.sound.known.driver (c.is_plugged.ensures.0 c.if-is_plugged.true);
-      row = refl;
-      devices = refl;
-      memory = refl;
-      fabric = refl;
-    }
+    plugged_already (disks_of world) (parts_of world) c.args.id c.args.what world.sound.known (c.is_plugged.ensures.0 c.if-is_plugged.true)
 
 pub returns-then-len-ge-MAX_DEVICES-clause-does : goal.returns-then-len-ge-MAX_DEVICES-clause-does
 returns-then-len-ge-MAX_DEVICES-clause-does c =
     let world = c.args.self.now in
     let absent : IsAbsent world.devices.items c.args.id = absent_if_not world.devices.items c.args.id c.is_plugged.result c.if-is_plugged.false c.is_plugged.ensures.1 in
-    record {
-      answer = Err TooManyDevices;
-      told_so = refl;
-      call = too_many (state_of world.driver) world.devices.items c.args.id (has_cache c.args.kind) world.sound.known.driver absent (omega arith);
-      row = refl;
-      devices = refl;
-      memory = refl;
-      fabric = refl;
-    }
+    plugged_many (disks_of world) (parts_of world) c.args.id c.args.what world.sound.known absent (omega arith)
+
+pub returns-then-is_missing-clause-does : goal.returns-then-is_missing-clause-does
+returns-then-is_missing-clause-does c =
+    let world = c.args.self.now in
+    let absent : IsAbsent world.devices.items c.args.id = absent_if_not world.devices.items c.args.id c.is_plugged.result c.if-is_plugged.false c.is_plugged.ensures.1 in
+    lacks_disk (disks_of world) (parts_of world) c.args.id c.args.what world.sound.known absent (omega arith)
+    (ap (λ (ds : List ℕ). is_missing ds (disk_of c.args.what)) (sym c.deref.ensures.value) ∙ ap (is_missing c.deref.result.now) (sym c.disk-disk.ensures) ∙ sym c.is_missing.ensures ∙ c.if-is_missing.true)
 
 pub returns-then-is_err-clause-does : goal.returns-then-is_err-clause-does
 returns-then-is_err-clause-does c =
     let world = c.args.self.now in
     let absent : IsAbsent world.devices.items c.args.id = absent_if_not world.devices.items c.args.id c.is_plugged.result c.if-is_plugged.false c.is_plugged.ensures.1 in
-    record {
+    let found : is_missing world.disks.items (disk_of c.args.what) ≡ false =
+    ap (λ (ds : List ℕ). is_missing ds (disk_of c.args.what)) (sym c.deref.ensures.value) ∙ ap (is_missing c.deref.result.now) (sym c.disk-disk.ensures) ∙ sym c.is_missing.ensures ∙ c.if-is_missing.false in
+    inr (record {
       answer = Err Memory;
       told_so = refl;
-      call = no_memory (state_of world.driver) world.devices.items c.args.id (has_cache c.args.kind) world.sound.known.driver absent (omega arith);
+      call = no_memory (state_of world.driver) world.devices.items c.args.id (has_cache (kind_of c.args.what)) world.sound.known.driver absent (omega arith);
+      disk = λ none. found;
       row = refl;
       devices = c.reserve.ensures.items;
       memory = refl;
       fabric = refl;
-    }
+    })
 
 pub invariant_of-self-2 : goal.invariant_of-self-2
 invariant_of-self-2 c =
     let world = c.args.self.now in
     let absent : IsAbsent world.devices.items c.args.id = absent_if_not world.devices.items c.args.id c.is_plugged.result c.if-is_plugged.false c.is_plugged.ensures.1 in
+    let found : is_missing world.disks.items (disk_of c.args.what) ≡ false =
+    ap (λ (ds : List ℕ). is_missing ds (disk_of c.args.what)) (sym c.deref.ensures.value) ∙ ap (is_missing c.deref.result.now) (sym c.disk-disk.ensures) ∙ sym c.is_missing.ensures ∙ c.if-is_missing.false in
     let new : Parts = record { memory = world.memory; iommu = c.add.new.self; driver = state_of c.plug.new.self; devices = c.push.new.self.items; fabric = world.fabric } in
     let ready = c.plug.ensures.ready _ _ world.sound.ready in
     record {
-      sound = keeps_plugged (parts_of world) new world.events c.args.id c.args.kind Done world.sound (ready_still (state_of c.plug.new.self) world.memory world.iommu c.add.new.self c.args.id c.add.result c.add.ensures ready)
-          record { answer = Ok tt; told_so = refl; call = subst (λ trusted. AnswersPlug (state_of world.driver) c.args.id trusted (Ok tt) (state_of c.plug.new.self)) c.has_cache.ensures c.in_default.ensures.effect; row = added_new world.iommu world.devices.items c.args.id c.add.result c.add.new.self world.sound.known.iommu absent (omega arith) c.add.ensures; devices = search rules; memory = refl; fabric = refl };
+      sound = keeps_plugged (disks_of world) (parts_of world) new world.events c.args.id c.args.what Done world.sound (ready_still (state_of c.plug.new.self) world.memory world.iommu c.add.new.self c.args.id c.add.result c.add.ensures ready)
+          record {
+            answer = Ok tt;
+            told_so = refl;
+            call = subst (λ trusted. AnswersPlug (state_of world.driver) c.args.id trusted (Ok tt) (state_of c.plug.new.self)) (c.has_cache.ensures ∙ ap has_cache c.kind-kind.ensures) c.in_default.ensures.effect;
+            disk = λ none. found;
+            row = added_new world.iommu world.devices.items c.args.id c.add.result c.add.new.self world.sound.known.iommu absent (omega arith) c.add.ensures;
+            devices = search rules;
+            memory = refl;
+            fabric = refl;
+          };
     }
+
+pub returns-clause-does : goal.returns-clause-does
+returns-clause-does c =
+    let world = c.args.self.now in
+    let absent : IsAbsent world.devices.items c.args.id = absent_if_not world.devices.items c.args.id c.is_plugged.result c.if-is_plugged.false c.is_plugged.ensures.1 in
+    let found : is_missing world.disks.items (disk_of c.args.what) ≡ false =
+    ap (λ (ds : List ℕ). is_missing ds (disk_of c.args.what)) (sym c.deref.ensures.value) ∙ ap (is_missing c.deref.result.now) (sym c.disk-disk.ensures) ∙ sym c.is_missing.ensures ∙ c.if-is_missing.false in
+    inr (record {
+      answer = Ok tt;
+      told_so = refl;
+      call = subst (λ trusted. AnswersPlug (state_of world.driver) c.args.id trusted (Ok tt) (state_of c.plug.new.self)) (c.has_cache.ensures ∙ ap has_cache c.kind-kind.ensures) c.in_default.ensures.effect;
+      disk = λ none. found;
+      row = added_new world.iommu world.devices.items c.args.id c.add.result c.add.new.self world.sound.known.iommu absent (omega arith) c.add.ensures;
+      devices = search rules;
+      memory = refl;
+      fabric = refl;
+    })

@@ -19,7 +19,7 @@ use Rattle.iom_world.specs.Parts.{Parts}
 use Rattle.iom_world.specs.Places.{IsPresent}
 use Rattle.iom_world.specs.Requests.{reply_told_of}
 use Rattle.iom_world.specs.Seen.{parts_of}
-use Rattle.iom_world.specs.ThroughCache.{AsksThroughCache, FindsFrame}
+use Rattle.iom_world.specs.ThroughCache.{AsksThroughCache, FindsFrame, kinds_of}
 use Rattle.iom_world.specs.Told.{outcome_of}
 use Rattle.iom_world.proofs.AskedLemmas.{keeps_through_cache_counted}
 use Rattle.iom_world.proofs.DriverLemmas.{sound_driver}
@@ -69,7 +69,7 @@ returns-then-in_flight-ge-MAX_IN_FLIGHT-clause-does c =
     let device = c.in-Some.device.now in
     let row = row_present (flights_of world.iommu).rows world.devices.items c.args.id world.sound.known.iommu (present_at world.devices.items c.args.id device c.in-Some.ensures) in
     inr (inr (
-      (device.kind, kind_at world.devices.items c.args.id device c.in-Some.ensures, sym c.sends_through_cache.ensures ∙ c.if-not-sends_through_cache.false),
+      (device.kind, kind_at world.devices.items c.args.id device c.in-Some.ensures, sym c.is_of.ensures ∙ c.if-not-is_of.false),
       inr (inl (
         c.new.ensures.found.0 c.if-is_none.ensures,
         is_full (flights_of world.iommu) c.args.id c.in_flight.result row c.in_flight.ensures.count c.if-in_flight-ge-MAX_IN_FLIGHT.true,
@@ -86,7 +86,7 @@ returns-in_default-look-clause-does c =
     let row = row_present (flights_of world.iommu).rows world.devices.items c.args.id world.sound.known.iommu (present_at world.devices.items c.args.id device c.in-Some.ensures) in
     let none = looked world.devices.items c.args.id device access c.unwrap-page.result c.new-2.result c.look.result c.in-Some.ensures c.unwrap-page.ensures c.new-2.ensures.value c.look.ensures ∙ c.in_default-look.is in
     inr (inr (
-      (device.kind, kind_at world.devices.items c.args.id device c.in-Some.ensures, sym c.sends_through_cache.ensures ∙ c.if-not-sends_through_cache.false),
+      (device.kind, kind_at world.devices.items c.args.id device c.in-Some.ensures, sym c.is_of.ensures ∙ c.if-not-is_of.false),
       inr (inr (
         c.new.ensures.found.0 c.if-is_none.ensures,
         has_room (flights_of world.iommu) c.args.id c.in_flight.result row c.in_flight.ensures.count c.if-in_flight-ge-MAX_IN_FLIGHT.false,
@@ -101,7 +101,7 @@ translated-requires-clause-added c =
 
 -- where the cache has a frame, the IOMMU is asked with its address
 asks_so : (c : After-translated) (told : Outcome) → told ≡ reply_told_of c.translated.result
-    → AsksThroughCache (parts_of c.args.self.now) c.args.id (access_of c.args.address c.args.len c.args.kind c.args.bytes.now) told (record {
+    → AsksThroughCache (kinds_of c.args.sender) (parts_of c.args.self.now) c.args.id (access_of c.args.address c.args.len c.args.kind c.args.bytes.now) told (record {
       memory = c.translated.new.memory;
       iommu = c.translated.new.self;
       driver = state_of c.args.self.now.driver;
@@ -118,7 +118,7 @@ asks_so c told is =
     let answered = subst (λ n. AnswersTranslated world.memory world.iommu c.args.id (access_of (n * 4096 + c.args.address % 4096) c.args.len c.args.kind c.args.bytes.now) c.translated.result
     c.translated.new.memory c.translated.new.self) c.from.ensures c.translated.ensures.answered in
     inr (inr (
-      (device.kind, kind_at world.devices.items c.args.id device c.in-Some.ensures, sym c.sends_through_cache.ensures ∙ c.if-not-sends_through_cache.false),
+      (device.kind, kind_at world.devices.items c.args.id device c.in-Some.ensures, sym c.is_of.ensures ∙ c.if-not-is_of.false),
       inr (inr (
         c.new.ensures.found.0 c.if-is_none.ensures,
         has_room (flights_of world.iommu) c.args.id c.in_flight.result row c.in_flight.ensures.count c.if-in_flight-ge-MAX_IN_FLIGHT.false,
@@ -132,7 +132,7 @@ invariant_of-self c =
     let world = c.args.self.now in
     let new : Parts = record { memory = c.translated.new.memory; iommu = c.translated.new.self; driver = state_of world.driver; devices = world.devices.items; fabric = world.fabric } in
     record {
-      sound = keeps_through_cache_counted c.laws_below.ensures world.driver (parts_of world) new world.events c.args.id (access_of c.args.address c.args.len c.args.kind c.args.bytes.now)
+      sound = keeps_through_cache_counted (kinds_of c.args.sender) c.laws_below.ensures world.driver (parts_of world) new world.events c.args.id (access_of c.args.address c.args.len c.args.kind c.args.bytes.now)
           (reply_told_of c.translated.result) world.sound (sound_driver world.driver) refl c.requires.below (asks_so c (reply_told_of c.translated.result) refl);
     }
 

@@ -2,6 +2,7 @@ use Rattle.std.proofs.Common.{◌∙◌, inl, inr, refl, sym}
 use Rattle.iom_base.specs.Accesses.{write_of}
 use Rattle.iom_driver.specs.Seen.{state_of}
 use Rattle.iom_iommu.specs.Parts.{flights_of}
+use Rattle.iom_machine.specs.Kinds.{sends_untranslated}
 use Rattle.iom_world.specs.Parts.{Parts}
 use Rattle.iom_world.specs.Requests.{reply_told_of}
 use Rattle.iom_world.specs.Seen.{parts_of}
@@ -20,7 +21,7 @@ invariant_of-self c =
     let world = c.args.self.now in
     let new : Parts = record { memory = c.request.new.memory; iommu = c.request.new.self; driver = state_of world.driver; devices = world.devices.items; fabric = world.fabric } in
     record {
-      sound = keeps_asked_counted c.laws_below.ensures world.driver (parts_of world) new world.events c.args.id (write_of c.args.address c.args.bytes.now) (reply_told_of c.request.result) world.sound (sound_driver world.driver) refl c.requires.below c.ranges.address.fits
+      sound = keeps_asked_counted sends_untranslated c.laws_below.ensures world.driver (parts_of world) new world.events c.args.id (write_of c.args.address c.args.bytes.now) (reply_told_of c.request.result) world.sound (sound_driver world.driver) refl c.requires.below c.ranges.address.fits
           (inr (inr ((c.in-Some.kind, sym c.kind_of.ensures ∙ c.in-Some.is, sym c.sends_untranslated.ensures ∙ c.if-not-sends_untranslated.false), record { reply = c.request.result; told_so = refl; call = c.request.ensures.answered; driver = refl; devices = refl; fabric = refl })));
     }
 

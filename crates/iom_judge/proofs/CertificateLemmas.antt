@@ -1,0 +1,180 @@
+-- A run grows with each line, and what is certified with it.
+use Rattle.std.proofs.Common.{◌≡◌, ◌≢◌, ◌∙◌, ℕ, Bool, true, false, List, [], ◌∷◌, ◌++◌, Option, None, Some, Result, Ok, Err, IfOk, IfSome, IsSomeAnd, IsTrue, MatchOption, refl, sym, ap, subst, append-nil}
+use Rattle.std.proofs.lemmas.Bool.{false≢true}
+use Rattle.std.proofs.lemmas.List.Elements.{All-nil, filter-append}
+use Rattle.std.proofs.KnownBytes.{Consumes-nil}
+use Rattle.iom_machine.specs.declared.event.Event.{Event}
+use Rattle.iom_machine.specs.declared.outcome.Outcome.{Outcome}
+use Rattle.iom_machine.specs.declared.state.State.{State}
+use Rattle.iom_machine.specs.Machine.{Run, Step}
+use Rattle.iom_machine.proofs.ReclaimLemmas.{reclaims}
+use Rattle.iom_script.specs.declared.script.WorldSize.{WorldSize}
+use Rattle.iom_script.specs.Grammar.{is_spoken, spoken}
+use Rattle.iom_script.specs.Words.{IsWithout}
+use Rattle.iom_judge.specs.Allowed.{Past, IsTrueOf, state_of}
+use Rattle.iom_judge.specs.Certificates.{is_certificate, four_disks, opening_of, SaysStep, SaySteps, AreOfRun, AreLawful, IsLawfulTrace}
+use Rattle.iom_judge.specs.Certified.{IsCertified, IsCertifiedBy, Certify, CertifyIf, GoesOn, AreLines, Holds, HasTaken, HasJudged}
+use Rattle.iom_judge.specs.Starts.{IsPowerOn, SomeAreAllowed}
+use Rattle.iom_judge.specs.Steps.{IsExplained}
+use Rattle.iom_judge.specs.TraceLines.{SaysLine}
+use Rattle.iom_judge.specs.declared.belief.Belief.{Belief}
+use Rattle.iom_judge.specs.declared.known.Known.{Known}
+use Rattle.iom_judge.specs.declared.trace.TraceLine.{TraceLine}
+use Rattle.iom_judge.specs.declared.trace.TraceLine.TheVariants as says
+use Rattle.iom_judge.specs.declared.verdict.Verdict.{Verdict}
+
+-- one step more, at the end of a run
+run_more : (first before after : State) (events : List Event) (outcomes : List Outcome) (event : Event) (outcome : Outcome)
+    → Run first events outcomes before → Step before event outcome after → Run first (events ++ event ∷ []) (outcomes ++ outcome ∷ []) after
+run_more first before after [] [] event outcome run step = (after, subst (λ (s : State). Step s event outcome after) run step, refl)
+run_more first before after (e ∷ es) (o ∷ os) event outcome (mid, once, rest) step = (mid, once, run_more mid before after es os event outcome rest step)
+run_more first before after [] (o ∷ os) event outcome run step = absurd run
+run_more first before after (e ∷ es) [] event outcome run step = absurd run
+
+-- one line more that says a step
+steps_more : (lines : List (List ℕ)) (line : List ℕ) (events : List Event) (outcomes : List Outcome) (event : Event) (outcome : Outcome)
+    → SaySteps lines events outcomes → SaysStep line event outcome → SaySteps (lines ++ line ∷ []) (events ++ event ∷ []) (outcomes ++ outcome ∷ [])
+steps_more [] line [] [] event outcome say step = (step, tt)
+steps_more (l ∷ ls) line (e ∷ es) (o ∷ os) event outcome say step = (say.0, steps_more ls line es os event outcome say.1 step)
+steps_more [] line [] (o ∷ os) event outcome say step = absurd say
+steps_more [] line (e ∷ es) [] event outcome say step = absurd say
+steps_more [] line (e ∷ es) (o ∷ os) event outcome say step = absurd say
+steps_more (l ∷ ls) line [] [] event outcome say step = absurd say
+steps_more (l ∷ ls) line [] (o ∷ os) event outcome say step = absurd say
+steps_more (l ∷ ls) line (e ∷ es) [] event outcome say step = absurd say
+
+-- one line more that says something
+spoken_more : (lines : List (List ℕ)) (line : List ℕ) → is_spoken line ≡ true → spoken (lines ++ line ∷ []) ≡ spoken lines ++ line ∷ []
+spoken_more lines line says = filter-append is_spoken lines (line ∷ []) ∙ ap (λ (l : List (List ℕ)). spoken lines ++ l) (rw says refl)
+
+-- one more that says nothing
+spoken_same : (lines : List (List ℕ)) (line : List ℕ) → is_spoken line ≡ false → spoken (lines ++ line ∷ []) ≡ spoken lines
+spoken_same lines line says = filter-append is_spoken lines (line ∷ []) ∙ ap (λ (l : List (List ℕ)). spoken lines ++ l) (rw says refl) ∙ append-nil (spoken lines)
+
+-- what is certified goes on being so
+certified_more : (old new : Known) (size : WorldSize) (events : List Event) (outcomes : List Outcome) (event : Event) (outcome : Outcome)
+    → IsCertified old size events outcomes → ((past : Past) → IsTrueOf old past → IsExplained old new event outcome past)
+    → IsCertified new size (events ++ event ∷ []) (outcomes ++ outcome ∷ [])
+certified_more old new size events outcomes event outcome certified explained =
+    let led = explained certified.past certified.is_true in record {
+      past = led.after;
+      is_true = led.is_true;
+      runs = λ frames allowed.
+          let came = led.from_before frames allowed in
+          run_more (opening_of size) (state_of old certified.past.history came.frames) (state_of new led.after.history frames) events outcomes event outcome
+          (certified.runs came.frames came.allowed) came.step;
+    }
+
+certify_more : (old new : Belief) (lines : List (List ℕ)) (line : List ℕ) (event : Event) (outcome : Outcome)
+    → Certify (Some old) lines → SaysStep line event outcome → ((past : Past) → IsTrueOf old.known past → IsExplained old.known new.known event outcome past)
+    → Certify (Some new) (lines ++ line ∷ [])
+certify_more old new [] line event outcome never step explained = absurd never
+certify_more old new (first ∷ rest) line event outcome (size, says, by) step explained = (
+  size,
+  says,
+  record {
+    events = by.events ++ event ∷ [];
+    outcomes = by.outcomes ++ outcome ∷ [];
+    say = steps_more rest line by.events by.outcomes event outcome by.say step;
+    certified = certified_more old.known new.known size by.events by.outcomes event outcome by.certified explained;
+  },
+)
+
+-- after a line that says nothing
+pub nothing_said : (certain : Bool) (belief : Option Belief) (lines : List (List ℕ)) (line : List ℕ) → is_spoken line ≡ false
+    → CertifyIf certain belief lines → CertifyIf certain belief (lines ++ line ∷ [])
+nothing_said certain belief lines line says before told =
+    subst (λ (l : List (List ℕ)). Certify belief l) (sym (spoken_same lines line says)) (before told)
+
+-- after one that says how large the world is
+pub world_said : (was is : Bool) (old new : Option Belief) (lines : List (List ℕ)) (line tables : List ℕ) (size : WorldSize) → is_spoken line ≡ true
+    → SaysLine line (says.World size) tables → old ≡ None → is ≡ was → IsSomeAnd new (λ belief. IsPowerOn belief.known size.frames size.levels four_disks)
+    → CertifyIf was old lines → CertifyIf is new (lines ++ line ∷ [])
+world_said was is (Some belief) new lines line tables size spoken_line says never same starts before told = absurd cc
+world_said was is None None lines line tables size spoken_line says none same starts before told = absurd starts
+world_said was is None (Some belief) lines line tables size spoken_line says none same starts before told =
+    subst (λ (l : List (List ℕ)). Certify (Some belief) l) (sym (spoken_more lines line spoken_line)) (first (spoken lines) (before (subst IsTrue same told)))
+  where
+    first : (ls : List (List ℕ)) → Certify None ls → Certify (Some belief) (ls ++ line ∷ [])
+    first [] none = (
+      size,
+      says,
+      record {
+        events = [];
+        outcomes = [];
+        say = tt;
+        certified = record { past = starts.past; is_true = starts.is_true; runs = starts.is_opening };
+      },
+    )
+    first (l ∷ ls) never = absurd never
+
+-- after one that says a step
+pub step_said : (was is : Bool) (old new : Option Belief) (lines : List (List ℕ)) (line tables : List ℕ) (event : Event) (outcome : Outcome) (has_tables : Bool) (on : Option ℕ)
+    → is_spoken line ≡ true → SaysLine line (says.Step event outcome has_tables on) tables → GoesOn was old event outcome is new
+    → CertifyIf was old lines → CertifyIf is new (lines ++ line ∷ [])
+step_said was is None None lines line tables event outcome has_tables on spoken_line says goes before told = absurd goes
+step_said was is None (Some new) lines line tables event outcome has_tables on spoken_line says goes before told = absurd goes
+step_said was is (Some old) None lines line tables event outcome has_tables on spoken_line says goes before told = absurd goes
+step_said was is (Some old) (Some new) lines line tables event outcome has_tables on spoken_line says goes before told =
+    let so = goes told in
+    subst (λ (l : List (List ℕ)). Certify (Some new) l) (sym (spoken_more lines line spoken_line))
+    (certify_more old new (spoken lines) line event outcome (before so.0) (has_tables, on, tables, says) so.1)
+
+-- what is certified, where some state is allowed, is of a run
+of_run : (known : Known) (size : WorldSize) (lines : List (List ℕ)) → IsCertifiedBy known size lines → ((past : Past) → IsTrueOf known past → SomeAreAllowed known past)
+    → AreOfRun size lines
+of_run known size lines by possible =
+    let certified = by.certified in
+    let some = possible certified.past certified.is_true in
+    let run = certified.runs some.0 some.1 in record {
+      events = by.events;
+      outcomes = by.outcomes;
+      say = by.say;
+      last = state_of known certified.past.history some.0;
+      run = run;
+      reclaims = reclaims (opening_of size) by.events by.outcomes (state_of known certified.past.history some.0) ([], [], (size.frames, size.levels, four_disks, refl)) run;
+    }
+
+-- after the last line
+pub all_said : (belief : Option Belief) (lines : List (List ℕ)) (text : List ℕ) → Certify belief (spoken lines)
+    → IfSome belief (λ b. (past : Past) → IsTrueOf b.known past → SomeAreAllowed b.known past) → AreLines lines text → IsLawfulTrace text
+all_said belief lines text certified possible are =
+    record { lines = lines; whole = are.0; is_text = are.1; lawful = by belief (spoken lines) certified possible }
+  where
+    by : (b : Option Belief) (ls : List (List ℕ)) → Certify b ls → IfSome b (λ it. (past : Past) → IsTrueOf it.known past → SomeAreAllowed it.known past) → AreLawful ls
+    by None [] told so = tt
+    by None (l ∷ ls) never so = absurd never
+    by (Some b) [] never so = absurd never
+    by (Some b) (l ∷ ls) (size, says, it) so = (size, says, of_run b.known size ls it so)
+
+-- Nothing ends the trace, where it goes on so; and what ends it is no certificate.
+pub if_it_goes_on : {E : Type 0} (result : Result (Option Verdict) E) (P Q : Type 0) → (P → Q) → IfOk result (λ found. MatchOption found P (λ verdict. is_certificate verdict ≡ false))
+    → IfOk result (λ found. MatchOption found Q (λ verdict. is_certificate verdict ≡ false))
+if_it_goes_on (Ok None) P Q so found = so found
+if_it_goes_on (Ok (Some verdict)) P Q so found = found
+if_it_goes_on (Err error) P Q so found = tt
+
+-- a line that says something is spoken
+pub not_nothing : (line : List ℕ) (read : TraceLine) → (read ≢ says.Nothing → is_spoken line ≡ true) → (other : TraceLine) → read ≡ other → other ≢ says.Nothing → is_spoken line ≡ true
+not_nothing line read spoken_line other same something = spoken_line (λ e. something (sym same ∙ e))
+
+-- A line is judged: the judge has taken it too, or what it finds is no certificate.
+pub line_judged : {E : Type 0} (result : Result (Option Verdict) E) (certain : Bool) (belief : Option Belief) (lines : List (List ℕ)) (line read buffer : List ℕ) (start end : ℕ)
+    (first now : Option (List ℕ)) (Certified : Type 0) → read ≡ line → HasTaken (lines ++ line ∷ []) buffer start end first now
+    → IfOk result (λ found. MatchOption found (CertifyIf certain belief (lines ++ read ∷ [])) (λ verdict. is_certificate verdict ≡ false))
+    → IfOk result (λ found. MatchOption found (HasJudged certain belief buffer start end first now) (λ verdict. IsTrue (is_certificate verdict) → Certified))
+line_judged (Ok None) certain belief lines line read buffer start end first now Certified is taken found =
+    (lines ++ line ∷ [], taken, subst (λ (l : List ℕ). CertifyIf certain belief (lines ++ l ∷ [])) is found)
+line_judged (Ok (Some verdict)) certain belief lines line read buffer start end first now Certified is taken found = λ told. absurd (false≢true (sym found ∙ told))
+line_judged (Err error) certain belief lines line read buffer start end first now Certified is taken found = tt
+
+-- what holds of the text that the lines make holds of what the reader had
+pub of_reader : (first : Option (List ℕ)) (lines : List (List ℕ)) → IfSome first (AreLines lines) → ((text : List ℕ) → AreLines lines text → IsLawfulTrace text) → IfSome first IsLawfulTrace
+of_reader None lines are lawful = tt
+of_reader (Some text) lines are lawful = lawful text are
+
+-- before the first line
+pub nothing_taken : (certain : Bool) (belief : Option Belief) (buffer : List ℕ) (start end : ℕ) (first : Option (List ℕ)) → Holds buffer start end [] → CertifyIf certain belief []
+    → HasJudged certain belief buffer start end first first
+nothing_taken certain belief buffer start end first holds certified =
+    ([], record { whole = All-nil (IsWithout 10); read = []; consumed = Consumes-nil first; waiting = []; holds = holds; is_read = refl }, certified)

@@ -1,0 +1,60 @@
+-- What a certificate says: that the text of a trace is the lines of a run of the ledger machine from power-on.
+use Rattle.std.specs.Prelude.{◌≡◌, ℕ, Bool, false, List, [], ◌∷◌, All, Option, ⊤}
+use Rattle.iom_machine.specs.declared.event.Event.{Event}
+use Rattle.iom_machine.specs.declared.outcome.Outcome.{Outcome}
+use Rattle.iom_machine.specs.declared.state.State.{State}
+use Rattle.iom_machine.specs.Machine.{Run}
+use Rattle.iom_machine.specs.PowerOn.{opening}
+use Rattle.iom_machine.specs.Reclaim.{Reclaims}
+use Rattle.iom_script.specs.declared.script.WorldSize.{WorldSize}
+use Rattle.iom_script.specs.Grammar.{spoken, bytes_of_lines}
+use Rattle.iom_script.specs.Words.{IsWithout}
+use Rattle.iom_judge.specs.TraceLines.{SaysLine}
+use Rattle.iom_judge.specs.declared.trace.TraceLine.TheVariants.{World, Step}
+use Rattle.iom_judge.specs.declared.verdict.Verdict.{Verdict}
+use Rattle.iom_judge.specs.declared.verdict.Verdict.TheVariants.{Lawful}
+
+-- whether it finds the trace lawful, and certifies it
+abbrev pub is_certificate : Verdict → Bool
+is_certificate (Lawful is_certified) = is_certified
+is_certificate _ = false
+
+-- the numbers of the disks that a world has at power-on
+abbrev pub four_disks : List ℕ
+four_disks = 0 ∷ 1 ∷ 2 ∷ 3 ∷ []
+
+-- power-on of a world of this size
+abbrev pub opening_of : WorldSize → State
+opening_of size = opening size.frames size.levels four_disks
+
+-- the line says that this came of the event, with or without what that doesn't show
+abbrev pub SaysStep : List ℕ → Event → Outcome → Type 0
+SaysStep line event outcome =
+    (has_tables : Bool) × (on : Option ℕ) × (tables : List ℕ) × SaysLine line (Step event outcome has_tables on) tables
+
+-- each line says that its outcome came of its event
+abbrev pub SaySteps : List (List ℕ) → List Event → List Outcome → Type 0
+SaySteps [] [] [] = ⊤
+SaySteps (line ∷ lines) (event ∷ events) (outcome ∷ outcomes) = SaysStep line event outcome × SaySteps lines events outcomes
+SaySteps _ _ _ = ⊥
+
+-- The lines are those of a run of the machine from power-on of a world of this size, and the sentences of the headline hold of it.
+pub record AreOfRun (size : WorldSize) (lines : List (List ℕ)) : Type 0 where
+  pub events : List Event
+  pub outcomes : List Outcome
+  pub say : SaySteps lines events outcomes
+  pub last : State
+  pub run : Run (opening_of size) events outcomes last
+  pub reclaims : Reclaims (opening_of size) events outcomes last run
+
+-- Lines that all say something are lawful: none of them, or one that says how large the world is, and then those of a run.
+abbrev pub AreLawful : List (List ℕ) → Type 0
+AreLawful [] = ⊤
+AreLawful (line ∷ lines) = (size : WorldSize) × SaysLine line (World size) [] × AreOfRun size lines
+
+-- The text is lines, each ended by its line feed, and those that say something are lawful.
+pub record IsLawfulTrace (text : List ℕ) : Type 0 where
+  pub lines : List (List ℕ)
+  pub whole : All (IsWithout 10) lines
+  pub is_text : text ≡ bytes_of_lines lines
+  pub lawful : AreLawful (spoken lines)

@@ -1,0 +1,212 @@
+// Writes of block devices' steps, whose bytes and places no line shows: they are told from what later lines show.
+//
+// Until then such a write is believed to have changed nothing, which may be so. Where a line shows bytes that aren't
+// believed, one of these writes put them there, if one may: on a frame that it may have reached, and at bytes that no
+// line showed or wrote since. The others may have been it as well: so from then on no line is refused for the bytes that
+// it shows.
+use crate::doubts::{Doubt, Doubts};
+use crate::known::Known;
+use crate::owners::may_be_somebodys;
+use iom_base::PAGE_SIZE;
+use std::alloc::{AllocError, Global};
+
+/// So many such writes are kept at most. An older one is believed to have changed nothing.
+const MOST_WRITES: usize = 64;
+
+/// So many runs of bytes of each are kept at most that it can't have changed.
+const MOST_RUNS: usize = 256;
+
+/// Bytes of a frame, from an offset to another, which doesn't count.
+#[derive(Clone, Copy)]
+pub(crate) struct Run {
+    pub(crate) frame: u32,
+    pub(crate) start: usize,
+    pub(crate) end: usize,
+}
+
+impl Run {
+    /// So many bytes of the frame.
+    pub(crate) fn new(frame: u32, offset: usize, len: usize) -> Run {
+        Run {
+            frame,
+            start: offset,
+            end: offset.saturating_add(len),
+        }
+    }
+
+    fn has(&self, frame: u32, offset: usize) -> bool {
+        self.frame == frame && self.start <= offset && offset < self.end
+    }
+}
+
+/// A write that was made, of so many bytes into one of the frames.
+#[derive(Drop)]
+pub(crate) struct UnseenWrite {
+    frames: Vec<u32>,
+    len: usize,
+    /// What was shown or written since.
+    closed: Vec<Run>,
+}
+
+impl UnseenWrite {
+    pub(crate) fn new(alloc: Global, frames: Vec<u32>, len: usize) -> UnseenWrite {
+        UnseenWrite {
+            frames,
+            len,
+            closed: Vec::new(alloc),
+        }
+    }
+
+    /// Whether it may have changed this byte.
+    fn may_change(&self, frame: u32, offset: usize) -> bool {
+        self.frames.contains(&frame) && !self.closed.iter().any(|run| run.has(frame, offset))
+    }
+
+    /// How many of the bytes from the offset on it may have changed to others, to the last byte at most.
+    fn reach(&self, frame: u32, offset: usize, last: usize) -> usize {
+        let most = last.saturating_sub(offset).saturating_add(1).min(self.len);
+        for count in 0..most {
+            if !self.may_change(frame, offset.saturating_add(count)) {
+                return count;
+            }
+        }
+        most
+    }
+
+    /// The bytes that it wrote, where these are the first and the last of those that it changed.
+    fn window(&self, frame: u32, first: usize) -> Run {
+        let latest = (PAGE_SIZE as usize).saturating_sub(self.len);
+        Run::new(frame, first.min(latest), self.len)
+    }
+
+    /// These bytes aren't its own. False where that can't be kept.
+    fn close(&mut self, run: Run) -> Result<bool, AllocError> {
+        if !self.frames.contains(&run.frame) {
+            return Ok(true);
+        }
+        if self.closed.len() >= MOST_RUNS {
+            return Ok(false);
+        }
+        self.closed.push(run)?;
+        Ok(true)
+    }
+}
+
+impl Doubts {
+    /// The write is made, and its bytes aren't seen yet.
+    pub(crate) fn write_unseen(
+        &mut self,
+        alloc: Global,
+        frames: Vec<u32>,
+        len: usize,
+    ) -> Result<(), AllocError> {
+        if self.all.len() >= MOST_WRITES {
+            self.forget_first_write();
+        }
+        self.all
+            .push(Doubt::Written(UnseenWrite::new(alloc, frames, len)))?;
+        Ok(())
+    }
+
+    fn forget_first_write(&mut self) {
+        for place in 0..self.all.len() {
+            if let Some(Doubt::Written(_)) = self.all.get(place) {
+                self.forget(place);
+                return;
+            }
+        }
+    }
+
+    /// Whether such a write may have changed the frame.
+    pub(crate) fn may_have_changed(&self, frame: u32) -> bool {
+        for doubt in self.all.iter() {
+            if let Doubt::Written(write) = doubt {
+                if write.frames.contains(&frame) {
+                    return true;
+                }
+            }
+        }
+        false
+    }
+
+    /// The bytes were shown, or written otherwise: what such writes before the place in the list put there isn't seen
+    /// any more.
+    fn close_before(&mut self, place: usize, run: Run) -> Result<(), AllocError> {
+        for index in 0..place.min(self.all.len()) {
+            if let Some(Doubt::Written(write)) = self.all.get_mut(index) {
+                if !write.close(run)? {
+                    write.frames.clear();
+                }
+            }
+        }
+        Ok(())
+    }
+
+    /// The same of all such writes.
+    pub(crate) fn close(&mut self, run: Run) -> Result<(), AllocError> {
+        let count = self.all.len();
+        self.close_before(count, run)
+    }
+
+    /// The same of all such writes and each of the frames.
+    pub(crate) fn close_all(
+        &mut self,
+        frames: &[u32],
+        offset: usize,
+        len: usize,
+    ) -> Result<(), AllocError> {
+        for frame in frames {
+            self.close(Run::new(*frame, offset, len))?;
+        }
+        Ok(())
+    }
+
+    /// Such writes went into none of the frames that were perhaps taken for tables since.
+    pub(crate) fn leave_taken(&mut self, known: &Known) {
+        for index in 0..self.all.len() {
+            if let Some(Doubt::Written(write)) = self.all.get_mut(index) {
+                write
+                    .frames
+                    .retain(|frame| !may_be_somebodys(known, u64::from(*frame)));
+            }
+        }
+    }
+
+    /// The write that may have changed the byte, and most of those up to the last one, and how many: of several the
+    /// shortest.
+    fn best_write(&self, frame: u32, offset: usize, last: usize) -> Option<(usize, usize)> {
+        let mut best: Option<(usize, usize)> = None;
+        let mut shortest = usize::MAX;
+        for (place, doubt) in self.all.iter().enumerate() {
+            if let Doubt::Written(write) = doubt {
+                let reach = write.reach(frame, offset, last);
+                let most = best.map_or(0, |found| found.1);
+                if reach > most || reach > 0 && reach == most && write.len < shortest {
+                    best = Some((place, reach));
+                    shortest = write.len;
+                }
+            }
+        }
+        best
+    }
+
+    /// One of the writes put bytes from the offset on into the frame, up to the last one at most: it is seen now. How
+    /// many bytes it may have changed; none, where there is no such write.
+    pub(crate) fn see(
+        &mut self,
+        frame: u32,
+        offset: usize,
+        last: usize,
+    ) -> Result<usize, AllocError> {
+        let Some((place, reach)) = self.best_write(frame, offset, last) else {
+            return Ok(0);
+        };
+        let Some(Doubt::Written(write)) = self.all.get(place) else {
+            return Ok(0);
+        };
+        let window = write.window(frame, offset);
+        self.close_before(place, window)?;
+        self.forget(place);
+        Ok(reach)
+    }
+}

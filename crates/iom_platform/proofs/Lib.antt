@@ -1,0 +1,11 @@
+pub mod KnownBlocks
+pub mod KeptBlocks
+pub mod PlaceLemmas
+pub mod DiskLemmas
+pub mod AgreementLemmas
+pub mod StepLemmas
+pub mod DiskStays
+pub mod PassLemmas
+pub mod PlugLemmas
+pub mod StartLemmas
+pub mod RunLemmas

@@ -1,0 +1,20 @@
+-- A platform at power-on agrees with its world.
+use Rattle.std.proofs.Common.{◌≡◌, ℕ, List, [], ◌∷◌, map, refl, ap}
+use Rattle.iom_driver.specs.declared.device.Device as driver
+use Rattle.iom_inflight.specs.Flights.{FlightRow}
+use Rattle.iom_world.specs.declared.device.Device.{Device}
+use Rattle.iom_world.specs.Devices.{shown_devices}
+use Rattle.iom_platform.specs.declared.block.DiskAtHand.{DiskAtHand}
+use Rattle.iom_platform.specs.Agreement.{numbers_of}
+use Rattle.iom_platform.specs.PowerOn.{number_of}
+use Rattle.iom_platform.specs.Seen.{disks_seen}
+
+-- where no device is shown, there is none
+pub none_shown : (known : List driver.Device) (rows : List FlightRow) (devices : List Device) → [] ≡ shown_devices known rows devices → devices ≡ []
+none_shown known rows [] none = refl
+none_shown known rows (device ∷ others) none = cc
+
+-- the numbers of the disks are those that are seen
+pub numbers_seen : {D : Type 0} (held : D → List (List ℕ)) (failed : D → ℕ) (at_hand : List (DiskAtHand D)) → numbers_of at_hand ≡ map number_of (disks_seen held failed at_hand)
+numbers_seen held failed [] = refl
+numbers_seen held failed (first ∷ others) = ap (λ (numbers : List ℕ). first.number ∷ numbers) (numbers_seen held failed others)

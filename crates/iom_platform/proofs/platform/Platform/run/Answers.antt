@@ -1,0 +1,36 @@
+-- A run goes on by one event, or ends where the sink fails.
+use Rattle.std.proofs.Common.{[], refl, arith}
+use Rattle.std.proofs.lemmas.Result.{err_from_is_err_and}
+use Rattle.iom_platform.specs.Seen.{platform_seen}
+use Rattle.iom_platform.proofs.RunLemmas.{are_outcomes, goes_on, ends_at, shown_so_far}
+use Rattle.iom_platform.proofs.platform.Platform.run.Goals as goal
+
+pub loop-event-init : goal.loop-event-init
+loop-event-init g c =
+    let seen = platform_seen g.D.Disk.held g.D.Disk.failed c.args.self.now in
+    record {
+      ran = λ state shows. ([], [], state, are_outcomes state state seen seen [] [] [] refl (shows, refl), refl);
+      counted = omega arith;
+    }
+
+pub loop-event-preserved : goal.loop-event-preserved
+loop-event-preserved g c = record {
+  ran = λ state shows.
+      let so_far = c.loop-event.invariant.ran state shows in
+      let happens = c.take-outcome.ensures in
+      let next = happens.0.step so_far.2 (shown_so_far g.S.Sink.wants g.S.Sink.takes state _ _ _ _ _ so_far) in
+      goes_on g.S.Sink.wants g.S.Sink.takes state next.0 c.args.events.now c.loop-event.event-index c.event-item.result c.take-outcome.result.now c.trace_for-trace.result _ _ _ _ _ _
+      so_far c.event-item.is c.loop-event-test.true next.1 happens (c.trace_for-trace.ensures.counts next.0 next.2) next.2 c.trace_for-trace.ensures.wanted c.in_ok-put.ensures.taken;
+  counted = omega (arith, c.take-outcome.ensures.0.events, c.loop-event.invariant.counted);
+}
+
+pub returns-in_err-put-clause-failed : goal.returns-in_err-put-clause-failed
+returns-in_err-put-clause-failed g c = λ state shows.
+    let so_far = c.loop-event.invariant.ran state shows in
+    let happens = c.take-outcome.ensures in
+    let seen = platform_seen g.D.Disk.held g.D.Disk.failed c.args.self.now in
+    let next = happens.0.step so_far.2 (shown_so_far g.S.Sink.wants g.S.Sink.takes state _ _ _ _ _ so_far) in
+    let fault = err_from_is_err_and c.from_residual.result c.from_residual.ensures.1 in
+    rw fault.1 (ends_at g.S.Sink.wants g.S.Sink.takes g.S.Sink.fails state next.0 c.args.events.now c.loop-event.event-index c.event-item.result c.take-outcome.result.now c.trace_for-trace.result _ _ _ seen _ _
+    so_far c.event-item.is c.loop-event-test.true (omega (arith, c.take-outcome.ensures.0.events, c.loop-event.invariant.counted)) next.1 happens (c.trace_for-trace.ensures.counts next.0 next.2) next.2
+    c.trace_for-trace.ensures.wanted c.in_err-put.ensures.failed)

@@ -1,0 +1,10 @@
+pub mod Agreement
+pub mod AgreementIsFact
+pub mod Seen
+pub mod Blocks
+pub mod Happens
+pub mod Places
+pub mod Steps
+pub mod Passing
+pub mod PowerOn
+pub mod Runs

@@ -1,0 +1,58 @@
+-- What a run of the platform over a list of events gives, where the outcomes go to a sink, each with the counts that stand beside it.
+use Rattle.std.specs.Prelude.{◌≡◌, ◌+◌, ◌<◌, Bool, ⊤, List, [], ◌∷◌, ◌++◌, length, take, Option, None, Some, is_some}
+use Rattle.iom_machine.specs.declared.event.Event.{Event}
+use Rattle.iom_machine.specs.declared.outcome.Outcome.{Outcome}
+use Rattle.iom_machine.specs.declared.outcome.Trace.{Trace}
+use Rattle.iom_machine.specs.declared.state.State.{State}
+use Rattle.iom_machine.specs.Headline.{IsReached}
+use Rattle.iom_machine.specs.Machine.{Run}
+use Rattle.iom_machine.specs.Reclaim.{Reclaims}
+use Rattle.iom_world.specs.declared.world.World.{World}
+use Rattle.iom_world.specs.Counts.{IsTraceOf}
+use Rattle.iom_world.specs.Shows.{Shows}
+use Rattle.iom_platform.specs.Happens.{HappensHere}
+use Rattle.iom_platform.specs.Seen.{Seen}
+
+-- counts, where there are any, are those of the state, and of the messages that are under way in the world
+abbrev pub AreCounts : State → World → Option Trace → Type 0
+AreCounts state world None = ⊤
+AreCounts state world (Some trace) = IsTraceOf state world trace
+
+-- the sink takes these outcomes, one after another, each with its counts where it wants them
+abbrev pub TakesAll : {S : Type 0} → (S → Bool) → (S → Outcome → Option Trace → S → Type 0) → S → List Outcome → List (Option Trace) → S → Type 0
+TakesAll wants takes before [] [] after = after ≡ before
+TakesAll wants takes before (outcome ∷ outcomes) (trace ∷ traces) after =
+    (mid : _) × (is_some trace ≡ wants before) × takes before outcome trace mid × TakesAll wants takes mid outcomes traces after
+TakesAll wants takes before _ _ after = ⊥
+
+-- the platform goes through this run of the ledger machine, and is this one in the end: before each event and after the last its world shows the state that
+-- the run is in, each event does to it what it may, and the counts beside the outcome are those of the state then
+abbrev pub GoesThrough : (state : State) → Seen → (events : List Event) (outcomes : List Outcome) → List (Option Trace) → (last : State)
+    → Run state events outcomes last → Seen → Type 0
+GoesThrough state old [] [] [] last run new = Shows new.world last × (new ≡ old)
+GoesThrough state old (event ∷ events) (outcome ∷ outcomes) (trace ∷ traces) last (next, step, rest) new =
+    Shows old.world state × (mid : Seen) × HappensHere old event outcome mid × AreCounts next mid.world trace
+    × GoesThrough next mid events outcomes traces last rest new
+GoesThrough state old _ _ _ last run new = ⊥
+
+-- the events have these outcomes, with these counts: those of a run of the ledger machine to this state, which the platform goes through; and of that run,
+-- where it is from a state that events from power-on lead to, the sentences of the headline hold
+pub record AreOutcomes (state : State) (old : Seen) (events : List Event) (outcomes : List Outcome) (traces : List (Option Trace)) (last : State) (new : Seen) : Type 0 where
+  pub run : Run state events outcomes last
+  pub through : GoesThrough state old events outcomes traces last run new
+  pub reclaim : IsReached state → Reclaims state events outcomes last run
+
+-- all the events have some outcomes, and the sink took each
+abbrev pub RunsTo : {S : Type 0} → (S → Bool) → (S → Outcome → Option Trace → S → Type 0) → State → Seen → List Event → S → S → Seen → Type 0
+RunsTo wants takes state old events before after new =
+    (outcomes : List Outcome) × (traces : List (Option Trace)) × (next : State)
+    × AreOutcomes state old events outcomes traces next new × TakesAll wants takes before outcomes traces after
+
+-- the events up to one have some outcomes, at the last of which the sink failed, having taken each before; the world has counted that event with those before
+abbrev pub FailsAfter : {S : Type 0} → (S → Bool) → (takes fails : S → Outcome → Option Trace → S → Type 0) → State → Seen → List Event → S → S → Seen → Type 0
+FailsAfter wants takes fails state old events before after new =
+    (outcomes : List Outcome) × (traces : List (Option Trace)) × (last : Outcome) × (trace : Option Trace) × (next : State) × (middle : _)
+    × (length outcomes < length events)
+    × AreOutcomes state old (take (length outcomes + 1) events) (outcomes ++ last ∷ []) (traces ++ trace ∷ []) next new
+    × TakesAll wants takes before outcomes traces middle × (is_some trace ≡ wants middle) × fails middle last trace after
+    × (new.world.events ≡ old.world.events + length outcomes + 1)

@@ -1,0 +1,15 @@
+-- How a block device's step begins the access that it wants.
+-- For the calls inside this crate alone; no public contract cites these.
+use Rattle.std.specs.Prelude.{◌≡◌, ℕ, Some}
+use Rattle.iom_base.specs.declared.access.Access.{Access}
+use Rattle.iom_machine.specs.declared.outcome.Outcome.{Outcome}
+use Rattle.iom_virtqueue.specs.declared.want.Want.{Want}
+use Rattle.iom_world.specs.BlockDevices.{BeginsAccess}
+use Rattle.iom_world.specs.Parts.{Parts}
+use Rattle.iom_platform.specs.Blocks.{wanted_access}
+
+-- the access that is wanted is begun
+pub record BeginsWant (want : Want) (old : Parts) (id : ℕ) (told : Outcome) (new : Parts) : Type 0 where
+  pub access : Access
+  pub named : wanted_access want ≡ Some access
+  pub begun : BeginsAccess old id access told new

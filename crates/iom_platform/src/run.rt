@@ -1,0 +1,63 @@
+// A list of events, one after another.
+ghost use Rattle.std.specs.Prelude.{◌≡◌, ◌+◌, ◌<◌, ◌≤◌, ◌^◌, length, is_some, OnOk, OnErr};
+ghost use Rattle.iom_machine.specs.declared.state.State.{State};
+ghost use Rattle.iom_platform.specs.Runs.{AreCounts, RunsTo, FailsAfter};
+ghost use Rattle.iom_platform.specs.Seen.{platform_seen};
+ghost use Rattle.iom_world.specs.Counts.{IsTraceOf};
+ghost use Rattle.iom_world.specs.Shows.{Shows};
+
+use crate::platform::Platform;
+use iom_machine::{Event, Sink, Trace};
+use iom_virtio_blk::Disk;
+use iom_world::KeptOutcomes;
+
+impl<D: Disk> Platform<D> {
+    /// The counts that stand beside an outcome: tickets given and not confirmed, accesses in flight over all
+    /// devices, messages under way, and frames that are free.
+    // Apart from the loop of a run, which seldom wants them.
+    #[inline(never)]
+    pub fn trace(&self) -> Trace
+        ensures { (state : State) → Shows self.now.world state → IsTraceOf state self.now.world result }
+    {
+        self.world.trace()
+    }
+
+    /// The same, where the sink wants them beside the next outcome.
+    #[inline(always)]
+    pub fn trace_for<S: Sink>(&self, sink: &S) -> Option<Trace>
+        ensures wanted { is_some result ≡ S.wants sink.now }
+        ensures counts { (state : State) → Shows self.now.world state → AreCounts state self.now.world result }
+    {
+        if sink.wants_trace() {
+            Some(self.trace())
+        } else {
+            None
+        }
+    }
+
+    /// The events, one after another: the sink takes the outcome of each, with the counts beside it where it
+    /// wants them, and the run stops at the first that it fails at. The outcomes, also those up to a failure, are
+    /// those of a run of the ledger machine over the events, from every state that the world shows; the world
+    /// shows each state of that run in turn, each event does to it and to the block devices what
+    /// [`Platform::step`] says, and the counts are those of the state that it leads to. Of that run the
+    /// sentences of the headline hold, at those very states: at each, every access in flight may still reach its
+    /// frame, what is made touches its own, what is held is accepted, and what is free is touched by nobody until
+    /// it is granted.
+    pub fn run<S: Sink>(&mut self, events: &[Event], sink: &mut S) -> Result<(), S::Fault>
+        requires count { self.old.world.events + length events.now < 2 ^ 64 }
+        ensures ran { (state : State) → Shows self.old.world state
+            → OnOk result (RunsTo S.wants S.takes state (platform_seen D.held D.failed self.old) events.now sink.old sink.new (platform_seen D.held D.failed self.new)) }
+        ensures failed { (state : State) → Shows self.old.world state
+            → OnErr result (FailsAfter S.wants S.takes S.fails state (platform_seen D.held D.failed self.old) events.now sink.old sink.new (platform_seen D.held D.failed self.new)) }
+        ensures counted { OnOk result (self.new.world.events ≡ self.old.world.events + length events.now) }
+        ensures counted_at_most { OnErr result (self.new.world.events ≤ self.old.world.events + length events.now) }
+    {
+        let mut kept = KeptOutcomes::new();
+        for event in events {
+            let outcome = self.take(event, &mut kept);
+            let trace = self.trace_for(sink);
+            sink.put(outcome, trace)?;
+        }
+        Ok(())
+    }
+}

@@ -1,0 +1,66 @@
+// A script that is run with the program's own disks.
+ghost use Rattle.std.specs.Prelude.{◌≡◌, List, ℕ, map, IfOk, IfSome};
+ghost use Rattle.iom_platform.specs.Seen.{states_of};
+ghost use Rattle.iom_script.specs.Grammar.{IsWorldSize};
+ghost use Rattle.iom_virtio_blk.specs.MemoryDisks.{failures_of};
+ghost use Rattle.iom_runner.specs.Disks.{program_disks, program_failing, program_setting};
+ghost use Rattle.iom_runner.specs.Reading.{ConsumesAtMost};
+ghost use Rattle.iom_runner.specs.Runs.{TellsScript, RunsBytes, AreLeft};
+
+use crate::faults::RunFault;
+use crate::reading::read_script;
+use crate::runner::{script_of, tell};
+use iom_script::Script;
+use iom_virtio_blk::MemoryDisk;
+use std::alloc::{AllocError, Global};
+use std::io::{Read, Write};
+
+/// The disks of the program: 0 and 1 have 64 sectors, 2 has 2, and 3 has 64 and fails at its second call.
+pub fn program_disks(alloc: Global) -> Result<Vec<MemoryDisk>, AllocError>
+    ensures zero { IfOk result (λ disks. states_of (λ disk. disk.sectors.items) (λ disk. failures_of disk.failing) disks.items ≡ program_disks) }
+    ensures failing { IfOk result (λ disks. map (λ disk. disk.failing) disks.items ≡ program_failing) }
+{
+    let mut disks = Vec::with_capacity(alloc, 4)?;
+    disks.push(MemoryDisk::new(alloc, 64, None)?)?;
+    disks.push(MemoryDisk::new(alloc, 64, None)?)?;
+    disks.push(MemoryDisk::new(alloc, 2, None)?)?;
+    disks.push(MemoryDisk::new(alloc, 64, Some(2))?)?;
+    Ok(disks)
+}
+
+/// Writes the lines of the script, which is run with the program's disks. These take memory only where the script
+/// has a world.
+fn tell_with_disks<W: Write>(
+    alloc: Global,
+    script: &Script,
+    counts: bool,
+    writer: &mut W,
+) -> Result<(), RunFault>
+    requires world { IfSome script.now.world IsWorldSize }
+    ensures { TellsScript (program_setting counts) script.now result (W.contents writer.old) (W.contents writer.new) }
+{
+    if script.world.is_none() {
+        return Ok(());
+    }
+    let Ok(disks) = program_disks(alloc) else {
+        return Err(RunFault::Memory);
+    };
+    tell(alloc, script, disks, counts, writer)
+}
+
+/// Reads a script and runs it with the program's disks, as [`run`](crate::run) does. Where memory for these is
+/// refused, the script was read before.
+pub(crate) fn run_with_disks<R: Read, W: Write>(
+    alloc: Global,
+    reader: &mut R,
+    writer: &mut W,
+    counts: bool,
+) -> Result<(), RunFault>
+    ensures ran { (input : List ℕ) × AreLeft input (R.remaining reader.old)
+        × RunsBytes (program_setting counts) input result (W.contents writer.old) (W.contents writer.new) }
+    ensures consumed { ConsumesAtMost 1048577 (R.remaining reader.old) (R.remaining reader.new) }
+{
+    let bytes = read_script(alloc, reader)?;
+    let script = script_of(alloc, &bytes)?;
+    tell_with_disks(alloc, &script, counts, writer)
+}

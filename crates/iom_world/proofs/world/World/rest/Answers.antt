@@ -1,0 +1,23 @@
+use Rattle.std.proofs.Common.{◌+◌, inr, refl, sym, subst}
+use Rattle.iom_machine.specs.declared.event.Event.TheVariants as events
+use Rattle.iom_machine.specs.declared.outcome.Outcome.{Outcome}
+use Rattle.iom_world.specs.BlockDevices.{Rests}
+use Rattle.iom_world.specs.Seen.{parts_of}
+use Rattle.iom_world.proofs.EventLemmas.{sound_counted}
+use Rattle.iom_world.proofs.HappensLemmas.{happens}
+use Rattle.iom_world.proofs.world.World.rest.Goals as goal
+
+pub invariant_of-self : goal.invariant_of-self
+invariant_of-self c = let world = c.args.self.now in record { sound = sound_counted (parts_of world) world.events world.sound }
+
+pub returns-clause-happens : goal.returns-clause-happens
+returns-clause-happens c =
+    let old = c.args.self.now in
+    let rests = subst (λ (t : Outcome). Rests (parts_of old) c.args.device c.args.step t (parts_of old)) (sym c.tell.ensures) c.stepped.ensures in
+    happens c.laws_below.ensures old
+    (record { memory = old.memory; iommu = old.iommu; driver = old.driver; devices = old.devices; fabric = old.fabric; disks = old.disks; events = old.events + 1; sound = _ })
+    (events.Step c.args.device) c.tell.result.now tt (inr (c.args.step, c.requires.rests, rests)) refl refl
+
+pub returns-clause-rests : goal.returns-clause-rests
+returns-clause-rests c =
+    let old = parts_of c.args.self.now in subst (λ (t : Outcome). Rests old c.args.device c.args.step t old) (sym c.tell.ensures) c.stepped.ensures

@@ -1,0 +1,263 @@
+// What a world does for block devices (virtio 1.2): which of them have a disk, what becomes of the access that a step
+// wants, and which of their events are refused. Their queues, their requests and the bytes of their disks are their own.
+ghost use Rattle.std.specs.Prelude.{◌≡◌, ◌↔◌, ◌+◌, ◌<◌, ◌^◌, ℕ, IsTrue, false};
+ghost use Rattle.std.specs.Option.{option_map_or};
+ghost use Rattle.iom_iommu.specs.Parts.{flights_of};
+ghost use Rattle.iom_iommu.specs.Requests.{access_of};
+ghost use Rattle.iom_machine.specs.declared.event.Event.TheVariants as events;
+ghost use Rattle.iom_machine.specs.declared.outcome.Outcome.TheVariants as outcome;
+ghost use Rattle.iom_machine.specs.BlockDevices.{MayWant};
+ghost use Rattle.iom_machine.specs.Kinds.{is_block_device};
+ghost use Rattle.iom_virtqueue.specs.Layouts.{layout_of};
+ghost use Rattle.iom_world.specs.BlockDevices.{MayTake, InsertsMedium, SetsQueue, GoesThroughCache, BeginsAccess, Rests, TellsStatus, devices_left, with_block_reset};
+ghost use Rattle.iom_world.specs.Caches.{epoch_in, kind_in, with_has_disk};
+ghost use Rattle.iom_world.specs.Does.{disks_after};
+ghost use Rattle.iom_world.specs.Requests.{AsksAccess};
+ghost use Rattle.iom_world.specs.Seen.{parts_of, disks_of};
+ghost use Rattle.iom_world.specs.Told.{outcome_of};
+
+use crate::below::laws_below;
+use crate::device::{Device, place_of};
+use crate::disks::{is_among, take_out};
+use crate::recovery::reset;
+use crate::sender::Sender;
+use crate::told::Told;
+use crate::world::World;
+use iom_base::{AccessKind, DeviceId, PAGE_SIZE};
+use iom_driver::Ticket;
+use iom_fabric::{Message, PageNumber};
+use iom_ledger::Refusal;
+use iom_machine::{BlockStep, DeviceKind};
+use iom_virtqueue::Layout;
+
+/// The device with this id has a disk from now on, or has none.
+fn set_has_disk(devices: &mut Vec<Device>, id: DeviceId, has: bool)
+    ensures { devices.new.items ≡ with_has_disk devices.old.items id has }
+{
+    if let Some(place) = place_of(devices, id) {
+        devices[place].has_disk = has;
+    }
+}
+
+/// What the device with this id is; nothing where it is not plugged in.
+fn kind_at(devices: &[Device], id: DeviceId) -> Option<DeviceKind>
+    ensures { result ≡ kind_in devices.now id }
+{
+    devices
+        .iter()
+        .find(|device| device.id == id)
+        .map(|device| device.kind)
+}
+
+/// Whether the device with this id is there, and a block device.
+fn is_block(devices: &[Device], id: DeviceId) -> bool
+    ensures { result ≡ option_map_or is_block_device (kind_in devices.now id) false }
+{
+    match kind_at(devices, id) {
+        Some(kind) => kind.is_block_device(),
+        None => false,
+    }
+}
+
+/// The device with this id is reset, where it is a block device.
+fn reset_block(devices: &mut Vec<Device>, id: DeviceId)
+    requires { epoch_in devices.old.items id + 1 < 2 ^ 64 }
+    ensures { devices.new.items ≡ with_block_reset devices.old.items id }
+{
+    if is_block(devices, id) {
+        reset(devices, id);
+    }
+}
+
+/// A device that leaves has no disk any more, and a block device is reset; one whose detach is refused stays.
+pub(crate) fn let_go(devices: &mut Vec<Device>, id: DeviceId, answer: &Result<Ticket, Refusal>)
+    requires { epoch_in devices.old.items id + 1 < 2 ^ 64 }
+    ensures { devices.new.items ≡ devices_left answer.now devices.old.items id }
+{
+    match answer {
+        Ok(_) => {
+            set_has_disk(devices, id, false);
+            reset_block(devices, id);
+        }
+        Err(_) => {}
+    }
+}
+
+/// Whether the disk may be put into the device.
+fn may_take(disks: &[u64], device: &Device, disk: u64) -> bool
+    ensures { IsTrue result ↔ MayTake disks.now device.now disk }
+{
+    if device.has_disk {
+        return false;
+    }
+    is_among(disks, disk)
+}
+
+/// Whether it is told that a device's own cache has no frame for an access.
+fn is_miss(told: Told) -> bool
+    ensures { IsTrue result ↔ (outcome_of told ≡ outcome.Miss) }
+{
+    match told {
+        Told::Miss => true,
+        _ => false,
+    }
+}
+
+impl World {
+    /// The disk is put into the block device: `BadMedium` where that has one, or the disk was in a device before,
+    /// or there is none of this number. Nothing changes where it is refused.
+    pub(crate) fn medium(&mut self, id: DeviceId, disk: u64) -> Told
+        ensures does { InsertsMedium (disks_of self.old) (parts_of self.old) id disk (outcome_of result) (parts_of self.new) }
+        ensures disks { disks_of self.new ≡ disks_after (events.Medium id disk) (outcome_of result) (disks_of self.old) }
+        ensures events { self.new.events ≡ self.old.events }
+    {
+        let Some(device) = self.device_with(id) else {
+            return Told::Refused(Refusal::NoSuchDevice);
+        };
+        if !device.kind.is_block_device() {
+            return Told::Refused(Refusal::WrongKind);
+        }
+        if !may_take(&self.disks, device, disk) {
+            return Told::Refused(Refusal::BadMedium);
+        }
+        take_out(&mut self.disks, Some(disk));
+        set_has_disk(&mut self.devices, id, true);
+        Told::Done
+    }
+
+    /// The queue of the block device is set, and what its own cache has is forgotten: `BadQueue` where the queue
+    /// can't lie so.
+    pub(crate) fn queue(
+        &mut self,
+        id: DeviceId,
+        size: u64,
+        descriptors: u64,
+        available: u64,
+        used: u64,
+    ) -> Told
+        requires epochs { (id : ℕ) → epoch_in self.old.devices.items id < self.old.events }
+        requires count { self.old.events < 2 ^ 64 }
+        ensures does { SetsQueue (parts_of self.old) id (layout_of size descriptors available used) (outcome_of result) (parts_of self.new) }
+        ensures disks { disks_of self.new ≡ disks_of self.old }
+        ensures events { self.new.events ≡ self.old.events }
+    {
+        let Some(kind) = self.kind_of(id) else {
+            return Told::Refused(Refusal::NoSuchDevice);
+        };
+        if !kind.is_block_device() {
+            return Told::Refused(Refusal::WrongKind);
+        }
+        if Layout::new(size, descriptors, available, used).is_none() {
+            return Told::Refused(Refusal::BadQueue);
+        }
+        reset(&mut self.devices, id);
+        Told::Done
+    }
+
+    /// The block device, where there is one, took a step that began no access.
+    pub(crate) fn stepped(&self, id: DeviceId, step: BlockStep) -> Told
+        ensures { Rests (parts_of self.now) id step (outcome_of result) (parts_of self.now) }
+    {
+        let Some(kind) = self.kind_of(id) else {
+            return Told::Refused(Refusal::NoSuchDevice);
+        };
+        if !kind.is_block_device() {
+            return Told::Refused(Refusal::WrongKind);
+        }
+        Told::Stepped(step)
+    }
+
+    /// The block device, where there is one, has this status.
+    pub(crate) fn has_status(&self, id: DeviceId, status: u8) -> Told
+        ensures { TellsStatus (parts_of self.now) id status (outcome_of result) (parts_of self.now) }
+    {
+        let Some(kind) = self.kind_of(id) else {
+            return Told::Refused(Refusal::NoSuchDevice);
+        };
+        if !kind.is_block_device() {
+            return Told::Refused(Refusal::WrongKind);
+        }
+        Told::Status(status)
+    }
+
+    /// A block device without a cache asks for an access: answered as that of any device is.
+    fn block_request(
+        &mut self,
+        id: DeviceId,
+        address: u64,
+        len: u64,
+        kind: AccessKind,
+        bytes: &[u8],
+    ) -> Told
+        requires below { (flights_of self.old.iommu).so_far < self.old.events }
+        requires count { (flights_of self.old.iommu).so_far + 1 < 2 ^ 64 }
+        requires wants { MayWant (access_of address len kind bytes.now) }
+        ensures does { AsksAccess is_block_device (parts_of self.old) id (access_of address len kind bytes.now) (outcome_of result) (parts_of self.new) }
+        ensures disks { disks_of self.new ≡ disks_of self.old }
+        ensures events { self.new.events ≡ self.old.events }
+    {
+        laws_below();
+        let Some(device) = self.kind_of(id) else {
+            return Told::Refused(Refusal::NoSuchDevice);
+        };
+        if !device.is_block_device() {
+            return Told::Refused(Refusal::WrongKind);
+        }
+        Told::of_reply(
+            self.iommu
+                .request(&mut self.memory, id, address, len, kind, bytes),
+        )
+    }
+
+    /// A block device with a cache has an access through that. Where it misses there, the device asks for the
+    /// translation; the question is lost where 64 messages are under way.
+    fn block_through_cache(
+        &mut self,
+        id: DeviceId,
+        address: u64,
+        len: u64,
+        kind: AccessKind,
+        bytes: &[u8],
+    ) -> Told
+        requires below { (flights_of self.old.iommu).so_far < self.old.events }
+        requires count { (flights_of self.old.iommu).so_far + 1 < 2 ^ 64 }
+        requires wants { MayWant (access_of address len kind bytes.now) }
+        ensures does { GoesThroughCache (parts_of self.old) id (access_of address len kind bytes.now) (outcome_of result) (parts_of self.new) }
+        ensures disks { disks_of self.new ≡ disks_of self.old }
+        ensures events { self.new.events ≡ self.old.events }
+    {
+        let told = self.through_cache(Sender::Block, id, address, len, kind, bytes);
+        if !is_miss(told) {
+            return told;
+        }
+        let epoch = self.epoch_of(id);
+        let page = PageNumber::new(address / PAGE_SIZE).unwrap();
+        self.fabric.send(id, Message::Ask { epoch, page });
+        Told::Stepped(BlockStep::Asked)
+    }
+
+    /// The step of a block device wants this access, within one page: `Accepted`, `Busy` or `Fault` as for any
+    /// device's, be it untranslated or, where the device has a cache, through that; `Stepped(Asked)` where it
+    /// misses there. The event is counted by the caller.
+    pub(crate) fn access(
+        &mut self,
+        id: DeviceId,
+        address: u64,
+        len: u64,
+        kind: AccessKind,
+        bytes: &[u8],
+    ) -> Told
+        requires below { (flights_of self.old.iommu).so_far < self.old.events }
+        requires count { (flights_of self.old.iommu).so_far + 1 < 2 ^ 64 }
+        requires wants { MayWant (access_of address len kind bytes.now) }
+        ensures does { BeginsAccess (parts_of self.old) id (access_of address len kind bytes.now) (outcome_of result) (parts_of self.new) }
+        ensures fits { address < 2 ^ 64 }
+        ensures disks { disks_of self.new ≡ disks_of self.old }
+        ensures events { self.new.events ≡ self.old.events }
+    {
+        if self.has_cache(id) {
+            return self.block_through_cache(id, address, len, kind, bytes);
+        }
+        self.block_request(id, address, len, kind, bytes)
+    }
+}

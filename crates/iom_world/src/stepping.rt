@@ -1,0 +1,249 @@
+// One event, and what comes of it.
+ghost use Rattle.std.specs.Prelude.{◌≡◌, ◌+◌, ◌<◌, ◌^◌, ℕ};
+ghost use Rattle.iom_iommu.specs.Parts.{flights_of};
+ghost use Rattle.iom_iommu.specs.Requests.{access_of};
+ghost use Rattle.iom_machine.specs.declared.event.Event.TheVariants as events;
+ghost use Rattle.iom_machine.specs.BlockDevices.{MayWant};
+ghost use Rattle.iom_world.specs.Below.{AddressFits, IsOfAts, IsOfRecovery, IsOfBlockDevice};
+ghost use Rattle.iom_world.specs.BlockDevices.{BeginsAccess, IsRest, Rests, TellsStatus};
+ghost use Rattle.iom_world.specs.Caches.{epoch_in};
+ghost use Rattle.iom_world.specs.Does.{Does, disks_after};
+ghost use Rattle.iom_world.specs.Happens.{Happens, IsNoChoice};
+ghost use Rattle.iom_world.specs.Seen.{parts_of, disks_of};
+
+use crate::below::laws_below;
+use crate::kept_outcomes::KeptOutcomes;
+use crate::told::Told;
+use crate::world::World;
+use iom_base::{AccessKind, DeviceId};
+use iom_machine::{BlockStep, Event, Outcome};
+use std::mem;
+
+impl World {
+    /// An event of address translation services goes to whom it is for; another does nothing.
+    // On its own, so that what is written into the loop of a run stays short.
+    #[inline(never)]
+    fn dispatch_ats<'a>(&mut self, event: &Event, kept: &'a mut KeptOutcomes) -> &'a mut Outcome
+        requires event { IsOfAts event.now }
+        requires count { self.old.events < 2 ^ 64 }
+        requires below { (flights_of self.old.iommu).so_far < self.old.events }
+        requires epochs { (id : ℕ) → epoch_in self.old.devices.items id < self.old.events }
+        ensures does { Does (disks_of self.old) (parts_of self.old) event.now result.now (parts_of self.new) }
+        ensures disks { disks_of self.new ≡ disks_after event.now result.now (disks_of self.old) }
+        ensures counted { self.new.events ≡ self.old.events }
+    {
+        match event {
+            Event::ReadTranslated {
+                device,
+                address,
+                len,
+            } => kept.tell(self.read_translated(*device, *address, *len)),
+            Event::WriteTranslated {
+                device,
+                address,
+                bytes,
+            } => kept.tell(self.write_translated(*device, *address, bytes.as_slice())),
+            Event::ReadThroughCache {
+                device,
+                address,
+                len,
+            } => kept.tell(self.read_through_cache(*device, *address, *len)),
+            Event::WriteThroughCache {
+                device,
+                address,
+                bytes,
+            } => kept.tell(self.write_through_cache(*device, *address, bytes.as_slice())),
+            Event::Ask { device, page } => kept.tell(self.ask(*device, *page)),
+            Event::Forge { device, serial } => kept.tell(self.forge(*device, *serial)),
+            Event::Deliver { place } => kept.tell(self.deliver(*place)),
+            Event::Drop { place } => kept.tell(self.drop_message(*place)),
+            Event::Repeat { place } => kept.tell(self.repeat(*place)),
+            _ => kept.tell(Told::Done),
+        }
+    }
+
+    /// An event of what is done about a device that doesn't answer goes to whom it is for; another does nothing.
+    #[inline(never)]
+    fn dispatch_recovery<'a>(
+        &mut self,
+        event: &Event,
+        kept: &'a mut KeptOutcomes,
+    ) -> &'a mut Outcome
+        requires event { IsOfRecovery event.now }
+        requires count { self.old.events < 2 ^ 64 }
+        requires epochs { (id : ℕ) → epoch_in self.old.devices.items id < self.old.events }
+        ensures does { Does (disks_of self.old) (parts_of self.old) event.now result.now (parts_of self.new) }
+        ensures disks { disks_of self.new ≡ disks_after event.now result.now (disks_of self.old) }
+        ensures counted { self.new.events ≡ self.old.events }
+    {
+        match event {
+            Event::Quarantine { device } => kept.tell(self.quarantine(*device)),
+            Event::Revive { device } => kept.tell(self.revive(*device)),
+            Event::Restart => kept.tell(self.restart()),
+            Event::Timeout => kept.tell(self.timeout()),
+            Event::Reset { device } => kept.tell(self.reset(*device)),
+            _ => kept.tell(Told::Done),
+        }
+    }
+
+    /// A disk is put into a block device, or its queue is set; another event does nothing.
+    #[inline(never)]
+    fn dispatch_block<'a>(&mut self, event: &Event, kept: &'a mut KeptOutcomes) -> &'a mut Outcome
+        requires event { IsOfBlockDevice event.now }
+        requires count { self.old.events < 2 ^ 64 }
+        requires epochs { (id : ℕ) → epoch_in self.old.devices.items id < self.old.events }
+        ensures does { Does (disks_of self.old) (parts_of self.old) event.now result.now (parts_of self.new) }
+        ensures disks { disks_of self.new ≡ disks_after event.now result.now (disks_of self.old) }
+        ensures counted { self.new.events ≡ self.old.events }
+    {
+        match event {
+            Event::Medium { device, disk } => kept.tell(self.medium(*device, *disk)),
+            Event::Queue {
+                device,
+                size,
+                descriptors,
+                available,
+                used,
+            } => kept.tell(self.queue(*device, *size, *descriptors, *available, *used)),
+            _ => kept.tell(Told::Done),
+        }
+    }
+
+    /// The event is counted, and goes to whom it is for.
+    // Written into the loop of a run, as `take` is: a call would save and restore registers for each event.
+    #[inline(always)]
+    fn dispatch<'a>(&mut self, event: &Event, kept: &'a mut KeptOutcomes) -> &'a mut Outcome
+        requires event { IsNoChoice event.now }
+        requires count { self.old.events + 1 < 2 ^ 64 }
+        ensures does { Does (disks_of self.old) (parts_of self.old) event.now result.now (parts_of self.new) }
+        ensures disks { disks_of self.new ≡ disks_after event.now result.now (disks_of self.old) }
+        ensures fits { AddressFits event.now }
+        ensures counted { self.new.events ≡ self.old.events + 1 }
+    {
+        self.events += 1;
+        match event {
+            Event::Plug { device, new: what } => kept.tell(self.plug(*device, *what)),
+            Event::Attach { device, mode, ats } => kept.tell(self.attach(*device, *mode, *ats)),
+            Event::Grant {
+                device,
+                page,
+                frame,
+                rights,
+            } => kept.tell(self.grant(*device, *page, *frame, *rights)),
+            Event::Release { device, page } => kept.tell(self.release(*device, *page)),
+            Event::Detach { device } => kept.tell(self.detach(*device)),
+            Event::Fetch => kept.tell(self.fetch()),
+            Event::Poll => kept.tell(self.poll()),
+            Event::Faults => kept.tell(self.faults()),
+            Event::Read {
+                device,
+                address,
+                len,
+            } => kept.tell(self.read(*device, *address, *len)),
+            Event::Write {
+                device,
+                address,
+                bytes,
+            } => kept.tell(self.write(*device, *address, bytes.as_slice())),
+            Event::Commit { device } => self.commit(*device, kept),
+            Event::Poke { address, bytes } => kept.tell(self.poke(*address, bytes.as_slice())),
+            Event::Peek { address, len } => self.peek(*address, *len, kept),
+            Event::Free { frame } => kept.tell(self.free(*frame)),
+            Event::Quarantine { .. }
+            | Event::Revive { .. }
+            | Event::Restart
+            | Event::Timeout
+            | Event::Reset { .. } => self.dispatch_recovery(event, kept),
+            Event::Medium { .. } | Event::Queue { .. } => self.dispatch_block(event, kept),
+            _ => self.dispatch_ats(event, kept),
+        }
+    }
+
+    /// One event, and what comes of it: a lawful step of the ledger machine from every state that the
+    /// world shows. It does to memory, IOMMU, driver and devices what the call behind it says; a guest's
+    /// own tables are read from frames that the device may read; from a timeout to the next restart no
+    /// fence is done; a refusal changes nothing. Each event is counted, whatever comes of it. A step of a
+    /// block device, and its status, are for whoever has the device itself: [`World::begin`],
+    /// [`World::rest`] and [`World::tell_status`].
+    #[inline(always)]
+    pub fn take<'a>(&mut self, event: &Event, kept: &'a mut KeptOutcomes) -> &'a mut Outcome
+        requires event { IsNoChoice event.now }
+        requires count { self.old.events + 1 < 2 ^ 64 }
+        ensures { Happens self.old event.now result.now self.new }
+    {
+        laws_below();
+        self.dispatch(event, kept)
+    }
+
+    /// The same, with an outcome of its own.
+    pub fn step(&mut self, event: &Event) -> Outcome
+        requires event { IsNoChoice event.now }
+        requires count { self.old.events + 1 < 2 ^ 64 }
+        ensures { Happens self.old event.now result self.new }
+    {
+        let mut kept = KeptOutcomes::new();
+        mem::replace(self.take(event, &mut kept), Outcome::Done)
+    }
+
+    /// The step of a block device that wants this access, within one page. Where no block device has the id
+    /// it is refused. Else it is `Accepted`, `Busy` or `Fault` as any device's request, untranslated or, where
+    /// the device has a cache, through that; or `Stepped(Asked)` where it misses there.
+    pub fn begin<'a>(
+        &mut self,
+        device: DeviceId,
+        address: u64,
+        len: u64,
+        kind: AccessKind,
+        bytes: &[u8],
+        kept: &'a mut KeptOutcomes,
+    ) -> &'a mut Outcome
+        requires wants { MayWant (access_of address len kind bytes.now) }
+        requires count { self.old.events + 1 < 2 ^ 64 }
+        ensures happens { Happens self.old (events.Step device) result.now self.new }
+        ensures begins { BeginsAccess (parts_of self.old) device (access_of address len kind bytes.now) result.now (parts_of self.new) }
+    {
+        laws_below();
+        self.events += 1;
+        kept.tell(self.access(device, address, len, kind, bytes))
+    }
+
+    /// The step of a block device that began no access. Where no block device has the id it is refused.
+    pub fn rest<'a>(
+        &mut self,
+        device: DeviceId,
+        step: BlockStep,
+        kept: &'a mut KeptOutcomes,
+    ) -> &'a mut Outcome
+        requires rests { IsRest step }
+        requires count { self.old.events + 1 < 2 ^ 64 }
+        ensures happens { Happens self.old (events.Step device) result.now self.new }
+        ensures rests { Rests (parts_of self.old) device step result.now (parts_of self.new) }
+    {
+        laws_below();
+        self.events += 1;
+        kept.tell(self.stepped(device, step))
+    }
+
+    /// The status of a block device, which is this one. Where no block device has the id it is refused.
+    pub fn tell_status<'a>(
+        &mut self,
+        device: DeviceId,
+        status: u8,
+        kept: &'a mut KeptOutcomes,
+    ) -> &'a mut Outcome
+        requires count { self.old.events + 1 < 2 ^ 64 }
+        ensures happens { Happens self.old (events.Status device) result.now self.new }
+        ensures tells { TellsStatus (parts_of self.old) device status result.now (parts_of self.new) }
+    {
+        laws_below();
+        self.events += 1;
+        kept.tell(self.has_status(device, status))
+    }
+
+    /// How many events there were since power-on.
+    pub fn events(&self) -> u64
+        ensures { result ≡ self.now.events }
+    {
+        self.events
+    }
+}
