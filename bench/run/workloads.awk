@@ -23,6 +23,12 @@ function started(frames) {
     say("attach 000001 first", "ok")
 }
 
+# The next access of the block device, and what its commit tells.
+function made(told) {
+    say("step 000001", "accepted " ++accesses)
+    say("commit 000001", told)
+}
+
 BEGIN {
     # 64 pages of one device, read again and again.
     if (name == "hot") { started(128); granted(64, 64); for (i = 1; ; i++) read_page(i * 29 % 64, i) }
@@ -48,5 +54,34 @@ BEGIN {
     if (name == "polls") {
         say("world 64 1", "ok")
         for (;;) { say("poll", "confirmed -"); say("fetch", "empty") }
+    }
+
+    # A block device reads sector 0 again and again: its header, data and status are in page 1.
+    if (name == "disk") {
+        header = "00100000000000001000000001000100"
+        data = "00120000000000000002000003000200"
+        status = "10100000000000000100000002000000"
+        say("world 64 1", "ok")
+        say("device 000001 blk 0", "ok")
+        say("attach 000001 first", "ok")
+        say("grant 000001 0 4 rw", "ok")
+        say("grant 000001 1 5 rw", "ok")
+        say("poke 0x4000 " header data status, "ok")
+        say("queue 000001 4 0x0 0x100 0x200", "ok")
+        for (i = 1; ; i++) {
+            index_bytes = sprintf("%02x%02x", i % 256, int(i / 256) % 256)
+            say("poke 0x4102 " index_bytes, "ok")
+            made("read " index_bytes)
+            made("read 0000")
+            made("read " header)
+            made("read " data)
+            made("read " status)
+            made("read 00000000000000000000000000000000")
+            made("wrote 512")
+            made("wrote 1")
+            made("wrote 8")
+            made("wrote 2")
+            say("step 000001", "finished 0 513")
+        }
     }
 }
