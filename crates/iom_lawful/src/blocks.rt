@@ -1,13 +1,14 @@
 // Which access a block device's step asks for: its line doesn't say. So the devices run beside the judge, over the bytes
 // that the lines show of the reads that were made, and over disks of their own (virtio 1.2).
-ghost use Rattle.std.specs.Prelude.{◌↔◌, IsTrue};
-ghost use Rattle.iom_virtqueue.specs.Accesses.{AreOf, access_of};
+ghost use Rattle.std.specs.Prelude.{◌↔◌, ℕ, List, IsTrue};
+ghost use Rattle.iom_virtio_blk.specs.Wants.{access_wanted};
+ghost use Rattle.iom_virtqueue.specs.Accesses.{AreOf};
 ghost use Rattle.iom_virtqueue.specs.Layouts.{IsLayout};
 
 use crate::disk::disk_numbered;
 use iom_base::{Access, AccessKind, DeviceId, PAGE_SIZE, Sequence};
 use iom_machine::{BlockStep, Event, NewDevice, Outcome, State};
-use iom_virtio_blk::{Blk, MemoryDisk, OFFERED_FEATURES, Reply, Step};
+use iom_virtio_blk::{Blk, MemoryDisk, OFFERED_FEATURES, Reply, Step, WantedAccess};
 use iom_virtqueue::{Layout, Want};
 use std::alloc::{AllocError, Global};
 
@@ -40,33 +41,45 @@ fn no_access(alloc: Global) -> Access {
     }
 }
 
-/// The access that a step wants.
-fn access_wanted(alloc: Global, want: &Want) -> Result<Access, AllocError> {
-    Ok(match want {
-        Want::Nothing => no_access(alloc),
-        Want::Read { address, len } => Access {
+/// A write of these bytes.
+fn write_of(alloc: Global, address: u64, bytes: &[u8]) -> Result<Access, AllocError> {
+    Ok(Access {
+        address,
+        len: bytes.len() as u64,
+        kind: AccessKind::Write,
+        bytes: Sequence::from_vec(Vec::from_slice(alloc, bytes)?),
+    })
+}
+
+/// The access that a step of the device wants.
+fn access_wanted(
+    alloc: Global,
+    blk: &Blk<MemoryDisk>,
+    want: &WantedAccess,
+) -> Result<Access, AllocError> {
+    match want {
+        WantedAccess::Small(Want::Nothing) => Ok(no_access(alloc)),
+        WantedAccess::Small(Want::Read { address, len }) => Ok(Access {
             address: *address,
             len: u64::from(*len),
             kind: AccessKind::Read,
             bytes: Sequence::new(alloc),
-        },
-        Want::Write { address, bytes } => Access {
-            address: *address,
-            len: bytes.len() as u64,
-            kind: AccessKind::Write,
-            bytes: Sequence::from_vec(Vec::from_slice(alloc, bytes)?),
-        },
-    })
+        }),
+        WantedAccess::Small(Want::Write { address, bytes }) => write_of(alloc, *address, bytes),
+        WantedAccess::OfSector { address, from, len } => {
+            write_of(alloc, *address, blk.sector_part(*from, *len))
+        }
+    }
 }
 
 /// Whether the bytes are those of the wanted access: as many as were to be read, none for a write.
-fn are_of(bytes: &[u8], want: &Want) -> bool
-    ensures { IsTrue result ↔ AreOf bytes.now (access_of want.now) }
+fn are_of(bytes: &[u8], want: &WantedAccess) -> bool
+    ensures { (sector : List ℕ) → IsTrue result ↔ AreOf bytes.now (access_wanted sector want.now) }
 {
     match want {
-        Want::Nothing => false,
-        Want::Read { len, .. } => bytes.len() == usize::from(*len),
-        Want::Write { .. } => bytes.len() == 0,
+        WantedAccess::Small(Want::Nothing) => false,
+        WantedAccess::Small(Want::Read { len, .. }) => bytes.len() == usize::from(*len),
+        WantedAccess::Small(Want::Write { .. }) | WantedAccess::OfSector { .. } => bytes.len() == 0,
     }
 }
 
@@ -121,7 +134,7 @@ impl Running {
         let Step::Wants(want) = self.blk.step() else {
             return Ok(no_access(alloc));
         };
-        let access = access_wanted(alloc, &want)?;
+        let access = access_wanted(alloc, &self.blk, &want)?;
         if let Outcome::Accepted(number) = outcome {
             self.begun = Begun::Accepted(*number);
         }

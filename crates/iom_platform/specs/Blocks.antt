@@ -21,14 +21,13 @@ use Rattle.iom_virtio_blk.specs.declared.step.Reply.{Reply}
 use Rattle.iom_virtio_blk.specs.declared.step.Reply.TheVariants as reply
 use Rattle.iom_virtio_blk.specs.declared.step.Step.{Step}
 use Rattle.iom_virtio_blk.specs.declared.step.Step.TheVariants as step
-use Rattle.iom_virtio_blk.specs.Blocks.{IsQuiet, EndsWaiting, given_up, down, replied, negotiated, with_queue}
+use Rattle.iom_virtio_blk.specs.Blocks.{IsQuiet, EndsWaiting, wanted_by, given_up, down, replied, negotiated, with_queue}
 use Rattle.iom_virtio_blk.specs.Disks.{DiskState}
 use Rattle.iom_virtio_blk.specs.Features.{offered, flush_of}
 use Rattle.iom_virtio_blk.specs.Stages.{device_status}
 use Rattle.iom_virtio_blk.specs.Steps.{Device, device, Steps}
 use Rattle.iom_virtqueue.specs.declared.layout.Layout.{Layout}
-use Rattle.iom_virtqueue.specs.declared.want.Want.{Want}
-use Rattle.iom_virtqueue.specs.declared.want.Want.TheVariants.{Nothing, Read, Write}
+use Rattle.iom_virtqueue.specs.Accesses.{Access as Wanted, nothing, reads, writes}
 use Rattle.iom_virtqueue.specs.Layouts.{layout_of}
 use Rattle.iom_world.specs.BlockDevices.{BeginsAccess}
 use Rattle.iom_world.specs.Counts.{oldest_number}
@@ -189,11 +188,11 @@ abbrev pub DeliversTo : Seen → ℕ → Outcome → Seen → Type 0
 DeliversTo old place outcome.AnswerRefused new = BringsRefusal (slice_get (parts_of old.world).fabric place) old new
 DeliversTo old place told new = Stay old new
 
--- the access that a block device wants
-abbrev pub wanted_access : Want → Option Access
-wanted_access Nothing = None
-wanted_access (Read address len) = Some (read_of address len)
-wanted_access (Write address bytes) = Some (write_of address bytes.items)
+-- the access that a block device wants, if there is one
+abbrev pub wanted_access : Wanted → Option Access
+wanted_access nothing = None
+wanted_access (reads address len) = Some (read_of address len)
+wanted_access (writes address bytes) = Some (write_of address bytes)
 
 -- what the device is told of that, by what came of it: a begun access comes to no more than these four
 abbrev pub reply_of : Access → Outcome → Reply
@@ -203,9 +202,9 @@ reply_of access (outcome.Stepped rest.Asked) = reply.Asked (page_of access)
 reply_of access told = reply.Fault
 
 -- it begins that access, and is told
-pub record Begins (want : Want) (old : Parts) (id : ℕ) (between : Device) (told : Outcome) (new : Parts) (after : Device) : Type 0 where
+pub record Begins (old : Parts) (id : ℕ) (between : Device) (told : Outcome) (new : Parts) (after : Device) : Type 0 where
   pub access : Access
-  pub named : wanted_access want ≡ Some access
+  pub named : wanted_access (wanted_by between.front) ≡ Some access
   pub begun : BeginsAccess old id access told new
   pub hears : after ≡ device (replied (reply_of access told) between.front) between.disk
 
@@ -216,7 +215,7 @@ EndsStep step.Waiting old id between told new after = (told ≡ outcome.Stepped 
 EndsStep step.Down old id between told new after = (told ≡ outcome.Stepped rest.Down) × (new ≡ old) × (after ≡ between)
 EndsStep (step.Chain fault) old id between told new after = (told ≡ outcome.Stepped (rest.Chain fault)) × (new ≡ old) × (after ≡ between)
 EndsStep (step.Finished head len) old id between told new after = (told ≡ outcome.Stepped (rest.Finished head len)) × (new ≡ old) × (after ≡ between)
-EndsStep (step.Wants want) old id between told new after = Begins want old id between told new after
+EndsStep (step.Wants want) old id between told new after = Begins old id between told new after
 
 -- the device takes a step, which calls its disk at most once, up to the access that it wants next
 pub record StepsOnce (old : Parts) (id : ℕ) (told : Outcome) (new : Parts) (before : Device) (after : Device) : Type 0 where

@@ -3,13 +3,13 @@
 use Rattle.std.specs.Prelude.{◌≡◌, ℕ, Some}
 use Rattle.iom_base.specs.declared.access.Access.{Access}
 use Rattle.iom_machine.specs.declared.outcome.Outcome.{Outcome}
-use Rattle.iom_virtqueue.specs.declared.want.Want.{Want}
+use Rattle.iom_virtqueue.specs.Accesses.{Access as Wanted}
 use Rattle.iom_world.specs.BlockDevices.{BeginsAccess}
 use Rattle.iom_world.specs.Parts.{Parts}
 use Rattle.iom_platform.specs.Blocks.{wanted_access}
 
 -- the access that is wanted is begun
-pub record BeginsWant (want : Want) (old : Parts) (id : ℕ) (told : Outcome) (new : Parts) : Type 0 where
+pub record BeginsWanted (wanted : Wanted) (old : Parts) (id : ℕ) (told : Outcome) (new : Parts) : Type 0 where
   pub access : Access
-  pub named : wanted_access want ≡ Some access
+  pub named : wanted_access wanted ≡ Some access
   pub begun : BeginsAccess old id access told new

@@ -4,6 +4,7 @@ pub mod Requests
 pub mod Disks
 pub mod Serving
 pub mod Blocks
+pub mod Wants
 pub mod Steps
 pub mod ReadyProps
 pub mod Histories

@@ -3,7 +3,7 @@ use Rattle.std.specs.Prelude.{◌≡◌, ◌≢◌, ℕ, ◌⊎◌, Bool, true, 
 use Rattle.iom_virtqueue.specs.declared.phase.Phase.{Phase}
 use Rattle.iom_virtqueue.specs.declared.phase.Phase.TheVariants.{AvailableIndex, Served, UsedIndex}
 use Rattle.iom_virtqueue.specs.Descriptors.{number_at}
-use Rattle.iom_virtqueue.specs.Accesses.{access_of, LiesInPage}
+use Rattle.iom_virtqueue.specs.Accesses.{LiesInPage}
 use Rattle.iom_virtqueue.specs.Queues.{fault_of, after, new_requests}
 use Rattle.iom_virtio_blk.specs.declared.front.Front.{Front}
 use Rattle.iom_virtio_blk.specs.declared.serving.Serving.{Serving}
@@ -16,6 +16,7 @@ use Rattle.iom_virtio_blk.specs.declared.step.Step.{Step}
 use Rattle.iom_virtio_blk.specs.declared.step.Step.TheVariants.{Idle, Waiting, Down, Chain, Finished, Wants}
 use Rattle.iom_virtio_blk.specs.Disks.{DiskState, sector_count, HasReason, HasFlushReason, KeepsSectors, DidRead, DidWrite, Tears, IsThere}
 use Rattle.iom_virtio_blk.specs.Serving.{unread}
+use Rattle.iom_virtio_blk.specs.Wants.{access_wanted}
 use Rattle.iom_virtio_blk.specs.Blocks.{IsAsking, IsTaking, wanted_by, down, call_after, after_served}
 
 -- a device with its disk, if there is one
@@ -84,7 +85,7 @@ QueueSteps old (Chain fault) new = (fault_of old.queue old.got.items ≡ Some fa
 QueueSteps old (Finished head len) new =
     (old.queue.phase ≡ UsedIndex) × (head ≡ old.queue.head) × (len ≡ old.queue.written) × (fault_of old.queue old.got.items ≡ None) × (new ≡ taken_front old)
 QueueSteps old (Wants want) new =
-    (access_of want ≡ wanted_by new) × LiesInPage (wanted_by new) × (new.queue.phase ≢ AvailableIndex) × (fault_of old.queue old.got.items ≡ None) × (new ≡ taken_front old)
+    (access_wanted new.buffer want ≡ wanted_by new) × LiesInPage (wanted_by new) × (new.queue.phase ≢ AvailableIndex) × (fault_of old.queue old.got.items ≡ None) × (new ≡ taken_front old)
 
 -- a step, by its outcome
 abbrev pub Steps : Device → Step → Device → Type 0
@@ -97,5 +98,5 @@ Steps old (Chain fault) new =
 Steps old (Finished head len) new =
     IsTaking old.front × (old.front.queue.phase ≡ UsedIndex) × (head ≡ old.front.queue.head) × (len ≡ old.front.queue.written) × TakesQueue old new
 Steps old (Wants want) new =
-    (access_of want ≡ wanted_by new.front) × LiesInPage (wanted_by new.front) × IsAsking new.front × (old.front.is_made ≡ true → new.front.queue.phase ≢ AvailableIndex)
+    (access_wanted new.front.buffer want ≡ wanted_by new.front) × LiesInPage (wanted_by new.front) × IsAsking new.front × (old.front.is_made ≡ true → new.front.queue.phase ≢ AvailableIndex)
     × GoesOnIn old.front.is_made old new

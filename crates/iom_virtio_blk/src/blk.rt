@@ -1,4 +1,4 @@
-ghost use Rattle.std.specs.Prelude.{◌≡◌, ◌≢◌, ◌≤◌, ℕ, List, [], ◌∷◌, length, Option, Some, None, true, false, is_some, unwrap_or};
+ghost use Rattle.std.specs.Prelude.{◌≡◌, ◌≢◌, ◌≤◌, ℕ, List, [], ◌∷◌, length, take, drop, Option, Some, None, true, false, is_some, unwrap_or};
 ghost use Rattle.iom_virtqueue.specs.Accesses.{AreOf, LiesInPage, access_of};
 ghost use Rattle.iom_virtqueue.specs.Layouts.{IsLayout};
 ghost use Rattle.iom_virtqueue.specs.declared.phase.Phase.TheVariants.{Served};
@@ -102,6 +102,13 @@ impl<D: Disk> Blk<D> {
         ensures disk { self.new.drive ≡ self.old.drive }
     {
         self.front.made(number, bytes);
+    }
+
+    /// These bytes of the sector at hand, as far as it has them: what a wanted write of them writes.
+    pub fn sector_part(&self, from: u16, len: u16) -> &[u8]
+        ensures { result.now ≡ take len (drop from self.now.front.buffer) }
+    {
+        self.front.sector_part(from, len)
     }
 
     /// What became of the access that the step before wanted.

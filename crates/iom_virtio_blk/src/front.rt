@@ -1,5 +1,5 @@
-ghost use Rattle.std.specs.Prelude.{◌≡◌, ◌≢◌, ◌↔◌, IsTrue, ◌+◌, ◌-◌, ◌%◌, ◌≤◌, ◌<◌, ℕ, length, Some, None, true, false, is_some, unwrap_or, IsSome, MatchBool};
-ghost use Rattle.iom_virtqueue.specs.Accesses.{AreOf, LiesInPage, access_of};
+ghost use Rattle.std.specs.Prelude.{◌≡◌, ◌≢◌, ◌↔◌, IsTrue, ◌+◌, ◌-◌, ◌%◌, ◌≤◌, ◌<◌, ℕ, length, take, drop, Some, None, true, false, is_some, unwrap_or, IsSome, MatchBool};
+ghost use Rattle.iom_virtqueue.specs.Accesses.{AreOf, LiesInPage};
 ghost use Rattle.iom_virtqueue.specs.Chains.{byte_count};
 ghost use Rattle.iom_virtqueue.specs.Layouts.{IsLayout};
 ghost use Rattle.iom_virtqueue.specs.Queues.{fresh_queue, after, fault_of};
@@ -9,6 +9,7 @@ ghost use Rattle.iom_virtio_blk.specs.declared.request.RequestStatus.TheVariants
 ghost use Rattle.iom_virtio_blk.specs.declared.stage.Stage.TheVariants.{Reset, FeaturesOk, DriverOk, NeedsReset};
 ghost use Rattle.iom_virtio_blk.specs.Stages.{device_status};
 ghost use Rattle.iom_virtio_blk.specs.Serving.{IsUnderWay};
+ghost use Rattle.iom_virtio_blk.specs.Wants.{access_wanted};
 ghost use Rattle.iom_virtio_blk.specs.Features.{flush_of};
 ghost use Rattle.iom_virtio_blk.specs.Blocks.{wanted_by, IsReady, IsAsking, IsTaking, TakesBytes, EndsWaiting, replied, given_up, down, negotiated, with_queue, overlaid, after_served, call_after, buffer_in, serving_in, call_in};
 ghost use Rattle.iom_virtio_blk.specs.Steps.{QueueSteps, settled};
@@ -18,6 +19,7 @@ use crate::request::{Plan, RequestStatus, plan_of};
 use crate::serving::{Job, Serving};
 use crate::stage::Stage;
 use crate::step::{Call, Reply, Step};
+use crate::want::WantedAccess;
 use arrayvec::ArrayVec;
 use iom_virtqueue::{Layout, Phase, Queue, Want, le32, le64};
 
@@ -139,9 +141,10 @@ impl Front {
         ensures { IsTrue result ↔ AreOf bytes.now (wanted_by self.now) }
     {
         match self.wants() {
-            Want::Nothing => false,
-            Want::Read { len, .. } => bytes.len() == usize::from(len),
-            Want::Write { .. } => bytes.is_empty(),
+            WantedAccess::Small(Want::Nothing) => false,
+            WantedAccess::Small(Want::Read { len, .. }) => bytes.len() == usize::from(len),
+            WantedAccess::Small(Want::Write { .. }) => bytes.is_empty(),
+            WantedAccess::OfSector { .. } => bytes.is_empty(),
         }
     }
 
@@ -209,16 +212,31 @@ impl Front {
     }
 
     /// The access that is wanted.
-    pub(crate) fn wants(&self) -> Want
+    pub(crate) fn wants(&self) -> WantedAccess
         requires ready { IsReady self.now }
-        ensures want { access_of result ≡ wanted_by self.now }
+        ensures want { access_wanted self.now.buffer result ≡ wanted_by self.now }
         ensures within { self.now.stage ≡ DriverOk → LiesInPage (wanted_by self.now) }
     {
         self.queue.promises();
         match self.queue.phase() {
-            Phase::Served => self.serving.access(&self.buffer, self.queue.chain()),
-            _ => self.queue.next(),
+            Phase::Served => self.serving.access(self.queue.chain()),
+            _ => WantedAccess::Small(self.queue.next()),
         }
+    }
+
+    /// These bytes of the sector at hand, as far as it has them.
+    pub(crate) fn sector_part(&self, from: u16, len: u16) -> &[u8]
+        ensures { result.now ≡ take len (drop from self.now.buffer) }
+    {
+        let (from, len) = (usize::from(from), usize::from(len));
+        if self.buffer.len() <= from {
+            return &[];
+        }
+        let rest = &self.buffer[from..];
+        if rest.len() <= len {
+            return rest;
+        }
+        &rest[..len]
     }
 
     /// Whether a request is served.

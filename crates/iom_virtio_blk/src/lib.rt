@@ -23,6 +23,7 @@ mod request;
 mod serving;
 mod stage;
 mod step;
+mod want;
 
 pub use blk::Blk;
 pub use disk::{Disk, DiskFault, SECTOR_SIZE};
@@ -33,3 +34,4 @@ pub use features::{
 pub use memory_disk::MemoryDisk;
 pub use request::RequestStatus;
 pub use step::{Reply, Step};
+pub use want::WantedAccess;

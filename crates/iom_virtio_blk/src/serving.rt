@@ -1,9 +1,11 @@
-ghost use Rattle.std.specs.Prelude.{◌≡◌, ◌≤◌};
-ghost use Rattle.iom_virtqueue.specs.Accesses.{access_of, reads};
+ghost use Rattle.std.specs.Prelude.{◌≡◌, ◌≤◌, ℕ, List};
+ghost use Rattle.iom_virtqueue.specs.Accesses.{reads};
 ghost use Rattle.iom_virtqueue.specs.Chains.{byte_count};
+ghost use Rattle.iom_virtio_blk.specs.Wants.{access_wanted};
 ghost use Rattle.iom_virtio_blk.specs.Serving.{piece_in, access_in, unread, IsUnderWay};
 
 use crate::request::RequestStatus;
+use crate::want::WantedAccess;
 use iom_virtqueue::{Buffers, Piece, Want, piece_of};
 
 /// What is read or written next for a request (virtio 1.2, section 5.2.6).
@@ -66,33 +68,36 @@ impl Serving {
         }
     }
 
-    /// The access that comes next: what is written is the sector in the buffer, or the status.
-    pub(crate) fn access(&self, buffer: &[u8; 512], chain: &Buffers) -> Want
+    /// The access that comes next: what is written is part of the sector at hand, or the status.
+    pub(crate) fn access(&self, chain: &Buffers) -> WantedAccess
         requires under_way { IsUnderWay self.now chain.now }
         requires status { 1 ≤ byte_count chain.now.writable }
-        ensures { access_of result ≡ access_in self.now buffer.now chain.now }
+        ensures { (sector : List ℕ) → access_wanted sector result ≡ access_in self.now sector chain.now }
     {
         match self.piece(chain) {
             Some(piece) => match self.job {
                 Job::Header => read(piece),
-                Job::Reading => {
-                    let from = (self.wrote % 512) as usize;
-                    Want::write(piece.address, &buffer[from..from + piece.len as usize])
-                }
+                Job::Reading => WantedAccess::OfSector {
+                    address: piece.address,
+                    from: (self.wrote % 512) as u16,
+                    len: piece.len as u16,
+                },
                 Job::Writing => read(piece),
-                Job::Ending(status) => Want::write(piece.address, &[status.code()]),
+                Job::Ending(status) => {
+                    WantedAccess::Small(Want::write(piece.address, &[status.code()]))
+                }
             },
-            None => Want::Nothing,
+            None => WantedAccess::Small(Want::Nothing),
         }
     }
 }
 
-fn read(piece: Piece) -> Want
+fn read(piece: Piece) -> WantedAccess
     requires { piece.len ≤ 512 }
-    ensures { access_of result ≡ reads piece.address piece.len }
+    ensures { (sector : List ℕ) → access_wanted sector result ≡ reads piece.address piece.len }
 {
-    Want::Read {
+    WantedAccess::Small(Want::Read {
         address: piece.address,
         len: piece.len as u16,
-    }
+    })
 }

@@ -1,4 +1,5 @@
-use iom_virtqueue::{ChainFault, Want};
+use crate::want::WantedAccess;
+use iom_virtqueue::ChainFault;
 
 /// What a step of the device was.
 #[derive(Drop)]
@@ -14,7 +15,7 @@ pub enum Step {
     /// The request at this head is finished, and so many bytes were written for it.
     Finished { head: u16, len: u32 },
     /// This access is wanted.
-    Wants(Want),
+    Wants(WantedAccess),
 }
 
 /// What became of the access that a step wanted.

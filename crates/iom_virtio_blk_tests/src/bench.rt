@@ -1,5 +1,5 @@
 use crate::disk::FailingDisk;
-use iom_virtio_blk::{Blk, OFFERED_FEATURES, Reply, Step};
+use iom_virtio_blk::{Blk, OFFERED_FEATURES, Reply, Step, WantedAccess};
 use iom_virtqueue::{ChainFault, Layout, Want};
 use std::process::Abort;
 
@@ -20,10 +20,20 @@ pub(crate) enum Seen {
     Outside(u64),
 }
 
+// Writes the bytes at the address, where they lie in memory.
+fn store(memory: &mut [u8; MEMORY], address: u64, bytes: &[u8]) -> bool {
+    if address > 7680 || bytes.len() > 512 {
+        return false;
+    }
+    let from = address as usize;
+    memory[from..from + bytes.len()].copy_from_slice(bytes);
+    true
+}
+
 // A step, with the access that it wants made at once.
 pub(crate) fn turn(blk: &mut Blk<FailingDisk>, memory: &mut [u8; MEMORY]) -> Seen {
     match blk.step() {
-        Step::Wants(Want::Read { address, len }) => {
+        Step::Wants(WantedAccess::Small(Want::Read { address, len })) => {
             if address > 7680 || len > 512 {
                 blk.replied(Reply::Fault);
                 return Seen::Outside(address);
@@ -33,19 +43,25 @@ pub(crate) fn turn(blk: &mut Blk<FailingDisk>, memory: &mut [u8; MEMORY]) -> See
             blk.made(1, &memory[from..from + usize::from(len)]);
             Seen::Read(address, len)
         }
-        Step::Wants(Want::Write { address, bytes }) => {
-            if address > 7680 {
+        Step::Wants(WantedAccess::Small(Want::Write { address, bytes })) => {
+            if !store(memory, address, &bytes) {
                 blk.replied(Reply::Fault);
                 return Seen::Outside(address);
             }
             blk.replied(Reply::Accepted(1));
-            let from = address as usize;
-            let len = bytes.len();
-            memory[from..from + len].copy_from_slice(&bytes);
             blk.made(1, &[]);
-            Seen::Wrote(address, len as u16)
+            Seen::Wrote(address, bytes.len() as u16)
         }
-        Step::Wants(Want::Nothing) => Seen::Outside(0),
+        Step::Wants(WantedAccess::OfSector { address, from, len }) => {
+            if !store(memory, address, blk.sector_part(from, len)) {
+                blk.replied(Reply::Fault);
+                return Seen::Outside(address);
+            }
+            blk.replied(Reply::Accepted(1));
+            blk.made(1, &[]);
+            Seen::Wrote(address, len)
+        }
+        Step::Wants(WantedAccess::Small(Want::Nothing)) => Seen::Outside(0),
         Step::Idle => Seen::Idle,
         Step::Waiting => Seen::Waiting,
         Step::Down => Seen::Down,

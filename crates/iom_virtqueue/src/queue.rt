@@ -240,7 +240,7 @@ impl Queue {
             }
             Phase::RingEntry => {
                 self.head = le16(bytes, 0);
-                self.chain = Buffers::new();
+                self.chain.clear();
                 self.phase = Phase::Table(self.head);
             }
             Phase::Table(index) => {

@@ -3,7 +3,8 @@ ghost use Rattle.iom_virtqueue.specs.Accesses.{access_of, writes};
 
 use arrayvec::ArrayVec;
 
-/// An access to the driver's memory that is wanted, within one page; a write carries its bytes.
+/// An access to the driver's memory that is wanted, within one page; a write carries its bytes, which are a used
+/// element's at most.
 #[derive(Drop)]
 pub enum Want {
     Nothing,
@@ -13,14 +14,14 @@ pub enum Want {
     },
     Write {
         address: u64,
-        bytes: ArrayVec<u8, 512>,
+        bytes: ArrayVec<u8, 8>,
     },
 }
 
 impl Want {
-    /// A write of at most 512 bytes.
+    /// A write of at most eight bytes.
     pub fn write(address: u64, bytes: &[u8]) -> Want
-        requires { length bytes.now ≤ 512 }
+        requires { length bytes.now ≤ 8 }
         ensures { access_of result ≡ writes address bytes.now }
     {
         let mut held = ArrayVec::new();

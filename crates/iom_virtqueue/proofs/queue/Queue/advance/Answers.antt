@@ -14,7 +14,7 @@ invariant_of-self-in-RingEntry c =
     let q : QueueState = the_view c.self.inside in
     let none : fault_of q c.args.bytes.now ≡ None = subst (λ (r : QueueState). fault_of r c.args.bytes.now ≡ None) (sym c.self.view_is) c.requires.none in
     let lt : number_at 2 0 c.args.bytes.now < c.self.inside.layout.size = entry_below q c.args.bytes.now c.in-RingEntry.is none in
-    (c.self.invariant.0, rw (c.new-self-inside.ensures, c.le16-self-inside.ensures) (begun c.self.inside.layout.size (number_at 2 0 c.args.bytes.now) lt))
+    (c.self.invariant.0, rw (c.clear.ensures, c.le16-self-inside.ensures) (begun c.self.inside.layout.size (number_at 2 0 c.args.bytes.now) lt))
 
 pub invariant_of-self-in-Table : goal.invariant_of-self-in-Table
 invariant_of-self-in-Table c =
