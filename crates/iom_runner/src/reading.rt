@@ -13,8 +13,9 @@ use std::io::{self, ErrorKind, Read};
 /// One byte more than a script has at most: enough to see that there are too many.
 const READ_LIMIT: usize = SCRIPT_LIMIT + 1;
 
-/// The bytes that one read gives at most.
-const CHUNK_SIZE: usize = 16384;
+/// The bytes that one read gives at most: somewhat less than a page, since so many are copied by vector
+/// instructions, and more by a string instruction that takes longer to begin.
+const CHUNK_SIZE: usize = 4080;
 
 /// Why nothing was read: for want of memory, or since the reader failed.
 fn fault_of(error: &io::Error) -> RunFault

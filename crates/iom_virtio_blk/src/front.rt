@@ -21,7 +21,7 @@ use crate::stage::Stage;
 use crate::step::{Call, Reply, Step};
 use crate::want::WantedAccess;
 use arrayvec::ArrayVec;
-use iom_virtqueue::{Layout, Phase, Queue, Want, le32, le64};
+use iom_virtqueue::{Layout, Phase, Queue, le32, le64};
 
 /// A block device without its disk.
 #[derive(Drop)]
@@ -140,11 +140,13 @@ impl Front {
         requires ready { IsReady self.now }
         ensures { IsTrue result ↔ AreOf bytes.now (wanted_by self.now) }
     {
-        match self.wants() {
-            WantedAccess::Small(Want::Nothing) => false,
-            WantedAccess::Small(Want::Read { len, .. }) => bytes.len() == usize::from(len),
-            WantedAccess::Small(Want::Write { .. }) => bytes.is_empty(),
-            WantedAccess::OfSector { .. } => bytes.is_empty(),
+        self.queue.promises();
+        match self.queue.phase() {
+            Phase::AvailableIndex | Phase::RingEntry => bytes.len() == 2,
+            Phase::Table(_) => bytes.len() == 16,
+            Phase::Served => self.serving.takes(bytes, self.queue.chain()),
+            Phase::UsedElement(_) | Phase::UsedIndex => bytes.is_empty(),
+            Phase::Faulted => false,
         }
     }
 
@@ -156,8 +158,13 @@ impl Front {
         ensures taken { TakesBytes self.old bytes.now self.new }
         ensures ready { IsReady self.new }
     {
-        self.got.clear();
-        self.got.try_extend_from_slice(bytes).unwrap();
+        if self.got.len() == bytes.len() {
+            // Most reads are as long as the one before, and to clear its bytes is to fill them with zeros.
+            self.got.as_mut_slice().copy_from_slice(bytes);
+        } else {
+            self.got.clear();
+            self.got.try_extend_from_slice(bytes).unwrap();
+        }
         self.is_made = true;
         self.waits = None;
     }
@@ -212,6 +219,8 @@ impl Front {
     }
 
     /// The access that is wanted.
+    // Written into its callers: what it answers would go through memory.
+    #[inline(always)]
     pub(crate) fn wants(&self) -> WantedAccess
         requires ready { IsReady self.now }
         ensures want { access_wanted self.now.buffer result ≡ wanted_by self.now }

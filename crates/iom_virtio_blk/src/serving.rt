@@ -1,5 +1,5 @@
-ghost use Rattle.std.specs.Prelude.{◌≡◌, ◌≤◌, ℕ, List};
-ghost use Rattle.iom_virtqueue.specs.Accesses.{reads};
+ghost use Rattle.std.specs.Prelude.{◌≡◌, ◌≤◌, ◌↔◌, ℕ, List, IsTrue};
+ghost use Rattle.iom_virtqueue.specs.Accesses.{AreOf, reads};
 ghost use Rattle.iom_virtqueue.specs.Chains.{byte_count};
 ghost use Rattle.iom_virtio_blk.specs.Wants.{access_wanted};
 ghost use Rattle.iom_virtio_blk.specs.Serving.{piece_in, access_in, unread, IsUnderWay};
@@ -65,6 +65,21 @@ impl Serving {
                 (512 - (self.read - 16) % 512) as u32,
             ),
             Job::Ending(_) => piece_of(chain.writable(), chain.writable_bytes() - 1, 1),
+        }
+    }
+
+    /// Whether these bytes are those of the access that comes next: as many as it reads, and none where it writes.
+    pub(crate) fn takes(&self, bytes: &[u8], chain: &Buffers) -> bool
+        requires under_way { IsUnderWay self.now chain.now }
+        requires status { 1 ≤ byte_count chain.now.writable }
+        ensures { (sector : List ℕ) → IsTrue result ↔ AreOf bytes.now (access_in self.now sector chain.now) }
+    {
+        match self.piece(chain) {
+            Some(piece) => match self.job {
+                Job::Header | Job::Writing => bytes.len() == piece.len as usize,
+                Job::Reading | Job::Ending(_) => bytes.is_empty(),
+            },
+            None => false,
         }
     }
 

@@ -29,6 +29,7 @@ impl World {
     /// The oldest access of a device in flight is made, on the frame that it was translated to: `Read`, with
     /// its bytes in their place, or `Wrote`, with how many were stored. Nothing changes where nothing of the
     /// device is in flight, or no device has the id.
+    #[inline(never)]
     pub(crate) fn commit<'a>(&mut self, id: DeviceId, kept: &'a mut KeptOutcomes) -> &'a mut Outcome
         ensures does { CommitsAccess (parts_of self.old) id result.now (parts_of self.new) }
         ensures disks { disks_of self.new ≡ disks_of self.old }

@@ -29,6 +29,7 @@ mod requests;
 mod sender;
 mod start;
 mod stepping;
+mod telling;
 mod through_cache;
 mod told;
 mod translated;

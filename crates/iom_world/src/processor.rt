@@ -49,6 +49,7 @@ impl World {
 
     /// The processor reads so many bytes at the physical address, within one frame: they stand in their
     /// place then; or `BadSpan`, or `FrameOutOfRange`. Nothing changes.
+    #[inline(never)]
     pub(crate) fn peek<'a>(
         &self,
         address: u64,

@@ -4,7 +4,7 @@ ghost use Rattle.iom_iommu.specs.Parts.{flights_of};
 ghost use Rattle.iom_iommu.specs.Requests.{access_of};
 ghost use Rattle.iom_machine.specs.declared.event.Event.TheVariants as events;
 ghost use Rattle.iom_machine.specs.BlockDevices.{MayWant};
-ghost use Rattle.iom_world.specs.Below.{AddressFits, IsOfAts, IsOfRecovery, IsOfBlockDevice};
+ghost use Rattle.iom_world.specs.Below.{AddressFits, IsOfAts, IsOfRecovery, IsSeldom, IsOfBlockDevice};
 ghost use Rattle.iom_world.specs.BlockDevices.{BeginsAccess, IsRest, Rests, TellsStatus};
 ghost use Rattle.iom_world.specs.Caches.{epoch_in};
 ghost use Rattle.iom_world.specs.Does.{Does, disks_after};
@@ -86,6 +86,26 @@ impl World {
         }
     }
 
+    /// An event that comes seldom goes to whom it is for; another does nothing.
+    #[inline(never)]
+    fn dispatch_seldom<'a>(&mut self, event: &Event, kept: &'a mut KeptOutcomes) -> &'a mut Outcome
+        requires event { IsSeldom event.now }
+        requires count { self.old.events < 2 ^ 64 }
+        requires epochs { (id : ℕ) → epoch_in self.old.devices.items id < self.old.events }
+        ensures does { Does (disks_of self.old) (parts_of self.old) event.now result.now (parts_of self.new) }
+        ensures disks { disks_of self.new ≡ disks_after event.now result.now (disks_of self.old) }
+        ensures counted { self.new.events ≡ self.old.events }
+    {
+        match event {
+            Event::Plug { device, new: what } => kept.tell(self.plug(*device, *what)),
+            Event::Attach { device, mode, ats } => kept.tell(self.attach(*device, *mode, *ats)),
+            Event::Detach { device } => kept.tell(self.detach(*device)),
+            Event::Faults => kept.tell(self.faults()),
+            Event::Free { frame } => kept.tell(self.free(*frame)),
+            _ => kept.tell(Told::Done),
+        }
+    }
+
     /// A disk is put into a block device, or its queue is set; another event does nothing.
     #[inline(never)]
     fn dispatch_block<'a>(&mut self, event: &Event, kept: &'a mut KeptOutcomes) -> &'a mut Outcome
@@ -122,33 +142,33 @@ impl World {
     {
         self.events += 1;
         match event {
-            Event::Plug { device, new: what } => kept.tell(self.plug(*device, *what)),
-            Event::Attach { device, mode, ats } => kept.tell(self.attach(*device, *mode, *ats)),
             Event::Grant {
                 device,
                 page,
                 frame,
                 rights,
-            } => kept.tell(self.grant(*device, *page, *frame, *rights)),
-            Event::Release { device, page } => kept.tell(self.release(*device, *page)),
-            Event::Detach { device } => kept.tell(self.detach(*device)),
-            Event::Fetch => kept.tell(self.fetch()),
-            Event::Poll => kept.tell(self.poll()),
-            Event::Faults => kept.tell(self.faults()),
+            } => self.tell_grant(*device, *page, *frame, *rights, kept),
+            Event::Release { device, page } => self.tell_release(*device, *page, kept),
+            Event::Fetch => self.tell_fetch(kept),
+            Event::Poll => self.tell_poll(kept),
             Event::Read {
                 device,
                 address,
                 len,
-            } => kept.tell(self.read(*device, *address, *len)),
+            } => self.tell_read(*device, *address, *len, kept),
             Event::Write {
                 device,
                 address,
                 bytes,
-            } => kept.tell(self.write(*device, *address, bytes.as_slice())),
+            } => self.tell_write(*device, *address, bytes.as_slice(), kept),
             Event::Commit { device } => self.commit(*device, kept),
-            Event::Poke { address, bytes } => kept.tell(self.poke(*address, bytes.as_slice())),
+            Event::Poke { address, bytes } => self.tell_poke(*address, bytes.as_slice(), kept),
             Event::Peek { address, len } => self.peek(*address, *len, kept),
-            Event::Free { frame } => kept.tell(self.free(*frame)),
+            Event::Plug { .. }
+            | Event::Attach { .. }
+            | Event::Detach { .. }
+            | Event::Faults
+            | Event::Free { .. } => self.dispatch_seldom(event, kept),
             Event::Quarantine { .. }
             | Event::Revive { .. }
             | Event::Restart

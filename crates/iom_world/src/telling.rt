@@ -1,0 +1,124 @@
+// What the events that come most are told, each by a function of its own: so none of them pays for what another one
+// keeps on the stack, and the choice between them stays short enough to be written into the loop of a run.
+ghost use Rattle.std.specs.Prelude.{◌≡◌, ◌+◌, ◌<◌, ◌^◌};
+ghost use Rattle.iom_base.specs.Accesses.{read_of, write_of};
+ghost use Rattle.iom_iommu.specs.Parts.{flights_of, slots_of};
+ghost use Rattle.iom_machine.specs.Kinds.{sends_untranslated};
+ghost use Rattle.iom_world.specs.Does.{GrantsPage, ReleasesPage, FetchesNext, PollsTickets};
+ghost use Rattle.iom_world.specs.Processor.{PokesBytes};
+ghost use Rattle.iom_world.specs.Requests.{AsksAccess};
+ghost use Rattle.iom_world.specs.Seen.{parts_of, disks_of};
+
+use crate::kept_outcomes::KeptOutcomes;
+use crate::world::World;
+use iom_base::{DeviceId, GrantRights};
+use iom_machine::Outcome;
+
+impl World {
+    /// What [`World::grant`] tells.
+    #[inline(never)]
+    pub(crate) fn tell_grant<'a>(
+        &mut self,
+        id: DeviceId,
+        page: u64,
+        frame: u64,
+        rights: GrantRights,
+        kept: &'a mut KeptOutcomes,
+    ) -> &'a mut Outcome
+        ensures does { GrantsPage (parts_of self.old) id page frame rights result.now (parts_of self.new) }
+        ensures disks { disks_of self.new ≡ disks_of self.old }
+        ensures events { self.new.events ≡ self.old.events }
+    {
+        kept.tell(self.grant(id, page, frame, rights))
+    }
+
+    /// What [`World::release`] tells.
+    #[inline(never)]
+    pub(crate) fn tell_release<'a>(
+        &mut self,
+        id: DeviceId,
+        page: u64,
+        kept: &'a mut KeptOutcomes,
+    ) -> &'a mut Outcome
+        ensures does { ReleasesPage (parts_of self.old) id page result.now (parts_of self.new) }
+        ensures disks { disks_of self.new ≡ disks_of self.old }
+        ensures events { self.new.events ≡ self.old.events }
+    {
+        kept.tell(self.release(id, page))
+    }
+
+    /// What [`World::fetch`] tells.
+    #[inline(never)]
+    pub(crate) fn tell_fetch<'a>(&mut self, kept: &'a mut KeptOutcomes) -> &'a mut Outcome
+        requires below { (slots_of self.old.iommu).last < self.old.events }
+        requires count { (slots_of self.old.iommu).last + 1 < 2 ^ 64 }
+        ensures does { FetchesNext (parts_of self.old) result.now (parts_of self.new) }
+        ensures disks { disks_of self.new ≡ disks_of self.old }
+        ensures events { self.new.events ≡ self.old.events }
+    {
+        kept.tell(self.fetch())
+    }
+
+    /// What [`World::poll`] tells.
+    #[inline(never)]
+    pub(crate) fn tell_poll<'a>(&mut self, kept: &'a mut KeptOutcomes) -> &'a mut Outcome
+        ensures does { PollsTickets (parts_of self.old) result.now (parts_of self.new) }
+        ensures disks { disks_of self.new ≡ disks_of self.old }
+        ensures events { self.new.events ≡ self.old.events }
+    {
+        kept.tell(self.poll())
+    }
+
+    /// What [`World::read`] tells.
+    #[inline(never)]
+    pub(crate) fn tell_read<'a>(
+        &mut self,
+        id: DeviceId,
+        address: u64,
+        len: u64,
+        kept: &'a mut KeptOutcomes,
+    ) -> &'a mut Outcome
+        requires below { (flights_of self.old.iommu).so_far < self.old.events }
+        requires count { (flights_of self.old.iommu).so_far + 1 < 2 ^ 64 }
+        ensures does { AsksAccess sends_untranslated (parts_of self.old) id (read_of address len) result.now (parts_of self.new) }
+        ensures fits { address < 2 ^ 64 }
+        ensures disks { disks_of self.new ≡ disks_of self.old }
+        ensures events { self.new.events ≡ self.old.events }
+    {
+        kept.tell(self.read(id, address, len))
+    }
+
+    /// What [`World::write`] tells.
+    #[inline(never)]
+    pub(crate) fn tell_write<'a>(
+        &mut self,
+        id: DeviceId,
+        address: u64,
+        bytes: &[u8],
+        kept: &'a mut KeptOutcomes,
+    ) -> &'a mut Outcome
+        requires below { (flights_of self.old.iommu).so_far < self.old.events }
+        requires count { (flights_of self.old.iommu).so_far + 1 < 2 ^ 64 }
+        ensures does { AsksAccess sends_untranslated (parts_of self.old) id (write_of address bytes.now) result.now (parts_of self.new) }
+        ensures fits { address < 2 ^ 64 }
+        ensures disks { disks_of self.new ≡ disks_of self.old }
+        ensures events { self.new.events ≡ self.old.events }
+    {
+        kept.tell(self.write(id, address, bytes))
+    }
+
+    /// What [`World::poke`] tells.
+    #[inline(never)]
+    pub(crate) fn tell_poke<'a>(
+        &mut self,
+        address: u64,
+        bytes: &[u8],
+        kept: &'a mut KeptOutcomes,
+    ) -> &'a mut Outcome
+        ensures does { PokesBytes (parts_of self.old) address bytes.now result.now (parts_of self.new) }
+        ensures disks { disks_of self.new ≡ disks_of self.old }
+        ensures events { self.new.events ≡ self.old.events }
+    {
+        kept.tell(self.poke(address, bytes))
+    }
+}
