@@ -1,9 +1,10 @@
 -- Commits, and lines that leave all in flight as it is, where accesses are in doubt: what is explained is followed.
-use Rattle.std.proofs.Common.{◌≡◌, ◌∙◌, ◌⊎◌, inl, inr, ◌-◌, ℕ, Bool, true, false, cond, ◌==◌, List, [], ◌∷◌, length, find, Option, None, Some, IsSomeAnd, MatchOption, slice_get, slice_set, refl, sym, ap, subst}
+use Rattle.std.proofs.Common.{◌≡◌, ◌∙◌, ◌⊎◌, inl, inr, ◌-◌, ℕ, zero, suc, Bool, true, false, cond, ◌==◌, List, [], ◌∷◌, ◌++◌, drop, take, length, find, Option, None, Some, IsSomeAnd, MatchOption, slice_get, slice_set, refl, sym, ap, subst, arith}
 use Rattle.std.specs.Prelude.{if◌then◌else◌}
 use Rattle.iom_base.specs.declared.access.AcceptedAccess.{AcceptedAccess}
 use Rattle.iom_ledger.specs.declared.refusal.Refusal.TheVariants.{NoSuchDevice}
 use Rattle.iom_machine.specs.Devices.{device_of, replaced_device}
+use Rattle.iom_machine.specs.Judging.{StandsAt}
 use Rattle.iom_machine.specs.Machine.{Step, Commits, Makes}
 use Rattle.iom_machine.specs.declared.event.Event.{Event}
 use Rattle.iom_machine.specs.declared.event.Event.TheVariants.{Commit}
@@ -13,10 +14,12 @@ use Rattle.iom_machine.specs.declared.state.Device.{Device}
 use Rattle.iom_machine.specs.declared.state.Frame.{Frame}
 use Rattle.iom_machine.specs.declared.state.State.{State}
 use Rattle.iom_judge.specs.Allowed.{Past, IsTrueOf, AreInOrder, HadBytes, ids_of, state_of}
-use Rattle.iom_judge.specs.Doubted.{AreAmong, MayBe, MayFly, flown}
-use Rattle.iom_judge.specs.Followed.{IsCommitOf, IsFollowed, IsPutOn, IsReadyFor, LeavesFlights, StepsBy}
+use Rattle.iom_judge.specs.Doubted.{AreAmong, MayBe, MayFly, flown, on_frame}
+use Rattle.iom_judge.specs.Followed.{IsCommitOf, IsFollowed, IsOldestOn, IsPutOn, IsReadyFor, LeavesFlights, StepsBy}
 use Rattle.iom_judge.specs.Steps.{IsExplained}
 use Rattle.iom_judge.specs.declared.doubts.Doubt.{Doubt}
+use Rattle.iom_judge.specs.declared.doubts.Doubt.TheVariants.{InFlight}
+use Rattle.iom_judge.specs.declared.doubts.Flight.{Flight}
 use Rattle.iom_judge.specs.declared.known.Known.{Known}
 use Rattle.iom_judge.proofs.FlightCommits.{with_oldest, commit_flies}
 use Rattle.iom_judge.proofs.FlightLemmas.{fewer_fly}
@@ -164,3 +167,79 @@ ready_follows old mid new before now event outcome among (inr (id, at, commits, 
     subst (λ (e : Event). IsFollowed old before new now (StepsBy e outcome) past) (sym at)
     (commit_puts old mid new before now id outcome past commits among put is
     (λ p true_of. subst (λ (e : Event). IsExplained mid new e outcome p) at (explains p true_of)))
+
+-- the first of some, and the others
+first_and_rest : (all : List AcceptedAccess) (first : AcceptedAccess) → slice_get all 0 ≡ Some first → all ≡ first ∷ drop 1 all
+first_and_rest [] first at = absurd (never first at)
+  where
+    never : (x : AcceptedAccess) → ◌≡◌ {A = Option AcceptedAccess} None (Some x) → ⊥
+    never x e = cc
+first_and_rest (one ∷ rest) first at = ap (λ (x : AcceptedAccess). x ∷ rest) (same one first at)
+  where
+    same : (x y : AcceptedAccess) → ◌≡◌ {A = Option AcceptedAccess} (Some x) (Some y) → x ≡ y
+    same x y e = cc
+
+other_first : (all : List AcceptedAccess) (first other : AcceptedAccess) → slice_get all 0 ≡ Some first → slice_set all 0 other ≡ other ∷ drop 1 all
+other_first [] first other at = absurd (never first at)
+  where
+    never : (x : AcceptedAccess) → ◌≡◌ {A = Option AcceptedAccess} None (Some x) → ⊥
+    never x e = cc
+other_first (one ∷ rest) first other at = refl
+
+one_fewer : (all : List AcceptedAccess) (first : AcceptedAccess) → slice_get all 0 ≡ Some first → length all - 1 ≡ length (drop 1 all)
+one_fewer [] first at = refl
+one_fewer (one ∷ rest) first at = omega arith
+
+-- what is known, where the oldest access of a device was put on a frame on which it may be
+pub is_put_on : (old : Known) (doubts : List Doubt) (id place : ℕ) (device : Device) (is_cached : Bool) (frame : ℕ) (devices : List Device) (exact : Bool) → StandsAt old.devices id place
+    → slice_get old.devices place ≡ Some device → IsOldestOn doubts device is_cached frame
+    → ((made : AcceptedAccess) → slice_get device.in_flight 0 ≡ Some made
+    → devices ≡ slice_set old.devices place (record device { in_flight = slice_set device.in_flight 0 (on_frame is_cached frame made) }))
+    → IsPutOn old doubts id (with_others old devices exact)
+is_put_on old doubts id place device is_cached frame devices exact stands there (made, at, may) put = record {
+  place = place;
+  device = device;
+  made = made;
+  moved = on_frame is_cached frame made;
+  later = drop 1 device.in_flight;
+  stands = stands;
+  there = there;
+  oldest = first_and_rest device.in_flight made at;
+  may = subst (λ (n : ℕ). MayBe doubts device.id (device.accepted - n) made (on_frame is_cached frame made)) (one_fewer device.in_flight made at) may;
+  put = ap (λ (ds : List Device). with_others old ds exact)
+      (put made at ∙ ap (λ (l : List AcceptedAccess). slice_set old.devices place (record device { in_flight = l })) (other_first device.in_flight made (on_frame is_cached frame made) at));
+}
+
+-- a frame of the doubt that is about the oldest access
+pub is_oldest_on : (doubts : List Doubt) (device : Device) (doubt : ℕ) (flight : Flight) (made : AcceptedAccess) (number k frame : ℕ) → slice_get doubts doubt ≡ Some (InFlight flight)
+    → slice_get device.in_flight 0 ≡ Some made → number ≡ device.accepted - (length device.in_flight - 1)
+    → (flight.device ≡ device.id) × (flight.number ≡ number) × (flight.kind ≡ made.access.kind) × (flight.writable ≡ None)
+    → slice_get flight.frames.items k ≡ Some frame → IsOldestOn doubts device flight.is_cached frame
+is_oldest_on doubts device doubt flight made number k frame there at is about among = (
+  made,
+  at,
+  inr (
+    doubt,
+    flight,
+    there,
+    record { own = about.0; numbered = about.1 ∙ is; of_kind = about.2; requested = about.3; place = k; frame = frame; among = among; moved = refl },
+  ),
+)
+
+-- what is left of some without the one at a place is among these
+pub left_among : (doubts : List Doubt) (place : ℕ) → AreAmong (take place doubts ++ drop (suc place) doubts) doubts
+left_among doubts place = λ k flight at. by doubts place k flight at
+  where
+    by : (all : List Doubt) (place k : ℕ) (flight : Flight) → slice_get (take place all ++ drop (suc place) all) k ≡ Some (InFlight flight)
+        → (other : ℕ) × (slice_get all other ≡ Some (InFlight flight))
+    by [] place k flight at = absurd (none place at)
+      where
+        never : slice_get {X = Doubt} [] k ≡ Some (InFlight flight) → ⊥
+        never e = cc
+
+        none : (p : ℕ) → slice_get (take p [] ++ drop (suc p) []) k ≡ Some (InFlight flight) → ⊥
+        none zero e = never e
+        none (suc p) e = never e
+    by (d ∷ ds) zero k flight at = (suc k, at)
+    by (d ∷ ds) (suc place) zero flight at = (0, at)
+    by (d ∷ ds) (suc place) (suc k) flight at = let rest = by ds place k flight at in (suc rest.0, rest.1)

@@ -1,5 +1,5 @@
 -- When a step of the judge is a step of the machine, whatever frames the accesses in doubt are on.
-use Rattle.std.specs.Prelude.{◌≡◌, ◌⊎◌, ℕ, ◌-◌, List, ◌∷◌, Some, length, slice_get, slice_set, ⊤}
+use Rattle.std.specs.Prelude.{◌≡◌, ◌⊎◌, ℕ, ◌-◌, Bool, List, ◌∷◌, Some, length, slice_get, slice_set, ⊤}
 use Rattle.iom_base.specs.declared.access.AcceptedAccess.{AcceptedAccess}
 use Rattle.iom_machine.specs.Judging.{StandsAt}
 use Rattle.iom_machine.specs.declared.event.Event.{Event}
@@ -13,7 +13,7 @@ use Rattle.iom_machine.specs.Machine.{Run, Step}
 use Rattle.iom_script.specs.declared.script.WorldSize.{WorldSize}
 use Rattle.iom_judge.specs.Allowed.{Past, IsTrueOf, AreAllowed, state_of}
 use Rattle.iom_judge.specs.Certificates.{opening_of}
-use Rattle.iom_judge.specs.Doubted.{MayBe, MayFly, flown}
+use Rattle.iom_judge.specs.Doubted.{MayBe, MayFly, flown, on_frame}
 use Rattle.iom_judge.specs.declared.belief.Belief.{Belief}
 use Rattle.iom_judge.specs.declared.doubts.Doubt.{Doubt}
 use Rattle.iom_judge.specs.declared.known.Known.{Known}
@@ -55,6 +55,12 @@ abbrev pub IsCommitOf : Outcome → Type 0
 IsCommitOf (outcomes.Read bytes) = ⊤
 IsCommitOf (outcomes.Wrote len) = ⊤
 IsCommitOf _ = ⊥
+
+-- The oldest access of the device may be on the frame.
+abbrev pub IsOldestOn : List Doubt → Device → Bool → ℕ → Type 0
+IsOldestOn doubts device is_cached frame =
+    (made : AcceptedAccess) × (slice_get device.in_flight 0 ≡ Some made)
+    × MayBe doubts device.id (device.accepted - (length device.in_flight - 1)) made (on_frame is_cached frame made)
 
 -- The oldest access of the device is put on a frame on which it may be. Else all that is known stays as it is, but whether something was left out.
 pub record IsPutOn (old : Known) (doubts : List Doubt) (id : ℕ) (new : Known) : Type 0 where

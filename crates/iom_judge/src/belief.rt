@@ -479,7 +479,7 @@ impl Belief {
         if self.is_settled() {
             return self.known.act(alloc, event, outcome, tables, question);
         }
-        if self.is_followed && leaves_flights(outcome) {
+        if self.is_followed && self.is_ready_for(event, outcome) {
             return self.known.act(alloc, event, outcome, tables, question);
         }
         let may_come = self.act_in_doubt(alloc, event, outcome, tables, question)?;

@@ -191,6 +191,8 @@ fn put(known: &mut Known, doubt: &Flight, frame: u32) {
 }
 
 impl Flight {
+    ghost use Rattle.std.specs.Prelude.{◌≡◌, IsTrue, None};
+
     /// The access is on a frame that its device still reaches.
     fn narrow(&mut self, alloc: Global, known: &mut Known) -> Result<(), AllocError> {
         let reached = marks_of(alloc, known, self.device, self.kind)?;
@@ -203,6 +205,19 @@ impl Flight {
             put(known, self, frame);
         }
         Ok(())
+    }
+
+    /// Whether it is about this device's request of this kind, the one with this number of those that were accepted.
+    pub(crate) fn is_about(&self, id: DeviceId, number: u64, kind: AccessKind) -> bool
+        ensures { IsTrue result → (self.now.device ≡ id) × (self.now.number ≡ number) × (self.now.kind ≡ kind) × (self.now.writable ≡ None) }
+    {
+        if self.writable.is_some() || self.kind != kind {
+            return false;
+        }
+        if self.device != id {
+            return false;
+        }
+        self.number == number
     }
 
     /// Whether it isn't in doubt any longer.
@@ -221,7 +236,7 @@ fn is_over(doubt: &Doubt) -> bool {
 
 impl Doubts {
     ghost use Rattle.std.specs.Prelude.{◌≡◌, ◌↔◌, ◌⊎◌, ◌++◌, ◌∷◌, [], All, IsTrue, OnOk};
-    ghost use Rattle.iom_judge.specs.Doubted.{IsNotAbout, IsOfNoRequest};
+    ghost use Rattle.iom_judge.specs.Doubted.{AreAmong, IsNotAbout, IsOfNoRequest};
     ghost use Rattle.iom_judge.specs.declared.doubts.Doubt.TheVariants.{InFlight};
 
     pub(crate) fn new(alloc: Global) -> Doubts
@@ -303,7 +318,9 @@ impl Doubts {
     }
 
     /// The access isn't in flight any longer.
-    pub(crate) fn forget(&mut self, place: usize) {
+    pub(crate) fn forget(&mut self, place: usize)
+        ensures { AreAmong self.new.all.items self.old.all.items }
+    {
         if place < self.all.len() {
             let _doubt = self.all.remove(place);
         }
