@@ -5,8 +5,6 @@ use Rattle.std.proofs.lemmas.List.Elements.{All-nil, filter-append}
 use Rattle.std.proofs.KnownBytes.{Consumes-nil}
 use Rattle.iom_machine.specs.declared.event.Event.{Event}
 use Rattle.iom_machine.specs.declared.outcome.Outcome.{Outcome}
-use Rattle.iom_machine.specs.declared.state.State.{State}
-use Rattle.iom_machine.specs.Machine.{Run}
 use Rattle.iom_machine.proofs.ReclaimLemmas.{reclaims}
 use Rattle.iom_script.specs.declared.script.WorldSize.{WorldSize}
 use Rattle.iom_script.specs.Grammar.{is_spoken, spoken}
@@ -18,7 +16,6 @@ use Rattle.iom_judge.specs.Starts.{IsPowerOn, SomeAreAllowed}
 use Rattle.iom_judge.specs.Followed.{Follows}
 use Rattle.iom_judge.specs.TraceLines.{SaysLine}
 use Rattle.iom_judge.specs.declared.belief.Belief.{Belief}
-use Rattle.iom_judge.specs.declared.known.Known.{Known}
 use Rattle.iom_judge.specs.declared.trace.TraceLine.{TraceLine}
 use Rattle.iom_judge.specs.declared.trace.TraceLine.TheVariants as says
 use Rattle.iom_judge.specs.declared.verdict.Verdict.{Verdict}

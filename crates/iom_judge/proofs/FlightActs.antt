@@ -1,6 +1,5 @@
 -- Any step that leaves all in flight as it is, where other accesses are in flight.
 use Rattle.std.proofs.Common.{◌≡◌, ◌∙◌, inl, inr, ℕ, Bool, true, false, List, [], ◌∷◌, length, Option, None, Some, IsSomeAnd, MatchOption, refl, ap, subst, arith}
-use Rattle.std.specs.Prelude.{⊤}
 use Rattle.iom_base.specs.Accesses.{read_of, write_of}
 use Rattle.iom_base.specs.declared.access.AcceptedAccess.{AcceptedAccess}
 use Rattle.iom_base.specs.declared.access.Access.{Access}

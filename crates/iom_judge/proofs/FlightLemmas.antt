@@ -1,12 +1,10 @@
 -- Devices that have other accesses in flight: which is found, and how it changes.
-use Rattle.std.proofs.Common.{◌≡◌, ◌⊎◌, inl, inr, ℕ, suc, Bool, true, false, cond, ◌==◌, List, [], ◌∷◌, length, find, Option, None, Some, slice_get, refl, sym, ap, subst}
+use Rattle.std.proofs.Common.{◌≡◌, ◌⊎◌, inl, inr, ℕ, suc, Bool, true, false, cond, ◌==◌, List, [], ◌∷◌, length, find, Option, None, Some, refl, sym, ap, subst}
 use Rattle.std.specs.Prelude.{if◌then◌else◌}
 use Rattle.iom_base.specs.declared.access.AcceptedAccess.{AcceptedAccess}
 use Rattle.iom_machine.specs.Devices.{replaced_device}
 use Rattle.iom_machine.specs.declared.state.Device.{Device}
 use Rattle.iom_judge.specs.declared.doubts.Doubt.{Doubt}
-use Rattle.iom_judge.specs.declared.doubts.Doubt.TheVariants.{InFlight}
-use Rattle.iom_judge.specs.declared.doubts.Flight.{Flight}
 use Rattle.iom_judge.specs.Doubted.{AreAmong, MayBe, MayEachBe, MayFly, with_flights}
 
 -- those that each may be are as many

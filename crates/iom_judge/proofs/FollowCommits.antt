@@ -1,21 +1,20 @@
 -- Commits, and lines that leave all in flight as it is, where accesses are in doubt: what is explained is followed.
-use Rattle.std.proofs.Common.{◌≡◌, ◌∙◌, ◌⊎◌, inl, inr, ◌-◌, ℕ, zero, suc, Bool, true, false, cond, ◌==◌, List, [], ◌∷◌, ◌++◌, drop, take, length, find, Option, None, Some, IsSomeAnd, MatchOption, slice_get, slice_set, refl, sym, ap, subst, arith}
+use Rattle.std.proofs.Common.{◌≡◌, ◌∙◌, inl, inr, ◌-◌, ℕ, zero, suc, Bool, true, false, cond, ◌==◌, List, [], ◌∷◌, ◌++◌, drop, take, length, find, Option, None, Some, IsSomeAnd, MatchOption, slice_get, slice_set, refl, sym, ap, subst, arith}
 use Rattle.std.specs.Prelude.{if◌then◌else◌}
 use Rattle.iom_base.specs.declared.access.AcceptedAccess.{AcceptedAccess}
 use Rattle.iom_ledger.specs.declared.refusal.Refusal.TheVariants.{NoSuchDevice}
 use Rattle.iom_machine.specs.Devices.{device_of, replaced_device}
 use Rattle.iom_machine.specs.Judging.{StandsAt}
-use Rattle.iom_machine.specs.Machine.{Step, Commits, Makes}
+use Rattle.iom_machine.specs.Machine.{Commits, Makes}
 use Rattle.iom_machine.specs.declared.event.Event.{Event}
 use Rattle.iom_machine.specs.declared.event.Event.TheVariants.{Commit}
 use Rattle.iom_machine.specs.declared.outcome.Outcome.{Outcome}
 use Rattle.iom_machine.specs.declared.outcome.Outcome.TheVariants as outcomes
 use Rattle.iom_machine.specs.declared.state.Device.{Device}
-use Rattle.iom_machine.specs.declared.state.Frame.{Frame}
 use Rattle.iom_machine.specs.declared.state.State.{State}
 use Rattle.iom_judge.specs.Allowed.{Past, IsTrueOf, AreInOrder, HadBytes, ids_of, state_of}
-use Rattle.iom_judge.specs.Doubted.{AreAmong, MayBe, MayFly, flown, on_frame}
-use Rattle.iom_judge.specs.Followed.{IsCommitOf, IsFollowed, IsOldestOn, IsPutOn, IsReadyFor, LeavesFlights, StepsBy}
+use Rattle.iom_judge.specs.Doubted.{AreAmong, MayBe, MayFly, on_frame}
+use Rattle.iom_judge.specs.Followed.{IsCommitOf, IsFollowed, IsOldestOn, IsPutOn, IsReadyFor, StepsBy}
 use Rattle.iom_judge.specs.Steps.{IsExplained}
 use Rattle.iom_judge.specs.declared.doubts.Doubt.{Doubt}
 use Rattle.iom_judge.specs.declared.doubts.Doubt.TheVariants.{InFlight}

@@ -1,5 +1,5 @@
 -- Requests that are accepted, where accesses are in doubt, and where these may be after them.
-use Rattle.std.proofs.Common.{◌≡◌, ◌∙◌, ◌⊎◌, inl, inr, ◌+◌, ℕ, zero, suc, Bool, true, false, List, [], ◌∷◌, ◌++◌, All, Option, None, Some, slice_get, refl, sym, ap, subst}
+use Rattle.std.proofs.Common.{◌≡◌, ◌∙◌, ◌⊎◌, inl, inr, ◌+◌, ℕ, zero, suc, List, [], ◌∷◌, ◌++◌, All, Option, None, Some, slice_get, sym, subst}
 use Rattle.iom_base.specs.Accesses.{read_of, write_of}
 use Rattle.iom_base.specs.declared.access.AcceptedAccess.{AcceptedAccess}
 use Rattle.iom_base.specs.declared.access.Access.{Access}
@@ -15,7 +15,6 @@ use Rattle.iom_machine.specs.declared.choice.Choice.{Choice}
 use Rattle.iom_machine.specs.declared.event.Event.{Event}
 use Rattle.iom_machine.specs.declared.outcome.Outcome.{Outcome}
 use Rattle.iom_machine.specs.declared.outcome.Outcome.TheVariants.{Accepted}
-use Rattle.iom_machine.specs.declared.state.Device.{Device}
 use Rattle.iom_machine.specs.declared.state.Frame.{Frame}
 use Rattle.iom_machine.specs.declared.state.State.{State}
 use Rattle.iom_machine.proofs.InFlightLemmas.{All-at, found_device}
@@ -30,8 +29,8 @@ use Rattle.iom_judge.specs.declared.doubts.Flight.{Flight}
 use Rattle.iom_judge.specs.declared.known.Known.{Known}
 use Rattle.iom_judge.specs.declared.way.Way.{Way}
 use Rattle.iom_judge.specs.declared.way.Way.TheVariants.{Untranslated, Forged, Cached}
-use Rattle.iom_judge.proofs.FlightAccepts.{DoubtsOnly, HaveOwnIds}
-use Rattle.iom_judge.proofs.FlightRequests.{IsDoubtedSo, OfDevice, Accepts, able_to, request_flies, cached_request_flies}
+use Rattle.iom_judge.proofs.FlightAccepts.{DoubtsOnly}
+use Rattle.iom_judge.proofs.FlightRequests.{IsDoubtedSo, OfDevice, able_to, request_flies, cached_request_flies}
 use Rattle.iom_judge.proofs.FlightSteps.{Led}
 use Rattle.iom_judge.proofs.FollowSteps.{own_ids_in_order}
 

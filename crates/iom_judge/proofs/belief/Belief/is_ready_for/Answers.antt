@@ -1,4 +1,4 @@
-use Rattle.std.proofs.Common.{inl, inr, refl, sym}
+use Rattle.std.proofs.Common.{inl, inr, refl}
 use Rattle.iom_judge.proofs.belief.Belief.is_ready_for.Goals as goal
 
 pub returns-then-leaves_flights : goal.returns-then-leaves_flights
