@@ -5,31 +5,21 @@ use Rattle.std.proofs.lemmas.List.Elements.{All-nil, filter-append}
 use Rattle.std.proofs.KnownBytes.{Consumes-nil}
 use Rattle.iom_machine.specs.declared.event.Event.{Event}
 use Rattle.iom_machine.specs.declared.outcome.Outcome.{Outcome}
-use Rattle.iom_machine.specs.declared.state.State.{State}
-use Rattle.iom_machine.specs.Machine.{Run, Step}
 use Rattle.iom_machine.proofs.ReclaimLemmas.{reclaims}
 use Rattle.iom_script.specs.declared.script.WorldSize.{WorldSize}
 use Rattle.iom_script.specs.Grammar.{is_spoken, spoken}
 use Rattle.iom_script.specs.Words.{IsWithout}
 use Rattle.iom_judge.specs.Allowed.{Past, IsTrueOf, state_of}
 use Rattle.iom_judge.specs.Certificates.{is_certificate, four_disks, opening_of, SaysStep, SaySteps, AreOfRun, AreLawful, IsLawfulTrace}
-use Rattle.iom_judge.specs.Certified.{IsCertified, IsCertifiedBy, Certify, CertifyIf, GoesOn, AreLines, Holds, HasTaken, HasJudged}
+use Rattle.iom_judge.specs.Certified.{IsCertifiedBy, Certify, CertifyIf, GoesOn, AreLines, Holds, HasTaken, HasJudged}
 use Rattle.iom_judge.specs.Starts.{IsPowerOn, SomeAreAllowed}
-use Rattle.iom_judge.specs.Steps.{IsExplained}
+use Rattle.iom_judge.specs.Followed.{Follows}
 use Rattle.iom_judge.specs.TraceLines.{SaysLine}
 use Rattle.iom_judge.specs.declared.belief.Belief.{Belief}
-use Rattle.iom_judge.specs.declared.known.Known.{Known}
 use Rattle.iom_judge.specs.declared.trace.TraceLine.{TraceLine}
 use Rattle.iom_judge.specs.declared.trace.TraceLine.TheVariants as says
 use Rattle.iom_judge.specs.declared.verdict.Verdict.{Verdict}
-
--- one step more, at the end of a run
-run_more : (first before after : State) (events : List Event) (outcomes : List Outcome) (event : Event) (outcome : Outcome)
-    → Run first events outcomes before → Step before event outcome after → Run first (events ++ event ∷ []) (outcomes ++ outcome ∷ []) after
-run_more first before after [] [] event outcome run step = (after, subst (λ (s : State). Step s event outcome after) run step, refl)
-run_more first before after (e ∷ es) (o ∷ os) event outcome (mid, once, rest) step = (mid, once, run_more mid before after es os event outcome rest step)
-run_more first before after [] (o ∷ os) event outcome run step = absurd run
-run_more first before after (e ∷ es) [] event outcome run step = absurd run
+use Rattle.iom_judge.proofs.FollowSteps.{certified_on, certified_anyway, certified_settled, none_of_none}
 
 -- one line more that says a step
 steps_more : (lines : List (List ℕ)) (line : List ℕ) (events : List Event) (outcomes : List Outcome) (event : Event) (outcome : Outcome)
@@ -52,31 +42,18 @@ spoken_same : (lines : List (List ℕ)) (line : List ℕ) → is_spoken line ≡
 spoken_same lines line says = filter-append is_spoken lines (line ∷ []) ∙ ap (λ (l : List (List ℕ)). spoken lines ++ l) (rw says refl) ∙ append-nil (spoken lines)
 
 -- what is certified goes on being so
-certified_more : (old new : Known) (size : WorldSize) (events : List Event) (outcomes : List Outcome) (event : Event) (outcome : Outcome)
-    → IsCertified old size events outcomes → ((past : Past) → IsTrueOf old past → IsExplained old new event outcome past)
-    → IsCertified new size (events ++ event ∷ []) (outcomes ++ outcome ∷ [])
-certified_more old new size events outcomes event outcome certified explained =
-    let led = explained certified.past certified.is_true in record {
-      past = led.after;
-      is_true = led.is_true;
-      runs = λ frames allowed.
-          let came = led.from_before frames allowed in
-          run_more (opening_of size) (state_of old certified.past.history came.frames) (state_of new led.after.history frames) events outcomes event outcome
-          (certified.runs came.frames came.allowed) came.step;
-    }
-
 certify_more : (old new : Belief) (lines : List (List ℕ)) (line : List ℕ) (event : Event) (outcome : Outcome)
-    → Certify (Some old) lines → SaysStep line event outcome → ((past : Past) → IsTrueOf old.known past → IsExplained old.known new.known event outcome past)
+    → Certify (Some old) lines → SaysStep line event outcome → Follows old new event outcome
     → Certify (Some new) (lines ++ line ∷ [])
-certify_more old new [] line event outcome never step explained = absurd never
-certify_more old new (first ∷ rest) line event outcome (size, says, by) step explained = (
+certify_more old new [] line event outcome never step follows = absurd never
+certify_more old new (first ∷ rest) line event outcome (size, says, by) step follows = (
   size,
   says,
   record {
     events = by.events ++ event ∷ [];
     outcomes = by.outcomes ++ outcome ∷ [];
     say = steps_more rest line by.events by.outcomes event outcome by.say step;
-    certified = certified_more old.known new.known size by.events by.outcomes event outcome by.certified explained;
+    certified = certified_on old.known old.doubts.all.items new.known new.doubts.all.items size by.events by.outcomes event outcome by.certified follows;
   },
 )
 
@@ -88,7 +65,7 @@ nothing_said certain belief lines line says before told =
 
 -- after one that says how large the world is
 pub world_said : (was is : Bool) (old new : Option Belief) (lines : List (List ℕ)) (line tables : List ℕ) (size : WorldSize) → is_spoken line ≡ true
-    → SaysLine line (says.World size) tables → old ≡ None → is ≡ was → IsSomeAnd new (λ belief. IsPowerOn belief.known size.frames size.levels four_disks)
+    → SaysLine line (says.World size) tables → old ≡ None → is ≡ was → IsSomeAnd new (λ belief. IsPowerOn belief.known size.frames size.levels four_disks × (belief.doubts.all.items ≡ []))
     → CertifyIf was old lines → CertifyIf is new (lines ++ line ∷ [])
 world_said was is (Some belief) new lines line tables size spoken_line says never same starts before told = absurd cc
 world_said was is None None lines line tables size spoken_line says none same starts before told = absurd starts
@@ -103,7 +80,8 @@ world_said was is None (Some belief) lines line tables size spoken_line says non
         events = [];
         outcomes = [];
         say = tt;
-        certified = record { past = starts.past; is_true = starts.is_true; runs = starts.is_opening };
+        certified = certified_settled belief.known belief.doubts.all.items size [] [] (none_of_none belief.doubts.all.items starts.1)
+            (record { past = starts.0.past; is_true = starts.0.is_true; runs = starts.0.is_opening });
       },
     )
     first (l ∷ ls) never = absurd never
@@ -121,10 +99,11 @@ step_said was is (Some old) (Some new) lines line tables event outcome has_table
     (certify_more old new (spoken lines) line event outcome (before so.0) (has_tables, on, tables, says) so.1)
 
 -- what is certified, where some state is allowed, is of a run
-of_run : (known : Known) (size : WorldSize) (lines : List (List ℕ)) → IsCertifiedBy known size lines → ((past : Past) → IsTrueOf known past → SomeAreAllowed known past)
+of_run : (belief : Belief) (size : WorldSize) (lines : List (List ℕ)) → IsCertifiedBy belief size lines → ((past : Past) → IsTrueOf belief.known past → SomeAreAllowed belief.known past)
     → AreOfRun size lines
-of_run known size lines by possible =
-    let certified = by.certified in
+of_run belief size lines by possible =
+    let known = belief.known in
+    let certified = certified_anyway known belief.doubts.all.items size by.events by.outcomes by.certified in
     let some = possible certified.past certified.is_true in
     let run = certified.runs some.0 some.1 in record {
       events = by.events;
@@ -145,7 +124,7 @@ all_said belief lines text certified possible are =
     by None [] told so = tt
     by None (l ∷ ls) never so = absurd never
     by (Some b) [] never so = absurd never
-    by (Some b) (l ∷ ls) (size, says, it) so = (size, says, of_run b.known size ls it so)
+    by (Some b) (l ∷ ls) (size, says, it) so = (size, says, of_run b size ls it so)
 
 -- Nothing ends the trace, where it goes on so; and what ends it is no certificate.
 pub if_it_goes_on : {E : Type 0} (result : Result (Option Verdict) E) (P Q : Type 0) → (P → Q) → IfOk result (λ found. MatchOption found P (λ verdict. is_certificate verdict ≡ false))

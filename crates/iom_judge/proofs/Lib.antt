@@ -4,6 +4,17 @@ pub mod ByteSteps
 pub mod CallSteps
 pub mod CertificateLemmas
 pub mod ContentLemmas
+pub mod FlightAccepts
+pub mod FlightActs
+pub mod FlightCommits
+pub mod FlightEvents
+pub mod FlightLemmas
+pub mod FlightPolls
+pub mod FlightRequests
+pub mod FlightSteps
+pub mod FollowCommits
+pub mod FollowRequests
+pub mod FollowSteps
 pub mod FrameSteps
 pub mod GrantedLemmas
 pub mod LeaveLemmas
@@ -13,6 +24,7 @@ pub mod OwnerLemmas
 pub mod PlugSteps
 pub mod PollSteps
 pub mod ReasonLemmas
+pub mod ReachedLemmas
 pub mod ReadingLemmas
 pub mod RequestSteps
 pub mod ScarceSteps

@@ -11,7 +11,7 @@ use Rattle.iom_script.specs.Grammar.{spoken, bytes_of_lines}
 use Rattle.iom_script.specs.Words.{IsWithout}
 use Rattle.iom_judge.specs.Allowed.{Past, IsTrueOf, AreAllowed, state_of}
 use Rattle.iom_judge.specs.Certificates.{opening_of, SaySteps}
-use Rattle.iom_judge.specs.Steps.{IsExplained}
+use Rattle.iom_judge.specs.Followed.{Follows, IsCertifiedWith}
 use Rattle.iom_judge.specs.TraceLines.{SaysLine}
 use Rattle.iom_judge.specs.declared.belief.Belief.{Belief}
 use Rattle.iom_judge.specs.declared.known.Known.{Known}
@@ -19,7 +19,7 @@ use Rattle.iom_judge.specs.declared.trace.NextLine.{NextLine}
 use Rattle.iom_judge.specs.declared.trace.NextLine.TheVariants.{Line, Broken, End}
 use Rattle.iom_judge.specs.declared.trace.TraceLine.TheVariants.{World}
 
--- There is a past that is true of what is known, and with that each state that is allowed is one to which the machine runs from power-on by these events with
+-- There is a past that is true of what is known, and with that each state that is allowed, with all in flight as it is known, is one to which the machine runs from power-on by these events with
 -- these outcomes.
 pub record IsCertified (known : Known) (size : WorldSize) (events : List Event) (outcomes : List Outcome) : Type 0 where
   pub past : Past
@@ -27,27 +27,27 @@ pub record IsCertified (known : Known) (size : WorldSize) (events : List Event) 
   pub runs : (frames : List Frame) → AreAllowed known past frames
       → Run (opening_of size) events outcomes (state_of known past.history frames)
 
--- what is known is certified by what the lines say
-pub record IsCertifiedBy (known : Known) (size : WorldSize) (lines : List (List ℕ)) : Type 0 where
+-- what is believed is certified by what the lines say
+pub record IsCertifiedBy (belief : Belief) (size : WorldSize) (lines : List (List ℕ)) : Type 0 where
   pub events : List Event
   pub outcomes : List Outcome
   pub say : SaySteps lines events outcomes
-  pub certified : IsCertified known size events outcomes
+  pub certified : IsCertifiedWith belief.known belief.doubts.all.items size events outcomes
 
 -- Lines that all say something certify what is believed: none of them, where that is nothing yet, or one that says how large the world is, and then others.
 abbrev pub Certify : Option Belief → List (List ℕ) → Type 0
 Certify None [] = ⊤
-Certify (Some belief) (line ∷ lines) = (size : WorldSize) × SaysLine line (World size) [] × IsCertifiedBy belief.known size lines
+Certify (Some belief) (line ∷ lines) = (size : WorldSize) × SaysLine line (World size) [] × IsCertifiedBy belief size lines
 Certify _ _ = ⊥
 
 -- What is certified is so by the lines.
 abbrev pub CertifyIf : Bool → Option Belief → List (List ℕ) → Type 0
 CertifyIf is_certified belief lines = IsTrue is_certified → Certify belief (spoken lines)
 
--- What is certified after the event with this outcome was so before, and the change of what is believed is explained.
+-- What is certified after the event with this outcome was so before, and what is believed is followed from that.
 abbrev pub GoesOn : Bool → Option Belief → Event → Outcome → Bool → Option Belief → Type 0
 GoesOn was (Some old) event outcome is (Some new) =
-    IsTrue is → IsTrue was × ((past : Past) → IsTrueOf old.known past → IsExplained old.known new.known event outcome past)
+    IsTrue is → IsTrue was × Follows old new event outcome
 GoesOn was _ event outcome is _ = ⊥
 
 -- these bytes stand in the buffer, between the two places

@@ -1,19 +1,23 @@
 // What is believed of the machine's state after the lines so far.
-ghost use Rattle.std.specs.Prelude.{◌≡◌, ◌↔◌, ◌≤◌, [], IsTrue, IfOk};
+ghost use Rattle.std.specs.Prelude.{◌≡◌, ◌↔◌, ◌≤◌, [], All, IsTrue, IfOk};
 ghost use Rattle.iom_machine.specs.declared.event.Event.{Event};
+ghost use Rattle.iom_machine.specs.declared.event.Event.TheVariants as events;
 ghost use Rattle.iom_judge.specs.Allowed.{Past, IsTrueOf};
 ghost use Rattle.iom_judge.specs.Asked.{IsAskedBy};
 ghost use Rattle.iom_judge.specs.Certificates.{four_disks};
+ghost use Rattle.iom_judge.specs.Doubted.{IsNotAbout, IsOfNoRequest};
+ghost use Rattle.iom_judge.specs.Followed.{Follows};
 ghost use Rattle.iom_judge.specs.Starts.{IsPowerOn};
 ghost use Rattle.iom_judge.specs.Steps.{IsExplained};
 
 use crate::asked::{Asked, read_by, request, write_by};
 use crate::contents::{keep, store};
 use crate::devices::place_of;
-use crate::doubts::{Doubts, frame_at, possible_frames};
+use crate::doubts::{Doubts, flight_of, frame_at};
+use crate::following::leaves_flights;
 use crate::in_flight::drop_oldest;
 use crate::known::Known;
-use crate::messages::Messages;
+use crate::messages::{Messages, Question};
 use crate::owners::{may_be_nobodys, may_be_somebodys};
 use crate::polls::{begin_poll, end_poll, poll};
 use crate::processor::{peek, poke};
@@ -47,6 +51,9 @@ pub(crate) struct Belief {
     pub(crate) is_whole: bool,
     /// Whether none was of what they hold.
     pub(crate) is_whole_in_bytes: bool,
+    /// Whether each line so far was followed: each state that was allowed after it, whatever frames the accesses in doubt
+    /// are on, is one to which the machine came by it.
+    pub(crate) is_followed: bool,
 }
 
 /// The numbers of the disks that a world has at power-on.
@@ -64,7 +71,7 @@ impl Belief {
     /// What is believed at power-on.
     pub(crate) fn power_on(alloc: Global, frames: u32, levels: u8) -> Result<Belief, AllocError>
         requires { 4 ≤ frames }
-        ensures { IfOk result (λ belief. IsPowerOn belief.known frames levels four_disks) }
+        ensures { IfOk result (λ belief. IsPowerOn belief.known frames levels four_disks × (belief.doubts.all.items ≡ [])) }
     {
         Ok(Belief {
             known: Known::power_on(alloc, frames, levels, &DISKS)?,
@@ -74,6 +81,7 @@ impl Belief {
             releases: Releases::new(alloc),
             is_whole: true,
             is_whole_in_bytes: true,
+            is_followed: true,
         })
     }
 
@@ -95,6 +103,26 @@ impl Belief {
         self.doubts.is_empty() && self.versions.is_known()
     }
 
+    /// Whether each line so far was followed, and none of the doubts is about the device's access with this number.
+    fn follows_new(&self, id: DeviceId, number: u64) -> bool
+        ensures { IsTrue result → All (IsNotAbout id number) self.now.doubts.all.items }
+    {
+        if !self.is_followed {
+            return false;
+        }
+        self.doubts.has_none_about(id, number)
+    }
+
+    /// Whether each line so far was followed, and none of the doubts is about a request.
+    fn follows_known(&self) -> bool
+        ensures { IsTrue result → All IsOfNoRequest self.now.doubts.all.items }
+    {
+        if !self.is_followed {
+            return false;
+        }
+        self.doubts.has_no_request()
+    }
+
     /// A request. Where it is accepted, that is on the frame that is shown, or else on the first of those that are possible,
     /// and in doubt where these are several.
     fn ask_for(
@@ -104,30 +132,34 @@ impl Belief {
         outcome: &Outcome,
         on: Option<u32>,
     ) -> Result<bool, AllocError>
-        ensures { IfOk result (λ may. IsTrue may
+        ensures explained { IfOk result (λ may. IsTrue may
             → (event : Event) → IsAskedBy event asked.way asked.device asked.access
             → (past : Past) → IsTrueOf self.old.known past
             → IsExplained self.old.known self.new.known event outcome.now past) }
+        ensures followed { IfOk result (λ may. IsTrue may → IsTrue self.new.is_followed
+            → (event : Event) → IsAskedBy event asked.way asked.device asked.access → Follows self.old self.new event outcome.now) }
     {
-        if !matches!(outcome, Outcome::Accepted(_)) {
+        if leaves_flights(outcome) {
             return request(&mut self.known, asked, outcome, 0);
         }
+        let Outcome::Accepted(number) = outcome else {
+            return Ok(false);
+        };
+        self.is_followed = self.follows_new(asked.device, *number);
         if let Some(frame) = on {
             return request(&mut self.known, asked, outcome, frame);
         }
-        let (way, device, kind) = (asked.way, asked.device, asked.access.kind);
-        let frames = possible_frames(alloc, way, &self.known, device, &asked.access)?;
+        let flight = flight_of(alloc, &self.known, &asked, *number)?;
         let page = asked.access.address / PAGE_SIZE;
-        let frame = match frames.first() {
+        let frame = match flight.frames.first() {
             Some(first) => *first,
-            None => frame_at(&self.known, device, page).unwrap_or(0),
+            None => frame_at(&self.known, asked.device, page).unwrap_or(0),
         };
-        let may_come = request(&mut self.known, asked, outcome, frame)?;
-        if may_come {
-            self.doubts
-                .accept(&self.known, device, way, kind, frames, None)?;
+        if !request(&mut self.known, asked, outcome, frame)? {
+            return Ok(false);
         }
-        Ok(may_come)
+        self.doubts.accept(flight)?;
+        Ok(true)
     }
 
     /// A poll.
@@ -393,12 +425,13 @@ impl Belief {
         outcome: &Outcome,
         shown: Shown<'_>,
     ) -> Result<bool, AllocError>
-        ensures { self.old.doubts.all.items ≡ [] → self.old.versions.all.items ≡ []
+        ensures explained { self.old.doubts.all.items ≡ [] → self.old.versions.all.items ≡ []
             → IfOk result (λ may. IsTrue may → (past : Past) → IsTrueOf self.old.known past
             → IsExplained self.old.known self.new.known event outcome.now past) }
+        ensures followed { IfOk result (λ may. IsTrue may → IsTrue self.new.is_followed → Follows self.old self.new event outcome.now) }
     {
         if let Event::Step { device } = &event {
-            return self.take_step(alloc, *device, outcome, shown.on);
+            return self.step_block(alloc, *device, outcome, shown.on);
         }
         if let Some(asked) = read_by(alloc, &event) {
             return self.ask_for(alloc, asked, outcome, shown.on);
@@ -409,6 +442,26 @@ impl Belief {
         }
     }
 
+    /// A step of a block device.
+    fn step_block(
+        &mut self,
+        alloc: Global,
+        id: DeviceId,
+        outcome: &Outcome,
+        on: Option<u32>,
+    ) -> Result<bool, AllocError>
+        ensures explained { IfOk result (λ may. IsTrue may → (past : Past) → IsTrueOf self.old.known past
+            → IsExplained self.old.known self.new.known (events.Step id) outcome.now past) }
+        ensures followed { IfOk result (λ may. IsTrue may → IsTrue self.new.is_followed → Follows self.old self.new (events.Step id) outcome.now) }
+    {
+        let may_come = self.take_step(alloc, id, outcome, on)?;
+        if leaves_flights(outcome) {
+            return Ok(may_come);
+        }
+        self.is_followed = self.follows_known();
+        Ok(may_come)
+    }
+
     /// Whether this may come of an event that asks for no access.
     fn act(
         &mut self,
@@ -417,14 +470,32 @@ impl Belief {
         outcome: &Outcome,
         tables: Option<&[u32]>,
     ) -> Result<bool, AllocError>
-        ensures { self.old.doubts.all.items ≡ [] → self.old.versions.all.items ≡ []
+        ensures explained { self.old.doubts.all.items ≡ [] → self.old.versions.all.items ≡ []
             → IfOk result (λ may. IsTrue may → (past : Past) → IsTrueOf self.old.known past
             → IsExplained self.old.known self.new.known event.now outcome.now past) }
+        ensures followed { IfOk result (λ may. IsTrue may → IsTrue self.new.is_followed → Follows self.old self.new event.now outcome.now) }
     {
         let question = self.question_of(event, outcome);
         if self.is_settled() {
             return self.known.act(alloc, event, outcome, tables, question);
         }
+        if self.is_followed && self.is_ready_for(event, outcome) {
+            return self.known.act(alloc, event, outcome, tables, question);
+        }
+        let may_come = self.act_in_doubt(alloc, event, outcome, tables, question)?;
+        self.is_followed = false;
+        Ok(may_come)
+    }
+
+    /// The same, where something is in doubt on which it may depend.
+    fn act_in_doubt(
+        &mut self,
+        alloc: Global,
+        event: &Event,
+        outcome: &Outcome,
+        tables: Option<&[u32]>,
+        question: Option<Question>,
+    ) -> Result<bool, AllocError> {
         match event {
             Event::Poll => self.poll(alloc, outcome),
             Event::Commit { device } => self.commit(alloc, *device, outcome),
@@ -438,7 +509,9 @@ impl Belief {
 
     /// Notes which messages are under way, and what was released under which ticket.
     fn note(&mut self, event: &Event, outcome: &Outcome) -> Result<(), AllocError>
-        ensures { self.new.known ≡ self.old.known }
+        ensures known { self.new.known ≡ self.old.known }
+        ensures followed { self.new.is_followed ≡ self.old.is_followed }
+        ensures doubts { IsTrue self.old.is_followed → self.new.doubts ≡ self.old.doubts }
     {
         match (event, outcome) {
             (Event::Release { device, page }, Outcome::Ticket(ticket)) => {
@@ -448,7 +521,8 @@ impl Belief {
                 self.releases.note(*ticket, *device, None)?;
             }
             (Event::Poll, Outcome::Confirmed { last, .. }) => self.releases.confirm(*last),
-            (Event::Attach { .. } | Event::Grant { .. }, Outcome::Done) => {
+            // where each line so far was followed, there are no writes that weren't seen
+            (Event::Attach { .. } | Event::Grant { .. }, Outcome::Done) if !self.is_followed => {
                 self.doubts.leave_taken(&self.known);
             }
             // bytes that weren't followed may have shown that the frame is somebody's, and it need not be
@@ -470,9 +544,10 @@ impl Belief {
         outcome: &Outcome,
         tables: Option<&[u32]>,
     ) -> Result<bool, AllocError>
-        ensures { self.old.doubts.all.items ≡ [] → self.old.versions.all.items ≡ []
+        ensures explained { self.old.doubts.all.items ≡ [] → self.old.versions.all.items ≡ []
             → IfOk result (λ may. IsTrue may → (past : Past) → IsTrueOf self.old.known past
             → IsExplained self.old.known self.new.known event.now outcome.now past) }
+        ensures followed { IfOk result (λ may. IsTrue may → IsTrue self.new.is_followed → Follows self.old self.new event.now outcome.now) }
     {
         let may_come = self.act(alloc, event, outcome, tables)?;
         if may_come {

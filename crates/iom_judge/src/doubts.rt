@@ -1,5 +1,15 @@
 // Accesses of which the lines don't show all. A device in both stages has them on a frame that its guest's tables
 // chose; of an access of a block device's step neither its kind is shown, nor its place and its bytes.
+ghost use Rattle.std.specs.Prelude.{◌≡◌, ◌==◌, ℕ, List, All, IfOk, IsTrue, Some, find, slice_get};
+ghost use Rattle.iom_machine.specs.Requests.{MayAccept};
+ghost use Rattle.iom_machine.specs.ThroughCache.{MayGoThrough};
+ghost use Rattle.iom_machine.specs.declared.state.Device.{Device};
+ghost use Rattle.iom_machine.specs.declared.state.Frame.{Frame};
+ghost use Rattle.iom_judge.specs.Allowed.{Past, IsTrueOf, state_of};
+ghost use Rattle.iom_judge.specs.Doubted.{IsNotAbout, IsOfNoRequest, IsOfRequest, is_through_cache};
+ghost use Rattle.iom_judge.specs.Reached.{AreServed, HasBothStages};
+
+use crate::asked::Asked;
 use crate::devices::place_of;
 use crate::known::Known;
 use crate::reached::{frames_open_to, marks_of};
@@ -12,11 +22,11 @@ use std::alloc::{AllocError, Global};
 /// An access in flight that may be on one of several frames. What is known has it on the first.
 #[derive(Drop)]
 pub(crate) struct Flight {
-    device: DeviceId,
+    pub(crate) device: DeviceId,
     /// The access is the device's accepted one with this number.
-    number: u64,
-    kind: AccessKind,
-    is_cached: bool,
+    pub(crate) number: u64,
+    pub(crate) kind: AccessKind,
+    pub(crate) is_cached: bool,
     pub(crate) frames: Vec<u32>,
     /// Where a step began the access, the frames on which it may be a write. What is known has a read of one byte.
     pub(crate) writable: Option<Vec<u32>>,
@@ -31,7 +41,9 @@ pub(crate) enum Doubt {
 }
 
 /// Whether a request of the device is, or was, translated in both stages.
-fn has_both_stages(attachment: Attachment) -> bool {
+fn has_both_stages(attachment: Attachment) -> bool
+    ensures { IsTrue result → HasBothStages attachment }
+{
     match attachment {
         Attachment::Detached => false,
         Attachment::Attached { mode, .. }
@@ -57,7 +69,12 @@ pub(crate) fn possible_frames(
     known: &Known,
     id: DeviceId,
     access: &Access,
-) -> Result<Vec<u32>, AllocError> {
+) -> Result<Vec<u32>, AllocError>
+    ensures { IfOk result (λ found. (device : Device) → find (λ it. it.id == id) known.now.devices ≡ Some device
+        → (k frame : ℕ) → slice_get found.items k ≡ Some frame → (past : Past) (frames : List Frame) → IsTrueOf known.now past
+        → MayAccept device.attachment (state_of known.now past.history frames) id access.now frame
+        × MayGoThrough device.attachment (state_of known.now past.history frames) id access.now frame) }
+{
     let Some(place) = place_of(known.devices.as_slice(), id) else {
         return Ok(Vec::new(alloc));
     };
@@ -66,6 +83,85 @@ pub(crate) fn possible_frames(
         return Ok(Vec::new(alloc));
     }
     frames_open_to(alloc, known, device, access.kind)
+}
+
+/// Whether a request so goes through the device's own cache.
+pub(crate) fn is_through_cache(way: Way) -> bool
+    ensures { result ≡ is_through_cache way }
+{
+    match way {
+        Way::Untranslated | Way::Forged => false,
+        Way::Cached => true,
+    }
+}
+
+/// The access that is asked for, where it is accepted with this number, on the frames on which it may be.
+pub(crate) fn flight_of(
+    alloc: Global,
+    known: &Known,
+    asked: &Asked,
+    number: u64,
+) -> Result<Flight, AllocError>
+    ensures { IfOk result (λ flight. IsOfRequest flight known.now asked.now.way asked.now.device asked.now.access number) }
+{
+    let frames = possible_frames(alloc, asked.way, known, asked.device, &asked.access)?;
+    Ok(Flight {
+        device: asked.device,
+        number,
+        kind: asked.access.kind,
+        is_cached: is_through_cache(asked.way),
+        frames,
+        writable: None,
+    })
+}
+
+/// Whether the doubt isn't about the device's access with this number.
+fn is_not_about(doubt: &Doubt, id: DeviceId, number: u64) -> bool
+    ensures { IsTrue result → IsNotAbout id number doubt.now }
+{
+    match doubt {
+        Doubt::InFlight(flight) => {
+            if flight.device != id {
+                return true;
+            }
+            flight.number != number
+        }
+        Doubt::Written(_) => true,
+    }
+}
+
+/// Whether none of the doubts is.
+fn are_not_about(doubts: &[Doubt], id: DeviceId, number: u64) -> bool
+    ensures { IsTrue result → All (IsNotAbout id number) doubts.now }
+{
+    for doubt in doubts {
+        if !is_not_about(doubt, id, number) {
+            return false;
+        }
+    }
+    true
+}
+
+/// Whether the doubt isn't about a request.
+fn is_of_no_request(doubt: &Doubt) -> bool
+    ensures { IsTrue result → IsOfNoRequest doubt.now }
+{
+    match doubt {
+        Doubt::InFlight(flight) => flight.writable.is_some(),
+        Doubt::Written(_) => true,
+    }
+}
+
+/// Whether none of the doubts is.
+fn are_of_no_request(doubts: &[Doubt]) -> bool
+    ensures { IsTrue result → All IsOfNoRequest doubts.now }
+{
+    for doubt in doubts {
+        if !is_of_no_request(doubt) {
+            return false;
+        }
+    }
+    true
 }
 
 /// The accesses of which the lines don't show all, in the order of acceptance; once it is made, in that of the commits.
@@ -95,6 +191,8 @@ fn put(known: &mut Known, doubt: &Flight, frame: u32) {
 }
 
 impl Flight {
+    ghost use Rattle.std.specs.Prelude.{◌≡◌, IsTrue, None};
+
     /// The access is on a frame that its device still reaches.
     fn narrow(&mut self, alloc: Global, known: &mut Known) -> Result<(), AllocError> {
         let reached = marks_of(alloc, known, self.device, self.kind)?;
@@ -107,6 +205,19 @@ impl Flight {
             put(known, self, frame);
         }
         Ok(())
+    }
+
+    /// Whether it is about this device's request of this kind, the one with this number of those that were accepted.
+    pub(crate) fn is_about(&self, id: DeviceId, number: u64, kind: AccessKind) -> bool
+        ensures { IsTrue result → (self.now.device ≡ id) × (self.now.number ≡ number) × (self.now.kind ≡ kind) × (self.now.writable ≡ None) }
+    {
+        if self.writable.is_some() || self.kind != kind {
+            return false;
+        }
+        if self.device != id {
+            return false;
+        }
+        self.number == number
     }
 
     /// Whether it isn't in doubt any longer.
@@ -124,9 +235,13 @@ fn is_over(doubt: &Doubt) -> bool {
 }
 
 impl Doubts {
-    ghost use Rattle.std.specs.Prelude.{◌≡◌, ◌↔◌, [], IsTrue};
+    ghost use Rattle.std.specs.Prelude.{◌≡◌, ◌↔◌, ◌⊎◌, ◌++◌, ◌∷◌, [], All, IsTrue, OnOk};
+    ghost use Rattle.iom_judge.specs.Doubted.{AreAmong, IsNotAbout, IsOfNoRequest};
+    ghost use Rattle.iom_judge.specs.declared.doubts.Doubt.TheVariants.{InFlight};
 
-    pub(crate) fn new(alloc: Global) -> Doubts {
+    pub(crate) fn new(alloc: Global) -> Doubts
+        ensures { result.all.items ≡ [] }
+    {
         Doubts {
             all: Vec::new(alloc),
         }
@@ -138,30 +253,28 @@ impl Doubts {
         self.all.is_empty()
     }
 
-    /// The device's last accepted access may be on one of these frames.
-    pub(crate) fn accept(
-        &mut self,
-        known: &Known,
-        id: DeviceId,
-        way: Way,
-        kind: AccessKind,
-        frames: Vec<u32>,
-        writable: Option<Vec<u32>>,
-    ) -> Result<(), AllocError> {
-        let Some(place) = place_of(known.devices.as_slice(), id) else {
+    /// Whether none is about the device's access with this number.
+    pub(crate) fn has_none_about(&self, id: DeviceId, number: u64) -> bool
+        ensures { IsTrue result → All (IsNotAbout id number) self.now.all.items }
+    {
+        are_not_about(self.all.as_slice(), id, number)
+    }
+
+    /// Whether none is about a request.
+    pub(crate) fn has_no_request(&self) -> bool
+        ensures { IsTrue result → All IsOfNoRequest self.now.all.items }
+    {
+        are_of_no_request(self.all.as_slice())
+    }
+
+    /// The access is in flight, and in doubt where its frames are several.
+    pub(crate) fn accept(&mut self, flight: Flight) -> Result<(), AllocError>
+        ensures { OnOk result ((self.new.all.items ≡ self.old.all.items) ⊎ (self.new.all.items ≡ self.old.all.items ++ InFlight flight ∷ [])) }
+    {
+        if flight.is_settled() {
             return Ok(());
-        };
-        let flight = Flight {
-            device: id,
-            number: known.devices.as_slice()[place].accepted,
-            kind,
-            is_cached: way == Way::Cached,
-            frames,
-            writable,
-        };
-        if !flight.is_settled() {
-            self.all.push(Doubt::InFlight(flight))?;
         }
+        self.all.push(Doubt::InFlight(flight))?;
         Ok(())
     }
 
@@ -205,7 +318,9 @@ impl Doubts {
     }
 
     /// The access isn't in flight any longer.
-    pub(crate) fn forget(&mut self, place: usize) {
+    pub(crate) fn forget(&mut self, place: usize)
+        ensures { AreAmong self.new.all.items self.old.all.items }
+    {
         if place < self.all.len() {
             let _doubt = self.all.remove(place);
         }

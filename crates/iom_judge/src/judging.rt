@@ -25,7 +25,7 @@ struct Judge {
     tables: Vec<u32>,
     belief: Option<Belief>,
     line: u64,
-    /// Whether before no line anything was in doubt.
+    /// Whether each line so far was followed.
     is_certified: bool,
 }
 
@@ -47,7 +47,7 @@ impl Judge {
     fn begin(&mut self, size: WorldSize) -> io::Result<Option<Verdict>>
         ensures { IfOk result (λ found. MatchOption found
             ((self.old.belief ≡ None) × (self.new.is_certified ≡ self.old.is_certified)
-            × IsSomeAnd self.new.belief (λ belief. IsPowerOn belief.known size.frames size.levels four_disks))
+            × IsSomeAnd self.new.belief (λ belief. IsPowerOn belief.known size.frames size.levels four_disks × (belief.doubts.all.items ≡ [])))
             (λ verdict. is_certificate verdict ≡ false)) }
     {
         if self.belief.is_some() || size.frames < 4 || size.frames > 4096 || size.levels > 3 {
@@ -81,9 +81,9 @@ impl Judge {
             tables: if has_tables { Some(tables) } else { None },
             on,
         };
-        let was_settled = belief.is_settled();
         if belief.step(alloc, event, outcome, shown)? {
-            self.is_certified = self.is_certified && was_settled;
+            let is_followed = belief.is_followed;
+            self.is_certified = self.is_certified && is_followed;
             return Ok(None);
         }
         let reason = belief.reason(alloc, subject)?;

@@ -23,6 +23,7 @@ mod disks;
 mod doubts;
 mod explain;
 mod explained;
+mod following;
 mod frames;
 mod grants;
 mod in_flight;

@@ -1,4 +1,10 @@
 // The frames that a device may reach, each once, in one pass over its pages.
+ghost use Rattle.std.specs.Prelude.{◌≡◌, ◌⊎◌, true, ℕ, IfOk, IfSome, IsTrue, OnOk};
+ghost use Rattle.iom_base.specs.declared.access.AccessKind.{AccessKind};
+ghost use Rattle.iom_ledger.specs.History.{Holds, Lingers};
+ghost use Rattle.iom_judge.specs.Allowed.{Past, IsTrueOf};
+ghost use Rattle.iom_judge.specs.Reached.{IsReached, AreReached, IsServed, AreServed};
+
 use crate::known::Known;
 use iom_base::{AccessKind, DeviceId, Rights};
 use iom_machine::{Attachment, Device};
@@ -38,11 +44,16 @@ impl Marks {
 }
 
 /// What lingers for the device at the page, or, where that counts, what it holds there.
-fn pair_at(known: &Known, id: DeviceId, page: u64, with_held: bool) -> Option<(u32, Rights)> {
-    match known.ledger.holds(id, page) {
-        Some(pair) if with_held => Some(pair),
-        _ => known.ledger.lingers(id, page),
+fn pair_at(known: &Known, id: DeviceId, page: u64, with_held: bool) -> Option<(u32, Rights)>
+    ensures { IfSome result (λ pair. (past : Past) → IsTrueOf known.now past
+        → ((with_held ≡ true) × Holds past.history id page pair) ⊎ Lingers past.history id page pair) }
+{
+    if with_held {
+        if let Some(pair) = known.ledger.holds(id, page) {
+            return Some(pair);
+        }
     }
+    known.ledger.lingers(id, page)
 }
 
 /// Marks the frames that the device may reach by an access of this kind, and lists them.
@@ -53,7 +64,9 @@ fn list_reached(
     with_held: bool,
     marks: &mut Marks,
     frames: &mut Vec<u32>,
-) -> Result<(), AllocError> {
+) -> Result<(), AllocError>
+    ensures { OnOk result (AreReached with_held known.now id kind frames.old.items → AreReached with_held known.now id kind frames.new.items) }
+{
     for index in 0..known.ledger.page_count(id) {
         let Some(page) = known.ledger.page_at(id, index) else {
             return Ok(());
@@ -81,7 +94,10 @@ pub(crate) fn marks_of(
 }
 
 /// Whether a request of a device that is attached so may be served, and if so, whether by what it holds too.
-fn serves_held(known: &Known, attachment: Attachment) -> Option<bool> {
+fn serves_held(known: &Known, attachment: Attachment) -> Option<bool>
+    ensures { IfSome result (λ with_held. (id : ℕ) (kind : AccessKind) (frame : ℕ) (past : Past) → IsTrueOf known.now past
+        → IsReached with_held past.history id kind frame → IsServed attachment past.history id kind frame) }
+{
     match attachment {
         Attachment::Detached => None,
         Attachment::Attached { .. } => Some(true),
@@ -101,7 +117,9 @@ pub(crate) fn frames_open_to(
     known: &Known,
     device: &Device,
     kind: AccessKind,
-) -> Result<Vec<u32>, AllocError> {
+) -> Result<Vec<u32>, AllocError>
+    ensures { IfOk result (λ frames. AreServed device.now.attachment known.now device.now.id kind frames.items) }
+{
     let mut frames = Vec::new(alloc);
     if let Some(with_held) = serves_held(known, device.attachment) {
         let mut marks = Marks::new(alloc, known.frames.as_slice().len())?;

@@ -7,6 +7,7 @@ ghost use Rattle.iom_judge.specs.Steps.{IsExplained};
 use crate::belief::{Belief, has_other};
 use crate::contents::store;
 use crate::devices::device_with;
+use crate::doubts::{Flight, is_through_cache};
 use crate::frames::BelievedFrame;
 use crate::in_flight::drop_oldest;
 use crate::known::Known;
@@ -123,9 +124,11 @@ fn where_otherwise(
 }
 
 impl Belief {
-    ghost use Rattle.std.specs.Prelude.{IsTrue, IfOk};
+    ghost use Rattle.std.specs.Prelude.{◌≡◌, IsTrue, IfOk};
     ghost use Rattle.iom_machine.specs.declared.event.Event.TheVariants as events;
+    ghost use Rattle.iom_machine.specs.declared.outcome.Outcome.TheVariants as outcomes;
     ghost use Rattle.iom_judge.specs.Allowed.{Past, IsTrueOf};
+    ghost use Rattle.iom_judge.specs.Followed.{LeavesFlights};
     ghost use Rattle.iom_judge.specs.Steps.{IsExplained};
 
     /// A step. Where it begins an access that is accepted, this is any that may be, and in doubt.
@@ -136,11 +139,12 @@ impl Belief {
         outcome: &Outcome,
         on: Option<u32>,
     ) -> Result<bool, AllocError>
-        ensures { IfOk result (λ may. IsTrue may → (past : Past) → IsTrueOf self.old.known past
+        ensures explained { IfOk result (λ may. IsTrue may → (past : Past) → IsTrueOf self.old.known past
             → IsExplained self.old.known self.new.known (events.Step id) outcome.now past) }
+        ensures left { LeavesFlights outcome.now → self.new.doubts ≡ self.old.doubts }
     {
         match outcome {
-            Outcome::Accepted(_) => self.begin_access(alloc, id, outcome, on),
+            Outcome::Accepted(number) => self.begin_access(alloc, id, *number, on),
             Outcome::Fault(cause) => {
                 let access = refused_access(alloc, *cause)?;
                 step(&mut self.known, id, access, outcome, 0)
@@ -160,11 +164,11 @@ impl Belief {
         &mut self,
         alloc: Global,
         id: DeviceId,
-        outcome: &Outcome,
+        number: u64,
         on: Option<u32>,
     ) -> Result<bool, AllocError>
         ensures { IfOk result (λ may. IsTrue may → (past : Past) → IsTrueOf self.old.known past
-            → IsExplained self.old.known self.new.known (events.Step id) outcome.now past) }
+            → IsExplained self.old.known self.new.known (events.Step id) (outcomes.Accepted number) past) }
     {
         let way = way_of_steps(&self.known, id);
         let mut frames = frames_of(alloc, &self.known, id, AccessKind::Read)?;
@@ -177,16 +181,17 @@ impl Belief {
             return Ok(false);
         };
         let page = page_with(&self.known, id, frame).unwrap_or(0);
-        let may_come = step(&mut self.known, id, read_at(alloc, page), outcome, frame)?;
+        let outcome = Outcome::Accepted(number);
+        let may_come = step(&mut self.known, id, read_at(alloc, page), &outcome, frame)?;
         if may_come {
-            self.doubts.accept(
-                &self.known,
-                id,
-                way,
-                AccessKind::Read,
+            self.doubts.accept(Flight {
+                device: id,
+                number,
+                kind: AccessKind::Read,
+                is_cached: is_through_cache(way),
                 frames,
-                Some(writable),
-            )?;
+                writable: Some(writable),
+            })?;
         }
         Ok(may_come)
     }

@@ -4,7 +4,7 @@ use std::fmt;
 /// What the judge finds of a trace, whose lines count from 1.
 #[derive(Drop)]
 pub enum Verdict {
-    /// The lines are those of a run. This is certified where before no line anything was in doubt: then it is so by proof.
+    /// The lines are those of a run. This is certified where each line could be followed: then it is so by proof.
     Lawful { is_certified: bool },
     /// Those before this line are, after which it may not come, and why.
     Unlawful { line: u64, reason: String },

@@ -1,0 +1,100 @@
+-- When a step of the judge is a step of the machine, whatever frames the accesses in doubt are on.
+use Rattle.std.specs.Prelude.{◌≡◌, ◌⊎◌, ℕ, ◌-◌, Bool, List, ◌∷◌, Some, length, slice_get, slice_set, ⊤}
+use Rattle.iom_base.specs.declared.access.AcceptedAccess.{AcceptedAccess}
+use Rattle.iom_machine.specs.Judging.{StandsAt}
+use Rattle.iom_machine.specs.declared.event.Event.{Event}
+use Rattle.iom_machine.specs.declared.event.Event.TheVariants.{Commit}
+use Rattle.iom_machine.specs.declared.outcome.Outcome.{Outcome}
+use Rattle.iom_machine.specs.declared.outcome.Outcome.TheVariants as outcomes
+use Rattle.iom_machine.specs.declared.state.Device.{Device}
+use Rattle.iom_machine.specs.declared.state.Frame.{Frame}
+use Rattle.iom_machine.specs.declared.state.State.{State}
+use Rattle.iom_machine.specs.Machine.{Run, Step}
+use Rattle.iom_script.specs.declared.script.WorldSize.{WorldSize}
+use Rattle.iom_judge.specs.Allowed.{Past, IsTrueOf, AreAllowed, state_of}
+use Rattle.iom_judge.specs.Certificates.{opening_of}
+use Rattle.iom_judge.specs.Doubted.{MayBe, MayFly, flown, on_frame}
+use Rattle.iom_judge.specs.declared.belief.Belief.{Belief}
+use Rattle.iom_judge.specs.declared.doubts.Doubt.{Doubt}
+use Rattle.iom_judge.specs.declared.known.Known.{Known}
+
+-- a state that was allowed before, with these doubts, from which such a step leads to the new one
+pub record CameFromOne (old : Known) (doubts : List Doubt) (past : Past) (IsStep : State → State → Type 0) (new : State) : Type 0 where
+  pub flights : List (List AcceptedAccess)
+  pub frames : List Frame
+  pub flew : MayFly doubts old.devices flights
+  pub allowed : AreAllowed old past frames
+  pub step : IsStep (flown flights (state_of old past.history frames)) new
+
+-- Each state that is allowed afterwards, whatever frames the accesses in doubt are on, is one to which such a step leads, from one that was allowed before.
+pub record IsFollowed (old : Known) (before : List Doubt) (new : Known) (now : List Doubt) (IsStep : State → State → Type 0) (past : Past) : Type 0 where
+  pub after : Past
+  pub is_true : IsTrueOf new after
+  pub from_before : (flights : List (List AcceptedAccess)) (frames : List Frame) → MayFly now new.devices flights → AreAllowed new after frames
+      → CameFromOne old before past IsStep (flown flights (state_of new after.history frames))
+
+-- What this outcome comes of leaves all in flight as it is: nothing is accepted, made or confirmed.
+abbrev pub LeavesFlights : Outcome → Type 0
+LeavesFlights (outcomes.Confirmed first last timed_out) = ⊥
+LeavesFlights (outcomes.Read bytes) = ⊥
+LeavesFlights (outcomes.Wrote len) = ⊥
+LeavesFlights (outcomes.Accepted number) = ⊥
+LeavesFlights _ = ⊤
+
+-- the step of the machine by which the event has this outcome
+abbrev pub StepsBy : Event → Outcome → State → State → Type 0
+StepsBy event outcome before after = Step before event outcome after
+
+-- What is believed after the event with this outcome is followed from what was believed before, with each past that was true of that.
+abbrev pub Follows : Belief → Belief → Event → Outcome → Type 0
+Follows old new event outcome =
+    (past : Past) → IsTrueOf old.known past → IsFollowed old.known old.doubts.all.items new.known new.doubts.all.items (StepsBy event outcome) past
+
+-- a read or a write is made
+abbrev pub IsCommitOf : Outcome → Type 0
+IsCommitOf (outcomes.Read bytes) = ⊤
+IsCommitOf (outcomes.Wrote len) = ⊤
+IsCommitOf _ = ⊥
+
+-- The oldest access of the device may be on the frame.
+abbrev pub IsOldestOn : List Doubt → Device → Bool → ℕ → Type 0
+IsOldestOn doubts device is_cached frame =
+    (made : AcceptedAccess) × (slice_get device.in_flight 0 ≡ Some made)
+    × MayBe doubts device.id (device.accepted - (length device.in_flight - 1)) made (on_frame is_cached frame made)
+
+-- The oldest access of the device is put on a frame on which it may be. Else all that is known stays as it is, but whether something was left out.
+pub record IsPutOn (old : Known) (doubts : List Doubt) (id : ℕ) (new : Known) : Type 0 where
+  pub place : ℕ
+  pub device : Device
+  pub made : AcceptedAccess
+  pub moved : AcceptedAccess
+  pub later : List AcceptedAccess
+  pub stands : StandsAt old.devices id place
+  pub there : slice_get old.devices place ≡ Some device
+  pub oldest : device.in_flight ≡ made ∷ later
+  pub may : MayBe doubts device.id (device.accepted - length later) made moved
+  pub put : new ≡ record {
+    levels = old.levels;
+    ledger = old.ledger;
+    last_ticket = old.last_ticket;
+    last_confirmed = old.last_confirmed;
+    devices = slice_set old.devices place (record device { in_flight = moved ∷ later });
+    disks = old.disks;
+    frames = old.frames;
+    is_exact = new.is_exact;
+  }
+
+-- What is known can be followed over the event with this outcome as if nothing were in doubt: that leaves all in flight as it is, or it makes the oldest
+-- access of a device, which is where it is known to be, or was put there.
+abbrev pub IsReadyFor : Known → List Doubt → Known → Event → Outcome → Type 0
+IsReadyFor old doubts new event outcome =
+    ((new ≡ old) × LeavesFlights outcome)
+    ⊎ ((id : ℕ) × (event ≡ Commit id) × IsCommitOf outcome × ((new ≡ old) ⊎ IsPutOn old doubts id new))
+
+-- There is a past that is true of what is known, and with that each state that is allowed, whatever frames the accesses in doubt are on, is one to which the
+-- machine runs from power-on by these events with these outcomes.
+pub record IsCertifiedWith (known : Known) (doubts : List Doubt) (size : WorldSize) (events : List Event) (outcomes : List Outcome) : Type 0 where
+  pub past : Past
+  pub is_true : IsTrueOf known past
+  pub runs : (flights : List (List AcceptedAccess)) (frames : List Frame) → MayFly doubts known.devices flights → AreAllowed known past frames
+      → Run (opening_of size) events outcomes (flown flights (state_of known past.history frames))
