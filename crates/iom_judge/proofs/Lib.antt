@@ -13,6 +13,7 @@ pub mod FlightPolls
 pub mod FlightRequests
 pub mod FlightSteps
 pub mod FollowCommits
+pub mod FollowPolls
 pub mod FollowRequests
 pub mod FollowSteps
 pub mod FrameSteps

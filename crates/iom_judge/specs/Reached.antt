@@ -1,6 +1,6 @@
 -- The frames that a device may reach, and those on which a request of one in both stages may be accepted.
 -- For the judge's own functions alone; no public contract cites these.
-use Rattle.std.specs.Prelude.{◌≡◌, ℕ, Bool, true, false, List, Some, slice_get}
+use Rattle.std.specs.Prelude.{◌≡◌, ℕ, Bool, true, false, List, All, Some, slice_get, ⊤}
 use Rattle.iom_base.specs.declared.access.AccessKind.{AccessKind}
 use Rattle.iom_base.specs.declared.mode.Mode.TheVariants.{Both}
 use Rattle.iom_ledger.specs.History.{History, May, confirms}
@@ -8,6 +8,8 @@ use Rattle.iom_machine.specs.Requests.{LingersSomewhere}
 use Rattle.iom_machine.specs.declared.state.Attachment.{Attachment}
 use Rattle.iom_machine.specs.declared.state.Attachment.TheVariants.{Detached, Attached, Quarantined, Leaving}
 use Rattle.iom_judge.specs.Allowed.{Past, IsTrueOf}
+use Rattle.iom_judge.specs.declared.doubts.Doubt.{Doubt}
+use Rattle.iom_judge.specs.declared.doubts.Doubt.TheVariants.{InFlight, Written}
 use Rattle.iom_judge.specs.declared.known.Known.{Known}
 
 -- the device may reach the frame by an access of this kind: it lingers, or, where that counts, is held
@@ -19,6 +21,15 @@ IsReached false history id kind frame = LingersSomewhere history id frame kind
 abbrev pub AreReached : Bool → Known → ℕ → AccessKind → List ℕ → Type 0
 AreReached with_held known id kind frames =
     (k frame : ℕ) → slice_get frames k ≡ Some frame → (past : Past) → IsTrueOf known past → IsReached with_held past.history id kind frame
+
+-- the device may reach the frame by an access of this kind
+abbrev pub CanReach : Known → ℕ → AccessKind → ℕ → Type 0
+CanReach known id kind frame = (past : Past) → IsTrueOf known past → May past.history id frame kind
+
+-- each of the frames of the doubt may be reached, if the access is in flight
+abbrev pub IsAllReached : Known → Doubt → Type 0
+IsAllReached known (InFlight doubt) = All (CanReach known doubt.device doubt.kind) doubt.frames.items
+IsAllReached known (Written made) = ⊤
 
 -- a request of the device may be served on the frame at some address, by what it may reach
 abbrev pub IsServed : Attachment → History → ℕ → AccessKind → ℕ → Type 0

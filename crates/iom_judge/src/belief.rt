@@ -7,6 +7,7 @@ ghost use Rattle.iom_judge.specs.Asked.{IsAskedBy};
 ghost use Rattle.iom_judge.specs.Certificates.{four_disks};
 ghost use Rattle.iom_judge.specs.Doubted.{IsNotAbout, IsOfNoRequest};
 ghost use Rattle.iom_judge.specs.Followed.{Follows};
+ghost use Rattle.iom_judge.specs.Reached.{IsAllReached};
 ghost use Rattle.iom_judge.specs.Starts.{IsPowerOn};
 ghost use Rattle.iom_judge.specs.Steps.{IsExplained};
 
@@ -123,6 +124,16 @@ impl Belief {
         self.doubts.has_no_request()
     }
 
+    /// Whether each line so far was followed, and each access in doubt may reach all of its frames.
+    fn follows_reached(&self) -> bool
+        ensures { IsTrue result → All (IsAllReached self.now.known) self.now.doubts.all.items }
+    {
+        if !self.is_followed {
+            return false;
+        }
+        self.doubts.are_reached(&self.known)
+    }
+
     /// A request. Where it is accepted, that is on the frame that is shown, or else on the first of those that are possible,
     /// and in doubt where these are several.
     fn ask_for(
@@ -162,16 +173,25 @@ impl Belief {
         Ok(true)
     }
 
-    /// A poll.
-    fn poll(&mut self, alloc: Global, outcome: &Outcome) -> Result<bool, AllocError> {
-        let Outcome::Confirmed { first, last, .. } = outcome else {
+    /// A poll. One that confirms tickets is followed where each access in doubt may still reach all of its frames.
+    fn poll(&mut self, alloc: Global, outcome: &Outcome) -> Result<bool, AllocError>
+        ensures { IfOk result (λ may. IsTrue may → IsTrue self.new.is_followed → Follows self.old self.new events.Poll outcome.now) }
+    {
+        if leaves_flights(outcome) {
             return Ok(poll(alloc, &mut self.known, outcome));
+        }
+        let Outcome::Confirmed { first, last, .. } = outcome else {
+            return Ok(false);
         };
         if !begin_poll(&mut self.known, *first, *last) {
             return Ok(false);
         }
+        if self.follows_reached() {
+            return Ok(end_poll(alloc, &mut self.known));
+        }
         self.versions.forget_reserved(&self.known);
         self.doubts.narrow(alloc, &mut self.known)?;
+        self.is_followed = false;
         Ok(end_poll(alloc, &mut self.known))
     }
 
@@ -479,6 +499,9 @@ impl Belief {
         if self.is_settled() {
             return self.known.act(alloc, event, outcome, tables, question);
         }
+        if let Event::Poll = event {
+            return self.poll(alloc, outcome);
+        }
         if self.is_followed && self.is_ready_for(event, outcome) {
             return self.known.act(alloc, event, outcome, tables, question);
         }
@@ -497,7 +520,6 @@ impl Belief {
         question: Option<Question>,
     ) -> Result<bool, AllocError> {
         match event {
-            Event::Poll => self.poll(alloc, outcome),
             Event::Commit { device } => self.commit(alloc, *device, outcome),
             Event::Poke { address, bytes } => {
                 self.poke(alloc, *address, bytes.as_slice(), outcome)

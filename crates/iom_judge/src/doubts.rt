@@ -7,11 +7,12 @@ ghost use Rattle.iom_machine.specs.declared.state.Device.{Device};
 ghost use Rattle.iom_machine.specs.declared.state.Frame.{Frame};
 ghost use Rattle.iom_judge.specs.Allowed.{Past, IsTrueOf, state_of};
 ghost use Rattle.iom_judge.specs.Doubted.{IsNotAbout, IsOfNoRequest, IsOfRequest, is_through_cache};
-ghost use Rattle.iom_judge.specs.Reached.{AreServed, HasBothStages};
+ghost use Rattle.iom_judge.specs.Reached.{AreServed, CanReach, HasBothStages, IsAllReached};
 
 use crate::asked::Asked;
 use crate::devices::place_of;
 use crate::known::Known;
+use crate::reach::may;
 use crate::reached::{frames_open_to, marks_of};
 use crate::unseen::UnseenWrite;
 use crate::way::Way;
@@ -164,6 +165,46 @@ fn are_of_no_request(doubts: &[Doubt]) -> bool
     true
 }
 
+/// Whether the device may reach each of the frames by an access of this kind.
+fn may_reach_each(known: &Known, id: DeviceId, kind: AccessKind, frames: &[u32]) -> bool
+    ensures { IsTrue result → All (CanReach known.now id kind) frames.now }
+{
+    for frame in frames {
+        if !may(known, id, *frame, kind) {
+            return false;
+        }
+    }
+    true
+}
+
+/// Whether each of the frames of the doubt may be reached, if the access is in flight. Of one that a step began it isn't
+/// looked for, since that may be a read or a write.
+fn is_all_reached(known: &Known, doubt: &Doubt) -> bool
+    ensures { IsTrue result → IsAllReached known.now doubt.now }
+{
+    match doubt {
+        Doubt::InFlight(flight) => {
+            if flight.writable.is_some() {
+                return false;
+            }
+            may_reach_each(known, flight.device, flight.kind, flight.frames.as_slice())
+        }
+        Doubt::Written(_) => true,
+    }
+}
+
+/// Whether that is so of each of the doubts.
+fn are_all_reached(known: &Known, doubts: &[Doubt]) -> bool
+    ensures { IsTrue result → All (IsAllReached known.now) doubts.now }
+{
+    for doubt in doubts {
+        if !is_all_reached(known, doubt) {
+            return false;
+        }
+    }
+    true
+}
+
 /// The accesses of which the lines don't show all, in the order of acceptance; once it is made, in that of the commits.
 #[derive(Drop)]
 pub(crate) struct Doubts {
@@ -237,6 +278,7 @@ fn is_over(doubt: &Doubt) -> bool {
 impl Doubts {
     ghost use Rattle.std.specs.Prelude.{◌≡◌, ◌↔◌, ◌⊎◌, ◌++◌, ◌∷◌, [], All, IsTrue, OnOk};
     ghost use Rattle.iom_judge.specs.Doubted.{AreAmong, IsNotAbout, IsOfNoRequest};
+    ghost use Rattle.iom_judge.specs.Reached.{IsAllReached};
     ghost use Rattle.iom_judge.specs.declared.doubts.Doubt.TheVariants.{InFlight};
 
     pub(crate) fn new(alloc: Global) -> Doubts
@@ -265,6 +307,13 @@ impl Doubts {
         ensures { IsTrue result → All IsOfNoRequest self.now.all.items }
     {
         are_of_no_request(self.all.as_slice())
+    }
+
+    /// Whether each of the frames on which accesses in flight may be is one that may be reached.
+    pub(crate) fn are_reached(&self, known: &Known) -> bool
+        ensures { IsTrue result → All (IsAllReached known.now) self.now.all.items }
+    {
+        are_all_reached(known, self.all.as_slice())
     }
 
     /// The access is in flight, and in doubt where its frames are several.

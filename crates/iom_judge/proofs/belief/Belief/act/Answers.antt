@@ -18,3 +18,6 @@ returns-then-is_ready_for-clause-followed c =
     if_ok_as c.act-then-is_ready_for.result _ _ (λ may explained told followed past is.
     ready_follows old.known mid.known c.act-then-is_ready_for.new.self old.doubts.all.items mid.doubts.all.items c.args.event.now c.args.outcome.now ready.1 ready.0 (explained told) past is)
     c.act-then-is_ready_for.ensures
+
+pub returns-in-Poll-clause-followed : goal.returns-in-Poll-clause-followed
+returns-in-Poll-clause-followed c = rw c.in-Poll.is c.poll.ensures
