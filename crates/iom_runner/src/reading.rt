@@ -13,8 +13,8 @@ use std::io::{self, ErrorKind, Read};
 /// One byte more than a script has at most: enough to see that there are too many.
 const READ_LIMIT: usize = SCRIPT_LIMIT + 1;
 
-/// The bytes that one read gives at most: somewhat less than a page, since so many are copied by vector
-/// instructions, and more by a string instruction that takes longer to begin.
+/// The bytes that one read gives at most. Copies of so many are made by vector instructions; longer ones by a
+/// string instruction, which callgrind counts once for each byte. In time there is no difference.
 const CHUNK_SIZE: usize = 4080;
 
 /// Why nothing was read: for want of memory, or since the reader failed.
