@@ -5,7 +5,8 @@ use iom_command_queue::Command;
 pub enum Fetched {
     /// The command is done, and the head stands after it.
     Did(Command),
-    /// The command is a fence that waits for accesses in flight.
+    /// The command waits and stays at the head: a fence, for invalidation requests that are open or for accesses in flight;
+    /// an `ATS.INVAL`, for one of 32 open requests to be closed.
     Waiting,
     /// No command waits.
     Empty,

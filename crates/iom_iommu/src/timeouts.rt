@@ -7,8 +7,8 @@ use iom_tlb::TransCache;
 
 impl<C: TransCache> Iommu<C> {
     /// Gives up the fence at the head of the command queue, where a fetch told it to wait for invalidation requests
-    /// and one of these is still open. Then `cmd_to` is set, so that each fetch answers `Stopped` until software turns
-    /// the queue off and on; all requests are closed, and the head stays at the fence, whose word isn't stored. False
+    /// and one of these is still open. Then `cmd_to` is set, so that each fetch answers `Stopped` until software clears it,
+    /// by a write of 1 or by turning the queue off and on; all requests are closed, and the head stays at the fence, whose word isn't stored. False
     /// where no fence waits so, and then nothing changes.
     pub fn timeout(&mut self) -> bool
         ensures { TimesOut self.old result self.new }

@@ -10,7 +10,7 @@ use Rattle.iom_script.specs.declared.script.WorldSize.{WorldSize}
 use Rattle.iom_script.specs.Grammar.{is_spoken, spoken}
 use Rattle.iom_script.specs.Words.{IsWithout}
 use Rattle.iom_judge.specs.Allowed.{Past, IsTrueOf, state_of}
-use Rattle.iom_judge.specs.Certificates.{is_certificate, four_disks, opening_of, SaysStep, SaySteps, AreOfRun, AreLawful, IsLawfulTrace}
+use Rattle.iom_judge.specs.Certificates.{is_lawful, four_disks, opening_of, SaysStep, SaySteps, AreOfRun, AreLawful, IsLawfulTrace}
 use Rattle.iom_judge.specs.Certified.{IsCertifiedBy, Certify, CertifyIf, GoesOn, AreLines, Holds, HasTaken, HasJudged}
 use Rattle.iom_judge.specs.Starts.{IsPowerOn, SomeAreAllowed}
 use Rattle.iom_judge.specs.Followed.{Follows}
@@ -127,8 +127,8 @@ all_said belief lines text certified possible are =
     by (Some b) (l ∷ ls) (size, says, it) so = (size, says, of_run b size ls it so)
 
 -- Nothing ends the trace, where it goes on so; and what ends it is no certificate.
-pub if_it_goes_on : {E : Type 0} (result : Result (Option Verdict) E) (P Q : Type 0) → (P → Q) → IfOk result (λ found. MatchOption found P (λ verdict. is_certificate verdict ≡ false))
-    → IfOk result (λ found. MatchOption found Q (λ verdict. is_certificate verdict ≡ false))
+pub if_it_goes_on : {E : Type 0} (result : Result (Option Verdict) E) (P Q : Type 0) → (P → Q) → IfOk result (λ found. MatchOption found P (λ verdict. is_lawful verdict ≡ false))
+    → IfOk result (λ found. MatchOption found Q (λ verdict. is_lawful verdict ≡ false))
 if_it_goes_on (Ok None) P Q so found = so found
 if_it_goes_on (Ok (Some verdict)) P Q so found = found
 if_it_goes_on (Err error) P Q so found = tt
@@ -140,8 +140,8 @@ not_nothing line read spoken_line other same something = spoken_line (λ e. some
 -- A line is judged: the judge has taken it too, or what it finds is no certificate.
 pub line_judged : {E : Type 0} (result : Result (Option Verdict) E) (certain : Bool) (belief : Option Belief) (lines : List (List ℕ)) (line read buffer : List ℕ) (start end : ℕ)
     (first now : Option (List ℕ)) (Certified : Type 0) → read ≡ line → HasTaken (lines ++ line ∷ []) buffer start end first now
-    → IfOk result (λ found. MatchOption found (CertifyIf certain belief (lines ++ read ∷ [])) (λ verdict. is_certificate verdict ≡ false))
-    → IfOk result (λ found. MatchOption found (HasJudged certain belief buffer start end first now) (λ verdict. IsTrue (is_certificate verdict) → Certified))
+    → IfOk result (λ found. MatchOption found (CertifyIf certain belief (lines ++ read ∷ [])) (λ verdict. is_lawful verdict ≡ false))
+    → IfOk result (λ found. MatchOption found (HasJudged certain belief buffer start end first now) (λ verdict. IsTrue (is_lawful verdict) → Certified))
 line_judged (Ok None) certain belief lines line read buffer start end first now Certified is taken found =
     (lines ++ line ∷ [], taken, subst (λ (l : List ℕ). CertifyIf certain belief (lines ++ l ∷ [])) is found)
 line_judged (Ok (Some verdict)) certain belief lines line read buffer start end first now Certified is taken found = λ told. absurd (false≢true (sym found ∙ told))

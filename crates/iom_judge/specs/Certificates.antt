@@ -12,12 +12,15 @@ use Rattle.iom_script.specs.Words.{IsWithout}
 use Rattle.iom_judge.specs.TraceLines.{SaysLine}
 use Rattle.iom_judge.specs.declared.trace.TraceLine.TheVariants.{World, Step}
 use Rattle.iom_judge.specs.declared.verdict.Verdict.{Verdict}
-use Rattle.iom_judge.specs.declared.verdict.Verdict.TheVariants.{Lawful}
+use Rattle.iom_judge.specs.declared.verdict.Verdict.TheVariants.{Lawful, Uncertified, Unlawful, Undecided, Bad}
 
--- whether it finds the trace lawful, and certifies it
-abbrev pub is_certificate : Verdict → Bool
-is_certificate (Lawful is_certified) = is_certified
-is_certificate _ = false
+-- whether it finds the trace lawful
+abbrev pub is_lawful : Verdict → Bool
+is_lawful Lawful = true
+is_lawful (Uncertified line) = false
+is_lawful (Unlawful line reason) = false
+is_lawful (Undecided line reason) = false
+is_lawful (Bad line) = false
 
 -- the numbers of the disks that a world has at power-on
 abbrev pub four_disks : List ℕ

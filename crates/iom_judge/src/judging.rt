@@ -2,7 +2,7 @@
 ghost use Rattle.std.specs.Prelude.{◌≡◌, ◌++◌, ◌∷◌, [], ℕ, List, Option, None, IfOk, IfSome, IsSomeAnd, IsTrue, MatchOption, false, true};
 ghost use Rattle.iom_script.specs.Grammar.{is_spoken};
 ghost use Rattle.iom_judge.specs.Allowed.{Past, IsTrueOf};
-ghost use Rattle.iom_judge.specs.Certificates.{four_disks, is_certificate, IsLawfulTrace, SaysStep};
+ghost use Rattle.iom_judge.specs.Certificates.{four_disks, is_lawful, IsLawfulTrace, SaysStep};
 ghost use Rattle.iom_judge.specs.Certified.{AreLines, CertifyIf, GoesOn, HasJudged};
 ghost use Rattle.iom_judge.specs.Starts.{IsPowerOn, SomeAreAllowed};
 
@@ -27,6 +27,8 @@ struct Judge {
     line: u64,
     /// Whether each line so far was followed.
     is_certified: bool,
+    /// The last line up to which each was.
+    last_followed: u64,
 }
 
 impl Judge {
@@ -40,6 +42,7 @@ impl Judge {
             belief: None,
             line: 0,
             is_certified: true,
+            last_followed: 0,
         })
     }
 
@@ -48,7 +51,7 @@ impl Judge {
         ensures { IfOk result (λ found. MatchOption found
             ((self.old.belief ≡ None) × (self.new.is_certified ≡ self.old.is_certified)
             × IsSomeAnd self.new.belief (λ belief. IsPowerOn belief.known size.frames size.levels four_disks × (belief.doubts.all.items ≡ [])))
-            (λ verdict. is_certificate verdict ≡ false)) }
+            (λ verdict. is_lawful verdict ≡ false)) }
     {
         if self.belief.is_some() || size.frames < 4 || size.frames > 4096 || size.levels > 3 {
             return Ok(Some(Verdict::Bad { line: self.line }));
@@ -68,7 +71,7 @@ impl Judge {
     ) -> io::Result<Option<Verdict>>
         ensures { IfOk result (λ found. MatchOption found
             (GoesOn self.old.is_certified self.old.belief event outcome.now self.new.is_certified self.new.belief)
-            (λ verdict. is_certificate verdict ≡ false)) }
+            (λ verdict. is_lawful verdict ≡ false)) }
     {
         let alloc = self.alloc;
         let line = self.line;
@@ -99,7 +102,7 @@ impl Judge {
         ensures { (lines : List (List ℕ)) → CertifyIf self.old.is_certified self.old.belief lines
             → IfOk result (λ found. MatchOption found
             (CertifyIf self.new.is_certified self.new.belief (lines ++ line.now ∷ []))
-            (λ verdict. is_certificate verdict ≡ false)) }
+            (λ verdict. is_lawful verdict ≡ false)) }
     {
         self.line = self.line.saturating_add(1);
         let has_world = self.belief.is_some();
@@ -134,13 +137,25 @@ impl Judge {
         }
     }
 
+    /// Notes up to which line each was followed.
+    fn note_line(&mut self)
+        ensures { (self.new.is_certified ≡ self.old.is_certified) × (self.new.belief ≡ self.old.belief) }
+    {
+        if self.is_certified {
+            self.last_followed = self.line;
+        }
+    }
+
     /// What is found of the lines, where there are no others.
     fn end(&self) -> Verdict
         ensures { (text : List ℕ) (lines : List (List ℕ)) → CertifyIf self.now.is_certified self.now.belief lines
-            → AreLines lines text → IsTrue (is_certificate result) → IsLawfulTrace text }
+            → AreLines lines text → IsTrue (is_lawful result) → IsLawfulTrace text }
     {
-        Verdict::Lawful {
-            is_certified: self.is_certified && self.is_possible(),
+        if self.is_certified && self.is_possible() {
+            return Verdict::Lawful;
+        }
+        Verdict::Uncertified {
+            line: self.last_followed.saturating_add(1),
         }
     }
 }
@@ -155,7 +170,7 @@ fn judge_next<R: Read>(
         → HasJudged judge.old.is_certified judge.old.belief lines.old.buffer.items lines.old.start lines.old.end first (R.remaining reader.old)
         → IfOk result (λ found. MatchOption found
         (HasJudged judge.new.is_certified judge.new.belief lines.new.buffer.items lines.new.start lines.new.end first (R.remaining reader.new))
-        (λ verdict. IsTrue (is_certificate verdict) → IfSome first IsLawfulTrace)) }
+        (λ verdict. IsTrue (is_lawful verdict) → IfSome first IsLawfulTrace)) }
 {
     match lines.next_line(reader)? {
         NextLine::End => Ok(Some(judge.end())),
@@ -170,12 +185,13 @@ fn judge_next<R: Read>(
 fn judge_lines<R: Read>(judge: &mut Judge, lines: &mut Lines, reader: &mut R) -> io::Result<Verdict>
     ensures { (first : Option (List ℕ))
         → HasJudged judge.old.is_certified judge.old.belief lines.old.buffer.items lines.old.start lines.old.end first (R.remaining reader.old)
-        → IfOk result (λ verdict. IsTrue (is_certificate verdict) → IfSome first IsLawfulTrace) }
+        → IfOk result (λ verdict. IsTrue (is_lawful verdict) → IfSome first IsLawfulTrace) }
 {
     for _ in 0..u64::MAX {
         if let Some(verdict) = judge_next(judge, lines, reader)? {
             return Ok(verdict);
         }
+        judge.note_line();
     }
     Err(io::Error::from(ErrorKind::Other))
 }
@@ -183,10 +199,10 @@ fn judge_lines<R: Read>(judge: &mut Judge, lines: &mut Lines, reader: &mut R) ->
 /// What the judge finds of the trace that the reader has. It is judged line by line, and the memory that this takes
 /// doesn't grow with it.
 ///
-/// A trace that is certified is lines of a run of the ledger machine from power-on, with some choice of what they don't
+/// A trace that is found lawful is lines of a run of the ledger machine from power-on, with some choice of what they don't
 /// show, and the sentences of the headline hold of that run.
 pub fn judge_trace<R: Read>(alloc: Global, reader: &mut R) -> io::Result<Verdict>
-    ensures { IfOk result (λ verdict. IsTrue (is_certificate verdict) → IfSome (R.remaining reader.old) IsLawfulTrace) }
+    ensures { IfOk result (λ verdict. IsTrue (is_lawful verdict) → IfSome (R.remaining reader.old) IsLawfulTrace) }
 {
     let mut judge = Judge::new(alloc)?;
     let mut lines = Lines::new(alloc)?;

@@ -4,8 +4,11 @@ use std::fmt;
 /// What the judge finds of a trace, whose lines count from 1.
 #[derive(Drop)]
 pub enum Verdict {
-    /// The lines are those of a run. This is certified where each line could be followed: then it is so by proof.
-    Lawful { is_certified: bool },
+    /// The lines are those of a run of the ledger machine: so it is proved.
+    Lawful,
+    /// None of the lines was found unlawful. This one couldn't be followed by the definition of the machine, so that those
+    /// before it alone are certified.
+    Uncertified { line: u64 },
     /// Those before this line are, after which it may not come, and why.
     Unlawful { line: u64, reason: String },
     /// In no way that was followed this line may come, and not each way was.
@@ -15,10 +18,10 @@ pub enum Verdict {
 }
 
 impl Verdict {
-    /// The line at which the trace isn't found lawful.
+    /// The line that was refused, if one was.
     pub fn line(&self) -> Option<u64> {
         match self {
-            Verdict::Lawful { .. } => None,
+            Verdict::Lawful | Verdict::Uncertified { .. } => None,
             Verdict::Unlawful { line, .. }
             | Verdict::Undecided { line, .. }
             | Verdict::Bad { line } => { Some(*line) }
@@ -30,7 +33,10 @@ impl Verdict {
 impl fmt::Display for Verdict {
     fn fmt<W: fmt::Write>(&self, f: &mut fmt::Formatter<W>) -> fmt::Result {
         match self {
-            Verdict::Lawful { .. } => f.write_str("lawful"),
+            Verdict::Lawful => f.write_str("lawful"),
+            Verdict::Uncertified { line } => {
+                write!(f, "line {line}: not certified from here on; no line was found unlawful")
+            }
             Verdict::Unlawful { line, reason } => write!(f, "line {line}: unlawful: {reason}"),
             Verdict::Undecided { line, reason } => write!(f, "line {line}: not decided: {reason}"),
             Verdict::Bad { line } => write!(f, "line {line} isn't in the grammar"),

@@ -3,7 +3,7 @@
 //!
 //! The crate has tests alone, and nothing stands on it. It stands apart from the crates that it calls
 //! because a crate with tests of its own is proved twice, without them and with them. Beside it
-//! `iom_rows` tests whole scripts.
+//! `iom_worked` runs whole scripts.
 #![tactic(auto)]
 
 #[cfg(test)]

@@ -26,6 +26,13 @@ HasReason None sector new = Unit {0}
 HasReason (Some old) sector None = ⊥
 HasReason (Some old) sector (Some new) = (length old.sectors ≤ sector) ⊎ (old.failures < new.failures)
 
+-- none of the disk's calls failed meanwhile
+abbrev pub KeepsFailures : Option DiskState → Option DiskState → Type 0
+KeepsFailures None None = Unit {0}
+KeepsFailures None (Some new) = ⊥
+KeepsFailures (Some old) None = ⊥
+KeepsFailures (Some old) (Some new) = new.failures ≡ old.failures
+
 -- no sector changed
 abbrev pub KeepsSectors : Option DiskState → Option DiskState → Type 0
 KeepsSectors None None = Unit {0}

@@ -10,7 +10,7 @@ pub struct DiskFault;
 
 /// What a block device keeps its sectors on.
 ///
-/// A call fails only where the count of failures rises in that call, so at the last value of the count the
+/// A call fails exactly where the count of failures rises in that call, so at the last value of the count the
 /// disk fails no more. A write that failed leaves its sector old or new, and all others as they were.
 pub trait Disk: Drop {
     /// The bytes of each sector.
@@ -32,6 +32,7 @@ pub trait Disk: Drop {
         requires { sector < length (held self.old) }
         ensures ok { OnOk result (slice_get (held self.old) sector ≡ Some bytes.new) }
         ensures same { held self.new ≡ held self.old }
+        ensures kept { OnOk result (failed self.new ≡ failed self.old) }
         ensures fault { OnErr result (failed self.old < failed self.new) };
 
     /// Writes a sector.
@@ -39,10 +40,12 @@ pub trait Disk: Drop {
         requires { sector < length (held self.old) }
         ensures ok { OnOk result (held self.new ≡ slice_set (held self.old) sector bytes.now) }
         ensures err { OnErr result (IsOldOrNew (held self.old) sector bytes.now (held self.new)) }
+        ensures kept { OnOk result (failed self.new ≡ failed self.old) }
         ensures fault { OnErr result (failed self.old < failed self.new) };
 
     /// Makes what was written last.
     fn flush(&mut self) -> Result<(), DiskFault>
         ensures same { held self.new ≡ held self.old }
+        ensures kept { OnOk result (failed self.new ≡ failed self.old) }
         ensures fault { OnErr result (failed self.old < failed self.new) };
 }

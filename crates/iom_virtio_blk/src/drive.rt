@@ -1,5 +1,5 @@
 ghost use Rattle.std.specs.Prelude.{◌≡◌, Some, None, OnOk, OnErr};
-ghost use Rattle.iom_virtio_blk.specs.Disks.{disk_in, sector_count, HasReason, HasFlushReason, KeepsSectors, DidRead, DidWrite, Tears, IsThere};
+ghost use Rattle.iom_virtio_blk.specs.Disks.{disk_in, sector_count, HasReason, HasFlushReason, KeepsFailures, KeepsSectors, DidRead, DidWrite, Tears, IsThere};
 
 use crate::disk::{Disk, DiskFault};
 
@@ -49,6 +49,7 @@ impl<D: Disk> Drive<D> {
     pub(crate) fn read(&mut self, sector: u64, bytes: &mut [u8; 512]) -> Result<(), DiskFault>
         ensures ok { OnOk result (DidRead (disk_in D.held D.failed self.old.disk) sector bytes.new) }
         ensures same { KeepsSectors (disk_in D.held D.failed self.old.disk) (disk_in D.held D.failed self.new.disk) }
+        ensures kept { OnOk result (KeepsFailures (disk_in D.held D.failed self.old.disk) (disk_in D.held D.failed self.new.disk)) }
         ensures fault { OnErr result (HasReason (disk_in D.held D.failed self.old.disk) sector (disk_in D.held D.failed self.new.disk)) }
     {
         match self.disk.take() {
@@ -69,6 +70,7 @@ impl<D: Disk> Drive<D> {
     pub(crate) fn write(&mut self, sector: u64, bytes: &[u8; 512]) -> Result<(), DiskFault>
         ensures ok { OnOk result (DidWrite (disk_in D.held D.failed self.old.disk) sector bytes.now (disk_in D.held D.failed self.new.disk)) }
         ensures err { OnErr result (Tears (disk_in D.held D.failed self.old.disk) sector bytes.now (disk_in D.held D.failed self.new.disk)) }
+        ensures kept { OnOk result (KeepsFailures (disk_in D.held D.failed self.old.disk) (disk_in D.held D.failed self.new.disk)) }
         ensures fault { OnErr result (HasReason (disk_in D.held D.failed self.old.disk) sector (disk_in D.held D.failed self.new.disk)) }
     {
         match self.disk.take() {
@@ -89,6 +91,7 @@ impl<D: Disk> Drive<D> {
     pub(crate) fn flush(&mut self) -> Result<(), DiskFault>
         ensures ok { OnOk result (IsThere (disk_in D.held D.failed self.old.disk)) }
         ensures same { KeepsSectors (disk_in D.held D.failed self.old.disk) (disk_in D.held D.failed self.new.disk) }
+        ensures kept { OnOk result (KeepsFailures (disk_in D.held D.failed self.old.disk) (disk_in D.held D.failed self.new.disk)) }
         ensures fault { OnErr result (HasFlushReason (disk_in D.held D.failed self.old.disk) (disk_in D.held D.failed self.new.disk)) }
     {
         match self.disk.take() {

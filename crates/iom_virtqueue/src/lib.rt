@@ -6,8 +6,8 @@
 //! wants, somebody else makes it, and [`Queue::took`] takes its bytes. The layers above may rely on the
 //! chain that [`Queue::chain`] lends: it is the whole of a chain as its descriptors were read, of distinct
 //! descriptors, each named by the one before, or a [`ChainFault`] named the first fault that stands in
-//! it. They may rely on each access lying within one page. `specs/` says it in three steps: what a chain
-//! is (`Chains`), what a queue wants and becomes (`Queues`), and what happens over a run (`Runs`).
+//! it. They may rely on each access lying within one page. `specs/` says it in three steps: where a queue may
+//! lie (`Layouts`), what a chain is (`Chains`), and what a queue wants and becomes at each access (`Queues`).
 //!
 //! Descriptors in tables of their own (`VIRTQ_DESC_F_INDIRECT`), event indices and packed queues aren't
 //! offered. No queue writes the flags of the used ring, and none looks at those of the available ring.

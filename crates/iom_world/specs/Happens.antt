@@ -143,8 +143,8 @@ StaysStopped _ told old new = RemainsStopped old new
 
 -- An event that is answered so. It is a lawful step of the ledger machine, from every state that the world shows, to one that it shows then. It does to
 -- memory, IOMMU, driver and devices what the call behind it says; a disk that is put into a device was in none before, and won't be again. Commands that
--- wait change by a release, a detach, a quarantine, a restart and a fetch alone. A guest's own tables are read from frames that the device may read. From a
--- timeout to the next restart no fence is done. A refusal changes nothing. And the event is counted.
+-- wait change by a release, a detach, a quarantine, a restart and a fetch alone. Where a request is accepted, a guest's own tables were read from frames that
+-- the device may read. From a timeout to the next restart no fence is done. A refusal changes nothing. And the event is counted.
 pub record Happens (old : World) (event : Event) (told : Outcome) (new : World) : Type 0 where
   pub step : (state : State) → Shows old state → (next : State) × Step state event told next × Shows new next
   pub does : Does (disks_of old) (parts_of old) event told (parts_of new)

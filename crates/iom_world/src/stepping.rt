@@ -180,8 +180,8 @@ impl World {
     }
 
     /// One event, and what comes of it: a lawful step of the ledger machine from every state that the
-    /// world shows. It does to memory, IOMMU, driver and devices what the call behind it says; a guest's
-    /// own tables are read from frames that the device may read; from a timeout to the next restart no
+    /// world shows. It does to memory, IOMMU, driver and devices what the call behind it says; where a
+    /// request is accepted, a guest's own tables were read from frames that the device may read; from a timeout to the next restart no
     /// fence is done; a refusal changes nothing. Each event is counted, whatever comes of it. A step of a
     /// block device, and its status, are for whoever has the device itself: [`World::begin`],
     /// [`World::rest`] and [`World::tell_status`].

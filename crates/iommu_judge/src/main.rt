@@ -1,10 +1,11 @@
 //! `iommu-judge [FILE]` judges the trace in the file, or on standard input: it prints `lawful`, or the first line that
-//! can't have come, with the reason. The repository's `docs/JUDGE.md` says how a trace is written, and what the verdicts
-//! mean.
+//! can't have come, with the reason, or the first that couldn't be followed, where none is found unlawful. The
+//! repository's `docs/JUDGE.md` says how a trace is written, and what the verdicts mean.
 //!
-//! The exit status is 0 where the trace is lawful, 1 where it isn't or where that can't be decided, 2 where a line isn't
-//! in the grammar, 3 where the command line isn't lawful, and 4 where reading, writing or memory failed. What goes wrong
-//! is told on standard error, as `iommu-judge: NAME: TEXT`.
+//! The exit status is 0 where the trace is lawful, which is proved then, 1 where it isn't or where that can't be decided,
+//! 2 where a line isn't in the grammar, 3 where the command line isn't lawful, 4 where reading, writing or memory failed,
+//! and 5 where no line was found unlawful, and the trace isn't certified. What goes wrong is told on standard error, as
+//! `iommu-judge: NAME: TEXT`.
 #![tactic(auto)]
 
 use iom_judge::{Verdict, judge_trace};
@@ -21,6 +22,8 @@ const NOT_IN_GRAMMAR: u8 = 2;
 const BAD_COMMAND_LINE: u8 = 3;
 
 const FAILED: u8 = 4;
+
+const NOT_CERTIFIED: u8 = 5;
 
 /// The name of standard input, where it is what can't be read.
 const INPUT: &str = "standard input";
@@ -58,11 +61,15 @@ fn tell(rt: &HostRuntime, name: &str, verdict: &Verdict) -> io::Result<u8> {
             eprintln!(rt; "iommu-judge: {name}: {verdict}")?;
             Ok(NOT_IN_GRAMMAR)
         }
-        Verdict::Lawful { .. } => {
+        Verdict::Lawful => {
             println!(rt; "{verdict}")?;
             Ok(LAWFUL)
         }
-        _ => {
+        Verdict::Uncertified { .. } => {
+            println!(rt; "{verdict}")?;
+            Ok(NOT_CERTIFIED)
+        }
+        Verdict::Unlawful { .. } | Verdict::Undecided { .. } => {
             println!(rt; "{verdict}")?;
             Ok(NOT_LAWFUL)
         }

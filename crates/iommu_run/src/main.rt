@@ -5,8 +5,7 @@
 //!
 //! What goes wrong is told on standard error, as `iommu-run: TEXT`. The exit status is then 1 where
 //! reading, writing or memory failed, 2 where the script isn't in the grammar, and 3 where the command
-//! line isn't lawful. The gate runs it on a script on standard input; `iommu_run_bad_script` is the same
-//! program, run on a file with a bad script.
+//! line isn't lawful. The gate runs it on a script on standard input.
 #![tactic(auto)]
 
 use std::process::ExitCode;

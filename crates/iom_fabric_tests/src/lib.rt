@@ -1,8 +1,0 @@
-//! Calls of the public functions of `iom_fabric`, at their edges.
-//!
-//! The crate has tests alone, and nothing stands on it. It stands apart from the crate that it calls
-//! because a crate with tests of its own is proved twice, without them and with them.
-#![tactic(auto)]
-
-#[cfg(test)]
-mod messages;

@@ -1,0 +1,2 @@
+// The fabric, at its edges.
+mod messages;

@@ -1,0 +1,151 @@
+// Scripts with the lines that they have to print, and what the judge finds of both as a trace.
+use iom_judge::{judge_trace, trace_of};
+use iom_runner::{program_disks, run};
+use std::alloc::Global;
+use std::fs;
+
+/// The worked scripts of `data/rows`. A new one is its two files and a line here.
+static ROWS: [&str; 42] = [
+    "empty-script",
+    "first-path",
+    "grant-boundaries",
+    "busy",
+    "too-many-tickets",
+    "read-only-serves-no-write",
+    "script-fault",
+    "missing-line-feed",
+    "queue-bytes",
+    "drain",
+    "bytes-in-memory",
+    "widest-id",
+    "id-too-wide",
+    "detach",
+    "stale-but-lawful",
+    "fence-waits-for-first-alone",
+    "second-stage",
+    "guest-tables",
+    "drain-then-record",
+    "fault-queue-overflow",
+    "guest-table-changes",
+    "frame-granted-twice",
+    "late-answer",
+    "repeated-completion",
+    "forged-completion",
+    "question-between-invalidations",
+    "translated-request-record",
+    "loss-timeout-restart",
+    "reset-between",
+    "quarantine-and-revival",
+    "self-pointing-descriptor",
+    "failing-disk",
+    "same-head-again",
+    "block-device-with-cache",
+    "chain-fault-1-badindex",
+    "chain-fault-2-badindex",
+    "chain-fault-3-badindex",
+    "chain-fault-4-indirect",
+    "chain-fault-5-toolong",
+    "chain-fault-6-short",
+    "chain-fault-7-order",
+    "lost-message-to-quarantine",
+];
+
+/// The row that is run with `--trace`.
+const COUNTED: &str = "lost-message-to-quarantine";
+
+/// The scripts of `data/examples`, in the order in which they are best read.
+static EXAMPLES: [&str; 20] = [
+    "first-path",
+    "stale-read",
+    "draining",
+    "later-access",
+    "commands-in-memory",
+    "too-early",
+    "busy",
+    "double-grant",
+    "no-frames",
+    "detach-lingering",
+    "guest-tables",
+    "guest-rewrites",
+    "fault-storm",
+    "late-answer",
+    "lost-invalidation",
+    "no-answer",
+    "quarantine",
+    "revival",
+    "block-device",
+    "buffer-taken-back",
+];
+
+/// The number of the first line that differs, counted from 1.
+fn first_difference(printed: &str, wanted: &str) -> usize {
+    let lines = printed.lines().zip(wanted.lines());
+    let same = lines.take_while(|(line, other)| line == other).count();
+    same.saturating_add(1)
+}
+
+/// How what the script prints compares with what is wanted, and the fault that it ends with.
+fn compared(alloc: Global, script: &str, wanted: &str, trace: bool) -> anyhow::Result<String> {
+    let mut lines = Vec::new(alloc);
+    let disks = program_disks(alloc)?;
+    let done = run(alloc, &mut script.as_bytes(), &mut lines, disks, trace);
+    let printed = String::from_utf8(lines)?;
+    let compared = if printed.as_str() == wanted {
+        format!(in alloc; "as written")?
+    } else {
+        let line = first_difference(&printed, wanted);
+        format!(in alloc; "line {line} differs")?
+    };
+    match done {
+        Ok(()) => Ok(compared),
+        Err(fault) => Ok(format!(in alloc; "{compared}; {fault}")?),
+    }
+}
+
+/// The lines but those of counts.
+fn outcomes_of(alloc: Global, wanted: &str) -> anyhow::Result<String> {
+    let mut outcomes = String::new(alloc);
+    for line in wanted.lines() {
+        if !line.starts_with("= ") {
+            outcomes.push_str(line)?;
+            outcomes.push('\n')?;
+        }
+    }
+    Ok(outcomes)
+}
+
+/// What is found of the script with what is wanted of it, as a trace.
+fn judged(alloc: Global, script: &str, wanted: &str) -> anyhow::Result<String> {
+    let outcomes = outcomes_of(alloc, wanted)?;
+    let trace = trace_of(alloc, script, &outcomes)?;
+    let verdict = judge_trace(alloc, &mut trace.as_bytes())?;
+    Ok(format!(in alloc; "{verdict}")?)
+}
+
+/// Runs a script, and tells how what it prints compares with what is wanted, and what is found of both.
+fn tell(rt: &HostRuntime, name: &str, script: &str, wanted: &str) -> anyhow::Result<()> {
+    let compared = compared(rt.alloc(), script, wanted, name == COUNTED)?;
+    let judged = judged(rt.alloc(), script, wanted)?;
+    println!(rt; "{name}: {compared}; {judged}")?;
+    Ok(())
+}
+
+/// Runs the worked scripts.
+pub(crate) fn tell_rows(rt: &HostRuntime) -> anyhow::Result<()> {
+    for name in &ROWS {
+        let script = fs::read_to_string(rt, format!(in rt.alloc(); "rows/{name}.script")?)?;
+        let wanted = fs::read_to_string(rt, format!(in rt.alloc(); "rows/{name}.out")?)?;
+        tell(rt, name, &script, &wanted)?;
+    }
+    Ok(())
+}
+
+/// Runs the examples.
+pub(crate) fn tell_examples(rt: &HostRuntime) -> anyhow::Result<()> {
+    for name in &EXAMPLES {
+        let script = fs::read_to_string(rt, format!(in rt.alloc(); "examples/{name}.iommu")?)?;
+        let wanted = fs::read_to_string(rt, format!(in rt.alloc(); "examples/{name}.out")?)?;
+        tell(rt, name, &script, &wanted)?;
+    }
+    Ok(())
+}
