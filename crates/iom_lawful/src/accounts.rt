@@ -11,7 +11,8 @@ use crate::reaches::{Reach, frames_of, reaches_after, reaches_of};
 use crate::requests::asked_by;
 use crate::states::copy_state;
 use iom_base::{Access, AccessKind, DeviceId, Mode, PAGE_SIZE};
-use iom_machine::{Attachment, Choice, Device, Event, Outcome, State, judge};
+use iom_machine::{Attachment, Choice, Device, Event, Outcome, State};
+use iom_machine_judge::judge;
 use std::alloc::{AllocError, Global};
 
 /// So many accounts are followed at most.
