@@ -2,7 +2,8 @@
 
 use crate::choices::Choices;
 use crate::run::Run;
-use iom_machine::{judge, power_on};
+use iom_machine::power_on;
+use iom_machine_judge::judge;
 use std::alloc::{AllocError, Global};
 use std::process::Abort;
 use std::test::Fail;

@@ -11,8 +11,5 @@ pub mod JudgeLemmas
 pub mod FrameLemmas
 pub mod StepLemmas
 pub mod CallLemmas
-pub mod VerdictLemmas
-pub mod HistoryLoops
 pub mod ProcessorLemmas
 pub mod QuestionLemmas
-pub mod BlockLemmas

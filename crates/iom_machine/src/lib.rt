@@ -10,28 +10,27 @@
 //! Specification, chapter 10); `CuttingOff.antt` how a device that doesn't answer is cut off, and
 //! attached again; `BlockDevices.antt` what a block device may do, of whose requests the machine
 //! knows nothing (virtio 1.2). The layers above are proved to take lawful steps alone, and the laws of this
-//! crate say what every run of lawful steps has.
+//! crate say what every run of lawful steps has. The plain, slow program that decides these definitions is
+//! `iom_machine_judge`, on which none of those layers stands: so none waits for its proof.
 #![tactic(auto)]
 
 mod choice;
-mod decide;
 mod event;
+mod frames;
 mod headline;
 mod kinds;
 mod laws;
-mod line;
 mod outcome;
 mod sink;
 mod start;
 mod state;
 
 pub use choice::Choice;
-pub use decide::{judge, judge_run, lawful_runs_have_choices};
 pub use event::Event;
+pub use frames::reserve;
 pub use headline::reclaim_theorem;
 pub use laws::grants_are_at_pages;
-pub use line::{Line, Verdict};
 pub use outcome::{BlockStep, CommandName, FaultRecord, Fetched, Outcome, Trace};
 pub use sink::Sink;
-pub use start::power_on;
+pub use start::{new_frame, power_on};
 pub use state::{Attachment, Device, DeviceKind, Frame, NewDevice, State};

@@ -1,5 +1,5 @@
-//! Calls of the public functions of `iom_machine` and `iom_script`, on their happy paths and at their edges:
-//! one module for each.
+//! Calls of the public functions of `iom_machine`, `iom_machine_judge` and `iom_script`, on their happy paths
+//! and at their edges.
 //!
 //! The crate has tests alone, and nothing stands on it. It stands apart from the crates that it calls
 //! because a crate with tests of its own is proved twice, without them and with them; and apart from

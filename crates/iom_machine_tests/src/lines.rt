@@ -4,10 +4,8 @@ use arrayvec::ArrayVec;
 use iom_base::{Access, AccessKind, Cause, DeviceId, GrantRights, Mode, Rights, Sequence};
 use iom_fabric::{PageNumber, Translation};
 use iom_ledger::Refusal;
-use iom_machine::{
-    BlockStep, Choice, Event, FaultRecord, Fetched, Line, NewDevice, Outcome, Verdict, judge_run,
-    power_on,
-};
+use iom_machine::{BlockStep, Choice, Event, FaultRecord, Fetched, NewDevice, Outcome, power_on};
+use iom_machine_judge::{Line, Verdict, judge_run};
 use std::alloc::Global;
 use std::process::Abort;
 use std::test::Fail;

@@ -2,10 +2,8 @@ use crate::expect::expect_eq;
 use crate::lines::{Change, Comes, Does, are_lawful, are_refused, line_of};
 use iom_base::{Cause, GrantRights};
 use iom_ledger::Refusal;
-use iom_machine::{
-    CommandName, Fetched, Line, grants_are_at_pages, judge, lawful_runs_have_choices, power_on,
-    reclaim_theorem,
-};
+use iom_machine::{CommandName, Fetched, grants_are_at_pages, power_on, reclaim_theorem};
+use iom_machine_judge::{Line, judge, lawful_runs_have_choices};
 use std::alloc::Global;
 use std::test::Fail;
 

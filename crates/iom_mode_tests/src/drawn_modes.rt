@@ -3,7 +3,8 @@
 use crate::choices::Choices;
 use crate::run::{Run, Step};
 use iom_base::DeviceId;
-use iom_machine::{Event, Outcome, judge, power_on};
+use iom_machine::{Event, Outcome, power_on};
+use iom_machine_judge::judge;
 use std::alloc::{AllocError, Global};
 use std::process::Abort;
 use std::test::Fail;

@@ -5,7 +5,8 @@ ghost use Rattle.iom_world.specs.Happens.{IsNoChoice};
 
 use crate::expect::expect_eq;
 use iom_base::{Access, AccessKind, DeviceId, GrantRights, Mode, Sequence};
-use iom_machine::{Choice, Event, NewDevice, Outcome, State, judge, power_on};
+use iom_machine::{Choice, Event, NewDevice, Outcome, State, power_on};
+use iom_machine_judge::judge;
 use iom_world::World;
 use std::alloc::{AllocError, Global};
 use std::test::Fail;

@@ -1,4 +1,0 @@
-use Rattle.iom_machine.proofs.decide.calls.may_refuse_grant.Goals as goal
-
-pub returns-in-NoFrames : goal.returns-in-NoFrames
-returns-in-NoFrames c = rw c.in-NoFrames.is c.are_fewer_free.ensures

@@ -1,0 +1,3 @@
+mod BlockLemmas
+mod HistoryLoops
+mod VerdictLemmas

@@ -1,0 +1,12 @@
+use Rattle.std.proofs.Common.{sym, subst}
+use Rattle.iom_machine.specs.declared.state.Device.{Device}
+use Rattle.iom_machine.specs.Requests.{MayAnswer, state_after}
+use Rattle.iom_machine.proofs.StepLemmas.{lawful, read_again}
+use Rattle.iom_machine_judge.proofs.block_devices.begin_untranslated.Goals as goal
+
+pub returns : goal.returns
+returns c = λ device at own new.
+    let same = read_again c.args.state.devices c.args.place device c.index-as_slice-place.result at (rw c.as_slice.ensures at c.index-as_slice-place.is) in
+    let answers = subst (λ (d : Device). MayAnswer c.args.state d c.args.access c.args.frame c.args.outcome.now) (sym same) (c.may_answer.ensures.0 c.if-not-may_answer.false) in
+    lawful (MayAnswer c.args.state device c.args.access c.args.frame c.args.outcome.now) c.in_ok-next.next (state_after c.args.state device c.args.access c.args.frame c.args.outcome.now) answers
+    (c.in_ok-next.ensures device own at answers) new

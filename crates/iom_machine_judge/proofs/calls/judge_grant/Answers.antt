@@ -1,0 +1,11 @@
+use Rattle.std.proofs.Common.{◌∙◌, sym}
+use Rattle.iom_machine.proofs.CallLemmas.{none_if_not_some, granted_as}
+use Rattle.iom_machine_judge.proofs.calls.judge_grant.Goals as goal
+
+pub returns-in_ok-push_front-in-Done : goal.returns-in_ok-push_front-in-Done
+returns-in_ok-push_front-in-Done c = rw c.in-Done.is
+    (granted_as c.args.taken.now c.args.state c.args.id c.args.page c.args.frame c.args.rights _ _
+    (sym c.grant_refusal-first.ensures ∙ none_if_not_some _ (sym c.is_some.ensures ∙ c.if-is_some.false))
+    (c.are_free_besides.ensures.0 c.if-not-are_free_besides.false)
+    (rw c.rights.ensures.value at c.in_ok-push_front-in-Done.ensures.ok)
+    c.reserve.ensures)

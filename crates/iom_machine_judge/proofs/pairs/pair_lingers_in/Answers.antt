@@ -1,0 +1,31 @@
+-- From the oldest entry on.
+use Rattle.std.proofs.Common.{◌+◌, ◌-◌, ◌∙◌, length, drop, sym, ap, arith}
+use Rattle.std.specs.List.{list_any}
+use Rattle.iom_ledger.specs.History.{History, held_at, released_at}
+use Rattle.iom_machine.specs.Judging.{still_is}
+use Rattle.iom_machine_judge.proofs.HistoryLoops.{one_older, none_older, none_newer, held_by_one_more, found_by_one_more}
+use Rattle.iom_machine_judge.proofs.pairs.pair_lingers_in.Goals as goal
+
+pub loop-passed-init : goal.loop-passed-init
+loop-passed-init c = record {
+  held = ap (λ (h : History). held_at h c.args.device c.args.page) (sym (none_older c.args.history.now));
+  found = ap (λ (h : History). list_any (still_is c.args.all.now c.args.sought.now) (released_at h c.args.device c.args.page)) (sym (none_older c.args.history.now));
+}
+
+pub loop-passed-preserved : goal.loop-passed-preserved
+loop-passed-preserved c =
+    let older = one_older c.args.history.now c.loop-passed.passed _ c.loop-passed-test.true in
+    record {
+      held = held_by_one_more (drop (length c.args.history.now - c.loop-passed.passed) c.args.history.now)
+          (drop (length c.args.history.now - (c.loop-passed.passed + 1)) c.args.history.now) _ c.args.device c.args.page c.loop-passed.held
+          c.pair_after-held.result older c.loop-passed.invariant.held c.pair_after-held.ensures;
+      found = found_by_one_more (still_is c.args.all.now c.args.sought.now) (drop (length c.args.history.now - c.loop-passed.passed) c.args.history.now)
+          (drop (length c.args.history.now - (c.loop-passed.passed + 1)) c.args.history.now) _ c.args.device c.args.page c.loop-passed.held
+          c.releases_pair-lingers.result c.loop-passed.lingers older c.loop-passed.invariant.held c.loop-passed.invariant.found c.releases_pair-lingers.ensures;
+    }
+
+pub returns : goal.returns
+returns c =
+    c.loop-passed.invariant.found
+    ∙ ap (λ (h : History). list_any (still_is c.args.all.now c.args.sought.now) (released_at h c.args.device c.args.page))
+    (none_newer c.args.history.now c.loop-passed.passed (omega (arith, c.loop-passed-test.false)))

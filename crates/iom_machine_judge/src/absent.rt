@@ -1,0 +1,35 @@
+// What an event that names a device is answered first.
+ghost use Rattle.std.specs.Prelude.{◌≡◌, ◌↔◌, IsTrue, Some};
+ghost use Rattle.iom_ledger.specs.declared.refusal.Refusal.TheVariants.{NoSuchDevice, WrongKind};
+ghost use Rattle.iom_machine.specs.declared.outcome.Outcome.TheVariants.{Refused};
+ghost use Rattle.iom_machine.specs.declared.state.State.{State};
+
+use iom_ledger::Refusal;
+use iom_machine::{Outcome, State};
+
+/// Whether a device that isn't plugged in is answered so.
+pub(crate) fn answers_absent(outcome: &Outcome) -> bool
+    ensures { IsTrue result ↔ (outcome.now ≡ Refused NoSuchDevice) }
+{
+    match outcome {
+        Outcome::Refused(why) => *why == Refusal::NoSuchDevice,
+        _ => false,
+    }
+}
+
+/// Whether a device is answered so whose kind can't do what is asked.
+pub(crate) fn answers_unable(outcome: &Outcome) -> bool
+    ensures { IsTrue result ↔ (outcome.now ≡ Refused WrongKind) }
+{
+    match outcome {
+        Outcome::Refused(why) => *why == Refusal::WrongKind,
+        _ => false,
+    }
+}
+
+/// The state as it is, where that may be.
+pub(crate) fn stays_if(may: bool, state: State) -> Option<State>
+    ensures { (new : State) → (result ≡ Some new) ↔ (IsTrue may × (new ≡ state)) }
+{
+    if may { Some(state) } else { None }
+}
