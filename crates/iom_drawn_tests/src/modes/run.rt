@@ -3,7 +3,7 @@
 ghost use Rattle.std.specs.Prelude.{◌<◌, IfOk};
 ghost use Rattle.iom_world.specs.Happens.{IsNoChoice};
 
-use crate::draw::{Draw, FIRST_FRAME, FRAMES, NAME_AT, bytes_of};
+use crate::modes::draw::{Draw, FIRST_FRAME, FRAMES, NAME_AT, bytes_of};
 use iom_base::{DeviceId, GrantRights, Mode};
 use iom_machine::{Event, NewDevice, Outcome};
 use iom_world::World;

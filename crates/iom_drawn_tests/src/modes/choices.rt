@@ -1,6 +1,6 @@
 // What the lines don't show, by the rule of the driver: the highest free frames become tables.
 
-use crate::run::Step;
+use crate::modes::run::Step;
 use iom_base::{Access, AccessKind, DeviceId, Mode, Sequence};
 use iom_machine::{Choice, Event, Outcome};
 use std::alloc::{AllocError, Global};

@@ -1,6 +1,6 @@
 // What is counted of a run.
 
-use crate::run::Step;
+use crate::ats::run::Step;
 use iom_ledger::Refusal;
 use iom_machine::{Event, Fetched, Outcome};
 

@@ -3,8 +3,8 @@
 ghost use Rattle.std.specs.Prelude.{◌≡◌, ◌<◌, true};
 ghost use Rattle.iom_world.specs.Happens.{IsNoChoice};
 
-use crate::draw::{Draw, FIRST_FRAME, FRAMES, Ids, NAME_AT, bytes_of};
-use crate::messages::{Messages, Question, Said};
+use crate::ats::draw::{Draw, FIRST_FRAME, FRAMES, Ids, NAME_AT, bytes_of};
+use crate::ats::messages::{Messages, Question, Said};
 use iom_base::{DeviceId, GrantRights, Mode};
 use iom_machine::{Event, NewDevice, Outcome};
 use iom_world::World;

@@ -1,7 +1,7 @@
 //! The judge of the ledger machine finds each step of the drawn runs lawful.
 
-use crate::choices::Choices;
-use crate::run::{Run, Step};
+use crate::modes::choices::Choices;
+use crate::modes::run::{Run, Step};
 use iom_base::DeviceId;
 use iom_machine::{Event, Outcome, power_on};
 use iom_machine_judge::judge;

@@ -1,0 +1,5 @@
+// Three raw devices, one in each mode.
+mod choices;
+mod draw;
+mod drawn_modes;
+mod run;
