@@ -19,7 +19,7 @@ use Rattle.iom_platform.proofs.RunLemmas.{are_outcomes}
 use Rattle.iom_script.specs.declared.script.WorldSize.{WorldSize}
 use Rattle.iom_world.specs.declared.world.World.{World}
 use Rattle.iom_runner.specs.declared.writing.LineWriter.{LineWriter}
-use Rattle.iom_runner.specs.Text.{Setting, power_on, run_text, AreThere, AreTraces, TellsPlatform, WritesRun, BeginsRun, BeginsRunSoFar}
+use Rattle.iom_runner.specs.Text.{Setting, power_on, run_text, AreThere, AreTraces, TellsRun, TellsPlatform, WritesRun, BeginsRun, BeginsRunSoFar}
 use Rattle.iom_runner.specs.Told.{told_line, told_lines}
 use Rattle.iom_runner.specs.Writing.{AppendsFront, AppendsPart, KeepsWriter, wants_counts, TakesText, TakesLine, FailsWriting}
 use Rattle.iom_runner.proofs.AnswerLemmas.{CountedRun, goes_on}
@@ -44,6 +44,21 @@ through_traces state last old new (event ∷ events) [] traces run through = abs
 through_traces state last old new (event ∷ events) (told ∷ outcomes) [] run through = absurd through
 through_traces state last old new (event ∷ events) (told ∷ outcomes) (trace ∷ traces) (next, step, run) through =
     (state_counts next through.1.world trace through.3, through_traces next last through.1 new events outcomes traces run through.4)
+
+-- a run that a platform goes through, as it is told, is one of the machine
+pub machine_run : (setting : Setting) (size : WorldSize) (events : List Event) (text : List ℕ) → TellsPlatform setting size events text → TellsRun setting size events text
+machine_run setting size events text (seen, end, outcomes, last, first, traces, begins, are, reclaim, there, counts, is) = (
+  outcomes,
+  last,
+  first,
+  traces,
+  are.run,
+  reclaim,
+  there,
+  state_counts (power_on setting size) seen.world first counts,
+  through_traces (power_on setting size) last seen end events outcomes traces are.run are.through,
+  is,
+)
 
 -- there are as many counts as outcomes
 traces_as_many : (state last : State) (events : List Event) (outcomes : List Outcome) (traces : List (Option Trace)) → CountedRun state events outcomes traces last → length outcomes ≡ length traces

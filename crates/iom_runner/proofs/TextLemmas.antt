@@ -17,8 +17,9 @@ use Rattle.iom_runner.specs.Bytes.{ExplainsUnparsed}
 use Rattle.iom_runner.specs.Disks.{program_setting}
 use Rattle.iom_runner.specs.Reading.{IsReadFault}
 use Rattle.iom_runner.specs.Runs.{TellsScript, RunsBytes, RunsProgram, AreLeft}
-use Rattle.iom_runner.specs.Text.{Setting, TellsRun, TellsPlatform, TellsSoFar, IsTextOf, WritesRun, BeginsRun, BeginsRunSoFar}
+use Rattle.iom_runner.specs.Text.{Setting, TellsRun, TellsPlatform, TellsSoFar, IsTextOf, WritesText, WritesLines, WritesRun, BeginsRun, BeginsRunSoFar}
 use Rattle.iom_runner.specs.Writing.{AppendsFront, AppendsPart}
+use Rattle.iom_runner.proofs.RunLemmas.{machine_run}
 
 -- what tells a run from power-on tells a script with a world of that size
 pub of_script : (Tells : WorldSize → List Event → List ℕ → Type 0) (Grows : List ℕ → Type 0) (script : Script) (size : WorldSize) (events : List Event)
@@ -65,10 +66,20 @@ pub unparsed : (setting : Setting) (known : Option (List ℕ)) (bytes : List ℕ
 unparsed setting known bytes limit written result fault big read explains is =
     subst (λ r. RunsBytes setting (input_of known bytes) r written written) (sym is) (explained setting known bytes limit written fault big read explains)
 
+-- a text that tells a run which a platform goes through tells a run of the machine
+told_of_machine : (setting : Setting) (events : List Event) (text : List ℕ) (world : Option WorldSize)
+    → MatchOption world (text ≡ []) (λ size. TellsPlatform setting size events text) → MatchOption world (text ≡ []) (λ size. TellsRun setting size events text)
+told_of_machine setting events text None none = none
+told_of_machine setting events text (Some size) tells = machine_run setting size events text tells
+
+-- what is written of a script is the text of a run of the machine
+lines_written : (setting : Setting) (script : Script) (old new : Option (List ℕ)) → WritesText setting script old new → WritesLines setting script old new
+lines_written setting script old new (text, is, appends) = (text, told_of_machine setting script.events text script.world is, appends)
+
 -- bytes that are a script are told as one
 pub runs_script : (setting : Setting) (input : List ℕ) (script : Script) (result : Result (Unit {0}) RunFault) (old new : Option (List ℕ)) → IsScript input script → TellsScript setting script result old new
     → RunsBytes setting input result old new
-runs_script setting input script (Ok done) old new is told = (script, is, told)
+runs_script setting input script (Ok done) old new is told = (script, is, lines_written setting script old new told, told)
 runs_script setting input script (Err faults.Writing) old new is told = (script, is, told.0, told.1)
 runs_script setting input script (Err faults.Memory) old new is told = told.1
 runs_script setting input script (Err faults.Reading) old new is told = absurd told

@@ -8,7 +8,7 @@ use Rattle.iom_runner.specs.declared.faults.RunFault.{RunFault}
 use Rattle.iom_runner.specs.declared.faults.RunFault.TheVariants.{Reading, Writing, Memory, Script as BadLine}
 use Rattle.iom_runner.specs.declared.faults.ProgramFault.{ProgramFault}
 use Rattle.iom_runner.specs.declared.faults.ProgramFault.TheVariants.{Args, Run}
-use Rattle.iom_runner.specs.Text.{Setting, WritesText, BeginsText, BeginsTextSoFar}
+use Rattle.iom_runner.specs.Text.{Setting, WritesText, BeginsText, BeginsTextSoFar, WritesLines}
 
 -- Telling a script ends so. Where it ends well, its text is written, told of a run that a platform goes through. Where writing fails, what was written is a
 -- beginning of that, and one, but not all, of the text of its first events. Where memory fails, nothing is written, and the script says something.
@@ -19,10 +19,12 @@ TellsScript setting script (Err Memory) old new = (script.world ≢ None) × Kee
 TellsScript setting script (Err Reading) old new = ⊥
 TellsScript setting script (Err (BadLine number)) old new = ⊥
 
--- Running bytes ends so. Bytes that are a script are told as one. Of others nothing is written, and their first bad line is named. Where reading fails, or
+-- Running bytes ends so. Bytes that are a script are told as one: what is written is the text of a run of the ledger machine, and of one that a platform
+-- goes through. Of others nothing is written, and their first bad line is named. Where reading fails, or
 -- memory, nothing is written.
 abbrev pub RunsBytes : Setting → List ℕ → Result (Unit {0}) RunFault → Option (List ℕ) → Option (List ℕ) → Type 0
-RunsBytes setting input (Ok done) old new = (script : Script) × IsScript input script × WritesText setting script old new
+RunsBytes setting input (Ok done) old new =
+    (script : Script) × IsScript input script × WritesLines setting script old new × WritesText setting script old new
 RunsBytes setting input (Err Writing) old new =
     (script : Script) × IsScript input script × BeginsText setting script old new × BeginsTextSoFar setting script old new
 RunsBytes setting input (Err (BadLine number)) old new = IsFirstBadLine input number × Keeps old new

@@ -88,6 +88,10 @@ IsTextOf Tells script text = MatchOption script.world (text ≡ []) (λ size. Te
 abbrev pub WritesText : Setting → Script → Option (List ℕ) → Option (List ℕ) → Type 0
 WritesText setting script old new = (text : List ℕ) × IsTextOf (TellsPlatform setting) script text × Appends old new text
 
+-- known contents grow by a text of the script, told of a run of the ledger machine: what this says needs no platform
+abbrev pub WritesLines : Setting → Script → Option (List ℕ) → Option (List ℕ) → Type 0
+WritesLines setting script old new = (text : List ℕ) × IsTextOf (TellsRun setting) script text × Appends old new text
+
 -- known contents grow by a beginning of a text of the script
 abbrev pub BeginsText : Setting → Script → Option (List ℕ) → Option (List ℕ) → Type 0
 BeginsText setting script old new = (text : List ℕ) × IsTextOf (TellsRun setting) script text × AppendsFront old new text
