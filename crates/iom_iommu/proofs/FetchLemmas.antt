@@ -241,8 +241,8 @@ module _ {C : Type 0} {c : Cache C} (m : List (List ℕ)) (i j : Iommu C c) wher
 
   stops_at_last : (entry : Option QueueEntry) → StopsAtEntry m entry i j → (slots_of j).last ≤ (slots_of i).last + 1
   stops_at_last None s = absurd s
-  stops_at_last (Some stands.Outside) s = same_last (with_cqmf (registers_of i)) (stock_of i) s
-  stops_at_last (Some (stands.Illegal reason)) s = same_last (with_cmd_ill (registers_of i)) (stock_of i) s
+  stops_at_last (Some stands.Outside) s = fetched_last (with_cqmf (registers_of i)) None false s
+  stops_at_last (Some (stands.Illegal reason)) s = fetched_last (with_cmd_ill (registers_of i)) None false s
   stops_at_last (Some (stands.Command command)) s =
       fetched_last (with_cqmf (registers_of i)) (Some (counted_in i)) (is_waiting_fence command (slots_of i)) s.2
 
@@ -254,5 +254,5 @@ module _ {C : Type 0} {c : Cache C} (m : List (List ℕ)) (i j : Iommu C c) wher
   opens_one n (Did command) f = subst (λ x. x.last ≤ (slots_of i).last + 1) (sym f.5.slots) (last_by command (slots_of i))
   opens_one n Waiting f =
       fetched_last (registers_of i) (stock_at (head_entry m (registers_of i)) i) (waits_at (head_entry m (registers_of i)) i) f.3
-  opens_one n Empty f = same_last (registers_of i) (stock_of i) f.3
+  opens_one n Empty f = fetched_last (registers_of i) None false f.3
   opens_one n Stopped f = stops_last (is_processing_commands (registers_of i)) f.0

@@ -151,12 +151,16 @@ waits_at (Some (stands.Command command)) iommu = is_waiting_fence command (slots
 abbrev pub after_fetched : {C : Type 0} {c : Cache C} → Iommu C c → Registers → Option ℕ → Bool → Iommu C c
 after_fetched iommu registers stock waits = record (after_none iommu registers stock) { fence_waits = waits }
 
+-- the IOMMU after a fetch that found no command at the head: with these registers, and nothing is kept of a fence that stood there
+abbrev pub after_nothing : {C : Type 0} {c : Cache C} → Iommu C c → Registers → Iommu C c
+after_nothing iommu registers = after_fetched iommu registers None false
+
 -- what stands at the head stops processing, and which bit says why: cqmf where it can't be loaded or its word not be stored,
 -- cmd_ill where it is no command. A fence whose word can't be stored has been fetched
 abbrev pub StopsAtEntry : {C : Type 0} {c : Cache C} → List (List ℕ) → Option QueueEntry → Iommu C c → Iommu C c → Type 0
 StopsAtEntry memory None old new = ⊥
-StopsAtEntry memory (Some stands.Outside) old new = new ≡ after_none old (with_cqmf (registers_of old)) (stock_of old)
-StopsAtEntry memory (Some (stands.Illegal reason)) old new = new ≡ after_none old (with_cmd_ill (registers_of old)) (stock_of old)
+StopsAtEntry memory (Some stands.Outside) old new = new ≡ after_nothing old (with_cqmf (registers_of old))
+StopsAtEntry memory (Some (stands.Illegal reason)) old new = new ≡ after_nothing old (with_cmd_ill (registers_of old))
 StopsAtEntry memory (Some (stands.Command command)) old new =
     (is_held command old ≡ false) × (¬ IsStorable memory (store_of command))
     × (new ≡ after_fetched old (with_cqmf (registers_of old)) (Some (counted_in old)) (is_waiting_fence command (slots_of old)))
@@ -229,7 +233,7 @@ FetchesCommand memory iommu Waiting new_memory new_iommu =
 FetchesCommand memory iommu Empty new_memory new_iommu =
     (is_processing_commands (registers_of iommu) ≡ true)
     × (head_entry memory (registers_of iommu) ≡ None)
-    × (new_memory ≡ memory) × (new_iommu ≡ after_none iommu (registers_of iommu) (stock_of iommu))
+    × (new_memory ≡ memory) × (new_iommu ≡ after_nothing iommu (registers_of iommu))
 FetchesCommand memory iommu Stopped new_memory new_iommu =
     StopsFetching (is_processing_commands (registers_of iommu)) memory iommu new_iommu
     × (new_memory ≡ memory)

@@ -144,17 +144,30 @@ impl<C: TransCache> Iommu<C> {
             return Fetched::Stopped;
         }
         match CommandRing::next(memory, &self.registers) {
-            None => Fetched::Empty,
+            None => {
+                self.forget_fence();
+                Fetched::Empty
+            }
             Some(QueueEntry::Outside) => {
+                self.forget_fence();
                 self.registers.set_cqmf();
                 Fetched::Stopped
             }
             Some(QueueEntry::Illegal(_)) => {
+                self.forget_fence();
                 self.registers.set_cmd_ill();
                 Fetched::Stopped
             }
             Some(QueueEntry::Command(command)) => self.take(memory, command),
         }
+    }
+
+    /// No fence stands at the head: what one counted there is forgotten, and that it waited.
+    fn forget_fence(&mut self)
+        ensures { self.new ≡ record self.old { stock = None; fence_waits = false } }
+    {
+        self.stock = None;
+        self.fence_waits = false;
     }
 
     /// How many accesses were accepted before the command at the head was first fetched.

@@ -30,7 +30,7 @@ use Rattle.iom_inflight.specs.Flights.{Flights, are_drained}
 use Rattle.iom_iommu.specs.declared.fetched.Fetched.{Fetched}
 use Rattle.iom_iommu.specs.declared.fetched.Fetched.TheVariants.{Did, Waiting, Empty, Stopped}
 use Rattle.iom_world.specs.OwnIommu.{Iommu}
-use Rattle.iom_iommu.specs.Fetches.{FetchesCommand, DropsContexts, DropsTranslations, counted_in, waits_for_accesses, waits_for_slots, is_held, slots_by, request_by, asks_for_interrupt, after_none, stock_at, waits_at, WaitsAt, store_of, with_store, with_done, IsStorable, IsStoredIn, IsOffRing, StopsAtEntry, StopsFetching, head_entry}
+use Rattle.iom_iommu.specs.Fetches.{FetchesCommand, DropsContexts, DropsTranslations, counted_in, waits_for_accesses, waits_for_slots, is_held, slots_by, request_by, asks_for_interrupt, after_none, after_nothing, stock_at, waits_at, WaitsAt, store_of, with_store, with_done, IsStorable, IsStoredIn, IsOffRing, StopsAtEntry, StopsFetching, head_entry}
 use Rattle.iom_iommu.specs.Parts.{registers_of, contexts_of, translations_of, flights_of, stock_of, slots_of, opened_of}
 use Rattle.iom_iommu.proofs.FetchLemmas.{takes_first, leaves_frames}
 use Rattle.iom_machine.specs.declared.outcome.Outcome.{Outcome}
@@ -54,7 +54,7 @@ use Rattle.iom_world.proofs.DriverLemmas.{IsSoundDriver}
 use Rattle.iom_world.proofs.PartsLemmas.{parts_are, StaysReady}
 use Rattle.iom_world.proofs.QueuedLemmas.{queued_first}
 use Rattle.iom_world.proofs.RowLemmas.{drained_after}
-use Rattle.iom_world.proofs.SceneSteps.{KeepsGrants, DoesFirst, CountsAtHead, done_after, CachedAfter, TranslationsAfter, TrafficAfter, DoneIfFence, ClosedIfFence, fetch_scene, count_scene}
+use Rattle.iom_world.proofs.SceneSteps.{KeepsGrants, DoesFirst, CountsAtHead, done_after, CachedAfter, TranslationsAfter, TrafficAfter, DoneIfFence, ClosedIfFence, fetch_scene, count_scene, scene_uncounted}
 use Rattle.std.proofs.lemmas.List.{map-append}
 use Rattle.iom_fabric.specs.declared.fabric.OnLink.{OnLink}
 use Rattle.iom_world.specs.Messages.{range_of, with_fetched}
@@ -132,6 +132,10 @@ next_of address low given (IotinvalGvma gscid page) ours = tt
 next_of address low given (AtsInval device range) ours = tt
 
 -- what stands first in a list
+none_there : {X : Type 0} (xs : List X) → slice_get xs 0 ≡ None → xs ≡ []
+none_there [] at = refl
+none_there (x ∷ xs) at = cc
+
 first_there : {X : Type 0} (xs : List X) (x : X) → slice_get xs 0 ≡ Some x → (rest : List X) × (xs ≡ x ∷ rest)
 first_there [] x at = cc
 first_there (y ∷ ys) x at = let same : y ≡ x = cc in (ys, ap (λ z. z ∷ ys) same)
@@ -499,6 +503,22 @@ module _ (old : Parts) (events : ℕ) (sound : AreSound old events) where
     copies = sound.copies;
   }
 
+  -- where no command waits, nothing was counted for one
+  pub keeps_nothing : head_entry old.memory (registers_of old.iommu) ≡ None → AreSound (record old { iommu = after_nothing old.iommu (registers_of old.iommu) }) events
+  keeps_nothing none = record {
+    ready = sound.ready;
+    started = sound.started;
+    unmarked = sound.unmarked;
+    size = sound.size;
+    known = record { own_ids = sound.known.own_ids; driver = sound.known.driver; iommu = sound.known.iommu; caches = sound.known.caches; trusted = sound.known.trusted; askers = sound.known.askers };
+    small = sound.small;
+    counted = sound.counted;
+    serials = sound.serials;
+    epochs = sound.epochs;
+    contexts = sound.contexts;
+    copies = ∥∥₁_map sound.copies (scene_uncounted (values_of old) (none_there (commands_in old.memory (registers_of old.iommu)) none));
+  }
+
   -- a fence counts, since no invalidation request is open
   keeps_counted : (command_status (registers_of old.iommu)).cmd_to ≡ false → (store : Option FenceStore) (wsi pr pw : Bool) → head_entry old.memory (registers_of old.iommu) ≡ Some (Command (IofenceC store wsi pr pw))
       → waits_for_slots (IofenceC store wsi pr pw) (slots_of old.iommu) ≡ false → AreSound counting events
@@ -579,7 +599,7 @@ keeps_fetched old new events told sound own stays below fetches = by fetches.ans
     by (Did command) call fabric = keeps_done old new events command sound own stays below call fetches.driver fetches.devices fabric
     by Waiting call fabric = left _ (keeps_flag _ events (waits_at (head_entry old.memory (registers_of old.iommu)) old.iommu)
         (keeps_waiting old events sound (goes_on old events sound call.0) call.1)) call.2 call.3 fabric
-    by Empty call fabric = left _ (keeps_unopened old events sound) call.2 call.3 fabric
+    by Empty call fabric = left _ (keeps_nothing old events sound call.1) call.2 call.3 fabric
     by Stopped call fabric = stops (is_processing_commands (registers_of old.iommu)) call.0
       where
         stops : (on : Bool) → StopsFetching on old.memory old.iommu new.iommu → AreSound new events

@@ -440,6 +440,22 @@ counted_none None taken is none = refl
 counted_none (Some n) None is none = absurd is
 counted_none (Some n) (Some stock) is none = cc
 
+-- where no command waits, none was counted
+pub empty_counted : (values : Values) → values.waiting ≡ [] → HasFaithfulScene values → values.stock ≡ None
+empty_counted values none (scene, shows, facts) = by scene.stock refl
+  where
+    by : (stock : Option Stock) → scene.stock ≡ stock → values.stock ≡ None
+    by None is = counted_none values.stock scene.stock shows.stock is
+    by (Some taken) is =
+        let head = (facts.order.stocked taken.fence taken.accepted is).head in
+        let queued : AreQueuedAs values.address values.space_of [] (Fence taken.fence ∷ head.0) =
+        subst (λ entries. AreQueuedAs values.address values.space_of entries (Fence taken.fence ∷ head.0)) none (subst (AreQueuedAs values.address values.space_of values.waiting) head.1 shows.waiting) in
+        absurd queued
+
+-- a scene of values that differ in what was counted is one of these, where nothing was
+pub scene_uncounted : (values : Values) → values.waiting ≡ [] → HasFaithfulScene values → HasFaithfulScene (record values { stock = None })
+scene_uncounted values none has = subst (λ stock. HasFaithfulScene (record values { stock = stock })) (empty_counted values none has) has
+
 -- what the fence counted is what the stock says
 counted_as : (counted : Option ℕ) (so_far : ℕ) (taken : Stock) → IsStockOf counted (Some taken) → accepted_before counted so_far ≡ taken.accepted
 counted_as None so_far taken is = absurd is
