@@ -70,6 +70,11 @@ module _ {C : Type 0} {c : Cache C} (i : Iommu C c) where
   same_fetched r other stock counted waits waiting opened inside cached one two three four =
       same_parts r other stock counted waits waiting i.slots i.slots opened None inside cached one two three refl four
 
+  -- nothing is kept of a fence that stood at the head
+  pub forgot : (inside : AreRowsIn i.frames i.in_flight.rows) (cached : AreTranslationsIn i.frames (c.content i.translations))
+      → made_of i.registers None false i.slots i.opened inside cached ≡ record i { stock = None; fence_waits = false }
+  forgot inside cached = same_parts i.registers i.registers None None false false i.slots i.slots i.opened i.opened inside cached refl refl refl refl refl
+
   -- a request is completed
   pub completed : (slots requests : OpenSlots) (inside : AreRowsIn i.frames i.in_flight.rows) (cached : AreTranslationsIn i.frames (c.content i.translations))
       → slots ≡ requests → made_of i.registers i.stock i.fence_waits slots i.opened inside cached ≡ record i { slots = requests }

@@ -149,13 +149,13 @@ impl<C: TransCache> Iommu<C> {
                 Fetched::Empty
             }
             Some(QueueEntry::Outside) => {
-                self.forget_fence();
                 self.registers.set_cqmf();
+                self.forget_fence();
                 Fetched::Stopped
             }
             Some(QueueEntry::Illegal(_)) => {
-                self.forget_fence();
                 self.registers.set_cmd_ill();
+                self.forget_fence();
                 Fetched::Stopped
             }
             Some(QueueEntry::Command(command)) => self.take(memory, command),
