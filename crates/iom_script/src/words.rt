@@ -44,12 +44,12 @@ pub(crate) fn is_word(text: &[u8], word: &[u8]) -> bool
     text.len() == word.len() && after(text, word).is_some()
 }
 
-/// No digit's value.
-const NO: u8 = 255;
+/// No digit's value: more than six digits say.
+const NO: u64 = 16777216;
 
 /// The value of each byte as a lower-case hexadecimal digit, or none.
 #[rattlefmt::skip]
-const HEX_VALUES: [u8; 256] = [
+const HEX_VALUES: [u64; 256] = [
     NO, NO, NO, NO, NO, NO, NO, NO, NO, NO, NO, NO, NO, NO, NO, NO,
     NO, NO, NO, NO, NO, NO, NO, NO, NO, NO, NO, NO, NO, NO, NO, NO,
     NO, NO, NO, NO, NO, NO, NO, NO, NO, NO, NO, NO, NO, NO, NO, NO,
@@ -73,7 +73,7 @@ fn hex_value(digit: u8) -> Option<u8>
     ensures { Reads result (λ value. (value < 16) × (digit ≡ hex_digit value)) }
 {
     let value = HEX_VALUES[usize::from(digit)];
-    if value < 16 { Some(value) } else { None }
+    if value < 16 { Some(value as u8) } else { None }
 }
 
 /// The number that so many hexadecimal digits say.
@@ -103,6 +103,19 @@ fn leading_hex(text: &[u8]) -> (u64, usize)
     (number, most)
 }
 
+/// The number that six hexadecimal digits say. That each byte is one shows in the end alone: where one is none,
+/// the number is more than six digits say.
+fn six_digits(text: &[u8]) -> Option<u64>
+    requires { length text.now ≡ 6 }
+    ensures { Reads result (λ number. (number < 16 ^ length text.now) × (text.now ≡ hex_digits (length text.now) number)) }
+{
+    let mut number = 0u64;
+    for digit in text {
+        number = number * 16 + HEX_VALUES[usize::from(*digit)];
+    }
+    if number < NO { Some(number) } else { None }
+}
+
 /// The device that the word names.
 pub(crate) fn device_of(text: &[u8]) -> Option<DeviceId>
     ensures { Reads result (IsDevice text.now) }
@@ -110,7 +123,7 @@ pub(crate) fn device_of(text: &[u8]) -> Option<DeviceId>
     if text.len() != 6 {
         return None;
     }
-    let number = hex_number(text)?;
+    let number = six_digits(text)?;
     Some(number as u32)
 }
 
@@ -120,10 +133,19 @@ fn leading_decimal(text: &[u8]) -> Option<(u64, usize)>
     ensures { Reads result (λ read. LeadsWithDecimal text.now read.0 read.1) }
 {
     let mut number = 0u64;
-    for count in 0..text.len() {
+    // So few digits are always below 2^64.
+    let few = text.len().min(19);
+    for count in 0..few {
         let digit = text[count];
         if !digit.is_ascii_digit() {
             return Some((number, count));
+        }
+        number = number * 10 + u64::from(digit - b'0');
+    }
+    for place in few..text.len() {
+        let digit = text[place];
+        if !digit.is_ascii_digit() {
+            return Some((number, place));
         }
         number = number
             .checked_mul(10)?
@@ -144,6 +166,8 @@ fn leading_number(text: &[u8]) -> Option<(u64, usize)>
 }
 
 /// The number that the word says.
+// A call, as `number_and` is: written into the readers of all events, the loop would carry what their lines say.
+#[inline(never)]
 pub(crate) fn number_of(text: &[u8]) -> Option<u64>
     ensures { Reads result (IsNumber text.now) }
 {
@@ -287,6 +311,7 @@ pub(crate) fn device_and(text: &[u8]) -> Option<(DeviceId, &[u8])>
 }
 
 /// The number that the first word says, and what follows it.
+#[inline(never)]
 pub(crate) fn number_and(text: &[u8]) -> Option<(u64, &[u8])>
     ensures { Reads (with_rest result) (λ found. Begins IsNumber text.now found.0 found.1) }
 {

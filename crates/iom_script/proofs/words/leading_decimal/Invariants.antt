@@ -8,5 +8,14 @@ invariant-loop-count l =
     record {
       digits : AllDigits 10 (take l.count l.text);
       value : l.number ≡ digits_value 10 (take l.count l.text);
+      below : l.number < 10 ^ l.count;
+    }
+
+-- and so do those of more digits
+abbrev pub invariant-loop-place : goal.invariant-loop-place
+invariant-loop-place l =
+    record {
+      digits : AllDigits 10 (take l.place l.text);
+      value : l.number ≡ digits_value 10 (take l.place l.text);
       fits : l.number < 2 ^ 64;
     }
