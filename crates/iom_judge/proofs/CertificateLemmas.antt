@@ -9,15 +9,16 @@ use Rattle.iom_machine.proofs.ReclaimLemmas.{reclaims}
 use Rattle.iom_script.specs.declared.script.WorldSize.{WorldSize}
 use Rattle.iom_script.specs.Grammar.{is_spoken, spoken}
 use Rattle.iom_script.specs.Words.{IsWithout}
-use Rattle.iom_judge.specs.Allowed.{Past, IsTrueOf, state_of}
+use Rattle.iom_known.specs.Allowed.{Past, IsTrueOf, state_of}
+use Rattle.iom_known.specs.Starts.{IsPowerOn, SomeAreAllowed}
+use Rattle.iom_trace_lines.specs.Taken.{AreLines, Holds, HasTaken}
+use Rattle.iom_trace_lines.specs.TraceLines.{SaysLine}
+use Rattle.iom_trace_lines.specs.declared.trace.TraceLine.{TraceLine}
+use Rattle.iom_trace_lines.specs.declared.trace.TraceLine.TheVariants as says
 use Rattle.iom_judge.specs.Certificates.{is_lawful, four_disks, opening_of, SaysStep, SaySteps, AreOfRun, AreLawful, IsLawfulTrace}
-use Rattle.iom_judge.specs.Certified.{IsCertifiedBy, Certify, CertifyIf, GoesOn, AreLines, Holds, HasTaken, HasJudged}
-use Rattle.iom_judge.specs.Starts.{IsPowerOn, SomeAreAllowed}
+use Rattle.iom_judge.specs.Certified.{IsCertifiedBy, Certify, CertifyIf, GoesOn, HasJudged}
 use Rattle.iom_judge.specs.Followed.{Follows}
-use Rattle.iom_judge.specs.TraceLines.{SaysLine}
 use Rattle.iom_judge.specs.declared.belief.Belief.{Belief}
-use Rattle.iom_judge.specs.declared.trace.TraceLine.{TraceLine}
-use Rattle.iom_judge.specs.declared.trace.TraceLine.TheVariants as says
 use Rattle.iom_judge.specs.declared.verdict.Verdict.{Verdict}
 use Rattle.iom_judge.proofs.FollowSteps.{certified_on, certified_anyway, certified_settled, none_of_none}
 

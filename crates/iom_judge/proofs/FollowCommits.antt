@@ -12,19 +12,19 @@ use Rattle.iom_machine.specs.declared.outcome.Outcome.{Outcome}
 use Rattle.iom_machine.specs.declared.outcome.Outcome.TheVariants as outcomes
 use Rattle.iom_machine.specs.declared.state.Device.{Device}
 use Rattle.iom_machine.specs.declared.state.State.{State}
-use Rattle.iom_judge.specs.Allowed.{Past, IsTrueOf, AreInOrder, HadBytes, ids_of, state_of}
+use Rattle.iom_known.specs.Allowed.{Past, IsTrueOf, AreInOrder, HadBytes, ids_of, state_of}
+use Rattle.iom_known.specs.Steps.{IsExplained}
+use Rattle.iom_known.specs.declared.known.Known.{Known}
+use Rattle.iom_known.proofs.StayLemmas.{allowed_by_ids, same_ids}
 use Rattle.iom_judge.specs.Doubted.{AreAmong, MayBe, MayFly, on_frame}
 use Rattle.iom_judge.specs.Followed.{IsCommitOf, IsFollowed, IsOldestOn, IsPutOn, IsReadyFor, StepsBy}
-use Rattle.iom_judge.specs.Steps.{IsExplained}
 use Rattle.iom_judge.specs.declared.doubts.Doubt.{Doubt}
 use Rattle.iom_judge.specs.declared.doubts.Doubt.TheVariants.{InFlight}
 use Rattle.iom_judge.specs.declared.doubts.Flight.{Flight}
-use Rattle.iom_judge.specs.declared.known.Known.{Known}
 use Rattle.iom_judge.proofs.FlightCommits.{with_oldest, commit_flies}
 use Rattle.iom_judge.proofs.FlightLemmas.{fewer_fly}
 use Rattle.iom_judge.proofs.FlightSteps.{Led}
 use Rattle.iom_judge.proofs.FollowSteps.{explained_leaves, followed_by_fewer}
-use Rattle.iom_judge.proofs.StayLemmas.{allowed_by_ids, same_ids}
 
 -- a device that is replaced by itself
 replaced_same : (devices : List Device) (id : ℕ) (device : Device) → find (λ (d : Device). d.id == id) devices ≡ Some device → replaced_device devices id device ≡ devices

@@ -10,17 +10,18 @@ use Rattle.iom_machine.specs.declared.outcome.Outcome.TheVariants.{Confirmed}
 use Rattle.iom_machine.specs.declared.state.Frame.{Frame}
 use Rattle.iom_machine.specs.declared.state.State.{State}
 use Rattle.iom_machine.proofs.InFlightLemmas.{All-at}
-use Rattle.iom_judge.specs.Allowed.{Past, IsTrueOf, state_of}
+use Rattle.iom_known.specs.Allowed.{Past, IsTrueOf, state_of}
+use Rattle.iom_known.specs.Leaves.{ConfirmsNext, past_confirmed}
+use Rattle.iom_known.specs.Reached.{CanReach}
+use Rattle.iom_known.specs.Steps.{IsLedBack}
+use Rattle.iom_known.specs.declared.known.Known.{Known}
+use Rattle.iom_known.proofs.PollSteps.{poll_explained}
 use Rattle.iom_judge.specs.Followed.{IsFollowed, StepsBy}
-use Rattle.iom_judge.specs.Leaves.{ConfirmsNext, past_confirmed}
-use Rattle.iom_judge.specs.Reached.{CanReach, IsAllReached}
-use Rattle.iom_judge.specs.Steps.{IsLedBack}
+use Rattle.iom_judge.specs.Doubted.{IsAllReached}
 use Rattle.iom_judge.specs.declared.doubts.Doubt.{Doubt}
 use Rattle.iom_judge.specs.declared.doubts.Doubt.TheVariants.{InFlight}
 use Rattle.iom_judge.specs.declared.doubts.Flight.{Flight}
-use Rattle.iom_judge.specs.declared.known.Known.{Known}
 use Rattle.iom_judge.proofs.FlightPolls.{DoubtsMay, all_flights_may, poll_flies}
-use Rattle.iom_judge.proofs.PollSteps.{poll_explained}
 
 reached_may : (known : Known) (doubts : List Doubt) (past : Past) → IsTrueOf known past → All (IsAllReached known) doubts → DoubtsMay doubts past.history
 reached_may known doubts past is all = λ place doubt at k frame among.

@@ -18,17 +18,17 @@ use Rattle.iom_machine.specs.declared.outcome.Outcome.TheVariants.{Accepted}
 use Rattle.iom_machine.specs.declared.state.Frame.{Frame}
 use Rattle.iom_machine.specs.declared.state.State.{State}
 use Rattle.iom_machine.proofs.InFlightLemmas.{All-at, found_device}
-use Rattle.iom_judge.specs.Allowed.{Past, IsTrueOf, state_of}
-use Rattle.iom_judge.specs.Asked.{event_asking, asked_access, IsAskedBy}
+use Rattle.iom_known.specs.Allowed.{Past, IsTrueOf, state_of}
+use Rattle.iom_known.specs.Asked.{event_asking, asked_access, IsAskedBy}
+use Rattle.iom_known.specs.Steps.{IsExplained}
+use Rattle.iom_known.specs.declared.known.Known.{Known}
+use Rattle.iom_known.specs.declared.way.Way.{Way}
+use Rattle.iom_known.specs.declared.way.Way.TheVariants.{Untranslated, Forged, Cached}
 use Rattle.iom_judge.specs.Doubted.{AddsRequest, IsNotAbout, IsOfRequest, MayBe, MayFly, flown, is_through_cache}
 use Rattle.iom_judge.specs.Followed.{IsFollowed, StepsBy}
-use Rattle.iom_judge.specs.Steps.{IsExplained}
 use Rattle.iom_judge.specs.declared.doubts.Doubt.{Doubt}
 use Rattle.iom_judge.specs.declared.doubts.Doubt.TheVariants.{InFlight}
 use Rattle.iom_judge.specs.declared.doubts.Flight.{Flight}
-use Rattle.iom_judge.specs.declared.known.Known.{Known}
-use Rattle.iom_judge.specs.declared.way.Way.{Way}
-use Rattle.iom_judge.specs.declared.way.Way.TheVariants.{Untranslated, Forged, Cached}
 use Rattle.iom_judge.proofs.FlightAccepts.{DoubtsOnly}
 use Rattle.iom_judge.proofs.FlightRequests.{IsDoubtedSo, OfDevice, able_to, request_flies, cached_request_flies}
 use Rattle.iom_judge.proofs.FlightSteps.{Led}

@@ -9,16 +9,16 @@ use Rattle.iom_machine.specs.declared.state.State.{State}
 use Rattle.iom_machine.specs.Machine.{Run, Step}
 use Rattle.iom_machine.proofs.InFlightLemmas.{All-at}
 use Rattle.iom_script.specs.declared.script.WorldSize.{WorldSize}
-use Rattle.iom_judge.specs.Allowed.{Past, IsTrueOf, ids_of, state_of}
+use Rattle.iom_known.specs.Allowed.{Past, IsTrueOf, ids_of, state_of}
+use Rattle.iom_known.specs.Steps.{IsExplained}
+use Rattle.iom_known.specs.declared.known.Known.{Known}
 use Rattle.iom_judge.specs.Certificates.{opening_of}
 use Rattle.iom_judge.specs.Certified.{IsCertified}
 use Rattle.iom_judge.specs.Doubted.{AreAmong, IsOfNoRequest, MayBe, MayEachBe, MayFly, with_flights, flown}
 use Rattle.iom_judge.specs.Followed.{IsFollowed, IsCertifiedWith, LeavesFlights, StepsBy}
-use Rattle.iom_judge.specs.Steps.{IsExplained}
 use Rattle.iom_judge.specs.declared.doubts.Doubt.{Doubt}
 use Rattle.iom_judge.specs.declared.doubts.Doubt.TheVariants.{InFlight}
 use Rattle.iom_judge.specs.declared.doubts.Flight.{Flight}
-use Rattle.iom_judge.specs.declared.known.Known.{Known}
 use Rattle.iom_judge.proofs.FlightAccepts.{HaveOwnIds}
 use Rattle.iom_judge.proofs.FlightActs.{step_flies}
 use Rattle.iom_judge.proofs.FlightLemmas.{fewer_fly}

@@ -1,6 +1,6 @@
 -- Which states a belief allows where it isn't known on which frame an access in flight is: each such access may be on any of its frames, whatever the
 -- others are on.
-use Rattle.std.specs.Prelude.{◌≡◌, ◌==◌, ◌⊎◌, ℕ, ◌-◌, Bool, true, false, List, [], ◌∷◌, ◌++◌, length, find, slice_get, None, Some, ⊤}
+use Rattle.std.specs.Prelude.{◌≡◌, ◌==◌, ◌⊎◌, ℕ, ◌-◌, Bool, true, false, List, [], ◌∷◌, ◌++◌, All, length, find, slice_get, None, Some, ⊤}
 use Rattle.iom_base.specs.declared.access.Access.{Access}
 use Rattle.iom_base.specs.declared.access.AcceptedAccess.{AcceptedAccess}
 use Rattle.iom_machine.specs.Requests.{MayAccept}
@@ -8,13 +8,14 @@ use Rattle.iom_machine.specs.ThroughCache.{MayGoThrough, at_frame}
 use Rattle.iom_machine.specs.declared.state.Device.{Device}
 use Rattle.iom_machine.specs.declared.state.Frame.{Frame}
 use Rattle.iom_machine.specs.declared.state.State.{State}
-use Rattle.iom_judge.specs.Allowed.{Past, IsTrueOf, state_of}
+use Rattle.iom_known.specs.Allowed.{Past, IsTrueOf, state_of}
+use Rattle.iom_known.specs.Reached.{CanReach}
+use Rattle.iom_known.specs.declared.known.Known.{Known}
+use Rattle.iom_known.specs.declared.way.Way.{Way}
+use Rattle.iom_known.specs.declared.way.Way.TheVariants.{Untranslated, Forged, Cached}
 use Rattle.iom_judge.specs.declared.doubts.Doubt.{Doubt}
 use Rattle.iom_judge.specs.declared.doubts.Doubt.TheVariants.{InFlight, Written}
 use Rattle.iom_judge.specs.declared.doubts.Flight.{Flight}
-use Rattle.iom_judge.specs.declared.known.Known.{Known}
-use Rattle.iom_judge.specs.declared.way.Way.{Way}
-use Rattle.iom_judge.specs.declared.way.Way.TheVariants.{Untranslated, Forged, Cached}
 
 -- the access, where it is on this frame; one that went through a cache is at its physical address there
 abbrev pub on_frame : Bool → ℕ → AcceptedAccess → AcceptedAccess
@@ -95,3 +96,8 @@ with_flights (flights ∷ others) (device ∷ devices) = record device { in_flig
 -- the state, where its devices have these accesses in flight
 abbrev pub flown : List (List AcceptedAccess) → State → State
 flown flights state = record state { devices = with_flights flights state.devices }
+
+-- each of the frames of the doubt may be reached, if the access is in flight
+abbrev pub IsAllReached : Known → Doubt → Type 0
+IsAllReached known (InFlight doubt) = All (CanReach known doubt.device doubt.kind) doubt.frames.items
+IsAllReached known (Written made) = ⊤

@@ -11,12 +11,12 @@ use Rattle.iom_machine.specs.declared.state.Frame.{Frame}
 use Rattle.iom_machine.specs.declared.state.State.{State}
 use Rattle.iom_machine.specs.Machine.{Run, Step}
 use Rattle.iom_script.specs.declared.script.WorldSize.{WorldSize}
-use Rattle.iom_judge.specs.Allowed.{Past, IsTrueOf, AreAllowed, state_of}
+use Rattle.iom_known.specs.Allowed.{Past, IsTrueOf, AreAllowed, state_of}
+use Rattle.iom_known.specs.declared.known.Known.{Known}
 use Rattle.iom_judge.specs.Certificates.{opening_of}
 use Rattle.iom_judge.specs.Doubted.{MayBe, MayFly, flown, on_frame}
 use Rattle.iom_judge.specs.declared.belief.Belief.{Belief}
 use Rattle.iom_judge.specs.declared.doubts.Doubt.{Doubt}
-use Rattle.iom_judge.specs.declared.known.Known.{Known}
 
 -- a state that was allowed before, with these doubts, from which such a step leads to the new one
 pub record CameFromOne (old : Known) (doubts : List Doubt) (past : Past) (IsStep : State → State → Type 0) (new : State) : Type 0 where

@@ -1,15 +1,4 @@
-pub mod Allowed
-pub mod Asked
 pub mod Certificates
 pub mod Certified
-pub mod Contents
 pub mod Doubted
 pub mod Followed
-pub mod Leaves
-pub mod Lines
-pub mod Owners
-pub mod Reached
-pub mod Reasons
-pub mod Starts
-pub mod Steps
-pub mod TraceLines

@@ -5,18 +5,17 @@ ghost use Rattle.iom_machine.specs.Requests.{MayAccept};
 ghost use Rattle.iom_machine.specs.ThroughCache.{MayGoThrough};
 ghost use Rattle.iom_machine.specs.declared.state.Device.{Device};
 ghost use Rattle.iom_machine.specs.declared.state.Frame.{Frame};
-ghost use Rattle.iom_judge.specs.Allowed.{Past, IsTrueOf, state_of};
-ghost use Rattle.iom_judge.specs.Doubted.{IsNotAbout, IsOfNoRequest, IsOfRequest, is_through_cache};
-ghost use Rattle.iom_judge.specs.Reached.{AreServed, CanReach, HasBothStages, IsAllReached};
+ghost use Rattle.iom_known.specs.Allowed.{Past, IsTrueOf, state_of};
+ghost use Rattle.iom_known.specs.Reached.{AreServed, CanReach, HasBothStages};
+ghost use Rattle.iom_judge.specs.Doubted.{IsAllReached, IsNotAbout, IsOfNoRequest, IsOfRequest, is_through_cache};
 
-use crate::asked::Asked;
-use crate::devices::place_of;
-use crate::known::Known;
-use crate::reach::may;
-use crate::reached::{frames_open_to, marks_of};
 use crate::unseen::UnseenWrite;
-use crate::way::Way;
 use iom_base::{Access, AccessKind, DeviceId, Mode, PAGE_SIZE};
+use iom_known::asked::Asked;
+use iom_known::devices::place_of;
+use iom_known::reach::may;
+use iom_known::reached::{frames_open_to, marks_of};
+use iom_known::{Known, Way};
 use iom_machine::{Attachment, Device};
 use std::alloc::{AllocError, Global};
 
@@ -277,8 +276,7 @@ fn is_over(doubt: &Doubt) -> bool {
 
 impl Doubts {
     ghost use Rattle.std.specs.Prelude.{◌≡◌, ◌↔◌, ◌⊎◌, ◌++◌, ◌∷◌, [], All, IsTrue, OnOk};
-    ghost use Rattle.iom_judge.specs.Doubted.{AreAmong, IsNotAbout, IsOfNoRequest};
-    ghost use Rattle.iom_judge.specs.Reached.{IsAllReached};
+    ghost use Rattle.iom_judge.specs.Doubted.{AreAmong, IsAllReached, IsNotAbout, IsOfNoRequest};
     ghost use Rattle.iom_judge.specs.declared.doubts.Doubt.TheVariants.{InFlight};
 
     pub(crate) fn new(alloc: Global) -> Doubts

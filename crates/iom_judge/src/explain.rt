@@ -1,20 +1,20 @@
 // Why a line isn't lawful, in words: what the machine knows of the place, and which answers could have come.
 use crate::belief::Belief;
-use crate::devices::device_with;
 use crate::doubts::{frame_at, possible_frames};
 use crate::messages::Sent;
-use crate::outcomes::CAUSES;
-use crate::owners::{is_unreached, may_be_nobodys, may_be_somebodys};
-use crate::reasons::{
+use crate::subject::Subject;
+use crate::words::Words;
+use iom_base::{Access, AccessKind, DeviceId, MAX_IN_FLIGHT, PAGE_SIZE, Sequence, Span};
+use iom_known::Way;
+use iom_known::devices::device_with;
+use iom_known::owners::{is_unreached, may_be_nobodys, may_be_somebodys};
+use iom_known::reasons::{
     attach_refusal, detach_refusal, early_grant_refusal, late_grant_refusal, plug_refusal,
     quarantine_refusal, release_refusal, revive_refusal,
 };
-use crate::subject::Subject;
-use crate::way::Way;
-use crate::words::Words;
-use iom_base::{Access, AccessKind, DeviceId, MAX_IN_FLIGHT, PAGE_SIZE, Sequence, Span};
 use iom_ledger::Refusal;
 use iom_machine::{Attachment, Device};
+use iom_trace_lines::CAUSES;
 use std::alloc::{AllocError, Global};
 
 /// Says how the device is attached.

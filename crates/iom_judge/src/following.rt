@@ -7,9 +7,9 @@ ghost use Rattle.iom_judge.specs.Doubted.{on_frame};
 ghost use Rattle.iom_judge.specs.Followed.{IsCommitOf, LeavesFlights};
 
 use crate::belief::{Belief, has_other};
-use crate::devices::place_of;
 use crate::doubts::Doubt;
 use iom_base::{AcceptedAccess, DeviceId, PAGE_SIZE, Sequence};
+use iom_known::devices::place_of;
 use iom_machine::{Device, Event, Outcome};
 
 /// Whether this outcome leaves all in flight as it is.

@@ -1,19 +1,18 @@
 // A trace, judged line by line.
 ghost use Rattle.std.specs.Prelude.{◌≡◌, ◌++◌, ◌∷◌, [], ℕ, List, Option, None, IfOk, IfSome, IsSomeAnd, IsTrue, MatchOption, false, true};
 ghost use Rattle.iom_script.specs.Grammar.{is_spoken};
-ghost use Rattle.iom_judge.specs.Allowed.{Past, IsTrueOf};
+ghost use Rattle.iom_known.specs.Allowed.{Past, IsTrueOf};
+ghost use Rattle.iom_known.specs.Starts.{IsPowerOn, SomeAreAllowed};
+ghost use Rattle.iom_trace_lines.specs.Taken.{AreLines};
 ghost use Rattle.iom_judge.specs.Certificates.{four_disks, is_lawful, IsLawfulTrace, SaysStep};
-ghost use Rattle.iom_judge.specs.Certified.{AreLines, CertifyIf, GoesOn, HasJudged};
-ghost use Rattle.iom_judge.specs.Starts.{IsPowerOn, SomeAreAllowed};
+ghost use Rattle.iom_judge.specs.Certified.{CertifyIf, GoesOn, HasJudged};
 
 use crate::belief::{Belief, Shown};
-use crate::line::read_line;
-use crate::reading::Lines;
 use crate::subject::Subject;
-use crate::trace::{NextLine, TraceLine};
 use crate::verdict::Verdict;
 use iom_machine::{Event, Outcome};
 use iom_script::{LineBuffer, WorldSize};
+use iom_trace_lines::{Lines, NextLine, TraceLine, read_line};
 use std::alloc::Global;
 use std::io::{self, ErrorKind, Read};
 

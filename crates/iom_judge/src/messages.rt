@@ -7,13 +7,6 @@ use std::alloc::{AllocError, Global};
 /// So many messages are under way at most; one more is lost.
 const MOST_MESSAGES: usize = 64;
 
-/// A device asks for the translation of a page.
-#[derive(Clone, Copy)]
-pub struct Question {
-    pub(crate) device: DeviceId,
-    pub(crate) page: u64,
-}
-
 /// A question under way.
 #[derive(Clone, Copy)]
 pub(crate) struct Sent {

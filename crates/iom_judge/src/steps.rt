@@ -1,21 +1,19 @@
 // Steps of block devices, of which a line shows no more than what came of them.
 ghost use Rattle.std.specs.Prelude.{IsTrue, IfOk};
 ghost use Rattle.iom_machine.specs.declared.event.Event.TheVariants as events;
-ghost use Rattle.iom_judge.specs.Allowed.{Past, IsTrueOf};
-ghost use Rattle.iom_judge.specs.Steps.{IsExplained};
+ghost use Rattle.iom_known.specs.Allowed.{Past, IsTrueOf};
+ghost use Rattle.iom_known.specs.Steps.{IsExplained};
 
 use crate::belief::{Belief, has_other};
-use crate::contents::store;
-use crate::devices::device_with;
 use crate::doubts::{Flight, is_through_cache};
-use crate::frames::BelievedFrame;
-use crate::in_flight::drop_oldest;
-use crate::known::Known;
-use crate::messages::{Question, Sent};
-use crate::reached::{frames_open_to, page_with};
+use crate::messages::Sent;
 use crate::unseen::Run;
-use crate::way::Way;
 use iom_base::{Access, AccessKind, Cause, DeviceId, PAGE_LIMIT, PAGE_SIZE, Sequence};
+use iom_known::contents::store;
+use iom_known::devices::device_with;
+use iom_known::in_flight::drop_oldest;
+use iom_known::reached::{frames_open_to, page_with};
+use iom_known::{BelievedFrame, Known, Question, Way};
 use iom_machine::{BlockStep, Event, Outcome};
 use memchr::memchr_iter;
 use std::alloc::{AllocError, Global};
@@ -127,9 +125,9 @@ impl Belief {
     ghost use Rattle.std.specs.Prelude.{◌≡◌, IsTrue, IfOk};
     ghost use Rattle.iom_machine.specs.declared.event.Event.TheVariants as events;
     ghost use Rattle.iom_machine.specs.declared.outcome.Outcome.TheVariants as outcomes;
-    ghost use Rattle.iom_judge.specs.Allowed.{Past, IsTrueOf};
+    ghost use Rattle.iom_known.specs.Allowed.{Past, IsTrueOf};
+    ghost use Rattle.iom_known.specs.Steps.{IsExplained};
     ghost use Rattle.iom_judge.specs.Followed.{LeavesFlights};
-    ghost use Rattle.iom_judge.specs.Steps.{IsExplained};
 
     /// A step. Where it begins an access that is accepted, this is any that may be, and in doubt.
     pub(crate) fn take_step(

@@ -1,5 +1,5 @@
-use crate::way::Way;
 use iom_base::{AccessKind, DeviceId, PAGE_SIZE};
+use iom_known::Way;
 use iom_machine::{Event, NewDevice};
 
 /// What a line is about, for the words of a reason.

@@ -5,9 +5,9 @@
 // line showed or wrote since. The others may have been it as well: so from then on no line is refused for the bytes that
 // it shows.
 use crate::doubts::{Doubt, Doubts};
-use crate::known::Known;
-use crate::owners::may_be_somebodys;
 use iom_base::PAGE_SIZE;
+use iom_known::Known;
+use iom_known::owners::may_be_somebodys;
 use std::alloc::{AllocError, Global};
 
 /// So many such writes are kept at most. An older one is believed to have changed nothing.

@@ -1,8 +1,8 @@
 // What memory may hold, where a write was made on one of several frames: some versions of it, each of them what is
 // believed of the frames' bytes with a few patches on it.
-use crate::contents::{shows, store};
-use crate::known::Known;
-use crate::owners::may_be_nobodys;
+use iom_known::Known;
+use iom_known::contents::{shows, store};
+use iom_known::owners::may_be_nobodys;
 use std::alloc::{AllocError, Global};
 
 /// So many versions are kept at most.

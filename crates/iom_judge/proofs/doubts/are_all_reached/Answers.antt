@@ -1,7 +1,7 @@
 use Rattle.std.proofs.Common.{◌≡◌, All, take, subst, arith}
 use Rattle.std.proofs.lemmas.Grind.{common_steps}
 use Rattle.std.proofs.lemmas.List.Elements.{All-more}
-use Rattle.iom_judge.specs.Reached.{IsAllReached}
+use Rattle.iom_judge.specs.Doubted.{IsAllReached}
 use Rattle.iom_judge.proofs.doubts.are_all_reached.Goals as goal
 
 pub loop-doubt-preserved : goal.loop-doubt-preserved

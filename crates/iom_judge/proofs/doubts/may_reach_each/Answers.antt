@@ -1,7 +1,7 @@
 use Rattle.std.proofs.Common.{◌≡◌, All, take, subst, arith}
 use Rattle.std.proofs.lemmas.Grind.{common_steps}
 use Rattle.std.proofs.lemmas.List.Elements.{All-more}
-use Rattle.iom_judge.specs.Reached.{CanReach}
+use Rattle.iom_known.specs.Reached.{CanReach}
 use Rattle.iom_judge.proofs.doubts.may_reach_each.Goals as goal
 
 pub loop-frame-preserved : goal.loop-frame-preserved

@@ -1,5 +1,5 @@
 use Rattle.std.proofs.Common.{All, take}
-use Rattle.iom_judge.specs.Reached.{CanReach}
+use Rattle.iom_known.specs.Reached.{CanReach}
 use Rattle.iom_judge.proofs.doubts.may_reach_each.Given as goal
 
 abbrev pub invariant-loop-frame : goal.invariant-loop-frame

@@ -1,7 +1,7 @@
 use Rattle.std.proofs.Common.{◌∙◌, sym}
 use Rattle.iom_machine.proofs.InFlightLemmas.{found_device}
 use Rattle.iom_machine.proofs.StepLemmas.{read_again}
-use Rattle.iom_judge.proofs.ReachedLemmas.{accepted_there, ok_weaker}
+use Rattle.iom_known.proofs.ReachedLemmas.{accepted_there, ok_weaker}
 use Rattle.iom_judge.proofs.doubts.possible_frames.Goals as goal
 
 pub returns : goal.returns

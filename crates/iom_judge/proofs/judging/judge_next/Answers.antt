@@ -1,7 +1,7 @@
 use Rattle.std.proofs.Common.{◌≡◌, subst}
 use Rattle.std.specs.List.{slice_range}
-use Rattle.iom_judge.specs.Certified.{TakesNext}
-use Rattle.iom_judge.specs.declared.trace.NextLine.{NextLine}
+use Rattle.iom_trace_lines.specs.Taken.{TakesNext}
+use Rattle.iom_trace_lines.specs.declared.trace.NextLine.{NextLine}
 use Rattle.iom_judge.proofs.CertificateLemmas.{line_judged, of_reader}
 use Rattle.iom_judge.proofs.judging.judge_next.Goals as goal
 

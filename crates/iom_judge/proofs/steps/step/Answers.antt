@@ -1,10 +1,10 @@
 use Rattle.std.proofs.Common.{IsTrue}
 use Rattle.iom_machine.specs.Machine.{Steps}
 use Rattle.iom_machine.specs.declared.event.Event.TheVariants as events
-use Rattle.iom_judge.specs.Allowed.{Past, IsTrueOf}
-use Rattle.iom_judge.specs.Steps.{IsLedBack, IsExplained}
-use Rattle.iom_judge.proofs.AskedSteps.{if_ok_as}
-use Rattle.iom_judge.proofs.BlockSteps.{stepped_explained}
+use Rattle.iom_known.specs.Allowed.{Past, IsTrueOf}
+use Rattle.iom_known.specs.Steps.{IsLedBack, IsExplained}
+use Rattle.iom_known.proofs.AskedSteps.{if_ok_as}
+use Rattle.iom_known.proofs.BlockSteps.{stepped_explained}
 use Rattle.iom_judge.proofs.steps.step.Goals as goal
 
 pub returns : goal.returns

@@ -1,4 +1,4 @@
-use Rattle.iom_judge.proofs.AskedSteps.{if_ok_as}
+use Rattle.iom_known.proofs.AskedSteps.{if_ok_as}
 use Rattle.iom_judge.proofs.FollowCommits.{ready_follows}
 use Rattle.iom_judge.proofs.FollowSteps.{explained_then_settled, none_of_none}
 use Rattle.iom_judge.proofs.belief.Belief.act.Goals as goal

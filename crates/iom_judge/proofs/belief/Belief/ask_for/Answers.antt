@@ -1,5 +1,5 @@
 use Rattle.std.proofs.Common.{inl, refl}
-use Rattle.iom_judge.proofs.AskedSteps.{if_ok_as}
+use Rattle.iom_known.proofs.AskedSteps.{if_ok_as}
 use Rattle.iom_judge.proofs.FollowRequests.{adds_request, asked_follows}
 use Rattle.iom_judge.proofs.FollowSteps.{explained_leaves}
 use Rattle.iom_judge.proofs.belief.Belief.ask_for.Goals as goal

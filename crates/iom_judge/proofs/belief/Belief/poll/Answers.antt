@@ -1,8 +1,8 @@
 use Rattle.std.proofs.Common.{sym, subst}
 use Rattle.iom_machine.specs.declared.event.Event.TheVariants as events
 use Rattle.iom_machine.specs.declared.outcome.Outcome.{Outcome}
+use Rattle.iom_known.specs.Leaves.{past_confirmed}
 use Rattle.iom_judge.specs.Followed.{IsFollowed, StepsBy}
-use Rattle.iom_judge.specs.Leaves.{past_confirmed}
 use Rattle.iom_judge.proofs.FollowPolls.{poll_follows}
 use Rattle.iom_judge.proofs.FollowSteps.{explained_leaves}
 use Rattle.iom_judge.proofs.belief.Belief.poll.Goals as goal

@@ -1,7 +1,7 @@
 use Rattle.std.proofs.Common.{◌≢◌, subst}
-use Rattle.iom_judge.specs.TraceLines.{SaysLine}
-use Rattle.iom_judge.specs.declared.trace.TraceLine.{TraceLine}
-use Rattle.iom_judge.specs.declared.trace.TraceLine.TheVariants as says
+use Rattle.iom_trace_lines.specs.TraceLines.{SaysLine}
+use Rattle.iom_trace_lines.specs.declared.trace.TraceLine.{TraceLine}
+use Rattle.iom_trace_lines.specs.declared.trace.TraceLine.TheVariants as says
 use Rattle.iom_judge.proofs.CertificateLemmas.{world_said, step_said, if_it_goes_on, not_nothing}
 use Rattle.iom_judge.proofs.judging.Judge.take.Goals as goal
 

@@ -1,0 +1,23 @@
+-- What is believed at power-on: the machine's state then, and no other.
+use Rattle.std.specs.Prelude.{◌≡◌, ℕ, List, [], None}
+use Rattle.iom_machine.specs.PowerOn.{opening}
+use Rattle.iom_machine.specs.declared.state.Frame.{Frame}
+use Rattle.iom_known.specs.Allowed.{Past, IsTrueOf, AreAllowed, state_of}
+use Rattle.iom_known.specs.declared.frames.BelievedFrame.{BelievedFrame}
+use Rattle.iom_known.specs.declared.known.Known.{Known}
+
+-- a frame of zeros that has these possible owners
+abbrev pub frame_of_zeros : ℕ → BelievedFrame
+frame_of_zeros owners = record { owners = owners; bytes = []; other = None }
+
+-- There is a past with no entry that is true of it, and with that the one state that is allowed is the machine's at power-on.
+pub record IsPowerOn (known : Known) (frames levels : ℕ) (disks : List ℕ) : Type 0 where
+  pub past : Past
+  pub starts : past.history ≡ []
+  pub is_true : IsTrueOf known past
+  pub is_allowed : AreAllowed known past (opening frames levels disks).frames
+  pub is_opening : (all : List Frame) → AreAllowed known past all → state_of known past.history all ≡ opening frames levels disks
+
+-- some frames are allowed
+abbrev pub SomeAreAllowed : Known → Past → Type 0
+SomeAreAllowed known past = (frames : List Frame) × AreAllowed known past frames

@@ -1,0 +1,142 @@
+// The frames that a device may reach, each once, in one pass over its pages.
+ghost use Rattle.std.specs.Prelude.{◌≡◌, ◌⊎◌, true, ℕ, IfOk, IfSome, IsTrue, OnOk};
+ghost use Rattle.iom_base.specs.declared.access.AccessKind.{AccessKind};
+ghost use Rattle.iom_ledger.specs.History.{Holds, Lingers};
+ghost use Rattle.iom_known.specs.Allowed.{Past, IsTrueOf};
+ghost use Rattle.iom_known.specs.Reached.{IsReached, AreReached, IsServed, AreServed};
+
+use crate::known::Known;
+use iom_base::{AccessKind, DeviceId, Rights};
+use iom_machine::{Attachment, Device};
+use std::alloc::{AllocError, Global};
+
+/// Frames that are marked.
+#[derive(Drop)]
+pub struct Marks {
+    are_marked: Vec<bool>,
+}
+
+impl Marks {
+    fn new(alloc: Global, count: usize) -> Result<Marks, AllocError> {
+        let mut are_marked = Vec::new(alloc);
+        are_marked.resize(count, false)?;
+        Ok(Marks { are_marked })
+    }
+
+    pub fn has(&self, frame: u32) -> bool {
+        self.are_marked
+            .get(frame as usize)
+            .copied()
+            .unwrap_or(false)
+    }
+
+    /// Marks the frame. False where it was marked before.
+    fn mark(&mut self, frame: u32) -> bool {
+        match self.are_marked.get_mut(frame as usize) {
+            None => false,
+            Some(mark) => {
+                let is_new = !*mark;
+                *mark = true;
+                is_new
+            }
+        }
+    }
+}
+
+/// What lingers for the device at the page, or, where that counts, what it holds there.
+fn pair_at(known: &Known, id: DeviceId, page: u64, with_held: bool) -> Option<(u32, Rights)>
+    ensures { IfSome result (λ pair. (past : Past) → IsTrueOf known.now past
+        → ((with_held ≡ true) × Holds past.history id page pair) ⊎ Lingers past.history id page pair) }
+{
+    if with_held {
+        if let Some(pair) = known.ledger.holds(id, page) {
+            return Some(pair);
+        }
+    }
+    known.ledger.lingers(id, page)
+}
+
+/// Marks the frames that the device may reach by an access of this kind, and lists them.
+fn list_reached(
+    known: &Known,
+    id: DeviceId,
+    kind: AccessKind,
+    with_held: bool,
+    marks: &mut Marks,
+    frames: &mut Vec<u32>,
+) -> Result<(), AllocError>
+    ensures { OnOk result (AreReached with_held known.now id kind frames.old.items → AreReached with_held known.now id kind frames.new.items) }
+{
+    for index in 0..known.ledger.page_count(id) {
+        let Some(page) = known.ledger.page_at(id, index) else {
+            return Ok(());
+        };
+        if let Some((frame, rights)) = pair_at(known, id, page, with_held) {
+            if rights.allows(kind) && marks.mark(frame) {
+                frames.push(frame)?;
+            }
+        }
+    }
+    Ok(())
+}
+
+/// The frames that the device may reach by an access of this kind, which it holds or which linger.
+pub fn marks_of(
+    alloc: Global,
+    known: &Known,
+    id: DeviceId,
+    kind: AccessKind,
+) -> Result<Marks, AllocError> {
+    let mut marks = Marks::new(alloc, known.frames.as_slice().len())?;
+    let mut frames = Vec::new(alloc);
+    list_reached(known, id, kind, true, &mut marks, &mut frames)?;
+    Ok(marks)
+}
+
+/// Whether a request of a device that is attached so may be served, and if so, whether by what it holds too.
+fn serves_held(known: &Known, attachment: Attachment) -> Option<bool>
+    ensures { IfSome result (λ with_held. (id : ℕ) (kind : AccessKind) (frame : ℕ) (past : Past) → IsTrueOf known.now past
+        → IsReached with_held past.history id kind frame → IsServed attachment past.history id kind frame) }
+{
+    match attachment {
+        Attachment::Detached => None,
+        Attachment::Attached { .. } => Some(true),
+        Attachment::Quarantined { ticket, .. } | Attachment::Leaving { ticket, .. } => {
+            if known.is_confirmed(ticket) {
+                None
+            } else {
+                Some(false)
+            }
+        }
+    }
+}
+
+/// The frames on which a request of this kind may be accepted, at some address.
+pub fn frames_open_to(
+    alloc: Global,
+    known: &Known,
+    device: &Device,
+    kind: AccessKind,
+) -> Result<Vec<u32>, AllocError>
+    ensures { IfOk result (λ frames. AreServed device.now.attachment known.now device.now.id kind frames.items) }
+{
+    let mut frames = Vec::new(alloc);
+    if let Some(with_held) = serves_held(known, device.attachment) {
+        let mut marks = Marks::new(alloc, known.frames.as_slice().len())?;
+        list_reached(known, device.id, kind, with_held, &mut marks, &mut frames)?;
+    }
+    Ok(frames)
+}
+
+/// A page at which the device holds the frame, or at which that lingers.
+pub fn page_with(known: &Known, id: DeviceId, frame: u32) -> Option<u64> {
+    for index in 0..known.ledger.page_count(id) {
+        let page = known.ledger.page_at(id, index)?;
+        if let Some((on, _)) = pair_at(known, id, page, true) {
+            if on == frame {
+                return Some(page);
+            }
+        }
+    }
+    None
+}

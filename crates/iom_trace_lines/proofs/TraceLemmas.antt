@@ -1,0 +1,79 @@
+-- Lines of a trace, put together of what was read of them.
+use Rattle.std.proofs.Common.{◌≡◌, ◌∙◌, ◌^◌, ◌<◌, ℕ, Bool, true, false, List, [], ◌∷◌, ◌++◌, length, get_or, Option, None, Some, MatchOption, inl, inr, refl, sym, ap, append-nil, append_assoc, arith}
+use Rattle.std.specs.Prelude.{codes, ⊤}
+use Rattle.std.specs.Borrow.{Bor}
+use Rattle.std.specs.Fmt.{decimal}
+use Rattle.std.specs.Str.Parse.{AllDigits, digits_value}
+use Rattle.std.proofs.lemmas.Bool.{false≢true}
+use Rattle.std.proofs.lemmas.Fmt.{decimal-digits_value}
+use Rattle.std.proofs.lemmas.List.{flat_map_more}
+use Rattle.std.proofs.lemmas.Str.Parse.{IsNumeralModel, numerals_by_value, tells_digits}
+use Rattle.iom_machine.specs.declared.event.Event.{Event}
+use Rattle.iom_machine.specs.declared.event.Event.TheVariants as events
+use Rattle.iom_machine.specs.declared.outcome.Outcome.{Outcome}
+use Rattle.iom_machine.specs.declared.outcome.Outcome.TheVariants as outcomes
+use Rattle.iom_script.specs.Grammar.{IsEventLine}
+use Rattle.iom_script.specs.Lines.{line_of}
+use Rattle.iom_script.specs.Words.{◌␣◌, IsNumber}
+use Rattle.iom_trace_lines.specs.TraceLines.{frames_text, tables_text, on_text, MayShow, SaysLine}
+use Rattle.iom_trace_lines.specs.declared.trace.TraceLine.TheVariants as lines
+
+own : IsNumeralModel (AllDigits 10) (digits_value 10)
+own = numerals_by_value (AllDigits 10) tells_digits
+
+-- digits without leading zeros say their number
+pub digits_say : (text : List ℕ) (number : ℕ) → 0 < length text → (get_or text 0 0 ≡ 48 → length text ≡ 1) → AllDigits 10 text → number ≡ digits_value 10 text → number < 2 ^ 32
+    → IsNumber text number
+digits_say text number some lead digits value fits =
+    (omega (arith, fits), sym (decimal-digits_value own text digits some lead (omega (arith, fits, value))) ∙ ap decimal (sym value))
+
+-- one frame more, with a space before it
+pub frame_more : (text so_far words word behind : List ℕ) (frames : List ℕ) (frame : ℕ) → text ≡ frames_text frames ++ so_far → so_far ≡ codes " " ++ words → words ≡ word ++ behind → IsNumber word frame
+    → text ≡ frames_text (frames ++ frame ∷ []) ++ behind
+frame_more text so_far words word behind frames frame is space cut number =
+    let shown : List ℕ = codes " " ++ decimal frame in
+    let next : so_far ≡ shown ++ behind = space ∙ ap (λ (l : List ℕ). codes " " ++ l) (cut ∙ ap (λ (l : List ℕ). l ++ behind) number.1) in
+    is ∙ ap (λ (l : List ℕ). frames_text frames ++ l) next ∙ sym (append_assoc (frames_text frames) shown behind)
+    ∙ ap (λ (l : List ℕ). l ++ behind) (flat_map_more (λ f. codes " " ++ decimal f) [] frames frame)
+
+-- the tables behind an answer
+pub tables_behind : (behind text frames : List ℕ) → behind ≡ codes "tables" ++ text → text ≡ frames_text frames → codes "; " ++ behind ≡ tables_text true frames ++ on_text None
+tables_behind behind text frames is named =
+    ap (λ (l : List ℕ). codes "; " ++ l) (is ∙ ap (λ (l : List ℕ). codes "tables" ++ l) named) ∙ sym (append-nil (codes "; tables" ++ frames_text frames))
+
+-- the frame behind an answer
+pub on_behind : (behind word frames : List ℕ) (frame : ℕ) → behind ≡ codes "on " ++ word → IsNumber word frame → codes "; " ++ behind ≡ tables_text false frames ++ on_text (Some frame)
+on_behind behind word frames frame is number = ap (λ (l : List ℕ). codes "; " ++ l) (is ∙ ap (λ (l : List ℕ). codes "on " ++ l) number.1)
+
+-- an event with an outcome, and nothing behind
+pub step_alone : (said answered answer : List ℕ) (event : Event) (outcome : Outcome) (tables : List ℕ) → IsEventLine said event → line_of outcome ≡ answer ++ 10 ∷ [] → answered ≡ answer
+    → SaysLine (said ++ codes " => " ++ answered) (lines.Step event outcome false None) tables
+step_alone said answered answer event outcome tables says tells is =
+    inl ((λ shown. absurd (false≢true shown), tt), (said, answer, says, tells, ap (λ (l : List ℕ). said ++ codes " => " ++ l) is ∙ sym (append-nil (said ++ codes " => " ++ answer))))
+
+-- and with something behind
+pub step_behind : (said answered answer behind : List ℕ) (event : Event) (outcome : Outcome) (has_tables : Bool) (on : Option ℕ) (tables : List ℕ) → IsEventLine said event
+    → MayShow event outcome has_tables on
+    → line_of outcome ≡ answer ++ 10 ∷ [] → answered ≡ answer ++ codes "; " ++ behind → codes "; " ++ behind ≡ tables_text has_tables tables ++ on_text on
+    → SaysLine (said ++ codes " => " ++ answered) (lines.Step event outcome has_tables on) tables
+step_behind said answered answer behind event outcome has_tables on tables says may tells is shown =
+    inl (
+      may,
+      (
+        said,
+        answer,
+        says,
+        tells,
+        ap (λ (l : List ℕ). said ++ codes " => " ++ l) (is ∙ append_assoc answer (codes "; ") behind ∙ ap (λ (l : List ℕ). answer ++ l) shown)
+            ∙ sym (append_assoc (said ++ codes " => ") answer (tables_text has_tables tables ++ on_text on)),
+      ),
+    )
+
+-- the claim that a frame is given to somebody else
+pub handoff_says : (line said : List ℕ) (answered : Option (Bor (List ℕ))) (frame : ℕ) (tables : List ℕ)
+    → MatchOption answered (line ≡ said) (λ behind. line ≡ said ++ codes " => " ++ behind.now)
+    → (word : List ℕ) × IsNumber word frame × (said ≡ codes "handoff" ␣ word) → MatchOption answered ⊤ (λ answer. answer.now ≡ codes "ok")
+    → SaysLine line (lines.Step (events.Free frame) (outcomes.Free true) false None) tables
+handoff_says line said None frame tables is (word, number, named) granted = inr (word, frame, number, refl, refl, inl (is ∙ named))
+handoff_says line said (Some answer) frame tables is (word, number, named) granted =
+    inr (word, frame, number, refl, refl, inr (is ∙ ap (λ (l : List ℕ). l ++ codes " => " ++ answer.now) named ∙ ap (λ (l : List ℕ). (codes "handoff" ␣ word) ++ codes " => " ++ l) granted ∙ append_assoc (codes "handoff" ␣ word) (codes " => ") (codes "ok")))

@@ -1,0 +1,265 @@
+// How a line of a trace is read.
+ghost use Rattle.std.specs.Prelude.{◌≡◌, ◌≢◌, ◌↔◌, ◌<◌, ◌++◌, ℕ, List, [], length, slice_index, IfSome, IfOk, IsTrue, MatchOption, None, codes, true, false, ⊤};
+ghost use Rattle.iom_machine.specs.declared.event.Event.TheVariants as events;
+ghost use Rattle.iom_machine.specs.declared.outcome.Outcome.TheVariants as outcomes;
+ghost use Rattle.iom_script.specs.Grammar.{is_spoken};
+ghost use Rattle.iom_script.specs.Words.{◌␣◌, IsNumber};
+ghost use Rattle.iom_trace_lines.specs.declared.trace.TraceLine.TheVariants as lines;
+ghost use Rattle.iom_trace_lines.specs.TraceLines.{frames_text, is_accepted, takes_frames, tables_text, on_text, MayShow, SaysLine};
+
+use crate::outcomes::{read_outcome, without_prefix};
+use crate::trace::{Behind, TraceLine};
+use iom_machine::{Event, Outcome};
+use iom_script::{LineBuffer, event_of, is_spoken, world_of};
+use memchr::{memchr, memchr_iter};
+use std::alloc::{AllocError, Global};
+
+/// What stands before the first separator and behind it; all, and nothing, where there is none.
+fn cut<'a>(text: &'a [u8], separator: &[u8]) -> (&'a [u8], Option<&'a [u8]>)
+    ensures { MatchOption result.1 (text.now ≡ result.0.now) (λ behind. text.now ≡ result.0.now ++ separator.now ++ behind.now) }
+{
+    let Some(first) = separator.first() else {
+        return (text, None);
+    };
+    for place in memchr_iter(*first, text) {
+        let (before, rest) = text.split_at(place.min(text.len()));
+        if let Some(behind) = without_prefix(rest, separator) {
+            return (before, Some(behind));
+        }
+    }
+    (text, None)
+}
+
+/// Whether there is a first digit, and no others behind a zero.
+fn leads_as_number(word: &[u8]) -> bool
+    ensures { IsTrue result → (0 < length word.now) × (slice_index word.now 0 ≡ 48 → length word.now ≡ 1) }
+{
+    match word {
+        [] => false,
+        [_] => true,
+        [first, ..] => *first != b'0',
+    }
+}
+
+/// The frame that the word names, as a number without leading zeros.
+fn frame_of(word: &[u8]) -> Option<u32>
+    ensures { IfSome result (IsNumber word.now) }
+{
+    if !leads_as_number(word) {
+        return None;
+    }
+    let mut number = 0u32;
+    for count in 0..word.len() {
+        let digit = word[count];
+        if !digit.is_ascii_digit() {
+            return None;
+        }
+        number = number
+            .checked_mul(10)?
+            .checked_add(u32::from(digit - b'0'))?;
+    }
+    Some(number)
+}
+
+/// The first word of the text, and the text from the space behind it on.
+fn first_word(text: &[u8]) -> (&[u8], &[u8])
+    ensures { text.now ≡ result.0.now ++ result.1.now }
+{
+    let place = memchr(b' ', text).unwrap_or(text.len());
+    text.split_at(place.min(text.len()))
+}
+
+/// The frames that the text names, with a space before each. False where it names none.
+fn read_frames(text: &[u8], frames: &mut Vec<u32>) -> Result<bool, AllocError>
+    requires { frames.old.items ≡ [] }
+    ensures { IfOk result (λ read. IsTrue read → text.now ≡ frames_text frames.new.items) }
+{
+    let mut rest = text;
+    for _turn in 0..text.len() {
+        if rest.is_empty() {
+            return Ok(true);
+        }
+        let Some(words) = without_prefix(rest, b" ") else {
+            return Ok(false);
+        };
+        let (word, behind) = first_word(words);
+        let Some(frame) = frame_of(word) else {
+            return Ok(false);
+        };
+        frames.push(frame)?;
+        rest = behind;
+    }
+    Ok(false)
+}
+
+/// Whether the event takes frames for tables, where it is done.
+fn takes_frames(event: &Event, outcome: &Outcome) -> bool
+    ensures { result ≡ takes_frames event.now outcome.now }
+{
+    matches!(event, Event::Attach { .. } | Event::Grant { .. }) && matches!(outcome, Outcome::Done)
+}
+
+/// Whether an access is accepted.
+fn is_accepted(outcome: &Outcome) -> bool
+    ensures { result ≡ is_accepted outcome.now }
+{
+    matches!(outcome, Outcome::Accepted(_))
+}
+
+/// Reads what is shown behind an answer: `tables F F ..` behind the `ok` of an attach or a grant, `on F` behind
+/// `accepted N`. None where it is neither.
+fn read_behind(
+    event: &Event,
+    outcome: &Outcome,
+    behind: &[u8],
+    tables: &mut Vec<u32>,
+) -> Result<Option<Behind>, AllocError>
+    requires { tables.old.items ≡ [] }
+    ensures { IfOk result (λ read. IfSome read (λ it. MayShow event.now outcome.now it.has_tables it.on
+        × (codes "; " ++ behind.now ≡ tables_text it.has_tables tables.new.items ++ on_text it.on))) }
+{
+    if let Some(text) = without_prefix(behind, b"tables") {
+        if !takes_frames(event, outcome) || !read_frames(text, tables)? {
+            return Ok(None);
+        }
+        return Ok(Some(Behind {
+            has_tables: true,
+            on: None,
+        }));
+    }
+    let Some(word) = without_prefix(behind, b"on ") else {
+        return Ok(None);
+    };
+    if !is_accepted(outcome) {
+        return Ok(None);
+    }
+    match frame_of(word) {
+        None => Ok(None),
+        Some(frame) => Ok(Some(Behind {
+            has_tables: false,
+            on: Some(frame),
+        })),
+    }
+}
+
+/// The event and the answer of a line, with what is shown behind that.
+fn read_step(
+    alloc: Global,
+    printed: &mut LineBuffer,
+    tables: &mut Vec<u32>,
+    said: &[u8],
+    answered: &[u8],
+) -> Result<TraceLine, AllocError>
+    requires { tables.old.items ≡ [] }
+    ensures { IfOk result (λ read. SaysLine (said.now ++ codes " => " ++ answered.now) read tables.new.items) }
+{
+    let Some(event) = event_of(alloc, said)? else {
+        return Ok(TraceLine::Bad);
+    };
+    let (answer, behind) = cut(answered, b"; ");
+    let Some(outcome) = read_outcome(printed, &event, answer) else {
+        return Ok(TraceLine::Bad);
+    };
+    let Some(behind) = behind else {
+        return Ok(TraceLine::Step {
+            event,
+            outcome,
+            has_tables: false,
+            on: None,
+        });
+    };
+    match read_behind(&event, &outcome, behind, tables)? {
+        None => Ok(TraceLine::Bad),
+        Some(shown) => Ok(TraceLine::Step {
+            event,
+            outcome,
+            has_tables: shown.has_tables,
+            on: shown.on,
+        }),
+    }
+}
+
+fn is_word(text: &[u8], word: &[u8]) -> bool
+    ensures { IsTrue result ↔ (text.now ≡ word.now) }
+{
+    text == word
+}
+
+/// Whether `ok` is answered, or nothing.
+fn is_granted(answered: Option<&[u8]>) -> bool
+    ensures { IsTrue result → MatchOption answered.entry ⊤ (λ answer. answer.now ≡ codes "ok") }
+{
+    match answered {
+        None => true,
+        Some(answer) => is_word(answer, b"ok"),
+    }
+}
+
+/// The frame of which it is said that it is now given to somebody else.
+fn handed_off(said: &[u8]) -> Option<u32>
+    ensures { IfSome result (λ frame. (word : List ℕ) × IsNumber word frame × (said.now ≡ codes "handoff" ␣ word)) }
+{
+    let word = without_prefix(said, b"handoff ")?;
+    frame_of(word)
+}
+
+/// The claim that a frame is now given to somebody else: that it is free.
+fn handoff(frame: u32) -> TraceLine
+    ensures { result ≡ lines.Step (events.Free frame) (outcomes.Free true) false None }
+{
+    TraceLine::Step {
+        event: Event::Free {
+            frame: u64::from(frame),
+        },
+        outcome: Outcome::Free(true),
+        has_tables: false,
+        on: None,
+    }
+}
+
+/// What a line says that should be that of the world.
+fn read_world(said: &[u8], answer: &[u8]) -> TraceLine
+    ensures { (tables : List ℕ) → SaysLine (said.now ++ codes " => " ++ answer.now) result tables }
+{
+    if !is_word(answer, b"ok") {
+        return TraceLine::Bad;
+    }
+    match world_of(said) {
+        None => TraceLine::Bad,
+        Some(size) => TraceLine::World(size),
+    }
+}
+
+/// What the line says, of which the line feed is left out. The first that says something is that of the world.
+pub fn read_line(
+    alloc: Global,
+    printed: &mut LineBuffer,
+    tables: &mut Vec<u32>,
+    has_world: bool,
+    line: &[u8],
+) -> Result<TraceLine, AllocError>
+    ensures says { IfOk result (λ read. SaysLine line.now read tables.new.items) }
+    ensures spoken { IfOk result (λ read. read ≢ lines.Nothing → is_spoken line.now ≡ true) }
+{
+    if !is_spoken(line) {
+        return Ok(TraceLine::Nothing);
+    }
+    tables.clear();
+    let (said, answered) = cut(line, b" => ");
+    if !has_world {
+        let Some(answer) = answered else {
+            return Ok(TraceLine::Bad);
+        };
+        return Ok(read_world(said, answer));
+    }
+    if let Some(frame) = handed_off(said) {
+        if !is_granted(answered) {
+            return Ok(TraceLine::Bad);
+        }
+        return Ok(handoff(frame));
+    }
+    match answered {
+        None => Ok(TraceLine::Bad),
+        Some(answered) => read_step(alloc, printed, tables, said, answered),
+    }
+}
