@@ -35,7 +35,10 @@ impl fmt::Display for Verdict {
         match self {
             Verdict::Lawful => f.write_str("lawful"),
             Verdict::Uncertified { line } => {
-                write!(f, "line {line}: not certified from here on; no line was found unlawful")
+                write!(
+                    f,
+                    "line {line}: not certified from here on; no line was found unlawful"
+                )
             }
             Verdict::Unlawful { line, reason } => write!(f, "line {line}: unlawful: {reason}"),
             Verdict::Undecided { line, reason } => write!(f, "line {line}: not decided: {reason}"),
