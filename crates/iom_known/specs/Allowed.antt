@@ -1,4 +1,4 @@
--- Which states a belief allows. All of a state is known but for whose its frames are: of each frame it is known who may be its owner.
+-- Which states are allowed by what is known. All of a state is known but for whose its frames are: of each frame it is known who may be its owner.
 use Rattle.std.specs.Prelude.{◌≡◌, ◌⊎◌, ℕ, ◌+◌, ◌<◌, ◌≤◌, Bool, true, false, List, [], ◌∷◌, length, map, replicate, slice_get, Option, None, Some, IsSomeAnd}
 use Rattle.std.specs.Int.{bit_at}
 use Rattle.iom_base.specs.Sizes.{page_size, device_limit}

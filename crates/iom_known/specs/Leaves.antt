@@ -1,5 +1,4 @@
 -- What a poll leaves: which devices have left, by the last ticket that is confirmed, and the frames that they give back.
--- For the judge's own functions alone; no public contract cites these.
 use Rattle.std.specs.Prelude.{◌≡◌, ◌≢◌, ◌⊎◌, ℕ, ◌+◌, ◌-◌, ◌<◌, suc, Bool, false, ◌&&◌, nat_le, nat_lt, List, length, replicate, slice_get, Some, IsSomeAnd, IsTrue, if◌then◌else◌}
 use Rattle.std.specs.Int.{bit_at}
 use Rattle.std.specs.Option.{option_map_or}

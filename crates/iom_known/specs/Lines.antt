@@ -1,4 +1,4 @@
--- Beliefs, line after line.
+-- What is known, line after line.
 use Rattle.std.specs.Prelude.{◌≡◌, List, [], ◌∷◌}
 use Rattle.iom_machine.specs.declared.event.Event.{Event}
 use Rattle.iom_machine.specs.declared.outcome.Outcome.{Outcome}

@@ -1,5 +1,5 @@
 -- How it changes whose the frames may be.
--- For the judge's own functions alone; no public contract cites these.
+-- For this crate's own functions alone; no public contract cites these.
 use Rattle.std.specs.Prelude.{◌≡◌, ◌≢◌, ◌⊎◌, ℕ, ◌+◌, ◌*◌, ◌<◌, Bool, true, List, length, slice_get, Option, None, Some, MatchOption, IsSomeAnd, ⊤}
 use Rattle.std.specs.Int.{bit_at}
 use Rattle.iom_base.specs.Sizes.{device_limit}

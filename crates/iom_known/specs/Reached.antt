@@ -1,5 +1,4 @@
 -- The frames that a device may reach, and those on which a request of one in both stages may be accepted.
--- For the judge's own functions alone; no public contract cites these.
 use Rattle.std.specs.Prelude.{◌≡◌, ℕ, Bool, true, false, List, Some, slice_get}
 use Rattle.iom_base.specs.declared.access.AccessKind.{AccessKind}
 use Rattle.iom_base.specs.declared.mode.Mode.TheVariants.{Both}

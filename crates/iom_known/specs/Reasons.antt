@@ -1,5 +1,4 @@
 -- Why a call is refused, by what is known: the machine's reasons, with what its history says given beside.
--- For the judge's own functions alone; no public contract cites these.
 use Rattle.std.specs.Prelude.{ℕ, ◌-◌, Bool, List, [], ◌∷◌, length, not, ◌||◌, nat_le}
 use Rattle.iom_base.specs.Sizes.{page_limit}
 use Rattle.iom_ledger.specs.Pending.{pending_limit}

@@ -1,4 +1,4 @@
--- When a step of the judge is a step of the machine.
+-- When a change of what is known is a step of the machine.
 use Rattle.std.specs.Prelude.{List}
 use Rattle.iom_machine.specs.declared.event.Event.{Event}
 use Rattle.iom_machine.specs.declared.outcome.Outcome.{Outcome}
