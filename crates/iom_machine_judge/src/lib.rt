@@ -8,7 +8,7 @@
 //! things up in `history.rt`, `pairs.rt`, `frames.rt`, `devices.rt` and `reasons.rt`.
 //!
 //! It is no part of `iom_machine`, since the world and all that is above it stand on the definitions and never
-//! call the judge. Those that hold printed lines against the definitions call it, and tests.
+//! call the judge. Tests call it.
 #![tactic(auto)]
 
 mod absent;
