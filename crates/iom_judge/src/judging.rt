@@ -150,8 +150,10 @@ impl Judge {
         ensures { (text : List ℕ) (lines : List (List ℕ)) → CertifyIf self.now.is_certified self.now.belief lines
             → AreLines lines text → IsTrue (is_lawful result) → IsLawfulTrace text }
     {
-        if self.is_certified && self.is_possible() {
-            return Verdict::Lawful;
+        if self.is_certified {
+            if self.is_possible() {
+                return Verdict::Lawful;
+            }
         }
         Verdict::Uncertified {
             line: self.last_followed.saturating_add(1),

@@ -7,8 +7,7 @@
 use anyhow::Context;
 use iom_judge::{Verdict, judge_trace, trace_of};
 use std::alloc::Global;
-use std::fmt;
-use std::fs;
+use std::{fmt, fs};
 
 /// What the checker found of an output.
 #[derive(Clone, Copy, Debug)]
