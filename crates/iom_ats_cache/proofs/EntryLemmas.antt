@@ -11,7 +11,7 @@ use Rattle.std.proofs.lemmas.Grind.{common_steps}
 use Rattle.iom_fabric.specs.declared.message.Range.{Range}
 use Rattle.iom_fabric.specs.declared.message.Range.TheVariants as range
 use Rattle.iom_ats_cache.specs.declared.entry.Entry.{Entry}
-use Rattle.iom_ats_cache.specs.Cache.{covers, outside, with_room, with_entry, AreOfDistinctPages, AreEntries}
+use Rattle.iom_ats_cache.specs.Cache.{covers, outside, with_room, with_entry, entry_of, AreOfDistinctPages, AreEntries}
 
 not_true : (b : Bool) → not b ≡ true → b ≡ false
 not_true true e = absurd cc
@@ -77,6 +77,14 @@ none_goes_out page [] others = refl
 none_goes_out page (entry ∷ entries) others =
     let other : nat_eq page entry.page ≡ false = All-head (λ e. nat_eq page e.page ≡ false) entry entries others in
     rw other (ap (λ rest. entry ∷ rest) (none_goes_out page entries (All-tail (λ e. nat_eq page e.page ≡ false) entry entries others)))
+
+-- numbers that differ are told apart
+apart : (m n : ℕ) → (m ≡ n → ⊥) → nat_eq m n ≡ false
+apart m n differ = by (nat_eq m n) refl
+  where
+    by : (b : Bool) → nat_eq m n ≡ b → b ≡ false
+    by true same = absurd (differ (eqb-true m n same))
+    by false other = refl
 
 -- where two entries aren't of one page, at most one is of this page
 of_another : (page : ℕ) (one other : Entry) → nat_eq page one.page ≡ true → one.page ≢ other.page → nat_eq page other.page ≡ false
@@ -144,3 +152,21 @@ entries_with_entry entries entry are =
 
 pub no_entries : AreEntries []
 no_entries = record { few = omega arith; distinct = λ i j d before below. absurd (omega arith) }
+
+-- where no entry is of the page, none is found
+pub finds_none : (page : ℕ) (entries : List Entry) → ((k : ℕ) (d : Entry) → k < length entries → nat_eq (get_or entries k d).page page ≡ false) → entry_of entries page ≡ None
+finds_none page [] others = refl
+finds_none page (entry ∷ entries) others =
+    let other : nat_eq entry.page page ≡ false = others 0 entry (omega arith) in
+    rw other (finds_none page entries (λ k d below. others (suc k) d (omega arith)))
+
+-- where no page has two entries, the one that is of the page is found
+pub finds_one : (page : ℕ) (entries : List Entry) (place : ℕ) (d : Entry) → AreOfDistinctPages entries → place < length entries
+    → nat_eq (get_or entries place d).page page ≡ true → entry_of entries page ≡ Some (get_or entries place d)
+finds_one page [] place d distinct inside own = absurd (omega arith)
+finds_one page (entry ∷ entries) zero d distinct inside own = rw own refl
+finds_one page (entry ∷ entries) (suc place) d distinct inside own =
+    let own_page : page ≡ (get_or entries place d).page = sym (eqb-true (get_or entries place d).page page own) in
+    let other : nat_eq entry.page page ≡ false = apart entry.page page (λ same. distinct 0 (suc place) d (omega arith) inside (same ∙ own_page)) in
+    let rest : AreOfDistinctPages entries = λ i j e before below. distinct (suc i) (suc j) e (omega arith) (omega arith) in
+    rw other (finds_one page entries place d rest (omega arith) own)

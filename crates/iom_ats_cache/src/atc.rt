@@ -31,11 +31,17 @@ impl Model for Atc {
     ghost invariant = { λ atc. AreOfDistinctPages atc.entries.items };
 }
 
-// The entry of the page.
+// The entry of the page. The newest are looked at first: what was just answered is what is used next.
 fn entry_of(entries: &[Entry], page: PageNumber) -> Option<&Entry>
+    requires { AreOfDistinctPages entries.now }
     ensures { option_map (λ entry. entry.now) result ≡ entry_of entries.now page }
 {
-    entries.iter().find(|entry| entry.page == page)
+    for place in (0..entries.len()).rev() {
+        if entries[place].page == page {
+            return Some(&entries[place]);
+        }
+    }
+    None
 }
 
 // The place of the page's entry.

@@ -162,7 +162,8 @@ impl<D: Disk> Platform<D> {
         ensures { HappensHere (platform_seen D.held D.failed self.old) (events.Commit device) result.now (platform_seen D.held D.failed self.new) }
     {
         let oldest = self.world.oldest_access(device);
-        let told = world_takes(&mut self.world, &Event::Commit { device }, kept);
+        // The world's own call, written in: blocks commit at every other event.
+        let told = self.world.take(&Event::Commit { device }, kept);
         if let Some(number) = oldest {
             match told {
                 Outcome::Read(bytes) => hear_made(&mut self.blocks, device, number, bytes),

@@ -1,5 +1,6 @@
 // A list of events, one after another.
-ghost use Rattle.std.specs.Prelude.{◌≡◌, ◌+◌, ◌<◌, ◌≤◌, ◌^◌, length, is_some, OnOk, OnErr};
+ghost use Rattle.std.specs.Prelude.{◌≡◌, ◌+◌, ◌<◌, ◌≤◌, ◌^◌, true, length, Option, is_some, OnOk, OnErr};
+ghost use Rattle.iom_machine.specs.declared.outcome.Trace as counts;
 ghost use Rattle.iom_machine.specs.declared.state.State.{State};
 ghost use Rattle.iom_platform.specs.Runs.{AreCounts, RunsTo, FailsAfter};
 ghost use Rattle.iom_platform.specs.Seen.{platform_seen};
@@ -7,7 +8,7 @@ ghost use Rattle.iom_world.specs.Counts.{IsTraceOf};
 ghost use Rattle.iom_world.specs.Shows.{Shows};
 
 use crate::platform::Platform;
-use iom_machine::{Event, Sink, Trace};
+use iom_machine::{Event, Outcome, Sink, Trace};
 use iom_virtio_blk::Disk;
 use iom_world::KeptOutcomes;
 
@@ -35,6 +36,31 @@ impl<D: Disk> Platform<D> {
         }
     }
 
+    /// The outcome goes to the sink, with the counts beside it.
+    // Apart from the loop of a run, so that no place for counts is kept there.
+    #[inline(never)]
+    fn tell_with_trace<S: Sink>(&self, outcome: &Outcome, sink: &mut S) -> Result<(), S::Fault>
+        requires { S.wants sink.old ≡ true }
+        ensures { (trace : Option counts.Trace) × (is_some trace ≡ S.wants sink.old) × ((state : State) → Shows self.now.world state → AreCounts state self.now.world trace)
+            × OnOk result (S.takes sink.old outcome.now trace sink.new) × OnErr result (S.fails sink.old outcome.now trace sink.new) }
+    {
+        let trace = self.trace();
+        sink.put(outcome, Some(trace))
+    }
+
+    /// The outcome goes to the sink, with the counts beside it where it wants them.
+    #[inline(always)]
+    fn tell<S: Sink>(&self, outcome: &Outcome, sink: &mut S) -> Result<(), S::Fault>
+        ensures { (trace : Option counts.Trace) × (is_some trace ≡ S.wants sink.old) × ((state : State) → Shows self.now.world state → AreCounts state self.now.world trace)
+            × OnOk result (S.takes sink.old outcome.now trace sink.new) × OnErr result (S.fails sink.old outcome.now trace sink.new) }
+    {
+        if sink.wants_trace() {
+            self.tell_with_trace(outcome, sink)
+        } else {
+            sink.put(outcome, None)
+        }
+    }
+
     /// The events, one after another: the sink takes the outcome of each, with the counts beside it where it
     /// wants them, and the run stops at the first that it fails at. The outcomes, also those up to a failure, are
     /// those of a run of the ledger machine over the events, from every state that the world shows; the world
@@ -55,8 +81,7 @@ impl<D: Disk> Platform<D> {
         let mut kept = KeptOutcomes::new();
         for event in events {
             let outcome = self.take(event, &mut kept);
-            let trace = self.trace_for(sink);
-            sink.put(outcome, trace)?;
+            self.tell(outcome, sink)?;
         }
         Ok(())
     }

@@ -2,6 +2,7 @@
 // wants, and which of their events are refused. Their queues, their requests and the bytes of their disks are their own.
 ghost use Rattle.std.specs.Prelude.{◌≡◌, ◌↔◌, ◌+◌, ◌<◌, ◌^◌, ℕ, IsTrue, false};
 ghost use Rattle.std.specs.Option.{option_map_or};
+ghost use Rattle.iom_copies.specs.Attachments.{caches_translations};
 ghost use Rattle.iom_iommu.specs.Parts.{flights_of};
 ghost use Rattle.iom_iommu.specs.Requests.{access_of};
 ghost use Rattle.iom_machine.specs.declared.event.Event.TheVariants as events;
@@ -93,6 +94,16 @@ fn may_take(disks: &[u64], device: &Device, disk: u64) -> bool
     is_among(disks, disk)
 }
 
+/// Whether a device is there, and of a kind that has a cache.
+fn caches(known: Option<DeviceKind>) -> bool
+    ensures { result ≡ caches_translations known }
+{
+    match known {
+        Some(kind) => kind.has_cache(),
+        None => false,
+    }
+}
+
 /// Whether it is told that a device's own cache has no frame for an access.
 fn is_miss(told: Told) -> bool
     ensures { IsTrue result ↔ (outcome_of told ≡ outcome.Miss) }
@@ -180,10 +191,12 @@ impl World {
         Told::Status(status)
     }
 
-    /// A block device without a cache asks for an access: answered as that of any device is.
+    /// A block device without a cache asks for an access: answered as that of any device is. What the device with this
+    /// id is, is known.
     fn block_request(
         &mut self,
         id: DeviceId,
+        known: Option<DeviceKind>,
         address: u64,
         len: u64,
         kind: AccessKind,
@@ -192,12 +205,13 @@ impl World {
         requires below { (flights_of self.old.iommu).so_far < self.old.events }
         requires count { (flights_of self.old.iommu).so_far + 1 < 2 ^ 64 }
         requires wants { MayWant (access_of address len kind bytes.now) }
+        requires known { known ≡ kind_in self.old.devices.items id }
         ensures does { AsksAccess is_block_device (parts_of self.old) id (access_of address len kind bytes.now) (outcome_of result) (parts_of self.new) }
         ensures disks { disks_of self.new ≡ disks_of self.old }
         ensures events { self.new.events ≡ self.old.events }
     {
         laws_below();
-        let Some(device) = self.kind_of(id) else {
+        let Some(device) = known else {
             return Told::Refused(Refusal::NoSuchDevice);
         };
         if !device.is_block_device() {
@@ -255,9 +269,10 @@ impl World {
         ensures disks { disks_of self.new ≡ disks_of self.old }
         ensures events { self.new.events ≡ self.old.events }
     {
-        if self.has_cache(id) {
+        let known = self.kind_of(id);
+        if caches(known) {
             return self.block_through_cache(id, address, len, kind, bytes);
         }
-        self.block_request(id, address, len, kind, bytes)
+        self.block_request(id, known, address, len, kind, bytes)
     }
 }

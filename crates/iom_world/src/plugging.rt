@@ -1,7 +1,6 @@
 // Which devices there are, and how one is plugged in.
 ghost use Rattle.std.specs.Prelude.{◌≡◌, ◌↔◌, IsTrue, option_map};
 ghost use Rattle.iom_machine.specs.declared.event.Event.TheVariants as events;
-ghost use Rattle.iom_copies.specs.Attachments.{caches_translations};
 ghost use Rattle.iom_world.specs.Caches.{kind_in, device_with, epoch_in};
 ghost use Rattle.iom_world.specs.Does.{PlugsDevice, disks_after};
 ghost use Rattle.iom_world.specs.Seen.{parts_of, disks_of};
@@ -48,16 +47,6 @@ impl World {
         match self.device_with(id) {
             Some(device) => device.epoch(),
             None => 0,
-        }
-    }
-
-    /// Whether it is plugged in, and of a kind that has a cache.
-    pub(crate) fn has_cache(&self, id: DeviceId) -> bool
-        ensures { result ≡ caches_translations (kind_in self.now.devices.items id) }
-    {
-        match self.kind_of(id) {
-            Some(kind) => kind.has_cache(),
-            None => false,
         }
     }
 

@@ -19,18 +19,18 @@ loop-event-preserved g c = record {
       let so_far = c.loop-event.invariant.ran state shows in
       let happens = c.take-outcome.ensures in
       let next = happens.0.step so_far.2 (shown_so_far g.S.Sink.wants g.S.Sink.takes state _ _ _ _ _ so_far) in
-      goes_on g.S.Sink.wants g.S.Sink.takes state next.0 c.args.events.now c.loop-event.event-index c.event-item.result c.take-outcome.result.now c.trace_for-trace.result _ _ _ _ _ _
-      so_far c.event-item.is c.loop-event-test.true next.1 happens (c.trace_for-trace.ensures.counts next.0 next.2) next.2 c.trace_for-trace.ensures.wanted c.in_ok-put.ensures.taken;
+      goes_on g.S.Sink.wants g.S.Sink.takes state next.0 c.args.events.now c.loop-event.event-index c.event-item.result c.take-outcome.result.now c.in_ok-tell.ensures.0 _ _ _ _ _ _
+      so_far c.event-item.is c.loop-event-test.true next.1 happens (c.in_ok-tell.ensures.2 next.0 next.2) next.2 c.in_ok-tell.ensures.1 c.in_ok-tell.ensures.3;
   counted = omega (arith, c.take-outcome.ensures.0.events, c.loop-event.invariant.counted);
 }
 
-pub returns-in_err-put-clause-failed : goal.returns-in_err-put-clause-failed
-returns-in_err-put-clause-failed g c = λ state shows.
+pub returns-in_err-tell-clause-failed : goal.returns-in_err-tell-clause-failed
+returns-in_err-tell-clause-failed g c = λ state shows.
     let so_far = c.loop-event.invariant.ran state shows in
     let happens = c.take-outcome.ensures in
     let seen = platform_seen g.D.Disk.held g.D.Disk.failed c.args.self.now in
     let next = happens.0.step so_far.2 (shown_so_far g.S.Sink.wants g.S.Sink.takes state _ _ _ _ _ so_far) in
     let fault = err_from_is_err_and c.from_residual.result c.from_residual.ensures.1 in
-    rw fault.1 (ends_at g.S.Sink.wants g.S.Sink.takes g.S.Sink.fails state next.0 c.args.events.now c.loop-event.event-index c.event-item.result c.take-outcome.result.now c.trace_for-trace.result _ _ _ seen _ _
-    so_far c.event-item.is c.loop-event-test.true (omega (arith, c.take-outcome.ensures.0.events, c.loop-event.invariant.counted)) next.1 happens (c.trace_for-trace.ensures.counts next.0 next.2) next.2
-    c.trace_for-trace.ensures.wanted c.in_err-put.ensures.failed)
+    rw fault.1 (ends_at g.S.Sink.wants g.S.Sink.takes g.S.Sink.fails state next.0 c.args.events.now c.loop-event.event-index c.event-item.result c.take-outcome.result.now c.in_err-tell.ensures.0 _ _ _ seen _ _
+    so_far c.event-item.is c.loop-event-test.true (omega (arith, c.take-outcome.ensures.0.events, c.loop-event.invariant.counted)) next.1 happens (c.in_err-tell.ensures.2 next.0 next.2) next.2
+    c.in_err-tell.ensures.1 c.in_err-tell.ensures.4)

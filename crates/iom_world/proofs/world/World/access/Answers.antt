@@ -1,4 +1,4 @@
-use Rattle.std.proofs.Common.{◌≡◌, ◌∙◌, Bool, true, false, sym, subst}
+use Rattle.std.proofs.Common.{◌≡◌, ◌∙◌, Bool, true, false, ap, sym, subst}
 use Rattle.iom_copies.specs.Attachments.{caches_translations}
 use Rattle.iom_iommu.specs.Requests.{access_of}
 use Rattle.iom_world.specs.BlockDevices.{GoesToMemory}
@@ -7,16 +7,16 @@ use Rattle.iom_world.specs.Seen.{parts_of}
 use Rattle.iom_world.specs.Told.{outcome_of}
 use Rattle.iom_world.proofs.world.World.access.Goals as goal
 
-pub returns-then-has_cache-clause-does : goal.returns-then-has_cache-clause-does
-returns-then-has_cache-clause-does c =
+pub returns-then-caches-clause-does : goal.returns-then-caches-clause-does
+returns-then-caches-clause-does c =
     let old = parts_of c.args.self.now in
-    let is : caches_translations (kind_in old.devices c.args.id) ≡ true = sym c.has_cache.ensures ∙ c.if-has_cache.true in
+    let is : caches_translations (kind_in old.devices c.args.id) ≡ true = ap caches_translations (sym c.kind_of-known.ensures) ∙ sym c.caches.ensures ∙ c.if-caches.true in
     subst (λ (b : Bool). GoesToMemory b old c.args.id (access_of c.args.address c.args.len c.args.kind c.args.bytes.now) (outcome_of c.block_through_cache.result) (parts_of c.block_through_cache.new.self)) (sym is)
     c.block_through_cache.ensures.does
 
 pub returns-clause-does : goal.returns-clause-does
 returns-clause-does c =
     let old = parts_of c.args.self.now in
-    let is : caches_translations (kind_in old.devices c.args.id) ≡ false = sym c.has_cache.ensures ∙ c.if-has_cache.false in
+    let is : caches_translations (kind_in old.devices c.args.id) ≡ false = ap caches_translations (sym c.kind_of-known.ensures) ∙ sym c.caches.ensures ∙ c.if-caches.false in
     subst (λ (b : Bool). GoesToMemory b old c.args.id (access_of c.args.address c.args.len c.args.kind c.args.bytes.now) (outcome_of c.block_request.result) (parts_of c.block_request.new.self)) (sym is)
     c.block_request.ensures.does
