@@ -13,14 +13,15 @@ use Rattle.iom_machine.specs.declared.outcome.Outcome.{Outcome}
 use Rattle.iom_machine.specs.declared.outcome.Outcome.TheVariants as outcome
 use Rattle.iom_machine.specs.declared.state.DeviceKind.{DeviceKind}
 use Rattle.iom_virtqueue.specs.declared.layout.Layout.{Layout}
-use Rattle.iom_world.specs.BlockDevices.{SetsQueue, AsksIfMissed, GoesToMemory, TakesStep}
-use Rattle.iom_world.specs.Caches.{kind_in, cache_of, with_cache}
-use Rattle.iom_world.specs.Deliveries.{Arrives, ArrivesIfAny}
-use Rattle.iom_world.specs.Does.{Does, disks_after}
-use Rattle.iom_world.specs.Parts.{Parts}
-use Rattle.iom_world.specs.Recovery.{devices_revived, reset_of}
-use Rattle.iom_world.specs.Requests.{AsksAccess, AsksTranslated}
-use Rattle.iom_world.specs.ThroughCache.{AsksThroughCache, FindsFrame, cached_frame}
+use Rattle.iom_composition.specs.BlockDevices.{SetsQueue, AsksIfMissed, GoesToMemory, TakesStep}
+use Rattle.iom_device.specs.Caches.{kind_in, cache_of, with_cache}
+use Rattle.iom_composition.specs.Deliveries.{Arrives, ArrivesIfAny}
+use Rattle.iom_composition.specs.Does.{Does, disks_after}
+use Rattle.iom_composition.specs.Parts.{Parts}
+use Rattle.iom_composition.specs.Recovery.{devices_revived}
+use Rattle.iom_device.specs.Calls.{reset_of}
+use Rattle.iom_composition.specs.Requests.{AsksAccess, AsksTranslated}
+use Rattle.iom_composition.specs.ThroughCache.{AsksThroughCache, FindsFrame, cached_frame}
 use Rattle.iom_platform.specs.Agreement.{known_blocks}
 use Rattle.iom_platform.proofs.KnownBlocks.{known_cache}
 

@@ -17,15 +17,15 @@ use Rattle.iom_machine.specs.declared.state.NewDevice.TheVariants as newly
 use Rattle.iom_machine.specs.Disks.{is_among, is_missing, without_disk}
 use Rattle.iom_machine.specs.Kinds.{disk_of, kind_of}
 use Rattle.iom_virtio_blk.specs.declared.disk.Disk.{Ghosts}
-use Rattle.iom_world.specs.declared.device.Device.{Device}
+use Rattle.iom_device.specs.declared.device.Device.{Device}
 use Rattle.iom_world.specs.declared.world.World.{World}
-use Rattle.iom_world.specs.Answers.{told_of}
-use Rattle.iom_world.specs.BlockDevices.{InsertsMedium}
-use Rattle.iom_world.specs.Does.{PlugsDevice, devices_after, disks_after, new_device}
+use Rattle.iom_composition.specs.Answers.{told_of}
+use Rattle.iom_composition.specs.BlockDevices.{InsertsMedium}
+use Rattle.iom_composition.specs.Does.{PlugsDevice, devices_after, disks_after, new_device}
 use Rattle.iom_world.specs.Happens.{Happens}
-use Rattle.iom_world.specs.Parts.{Parts}
+use Rattle.iom_composition.specs.Parts.{Parts}
 use Rattle.iom_world.specs.Seen.{parts_of, disks_of}
-use Rattle.iom_world.specs.Sound.{HaveOwnIds, ids_of, known_ids}
+use Rattle.iom_composition.specs.Sound.{HaveOwnIds, ids_of, known_ids}
 use Rattle.iom_platform.specs.declared.block.Block.{Block}
 use Rattle.iom_platform.specs.declared.block.DiskAtHand.{DiskAtHand}
 use Rattle.iom_platform.specs.Agreement.{AgreesWith, Entry, entry_of, entries_of, known_blocks}

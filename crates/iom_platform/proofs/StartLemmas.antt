@@ -2,8 +2,8 @@
 use Rattle.std.proofs.Common.{◌≡◌, ℕ, List, [], ◌∷◌, map, refl, ap}
 use Rattle.iom_driver.specs.declared.device.Device as driver
 use Rattle.iom_inflight.specs.Flights.{FlightRow}
-use Rattle.iom_world.specs.declared.device.Device.{Device}
-use Rattle.iom_world.specs.Devices.{shown_devices}
+use Rattle.iom_device.specs.declared.device.Device.{Device}
+use Rattle.iom_composition.specs.Devices.{shown_devices}
 use Rattle.iom_platform.specs.declared.block.DiskAtHand.{DiskAtHand}
 use Rattle.iom_platform.specs.Agreement.{numbers_of}
 use Rattle.iom_platform.specs.PowerOn.{number_of}

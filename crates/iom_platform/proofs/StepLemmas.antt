@@ -9,11 +9,11 @@ use Rattle.iom_machine.specs.Kinds.{is_block_device}
 use Rattle.iom_virtio_blk.specs.declared.step.Step.{Step}
 use Rattle.iom_virtio_blk.specs.Stages.{device_status}
 use Rattle.iom_virtio_blk.specs.Steps.{Device, Steps}
-use Rattle.iom_world.specs.BlockDevices.{Rests, TellsStatus}
-use Rattle.iom_world.specs.Caches.{IsAble}
-use Rattle.iom_world.specs.Parts.{Parts}
-use Rattle.iom_world.specs.Unable.{IsUnknown, IsUnable}
-use Rattle.iom_world.proofs.PresentLemmas.{kind_present}
+use Rattle.iom_composition.specs.BlockDevices.{Rests, TellsStatus}
+use Rattle.iom_device.specs.Caches.{IsAble}
+use Rattle.iom_composition.specs.Parts.{Parts}
+use Rattle.iom_composition.specs.Unable.{IsUnknown, IsUnable}
+use Rattle.iom_composition.proofs.PresentLemmas.{kind_present}
 use Rattle.iom_platform.specs.Blocks.{IsStatusOf, RefusedIfNone, StepsOnce, EndsStep}
 use Rattle.iom_platform.specs.Seen.{BlockSeen}
 

@@ -2,7 +2,7 @@
 use Rattle.std.specs.Prelude.{◌≡◌, ℕ, Bool, List, [], ◌∷◌, map, is_some, if◌then◌else◌}
 use Rattle.iom_machine.specs.Kinds.{is_block_device}
 use Rattle.iom_virtio_blk.specs.declared.disk.Disk.{Ghosts}
-use Rattle.iom_world.specs.declared.device.Device.{Device}
+use Rattle.iom_device.specs.declared.device.Device.{Device}
 use Rattle.iom_world.specs.declared.world.World.{World}
 use Rattle.iom_world.specs.Seen.{parts_of, disks_of}
 use Rattle.iom_platform.specs.declared.block.Block.{Block}

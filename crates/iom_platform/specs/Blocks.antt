@@ -29,11 +29,11 @@ use Rattle.iom_virtio_blk.specs.Steps.{Device, device, Steps}
 use Rattle.iom_virtqueue.specs.declared.layout.Layout.{Layout}
 use Rattle.iom_virtqueue.specs.Accesses.{Access as Wanted, nothing, reads, writes}
 use Rattle.iom_virtqueue.specs.Layouts.{layout_of}
-use Rattle.iom_world.specs.BlockDevices.{BeginsAccess}
+use Rattle.iom_composition.specs.BlockDevices.{BeginsAccess}
 use Rattle.iom_world.specs.Counts.{oldest_number}
-use Rattle.iom_world.specs.Parts.{Parts}
+use Rattle.iom_composition.specs.Parts.{Parts}
 use Rattle.iom_world.specs.Seen.{parts_of}
-use Rattle.iom_world.specs.Unable.{IsUnknown, IsUnable}
+use Rattle.iom_composition.specs.Unable.{IsUnknown, IsUnable}
 use Rattle.iom_platform.specs.Seen.{BlockSeen, DiskSeen, Seen}
 
 -- the block device with this id

@@ -8,7 +8,7 @@ ghost use Rattle.iom_virtio_blk.specs.Disks.{disk_in};
 ghost use Rattle.iom_virtio_blk.specs.Steps.{device};
 ghost use Rattle.iom_virtio_blk.specs.Wants.{access_wanted};
 ghost use Rattle.iom_virtqueue.specs.Accesses.{LiesInPage};
-ghost use Rattle.iom_world.specs.Caches.{IsAble};
+ghost use Rattle.iom_device.specs.Caches.{IsAble};
 ghost use Rattle.iom_world.specs.Happens.{Happens};
 ghost use Rattle.iom_world.specs.Seen.{parts_of};
 ghost use Rattle.iom_platform.specs.Blocks.{StepsOnce, wanted_access, reply_of};

@@ -1,5 +1,5 @@
 //! Block devices of a world: their disks, their queues, and the accesses that their steps want.
-ghost use Rattle.iom_world.specs.Happens.{IsNoChoice};
+ghost use Rattle.iom_composition.specs.Stays.{IsNoChoice};
 
 use crate::expect::expect_eq;
 use iom_base::{AccessKind, DeviceId, GrantRights, Mode};

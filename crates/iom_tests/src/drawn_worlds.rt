@@ -1,7 +1,7 @@
 //! Drawn events: the judge of the ledger machine finds each step of the world lawful.
 
 ghost use Rattle.std.specs.Prelude.{◌<◌, IfOk};
-ghost use Rattle.iom_world.specs.Happens.{IsNoChoice};
+ghost use Rattle.iom_composition.specs.Stays.{IsNoChoice};
 
 use crate::expect::expect_eq;
 use iom_base::{Access, AccessKind, DeviceId, GrantRights, Mode, Sequence};

@@ -1,4 +1,4 @@
-ghost use Rattle.iom_world.specs.Happens.{IsNoChoice};
+ghost use Rattle.iom_composition.specs.Stays.{IsNoChoice};
 
 use crate::expect::{expect, expect_eq};
 use iom_base::{Cause, DeviceId, GrantRights, Mode};

@@ -1,20 +1,10 @@
 -- A world at power-on, whole: the machine's state that it shows, and what the machine doesn't see.
 use Rattle.std.specs.Prelude.{◌≡◌, ℕ, List, [], replicate}
-use Rattle.iom_driver.specs.Calls.{turned_on}
-use Rattle.iom_driver.specs.Layout.{ddtp_of}
-use Rattle.iom_iommu.specs.Parts.{IsAtPowerOn, mmio}
 use Rattle.iom_machine.specs.PowerOn.{opening}
 use Rattle.iom_phys_mem.specs.Words.{zeroed}
-use Rattle.iom_registers.specs.declared.register.Register.TheVariants.{Ddtp}
 use Rattle.iom_world.specs.declared.world.World.{World}
-use Rattle.iom_world.specs.OwnIommu.{Iommu}
 use Rattle.iom_world.specs.Seen.{commands_of}
 use Rattle.iom_world.specs.Shows.{Shows}
-
--- the IOMMU was at power-on, and then the driver wrote `ddtp` and turned its queues on
-abbrev pub IsStartedIommu : ℕ → ℕ → Iommu → Type 0
-IsStartedIommu frames levels iommu =
-    (cold : Iommu) × IsAtPowerOn frames cold × (iommu ≡ turned_on mmio frames (mmio.after cold Ddtp (ddtp_of frames levels)))
 
 -- the world begins, with so many frames of memory and levels of the device directory, and disks of these numbers: it shows the machine at power-on; each byte of memory is zero, those
 -- of the system's frames too; its IOMMU is started, no command waits, no message is under way, and no event was counted

@@ -1,7 +1,5 @@
 -- What the world's own calls tell, as outcomes.
 -- For the calls inside this crate alone; no public contract cites these.
-use Rattle.std.specs.Prelude.{◌≡◌, ℕ, List}
-use Rattle.arrayvec.specs.ArrayVec.{ArrayVec}
 use Rattle.iom_machine.specs.declared.outcome.Outcome.{Outcome}
 use Rattle.iom_machine.specs.declared.outcome.Outcome.TheVariants as outcome
 use Rattle.iom_world.specs.declared.told.Told.{Told}
@@ -43,10 +41,3 @@ outcome_of NoMessage = outcome.NoMessage
 outcome_of (Stepped step) = outcome.Stepped step
 outcome_of (Status status) = outcome.Status status
 
--- a read was made, and gave these bytes
-abbrev pub TellsBytes : Outcome → List ℕ → Type 0
-TellsBytes told bytes = (held : ArrayVec ℕ) × (told ≡ outcome.Read held) × (held.items ≡ bytes)
-
--- the processor read these bytes
-abbrev pub TellsShown : Outcome → List ℕ → Type 0
-TellsShown told bytes = (held : ArrayVec ℕ) × (told ≡ outcome.Bytes held) × (held.items ≡ bytes)

@@ -10,21 +10,21 @@ ghost use Rattle.iom_machine.specs.declared.outcome.Outcome.TheVariants as outco
 ghost use Rattle.iom_machine.specs.BlockDevices.{MayWant};
 ghost use Rattle.iom_machine.specs.Kinds.{is_block_device};
 ghost use Rattle.iom_virtqueue.specs.Layouts.{layout_of};
-ghost use Rattle.iom_world.specs.BlockDevices.{MayTake, InsertsMedium, SetsQueue, GoesThroughCache, BeginsAccess, Rests, TellsStatus, devices_left, with_block_reset};
-ghost use Rattle.iom_world.specs.Caches.{epoch_in, kind_in, with_has_disk};
-ghost use Rattle.iom_world.specs.Does.{disks_after};
-ghost use Rattle.iom_world.specs.Requests.{AsksAccess};
+ghost use Rattle.iom_composition.specs.BlockDevices.{MayTake, InsertsMedium, SetsQueue, GoesThroughCache, BeginsAccess, Rests, TellsStatus, devices_left, with_block_reset};
+ghost use Rattle.iom_device.specs.Caches.{epoch_in, kind_in, with_has_disk};
+ghost use Rattle.iom_composition.specs.Does.{disks_after};
+ghost use Rattle.iom_composition.specs.Requests.{AsksAccess};
 ghost use Rattle.iom_world.specs.Seen.{parts_of, disks_of};
 ghost use Rattle.iom_world.specs.Told.{outcome_of};
 
-use crate::below::laws_below;
-use crate::device::{Device, place_of};
 use crate::disks::{is_among, take_out};
 use crate::recovery::reset;
 use crate::sender::Sender;
 use crate::told::Told;
 use crate::world::World;
 use iom_base::{AccessKind, DeviceId, PAGE_SIZE};
+use iom_composition::laws_below;
+use iom_device::{Device, place_of};
 use iom_driver::Ticket;
 use iom_fabric::{Message, PageNumber};
 use iom_ledger::Refusal;

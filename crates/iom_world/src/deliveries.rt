@@ -5,20 +5,46 @@ ghost use Rattle.iom_ats_cache.specs.Cache.{Cache};
 ghost use Rattle.iom_driver.specs.State.{DriverState};
 ghost use Rattle.iom_fabric.specs.declared.fabric.OnLink.{OnLink};
 ghost use Rattle.iom_iommu.specs.Parts.{frames_of};
-ghost use Rattle.iom_world.specs.Caches.{cache_of, epoch_in, with_cache};
-ghost use Rattle.iom_world.specs.Deliveries.{TakesInto, Obeys, Arrives, DeliversMessage};
+ghost use Rattle.iom_device.specs.Caches.{cache_of, epoch_in, with_cache};
+ghost use Rattle.iom_composition.specs.Deliveries.{taken_told, TakesInto, Arrives, DeliversMessage};
+ghost use Rattle.iom_device.specs.Calls.{Obeys};
 ghost use Rattle.iom_world.specs.Seen.{parts_of, disks_of};
 ghost use Rattle.iom_world.specs.Told.{outcome_of};
 
-use crate::below::laws_below;
-use crate::device::{Device, place_of};
 use crate::told::Told;
 use crate::world::World;
+use iom_ats_cache::Taken;
 use iom_base::DeviceId;
+use iom_composition::laws_below;
+use iom_device::{Device, place_of};
 use iom_fabric::{Fabric, Message, PageNumber, Range, Translation};
 use iom_iommu::Iommu;
 use iom_phys_mem::Memory;
 use iom_tlb::Ioatc;
+
+impl Told {
+    /// What is told of an answer, by what the device does with it.
+    fn of_taken(taken: Taken) -> Told
+        ensures { outcome_of result ≡ taken_told taken }
+    {
+        match taken {
+            Taken::Kept => Told::Kept,
+            Taken::Stale => Told::Stale,
+            Taken::Refused => Told::AnswerRefused,
+        }
+    }
+}
+
+/// A device takes an answer into its cache, and ignores it where it has none.
+fn take(device: &mut Device, epoch: u64, page: PageNumber, answer: Translation) -> Told
+    ensures taken { TakesInto device.old.cache epoch page answer (outcome_of result) device.new.cache }
+    ensures rest { device.new ≡ record device.old { cache = device.new.cache } }
+{
+    match &mut device.cache {
+        Some(cache) => Told::of_taken(cache.answer(epoch, page, answer)),
+        None => Told::Ignored,
+    }
+}
 
 /// The device with this id takes an answer, and ignores it where it has no cache.
 fn take_answer(
@@ -32,7 +58,7 @@ fn take_answer(
         × (devices.new.items ≡ with_cache devices.old.items id after) }
 {
     match place_of(devices, id) {
-        Some(place) => devices[place].take(epoch, page, answer),
+        Some(place) => take(&mut devices[place], epoch, page, answer),
         None => Told::Ignored,
     }
 }

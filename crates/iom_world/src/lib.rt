@@ -11,12 +11,10 @@
 //! disk; their queues and disks are for the layer above, and so is a whole run.
 #![tactic(auto)]
 
-mod below;
 mod block_devices;
 mod commits;
 mod counts;
 mod deliveries;
-mod device;
 mod disks;
 mod driving;
 mod fetching;

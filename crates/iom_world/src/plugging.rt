@@ -1,17 +1,17 @@
 // Which devices there are, and how one is plugged in.
 ghost use Rattle.std.specs.Prelude.{◌≡◌, ◌↔◌, IsTrue, option_map};
 ghost use Rattle.iom_machine.specs.declared.event.Event.TheVariants as events;
-ghost use Rattle.iom_world.specs.Caches.{kind_in, device_with, epoch_in};
-ghost use Rattle.iom_world.specs.Does.{PlugsDevice, disks_after};
+ghost use Rattle.iom_device.specs.Caches.{kind_in, device_with, epoch_in};
+ghost use Rattle.iom_composition.specs.Does.{PlugsDevice, disks_after};
 ghost use Rattle.iom_world.specs.Seen.{parts_of, disks_of};
-ghost use Rattle.iom_world.specs.Places.{IsPresent};
+ghost use Rattle.iom_composition.specs.Places.{IsPresent};
 ghost use Rattle.iom_world.specs.Told.{outcome_of};
 
-use crate::device::{Device, new_device};
 use crate::disks::{is_missing, take_out};
 use crate::told::Told;
 use crate::world::World;
 use iom_base::{DeviceId, MAX_DEVICES};
+use iom_device::Device;
 use iom_ledger::Refusal;
 use iom_machine::{DeviceKind, NewDevice};
 
@@ -76,7 +76,7 @@ impl World {
         }
         self.iommu.add(id);
         take_out(&mut self.disks, disk);
-        self.devices.push(new_device(id, kind, disk)).unwrap();
+        self.devices.push(Device::new(id, kind, disk)).unwrap();
         Told::Done
     }
 }

@@ -1,15 +1,15 @@
 // What is done about a device that doesn't answer.
 ghost use Rattle.std.specs.Prelude.{◌≡◌, ◌+◌, ◌<◌, ◌^◌, ℕ, if◌then◌else◌};
 ghost use Rattle.iom_machine.specs.declared.outcome.Outcome.TheVariants as outcome;
-ghost use Rattle.iom_world.specs.Caches.{epoch_in};
-ghost use Rattle.iom_world.specs.Recovery.{with_reset, QuarantinesDevice, RevivesDevice, RestartsQueue, TimesOutFence, ResetsDevice};
+ghost use Rattle.iom_device.specs.Caches.{epoch_in};
+ghost use Rattle.iom_composition.specs.Recovery.{with_reset, QuarantinesDevice, RevivesDevice, RestartsQueue, TimesOutFence, ResetsDevice};
 ghost use Rattle.iom_world.specs.Seen.{parts_of, disks_of};
 ghost use Rattle.iom_world.specs.Told.{outcome_of};
 
-use crate::device::{Device, place_of};
 use crate::told::Told;
 use crate::world::World;
 use iom_base::DeviceId;
+use iom_device::{Device, place_of};
 use iom_ledger::Refusal;
 
 /// The device with this id is reset, if there is one.

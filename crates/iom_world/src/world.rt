@@ -1,7 +1,7 @@
-ghost use Rattle.iom_world.specs.Sound.{IsSoundWorld};
-ghost use Rattle.iom_world.specs.SoundIsFact.{sound_prop};
+ghost use Rattle.iom_composition.specs.Sound.{IsSoundWorld};
+ghost use Rattle.iom_composition.specs.SoundIsFact.{sound_prop};
 
-use crate::device::Device;
+use iom_device::Device;
 use iom_driver::Driver;
 use iom_fabric::Fabric;
 use iom_iommu::Iommu;

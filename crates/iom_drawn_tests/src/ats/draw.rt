@@ -1,7 +1,7 @@
 // What happens next in a drawn run.
 
 ghost use Rattle.std.specs.Prelude.{◌<◌, IfOk};
-ghost use Rattle.iom_world.specs.Happens.{IsNoChoice};
+ghost use Rattle.iom_composition.specs.Stays.{IsNoChoice};
 
 use iom_base::{DeviceId, GrantRights, Sequence};
 use iom_fabric::PageNumber;

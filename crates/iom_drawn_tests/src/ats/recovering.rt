@@ -1,7 +1,7 @@
 // What happens in a run in which devices come and go, and don't always answer.
 
 ghost use Rattle.std.specs.Prelude.{IfSome};
-ghost use Rattle.iom_world.specs.Happens.{IsNoChoice};
+ghost use Rattle.iom_composition.specs.Stays.{IsNoChoice};
 
 use crate::ats::draw::{Draw, NAME_AT};
 use crate::ats::run::Run;

@@ -1,7 +1,7 @@
 // A run of the world, on which frame each access of it was, and which question each answer was to.
 
 ghost use Rattle.std.specs.Prelude.{◌≡◌, ◌<◌, true};
-ghost use Rattle.iom_world.specs.Happens.{IsNoChoice};
+ghost use Rattle.iom_composition.specs.Stays.{IsNoChoice};
 
 use crate::ats::draw::{Draw, FIRST_FRAME, FRAMES, Ids, NAME_AT, bytes_of};
 use crate::ats::messages::{Messages, Question, Said};

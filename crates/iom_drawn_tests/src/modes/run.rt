@@ -1,7 +1,7 @@
 // A run of the world, and on which frame each access of it was.
 
 ghost use Rattle.std.specs.Prelude.{◌<◌, IfOk};
-ghost use Rattle.iom_world.specs.Happens.{IsNoChoice};
+ghost use Rattle.iom_composition.specs.Stays.{IsNoChoice};
 
 use crate::modes::draw::{Draw, FIRST_FRAME, FRAMES, NAME_AT, bytes_of};
 use iom_base::{DeviceId, GrantRights, Mode};

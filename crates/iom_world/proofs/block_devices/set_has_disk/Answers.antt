@@ -1,7 +1,7 @@
 use Rattle.std.proofs.Common.{◌≡◌, List, None, sym, subst}
-use Rattle.iom_world.specs.declared.device.Device.{Device}
-use Rattle.iom_world.specs.Caches.{device_with}
-use Rattle.iom_world.proofs.CachePlaces.{has_none}
+use Rattle.iom_device.specs.declared.device.Device.{Device}
+use Rattle.iom_device.specs.Caches.{device_with}
+use Rattle.iom_device.proofs.CachePlaces.{has_none}
 use Rattle.iom_world.proofs.block_devices.set_has_disk.Goals as goal
 
 pub returns-in_default : goal.returns-in_default

@@ -1,7 +1,7 @@
 use Rattle.std.proofs.Common.{◌≡◌, List, None, sym, subst}
-use Rattle.iom_world.specs.declared.device.Device.{Device}
-use Rattle.iom_world.specs.Caches.{device_with}
-use Rattle.iom_world.proofs.CachePlaces.{with_none, obeys_none}
+use Rattle.iom_device.specs.declared.device.Device.{Device}
+use Rattle.iom_device.specs.Caches.{device_with}
+use Rattle.iom_device.proofs.CachePlaces.{with_none, obeys_none}
 use Rattle.iom_world.proofs.deliveries.obey.Goals as goal
 
 pub returns-in-None : goal.returns-in-None

@@ -1,17 +1,24 @@
-use Rattle.std.proofs.Common.{◌≡◌, ◌∙◌, List, Option, None, slice_set, sym, ap, subst}
+use Rattle.std.proofs.Common.{◌≡◌, ◌∙◌, ℕ, List, Option, None, slice_set, refl, sym, ap, subst}
 use Rattle.std.proofs.lemmas.Option.{get_or_from_slice_get}
 use Rattle.iom_ats_cache.specs.Cache.{Cache}
-use Rattle.iom_world.specs.declared.device.Device.{Device}
-use Rattle.iom_world.specs.Caches.{device_with, cache_in, IsPlaceOf}
-use Rattle.iom_world.specs.Deliveries.{TakesInto}
+use Rattle.iom_device.specs.declared.device.Device.{Device}
+use Rattle.iom_fabric.specs.declared.message.Translation.{Translation}
+use Rattle.iom_machine.specs.declared.outcome.Outcome.TheVariants.{Ignored}
+use Rattle.iom_device.specs.Caches.{device_with, cache_in, cache_of, IsPlaceOf}
+use Rattle.iom_composition.specs.Deliveries.{TakesInto}
 use Rattle.iom_world.specs.Told.{outcome_of}
-use Rattle.iom_world.proofs.CachePlaces.{with_none, takes_none}
+use Rattle.iom_device.proofs.CachePlaces.{with_none}
 use Rattle.iom_world.proofs.deliveries.take_answer.Goals as goal
+
+-- a device that isn't there has no cache, and ignores what comes for it
+takes_none : (devices : List Device) (id epoch page : ℕ) (answer : Translation) → device_with devices id ≡ None
+    → TakesInto (cache_of devices id) epoch page answer Ignored None
+takes_none devices id epoch page answer none = rw (ap cache_in none) (refl, refl)
 
 pub returns-in-Some : goal.returns-in-Some
 returns-in-Some c =
     let devices = c.args.devices.now.items in
-    let after : Option Cache = c.take.new.self.cache in
+    let after : Option Cache = c.take.new.device.cache in
     let is : IsPlaceOf devices c.args.id c.in-Some.place = subst (λ (ds : List Device). IsPlaceOf ds c.args.id c.in-Some.place) c.deref.ensures.value c.in-Some.ensures in
     let read : c.index_mut.result.now ≡ is.0 = c.index_mut.ensures.value ∙ get_or_from_slice_get devices c.in-Some.place is.0 c.index_mut.result.now is.1 in (
       after,

@@ -1,8 +1,8 @@
 use Rattle.std.proofs.Common.{◌≡◌, List, None, sym, subst}
-use Rattle.iom_world.specs.declared.device.Device.{Device}
-use Rattle.iom_world.specs.Caches.{cache_of, device_with}
-use Rattle.iom_world.specs.Recovery.{reset_of}
-use Rattle.iom_world.proofs.CachePlaces.{with_none}
+use Rattle.iom_device.specs.declared.device.Device.{Device}
+use Rattle.iom_device.specs.Caches.{cache_of, device_with}
+use Rattle.iom_device.specs.Calls.{reset_of}
+use Rattle.iom_device.proofs.CachePlaces.{with_none}
 use Rattle.iom_world.proofs.recovery.reset.Goals as goal
 
 pub returns-in_default : goal.returns-in_default

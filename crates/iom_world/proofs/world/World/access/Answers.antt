@@ -1,8 +1,8 @@
 use Rattle.std.proofs.Common.{◌≡◌, ◌∙◌, Bool, true, false, ap, sym, subst}
 use Rattle.iom_copies.specs.Attachments.{caches_translations}
 use Rattle.iom_iommu.specs.Requests.{access_of}
-use Rattle.iom_world.specs.BlockDevices.{GoesToMemory}
-use Rattle.iom_world.specs.Caches.{kind_in}
+use Rattle.iom_composition.specs.BlockDevices.{GoesToMemory}
+use Rattle.iom_device.specs.Caches.{kind_in}
 use Rattle.iom_world.specs.Seen.{parts_of}
 use Rattle.iom_world.specs.Told.{outcome_of}
 use Rattle.iom_world.proofs.world.World.access.Goals as goal

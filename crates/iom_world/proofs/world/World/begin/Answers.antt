@@ -2,9 +2,9 @@ use Rattle.std.proofs.Common.{inl, sym, subst, arith}
 use Rattle.iom_iommu.specs.Requests.{access_of}
 use Rattle.iom_machine.specs.declared.event.Event.TheVariants as events
 use Rattle.iom_machine.specs.declared.outcome.Outcome.{Outcome}
-use Rattle.iom_world.specs.BlockDevices.{BeginsAccess}
+use Rattle.iom_composition.specs.BlockDevices.{BeginsAccess}
 use Rattle.iom_world.specs.Seen.{parts_of}
-use Rattle.iom_world.proofs.EventLemmas.{sound_counted, below_counted}
+use Rattle.iom_composition.proofs.EventLemmas.{sound_counted, below_counted}
 use Rattle.iom_world.proofs.HappensLemmas.{happens}
 use Rattle.iom_world.proofs.world.World.begin.Goals as goal
 

@@ -2,13 +2,13 @@ use Rattle.std.proofs.Common.{◌≡◌, ◌∙◌, inl, inr, true, ℕ, List, N
 use Rattle.std.specs.Borrow.{Bor}
 use Rattle.std.specs.Option.{option_map}
 use Rattle.std.proofs.lemmas.Bool.{false≢true}
-use Rattle.iom_world.specs.declared.device.Device.{Device}
-use Rattle.iom_world.specs.BlockDevices.{MayTake}
-use Rattle.iom_world.specs.Caches.{device_with}
+use Rattle.iom_device.specs.declared.device.Device.{Device}
+use Rattle.iom_composition.specs.BlockDevices.{MayTake}
+use Rattle.iom_device.specs.Caches.{device_with}
 use Rattle.iom_world.specs.Seen.{parts_of}
-use Rattle.iom_world.specs.Sound.{AreSound}
-use Rattle.iom_world.proofs.BlockKeeps.{disk_sound}
-use Rattle.iom_world.proofs.PresentLemmas.{kind_absent}
+use Rattle.iom_composition.specs.Sound.{AreSound}
+use Rattle.iom_composition.proofs.BlockKeeps.{disk_sound}
+use Rattle.iom_composition.proofs.PresentLemmas.{kind_absent}
 use Rattle.iom_world.proofs.world.World.medium.Goals as goal
 
 pub returns-in_default-clause-does : goal.returns-in_default-clause-does

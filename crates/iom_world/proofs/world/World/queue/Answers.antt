@@ -1,11 +1,11 @@
 use Rattle.std.proofs.Common.{◌∙◌, inl, inr, List, refl, sym, ap}
 use Rattle.iom_machine.specs.declared.outcome.Outcome.TheVariants as outcome
 use Rattle.iom_virtqueue.specs.Layouts.{layout_of}
-use Rattle.iom_world.specs.declared.device.Device.{Device}
-use Rattle.iom_world.specs.Parts.{Parts}
+use Rattle.iom_device.specs.declared.device.Device.{Device}
+use Rattle.iom_composition.specs.Parts.{Parts}
 use Rattle.iom_world.specs.Seen.{parts_of}
-use Rattle.iom_world.proofs.BlockKeeps.{keeps_queue}
-use Rattle.iom_world.proofs.PresentLemmas.{kind_absent}
+use Rattle.iom_composition.proofs.BlockKeeps.{keeps_queue}
+use Rattle.iom_composition.proofs.PresentLemmas.{kind_absent}
 use Rattle.iom_world.proofs.world.World.queue.Goals as goal
 
 pub returns-in_default-clause-does : goal.returns-in_default-clause-does

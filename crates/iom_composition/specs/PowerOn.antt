@@ -1,0 +1,12 @@
+-- The IOMMU of a world at power-on.
+use Rattle.std.specs.Prelude.{◌≡◌, ℕ}
+use Rattle.iom_driver.specs.Calls.{turned_on}
+use Rattle.iom_driver.specs.Layout.{ddtp_of}
+use Rattle.iom_iommu.specs.Parts.{IsAtPowerOn, mmio}
+use Rattle.iom_registers.specs.declared.register.Register.TheVariants.{Ddtp}
+use Rattle.iom_composition.specs.OwnIommu.{Iommu}
+
+-- the IOMMU was at power-on, and then the driver wrote `ddtp` and turned its queues on
+abbrev pub IsStartedIommu : ℕ → ℕ → Iommu → Type 0
+IsStartedIommu frames levels iommu =
+    (cold : Iommu) × IsAtPowerOn frames cold × (iommu ≡ turned_on mmio frames (mmio.after cold Ddtp (ddtp_of frames levels)))

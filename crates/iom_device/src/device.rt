@@ -1,0 +1,102 @@
+//! A plugged device, as the world keeps it.
+ghost use Rattle.std.specs.Prelude.{◌≡◌, ◌+◌, ◌<◌, ◌^◌, None, MatchOption, is_some};
+ghost use Rattle.std.specs.Option.{option_and_then};
+ghost use Rattle.iom_ats_cache.specs.Cache.{Cache, frame_for};
+ghost use Rattle.iom_device.specs.Caches.{epoch_of, device_with, IsPlaceOf};
+ghost use Rattle.iom_device.specs.Calls.{Obeys, new_cache, reset_of};
+
+use iom_ats_cache::Atc;
+use iom_base::{AccessKind, DeviceId};
+use iom_fabric::{Message, PageNumber, Range, Translation};
+use iom_machine::DeviceKind;
+
+/// A plugged device. How it is attached the driver knows, and what it has in flight the IOMMU.
+#[derive(Drop)]
+pub struct Device {
+    pub id: DeviceId,
+    pub kind: DeviceKind,
+    /// Whether it is a block device with a disk.
+    pub has_disk: bool,
+    /// Its own cache of translations, where its kind has one.
+    pub cache: Option<Atc>,
+}
+
+/// The cache of a device that is plugged in, with nothing in it, where its kind has one.
+fn new_cache(kind: DeviceKind) -> Option<Atc>
+    ensures { result ≡ new_cache kind }
+{
+    if kind.has_cache() {
+        Some(Atc::new())
+    } else {
+        None
+    }
+}
+
+/// Where the device with this id stands.
+pub fn place_of(devices: &[Device], id: DeviceId) -> Option<usize>
+    ensures { MatchOption result (device_with devices.now id ≡ None) (IsPlaceOf devices.now id) }
+{
+    for place in 0..devices.len() {
+        if devices[place].id == id {
+            return Some(place);
+        }
+    }
+    None
+}
+
+impl Device {
+    /// A device that is plugged in, with its disk, if one is named. Its cache, where its kind has one, is empty.
+    pub fn new(id: DeviceId, kind: DeviceKind, disk: Option<u64>) -> Device
+        ensures { result ≡ record { id = id; kind = kind; has_disk = is_some disk; cache = new_cache kind } }
+    {
+        Device {
+            id,
+            kind,
+            has_disk: disk.is_some(),
+            cache: new_cache(kind),
+        }
+    }
+
+    /// The epoch of its cache; 0 where it has none.
+    pub fn epoch(&self) -> u64
+        ensures { result ≡ epoch_of self.now.cache }
+    {
+        match &self.cache {
+            Some(cache) => cache.epoch(),
+            None => 0,
+        }
+    }
+
+    /// The frame that its cache has for an access of this kind to the page.
+    pub fn look(&self, page: PageNumber, kind: AccessKind) -> Option<u32>
+        ensures { result ≡ option_and_then (λ (cache : Cache). frame_for cache page kind) self.now.cache }
+    {
+        match &self.cache {
+            Some(cache) => cache.look(page, kind),
+            None => None,
+        }
+    }
+
+    /// Is reset: where it has a cache, that is empty then, and a new epoch has begun.
+    pub fn reset(&mut self)
+        requires { epoch_of self.old.cache + 1 < 2 ^ 64 }
+        ensures cache { self.new.cache ≡ reset_of self.old.cache }
+        ensures rest { self.new ≡ record self.old { cache = self.new.cache } }
+    {
+        if let Some(cache) = &mut self.cache {
+            cache.reset();
+        }
+    }
+
+    /// Obeys a request to invalidate, and ignores it where it has no cache: its word that it is done.
+    pub fn obey(&mut self, serial: u64, range: Range) -> Option<Message>
+        requires { epoch_of self.old.cache + 1 < 2 ^ 64 }
+        ensures obeyed { Obeys self.old.cache serial range result self.new.cache }
+        ensures rest { self.new ≡ record self.old { cache = self.new.cache } }
+    {
+        match &mut self.cache {
+            Some(cache) => Some(cache.invalidate(serial, range)),
+            None => None,
+        }
+    }
+}
