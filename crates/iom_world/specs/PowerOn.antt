@@ -2,6 +2,7 @@
 use Rattle.std.specs.Prelude.{◌≡◌, ℕ, List, [], replicate}
 use Rattle.iom_machine.specs.PowerOn.{opening}
 use Rattle.iom_phys_mem.specs.Words.{zeroed}
+use Rattle.iom_composition.specs.PowerOn.{IsStartedIommu}
 use Rattle.iom_world.specs.declared.world.World.{World}
 use Rattle.iom_world.specs.Seen.{commands_of}
 use Rattle.iom_world.specs.Shows.{Shows}

@@ -12,7 +12,7 @@ use iom_machine::{BlockStep, FaultRecord, Fetched, Outcome};
 
 /// What comes of an event, but for bytes that are read. An outcome is as large as a page, since those
 /// stand in it; this is small, and is handed from call to call.
-#[derive(Clone, Copy, PartialEq, Eq, Debug)]
+#[derive(Clone, Copy)]
 pub(crate) enum Told {
     Done,
     Refused(Refusal),
