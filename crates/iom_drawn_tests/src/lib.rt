@@ -1,12 +1,12 @@
 //! Drawn runs of worlds, judged step by step by the ledger machine's own judge.
 //!
-//! The crate has tests alone, and nothing stands on it. `modes` draws runs of three raw devices, one in each mode: a
-//! guest's own tables (hypervisor extension, "Two-Stage Address Translation") are written between any two events, by the
-//! device in both stages and by the processor. `ats` draws runs with address translation services (PCI Express Base
-//! Specification, chapter 10): two devices with a cache of translations of their own ask, keep, use and drop
-//! translations, while a raw device forges; messages are delivered in any order, lost and repeated. In half of these the
-//! devices come and go as well: they are cut off, revived, detached, attached again and reset, fences that wait for them
-//! are given up, and the command queue is restarted.
+//! The crate has tests alone, and nothing stands on it. Three kinds of runs are drawn (`Plan`). In the first there are
+//! three raw devices, one in each mode: a guest's own tables (hypervisor extension, "Two-Stage Address Translation") are
+//! written between any two events, by the device in both stages and by the processor. The second has address translation
+//! services (PCI Express Base Specification, chapter 10): two devices with a cache of translations of their own ask,
+//! keep, use and drop translations, while a raw device forges; messages are delivered in any order, lost and repeated.
+//! In the third the devices come and go as well: they are cut off, revived, detached, attached again and reset, fences
+//! that wait for them are given up, and the command queue is restarted.
 //!
 //! Three things the judge is asked that no line says. One is the frame on which an access was accepted: the runs let it
 //! show later, since every frame names itself in its last eight bytes, which each read takes in, and each write has
@@ -16,6 +16,22 @@
 #![tactic(auto)]
 
 #[cfg(test)]
-mod ats;
+mod choices;
 #[cfg(test)]
-mod modes;
+mod draw;
+#[cfg(test)]
+mod drawn_ats;
+#[cfg(test)]
+mod drawn_modes;
+#[cfg(test)]
+mod judged;
+#[cfg(test)]
+mod lifecycle;
+#[cfg(test)]
+mod messages;
+#[cfg(test)]
+mod notes;
+#[cfg(test)]
+mod recovering;
+#[cfg(test)]
+mod run;

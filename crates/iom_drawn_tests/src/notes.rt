@@ -1,6 +1,7 @@
 // What is counted of a run.
 
-use crate::ats::run::Step;
+use crate::run::Step;
+use iom_base::DeviceId;
 use iom_ledger::Refusal;
 use iom_machine::{Event, Fetched, Outcome};
 
@@ -138,6 +139,16 @@ fn count(steps: &[Step], asked: Note) -> usize {
     steps
         .iter()
         .filter(|step| noted(step) == Some(asked))
+        .count()
+}
+
+/// How many accesses of the device were made.
+pub(crate) fn count_made(steps: &[Step], asked: DeviceId) -> usize {
+    let of_device = steps.iter().filter(
+        |step| matches!(&step.event, Event::Commit { device } if *device == asked),
+    );
+    of_device
+        .filter(|step| !matches!(step.outcome, Outcome::NothingInFlight))
         .count()
 }
 

@@ -1,7 +1,7 @@
 // What the lines don't show, by the rule of the driver: the highest free frames become tables, and pages of the
 // directory.
 
-use crate::ats::run::Step;
+use crate::run::Step;
 use iom_base::{Access, AccessKind, DeviceId, Mode, Owner, Sequence};
 use iom_machine::{Choice, Event, Outcome, State};
 use std::alloc::{AllocError, Global};

@@ -1,7 +1,7 @@
 // The judge of the ledger machine over a run.
 
-use crate::ats::choices::Choices;
-use crate::ats::run::Run;
+use crate::choices::Choices;
+use crate::run::Run;
 use iom_machine::power_on;
 use iom_machine_judge::judge;
 use std::alloc::{AllocError, Global};

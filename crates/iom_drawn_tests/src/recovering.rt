@@ -3,8 +3,8 @@
 ghost use Rattle.std.specs.Prelude.{IfSome};
 ghost use Rattle.iom_composition.specs.Stays.{IsNoChoice};
 
-use crate::ats::draw::{Draw, NAME_AT};
-use crate::ats::run::Run;
+use crate::draw::{Draw, NAME_AT};
+use crate::run::Run;
 use iom_base::{DeviceId, Mode};
 use iom_machine::{CommandName, Event, Fetched, Outcome};
 use std::test::Fail;

@@ -189,21 +189,28 @@ impl Draw {
         }
     }
 
-    /// An untranslated read or one through a cache, up to the end of a page, so that it takes in the frame's name.
-    fn read(&mut self) -> Event
+    /// An untranslated read up to the end of a page, so that it takes in the frame's name.
+    fn plain_read(&mut self) -> Event
         ensures { IsNoChoice result }
     {
         let before = self.below(8);
-        let address = self.page() + NAME_AT - before;
-        let len = 8 + before;
+        Event::Read {
+            device: self.device(),
+            address: self.page() + NAME_AT - before,
+            len: 8 + before,
+        }
+    }
+
+    /// Such a read, or one through a cache.
+    fn read(&mut self) -> Event
+        ensures { IsNoChoice result }
+    {
         if self.below(3) == 0 {
-            let device = self.device();
-            Event::Read {
-                device,
-                address,
-                len,
-            }
+            self.plain_read()
         } else {
+            let before = self.below(8);
+            let address = self.page() + NAME_AT - before;
+            let len = 8 + before;
             let device = self.asker();
             Event::ReadThroughCache {
                 device,
@@ -213,33 +220,43 @@ impl Draw {
         }
     }
 
-    /// Such a write, of an entry of a table, and behind it of a word that no other write has.
-    fn write(&mut self, alloc: Global, own: u64) -> Result<Event, AllocError>
-        ensures { IfOk result (λ event. IsNoChoice event) }
+    /// Where an entry of a table is written.
+    fn place_of_entry(&mut self) -> u64
+        ensures { result < 36864 }
     {
         let place = if self.below(2) == 0 {
             self.below(8)
         } else {
             self.below(509)
         };
-        let address = self.page() + 8 * place;
+        self.page() + 8 * place
+    }
+
+    /// An untranslated write of an entry of a table, and behind it of a word that no other write has.
+    fn plain_write(&mut self, alloc: Global, own: u64) -> Result<Event, AllocError>
+        ensures { IfOk result (λ event. IsNoChoice event) }
+    {
         let entry = self.entry(2);
-        let bytes = bytes_of(alloc, &[entry, own])?;
+        Ok(Event::Write {
+            device: self.device(),
+            address: self.place_of_entry(),
+            bytes: bytes_of(alloc, &[entry, own])?,
+        })
+    }
+
+    /// Such a write, or one through a cache.
+    fn write(&mut self, alloc: Global, own: u64) -> Result<Event, AllocError>
+        ensures { IfOk result (λ event. IsNoChoice event) }
+    {
         if self.below(3) == 0 {
-            let device = self.device();
-            Ok(Event::Write {
-                device,
-                address,
-                bytes,
-            })
-        } else {
-            let device = self.asker();
-            Ok(Event::WriteThroughCache {
-                device,
-                address,
-                bytes,
-            })
+            return self.plain_write(alloc, own);
         }
+        let entry = self.entry(2);
+        Ok(Event::WriteThroughCache {
+            device: self.asker(),
+            address: self.place_of_entry(),
+            bytes: bytes_of(alloc, &[entry, own])?,
+        })
     }
 
     /// A request at an address of one of the granted frames, that says it is translated.
@@ -276,6 +293,24 @@ impl Draw {
             3 => self.forge(requests),
             4..=7 => self.ask(),
             _ => Event::Deliver { place },
+        }
+    }
+
+    /// An event that isn't a poke, of devices that have no cache and send no message. A write of it ends with this word.
+    pub(crate) fn plain_event(&mut self, alloc: Global, own: u64) -> Result<Event, AllocError>
+        ensures { IfOk result (λ event. IsNoChoice event) }
+    {
+        match self.below(24) {
+            0..=3 => Ok(self.grant()),
+            4 => Ok(self.release()),
+            5..=8 => Ok(Event::Fetch),
+            9 | 10 => Ok(Event::Poll),
+            11 => Ok(Event::Faults),
+            12..=15 => Ok(self.plain_read()),
+            16 | 17 => self.plain_write(alloc, own),
+            _ => Ok(Event::Commit {
+                device: self.device(),
+            }),
         }
     }
 

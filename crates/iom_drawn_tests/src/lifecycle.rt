@@ -1,8 +1,8 @@
 //! The judge finds each step of the drawn runs lawful too in which devices come and go, and don't always answer.
 
-use crate::ats::judged::is_lawful;
-use crate::ats::notes::{Note, too_seldom};
-use crate::ats::run::{Plan, Run};
+use crate::judged::is_lawful;
+use crate::notes::{Note, too_seldom};
+use crate::run::{Plan, Run};
 use std::test::Fail;
 
 #[test]

@@ -3,8 +3,8 @@
 ghost use Rattle.std.specs.Prelude.{◌≡◌, ◌<◌, true};
 ghost use Rattle.iom_composition.specs.Stays.{IsNoChoice};
 
-use crate::ats::draw::{Draw, FIRST_FRAME, FRAMES, Ids, NAME_AT, bytes_of};
-use crate::ats::messages::{Messages, Question, Said};
+use crate::draw::{Draw, FIRST_FRAME, FRAMES, Ids, NAME_AT, bytes_of};
+use crate::messages::{Messages, Question, Said};
 use iom_base::{DeviceId, GrantRights, Mode};
 use iom_machine::{Event, NewDevice, Outcome};
 use iom_world::World;
@@ -28,6 +28,8 @@ const WIDE: Ids = Ids {
 /// What is drawn beside accesses, messages and what the driver does about pages.
 #[derive(Clone, Copy, PartialEq, Eq, Debug)]
 pub(crate) enum Plan {
+    /// Three raw devices, one in each mode, that stay attached and send no message.
+    Modes,
     /// Nothing: the devices stay attached, and each message that an invalidation waits for comes, mostly.
     Steady,
     /// Devices come and go, and messages are lost for good.
@@ -157,12 +159,30 @@ impl Run {
         self.happen(Event::Poke { address, bytes })
     }
 
-    /// The three devices, the pages in which a guest's tables are to stand, and frames that name themselves.
-    fn begin(&mut self, other: Mode) -> Result<(), Fail> {
+    /// Three raw devices, one in each mode.
+    fn plug_raw(&mut self) -> Result<(), Fail> {
+        let ids = self.ids;
+        self.plug_and_attach(ids.first, NewDevice::Raw, Mode::First, false)?;
+        self.plug_and_attach(ids.other, NewDevice::Raw, Mode::Both, false)?;
+        self.plug_and_attach(ids.raw, NewDevice::Raw, Mode::Second, false)
+    }
+
+    /// Two devices with a cache, of which one is in this mode, and a raw one.
+    fn plug_caches(&mut self, other: Mode) -> Result<(), Fail> {
         let ids = self.ids;
         self.plug_and_attach(ids.first, NewDevice::Ats, Mode::First, true)?;
         self.plug_and_attach(ids.other, NewDevice::Ats, other, true)?;
-        self.plug_and_attach(ids.raw, NewDevice::Raw, Mode::First, false)?;
+        self.plug_and_attach(ids.raw, NewDevice::Raw, Mode::First, false)
+    }
+
+    /// The three devices, the pages in which a guest's tables are to stand, and frames that name themselves.
+    fn begin(&mut self, other: Mode) -> Result<(), Fail> {
+        let ids = self.ids;
+        if self.plan == Plan::Modes {
+            self.plug_raw()?;
+        } else {
+            self.plug_caches(other)?;
+        }
         self.grant_first(ids.other, 3)?;
         for frame in FIRST_FRAME..FIRST_FRAME + FRAMES {
             self.name(frame)?;
@@ -276,7 +296,11 @@ impl Run {
 
     /// A drawn event, other than a poke, of accesses, messages and what the driver does about pages.
     fn happen_drawn(&mut self, draw: &mut Draw, own: u64) -> Result<(), Fail> {
-        let event = draw.event(self.alloc, own, self.messages.requests())?;
+        let event = if self.plan == Plan::Modes {
+            draw.plain_event(self.alloc, own)?
+        } else {
+            draw.event(self.alloc, own, self.messages.requests())?
+        };
         match event {
             Event::Commit { device } => self.commit(device),
             Event::Drop { place } => self.lose(draw, place),
@@ -312,7 +336,8 @@ impl Run {
     }
 
     /// A run of so many events drawn from the seed, beside those that show where accesses went; what is in
-    /// flight at its end is made. One device is in the second stage or, in every other run, in both. Of the
+    /// flight at its end is made. One device is in the second stage or, in every other run, in both; of three raw
+    /// ones, one is in each mode. Of the
     /// runs in which devices come and go, every other two have a directory of three levels.
     pub(crate) fn drawn(
         alloc: Global,
