@@ -3,9 +3,9 @@
 ghost use Rattle.std.specs.Prelude.{◌<◌, IfOk};
 ghost use Rattle.iom_composition.specs.Stays.{IsNoChoice};
 
-use iom_base::{DeviceId, GrantRights, Sequence};
+use iom_base::{DeviceId, GrantRights, Mode, Sequence};
 use iom_fabric::PageNumber;
-use iom_machine::Event;
+use iom_machine::{Event, NewDevice};
 use std::alloc::{AllocError, Global};
 
 /// The first frame that is granted; the others follow.
@@ -296,6 +296,29 @@ impl Draw {
         }
     }
 
+    /// An event that is refused, or that leaves its page: a device is plugged in or attached once more.
+    fn refused(&mut self) -> Event
+        ensures { IsNoChoice result }
+    {
+        let device = self.device();
+        match self.below(3) {
+            0 => Event::Plug {
+                device,
+                new: NewDevice::Raw,
+            },
+            1 => Event::Attach {
+                device,
+                mode: Mode::First,
+                ats: false,
+            },
+            _ => Event::Read {
+                device,
+                address: self.page() + NAME_AT,
+                len: 9 + self.below(8),
+            },
+        }
+    }
+
     /// An event that isn't a poke, of devices that have no cache and send no message. A write of it ends with this word.
     pub(crate) fn plain_event(&mut self, alloc: Global, own: u64) -> Result<Event, AllocError>
         ensures { IfOk result (λ event. IsNoChoice event) }
@@ -308,6 +331,7 @@ impl Draw {
             11 => Ok(Event::Faults),
             12..=15 => Ok(self.plain_read()),
             16 | 17 => self.plain_write(alloc, own),
+            18 => Ok(self.refused()),
             _ => Ok(Event::Commit {
                 device: self.device(),
             }),

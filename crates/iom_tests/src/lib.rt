@@ -1,5 +1,5 @@
-//! Calls of the public functions of `iom_world`, `iom_platform` and `iom_runner`, on their happy paths and at their edges:
-//! one module for each, and one for worlds that are drawn. Those of the crates below have crates of their own.
+//! Calls of the public functions of `iom_world`, `iom_platform` and `iom_runner`, on their happy paths and at their edges,
+//! one module for each. Worlds that are drawn are in `iom_drawn_tests`, and those of the crates below in crates of their own.
 //!
 //! The crate has tests alone, and nothing stands on it. It stands apart from the crates that it calls
 //! because a crate with tests of its own is proved twice, without them and with them. Beside it
@@ -8,8 +8,6 @@
 
 #[cfg(test)]
 mod block_devices;
-#[cfg(test)]
-mod drawn_worlds;
 #[cfg(test)]
 mod expect;
 #[cfg(test)]
