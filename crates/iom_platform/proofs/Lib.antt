@@ -9,3 +9,4 @@ pub mod PassLemmas
 pub mod PlugLemmas
 pub mod StartLemmas
 pub mod RunLemmas
+pub mod NeverRefused

@@ -34,13 +34,20 @@ kept_from : {D : Type 0} {d : Ghosts D} (entries : List Entry) (new : List Entry
 kept_from entries new id block other at now same =
     now ∙ ap (λ drive. with_has entries id (is_some drive.disk)) same ∙ with_same entries id (is_some block.blk.drive.disk) at
 
+-- what is there in one way alone
+some_is : {A : Type 0} (x y : A) → ◌≡◌ {A = Option A} (Some x) (Some y) → x ≡ y
+some_is x y same = cc
+
+none_is : {A : Type 0} (x : A) → ◌≡◌ {A = Option A} None (Some x) → ⊥
+none_is x same = cc
+
 -- the first block device with the id
 pub place_is : {D : Type 0} {d : Ghosts D} (held : D → List (List ℕ)) (failed : D → ℕ) (blocks : List (Block D d)) (id place : ℕ) (block : Block D d)
     → slice_get blocks place ≡ Some block → block.id ≡ id → ((k : ℕ) (other : Block D d) → k < place → slice_get blocks k ≡ Some other → other.id ≢ id)
     → IsPlaceOf held failed blocks id place
-place_is held failed [] id place block at own none = cc
+place_is held failed [] id place block at own none = absurd (none_is block at)
 place_is {D = D} {d = d} held failed (first ∷ others) id zero block at own none =
-    let same : first ≡ block = cc in
+    let same : first ≡ block = some_is first block at in
     let is = eq-eqb first.id id (ap (λ (b : Block D d). b.id) same ∙ own) in
     let entries_now : (other : Block D d) → other.id ≡ first.id → entries_of (other ∷ others) ≡ with_has (entries_of (first ∷ others)) id (is_some other.blk.drive.disk) =
     λ other own. rw is (ap (λ (n : ℕ). entry_first n (is_some other.blk.drive.disk) (entries_of others)) own) in

@@ -14,7 +14,7 @@ use Rattle.iom_device.specs.Caches.{IsAble}
 use Rattle.iom_composition.specs.Parts.{Parts}
 use Rattle.iom_composition.specs.Unable.{IsUnknown, IsUnable}
 use Rattle.iom_composition.proofs.PresentLemmas.{kind_present}
-use Rattle.iom_platform.specs.Blocks.{IsStatusOf, RefusedIfNone, StepsOnce, EndsStep}
+use Rattle.iom_platform.specs.Blocks.{IsNoRefusal, IsStatusOf, RefusedIfNone, StepsOnce, EndsStep}
 use Rattle.iom_platform.specs.Seen.{BlockSeen}
 
 -- of a block device a step that began no access is told
@@ -76,9 +76,9 @@ pub refused_if : (found : Option BlockSeen) (old new : Parts) (id : ℕ) (told :
 refused_if None old new id told none refused = refused
 refused_if (Some block) old new id told none refused = cc
 
-pub refused_not : (found : Option BlockSeen) (block : BlockSeen) (old new : Parts) (id : ℕ) (told : Outcome) → found ≡ Some block → RefusedIfNone found old id told new
-refused_not None block old new id told there = cc
-refused_not (Some other) block old new id told there = tt
+pub refused_not : (found : Option BlockSeen) (block : BlockSeen) (old new : Parts) (id : ℕ) (told : Outcome) → found ≡ Some block → IsNoRefusal told → RefusedIfNone found old id told new
+refused_not None block old new id told there never = cc
+refused_not (Some other) block old new id told there never = never
 
 -- a step that began no access, whole
 pub once : (old new : Parts) (id : ℕ) (told : Outcome) (before between : Device) (result taken : Step) → result ≡ taken → Steps before result between → EndsStep taken old id between told new between

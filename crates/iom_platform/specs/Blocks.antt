@@ -224,10 +224,15 @@ pub record StepsOnce (old : Parts) (id : ℕ) (told : Outcome) (new : Parts) (be
   pub steps : Steps before taken between
   pub ends : EndsStep taken old id between told new after
 
--- where there is no block device with the id, the event is refused
+-- what is told is no refusal
+abbrev pub IsNoRefusal : Outcome → Type 0
+IsNoRefusal (outcome.Refused why) = ⊥
+IsNoRefusal told = ⊤
+
+-- where there is no block device with the id, the event is refused, and else it isn't
 abbrev pub RefusedIfNone : Option BlockSeen → Parts → ℕ → Outcome → Parts → Type 0
 RefusedIfNone None old id told new = IsUnknown old id told new ⊎ IsUnable is_block_device old id told new
-RefusedIfNone (Some block) old id told new = ⊤
+RefusedIfNone (Some block) old id told new = IsNoRefusal told
 
 -- A BLOCK DEVICE TAKES A STEP
 abbrev pub TakesStepOf : Seen → ℕ → Outcome → Seen → Type 0

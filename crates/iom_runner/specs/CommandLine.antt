@@ -1,7 +1,7 @@
 -- The command lines of the program.
 use Rattle.std.specs.Prelude.{ℕ, Bool, true, false, not, ◌==◌, ◌&&◌, ◌||◌, List, [], ◌∷◌, Option, None, Some, codes, if◌then◌else◌}
 use Rattle.std.specs.Str.{bytes_eq}
-use Rattle.clap.specs.Simple.{App, new_rule, new_shape}
+use Rattle.clap.specs.Simple.{App, Shape, new_rule, new_shape}
 use Rattle.clap.specs.Walk.{Rule}
 use Rattle.clap.specs.declared.builder.action.ArgAction.TheVariants.{Set, SetTrue}
 
@@ -40,14 +40,13 @@ trace_rule = record (new_rule (codes "trace")) { long = Some (codes "trace"); ac
 abbrev pub file_rule : Rule
 file_rule = record (new_rule (codes "file")) { action = Some Set }
 
+-- a parser of nothing but words, which offers neither help nor a version
+abbrev pub bare_shape : Shape
+bare_shape = record (new_shape (codes "iommu-run")) { no_binary_name = true; disable_help_flag = true; disable_version_flag = true }
+
+abbrev pub bare_command : App
+bare_command = record { top = bare_shape; subs = [] }
+
 -- what the parser of the command line reads: the flag and the file
 abbrev pub program_command : App
-program_command = record {
-  top = record (new_shape (codes "iommu-run")) {
-    rules = trace_rule ∷ file_rule ∷ [];
-    no_binary_name = true;
-    disable_help_flag = true;
-    disable_version_flag = true;
-  };
-  subs = [];
-}
+program_command = record { top = record bare_shape { rules = trace_rule ∷ file_rule ∷ [] }; subs = [] }

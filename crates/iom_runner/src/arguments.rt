@@ -1,7 +1,8 @@
 // What a command line says.
-ghost use Rattle.std.specs.Prelude.{◌≡◌, ◌≢◌, true, map, option_map, IfOk, Err};
+ghost use Rattle.std.specs.Prelude.{◌≡◌, ◌≢◌, true, false, map, option_map, IfOk, Err};
 ghost use Rattle.clap.specs.Simple.{app_of};
-ghost use Rattle.iom_runner.specs.CommandLine.{is_trace, is_file, is_command_line, wants_trace, named_file, program_command};
+ghost use Rattle.clap.specs.Walk.{rule_of};
+ghost use Rattle.iom_runner.specs.CommandLine.{is_trace, is_file, is_command_line, wants_trace, named_file, trace_rule, file_rule, bare_command, program_command};
 
 use crate::faults::ArgsFault;
 use clap::error::ErrorKind;
@@ -46,20 +47,43 @@ fn is_lawful(words: &[&str]) -> bool
     }
 }
 
-/// The parser of the command line: one flag, and one file, which may be left out.
-fn parser<'a>(alloc: Global) -> Result<Command<'a>, AllocError>
-    ensures { IfOk result (λ command. app_of command ≡ program_command) }
+/// The flag that asks for the counts.
+fn trace_flag<'a>(alloc: Global) -> Arg<'a>
+    ensures rule { rule_of result ≡ trace_rule }
+    ensures local { result.global ≡ false }
 {
-    let trace = Arg::new(alloc, "trace")
+    Arg::new(alloc, "trace")
         .long("trace")
-        .action(ArgAction::SetTrue);
-    let file = Arg::new(alloc, "file").action(ArgAction::Set);
+        .action(ArgAction::SetTrue)
+}
+
+/// The file, which may be left out.
+fn script_file<'a>(alloc: Global) -> Arg<'a>
+    ensures rule { rule_of result ≡ file_rule }
+    ensures local { result.global ≡ false }
+{
+    Arg::new(alloc, "file").action(ArgAction::Set)
+}
+
+/// A parser that takes nothing yet, and offers neither help nor a version.
+fn bare_parser<'a>(alloc: Global) -> Command<'a>
+    ensures { app_of result ≡ bare_command }
+{
     Command::new(alloc, "iommu-run")
         .no_binary_name(true)
         .disable_help_flag(true)
         .disable_version_flag(true)
-        .arg(trace)?
-        .arg(file)
+}
+
+/// The parser of the command line: one flag, and one file.
+// Its parts have functions of their own: each call of a parser's says much of it, and one function that made them all
+// took a quarter of this crate's check.
+fn parser<'a>(alloc: Global) -> Result<Command<'a>, AllocError>
+    ensures { IfOk result (λ command. app_of command ≡ program_command) }
+{
+    bare_parser(alloc)
+        .arg(trace_flag(alloc))?
+        .arg(script_file(alloc))
 }
 
 /// What the words after the program's name say: `--trace` or not, and a file or none.

@@ -9,6 +9,7 @@ use Rattle.iom_platform.specs.Seen.{block_seen, blocks_seen}
 use Rattle.iom_platform.proofs.AgreementLemmas.{agree_kept}
 use Rattle.iom_platform.proofs.DiskStays.{disk_stays}
 use Rattle.iom_platform.proofs.KnownBlocks.{able_known, unable_known}
+use Rattle.iom_platform.proofs.NeverRefused.{step_not_refused}
 use Rattle.iom_platform.proofs.PlaceLemmas.{at_place, changed_from, changed_none, entries_from, none_entries}
 use Rattle.iom_platform.proofs.StepLemmas.{get_lt, refused_if, refused_not, rest_refused}
 use Rattle.iom_platform.proofs.platform.Platform.take_step.Goals as goal
@@ -67,10 +68,14 @@ returns g c =
     let failed = g.D.Disk.failed in
     let self = c.args.self.now in
     let here = subst (λ blocks. IsPlaceOf held failed blocks c.args.device c.in-Some.place) c.deref.ensures.value c.in-Some.ensures in
-    let is = at_place held failed self.blocks.items c.args.device c.in-Some.place c.index_mut.result.now here c.index_mut.ensures.value in (
+    let is = at_place held failed self.blocks.items c.args.device c.in-Some.place c.index_mut.result.now here c.index_mut.ensures.value in
+    let has = is_some here.block.blk.drive.disk in
+    let able = able_known (parts_of self.world).devices c.args.device has self.world.sound.known.own_ids
+    (subst (λ (entries : List Entry). has_in entries c.args.device ≡ Some has) self.agrees.devices here.has) in (
       c.step_once.ensures.happens,
       (
-        refused_not (block_with (blocks_seen held failed self.blocks.items) c.args.device) (block_seen held failed here.block) (parts_of self.world) (parts_of c.step_once.new.world) c.args.device c.step_once.result.now here.found,
+        refused_not (block_with (blocks_seen held failed self.blocks.items) c.args.device) (block_seen held failed here.block) (parts_of self.world) (parts_of c.step_once.new.world) c.args.device c.step_once.result.now here.found
+            (step_not_refused (parts_of self.world) (parts_of c.step_once.new.world) c.args.device c.step_once.result.now _ _ able c.step_once.ensures.steps),
         (
           changed_from held failed (StepsOnce (parts_of self.world) c.args.device c.step_once.result.now (parts_of c.step_once.new.world)) self.blocks.items c.args.device c.in-Some.place c.index_mut.result.now
               (record { id = c.index_mut.result.now.id; blk = c.step_once.new.blk }) here is refl c.step_once.ensures.steps,

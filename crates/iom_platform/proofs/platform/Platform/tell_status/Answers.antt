@@ -9,6 +9,7 @@ use Rattle.iom_platform.specs.Places.{IsPlaceOf, has_in}
 use Rattle.iom_platform.specs.Seen.{block_seen, blocks_seen}
 use Rattle.iom_platform.proofs.AgreementLemmas.{agree_kept}
 use Rattle.iom_platform.proofs.KnownBlocks.{able_known, unable_known}
+use Rattle.iom_platform.proofs.NeverRefused.{told_so}
 use Rattle.iom_platform.proofs.PlaceLemmas.{at_place, none_entries}
 use Rattle.iom_platform.proofs.StepLemmas.{get_lt, refused_if, refused_not, status_told, status_refused, status_of, no_status}
 use Rattle.iom_platform.proofs.platform.Platform.tell_status.Goals as goal
@@ -57,7 +58,8 @@ returns g c =
     let status = c.status-status.ensures ∙ ap (λ block. device_status (block_seen held failed block).device.front.stage) is in (
       c.tell_status-2.ensures.happens,
       (
-        refused_not found (block_seen held failed here.block) (parts_of self.world) (parts_of c.tell_status-2.new.self) c.args.device c.tell_status-2.result.now here.found,
+        refused_not found (block_seen held failed here.block) (parts_of self.world) (parts_of c.tell_status-2.new.self) c.args.device c.tell_status-2.result.now here.found
+            (told_so (outcome.Status c.status-status.result) c.tell_status-2.result.now told tt),
         status_of found (block_seen held failed here.block) c.tell_status-2.result.now here.found (told ∙ ap (λ (n : ℕ). outcome.Status n) status),
         (refl, refl),
       ),
