@@ -46,8 +46,22 @@ impl DirCache {
         if *last == id { Some(*context) } else { None }
     }
 
-    /// The context that is cached for the device. Nothing changes but which goes next.
+    /// The context that is cached for the device, by a search.
+    // On its own, so that the look at the last one is short enough to be written into its callers.
+    #[inline(never)]
     #[tactic(auto, using(crate::proofs::CachedIds::looked), unfolding(crate::specs::Cached::cached_contexts))]
+    fn search(&mut self, id: DeviceId) -> Option<Context>
+        ensures { LooksUp (cached_contexts self.old) id result (cached_contexts self.new) }
+    {
+        // Its contract says that the keys are distinct, here and below.
+        let _ = self.contexts.len();
+        let found = self.contexts.peek(&id).copied();
+        self.contexts.promote(&id);
+        found
+    }
+
+    /// The context that is cached for the device. Nothing changes but which goes next.
+    #[inline(always)]
     pub fn look(&mut self, id: DeviceId) -> Option<Context>
         ensures { LooksUp (cached_contexts self.old) id result (cached_contexts self.new) }
     {
@@ -55,11 +69,7 @@ impl DirCache {
         if let Some(context) = self.last_used(id) {
             return Some(context);
         }
-        // Its contract says that the keys are distinct, here and below.
-        let _ = self.contexts.len();
-        let found = self.contexts.peek(&id).copied();
-        self.contexts.promote(&id);
-        found
+        self.search(id)
     }
 
     /// Caches the context for the device. At most one other goes. Where none is cached for it yet, and there is

@@ -65,6 +65,7 @@ fn letting_ats(found: Result<Context, Cause>) -> Result<Context, Cause>
 
 /// The context that lets the device ask for translations and make translated requests. It is kept where it was found
 /// in the directory, also where it doesn't let it.
+#[inline(always)]
 pub(crate) fn find_ats_context(
     memory: &Memory,
     registers: &Registers,

@@ -59,6 +59,8 @@ fn space_of(context: &Context) -> Option<Space>
 }
 
 /// Where the walk of the context's stages ends. One of them at least isn't Bare.
+// On its own, so that a translation that is cached doesn't pay for it, and is written into its callers.
+#[inline(never)]
 fn walk(
     memory: &Memory,
     context: &Context,
@@ -129,6 +131,7 @@ fn find_cached<C: TransCache>(
 }
 
 /// The translation to which the stages of the context lead.
+#[inline(always)]
 fn translate<C: TransCache>(
     memory: &Memory,
     context: &Context,

@@ -3,15 +3,16 @@ use Rattle.std.proofs.Common.{◌≡◌, ◌==◌, ℕ, suc, zero, length, slice
 use Rattle.std.specs.Cmp.{nat_eq_equiv}
 use Rattle.std.specs.List.{list_any, IsDistinct}
 use Rattle.std.specs.Map.{lookup, lookup_key, keys_of}
-use Rattle.std.specs.Option.{option_and_then, option_map_or}
+use Rattle.std.specs.Option.{option_and_then, option_map, option_map_or}
 use Rattle.std.proofs.lemmas.Bool.{eqb-true, or_left, or_right}
 use Rattle.std.proofs.lemmas.List.Folds.{Any-from_list_any}
 use Rattle.std.proofs.lemmas.Map.Entries.{lookup_from_place}
-use Rattle.std.proofs.lemmas.Option.{slice_get_read}
-use Rattle.indexmap.specs.IndexMap.{get}
+use Rattle.std.proofs.lemmas.Option.{slice_get_read, slice_get-map}
+use Rattle.indexmap.proofs.CallerLemmas.{updates-with_value_at}
+use Rattle.indexmap.specs.IndexMap.{get, values, with_value_at, IsUnique}
 use Rattle.iom_ledger.specs.declared.page_row.PageRow.{PageRow}
 use Rattle.iom_ledger.specs.Rows.{Devices, Pages, row_at, pages_in, entries_of, waits_for, NoneWaitsFrom}
-use Rattle.iom_ledger.specs.RowChanges.{unless_waiting, TakesRow, DropsSome}
+use Rattle.iom_ledger.specs.RowChanges.{released_row, released_row_if_any, unless_waiting, DropsSome}
 
 -- where no entry waits for the ticket, no row does
 unless_waiting-entry : (es : List (ℕ × PageRow)) (ticket page : ℕ) → ((k : ℕ) (e : ℕ × PageRow) → slice_get es k ≡ Some e → waits_for e.1.ticket ticket ≡ false)
@@ -63,7 +64,7 @@ found_row test es pages any =
     (e.0, e.1, lookup_from_place nat_eq_equiv es k e.0 e.1 pages (slice_get_read es (length es) k e refl below (sym at)), passes)
 
 -- the page of an entry that is found for a page
-key_is : (es : List (ℕ × PageRow)) (page key : ℕ) → lookup_key (nat_eq page) es ≡ Some key → page ≡ key
+pub key_is : (es : List (ℕ × PageRow)) (page key : ℕ) → lookup_key (nat_eq page) es ≡ Some key → page ≡ key
 key_is [] page key found = cc
 key_is (e ∷ es) page key found = by (nat_eq page e.0) refl found (key_is es page key)
   where
@@ -72,17 +73,21 @@ key_is (e ∷ es) page key found = by (nat_eq page e.0) refl found (key_is es pa
     by true same here rest = let own : e.0 ≡ key = cc in eqb-true page e.0 same ∙ own
     by false other there rest = rest there
 
--- a row that is found for a page and waits for the ticket is taken where it stands
-pub TakesRow-found : (old new : Pages) (page key at_key index ticket : ℕ) (row taken : PageRow)
-    → lookup_key (nat_eq page) old.entries ≡ Some key → get nat_eq old page ≡ Some row → slice_get old.entries index ≡ Some (key, row)
-    → slice_get old.entries index ≡ Some (at_key, taken) → waits_for row.ticket ticket ≡ true
-    → ((a : ℕ) → get nat_eq new a ≡ cond (nat_eq at_key a) None (get nat_eq old a)) → TakesRow old new page taken ticket
-TakesRow-found old new page key at_key index ticket row taken found had there took waits gone =
-    let entry : ◌≡◌ {A = ℕ × PageRow} (key, row) (at_key, taken) = cc in
-    let same : row ≡ taken = ap (λ e. e.1) entry in
-    let own : key ≡ at_key = ap (λ e. e.0) entry in
-    record {
-      had = had ∙ ap Some same;
-      waits = ap (λ r. waits_for r.ticket ticket) (sym same) ∙ waits;
-      pages = subst (λ k. (a : ℕ) → get nat_eq new a ≡ (if k == a then None else get nat_eq old a)) (sym (key_is old.entries page key found ∙ own)) gone;
-    }
+-- the row that is lent at an index is the row of the entry there
+pub row_lent : (pages : Pages) (place page : ℕ) (row lent : PageRow) → slice_get pages.entries place ≡ Some (page, row) → Some lent ≡ slice_get (values pages) place → lent ≡ row
+row_lent pages place page row lent at gives =
+    let same : Some lent ≡ Some row = gives ∙ slice_get-map (λ e. e.1) pages.entries place ∙ ap (option_map (λ e. e.1)) at in
+    cc
+
+-- a row that is released where it stands is released, and each other stays
+pub released_where_it_stands : (pages : Pages) (place page ticket : ℕ) (row now : PageRow) → IsUnique nat_eq pages → slice_get pages.entries place ≡ Some (page, row)
+    → get nat_eq pages page ≡ Some row → now ≡ released_row row ticket
+    → (a : ℕ) → get nat_eq (with_value_at pages place now) a ≡ (if page == a then released_row_if_any (get nat_eq pages a) ticket else get nat_eq pages a)
+released_where_it_stands pages place page ticket row now unique at had is a =
+    let updates = updates-with_value_at pages place now nat_eq_equiv unique page row at in
+    by (page == a) refl (updates.0 a)
+  where
+    by : (b : Bool) → (page == a) ≡ b → get nat_eq (with_value_at pages place now) a ≡ cond b (Some now) (get nat_eq pages a)
+        → get nat_eq (with_value_at pages place now) a ≡ cond b (released_row_if_any (get nat_eq pages a) ticket) (get nat_eq pages a)
+    by true own says = says ∙ ap Some is ∙ sym (ap (λ r. released_row_if_any r ticket) (subst (λ k. get nat_eq pages k ≡ Some row) (eqb-true page a own) had))
+    by false other says = says

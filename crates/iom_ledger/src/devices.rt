@@ -9,6 +9,7 @@ ghost use Rattle.iom_ledger.specs.RowChanges.{released_row_if_any, held_frame, u
 use crate::device_list::{DevicePages, Devices, Pages};
 use crate::frame_rows::FrameRows;
 use crate::page_row::{PageRow, Pending};
+use crate::pages::{place_of, row_of};
 use indexmap::IndexMap;
 use iom_base::DeviceId;
 use std::alloc::AllocError;
@@ -18,7 +19,7 @@ use std::alloc::AllocError;
 pub(crate) fn row_in(devices: &Devices, device: DeviceId, page: u64) -> Option<PageRow>
     ensures { result ≡ row_at devices.now device page }
 {
-    devices.pages_of(device)?.get(&page).copied()
+    row_of(devices.pages_of(device)?, page)
 }
 
 /// How many pages of the device have a row.
@@ -46,7 +47,8 @@ fn release_row(pages: &mut Pages, page: u64, ticket: u32) -> Option<u32>
     ensures frame { result ≡ held_frame (get nat_eq pages.old page) }
     ensures order { keys pages.new ≡ keys pages.old }
 {
-    pages.get_mut(&page)?.release(ticket)
+    let place = place_of(pages, page)?;
+    pages.get_index_mut(place)?.release(ticket)
 }
 
 /// Drops the row at the index of the pages, if it waits for the ticket. The last row takes its place.
@@ -69,9 +71,10 @@ fn take_waiting_row_at(pages: &mut Pages, page: u64, ticket: u32) -> Option<Page
     ensures kept { IfNone result ((a : ℕ) → get nat_eq pages.new a ≡ get nat_eq pages.old a) }
     ensures stays { IfNone result (unless_waiting (get nat_eq pages.old page) ticket ≡ get nat_eq pages.old page) }
 {
-    let (index, _page, row) = pages.get_full(&page)?;
+    let place = place_of(pages, page)?;
+    let (_page, row) = pages.get_index(place)?;
     if row.waits_for(ticket) {
-        let (_page, row) = pages.swap_remove_index(index)?;
+        let (_page, row) = pages.swap_remove_index(place)?;
         Some(row)
     } else {
         None

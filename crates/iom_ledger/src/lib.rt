@@ -25,6 +25,7 @@ mod frame_rows;
 mod ledger;
 mod lookups;
 mod page_row;
+mod pages;
 mod refusal;
 mod ring;
 mod row;

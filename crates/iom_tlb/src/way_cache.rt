@@ -111,6 +111,8 @@ impl TransCache for WayCache {
         set.keep(space, page, translation);
     }
 
+    // Written into the fetch of a command, where it is known which of the covers it is.
+    #[inline(always)]
     fn drop_where(&mut self, cover: &Cover) {
         if let Some((space, page)) = cover.only_key() {
             let set = &mut self.sets[set_of(page)];

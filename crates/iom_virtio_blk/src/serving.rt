@@ -47,6 +47,7 @@ impl Serving {
     }
 
     /// The piece of the request's buffers that is read or written next.
+    #[inline(always)]
     pub(crate) fn piece(&self, chain: &Buffers) -> Option<Piece>
         requires under_way { IsUnderWay self.now chain.now }
         requires status { 1 ≤ byte_count chain.now.writable }

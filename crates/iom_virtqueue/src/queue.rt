@@ -123,6 +123,7 @@ impl Queue {
     }
 
     /// Which access is wanted.
+    #[inline(always)]
     pub fn next(&self) -> Want
         ensures { access_of result ≡ wanted self.now }
     {
