@@ -27,7 +27,7 @@ use Rattle.iom_known.specs.Allowed.{Past, IsTrueOf, state_of}
 use Rattle.iom_known.specs.Steps.{IsExplained}
 use Rattle.iom_known.specs.declared.known.Known.{Known}
 use Rattle.iom_judge.specs.Begun.{AreOpen, IsOpenAt, IsOpenFor, on_frame}
-use Rattle.iom_judge.specs.Doubted.{AddsStep, IsNotAbout, IsOfStep, MayBe, MayBeBegun, MayBeBy, MayFly, flown}
+use Rattle.iom_judge.specs.Doubted.{IsNotAbout, IsOfStep, MayAddStep, MayBe, MayBeBegun, MayBeBy, MayFly, flown}
 use Rattle.iom_judge.specs.Followed.{IsFollowed, StepsBy}
 use Rattle.iom_judge.specs.declared.begun.BegunAccess.{BegunAccess}
 use Rattle.iom_judge.specs.declared.begun.Place.{Place}
@@ -165,8 +165,9 @@ new_or_old : (before now : List Doubt) (added : BegunAccess) → now ≡ before 
     → (slice_get before place ≡ Some doubt) ⊎ (doubt ≡ Begun added)
 new_or_old before now added same place doubt at = one_of_more before (Begun added) doubt place (subst (λ (l : List Doubt). slice_get l place ≡ Some doubt) same at)
 
-step_doubts_only : (before now : List Doubt) (known : Known) (id number : ℕ) → AddsStep before now known id number → DoubtsOnly before now id number
-step_doubts_only before now known id number (added, of, same) = λ i n made other differs may. by i n made other differs may
+step_doubts_only : (before now : List Doubt) (known : Known) (id number : ℕ) → MayAddStep before now known id number → DoubtsOnly before now id number
+step_doubts_only before now known id number (inl same) = λ i n made other differs may. subst (λ (l : List Doubt). MayBe l i n made other) same may
+step_doubts_only before now known id number (inr (added, of, same)) = λ i n made other differs may. by i n made other differs may
   where
     by : (i n : ℕ) (made other : AcceptedAccess) → ((i ≡ id) × (n ≡ number) → ⊥) → MayBe now i n made other → MayBe before i n made other
     by i n made other differs (inl is) = inl is
@@ -202,13 +203,16 @@ starts_at known past frames id number device added made last is found of moved =
     by Write e opened = opened.1 (moved.could.could.writable e) moved.could.could.wanted moved.could.could.there e past frames is
 
 starts_as : (before now : List Doubt) (known : Known) (past : Past) (frames : List Frame) (id number : ℕ) (device : Device) (access : Access) (frame : ℕ) (made last : AcceptedAccess)
-    → IsTrueOf known past → find (λ (d : Device). d.id == id) known.devices ≡ Some device → All (IsNotAbout id number) before → AddsStep before now known id number
+    → IsTrueOf known past → find (λ (d : Device). d.id == id) known.devices ≡ Some device → All (IsNotAbout id number) before → MayAddStep before now known id number
     → MayWant access → Opens (has_cache device.kind) device.attachment (state_of known past.history frames) device.id access frame
     → made ≡ sent (has_cache device.kind) frame access → MayBe now id number made last
     → StartsAs (has_cache device.kind) device.attachment (state_of known past.history frames) device.id last
 starts_as before now known past frames id number device access frame made last is found none adds want opens own (inl same) =
     record { wanted = access; frame = frame; may = want; opens = opens; is = same ∙ own }
-starts_as before now known past frames id number device access frame made last is found none (added, of, same) want opens own (inr (place, doubt, at, moved)) =
+starts_as before now known past frames id number device access frame made last is found none (inl same) want opens own (inr (place, doubt, at, moved)) =
+    absurd (not_by id number doubt made last
+    (All-at (IsNotAbout id number) before place doubt none (subst (λ (l : List Doubt). slice_get l place ≡ Some doubt) same at)) moved)
+starts_as before now known past frames id number device access frame made last is found none (inr (added, of, same)) want opens own (inr (place, doubt, at, moved)) =
     which (new_or_old before now added same place doubt at)
   where
     which : (slice_get before place ≡ Some doubt) ⊎ (doubt ≡ Begun added)
@@ -221,7 +225,7 @@ abbrev beginning : Access → ℕ → Choice
 beginning access frame = record { directory = []; taken = []; frame = frame; device = 0; page = 0; access = access }
 
 begun_flies : (before now : List Doubt) (known : Known) (past : Past) (frames : List Frame) (id number : ℕ) (access : Access) (frame : ℕ) (flights : List (List AcceptedAccess)) (after : State)
-    → IsTrueOf known past → All (IsNotAbout id number) before → AddsStep before now known id number → MayFly now after.devices flights
+    → IsTrueOf known past → All (IsNotAbout id number) before → MayAddStep before now known id number → MayFly now after.devices flights
     → Steps access frame (state_of known past.history frames) id (Accepted number) after
     → Led before (state_of known past.history frames) flights after (λ b a. Step b (events.Step id) (Accepted number) a)
 begun_flies before now known past frames id number access frame flights after is none adds fly step =
@@ -245,7 +249,7 @@ begun_flies before now known past frames id number access frame flights after is
     )
 
 pub begun_follows : (old new : Known) (before now : List Doubt) (id number : ℕ) (outcome : Outcome) → outcome ≡ Accepted number → All (IsNotAbout id number) before
-    → AddsStep before now old id number → (past : Past) → IsTrueOf old past → IsExplained old new (events.Step id) (Accepted number) past
+    → MayAddStep before now old id number → (past : Past) → IsTrueOf old past → IsExplained old new (events.Step id) (Accepted number) past
     → IsFollowed old before new now (StepsBy (events.Step id) outcome) past
 begun_follows old new before now id number outcome accepted none adds past is explained =
     subst (λ (o : Outcome). IsFollowed old before new now (StepsBy (events.Step id) o) past) (sym accepted) (record {

@@ -101,6 +101,10 @@ pub record IsOfStep (doubt : BegunAccess) (known : Known) (id number : ℕ) : Ty
 abbrev pub AddsStep : List Doubt → List Doubt → Known → ℕ → ℕ → Type 0
 AddsStep before now known id number = (doubt : BegunAccess) × IsOfStep doubt known id number × (now ≡ before ++ Begun doubt ∷ [])
 
+-- The doubts are those before, or these and one about the access that this step began.
+abbrev pub MayAddStep : List Doubt → List Doubt → Known → ℕ → ℕ → Type 0
+MayAddStep before now known id number = (now ≡ before) ⊎ AddsStep before now known id number
+
 -- the devices, where they have these accesses in flight
 abbrev pub with_flights : List (List AcceptedAccess) → List Device → List Device
 with_flights [] devices = devices

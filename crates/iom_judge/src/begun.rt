@@ -3,6 +3,7 @@
 ghost use Rattle.std.specs.Prelude.{◌≡◌, All, IfOk, IfSome, IsTrue, OnOk};
 ghost use Rattle.iom_judge.specs.Begun.{AreOpen, CouldBegin, IsOpenAt, IsOpenFor, IsReachedAt};
 
+use crate::doubts::frame_at;
 use crate::following::move_to;
 use iom_base::{AcceptedAccess, Access, AccessKind, DeviceId, PAGE_SIZE, Sequence};
 use iom_known::Known;
@@ -64,15 +65,6 @@ fn is_open_for(
         return false;
     }
     may_go_through(known, device, &access, frame)
-}
-
-/// The frame that the device holds at the page, or that lingers there.
-fn frame_at(known: &Known, id: DeviceId, page: u64) -> Option<u32> {
-    let pair = known
-        .ledger
-        .holds(id, page)
-        .or(known.ledger.lingers(id, page))?;
-    Some(pair.0)
 }
 
 /// The place at the page, if an access of the device to it may be accepted: on this frame, if one is named.

@@ -17,7 +17,7 @@ use crate::releases::Releases;
 use crate::subject::Subject;
 use crate::unseen::{Run, Unseen};
 use crate::versions::Versions;
-use iom_base::{AccessKind, DeviceId, PAGE_SIZE};
+use iom_base::{Access, AccessKind, DeviceId, PAGE_SIZE};
 use iom_known::asked::{Asked, read_by, request, write_by};
 use iom_known::contents::{keep, store};
 use iom_known::devices::place_of;
@@ -31,12 +31,14 @@ use iom_machine::{Event, Outcome};
 use std::alloc::{AllocError, Global};
 
 /// What a line shows of what its answer doesn't.
-#[derive(Clone, Copy)]
+#[derive(Drop)]
 pub(crate) struct Shown<'a> {
     /// The frames that were taken for tables.
     pub(crate) tables: Option<&'a [u32]>,
     /// The frame on which an access was accepted.
     pub(crate) on: Option<u32>,
+    /// The access that a step began.
+    pub(crate) began: Option<Access>,
 }
 
 /// What is believed of the machine's state after the lines so far.
@@ -443,7 +445,7 @@ impl Belief {
         ensures followed { IfOk result (λ may. IsTrue may → IsTrue self.new.is_followed → Follows self.old self.new event outcome.now) }
     {
         if let Event::Step { device } = &event {
-            return self.step_block(alloc, *device, outcome, shown.on);
+            return self.step_block(alloc, *device, outcome, shown.on, shown.began);
         }
         if let Some(asked) = read_by(alloc, &event) {
             return self.ask_for(alloc, asked, outcome, shown.on);
@@ -461,6 +463,7 @@ impl Belief {
         id: DeviceId,
         outcome: &Outcome,
         on: Option<u32>,
+        began: Option<Access>,
     ) -> Result<bool, AllocError>
         ensures explained { IfOk result (λ may. IsTrue may → (past : Past) → IsTrueOf self.old.known past
             → IsExplained self.old.known self.new.known (events.Step id) outcome.now past) }
@@ -468,7 +471,7 @@ impl Belief {
     {
         if let Outcome::Accepted(number) = outcome {
             let is_followed = self.follows_new(id, *number);
-            let may_come = self.begin_access(alloc, id, *number, on)?;
+            let may_come = self.begin(alloc, id, *number, on, began)?;
             self.is_followed = is_followed;
             return Ok(may_come);
         }

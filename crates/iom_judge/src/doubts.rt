@@ -39,7 +39,7 @@ pub(crate) enum Doubt {
 }
 
 /// Whether a request of the device is, or was, translated in both stages.
-fn has_both_stages(attachment: Attachment) -> bool
+pub(crate) fn has_both_stages(attachment: Attachment) -> bool
     ensures { IsTrue result → HasBothStages attachment }
 {
     match attachment {

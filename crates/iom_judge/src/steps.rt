@@ -7,13 +7,14 @@ ghost use Rattle.iom_judge.specs.Doubted.{IsOfStep};
 
 use crate::begun::{BegunAccess, Place, begun_at, places_of};
 use crate::belief::{Belief, has_other};
+use crate::doubts::{frame_at, has_both_stages};
 use crate::messages::Sent;
 use crate::unseen::Run;
 use iom_base::{
     AcceptedAccess, Access, AccessKind, Cause, DeviceId, PAGE_LIMIT, PAGE_SIZE, Sequence,
 };
 use iom_known::contents::store;
-use iom_known::devices::place_of;
+use iom_known::devices::{device_with, place_of};
 use iom_known::in_flight::drop_oldest;
 use iom_known::owners::may_be_somebodys;
 use iom_known::{BelievedFrame, Known, Question};
@@ -56,6 +57,16 @@ fn begun_by(
         is_cached: device.kind.has_cache(),
         places,
     }))
+}
+
+/// The frame on which an access of the device to the page is accepted, if it is: where its requests aren't translated in both
+/// stages, so that the grants say that.
+fn settled_frame(known: &Known, id: DeviceId, page: u64) -> Option<u32> {
+    let device = device_with(known.devices.as_slice(), id)?;
+    if has_both_stages(device.attachment) {
+        return None;
+    }
+    Some(frame_at(known, id, page).unwrap_or(0))
 }
 
 /// The frames of the places, each once: of a write, of those that may be written.
@@ -149,7 +160,7 @@ impl Belief {
     ghost use Rattle.iom_known.specs.Allowed.{Past, IsTrueOf};
     ghost use Rattle.iom_known.specs.Steps.{IsExplained};
     ghost use Rattle.iom_judge.specs.Begun.{CouldHaveBegun};
-    ghost use Rattle.iom_judge.specs.Doubted.{AddsStep};
+    ghost use Rattle.iom_judge.specs.Doubted.{MayAddStep};
 
     /// A step of a block device that begins no access.
     pub(crate) fn take_step(
@@ -177,8 +188,33 @@ impl Belief {
         }
     }
 
+    /// A step that began an access, which was accepted: this one, where that is shown, and the grants settle its frame.
+    pub(crate) fn begin(
+        &mut self,
+        alloc: Global,
+        id: DeviceId,
+        number: u64,
+        on: Option<u32>,
+        began: Option<Access>,
+    ) -> Result<bool, AllocError>
+        ensures explained { IfOk result (λ may. IsTrue may → (past : Past) → IsTrueOf self.old.known past
+            → IsExplained self.old.known self.new.known (events.Step id) (outcomes.Accepted number) past) }
+        ensures begun { IfOk result (λ may. IsTrue may
+            → MayAddStep self.old.doubts.all.items self.new.doubts.all.items self.old.known id number) }
+    {
+        let Some(access) = began else {
+            return self.begin_access(alloc, id, number, on);
+        };
+        let page = access.address / PAGE_SIZE;
+        let Some(frame) = settled_frame(&self.known, id, page) else {
+            return self.begin_access(alloc, id, number, on);
+        };
+        let outcome = Outcome::Accepted(number);
+        step(&mut self.known, id, access, &outcome, frame)
+    }
+
     /// A step that began an access, which was accepted. What is known has a read of one byte at the first place.
-    pub(crate) fn begin_access(
+    fn begin_access(
         &mut self,
         alloc: Global,
         id: DeviceId,
@@ -188,7 +224,7 @@ impl Belief {
         ensures explained { IfOk result (λ may. IsTrue may → (past : Past) → IsTrueOf self.old.known past
             → IsExplained self.old.known self.new.known (events.Step id) (outcomes.Accepted number) past) }
         ensures begun { IfOk result (λ may. IsTrue may
-            → AddsStep self.old.doubts.all.items self.new.doubts.all.items self.old.known id number) }
+            → MayAddStep self.old.doubts.all.items self.new.doubts.all.items self.old.known id number) }
     {
         let Some(begun) = begun_by(alloc, &self.known, id, number, on)? else {
             return Ok(false);
