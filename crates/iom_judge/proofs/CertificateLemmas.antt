@@ -3,6 +3,7 @@ use Rattle.std.proofs.Common.{◌≡◌, ◌≢◌, ◌∙◌, ℕ, Bool, true, 
 use Rattle.std.proofs.lemmas.Bool.{false≢true}
 use Rattle.std.proofs.lemmas.List.Elements.{All-nil, filter-append}
 use Rattle.std.proofs.KnownBytes.{Consumes-nil}
+use Rattle.iom_base.specs.declared.access.Access.{Access}
 use Rattle.iom_machine.specs.declared.event.Event.{Event}
 use Rattle.iom_machine.specs.declared.outcome.Outcome.{Outcome}
 use Rattle.iom_machine.proofs.ReclaimLemmas.{reclaims}
@@ -88,16 +89,16 @@ world_said was is None (Some belief) lines line tables size spoken_line says non
     first (l ∷ ls) never = absurd never
 
 -- after one that says a step
-pub step_said : (was is : Bool) (old new : Option Belief) (lines : List (List ℕ)) (line tables : List ℕ) (event : Event) (outcome : Outcome) (has_tables : Bool) (on : Option ℕ)
-    → is_spoken line ≡ true → SaysLine line (says.Step event outcome has_tables on) tables → GoesOn was old event outcome is new
+pub step_said : (was is : Bool) (old new : Option Belief) (lines : List (List ℕ)) (line tables : List ℕ) (event : Event) (outcome : Outcome) (has_tables : Bool) (on : Option ℕ) (began : Option Access)
+    → is_spoken line ≡ true → SaysLine line (says.Step event outcome has_tables on began) tables → GoesOn was old event outcome is new
     → CertifyIf was old lines → CertifyIf is new (lines ++ line ∷ [])
-step_said was is None None lines line tables event outcome has_tables on spoken_line says goes before told = absurd goes
-step_said was is None (Some new) lines line tables event outcome has_tables on spoken_line says goes before told = absurd goes
-step_said was is (Some old) None lines line tables event outcome has_tables on spoken_line says goes before told = absurd goes
-step_said was is (Some old) (Some new) lines line tables event outcome has_tables on spoken_line says goes before told =
+step_said was is None None lines line tables event outcome has_tables on began spoken_line says goes before told = absurd goes
+step_said was is None (Some new) lines line tables event outcome has_tables on began spoken_line says goes before told = absurd goes
+step_said was is (Some old) None lines line tables event outcome has_tables on began spoken_line says goes before told = absurd goes
+step_said was is (Some old) (Some new) lines line tables event outcome has_tables on began spoken_line says goes before told =
     let so = goes told in
     subst (λ (l : List (List ℕ)). Certify (Some new) l) (sym (spoken_more lines line spoken_line))
-    (certify_more old new (spoken lines) line event outcome (before so.0) (has_tables, on, tables, says) so.1)
+    (certify_more old new (spoken lines) line event outcome (before so.0) (has_tables, on, began, tables, says) so.1)
 
 -- what is certified, where some state is allowed, is of a run
 of_run : (belief : Belief) (size : WorldSize) (lines : List (List ℕ)) → IsCertifiedBy belief size lines → ((past : Past) → IsTrueOf belief.known past → SomeAreAllowed belief.known past)

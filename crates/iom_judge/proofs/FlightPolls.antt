@@ -1,5 +1,5 @@
 -- A poll that confirms tickets, where other accesses are in flight, each of which may still reach its frame.
-use Rattle.std.proofs.Common.{◌≡◌, ◌∙◌, inl, inr, ℕ, Bool, true, false, List, [], ◌∷◌, All, map, Option, None, Some, slice_get, refl, sym, ap, subst}
+use Rattle.std.proofs.Common.{◌≡◌, ◌∙◌, inl, inr, ℕ, Bool, List, [], ◌∷◌, All, map, Option, None, Some, slice_get, refl, sym, ap, subst}
 use Rattle.std.proofs.lemmas.List.Elements.{All-head, All-tail, All-cons}
 use Rattle.iom_base.specs.declared.access.AcceptedAccess.{AcceptedAccess}
 use Rattle.iom_base.specs.declared.owner.Owner.{Owner}
@@ -15,9 +15,7 @@ use Rattle.iom_machine.specs.declared.state.Device.{Device}
 use Rattle.iom_machine.specs.declared.state.Frame.{Frame}
 use Rattle.iom_machine.specs.declared.state.State.{State}
 use Rattle.iom_judge.specs.declared.doubts.Doubt.{Doubt}
-use Rattle.iom_judge.specs.declared.doubts.Doubt.TheVariants.{InFlight}
-use Rattle.iom_judge.specs.declared.doubts.Flight.{Flight}
-use Rattle.iom_judge.specs.Doubted.{MayBe, MayEachBe, MayFly, on_frame, with_flights, flown}
+use Rattle.iom_judge.specs.Doubted.{MayBe, MayBeBy, MayEachBe, MayFly, with_flights, flown}
 use Rattle.iom_judge.proofs.FlightSteps.{Led, same_attachment}
 
 -- what may be in flight might be so before devices were detached
@@ -68,19 +66,13 @@ poll_flies doubts flights old first last timed_out new may fly step =
 -- each frame of what is in doubt may be reached
 abbrev pub DoubtsMay : List Doubt → History → Type 0
 DoubtsMay doubts history =
-    (place : ℕ) (doubt : Flight) → slice_get doubts place ≡ Some (InFlight doubt) → (k frame : ℕ) → slice_get doubt.frames.items k ≡ Some frame → May history doubt.device frame doubt.kind
+    (place : ℕ) (doubt : Doubt) → slice_get doubts place ≡ Some doubt → (id number : ℕ) (made other : AcceptedAccess) → MayBeBy doubt id number made other
+    → May history id other.frame other.access.kind
 
 moved_may : (doubts : List Doubt) (history : History) (id number : ℕ) (made other : AcceptedAccess) → DoubtsMay doubts history → May history id made.frame made.access.kind
     → MayBe doubts id number made other → May history id other.frame other.access.kind
 moved_may doubts history id number made other each may (inl same) = subst (λ (a : AcceptedAccess). May history id a.frame a.access.kind) (sym same) may
-moved_may doubts history id number made other each may (inr (place, doubt, at, moved)) =
-    subst (λ (a : AcceptedAccess). May history id a.frame a.access.kind) (sym moved.moved)
-    (by doubt.is_cached (subst (λ i. May history i moved.frame made.access.kind) moved.own
-    (subst (λ k. May history doubt.device moved.frame k) moved.of_kind (each place doubt at moved.place moved.frame moved.among))))
-  where
-    by : (cached : Bool) → May history id moved.frame made.access.kind → May history id (on_frame cached moved.frame made).frame (on_frame cached moved.frame made).access.kind
-    by false may = may
-    by true may = may
+moved_may doubts history id number made other each may (inr (place, doubt, at, moved)) = each place doubt at id number made other moved
 
 flights_may : (doubts : List Doubt) (history : History) (id accepted : ℕ) (flights chosen : List AcceptedAccess) → DoubtsMay doubts history
     → All (λ flight. May history id flight.frame flight.access.kind) flights → MayEachBe doubts id accepted flights chosen

@@ -18,12 +18,11 @@ use Rattle.iom_machine.specs.declared.state.DeviceKind.{DeviceKind}
 use Rattle.iom_machine.specs.declared.state.State.{State}
 use Rattle.iom_machine.proofs.InFlightLemmas.{found_device}
 use Rattle.iom_judge.specs.declared.doubts.Doubt.{Doubt}
-use Rattle.iom_judge.specs.declared.doubts.Doubt.TheVariants.{InFlight}
-use Rattle.iom_judge.specs.declared.doubts.Flight.{Flight}
-use Rattle.iom_judge.specs.Doubted.{MayBe, MayFly, flown, with_flights, on_frame}
+use Rattle.iom_judge.specs.Begun.{on_frame}
+use Rattle.iom_judge.specs.Doubted.{MayBe, MayBeBy, MayFly, flown, with_flights}
 use Rattle.iom_judge.proofs.FlightAccepts.{DoubtsOnly, HaveOwnIds, OneMore, one_more_flies, with_one_more}
 
-accept_too : (attachment : Attachment) (state : State) (flights : List (List AcceptedAccess)) (id : ℕ) (access : Access) (frame : ℕ)
+pub accept_too : (attachment : Attachment) (state : State) (flights : List (List AcceptedAccess)) (id : ℕ) (access : Access) (frame : ℕ)
     → MayAccept attachment state id access frame → MayAccept attachment (flown flights state) id access frame
 accept_too Detached state flights id access frame may = may
 accept_too (Attached First ats) state flights id access frame may = may
@@ -32,7 +31,7 @@ accept_too (Attached Both ats) state flights id access frame may = may
 accept_too (Quarantined ticket mode ats) state flights id access frame may = may
 accept_too (Leaving ticket mode ats) state flights id access frame may = may
 
-pass_too : (attachment : Attachment) (state : State) (flights : List (List AcceptedAccess)) (id : ℕ) (access : Access) (frame : ℕ)
+pub pass_too : (attachment : Attachment) (state : State) (flights : List (List AcceptedAccess)) (id : ℕ) (access : Access) (frame : ℕ)
     → MayGoThrough attachment state id access frame → MayGoThrough attachment (flown flights state) id access frame
 pass_too Detached state flights id access frame may = may
 pass_too (Attached First ats) state flights id access frame may = may
@@ -44,15 +43,15 @@ pass_too (Leaving ticket mode ats) state flights id access frame may = may
 -- the device's next access is in doubt only so: on frames that are such, and through a cache or not
 abbrev pub IsDoubtedSo : List Doubt → ℕ → ℕ → Bool → (ℕ → Type 0) → Type 0
 IsDoubtedSo doubts id number is_cached IsSuch =
-    (place : ℕ) (doubt : Flight) → slice_get doubts place ≡ Some (InFlight doubt) → doubt.device ≡ id → doubt.number ≡ number → doubt.writable ≡ None
-    → (doubt.is_cached ≡ is_cached) × ((k frame : ℕ) → slice_get doubt.frames.items k ≡ Some frame → IsSuch frame)
+    (place : ℕ) (doubt : Doubt) → slice_get doubts place ≡ Some doubt → (made other : AcceptedAccess) → MayBeBy doubt id number made other
+    → (frame : ℕ) × IsSuch frame × (other ≡ on_frame is_cached frame made)
 
 -- what is so of a device with this id, if there is one
 abbrev pub OfDevice : State → ℕ → (Device → Type 0) → Type 0
 OfDevice state id P = (device : Device) → device_of state id ≡ Some device → P device
 
 -- one more access of the device is in flight, in both
-accepted_flies : (old new : List Doubt) (state : State) (flights : List (List AcceptedAccess)) (id : ℕ) (device : Device) (sent : Access) (frame : ℕ) (after : State)
+pub accepted_flies : (old new : List Doubt) (state : State) (flights : List (List AcceptedAccess)) (id : ℕ) (device : Device) (sent : Access) (frame : ℕ) (after : State)
     → HaveOwnIds state.devices → device_of state id ≡ Some device → DoubtsOnly old new device.id (device.accepted + 1)
     → after ≡ with_accepted state device sent frame → MayFly new after.devices flights
     → (more : OneMore old new state.devices device.id device (record { access = sent; frame = frame }) flights)
@@ -75,9 +74,7 @@ on_such : (doubts : List Doubt) (id number : ℕ) (is_cached : Bool) (IsSuch : �
     → IsSuch made.frame → made ≡ on_frame is_cached made.frame made → MayBe doubts id number made last
     → (frame : ℕ) × IsSuch frame × (last ≡ on_frame is_cached frame made)
 on_such doubts id number is_cached IsSuch made last so such own (inl same) = (made.frame, such, same ∙ own)
-on_such doubts id number is_cached IsSuch made last so such own (inr (place, doubt, at, moved)) =
-    let is = so place doubt at moved.own moved.numbered moved.requested in
-    (moved.frame, is.1 moved.place moved.frame moved.among, moved.moved ∙ ap (λ (c : Bool). on_frame c moved.frame made) is.0)
+on_such doubts id number is_cached IsSuch made last so such own (inr (place, doubt, at, moved)) = so place doubt at made last moved
 
 pub able_to : (can : DeviceKind → Bool) (Does : Device → Type 0) (state after : State) (number : ℕ) (found : Option Device)
     → MatchOption found ((Accepted number ≡ Refused NoSuchDevice) × (after ≡ state)) (λ d. IfItCan (can d.kind) (Does d) state (Accepted number) after)
@@ -100,7 +97,7 @@ abbrev pub Accepts : List Doubt → State → List (List AcceptedAccess) → Sta
 Accepts old state flights after IsStep =
     (before : List (List AcceptedAccess)) × MayFly old state.devices before × ((frame : ℕ) × IsStep frame (flown before state) (flown flights after))
 
-forwarded_too : (now chosen : List AcceptedAccess) (address len : ℕ) → length chosen ≡ length now → IsForwarded now address len → IsForwarded chosen address len
+pub forwarded_too : (now chosen : List AcceptedAccess) (address len : ℕ) → length chosen ≡ length now → IsForwarded now address len → IsForwarded chosen address len
 forwarded_too now chosen address len many forwarded = rw many forwarded
 
 accepts_on : (state : State) (before : List (List AcceptedAccess)) (id frame number : ℕ) (device : Device) (front : List AcceptedAccess) (access : Access) (last : AcceptedAccess) (after : State)

@@ -16,10 +16,12 @@ use Rattle.iom_known.specs.Allowed.{Past, IsTrueOf, AreInOrder, HadBytes, ids_of
 use Rattle.iom_known.specs.Steps.{IsExplained}
 use Rattle.iom_known.specs.declared.known.Known.{Known}
 use Rattle.iom_known.proofs.StayLemmas.{allowed_by_ids, same_ids}
-use Rattle.iom_judge.specs.Doubted.{AreAmong, MayBe, MayFly, on_frame}
-use Rattle.iom_judge.specs.Followed.{IsCommitOf, IsFollowed, IsOldestOn, IsPutOn, IsReadyFor, StepsBy}
+use Rattle.iom_judge.specs.Begun.{CouldHaveBegun, on_frame}
+use Rattle.iom_judge.specs.Doubted.{AreAmong, MayBe, MayFly}
+use Rattle.iom_judge.specs.Followed.{IsCommitOf, IsFollowed, IsOldest, IsOldestOn, IsPutOn, IsReadyFor, StepsBy}
+use Rattle.iom_judge.specs.declared.begun.BegunAccess.{BegunAccess}
 use Rattle.iom_judge.specs.declared.doubts.Doubt.{Doubt}
-use Rattle.iom_judge.specs.declared.doubts.Doubt.TheVariants.{InFlight}
+use Rattle.iom_judge.specs.declared.doubts.Doubt.TheVariants.{Begun, InFlight}
 use Rattle.iom_judge.specs.declared.doubts.Flight.{Flight}
 use Rattle.iom_judge.proofs.FlightCommits.{with_oldest, commit_flies}
 use Rattle.iom_judge.proofs.FlightLemmas.{fewer_fly}
@@ -189,56 +191,71 @@ one_fewer : (all : List AcceptedAccess) (first : AcceptedAccess) → slice_get a
 one_fewer [] first at = refl
 one_fewer (one ∷ rest) first at = omega arith
 
--- what is known, where the oldest access of a device was put on a frame on which it may be
+-- what is known, where the oldest access of a device was put where it may be
+pub is_put : (old : Known) (doubts : List Doubt) (id place : ℕ) (device : Device) (moved : AcceptedAccess) (devices : List Device) (exact : Bool) → StandsAt old.devices id place
+    → slice_get old.devices place ≡ Some device → IsOldest doubts device moved
+    → devices ≡ slice_set old.devices place (record device { in_flight = slice_set device.in_flight 0 moved })
+    → IsPutOn old doubts id (with_others old devices exact)
+is_put old doubts id place device moved devices exact stands there (made, at, may) put = record {
+  place = place;
+  device = device;
+  made = made;
+  moved = moved;
+  later = drop 1 device.in_flight;
+  stands = stands;
+  there = there;
+  oldest = first_and_rest device.in_flight made at;
+  may = subst (λ (n : ℕ). MayBe doubts device.id (device.accepted - n) made moved) (one_fewer device.in_flight made at) may;
+  put = ap (λ (ds : List Device). with_others old ds exact)
+      (put ∙ ap (λ (l : List AcceptedAccess). slice_set old.devices place (record device { in_flight = l })) (other_first device.in_flight made moved at));
+}
+
+-- the same of one that was put on a frame
 pub is_put_on : (old : Known) (doubts : List Doubt) (id place : ℕ) (device : Device) (is_cached : Bool) (frame : ℕ) (devices : List Device) (exact : Bool) → StandsAt old.devices id place
     → slice_get old.devices place ≡ Some device → IsOldestOn doubts device is_cached frame
     → ((made : AcceptedAccess) → slice_get device.in_flight 0 ≡ Some made
     → devices ≡ slice_set old.devices place (record device { in_flight = slice_set device.in_flight 0 (on_frame is_cached frame made) }))
     → IsPutOn old doubts id (with_others old devices exact)
-is_put_on old doubts id place device is_cached frame devices exact stands there (made, at, may) put = record {
-  place = place;
-  device = device;
-  made = made;
-  moved = on_frame is_cached frame made;
-  later = drop 1 device.in_flight;
-  stands = stands;
-  there = there;
-  oldest = first_and_rest device.in_flight made at;
-  may = subst (λ (n : ℕ). MayBe doubts device.id (device.accepted - n) made (on_frame is_cached frame made)) (one_fewer device.in_flight made at) may;
-  put = ap (λ (ds : List Device). with_others old ds exact)
-      (put made at ∙ ap (λ (l : List AcceptedAccess). slice_set old.devices place (record device { in_flight = l })) (other_first device.in_flight made (on_frame is_cached frame made) at));
-}
+is_put_on old doubts id place device is_cached frame devices exact stands there (made, at, may) put =
+    is_put old doubts id place device (on_frame is_cached frame made) devices exact stands there (made, at, may) (put made at)
 
 -- a frame of the doubt that is about the oldest access
 pub is_oldest_on : (doubts : List Doubt) (device : Device) (doubt : ℕ) (flight : Flight) (made : AcceptedAccess) (number k frame : ℕ) → slice_get doubts doubt ≡ Some (InFlight flight)
     → slice_get device.in_flight 0 ≡ Some made → number ≡ device.accepted - (length device.in_flight - 1)
-    → (flight.device ≡ device.id) × (flight.number ≡ number) × (flight.kind ≡ made.access.kind) × (flight.writable ≡ None)
+    → (flight.device ≡ device.id) × (flight.number ≡ number) × (flight.kind ≡ made.access.kind)
     → slice_get flight.frames.items k ≡ Some frame → IsOldestOn doubts device flight.is_cached frame
 is_oldest_on doubts device doubt flight made number k frame there at is about among = (
   made,
   at,
   inr (
     doubt,
-    flight,
+    InFlight flight,
     there,
-    record { own = about.0; numbered = about.1 ∙ is; of_kind = about.2; requested = about.3; place = k; frame = frame; among = among; moved = refl },
+    record { own = about.0; numbered = about.1 ∙ is; of_kind = about.2; place = k; frame = frame; among = among; moved = refl },
   ),
 )
 
+-- an access that a step may have begun, where that is the oldest
+pub is_oldest_begun : (doubts : List Doubt) (device : Device) (doubt : ℕ) (begun : BegunAccess) (made moved : AcceptedAccess) (number : ℕ) → slice_get doubts doubt ≡ Some (Begun begun)
+    → slice_get device.in_flight 0 ≡ Some made → number ≡ device.accepted - (length device.in_flight - 1)
+    → (begun.device ≡ device.id) × (begun.number ≡ number) → CouldHaveBegun begun moved → IsOldest doubts device moved
+is_oldest_begun doubts device doubt begun made moved number there at is about could =
+    (made, at, inr (doubt, Begun begun, there, record { own = about.0; numbered = about.1 ∙ is; could = could }))
+
 -- what is left of some without the one at a place is among these
 pub left_among : (doubts : List Doubt) (place : ℕ) → AreAmong (take place doubts ++ drop (suc place) doubts) doubts
-left_among doubts place = λ k flight at. by doubts place k flight at
+left_among doubts place = λ k doubt at. by doubts place k doubt at
   where
-    by : (all : List Doubt) (place k : ℕ) (flight : Flight) → slice_get (take place all ++ drop (suc place) all) k ≡ Some (InFlight flight)
-        → (other : ℕ) × (slice_get all other ≡ Some (InFlight flight))
-    by [] place k flight at = absurd (none place at)
+    by : (all : List Doubt) (place k : ℕ) (doubt : Doubt) → slice_get (take place all ++ drop (suc place) all) k ≡ Some doubt
+        → (other : ℕ) × (slice_get all other ≡ Some doubt)
+    by [] place k doubt at = absurd (none place at)
       where
-        never : slice_get {X = Doubt} [] k ≡ Some (InFlight flight) → ⊥
+        never : slice_get {X = Doubt} [] k ≡ Some doubt → ⊥
         never e = cc
 
-        none : (p : ℕ) → slice_get (take p [] ++ drop (suc p) []) k ≡ Some (InFlight flight) → ⊥
+        none : (p : ℕ) → slice_get (take p [] ++ drop (suc p) []) k ≡ Some doubt → ⊥
         none zero e = never e
         none (suc p) e = never e
-    by (d ∷ ds) zero k flight at = (suc k, at)
-    by (d ∷ ds) (suc place) zero flight at = (0, at)
-    by (d ∷ ds) (suc place) (suc k) flight at = let rest = by ds place k flight at in (suc rest.0, rest.1)
+    by (d ∷ ds) zero k doubt at = (suc k, at)
+    by (d ∷ ds) (suc place) zero doubt at = (0, at)
+    by (d ∷ ds) (suc place) (suc k) doubt at = let rest = by ds place k doubt at in (suc rest.0, rest.1)

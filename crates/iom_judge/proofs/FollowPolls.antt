@@ -1,13 +1,13 @@
 -- Polls that confirm tickets, where accesses are in doubt, each of which may still reach all of its frames.
-use Rattle.std.proofs.Common.{◌≡◌, ℕ, Bool, List, All, Some, slice_get, sym, ap, subst}
+use Rattle.std.proofs.Common.{◌≡◌, ℕ, Bool, true, false, List, All, refl, sym, ap, subst}
 use Rattle.iom_base.specs.declared.access.AcceptedAccess.{AcceptedAccess}
-use Rattle.iom_ledger.specs.History.{History}
+use Rattle.iom_base.specs.declared.access.AccessKind.{AccessKind}
+use Rattle.iom_base.specs.declared.access.AccessKind.TheVariants.{Read, Write}
+use Rattle.iom_ledger.specs.History.{History, May}
 use Rattle.iom_machine.specs.Devices.{EachInFlightMay}
 use Rattle.iom_machine.specs.Leaving.{with_left}
 use Rattle.iom_machine.specs.declared.event.Event.TheVariants.{Poll}
-use Rattle.iom_machine.specs.declared.outcome.Outcome.{Outcome}
 use Rattle.iom_machine.specs.declared.outcome.Outcome.TheVariants.{Confirmed}
-use Rattle.iom_machine.specs.declared.state.Frame.{Frame}
 use Rattle.iom_machine.specs.declared.state.State.{State}
 use Rattle.iom_machine.proofs.InFlightLemmas.{All-at}
 use Rattle.iom_known.specs.Allowed.{Past, IsTrueOf, state_of}
@@ -17,15 +17,44 @@ use Rattle.iom_known.specs.Steps.{IsLedBack}
 use Rattle.iom_known.specs.declared.known.Known.{Known}
 use Rattle.iom_known.proofs.PollSteps.{poll_explained}
 use Rattle.iom_judge.specs.Followed.{IsFollowed, StepsBy}
-use Rattle.iom_judge.specs.Doubted.{IsAllReached}
+use Rattle.iom_judge.specs.Begun.{IsReachedAt, on_frame}
+use Rattle.iom_judge.specs.Doubted.{IsAllReached, MayBeBy}
 use Rattle.iom_judge.specs.declared.doubts.Doubt.{Doubt}
-use Rattle.iom_judge.specs.declared.doubts.Doubt.TheVariants.{InFlight}
-use Rattle.iom_judge.specs.declared.doubts.Flight.{Flight}
+use Rattle.iom_judge.specs.declared.doubts.Doubt.TheVariants.{Begun, InFlight}
 use Rattle.iom_judge.proofs.FlightPolls.{DoubtsMay, all_flights_may, poll_flies}
 
+-- what is in flight by a doubt of which each frame is reached may still reach its frame
+reached_by : (known : Known) (past : Past) (doubt : Doubt) (id number : ℕ) (made other : AcceptedAccess) → IsTrueOf known past → IsAllReached known doubt
+    → MayBeBy doubt id number made other → May past.history id other.frame other.access.kind
+reached_by known past (InFlight doubt) id number made other is all moved =
+    subst (λ (a : AcceptedAccess). May past.history id a.frame a.access.kind) (sym moved.moved)
+    (on doubt.is_cached (subst (λ i. May past.history i moved.frame made.access.kind) moved.own
+    (subst (λ k. May past.history doubt.device moved.frame k) moved.of_kind
+    (All-at (CanReach known doubt.device doubt.kind) doubt.frames.items moved.place moved.frame all moved.among past is))))
+  where
+    on : (cached : Bool) → May past.history id moved.frame made.access.kind
+        → May past.history id (on_frame cached moved.frame made).frame (on_frame cached moved.frame made).access.kind
+    on false may = may
+    on true may = may
+reached_by known past (Begun doubt) id number made other is all moved =
+    subst (λ (a : AcceptedAccess). May past.history id a.frame a.access.kind) (sym moved.could.could.is)
+    (on doubt.is_cached (subst (λ i. May past.history i moved.could.place.frame moved.could.could.wanted.kind) moved.own
+    (by moved.could.could.wanted.kind refl
+    (All-at (IsReachedAt known doubt.device) doubt.places.items moved.could.k moved.could.place all moved.could.among))))
+  where
+    on : (cached : Bool) → May past.history id moved.could.place.frame moved.could.could.wanted.kind
+        → May past.history id (on_frame cached moved.could.place.frame (record { access = moved.could.could.wanted; frame = moved.could.place.frame })).frame
+        (on_frame cached moved.could.place.frame (record { access = moved.could.could.wanted; frame = moved.could.place.frame })).access.kind
+    on false may = may
+    on true may = may
+
+    by : (kind : AccessKind) → moved.could.could.wanted.kind ≡ kind → IsReachedAt known doubt.device moved.could.place → May past.history doubt.device moved.could.place.frame kind
+    by Read e reach = reach.0 past is
+    by Write e reach = reach.1 (moved.could.could.writable e) past is
+
 reached_may : (known : Known) (doubts : List Doubt) (past : Past) → IsTrueOf known past → All (IsAllReached known) doubts → DoubtsMay doubts past.history
-reached_may known doubts past is all = λ place doubt at k frame among.
-    All-at (CanReach known doubt.device doubt.kind) doubt.frames.items k frame (All-at (IsAllReached known) doubts place (InFlight doubt) all at) among past is
+reached_may known doubts past is all = λ place doubt at id number made other moved.
+    reached_by known past doubt id number made other is (All-at (IsAllReached known) doubts place doubt all at) moved
 
 pub poll_follows : (old mid new : Known) (doubts : List Doubt) (first last : ℕ) (timed_out : Bool) (past : Past) → ConfirmsNext old mid first last past
     → All (IsAllReached mid) doubts

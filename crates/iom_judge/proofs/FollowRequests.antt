@@ -1,5 +1,5 @@
 -- Requests that are accepted, where accesses are in doubt, and where these may be after them.
-use Rattle.std.proofs.Common.{◌≡◌, ◌∙◌, ◌⊎◌, inl, inr, ◌+◌, ℕ, zero, suc, List, [], ◌∷◌, ◌++◌, All, Option, None, Some, slice_get, sym, subst}
+use Rattle.std.proofs.Common.{◌≡◌, ◌∙◌, ◌⊎◌, inl, inr, ◌+◌, ℕ, zero, suc, Bool, List, [], ◌∷◌, ◌++◌, All, Option, None, Some, slice_get, sym, ap, subst}
 use Rattle.iom_base.specs.Accesses.{read_of, write_of}
 use Rattle.iom_base.specs.declared.access.AcceptedAccess.{AcceptedAccess}
 use Rattle.iom_base.specs.declared.access.Access.{Access}
@@ -24,10 +24,11 @@ use Rattle.iom_known.specs.Steps.{IsExplained}
 use Rattle.iom_known.specs.declared.known.Known.{Known}
 use Rattle.iom_known.specs.declared.way.Way.{Way}
 use Rattle.iom_known.specs.declared.way.Way.TheVariants.{Untranslated, Forged, Cached}
-use Rattle.iom_judge.specs.Doubted.{AddsRequest, IsNotAbout, IsOfRequest, MayBe, MayFly, flown, is_through_cache}
+use Rattle.iom_judge.specs.Begun.{on_frame}
+use Rattle.iom_judge.specs.Doubted.{AddsRequest, IsNotAbout, IsOfRequest, MayBe, MayBeBy, MayBeMoved, MayFly, flown, is_through_cache}
 use Rattle.iom_judge.specs.Followed.{IsFollowed, StepsBy}
 use Rattle.iom_judge.specs.declared.doubts.Doubt.{Doubt}
-use Rattle.iom_judge.specs.declared.doubts.Doubt.TheVariants.{InFlight}
+use Rattle.iom_judge.specs.declared.doubts.Doubt.TheVariants.{Begun, InFlight}
 use Rattle.iom_judge.specs.declared.doubts.Flight.{Flight}
 use Rattle.iom_judge.proofs.FlightAccepts.{DoubtsOnly}
 use Rattle.iom_judge.proofs.FlightRequests.{IsDoubtedSo, OfDevice, able_to, request_flies, cached_request_flies}
@@ -35,7 +36,7 @@ use Rattle.iom_judge.proofs.FlightSteps.{Led}
 use Rattle.iom_judge.proofs.FollowSteps.{own_ids_in_order}
 
 -- what is among some and one more is among these, or that one
-one_of_more : (before : List Doubt) (added doubt : Doubt) (place : ℕ) → slice_get (before ++ added ∷ []) place ≡ Some doubt
+pub one_of_more : (before : List Doubt) (added doubt : Doubt) (place : ℕ) → slice_get (before ++ added ∷ []) place ≡ Some doubt
     → (slice_get before place ≡ Some doubt) ⊎ (doubt ≡ added)
 one_of_more [] added doubt zero at = inr (same added doubt at)
   where
@@ -48,9 +49,6 @@ one_of_more [] added doubt (suc k) at = absurd (never doubt at)
 one_of_more (d ∷ ds) added doubt zero at = inl at
 one_of_more (d ∷ ds) added doubt (suc k) at = one_of_more ds added doubt k at
 
-same_flight : (a b : Flight) → ◌≡◌ {A = Doubt} (InFlight a) (InFlight b) → a ≡ b
-same_flight a b e = cc
-
 -- the doubt about a request was added, or not
 pub adds_request : (before now : List Doubt) (known : Known) (way : Way) (id : ℕ) (access : Access) (number : ℕ) (doubt : Flight) → IsOfRequest doubt known way id access number
     → (now ≡ before) ⊎ (now ≡ before ++ InFlight doubt ∷ []) → AddsRequest before now known way id access number
@@ -59,16 +57,21 @@ adds_request before now known way id access number doubt of (inr more) = inr (do
 
 -- what is in doubt was so before, or is about this request
 new_or_old : (before now : List Doubt) (known : Known) (way : Way) (id : ℕ) (access : Access) (number : ℕ) → AddsRequest before now known way id access number
-    → (place : ℕ) (doubt : Flight) → slice_get now place ≡ Some (InFlight doubt)
-    → (slice_get before place ≡ Some (InFlight doubt)) ⊎ IsOfRequest doubt known way id access number
-new_or_old before now known way id access number (inl same) place doubt at = inl (subst (λ (l : List Doubt). slice_get l place ≡ Some (InFlight doubt)) same at)
+    → (place : ℕ) (doubt : Doubt) → slice_get now place ≡ Some doubt
+    → (slice_get before place ≡ Some doubt) ⊎ ((flight : Flight) × (doubt ≡ InFlight flight) × IsOfRequest flight known way id access number)
+new_or_old before now known way id access number (inl same) place doubt at = inl (subst (λ (l : List Doubt). slice_get l place ≡ Some doubt) same at)
 new_or_old before now known way id access number (inr (added, of, same)) place doubt at =
-    by (one_of_more before (InFlight added) (InFlight doubt) place (subst (λ (l : List Doubt). slice_get l place ≡ Some (InFlight doubt)) same at))
+    by (one_of_more before (InFlight added) doubt place (subst (λ (l : List Doubt). slice_get l place ≡ Some doubt) same at))
   where
-    by : (slice_get before place ≡ Some (InFlight doubt)) ⊎ (◌≡◌ {A = Doubt} (InFlight doubt) (InFlight added))
-        → (slice_get before place ≡ Some (InFlight doubt)) ⊎ IsOfRequest doubt known way id access number
+    by : (slice_get before place ≡ Some doubt) ⊎ (doubt ≡ InFlight added)
+        → (slice_get before place ≡ Some doubt) ⊎ ((flight : Flight) × (doubt ≡ InFlight flight) × IsOfRequest flight known way id access number)
     by (inl there) = inl there
-    by (inr is) = inr (subst (λ (d : Flight). IsOfRequest d known way id access number) (sym (same_flight doubt added is)) of)
+    by (inr is) = inr (added, is, of)
+
+-- a doubt that isn't about an access says nothing of it
+pub not_by : (id number : ℕ) (doubt : Doubt) (made other : AcceptedAccess) → IsNotAbout id number doubt → MayBeBy doubt id number made other → ⊥
+not_by id number (InFlight doubt) made other not moved = not moved.own moved.numbered
+not_by id number (Begun doubt) made other not moved = not moved.own moved.numbered
 
 doubts_only : (before now : List Doubt) (known : Known) (way : Way) (id : ℕ) (access : Access) (number : ℕ) → AddsRequest before now known way id access number
     → DoubtsOnly before now id number
@@ -78,21 +81,30 @@ doubts_only before now known way id access number adds = λ i n made other diffe
     by i n made other differs (inl same) = inl same
     by i n made other differs (inr (place, doubt, at, moved)) = which (new_or_old before now known way id access number adds place doubt at)
       where
-        which : (slice_get before place ≡ Some (InFlight doubt)) ⊎ IsOfRequest doubt known way id access number → MayBe before i n made other
+        never : (flight : Flight) → IsOfRequest flight known way id access number → MayBeMoved flight i n made other → ⊥
+        never flight of moved = differs (sym moved.own ∙ of.own, sym moved.numbered ∙ of.numbered)
+
+        which : (slice_get before place ≡ Some doubt) ⊎ ((flight : Flight) × (doubt ≡ InFlight flight) × IsOfRequest flight known way id access number) → MayBe before i n made other
         which (inl there) = inr (place, doubt, there, moved)
-        which (inr of) = absurd (differs (sym moved.own ∙ of.own, sym moved.numbered ∙ of.numbered))
+        which (inr (flight, is, of)) = absurd (never flight of (subst (λ (d : Doubt). MayBeBy d i n made other) is moved))
 
 doubted_so : (before now : List Doubt) (known : Known) (way : Way) (id : ℕ) (access : Access) (number : ℕ) (IsSuch : ℕ → Type 0) → All (IsNotAbout id number) before
     → AddsRequest before now known way id access number
     → ((doubt : Flight) → IsOfRequest doubt known way id access number → (k frame : ℕ) → slice_get doubt.frames.items k ≡ Some frame → IsSuch frame)
     → IsDoubtedSo now id number (is_through_cache way) IsSuch
-doubted_so before now known way id access number IsSuch none adds such = λ place doubt at own numbered requested.
-    which place doubt own numbered (new_or_old before now known way id access number adds place doubt at)
+doubted_so before now known way id access number IsSuch none adds such = λ place doubt at made other moved.
+    which place doubt made other moved (new_or_old before now known way id access number adds place doubt at)
   where
-    which : (place : ℕ) (doubt : Flight) → doubt.device ≡ id → doubt.number ≡ number → (slice_get before place ≡ Some (InFlight doubt)) ⊎ IsOfRequest doubt known way id access number
-        → (doubt.is_cached ≡ is_through_cache way) × ((k frame : ℕ) → slice_get doubt.frames.items k ≡ Some frame → IsSuch frame)
-    which place doubt own numbered (inl there) = absurd (All-at (IsNotAbout id number) before place (InFlight doubt) none there own numbered)
-    which place doubt own numbered (inr of) = (of.cached, λ k frame among. such doubt of k frame among)
+    here : (flight : Flight) (made other : AcceptedAccess) → IsOfRequest flight known way id access number → MayBeMoved flight id number made other
+        → (frame : ℕ) × IsSuch frame × (other ≡ on_frame (is_through_cache way) frame made)
+    here flight made other of moved =
+        (moved.frame, such flight of moved.place moved.frame moved.among, moved.moved ∙ ap (λ (c : Bool). on_frame c moved.frame made) of.cached)
+
+    which : (place : ℕ) (doubt : Doubt) (made other : AcceptedAccess) → MayBeBy doubt id number made other
+        → (slice_get before place ≡ Some doubt) ⊎ ((flight : Flight) × (doubt ≡ InFlight flight) × IsOfRequest flight known way id access number)
+        → (frame : ℕ) × IsSuch frame × (other ≡ on_frame (is_through_cache way) frame made)
+    which place doubt made other moved (inl there) = absurd (not_by id number doubt made other (All-at (IsNotAbout id number) before place doubt none there) moved)
+    which place doubt made other moved (inr (flight, is, of)) = here flight made other of (subst (λ (d : Doubt). MayBeBy d id number made other) is moved)
 
 -- the device that asks is in doubt afterwards only so
 asks_only : (before now : List Doubt) (known : Known) (past : Past) (frames : List Frame) (way : Way) (id : ℕ) (access : Access) (number : ℕ) → IsTrueOf known past

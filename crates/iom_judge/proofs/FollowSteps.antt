@@ -1,5 +1,5 @@
 -- Steps of the judge that are explained, where accesses are in doubt.
-use Rattle.std.proofs.Common.{◌≡◌, ◌∙◌, inl, inr, ℕ, suc, Bool, true, false, ◌==◌, List, [], ◌∷◌, ◌++◌, All, map, find, None, Some, slice_get, refl, sym, ap, subst, arith}
+use Rattle.std.proofs.Common.{◌≡◌, ◌∙◌, inl, inr, ℕ, suc, Bool, true, false, ◌==◌, List, [], ◌∷◌, ◌++◌, map, find, None, Some, slice_get, refl, sym, ap, subst, arith}
 use Rattle.std.proofs.lemmas.Bool.{eqb-true}
 use Rattle.iom_base.specs.declared.access.AcceptedAccess.{AcceptedAccess}
 use Rattle.iom_machine.specs.declared.event.Event.{Event}
@@ -7,18 +7,15 @@ use Rattle.iom_machine.specs.declared.outcome.Outcome.{Outcome}
 use Rattle.iom_machine.specs.declared.state.Device.{Device}
 use Rattle.iom_machine.specs.declared.state.State.{State}
 use Rattle.iom_machine.specs.Machine.{Run, Step}
-use Rattle.iom_machine.proofs.InFlightLemmas.{All-at}
 use Rattle.iom_script.specs.declared.script.WorldSize.{WorldSize}
 use Rattle.iom_known.specs.Allowed.{Past, IsTrueOf, ids_of, state_of}
 use Rattle.iom_known.specs.Steps.{IsExplained}
 use Rattle.iom_known.specs.declared.known.Known.{Known}
 use Rattle.iom_judge.specs.Certificates.{opening_of}
 use Rattle.iom_judge.specs.Certified.{IsCertified}
-use Rattle.iom_judge.specs.Doubted.{AreAmong, IsOfNoRequest, MayBe, MayEachBe, MayFly, with_flights, flown}
+use Rattle.iom_judge.specs.Doubted.{AreAmong, MayBe, MayEachBe, MayFly, with_flights, flown}
 use Rattle.iom_judge.specs.Followed.{IsFollowed, IsCertifiedWith, LeavesFlights, StepsBy}
 use Rattle.iom_judge.specs.declared.doubts.Doubt.{Doubt}
-use Rattle.iom_judge.specs.declared.doubts.Doubt.TheVariants.{InFlight}
-use Rattle.iom_judge.specs.declared.doubts.Flight.{Flight}
 use Rattle.iom_judge.proofs.FlightAccepts.{HaveOwnIds}
 use Rattle.iom_judge.proofs.FlightActs.{step_flies}
 use Rattle.iom_judge.proofs.FlightLemmas.{fewer_fly}
@@ -43,25 +40,22 @@ own_devices (d ∷ ds) = ap (λ (l : List Device). d ∷ l) (own_devices ds)
 pub own_flown : (state : State) → flown (own_flights state.devices) state ≡ state
 own_flown state = ap (λ (ds : List Device). record state { devices = ds }) (own_devices state.devices)
 
--- none of the doubts is about a request
-abbrev pub NoneOfRequests : List Doubt → Type 0
-NoneOfRequests doubts = (place : ℕ) (doubt : Flight) → slice_get doubts place ≡ Some (InFlight doubt) → doubt.writable ≡ None → ⊥
+-- there is no doubt
+abbrev pub AreNone : List Doubt → Type 0
+AreNone doubts = (place : ℕ) (doubt : Doubt) → slice_get doubts place ≡ Some doubt → ⊥
 
-pub none_of_none : (doubts : List Doubt) → doubts ≡ [] → NoneOfRequests doubts
-none_of_none [] none = λ place doubt at requested. never place doubt at
+pub none_of_none : (doubts : List Doubt) → doubts ≡ [] → AreNone doubts
+none_of_none [] none = λ place doubt at. never place doubt at
   where
-    never : (k : ℕ) (x : Flight) → slice_get [] k ≡ Some (InFlight x) → ⊥
+    never : (k : ℕ) (x : Doubt) → slice_get [] k ≡ Some x → ⊥
     never k x at = cc
 none_of_none (d ∷ ds) none = absurd (never none)
   where
     never : ◌≡◌ {A = List Doubt} (d ∷ ds) [] → ⊥
     never e = cc
 
-pub none_of_all : (doubts : List Doubt) → All IsOfNoRequest doubts → NoneOfRequests doubts
-none_of_all doubts all = λ place doubt at. All-at IsOfNoRequest doubts place (InFlight doubt) all at
-
 -- then what may be in flight is what is
-same_each : (doubts : List Doubt) (id accepted : ℕ) (flights chosen : List AcceptedAccess) → NoneOfRequests doubts → MayEachBe doubts id accepted flights chosen → chosen ≡ flights
+same_each : (doubts : List Doubt) (id accepted : ℕ) (flights chosen : List AcceptedAccess) → AreNone doubts → MayEachBe doubts id accepted flights chosen → chosen ≡ flights
 same_each doubts id accepted [] [] none may = refl
 same_each doubts id accepted [] (g ∷ gs) none may = absurd may
 same_each doubts id accepted (f ∷ fs) [] none may = absurd may
@@ -70,9 +64,9 @@ same_each doubts id accepted (f ∷ fs) (g ∷ gs) none may =
   where
     same : {n : ℕ} → MayBe doubts id n f g → g ≡ f
     same (inl is) = is
-    same (inr (place, doubt, at, moved)) = absurd (none place doubt at moved.requested)
+    same (inr (place, doubt, at, moved)) = absurd (none place doubt at)
 
-same_devices : (doubts : List Doubt) (devices : List Device) (flights : List (List AcceptedAccess)) → NoneOfRequests doubts → MayFly doubts devices flights
+same_devices : (doubts : List Doubt) (devices : List Device) (flights : List (List AcceptedAccess)) → AreNone doubts → MayFly doubts devices flights
     → with_flights flights devices ≡ devices
 same_devices doubts [] [] none fly = refl
 same_devices doubts [] (f ∷ fs) none fly = absurd fly
@@ -81,8 +75,8 @@ same_devices doubts (d ∷ ds) (f ∷ fs) none fly =
     ap (λ (l : List AcceptedAccess). record d { in_flight = l } ∷ with_flights fs ds) (same_each doubts d.id d.accepted d.in_flight f none fly.0)
     ∙ ap (λ (l : List Device). d ∷ l) (same_devices doubts ds fs none fly.1)
 
--- where none of the doubts afterwards is about a request, what is explained is followed
-pub explained_then_settled : (old : Known) (before : List Doubt) (new : Known) (now : List Doubt) (event : Event) (outcome : Outcome) (past : Past) → NoneOfRequests now
+-- where nothing is in doubt afterwards, what is explained is followed
+pub explained_then_settled : (old : Known) (before : List Doubt) (new : Known) (now : List Doubt) (event : Event) (outcome : Outcome) (past : Past) → AreNone now
     → IsExplained old new event outcome past → IsFollowed old before new now (StepsBy event outcome) past
 explained_then_settled old before new now event outcome past none explained = record {
   after = explained.after;
@@ -154,8 +148,8 @@ certified_anyway known doubts size events outcomes certified = record {
       (certified.runs (own_flights known.devices) frames (own_fly doubts known.devices) allowed);
 }
 
--- and where none of the doubts is about a request, what is certified is so whatever frames the others are on
-pub certified_settled : (known : Known) (doubts : List Doubt) (size : WorldSize) (events : List Event) (outcomes : List Outcome) → NoneOfRequests doubts
+-- and where nothing is in doubt, what is certified is so whatever frames accesses are on
+pub certified_settled : (known : Known) (doubts : List Doubt) (size : WorldSize) (events : List Event) (outcomes : List Outcome) → AreNone doubts
     → IsCertified known size events outcomes → IsCertifiedWith known doubts size events outcomes
 certified_settled known doubts size events outcomes none certified = record {
   past = certified.past;

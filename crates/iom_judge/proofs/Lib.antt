@@ -7,7 +7,9 @@ pub mod FlightLemmas
 pub mod FlightPolls
 pub mod FlightRequests
 pub mod FlightSteps
+pub mod FollowBegun
 pub mod FollowCommits
 pub mod FollowPolls
 pub mod FollowRequests
 pub mod FollowSteps
+pub mod Results

@@ -1,5 +1,6 @@
 -- What a certificate says: that the text of a trace is the lines of a run of the ledger machine from power-on.
 use Rattle.std.specs.Prelude.{◌≡◌, ℕ, Bool, true, false, List, [], ◌∷◌, All, Option, ⊤}
+use Rattle.iom_base.specs.declared.access.Access.{Access}
 use Rattle.iom_machine.specs.declared.event.Event.{Event}
 use Rattle.iom_machine.specs.declared.outcome.Outcome.{Outcome}
 use Rattle.iom_machine.specs.declared.state.State.{State}
@@ -33,7 +34,7 @@ opening_of size = opening size.frames size.levels four_disks
 -- the line says that this came of the event, with or without what that doesn't show
 abbrev pub SaysStep : List ℕ → Event → Outcome → Type 0
 SaysStep line event outcome =
-    (has_tables : Bool) × (on : Option ℕ) × (tables : List ℕ) × SaysLine line (Step event outcome has_tables on) tables
+    (has_tables : Bool) × (on : Option ℕ) × (began : Option Access) × (tables : List ℕ) × SaysLine line (Step event outcome has_tables on began) tables
 
 -- each line says that its outcome came of its event
 abbrev pub SaySteps : List (List ℕ) → List Event → List Outcome → Type 0

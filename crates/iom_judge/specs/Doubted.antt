@@ -1,10 +1,11 @@
 -- Which states a belief allows where it isn't known on which frame an access in flight is: each such access may be on any of its frames, whatever the
 -- others are on.
-use Rattle.std.specs.Prelude.{◌≡◌, ◌==◌, ◌⊎◌, ℕ, ◌-◌, Bool, true, false, List, [], ◌∷◌, ◌++◌, All, length, find, slice_get, None, Some, ⊤}
+use Rattle.std.specs.Prelude.{◌≡◌, ◌==◌, ◌⊎◌, ℕ, ◌-◌, Bool, true, false, List, [], ◌∷◌, ◌++◌, All, length, find, slice_get, Some, ⊤}
 use Rattle.iom_base.specs.declared.access.Access.{Access}
 use Rattle.iom_base.specs.declared.access.AcceptedAccess.{AcceptedAccess}
+use Rattle.iom_machine.specs.Refusals.{has_cache}
 use Rattle.iom_machine.specs.Requests.{MayAccept}
-use Rattle.iom_machine.specs.ThroughCache.{MayGoThrough, at_frame}
+use Rattle.iom_machine.specs.ThroughCache.{MayGoThrough}
 use Rattle.iom_machine.specs.declared.state.Device.{Device}
 use Rattle.iom_machine.specs.declared.state.Frame.{Frame}
 use Rattle.iom_machine.specs.declared.state.State.{State}
@@ -13,30 +14,37 @@ use Rattle.iom_known.specs.Reached.{CanReach}
 use Rattle.iom_known.specs.declared.known.Known.{Known}
 use Rattle.iom_known.specs.declared.way.Way.{Way}
 use Rattle.iom_known.specs.declared.way.Way.TheVariants.{Untranslated, Forged, Cached}
+use Rattle.iom_judge.specs.Begun.{AreOpen, CouldHaveBegun, IsReachedAt, on_frame}
+use Rattle.iom_judge.specs.declared.begun.BegunAccess.{BegunAccess}
 use Rattle.iom_judge.specs.declared.doubts.Doubt.{Doubt}
-use Rattle.iom_judge.specs.declared.doubts.Doubt.TheVariants.{InFlight, Written}
+use Rattle.iom_judge.specs.declared.doubts.Doubt.TheVariants.{InFlight, Begun}
 use Rattle.iom_judge.specs.declared.doubts.Flight.{Flight}
 
--- the access, where it is on this frame; one that went through a cache is at its physical address there
-abbrev pub on_frame : Bool → ℕ → AcceptedAccess → AcceptedAccess
-on_frame false frame made = record { access = made.access; frame = frame }
-on_frame true frame made = record { access = at_frame frame made.access; frame = frame }
-
--- The doubt is about the device's access of this number, which may be the other: on a frame of the doubt. None of a block device's step is such.
+-- The doubt is about the device's request of this number, which may be the other: on a frame of the doubt.
 pub record MayBeMoved (doubt : Flight) (id number : ℕ) (made other : AcceptedAccess) : Type 0 where
   pub own : doubt.device ≡ id
   pub numbered : doubt.number ≡ number
   pub of_kind : doubt.kind ≡ made.access.kind
-  pub requested : doubt.writable ≡ None
   pub place : ℕ
   pub frame : ℕ
   pub among : slice_get doubt.frames.items place ≡ Some frame
   pub moved : other ≡ on_frame doubt.is_cached frame made
 
+-- The doubt is about the device's access of this number, which a step began, and which may be the other.
+pub record MayBeBegun (doubt : BegunAccess) (id number : ℕ) (other : AcceptedAccess) : Type 0 where
+  pub own : doubt.device ≡ id
+  pub numbered : doubt.number ≡ number
+  pub could : CouldHaveBegun doubt other
+
+-- by this doubt, the device's access of this number may be the other
+abbrev pub MayBeBy : Doubt → ℕ → ℕ → AcceptedAccess → AcceptedAccess → Type 0
+MayBeBy (InFlight doubt) id number made other = MayBeMoved doubt id number made other
+MayBeBy (Begun doubt) id number made other = MayBeBegun doubt id number other
+
 -- the device's access of this number may be the other: they are the same, or it is in doubt
 abbrev pub MayBe : List Doubt → ℕ → ℕ → AcceptedAccess → AcceptedAccess → Type 0
 MayBe doubts id number made other =
-    (other ≡ made) ⊎ ((place : ℕ) × (doubt : Flight) × (slice_get doubts place ≡ Some (InFlight doubt)) × MayBeMoved doubt id number made other)
+    (other ≡ made) ⊎ ((place : ℕ) × (doubt : Doubt) × (slice_get doubts place ≡ Some doubt) × MayBeBy doubt id number made other)
 
 -- Each of the device's accesses in flight may be the one at its place among the others. The last is the one with the number of those that were accepted.
 abbrev pub MayEachBe : List Doubt → ℕ → ℕ → List AcceptedAccess → List AcceptedAccess → Type 0
@@ -52,19 +60,14 @@ MayFly doubts (device ∷ devices) (flights ∷ others) =
     MayEachBe doubts device.id device.accepted device.in_flight flights × MayFly doubts devices others
 MayFly doubts _ _ = ⊥
 
--- the doubts of accesses in flight that are among some are among all
+-- the doubts that are among some are among all
 abbrev pub AreAmong : List Doubt → List Doubt → Type 0
-AreAmong some all = (place : ℕ) (doubt : Flight) → slice_get some place ≡ Some (InFlight doubt) → (other : ℕ) × (slice_get all other ≡ Some (InFlight doubt))
+AreAmong some all = (place : ℕ) (doubt : Doubt) → slice_get some place ≡ Some doubt → (other : ℕ) × (slice_get all other ≡ Some doubt)
 
 -- the doubt isn't about the device's access with this number
 abbrev pub IsNotAbout : ℕ → ℕ → Doubt → Type 0
 IsNotAbout id number (InFlight doubt) = doubt.device ≡ id → doubt.number ≡ number → ⊥
-IsNotAbout id number (Written made) = ⊤
-
--- the doubt isn't about a request
-abbrev pub IsOfNoRequest : Doubt → Type 0
-IsOfNoRequest (InFlight doubt) = doubt.writable ≡ None → ⊥
-IsOfNoRequest (Written made) = ⊤
+IsNotAbout id number (Begun doubt) = doubt.device ≡ id → doubt.number ≡ number → ⊥
 
 -- whether a request so goes through the device's own cache
 abbrev pub is_through_cache : Way → Bool
@@ -87,6 +90,21 @@ abbrev pub AddsRequest : List Doubt → List Doubt → Known → Way → ℕ →
 AddsRequest before now known way id access number =
     (now ≡ before) ⊎ ((doubt : Flight) × IsOfRequest doubt known way id access number × (now ≡ before ++ InFlight doubt ∷ []))
 
+-- The doubt is about the access with this number, which a step of the device began: at each of its places it may be.
+pub record IsOfStep (doubt : BegunAccess) (known : Known) (id number : ℕ) : Type 0 where
+  pub own : doubt.device ≡ id
+  pub numbered : doubt.number ≡ number
+  pub each : (device : Device) → find (λ (it : Device). it.id == id) known.devices ≡ Some device
+      → (doubt.is_cached ≡ has_cache device.kind) × AreOpen known device doubt.places.items
+
+-- The doubts are those before, and one about the access that this step began.
+abbrev pub AddsStep : List Doubt → List Doubt → Known → ℕ → ℕ → Type 0
+AddsStep before now known id number = (doubt : BegunAccess) × IsOfStep doubt known id number × (now ≡ before ++ Begun doubt ∷ [])
+
+-- The doubts are those before, or these and one about the access that this step began.
+abbrev pub MayAddStep : List Doubt → List Doubt → Known → ℕ → ℕ → Type 0
+MayAddStep before now known id number = (now ≡ before) ⊎ AddsStep before now known id number
+
 -- the devices, where they have these accesses in flight
 abbrev pub with_flights : List (List AcceptedAccess) → List Device → List Device
 with_flights [] devices = devices
@@ -97,7 +115,7 @@ with_flights (flights ∷ others) (device ∷ devices) = record device { in_flig
 abbrev pub flown : List (List AcceptedAccess) → State → State
 flown flights state = record state { devices = with_flights flights state.devices }
 
--- each of the frames of the doubt may be reached, if the access is in flight
+-- each of the frames of the doubt may be reached
 abbrev pub IsAllReached : Known → Doubt → Type 0
 IsAllReached known (InFlight doubt) = All (CanReach known doubt.device doubt.kind) doubt.frames.items
-IsAllReached known (Written made) = ⊤
+IsAllReached known (Begun doubt) = All (IsReachedAt known doubt.device) doubt.places.items

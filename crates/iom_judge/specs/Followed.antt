@@ -14,7 +14,8 @@ use Rattle.iom_script.specs.declared.script.WorldSize.{WorldSize}
 use Rattle.iom_known.specs.Allowed.{Past, IsTrueOf, AreAllowed, state_of}
 use Rattle.iom_known.specs.declared.known.Known.{Known}
 use Rattle.iom_judge.specs.Certificates.{opening_of}
-use Rattle.iom_judge.specs.Doubted.{MayBe, MayFly, flown, on_frame}
+use Rattle.iom_judge.specs.Begun.{on_frame}
+use Rattle.iom_judge.specs.Doubted.{MayBe, MayFly, flown}
 use Rattle.iom_judge.specs.declared.belief.Belief.{Belief}
 use Rattle.iom_judge.specs.declared.doubts.Doubt.{Doubt}
 
@@ -86,13 +87,19 @@ IsCommitOf (outcomes.Read bytes) = ⊤
 IsCommitOf (outcomes.Wrote len) = ⊤
 IsCommitOf _ = ⊥
 
+-- The oldest access of the device may be this one.
+abbrev pub IsOldest : List Doubt → Device → AcceptedAccess → Type 0
+IsOldest doubts device moved =
+    (made : AcceptedAccess) × (slice_get device.in_flight 0 ≡ Some made)
+    × MayBe doubts device.id (device.accepted - (length device.in_flight - 1)) made moved
+
 -- The oldest access of the device may be on the frame.
 abbrev pub IsOldestOn : List Doubt → Device → Bool → ℕ → Type 0
 IsOldestOn doubts device is_cached frame =
     (made : AcceptedAccess) × (slice_get device.in_flight 0 ≡ Some made)
     × MayBe doubts device.id (device.accepted - (length device.in_flight - 1)) made (on_frame is_cached frame made)
 
--- The oldest access of the device is put on a frame on which it may be. Else all that is known stays as it is, but whether something was left out.
+-- The oldest access of the device is put where it may be. Else all that is known stays as it is, but whether something was left out.
 pub record IsPutOn (old : Known) (doubts : List Doubt) (id : ℕ) (new : Known) : Type 0 where
   pub place : ℕ
   pub device : Device

@@ -1,3 +1,4 @@
+pub mod Begun
 pub mod Certificates
 pub mod Certified
 pub mod Doubted

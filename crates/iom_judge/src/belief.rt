@@ -7,7 +7,7 @@ ghost use Rattle.iom_known.specs.Asked.{IsAskedBy};
 ghost use Rattle.iom_known.specs.Starts.{IsPowerOn};
 ghost use Rattle.iom_known.specs.Steps.{IsExplained};
 ghost use Rattle.iom_judge.specs.Certificates.{four_disks};
-ghost use Rattle.iom_judge.specs.Doubted.{IsAllReached, IsNotAbout, IsOfNoRequest};
+ghost use Rattle.iom_judge.specs.Doubted.{IsAllReached, IsNotAbout};
 ghost use Rattle.iom_judge.specs.Followed.{Follows};
 
 use crate::doubts::{Doubts, flight_of, frame_at};
@@ -15,9 +15,9 @@ use crate::following::leaves_flights;
 use crate::messages::Messages;
 use crate::releases::Releases;
 use crate::subject::Subject;
-use crate::unseen::Run;
+use crate::unseen::{Run, Unseen};
 use crate::versions::Versions;
-use iom_base::{AccessKind, DeviceId, PAGE_SIZE};
+use iom_base::{Access, AccessKind, DeviceId, PAGE_SIZE};
 use iom_known::asked::{Asked, read_by, request, write_by};
 use iom_known::contents::{keep, store};
 use iom_known::devices::place_of;
@@ -31,12 +31,14 @@ use iom_machine::{Event, Outcome};
 use std::alloc::{AllocError, Global};
 
 /// What a line shows of what its answer doesn't.
-#[derive(Clone, Copy)]
+#[derive(Drop)]
 pub(crate) struct Shown<'a> {
     /// The frames that were taken for tables.
     pub(crate) tables: Option<&'a [u32]>,
     /// The frame on which an access was accepted.
     pub(crate) on: Option<u32>,
+    /// The access that a step began.
+    pub(crate) began: Option<Access>,
 }
 
 /// What is believed of the machine's state after the lines so far.
@@ -44,6 +46,7 @@ pub(crate) struct Shown<'a> {
 pub(crate) struct Belief {
     pub(crate) known: Known,
     pub(crate) doubts: Doubts,
+    pub(crate) unseen: Unseen,
     pub(crate) versions: Versions,
     pub(crate) messages: Messages,
     pub(crate) releases: Releases,
@@ -76,6 +79,7 @@ impl Belief {
         Ok(Belief {
             known: Known::power_on(alloc, frames, levels, &DISKS)?,
             doubts: Doubts::new(alloc),
+            unseen: Unseen::new(alloc),
             versions: Versions::new(alloc),
             messages: Messages::new(alloc),
             releases: Releases::new(alloc),
@@ -98,9 +102,10 @@ impl Belief {
 
     /// Whether nothing is believed of a frame in more than one way, but for whose it is.
     pub(crate) fn is_settled(&self) -> bool
-        ensures { IsTrue result ↔ ((self.now.doubts.all.items ≡ []) × (self.now.versions.all.items ≡ [])) }
+        ensures { IsTrue result
+            ↔ ((self.now.doubts.all.items ≡ []) × (self.now.unseen.all.items ≡ []) × (self.now.versions.all.items ≡ [])) }
     {
-        self.doubts.is_empty() && self.versions.is_known()
+        self.doubts.is_empty() && self.unseen.is_empty() && self.versions.is_known()
     }
 
     /// Whether each line so far was followed, and none of the doubts is about the device's access with this number.
@@ -111,16 +116,6 @@ impl Belief {
             return false;
         }
         self.doubts.has_none_about(id, number)
-    }
-
-    /// Whether each line so far was followed, and none of the doubts is about a request.
-    fn follows_known(&self) -> bool
-        ensures { IsTrue result → All IsOfNoRequest self.now.doubts.all.items }
-    {
-        if !self.is_followed {
-            return false;
-        }
-        self.doubts.has_no_request()
     }
 
     /// Whether each line so far was followed, and each access in doubt may reach all of its frames.
@@ -209,7 +204,7 @@ impl Belief {
         };
         let doubt = self.doubts.place_of_oldest(device);
         if let Some(doubt) = doubt {
-            if self.doubts.is_of_step(doubt) {
+            if self.doubts.begun_at(doubt).is_some() {
                 return self.commit_step(alloc, place, doubt, outcome);
             }
         }
@@ -259,7 +254,7 @@ impl Belief {
         if let Some(doubt) = doubt {
             self.doubts.decide(&mut self.known, doubt, frame);
         }
-        self.doubts.close_all(&frames, offset, bytes.len())?;
+        self.unseen.close_all(&frames, offset, bytes.len())?;
         if place < self.known.devices.as_slice().len() {
             drop_oldest(&mut self.known.devices, place);
         }
@@ -319,7 +314,7 @@ impl Belief {
         if let Some(doubt) = doubt {
             self.doubts.forget(doubt);
         }
-        self.doubts.close_all(frames, offset, bytes.len())?;
+        self.unseen.close_all(frames, offset, bytes.len())?;
         let is_whole = match frames {
             [frame] => self.write(alloc, *frame, offset, bytes)?,
             _ => self
@@ -376,7 +371,7 @@ impl Belief {
                 return Ok(may_come);
             };
             let offset = (address % PAGE_SIZE) as usize;
-            self.doubts.close(Run::new(frame, offset, bytes.len()))?;
+            self.unseen.close(Run::new(frame, offset, bytes.len()))?;
             if !self.versions.write(alloc, frame, offset, bytes)? {
                 self.known.is_exact = false;
             }
@@ -430,7 +425,7 @@ impl Belief {
         let offset = (address % PAGE_SIZE) as usize;
         self.reveal(alloc, frame, offset, bytes.as_slice())?;
         let may_come = self.peek_versions(alloc, address, len, outcome)?;
-        self.doubts.close(Run::new(frame, offset, bytes.len()))?;
+        self.unseen.close(Run::new(frame, offset, bytes.len()))?;
         Ok(may_come)
     }
 
@@ -444,13 +439,13 @@ impl Belief {
         outcome: &Outcome,
         shown: Shown<'_>,
     ) -> Result<bool, AllocError>
-        ensures explained { self.old.doubts.all.items ≡ [] → self.old.versions.all.items ≡ []
+        ensures explained { self.old.doubts.all.items ≡ [] → self.old.unseen.all.items ≡ [] → self.old.versions.all.items ≡ []
             → IfOk result (λ may. IsTrue may → (past : Past) → IsTrueOf self.old.known past
             → IsExplained self.old.known self.new.known event outcome.now past) }
         ensures followed { IfOk result (λ may. IsTrue may → IsTrue self.new.is_followed → Follows self.old self.new event outcome.now) }
     {
         if let Event::Step { device } = &event {
-            return self.step_block(alloc, *device, outcome, shown.on);
+            return self.step_block(alloc, *device, outcome, shown.on, shown.began);
         }
         if let Some(asked) = read_by(alloc, &event) {
             return self.ask_for(alloc, asked, outcome, shown.on);
@@ -468,16 +463,22 @@ impl Belief {
         id: DeviceId,
         outcome: &Outcome,
         on: Option<u32>,
+        began: Option<Access>,
     ) -> Result<bool, AllocError>
         ensures explained { IfOk result (λ may. IsTrue may → (past : Past) → IsTrueOf self.old.known past
             → IsExplained self.old.known self.new.known (events.Step id) outcome.now past) }
         ensures followed { IfOk result (λ may. IsTrue may → IsTrue self.new.is_followed → Follows self.old self.new (events.Step id) outcome.now) }
     {
-        let may_come = self.take_step(alloc, id, outcome, on)?;
-        if leaves_flights(outcome) {
+        if let Outcome::Accepted(number) = outcome {
+            let is_followed = self.follows_new(id, *number);
+            let may_come = self.begin(alloc, id, *number, on, began)?;
+            self.is_followed = is_followed;
             return Ok(may_come);
         }
-        self.is_followed = self.follows_known();
+        if !leaves_flights(outcome) {
+            return Ok(false);
+        }
+        let may_come = self.take_step(alloc, id, outcome)?;
         Ok(may_come)
     }
 
@@ -489,7 +490,7 @@ impl Belief {
         outcome: &Outcome,
         tables: Option<&[u32]>,
     ) -> Result<bool, AllocError>
-        ensures explained { self.old.doubts.all.items ≡ [] → self.old.versions.all.items ≡ []
+        ensures explained { self.old.doubts.all.items ≡ [] → self.old.unseen.all.items ≡ [] → self.old.versions.all.items ≡ []
             → IfOk result (λ may. IsTrue may → (past : Past) → IsTrueOf self.old.known past
             → IsExplained self.old.known self.new.known event.now outcome.now past) }
         ensures followed { IfOk result (λ may. IsTrue may → IsTrue self.new.is_followed → Follows self.old self.new event.now outcome.now) }
@@ -501,7 +502,7 @@ impl Belief {
         if let Event::Poll = event {
             return self.poll(alloc, outcome);
         }
-        if self.is_followed && self.is_ready_for(event, outcome) {
+        if self.is_ready_for(alloc, event, outcome)? {
             return self.known.act(alloc, event, outcome, tables, question);
         }
         let may_come = self.act_in_doubt(alloc, event, outcome, tables, question)?;
@@ -532,7 +533,7 @@ impl Belief {
     fn note(&mut self, event: &Event, outcome: &Outcome) -> Result<(), AllocError>
         ensures known { self.new.known ≡ self.old.known }
         ensures followed { self.new.is_followed ≡ self.old.is_followed }
-        ensures doubts { IsTrue self.old.is_followed → self.new.doubts ≡ self.old.doubts }
+        ensures doubts { self.new.doubts ≡ self.old.doubts }
     {
         match (event, outcome) {
             (Event::Release { device, page }, Outcome::Ticket(ticket)) => {
@@ -542,9 +543,8 @@ impl Belief {
                 self.releases.note(*ticket, *device, None)?;
             }
             (Event::Poll, Outcome::Confirmed { last, .. }) => self.releases.confirm(*last),
-            // where each line so far was followed, there are no writes that weren't seen
-            (Event::Attach { .. } | Event::Grant { .. }, Outcome::Done) if !self.is_followed => {
-                self.doubts.leave_taken(&self.known);
+            (Event::Attach { .. } | Event::Grant { .. }, Outcome::Done) => {
+                self.unseen.leave_taken(&self.known);
             }
             // bytes that weren't followed may have shown that the frame is somebody's, and it need not be
             (Event::Peek { address, .. }, Outcome::Bytes(_))
@@ -565,7 +565,7 @@ impl Belief {
         outcome: &Outcome,
         tables: Option<&[u32]>,
     ) -> Result<bool, AllocError>
-        ensures explained { self.old.doubts.all.items ≡ [] → self.old.versions.all.items ≡ []
+        ensures explained { self.old.doubts.all.items ≡ [] → self.old.unseen.all.items ≡ [] → self.old.versions.all.items ≡ []
             → IfOk result (λ may. IsTrue may → (past : Past) → IsTrueOf self.old.known past
             → IsExplained self.old.known self.new.known event.now outcome.now past) }
         ensures followed { IfOk result (λ may. IsTrue may → IsTrue self.new.is_followed → Follows self.old self.new event.now outcome.now) }

@@ -7,10 +7,11 @@ ghost use Rattle.iom_machine.specs.declared.state.Device.{Device};
 ghost use Rattle.iom_machine.specs.declared.state.Frame.{Frame};
 ghost use Rattle.iom_known.specs.Allowed.{Past, IsTrueOf, state_of};
 ghost use Rattle.iom_known.specs.Reached.{AreServed, CanReach, HasBothStages};
-ghost use Rattle.iom_judge.specs.Doubted.{IsAllReached, IsNotAbout, IsOfNoRequest, IsOfRequest, is_through_cache};
+ghost use Rattle.iom_judge.specs.Doubted.{IsAllReached, IsNotAbout, IsOfRequest, is_through_cache};
 
-use crate::unseen::UnseenWrite;
-use iom_base::{Access, AccessKind, DeviceId, Mode, PAGE_SIZE};
+use crate::begun::{BegunAccess, are_reached_at};
+use crate::following::move_to;
+use iom_base::{Access, AccessKind, DeviceId, Mode};
 use iom_known::asked::Asked;
 use iom_known::devices::place_of;
 use iom_known::reach::may;
@@ -19,7 +20,7 @@ use iom_known::{Known, Way};
 use iom_machine::{Attachment, Device};
 use std::alloc::{AllocError, Global};
 
-/// An access in flight that may be on one of several frames. What is known has it on the first.
+/// A request in flight that may be on one of several frames. What is known has it on the first.
 #[derive(Drop)]
 pub(crate) struct Flight {
     pub(crate) device: DeviceId,
@@ -28,20 +29,17 @@ pub(crate) struct Flight {
     pub(crate) kind: AccessKind,
     pub(crate) is_cached: bool,
     pub(crate) frames: Vec<u32>,
-    /// Where a step began the access, the frames on which it may be a write. What is known has a read of one byte.
-    pub(crate) writable: Option<Vec<u32>>,
 }
 
-/// An access in doubt.
+/// An access in doubt: a request, or one that a step began.
 #[derive(Drop)]
 pub(crate) enum Doubt {
     InFlight(Flight),
-    /// One that was made, and whose bytes weren't seen yet.
-    Written(UnseenWrite),
+    Begun(BegunAccess),
 }
 
 /// Whether a request of the device is, or was, translated in both stages.
-fn has_both_stages(attachment: Attachment) -> bool
+pub(crate) fn has_both_stages(attachment: Attachment) -> bool
     ensures { IsTrue result → HasBothStages attachment }
 {
     match attachment {
@@ -111,7 +109,6 @@ pub(crate) fn flight_of(
         kind: asked.access.kind,
         is_cached: is_through_cache(asked.way),
         frames,
-        writable: None,
     })
 }
 
@@ -126,7 +123,7 @@ fn is_not_about(doubt: &Doubt, id: DeviceId, number: u64) -> bool
             }
             flight.number != number
         }
-        Doubt::Written(_) => true,
+        Doubt::Begun(begun) => !begun.is_about(id, number),
     }
 }
 
@@ -136,28 +133,6 @@ fn are_not_about(doubts: &[Doubt], id: DeviceId, number: u64) -> bool
 {
     for doubt in doubts {
         if !is_not_about(doubt, id, number) {
-            return false;
-        }
-    }
-    true
-}
-
-/// Whether the doubt isn't about a request.
-fn is_of_no_request(doubt: &Doubt) -> bool
-    ensures { IsTrue result → IsOfNoRequest doubt.now }
-{
-    match doubt {
-        Doubt::InFlight(flight) => flight.writable.is_some(),
-        Doubt::Written(_) => true,
-    }
-}
-
-/// Whether none of the doubts is.
-fn are_of_no_request(doubts: &[Doubt]) -> bool
-    ensures { IsTrue result → All IsOfNoRequest doubts.now }
-{
-    for doubt in doubts {
-        if !is_of_no_request(doubt) {
             return false;
         }
     }
@@ -176,19 +151,15 @@ fn may_reach_each(known: &Known, id: DeviceId, kind: AccessKind, frames: &[u32])
     true
 }
 
-/// Whether each of the frames of the doubt may be reached, if the access is in flight. Of one that a step began it isn't
-/// looked for, since that may be a read or a write.
+/// Whether each of the frames of the doubt may be reached.
 fn is_all_reached(known: &Known, doubt: &Doubt) -> bool
     ensures { IsTrue result → IsAllReached known.now doubt.now }
 {
     match doubt {
         Doubt::InFlight(flight) => {
-            if flight.writable.is_some() {
-                return false;
-            }
             may_reach_each(known, flight.device, flight.kind, flight.frames.as_slice())
         }
-        Doubt::Written(_) => true,
+        Doubt::Begun(begun) => are_reached_at(known, begun.device, begun.places.as_slice()),
     }
 }
 
@@ -204,54 +175,45 @@ fn are_all_reached(known: &Known, doubts: &[Doubt]) -> bool
     true
 }
 
-/// The accesses of which the lines don't show all, in the order of acceptance; once it is made, in that of the commits.
+/// The accesses in flight of which the lines don't show all, in the order of acceptance.
 #[derive(Drop)]
 pub(crate) struct Doubts {
     pub(crate) all: Vec<Doubt>,
 }
 
-/// The access of the device is on the frame.
-fn put(known: &mut Known, doubt: &Flight, frame: u32) {
-    let Some(place) = place_of(known.devices.as_slice(), doubt.device) else {
+/// The device's access with this number is on the frame.
+fn put(known: &mut Known, id: DeviceId, number: u64, is_cached: bool, frame: u32) {
+    let Some(place) = place_of(known.devices.as_slice(), id) else {
         return;
     };
     let device = known.devices.item_mut(place);
     let made = device
         .accepted
         .saturating_sub(device.in_flight.as_slice().len() as u64);
-    let index = doubt.number.saturating_sub(made).saturating_sub(1) as usize;
+    let index = number.saturating_sub(made).saturating_sub(1) as usize;
     if index < device.in_flight.as_slice().len() {
-        let flight = device.in_flight.item_mut(index);
-        flight.frame = frame;
-        if doubt.is_cached {
-            flight.access.address = u64::from(frame) * PAGE_SIZE
-                + flight.access.address % PAGE_SIZE;
-        }
+        move_to(device.in_flight.item_mut(index), is_cached, frame);
     }
 }
 
 impl Flight {
-    ghost use Rattle.std.specs.Prelude.{◌≡◌, IsTrue, None};
+    ghost use Rattle.std.specs.Prelude.{◌≡◌, IsTrue};
 
     /// The access is on a frame that its device still reaches.
     fn narrow(&mut self, alloc: Global, known: &mut Known) -> Result<(), AllocError> {
         let reached = marks_of(alloc, known, self.device, self.kind)?;
         self.frames.retain(|frame| reached.has(*frame));
-        if let Some(writable) = &mut self.writable {
-            let reached = marks_of(alloc, known, self.device, AccessKind::Write)?;
-            writable.retain(|frame| reached.has(*frame));
-        }
         if let Some(frame) = self.frames.first().copied() {
-            put(known, self, frame);
+            put(known, self.device, self.number, self.is_cached, frame);
         }
         Ok(())
     }
 
     /// Whether it is about this device's request of this kind, the one with this number of those that were accepted.
     pub(crate) fn is_about(&self, id: DeviceId, number: u64, kind: AccessKind) -> bool
-        ensures { IsTrue result → (self.now.device ≡ id) × (self.now.number ≡ number) × (self.now.kind ≡ kind) × (self.now.writable ≡ None) }
+        ensures { IsTrue result → (self.now.device ≡ id) × (self.now.number ≡ number) × (self.now.kind ≡ kind) }
     {
-        if self.writable.is_some() || self.kind != kind {
+        if self.kind != kind {
             return false;
         }
         if self.device != id {
@@ -262,22 +224,50 @@ impl Flight {
 
     /// Whether it isn't in doubt any longer.
     fn is_settled(&self) -> bool {
-        self.writable.is_none() && self.frames.len() <= 1
+        self.frames.len() <= 1
     }
 }
 
-/// Whether the doubt is an access in flight that isn't in doubt any longer.
+impl BegunAccess {
+    ghost use Rattle.std.specs.Prelude.{◌≡◌, ◌↔◌, IsTrue};
+
+    /// The access is at a place that its device still reaches.
+    fn narrow(&mut self, alloc: Global, known: &mut Known) -> Result<(), AllocError> {
+        let readable = marks_of(alloc, known, self.device, AccessKind::Read)?;
+        let writable = marks_of(alloc, known, self.device, AccessKind::Write)?;
+        self.places.retain(|place| readable.has(place.frame));
+        for place in self.places.iter_mut() {
+            place.is_writable = place.is_writable && writable.has(place.frame);
+        }
+        if let Some(place) = self.places.first().copied() {
+            put(known, self.device, self.number, self.is_cached, place.frame);
+        }
+        Ok(())
+    }
+
+    /// Whether it is about this device's access, the one with this number of those that were accepted.
+    pub(crate) fn is_about(&self, id: DeviceId, number: u64) -> bool
+        ensures { IsTrue result ↔ ((self.now.device ≡ id) × (self.now.number ≡ number)) }
+    {
+        if self.device != id {
+            return false;
+        }
+        self.number == number
+    }
+}
+
+/// Whether the access isn't in doubt any longer.
 fn is_over(doubt: &Doubt) -> bool {
     match doubt {
         Doubt::InFlight(flight) => flight.is_settled(),
-        Doubt::Written(_) => false,
+        Doubt::Begun(_) => false,
     }
 }
 
 impl Doubts {
     ghost use Rattle.std.specs.Prelude.{◌≡◌, ◌↔◌, ◌⊎◌, ◌++◌, ◌∷◌, [], All, IsTrue, OnOk};
-    ghost use Rattle.iom_judge.specs.Doubted.{AreAmong, IsAllReached, IsNotAbout, IsOfNoRequest};
-    ghost use Rattle.iom_judge.specs.declared.doubts.Doubt.TheVariants.{InFlight};
+    ghost use Rattle.iom_judge.specs.Doubted.{AreAmong, IsAllReached, IsNotAbout};
+    ghost use Rattle.iom_judge.specs.declared.doubts.Doubt.TheVariants.{Begun, InFlight};
 
     pub(crate) fn new(alloc: Global) -> Doubts
         ensures { result.all.items ≡ [] }
@@ -300,13 +290,6 @@ impl Doubts {
         are_not_about(self.all.as_slice(), id, number)
     }
 
-    /// Whether none is about a request.
-    pub(crate) fn has_no_request(&self) -> bool
-        ensures { IsTrue result → All IsOfNoRequest self.now.all.items }
-    {
-        are_of_no_request(self.all.as_slice())
-    }
-
     /// Whether each of the frames on which accesses in flight may be is one that may be reached.
     pub(crate) fn are_reached(&self, known: &Known) -> bool
         ensures { IsTrue result → All (IsAllReached known.now) self.now.all.items }
@@ -325,11 +308,21 @@ impl Doubts {
         Ok(())
     }
 
+    /// The access that a step began is in flight.
+    pub(crate) fn begin(&mut self, begun: BegunAccess) -> Result<(), AllocError>
+        ensures { OnOk result (self.new.all.items ≡ self.old.all.items ++ Begun begun ∷ []) }
+    {
+        self.all.push(Doubt::Begun(begun))?;
+        Ok(())
+    }
+
     /// Each access is on a frame that its device still reaches.
     pub(crate) fn narrow(&mut self, alloc: Global, known: &mut Known) -> Result<(), AllocError> {
         for place in 0..self.all.len() {
-            if let Some(Doubt::InFlight(flight)) = self.all.get_mut(place) {
-                flight.narrow(alloc, known)?;
+            match self.all.get_mut(place) {
+                Some(Doubt::InFlight(flight)) => flight.narrow(alloc, known)?,
+                Some(Doubt::Begun(begun)) => begun.narrow(alloc, known)?,
+                None => return Ok(()),
             }
         }
         self.all.retain(|doubt| !is_over(doubt));
@@ -341,11 +334,10 @@ impl Doubts {
         let made = device
             .accepted
             .saturating_sub(device.in_flight.as_slice().len() as u64);
+        let number = made.saturating_add(1);
         for (place, doubt) in self.all.iter().enumerate() {
-            if let Doubt::InFlight(flight) = doubt {
-                if flight.device == device.id && flight.number == made.saturating_add(1) {
-                    return Some(place);
-                }
+            if !is_not_about(doubt, device.id, number) {
+                return Some(place);
             }
         }
         None
@@ -354,14 +346,16 @@ impl Doubts {
     pub(crate) fn at(&self, place: usize) -> Option<&Flight> {
         match self.all.get(place)? {
             Doubt::InFlight(flight) => Some(flight),
-            Doubt::Written(_) => None,
+            Doubt::Begun(_) => None,
         }
     }
 
-    /// Whether a step began it.
-    pub(crate) fn is_of_step(&self, place: usize) -> bool {
-        self.at(place)
-            .is_some_and(|flight| flight.writable.is_some())
+    /// The one that a step began, if one did.
+    pub(crate) fn begun_at(&self, place: usize) -> Option<&BegunAccess> {
+        match self.all.get(place)? {
+            Doubt::InFlight(_) => None,
+            Doubt::Begun(begun) => Some(begun),
+        }
     }
 
     /// The access isn't in flight any longer.
@@ -377,7 +371,7 @@ impl Doubts {
     pub(crate) fn decide(&mut self, known: &mut Known, place: usize, frame: u32) {
         if place < self.all.len() {
             if let Doubt::InFlight(flight) = self.all.remove(place) {
-                put(known, &flight, frame);
+                put(known, flight.device, flight.number, flight.is_cached, frame);
             }
         }
     }

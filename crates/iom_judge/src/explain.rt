@@ -221,7 +221,7 @@ impl Belief {
             return words.could(format!(in words.alloc; "none")?);
         };
         let doubt = self.doubts.place_of_oldest(device);
-        if doubt.is_some_and(|place| self.doubts.is_of_step(place)) {
+        if doubt.is_some_and(|place| self.doubts.begun_at(place).is_some()) {
             return words.say(format!(in words.alloc;
                 "the oldest access of {id:06x} in flight is one that a step began, and isn't shown"
             )?);

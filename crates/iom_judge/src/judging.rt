@@ -10,6 +10,7 @@ ghost use Rattle.iom_judge.specs.Certified.{CertifyIf, GoesOn, HasJudged};
 use crate::belief::{Belief, Shown};
 use crate::subject::Subject;
 use crate::verdict::Verdict;
+use iom_base::Access;
 use iom_machine::{Event, Outcome};
 use iom_script::{LineBuffer, WorldSize};
 use iom_trace_lines::{Lines, NextLine, TraceLine, read_line};
@@ -67,6 +68,7 @@ impl Judge {
         outcome: &Outcome,
         has_tables: bool,
         on: Option<u32>,
+        began: Option<Access>,
     ) -> io::Result<Option<Verdict>>
         ensures { IfOk result (λ found. MatchOption found
             (GoesOn self.old.is_certified self.old.belief event outcome.now self.new.is_certified self.new.belief)
@@ -82,6 +84,7 @@ impl Judge {
         let shown = Shown {
             tables: if has_tables { Some(tables) } else { None },
             on,
+            began,
         };
         if belief.step(alloc, event, outcome, shown)? {
             let is_followed = belief.is_followed;
@@ -121,7 +124,8 @@ impl Judge {
                 outcome,
                 has_tables,
                 on,
-            } => self.go_on(event, &outcome, has_tables, on),
+                began,
+            } => self.go_on(event, &outcome, has_tables, on, began),
         }
     }
 

@@ -7,6 +7,7 @@
 //! longer trace.
 #![tactic(auto)]
 
+mod begun;
 mod belief;
 mod doubts;
 mod explain;

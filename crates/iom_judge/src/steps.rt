@@ -1,19 +1,23 @@
 // Steps of block devices, of which a line shows no more than what came of them.
-ghost use Rattle.std.specs.Prelude.{IsTrue, IfOk};
+ghost use Rattle.std.specs.Prelude.{IfOk, IfSome, IsTrue};
 ghost use Rattle.iom_machine.specs.declared.event.Event.TheVariants as events;
 ghost use Rattle.iom_known.specs.Allowed.{Past, IsTrueOf};
 ghost use Rattle.iom_known.specs.Steps.{IsExplained};
+ghost use Rattle.iom_judge.specs.Doubted.{IsOfStep};
 
+use crate::begun::{BegunAccess, Place, begun_at, places_of};
 use crate::belief::{Belief, has_other};
-use crate::doubts::{Flight, is_through_cache};
+use crate::doubts::{frame_at, has_both_stages};
 use crate::messages::Sent;
 use crate::unseen::Run;
-use iom_base::{Access, AccessKind, Cause, DeviceId, PAGE_LIMIT, PAGE_SIZE, Sequence};
+use iom_base::{
+    AcceptedAccess, Access, AccessKind, Cause, DeviceId, PAGE_LIMIT, PAGE_SIZE, Sequence,
+};
 use iom_known::contents::store;
-use iom_known::devices::device_with;
+use iom_known::devices::{device_with, place_of};
 use iom_known::in_flight::drop_oldest;
-use iom_known::reached::{frames_open_to, page_with};
-use iom_known::{BelievedFrame, Known, Question, Way};
+use iom_known::owners::may_be_somebodys;
+use iom_known::{BelievedFrame, Known, Question};
 use iom_machine::{BlockStep, Event, Outcome};
 use memchr::memchr_iter;
 use std::alloc::{AllocError, Global};
@@ -32,25 +36,53 @@ fn step(
     known.step(id, access, outcome, frame)
 }
 
-/// How the accesses of the device's steps go to memory.
-fn way_of_steps(known: &Known, id: DeviceId) -> Way {
-    match device_with(known.devices.as_slice(), id) {
-        Some(device) if device.kind.has_cache() => Way::Cached,
-        _ => Way::Untranslated,
-    }
-}
-
-/// The frames on which an access of this kind may be accepted that a step of the device begins.
-fn frames_of(
+/// The access that a step of the device began, which was accepted with this number: on this frame, if one is named.
+fn begun_by(
     alloc: Global,
     known: &Known,
     id: DeviceId,
+    number: u64,
+    on: Option<u32>,
+) -> Result<Option<BegunAccess>, AllocError>
+    ensures { IfOk result (λ found. IfSome found (λ begun. IsOfStep begun known.now id number)) }
+{
+    let Some(place) = place_of(known.devices.as_slice(), id) else {
+        return Ok(None);
+    };
+    let device = &known.devices.as_slice()[place];
+    let places = places_of(alloc, known, device, on)?;
+    Ok(Some(BegunAccess {
+        device: id,
+        number,
+        is_cached: device.kind.has_cache(),
+        places,
+    }))
+}
+
+/// The frame on which an access of the device to the page is accepted, if it is: where its requests aren't translated in both
+/// stages, so that the grants say that.
+fn settled_frame(known: &Known, id: DeviceId, page: u64) -> Option<u32> {
+    let device = device_with(known.devices.as_slice(), id)?;
+    if has_both_stages(device.attachment) {
+        return None;
+    }
+    Some(frame_at(known, id, page).unwrap_or(0))
+}
+
+/// The frames of the places, each once: of a write, of those that may be written.
+pub(crate) fn frames_of(
+    alloc: Global,
+    places: &[Place],
     kind: AccessKind,
 ) -> Result<Vec<u32>, AllocError> {
-    match device_with(known.devices.as_slice(), id) {
-        None => Ok(Vec::new(alloc)),
-        Some(device) => frames_open_to(alloc, known, device, kind),
+    let mut frames = Vec::new(alloc);
+    for place in places {
+        let is_open = place.is_writable || kind == AccessKind::Read;
+        if is_open && !frames.contains(&place.frame) {
+            frames.push(place.frame)?;
+        }
     }
+    Ok(frames)
 }
 
 /// A read of a byte at the page.
@@ -122,27 +154,26 @@ fn where_otherwise(
 }
 
 impl Belief {
-    ghost use Rattle.std.specs.Prelude.{◌≡◌, IsTrue, IfOk};
+    ghost use Rattle.std.specs.Prelude.{◌≡◌, IfOk, IfSome, IsTrue};
     ghost use Rattle.iom_machine.specs.declared.event.Event.TheVariants as events;
     ghost use Rattle.iom_machine.specs.declared.outcome.Outcome.TheVariants as outcomes;
     ghost use Rattle.iom_known.specs.Allowed.{Past, IsTrueOf};
     ghost use Rattle.iom_known.specs.Steps.{IsExplained};
-    ghost use Rattle.iom_judge.specs.Followed.{LeavesFlights};
+    ghost use Rattle.iom_judge.specs.Begun.{CouldHaveBegun};
+    ghost use Rattle.iom_judge.specs.Doubted.{MayAddStep};
 
-    /// A step. Where it begins an access that is accepted, this is any that may be, and in doubt.
+    /// A step of a block device that begins no access.
     pub(crate) fn take_step(
         &mut self,
         alloc: Global,
         id: DeviceId,
         outcome: &Outcome,
-        on: Option<u32>,
     ) -> Result<bool, AllocError>
         ensures explained { IfOk result (λ may. IsTrue may → (past : Past) → IsTrueOf self.old.known past
             → IsExplained self.old.known self.new.known (events.Step id) outcome.now past) }
-        ensures left { LeavesFlights outcome.now → self.new.doubts ≡ self.old.doubts }
+        ensures left { self.new.doubts ≡ self.old.doubts }
     {
         match outcome {
-            Outcome::Accepted(number) => self.begin_access(alloc, id, *number, on),
             Outcome::Fault(cause) => {
                 let access = refused_access(alloc, *cause)?;
                 step(&mut self.known, id, access, outcome, 0)
@@ -157,7 +188,32 @@ impl Belief {
         }
     }
 
-    /// A step that began an access, which was accepted. What is known has a read of one byte on the first frame.
+    /// A step that began an access, which was accepted: this one, where that is shown, and the grants settle its frame.
+    pub(crate) fn begin(
+        &mut self,
+        alloc: Global,
+        id: DeviceId,
+        number: u64,
+        on: Option<u32>,
+        began: Option<Access>,
+    ) -> Result<bool, AllocError>
+        ensures explained { IfOk result (λ may. IsTrue may → (past : Past) → IsTrueOf self.old.known past
+            → IsExplained self.old.known self.new.known (events.Step id) (outcomes.Accepted number) past) }
+        ensures begun { IfOk result (λ may. IsTrue may
+            → MayAddStep self.old.doubts.all.items self.new.doubts.all.items self.old.known id number) }
+    {
+        let Some(access) = began else {
+            return self.begin_access(alloc, id, number, on);
+        };
+        let page = access.address / PAGE_SIZE;
+        let Some(frame) = settled_frame(&self.known, id, page) else {
+            return self.begin_access(alloc, id, number, on);
+        };
+        let outcome = Outcome::Accepted(number);
+        step(&mut self.known, id, access, &outcome, frame)
+    }
+
+    /// A step that began an access, which was accepted. What is known has a read of one byte at the first place.
     fn begin_access(
         &mut self,
         alloc: Global,
@@ -165,33 +221,24 @@ impl Belief {
         number: u64,
         on: Option<u32>,
     ) -> Result<bool, AllocError>
-        ensures { IfOk result (λ may. IsTrue may → (past : Past) → IsTrueOf self.old.known past
+        ensures explained { IfOk result (λ may. IsTrue may → (past : Past) → IsTrueOf self.old.known past
             → IsExplained self.old.known self.new.known (events.Step id) (outcomes.Accepted number) past) }
+        ensures begun { IfOk result (λ may. IsTrue may
+            → MayAddStep self.old.doubts.all.items self.new.doubts.all.items self.old.known id number) }
     {
-        let way = way_of_steps(&self.known, id);
-        let mut frames = frames_of(alloc, &self.known, id, AccessKind::Read)?;
-        let mut writable = frames_of(alloc, &self.known, id, AccessKind::Write)?;
-        if let Some(shown) = on {
-            frames.retain(|frame| *frame == shown);
-            writable.retain(|frame| *frame == shown);
-        }
-        let Some(frame) = frames.first().copied() else {
+        let Some(begun) = begun_by(alloc, &self.known, id, number, on)? else {
             return Ok(false);
         };
-        let page = page_with(&self.known, id, frame).unwrap_or(0);
+        let Some(first) = begun.places.first().copied() else {
+            return Ok(false);
+        };
         let outcome = Outcome::Accepted(number);
-        let may_come = step(&mut self.known, id, read_at(alloc, page), &outcome, frame)?;
-        if may_come {
-            self.doubts.accept(Flight {
-                device: id,
-                number,
-                kind: AccessKind::Read,
-                is_cached: is_through_cache(way),
-                frames,
-                writable: Some(writable),
-            })?;
+        let access = read_at(alloc, first.page);
+        if !step(&mut self.known, id, access, &outcome, first.frame)? {
+            return Ok(false);
         }
-        Ok(may_come)
+        self.doubts.begin(begun)?;
+        Ok(true)
     }
 
     /// The question that is delivered, if one is. Where its page isn't known, it is one of which this may be told, if
@@ -242,10 +289,10 @@ impl Belief {
         doubt: usize,
         bytes: &[u8],
     ) -> Result<bool, AllocError> {
-        let mut frames = Vec::new(alloc);
-        if let Some(flight) = self.doubts.at(doubt) {
-            frames.extend_from_slice(&flight.frames)?;
-        }
+        let frames = match self.doubts.begun_at(doubt) {
+            None => Vec::new(alloc),
+            Some(begun) => frames_of(alloc, &begun.places, AccessKind::Read)?,
+        };
         if bytes.is_empty() || bytes.len() > PAGE_SIZE as usize {
             return Ok(false);
         }
@@ -263,7 +310,7 @@ impl Belief {
         self.is_whole_in_bytes = false;
         self.versions.narrow(&self.known, &[frame], offset, bytes);
         self.keep_one(&[frame], offset, bytes);
-        self.doubts.close(Run::new(frame, offset, bytes.len()))?;
+        self.unseen.close(Run::new(frame, offset, bytes.len()))?;
         Ok(true)
     }
 
@@ -275,7 +322,108 @@ impl Belief {
         if believed.other.is_some() || self.versions.touches(frame) {
             return false;
         }
-        !self.doubts.may_have_changed(frame) && place_in(believed, bytes).is_some()
+        !self.unseen.may_have_changed(frame) && place_in(believed, bytes).is_some()
+    }
+
+    /// Whether all that is believed of the frame is one thing.
+    fn is_certain(&self, frame: u32) -> bool {
+        !has_other(&self.known, frame)
+            && self.versions.is_known()
+            && !may_be_somebodys(&self.known, u64::from(frame))
+    }
+
+    /// A place among these and an offset at which the bytes stand: if any frame shows them for certain, in such a one.
+    fn place_showing(&self, places: &[Place], bytes: &[u8]) -> Option<(usize, usize)> {
+        let mut found = None;
+        for (index, place) in places.iter().enumerate() {
+            let Some(offset) = self.offset_of(place.frame, bytes) else {
+                continue;
+            };
+            if !self.unseen.may_have_changed(place.frame) {
+                return Some((index, offset));
+            }
+            found = found.or(Some((index, offset)));
+        }
+        found
+    }
+
+    /// Where in the frame the bytes stand, if what it holds is certain.
+    fn offset_of(&self, frame: u32, bytes: &[u8]) -> Option<usize> {
+        if !self.is_certain(frame) {
+            return None;
+        }
+        place_in(self.known.frames.as_slice().get(frame as usize)?, bytes)
+    }
+
+    /// A read of the bytes that a step may have begun.
+    pub(crate) fn find_read(
+        &self,
+        alloc: Global,
+        begun: &BegunAccess,
+        bytes: &[u8],
+    ) -> Option<AcceptedAccess>
+        ensures { IfSome result (λ made. CouldHaveBegun begun.now made) }
+    {
+        let (index, offset) = self.place_showing(&begun.places, bytes)?;
+        let place = *begun.places.get(index)?;
+        let mut wanted = read_at(alloc, place.page);
+        wanted.address = wanted.address.saturating_add(offset as u64);
+        wanted.len = bytes.len() as u64;
+        begun_at(place, begun.is_cached, wanted)
+    }
+
+    /// A write of so many bytes that a step may have begun, and that changes nothing.
+    pub(crate) fn find_write(
+        &self,
+        alloc: Global,
+        begun: &BegunAccess,
+        len: u64,
+    ) -> Result<Option<AcceptedAccess>, AllocError>
+        ensures { IfOk result (λ found. IfSome found (λ made. CouldHaveBegun begun.now made)) }
+    {
+        let Some(index) = self.place_to_write(&begun.places) else {
+            return Ok(None);
+        };
+        let Some(place) = begun.places.get(index) else {
+            return Ok(None);
+        };
+        if len == 0 || len > PAGE_SIZE {
+            return Ok(None);
+        }
+        let wanted = Access {
+            address: place.page.saturating_mul(PAGE_SIZE),
+            len,
+            kind: AccessKind::Write,
+            bytes: self.first_bytes(alloc, place.frame, len as usize)?,
+        };
+        Ok(begun_at(*place, begun.is_cached, wanted))
+    }
+
+    /// The first of these places that may be written and whose frame holds what is certain.
+    fn place_to_write(&self, places: &[Place]) -> Option<usize> {
+        for (index, place) in places.iter().enumerate() {
+            if place.is_writable && self.is_certain(place.frame) {
+                return Some(index);
+            }
+        }
+        None
+    }
+
+    /// So many bytes of the frame, the first ones.
+    fn first_bytes(
+        &self,
+        alloc: Global,
+        frame: u32,
+        len: usize,
+    ) -> Result<Sequence<u8>, AllocError> {
+        let mut bytes = Vec::new(alloc);
+        if let Some(believed) = self.known.frames.as_slice().get(frame as usize) {
+            if let Some(first) = believed.bytes.as_slice().get(..len) {
+                bytes.extend_from_slice(first)?;
+            }
+        }
+        bytes.resize(len, 0)?;
+        Ok(Sequence::from_vec(bytes))
     }
 
     /// A frame and an offset in it at which the bytes may stand.
@@ -298,17 +446,15 @@ impl Belief {
         doubt: usize,
         len: u64,
     ) -> Result<bool, AllocError> {
-        let mut frames = Vec::new(alloc);
-        if let Some(flight) = self.doubts.at(doubt) {
-            if let Some(writable) = &flight.writable {
-                frames.extend_from_slice(writable)?;
-            }
-        }
+        let frames = match self.doubts.begun_at(doubt) {
+            None => Vec::new(alloc),
+            Some(begun) => frames_of(alloc, &begun.places, AccessKind::Write)?,
+        };
         if frames.is_empty() || len == 0 || len > PAGE_SIZE {
             return Ok(false);
         }
         self.doubts.forget(doubt);
-        self.doubts.write_unseen(alloc, frames, len as usize)?;
+        self.unseen.write(alloc, frames, len as usize)?;
         self.is_whole_in_bytes = false;
         Ok(true)
     }
@@ -334,7 +480,7 @@ impl Belief {
             let Some((first, last)) = where_otherwise(believed, offset, bytes) else {
                 return Ok(());
             };
-            let count = self.doubts.see(frame, first, last)?;
+            let count = self.unseen.see(frame, first, last)?;
             let start = first.saturating_sub(offset);
             match bytes.get(start..start.saturating_add(count)) {
                 Some(written) if count > 0 => {

@@ -4,7 +4,6 @@
 // believed, one of these writes put them there, if one may: on a frame that it may have reached, and at bytes that no
 // line showed or wrote since. The others may have been it as well: so from then on no line is refused for the bytes that
 // it shows.
-use crate::doubts::{Doubt, Doubts};
 use iom_base::PAGE_SIZE;
 use iom_known::Known;
 use iom_known::owners::may_be_somebodys;
@@ -92,48 +91,51 @@ impl UnseenWrite {
     }
 }
 
-impl Doubts {
+/// The writes that were made and weren't seen yet, in the order of their commits.
+#[derive(Drop)]
+pub(crate) struct Unseen {
+    all: Vec<UnseenWrite>,
+}
+
+impl Unseen {
+    ghost use Rattle.std.specs.Prelude.{◌≡◌, ◌↔◌, [], IsTrue};
+
+    pub(crate) fn new(alloc: Global) -> Unseen {
+        Unseen {
+            all: Vec::new(alloc),
+        }
+    }
+
+    pub(crate) fn is_empty(&self) -> bool
+        ensures { IsTrue result ↔ (self.now.all.items ≡ []) }
+    {
+        self.all.is_empty()
+    }
+
     /// The write is made, and its bytes aren't seen yet.
-    pub(crate) fn write_unseen(
+    pub(crate) fn write(
         &mut self,
         alloc: Global,
         frames: Vec<u32>,
         len: usize,
     ) -> Result<(), AllocError> {
         if self.all.len() >= MOST_WRITES {
-            self.forget_first_write();
+            let _first = self.all.remove(0);
         }
-        self.all
-            .push(Doubt::Written(UnseenWrite::new(alloc, frames, len)))?;
+        self.all.push(UnseenWrite::new(alloc, frames, len))?;
         Ok(())
-    }
-
-    fn forget_first_write(&mut self) {
-        for place in 0..self.all.len() {
-            if let Some(Doubt::Written(_)) = self.all.get(place) {
-                self.forget(place);
-                return;
-            }
-        }
     }
 
     /// Whether such a write may have changed the frame.
     pub(crate) fn may_have_changed(&self, frame: u32) -> bool {
-        for doubt in self.all.iter() {
-            if let Doubt::Written(write) = doubt {
-                if write.frames.contains(&frame) {
-                    return true;
-                }
-            }
-        }
-        false
+        self.all.iter().any(|write| write.frames.contains(&frame))
     }
 
     /// The bytes were shown, or written otherwise: what such writes before the place in the list put there isn't seen
     /// any more.
     fn close_before(&mut self, place: usize, run: Run) -> Result<(), AllocError> {
         for index in 0..place.min(self.all.len()) {
-            if let Some(Doubt::Written(write)) = self.all.get_mut(index) {
+            if let Some(write) = self.all.get_mut(index) {
                 if !write.close(run)? {
                     write.frames.clear();
                 }
@@ -164,7 +166,7 @@ impl Doubts {
     /// Such writes went into none of the frames that were perhaps taken for tables since.
     pub(crate) fn leave_taken(&mut self, known: &Known) {
         for index in 0..self.all.len() {
-            if let Some(Doubt::Written(write)) = self.all.get_mut(index) {
+            if let Some(write) = self.all.get_mut(index) {
                 write
                     .frames
                     .retain(|frame| !may_be_somebodys(known, u64::from(*frame)));
@@ -177,14 +179,12 @@ impl Doubts {
     fn best_write(&self, frame: u32, offset: usize, last: usize) -> Option<(usize, usize)> {
         let mut best: Option<(usize, usize)> = None;
         let mut shortest = usize::MAX;
-        for (place, doubt) in self.all.iter().enumerate() {
-            if let Doubt::Written(write) = doubt {
-                let reach = write.reach(frame, offset, last);
-                let most = best.map_or(0, |found| found.1);
-                if reach > most || reach > 0 && reach == most && write.len < shortest {
-                    best = Some((place, reach));
-                    shortest = write.len;
-                }
+        for (place, write) in self.all.iter().enumerate() {
+            let reach = write.reach(frame, offset, last);
+            let most = best.map_or(0, |found| found.1);
+            if reach > most || reach > 0 && reach == most && write.len < shortest {
+                best = Some((place, reach));
+                shortest = write.len;
             }
         }
         best
@@ -201,12 +201,14 @@ impl Doubts {
         let Some((place, reach)) = self.best_write(frame, offset, last) else {
             return Ok(0);
         };
-        let Some(Doubt::Written(write)) = self.all.get(place) else {
+        let Some(write) = self.all.get(place) else {
             return Ok(0);
         };
         let window = write.window(frame, offset);
         self.close_before(place, window)?;
-        self.forget(place);
+        if place < self.all.len() {
+            let _seen = self.all.remove(place);
+        }
         Ok(reach)
     }
 }

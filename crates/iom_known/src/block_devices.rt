@@ -147,7 +147,7 @@ fn has_bytes(access: &Access) -> bool
 }
 
 /// Whether a step may begin the access.
-fn may_want(access: &Access) -> bool
+pub fn may_want(access: &Access) -> bool
     ensures { IsTrue result ↔ MayWant access.now }
 {
     if !is_within_page(access) {

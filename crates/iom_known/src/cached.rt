@@ -86,7 +86,7 @@ fn may_have_cached(known: &Known, id: DeviceId, access: &Access, frame: u32) -> 
 }
 
 /// Whether the access may go through, on the frame.
-pub(crate) fn may_go_through(known: &Known, device: &Device, access: &Access, frame: u32) -> bool
+pub fn may_go_through(known: &Known, device: &Device, access: &Access, frame: u32) -> bool
     ensures { IsTrue result → (past : Past) (frames : List Frame) → IsTrueOf known.now past
         → MayGoThrough device.now.attachment (state_of known.now past.history frames) device.now.id access.now frame }
 {

@@ -137,7 +137,7 @@ pub(crate) fn accepts_cut_off(
 }
 
 /// Whether the IOMMU may accept the access, on the frame.
-pub(crate) fn may_accept(known: &Known, device: &Device, access: &Access, frame: u32) -> bool
+pub fn may_accept(known: &Known, device: &Device, access: &Access, frame: u32) -> bool
     ensures { IsTrue result → (past : Past) (frames : List Frame) → IsTrueOf known.now past
         → MayAccept device.now.attachment (state_of known.now past.history frames) device.now.id access.now frame }
 {

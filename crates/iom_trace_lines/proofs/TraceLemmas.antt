@@ -1,5 +1,5 @@
 -- Lines of a trace, put together of what was read of them.
-use Rattle.std.proofs.Common.{◌≡◌, ◌∙◌, ◌^◌, ◌<◌, ℕ, Bool, true, false, List, [], ◌∷◌, ◌++◌, length, get_or, Option, None, Some, MatchOption, inl, inr, refl, sym, ap, append-nil, append_assoc, arith}
+use Rattle.std.proofs.Common.{◌≡◌, ◌∙◌, ◌^◌, ◌<◌, ℕ, Bool, true, false, List, [], ◌∷◌, ◌++◌, length, get_or, Option, None, Some, MatchOption, IsTrue, inl, inr, refl, sym, ap, append-nil, append_assoc, arith}
 use Rattle.std.specs.Prelude.{codes, ⊤}
 use Rattle.std.specs.Borrow.{Bor}
 use Rattle.std.specs.Fmt.{decimal}
@@ -8,6 +8,7 @@ use Rattle.std.proofs.lemmas.Bool.{false≢true}
 use Rattle.std.proofs.lemmas.Fmt.{decimal-digits_value}
 use Rattle.std.proofs.lemmas.List.{flat_map_more}
 use Rattle.std.proofs.lemmas.Str.Parse.{IsNumeralModel, numerals_by_value, tells_digits}
+use Rattle.iom_base.specs.declared.access.Access.{Access}
 use Rattle.iom_machine.specs.declared.event.Event.{Event}
 use Rattle.iom_machine.specs.declared.event.Event.TheVariants as events
 use Rattle.iom_machine.specs.declared.outcome.Outcome.{Outcome}
@@ -15,7 +16,7 @@ use Rattle.iom_machine.specs.declared.outcome.Outcome.TheVariants as outcomes
 use Rattle.iom_script.specs.Grammar.{IsEventLine}
 use Rattle.iom_script.specs.Lines.{line_of}
 use Rattle.iom_script.specs.Words.{◌␣◌, IsNumber}
-use Rattle.iom_trace_lines.specs.TraceLines.{frames_text, tables_text, on_text, MayShow, SaysLine}
+use Rattle.iom_trace_lines.specs.TraceLines.{AsksFor, frames_text, is_accepted, tables_text, on_text, MayShow, SaysLine}
 use Rattle.iom_trace_lines.specs.declared.trace.TraceLine.TheVariants as lines
 
 own : IsNumeralModel (AllDigits 10) (digits_value 10)
@@ -47,7 +48,7 @@ on_behind behind word frames frame is number = ap (λ (l : List ℕ). codes "; "
 
 -- an event with an outcome, and nothing behind
 pub step_alone : (said answered answer : List ℕ) (event : Event) (outcome : Outcome) (tables : List ℕ) → IsEventLine said event → line_of outcome ≡ answer ++ 10 ∷ [] → answered ≡ answer
-    → SaysLine (said ++ codes " => " ++ answered) (lines.Step event outcome false None) tables
+    → SaysLine (said ++ codes " => " ++ answered) (lines.Step event outcome false None None) tables
 step_alone said answered answer event outcome tables says tells is =
     inl ((λ shown. absurd (false≢true shown), tt), (said, answer, says, tells, ap (λ (l : List ℕ). said ++ codes " => " ++ l) is ∙ sym (append-nil (said ++ codes " => " ++ answer))))
 
@@ -55,7 +56,7 @@ step_alone said answered answer event outcome tables says tells is =
 pub step_behind : (said answered answer behind : List ℕ) (event : Event) (outcome : Outcome) (has_tables : Bool) (on : Option ℕ) (tables : List ℕ) → IsEventLine said event
     → MayShow event outcome has_tables on
     → line_of outcome ≡ answer ++ 10 ∷ [] → answered ≡ answer ++ codes "; " ++ behind → codes "; " ++ behind ≡ tables_text has_tables tables ++ on_text on
-    → SaysLine (said ++ codes " => " ++ answered) (lines.Step event outcome has_tables on) tables
+    → SaysLine (said ++ codes " => " ++ answered) (lines.Step event outcome has_tables on None) tables
 step_behind said answered answer behind event outcome has_tables on tables says may tells is shown =
     inl (
       may,
@@ -69,11 +70,34 @@ step_behind said answered answer behind event outcome has_tables on tables says 
       ),
     )
 
+-- and with an access that a step began behind
+pub step_began : (said answered answer behind : List ℕ) (event : Event) (outcome : Outcome) (access : Access) (tables : List ℕ) → IsEventLine said event
+    → line_of outcome ≡ answer ++ 10 ∷ [] → answered ≡ answer ++ codes "; " ++ behind
+    → (device : ℕ) × (event ≡ events.Step device) × IsTrue (is_accepted outcome) × (asks : Event) × IsEventLine behind asks × AsksFor asks device access
+    → SaysLine (said ++ codes " => " ++ answered) (lines.Step event outcome false None (Some access)) tables
+step_began said answered answer behind event outcome access tables says tells is (device, stepped, accepted, asks, asked, wants) = (
+  device,
+  stepped,
+  accepted,
+  behind,
+  asks,
+  asked,
+  wants,
+  (
+    said,
+    answer,
+    says,
+    tells,
+    ap (λ (l : List ℕ). said ++ codes " => " ++ l) (is ∙ append_assoc answer (codes "; ") behind)
+        ∙ sym (append_assoc (said ++ codes " => ") answer (codes "; " ++ behind)),
+  ),
+)
+
 -- the claim that a frame is given to somebody else
 pub handoff_says : (line said : List ℕ) (answered : Option (Bor (List ℕ))) (frame : ℕ) (tables : List ℕ)
     → MatchOption answered (line ≡ said) (λ behind. line ≡ said ++ codes " => " ++ behind.now)
     → (word : List ℕ) × IsNumber word frame × (said ≡ codes "handoff" ␣ word) → MatchOption answered ⊤ (λ answer. answer.now ≡ codes "ok")
-    → SaysLine line (lines.Step (events.Free frame) (outcomes.Free true) false None) tables
+    → SaysLine line (lines.Step (events.Free frame) (outcomes.Free true) false None None) tables
 handoff_says line said None frame tables is (word, number, named) granted = inr (word, frame, number, refl, refl, inl (is ∙ named))
 handoff_says line said (Some answer) frame tables is (word, number, named) granted =
     inr (word, frame, number, refl, refl, inr (is ∙ ap (λ (l : List ℕ). l ++ codes " => " ++ answer.now) named ∙ ap (λ (l : List ℕ). (codes "handoff" ␣ word) ++ codes " => " ++ l) granted ∙ append_assoc (codes "handoff" ␣ word) (codes " => ") (codes "ok")))

@@ -2,6 +2,8 @@
 use Rattle.std.specs.Prelude.{◌≡◌, ◌⊎◌, ℕ, Bool, true, false, List, [], ◌∷◌, ◌++◌, Option, None, Some, IfSome, IsTrue, codes, ⊤}
 use Rattle.std.specs.List.{flat_map}
 use Rattle.std.specs.Fmt.{decimal}
+use Rattle.iom_base.specs.Accesses.{read_of, write_of}
+use Rattle.iom_base.specs.declared.access.Access.{Access}
 use Rattle.iom_machine.specs.declared.event.Event.{Event}
 use Rattle.iom_machine.specs.declared.event.Event.TheVariants as events
 use Rattle.iom_machine.specs.declared.outcome.Outcome.{Outcome}
@@ -53,11 +55,28 @@ IsHandoffLine line event outcome =
     (word : List ℕ) × (frame : ℕ) × IsNumber word frame × (event ≡ events.Free frame) × (outcome ≡ outcomes.Free true)
     × ((line ≡ codes "handoff" ␣ word) ⊎ (line ≡ (codes "handoff" ␣ word) ++ codes " => ok"))
 
+-- by this event the device asks for the access
+abbrev pub AsksFor : Event → ℕ → Access → Type 0
+AsksFor (events.Read id address len) device access = (id ≡ device) × (access ≡ read_of address len)
+AsksFor (events.Write id address bytes) device access = (id ≡ device) × (access ≡ write_of address bytes)
+AsksFor _ device access = ⊥
+
+-- The line of a step that began this access, which was accepted, with the line by which its device would ask for it behind the answer.
+abbrev pub ShowsAccess : List ℕ → Event → Outcome → Access → Type 0
+ShowsAccess line event outcome access =
+    (device : ℕ) × (event ≡ events.Step device) × IsTrue (is_accepted outcome) × (asked : List ℕ) × (asks : Event) × IsEventLine asked asks × AsksFor asks device access
+    × IsStepLine line event outcome (codes "; " ++ asked)
+
+-- The line says that this came of the event, with what is shown behind it.
+abbrev pub SaysWhat : List ℕ → Event → Outcome → Bool → Option ℕ → Option Access → List ℕ → Type 0
+SaysWhat line event outcome has_tables on None tables =
+    (MayShow event outcome has_tables on × IsStepLine line event outcome (tables_text has_tables tables ++ on_text on))
+    ⊎ IsHandoffLine line event outcome
+SaysWhat line event outcome has_tables on (Some access) tables = ShowsAccess line event outcome access
+
 -- The line, without its line feed, says this. The frames of its tables stand beside.
 abbrev pub SaysLine : List ℕ → TraceLine → List ℕ → Type 0
 SaysLine line Nothing tables = is_spoken line ≡ false
 SaysLine line (World size) tables = (said : List ℕ) × IsWorldLine said size × (line ≡ said ++ codes " => ok")
-SaysLine line (Step event outcome has_tables on) tables =
-    (MayShow event outcome has_tables on × IsStepLine line event outcome (tables_text has_tables tables ++ on_text on))
-    ⊎ IsHandoffLine line event outcome
+SaysLine line (Step event outcome has_tables on began) tables = SaysWhat line event outcome has_tables on began tables
 SaysLine line Bad tables = ⊤

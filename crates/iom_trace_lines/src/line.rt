@@ -1,14 +1,16 @@
 // How a line of a trace is read.
 ghost use Rattle.std.specs.Prelude.{◌≡◌, ◌≢◌, ◌↔◌, ◌<◌, ◌++◌, ℕ, List, [], length, slice_index, IfSome, IfOk, IsTrue, MatchOption, None, codes, true, false, ⊤};
+ghost use Rattle.iom_machine.specs.declared.event.Event.{Event};
 ghost use Rattle.iom_machine.specs.declared.event.Event.TheVariants as events;
 ghost use Rattle.iom_machine.specs.declared.outcome.Outcome.TheVariants as outcomes;
-ghost use Rattle.iom_script.specs.Grammar.{is_spoken};
+ghost use Rattle.iom_script.specs.Grammar.{IsEventLine, is_spoken};
 ghost use Rattle.iom_script.specs.Words.{◌␣◌, IsNumber};
 ghost use Rattle.iom_trace_lines.specs.declared.trace.TraceLine.TheVariants as lines;
-ghost use Rattle.iom_trace_lines.specs.TraceLines.{frames_text, is_accepted, takes_frames, tables_text, on_text, MayShow, SaysLine};
+ghost use Rattle.iom_trace_lines.specs.TraceLines.{AsksFor, frames_text, is_accepted, takes_frames, tables_text, on_text, MayShow, SaysLine};
 
 use crate::outcomes::{read_outcome, without_prefix};
 use crate::trace::{Behind, TraceLine};
+use iom_base::{Access, AccessKind, DeviceId, Sequence};
 use iom_machine::{Event, Outcome};
 use iom_script::{LineBuffer, event_of, is_spoken, world_of};
 use memchr::{memchr, memchr_iter};
@@ -142,6 +144,68 @@ fn read_behind(
     }
 }
 
+/// The access for which the device asks by the event, if that is a read or a write of it.
+fn access_of(alloc: Global, event: Event, id: DeviceId) -> Option<Access>
+    ensures { IfSome result (AsksFor event id) }
+{
+    match event {
+        Event::Read {
+            device,
+            address,
+            len,
+        } => {
+            if device != id {
+                return None;
+            }
+            Some(Access {
+                address,
+                len,
+                kind: AccessKind::Read,
+                bytes: Sequence::new(alloc),
+            })
+        }
+        Event::Write {
+            device,
+            address,
+            bytes,
+        } => {
+            if device != id {
+                return None;
+            }
+            Some(Access {
+                address,
+                len: bytes.as_slice().len() as u64,
+                kind: AccessKind::Write,
+                bytes,
+            })
+        }
+        _ => None,
+    }
+}
+
+/// Reads the access that is shown behind `accepted N` of a step: by the line by which its device would ask for it. None
+/// where it is no such line.
+fn read_began(
+    alloc: Global,
+    event: &Event,
+    outcome: &Outcome,
+    behind: &[u8],
+) -> Result<Option<Access>, AllocError>
+    ensures { IfOk result (λ read. IfSome read (λ access. (device : ℕ) × (event.now ≡ events.Step device) × IsTrue (is_accepted outcome.now)
+        × (asks : Event) × IsEventLine behind.now asks × AsksFor asks device access)) }
+{
+    let Event::Step { device } = event else {
+        return Ok(None);
+    };
+    if !is_accepted(outcome) {
+        return Ok(None);
+    }
+    match event_of(alloc, behind)? {
+        None => Ok(None),
+        Some(asks) => Ok(access_of(alloc, asks, *device)),
+    }
+}
+
 /// The event and the answer of a line, with what is shown behind that.
 fn read_step(
     alloc: Global,
@@ -166,8 +230,18 @@ fn read_step(
             outcome,
             has_tables: false,
             on: None,
+            began: None,
         });
     };
+    if let Some(access) = read_began(alloc, &event, &outcome, behind)? {
+        return Ok(TraceLine::Step {
+            event,
+            outcome,
+            has_tables: false,
+            on: None,
+            began: Some(access),
+        });
+    }
     match read_behind(&event, &outcome, behind, tables)? {
         None => Ok(TraceLine::Bad),
         Some(shown) => Ok(TraceLine::Step {
@@ -175,6 +249,7 @@ fn read_step(
             outcome,
             has_tables: shown.has_tables,
             on: shown.on,
+            began: None,
         }),
     }
 }
@@ -205,7 +280,7 @@ fn handed_off(said: &[u8]) -> Option<u32>
 
 /// The claim that a frame is now given to somebody else: that it is free.
 fn handoff(frame: u32) -> TraceLine
-    ensures { result ≡ lines.Step (events.Free frame) (outcomes.Free true) false None }
+    ensures { result ≡ lines.Step (events.Free frame) (outcomes.Free true) false None None }
 {
     TraceLine::Step {
         event: Event::Free {
@@ -214,6 +289,7 @@ fn handoff(frame: u32) -> TraceLine
         outcome: Outcome::Free(true),
         has_tables: false,
         on: None,
+        began: None,
     }
 }
 

@@ -1,4 +1,5 @@
 // A line of a trace.
+use iom_base::Access;
 use iom_machine::{Event, Outcome};
 use iom_script::WorldSize;
 
@@ -9,13 +10,14 @@ pub enum TraceLine {
     Nothing,
     /// The world has this size.
     World(WorldSize),
-    /// This came of the event; and the frame on which it was accepted, where that is shown. The frames that were taken
-    /// for tables, where they are shown, stand in the list that was lent.
+    /// This came of the event; and the frame on which it was accepted, or the access that a step began, where that is
+    /// shown. The frames that were taken for tables, where they are shown, stand in the list that was lent.
     Step {
         event: Event,
         outcome: Outcome,
         has_tables: bool,
         on: Option<u32>,
+        began: Option<Access>,
     },
     /// It isn't in the grammar.
     Bad,

@@ -1,4 +1,4 @@
-use Rattle.iom_trace_lines.proofs.TraceLemmas.{step_alone, step_behind}
+use Rattle.iom_trace_lines.proofs.TraceLemmas.{step_alone, step_began, step_behind}
 use Rattle.iom_trace_lines.proofs.line.read_step.Goals as goal
 
 pub returns-in_default-behind : goal.returns-in_default-behind
@@ -8,7 +8,13 @@ returns-in_default-behind c =
 
 pub returns-in-Some-2 : goal.returns-in-Some-2
 returns-in-Some-2 c =
-    let shown = rw c.in-Some-2.is at c.in_ok-read_behind.ensures in
-    step_behind c.args.said.now c.args.answered.now c.cut.result.0.now c.in-Some-behind.behind.now c.in-Some.event c.in-Some-read_outcome.outcome c.in-Some-2.shown.has_tables
-    c.in-Some-2.shown.on c.read_behind.new.tables.items ((c.in_ok-event.ensures c.in-Some.event).0 c.in-Some.is) shown.0 c.in-Some-read_outcome.ensures
+    step_began c.args.said.now c.args.answered.now c.cut.result.0.now c.in-Some-behind.behind.now c.in-Some.event c.in-Some-read_outcome.outcome c.in-Some-2.access c.args.tables.now.items
+    ((c.in_ok-event.ensures c.in-Some.event).0 c.in-Some.is) c.in-Some-read_outcome.ensures (rw c.in-Some-behind.is at c.cut.ensures)
+    (rw c.in-Some-2.is at c.in_ok-access.ensures)
+
+pub returns-in-Some-3 : goal.returns-in-Some-3
+returns-in-Some-3 c =
+    let shown = rw c.in-Some-3.is at c.in_ok-read_behind.ensures in
+    step_behind c.args.said.now c.args.answered.now c.cut.result.0.now c.in-Some-behind.behind.now c.in-Some.event c.in-Some-read_outcome.outcome c.in-Some-3.shown.has_tables
+    c.in-Some-3.shown.on c.read_behind.new.tables.items ((c.in_ok-event.ensures c.in-Some.event).0 c.in-Some.is) shown.0 c.in-Some-read_outcome.ensures
     (rw c.in-Some-behind.is at c.cut.ensures) shown.1

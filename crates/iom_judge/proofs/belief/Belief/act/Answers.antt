@@ -10,14 +10,14 @@ returns-then-is_settled-clause-followed c =
     explained_then_settled old.known old.doubts.all.items c.act.new.self old.doubts.all.items c.args.event.now c.args.outcome.now past
     (none_of_none old.doubts.all.items (c.is_settled.ensures.0 c.if-is_settled.true).0) (explained told past is)) c.act.ensures
 
-pub returns-then-is_ready_for-clause-followed : goal.returns-then-is_ready_for-clause-followed
-returns-then-is_ready_for-clause-followed c =
+pub returns-then-branch-clause-followed : goal.returns-then-branch-clause-followed
+returns-then-branch-clause-followed c =
     let old = c.args.self.now in
     let mid = c.is_ready_for.new.self in
-    let ready = c.is_ready_for.ensures c.if-is_ready_for.true in
-    if_ok_as c.act-then-is_ready_for.result _ _ (λ may explained told followed past is.
-    ready_follows old.known mid.known c.act-then-is_ready_for.new.self old.doubts.all.items mid.doubts.all.items c.args.event.now c.args.outcome.now ready.1 ready.0 (explained told) past is)
-    c.act-then-is_ready_for.ensures
+    let ready = c.in_ok-is_ready_for.ensures c.if-branch.true in
+    if_ok_as c.act-then-branch.result _ _ (λ may explained told followed past is.
+    ready_follows old.known mid.known c.act-then-branch.new.self old.doubts.all.items mid.doubts.all.items c.args.event.now c.args.outcome.now ready.1 ready.0 (explained told) past is)
+    c.act-then-branch.ensures
 
 pub returns-in-Poll-clause-followed : goal.returns-in-Poll-clause-followed
 returns-in-Poll-clause-followed c = rw c.in-Poll.is c.poll.ensures

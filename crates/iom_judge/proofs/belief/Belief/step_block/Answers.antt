@@ -1,22 +1,29 @@
 use Rattle.std.proofs.Common.{sym, subst}
 use Rattle.iom_machine.specs.declared.event.Event.TheVariants as events
+use Rattle.iom_machine.specs.declared.outcome.Outcome.{Outcome}
+use Rattle.iom_known.specs.Steps.{IsExplained}
 use Rattle.iom_judge.specs.Followed.{IsFollowed, StepsBy}
 use Rattle.iom_judge.specs.declared.doubts.Doubts.{Doubts}
-use Rattle.iom_judge.proofs.FollowSteps.{explained_leaves, explained_then_settled, none_of_all}
+use Rattle.iom_judge.proofs.FollowBegun.{begun_follows}
+use Rattle.iom_judge.proofs.FollowSteps.{explained_leaves}
 use Rattle.iom_judge.proofs.belief.Belief.step_block.Goals as goal
 
-pub returns-then-leaves_flights-clause-followed : goal.returns-then-leaves_flights-clause-followed
-returns-then-leaves_flights-clause-followed c told followed past is =
+pub returns-in-Accepted-clause-explained : goal.returns-in-Accepted-clause-explained
+returns-in-Accepted-clause-explained c told past is =
+    subst (λ (o : Outcome). IsExplained c.args.self.now.known c.begin.new.self.known (events.Step c.args.id) o past) (sym c.in-Accepted.is) (c.in_ok-may_come.ensures.explained told past is)
+
+pub returns-in-Accepted-clause-followed : goal.returns-in-Accepted-clause-followed
+returns-in-Accepted-clause-followed c told followed past is =
     let old = c.args.self.now in
-    let new = c.take_step.new.self in
-    let leaves = c.leaves_flights.ensures c.if-leaves_flights.true in
-    subst (λ (doubts : Doubts). IsFollowed old.known old.doubts.all.items new.known doubts.all.items (StepsBy (events.Step c.args.id) c.args.outcome.now) past)
-    (sym (c.take_step.ensures.left leaves))
-    (explained_leaves old.known new.known old.doubts.all.items (events.Step c.args.id) c.args.outcome.now past leaves (c.in_ok-may_come.ensures.explained told past is))
+    let new = c.begin.new.self in
+    begun_follows old.known new.known old.doubts.all.items new.doubts.all.items c.args.id c.in-Accepted.number c.args.outcome.now c.in-Accepted.is (c.follows_new-is_followed.ensures followed)
+    (c.in_ok-may_come.ensures.begun told) past is (c.in_ok-may_come.ensures.explained told past is)
 
 pub returns-clause-followed : goal.returns-clause-followed
 returns-clause-followed c told followed past is =
     let old = c.args.self.now in
     let new = c.take_step.new.self in
-    explained_then_settled old.known old.doubts.all.items new.known new.doubts.all.items (events.Step c.args.id) c.args.outcome.now past
-    (none_of_all new.doubts.all.items (c.follows_known-self.ensures followed)) (c.in_ok-may_come.ensures.explained told past is)
+    let leaves = c.leaves_flights.ensures c.if-not-leaves_flights.false in
+    subst (λ (doubts : Doubts). IsFollowed old.known old.doubts.all.items new.known doubts.all.items (StepsBy (events.Step c.args.id) c.args.outcome.now) past)
+    (sym c.take_step.ensures.left)
+    (explained_leaves old.known new.known old.doubts.all.items (events.Step c.args.id) c.args.outcome.now past leaves (c.in_ok-may_come-2.ensures.explained told past is))

@@ -16,11 +16,11 @@ returns-in-World c lines before =
 
 pub returns-in-Step : goal.returns-in-Step
 returns-in-Step c lines before =
-    let step : TraceLine = says.Step c.in-Step.event c.in-Step.outcome c.in-Step.has_tables c.in-Step.on in
+    let step : TraceLine = says.Step c.in-Step.event c.in-Step.outcome c.in-Step.has_tables c.in-Step.on c.in-Step.began in
     let something : step ≢ says.Nothing = λ e. cc in
     if_it_goes_on c.go_on.result _ _
     (λ went. step_said c.args.self.now.is_certified _ c.args.self.now.belief _ lines c.args.line.now c.read_line.new.tables.items c.in-Step.event c.in-Step.outcome c.in-Step.has_tables
-    c.in-Step.on
+    c.in-Step.on c.in-Step.began
     (not_nothing c.args.line.now c.in_ok-read.read c.in_ok-read.ensures.spoken step c.in-Step.is something)
     (subst (λ (read : TraceLine). SaysLine c.args.line.now read c.read_line.new.tables.items) c.in-Step.is c.in_ok-read.ensures.says) went before)
     c.go_on.ensures
