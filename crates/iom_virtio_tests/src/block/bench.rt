@@ -1,12 +1,31 @@
+ghost use Rattle.iom_virtqueue.specs.Layouts.{IsLayout};
+
 use crate::block::disk::FailingDisk;
 use crate::expect::expect;
 use crate::memory::Memory;
 use crate::seen::Seen;
-use iom_virtio_blk::{Blk, OFFERED_FEATURES, Reply, Step, WantedAccess};
+use iom_virtio_blk::{Blk, OFFERED_FEATURES, Reply, Step as Stepped, WantedAccess};
 use iom_virtqueue::{Layout, Want};
 use std::alloc::Global;
 use std::process::Abort;
 use std::test::Fail;
+
+/// What a test does or asks for.
+#[derive(Clone, Copy)]
+pub(crate) enum Step<'a> {
+    /// A descriptor is written: its index, address, length and flags, and what follows it.
+    Describe(u16, u16, u16, u8, u16),
+    /// Bytes are written.
+    Poke(u16, &'a [u8]),
+    /// One turn for each.
+    Turns(&'a [Seen]),
+    /// Turns until one makes no access: this one.
+    Ends(Seen),
+    /// The device status.
+    Status(u8),
+    /// Bytes that stand in memory.
+    Bytes(u16, &'a [u8]),
+}
 
 /// A device, and the memory that it reaches.
 #[derive(Drop)]
@@ -58,7 +77,7 @@ impl Bench {
 
     fn works(&mut self, rt: &impl Abort, size: u64, available: u64, used: u64) {
         match Layout::new(size, 0, available, used) {
-            Some(layout) => expect(rt, self.blk.set_queue(layout)),
+            Some(layout) => expect(rt, sets(&mut self.blk, layout)),
             None => expect(rt, false),
         }
     }
@@ -103,15 +122,15 @@ impl Bench {
     /// A step, with the access that it wants made at once.
     pub(crate) fn turn(&mut self) -> Seen {
         match self.blk.step() {
-            Step::Wants(wanted) => {
+            Stepped::Wants(wanted) => {
                 self.blk.replied(reply(&wanted));
                 self.makes(wanted)
             }
-            Step::Idle => Seen::Idle,
-            Step::Waiting => Seen::Waiting,
-            Step::Down => Seen::Down,
-            Step::Chain(fault) => Seen::Chain(fault),
-            Step::Finished { head, len } => Seen::Finished(head, len),
+            Stepped::Idle => Seen::Idle,
+            Stepped::Waiting => Seen::Waiting,
+            Stepped::Down => Seen::Down,
+            Stepped::Chain(fault) => Seen::Chain(fault),
+            Stepped::Finished { head, len } => Seen::Finished(head, len),
         }
     }
 
@@ -127,7 +146,7 @@ impl Bench {
     }
 
     /// One turn for each of these.
-    pub(crate) fn turns_all(&mut self, rt: &impl Abort, expected: &[Seen]) {
+    fn turns_all(&mut self, rt: &impl Abort, expected: &[Seen]) {
         for seen in expected.iter() {
             self.turns(rt, *seen);
         }
@@ -143,6 +162,33 @@ impl Bench {
         }
         expect(rt, false);
     }
+
+    fn takes(&mut self, rt: &impl Abort, step: Step) {
+        match step {
+            Step::Describe(index, address, len, flags, next) => self
+                .memory
+                .poke_descriptor(rt, index, address, len, flags, next),
+            Step::Poke(at, bytes) => self.memory.poke(rt, at, bytes),
+            Step::Turns(seen) => self.turns_all(rt, seen),
+            Step::Ends(seen) => self.ends(rt, seen),
+            Step::Status(status) => self.expect_status(rt, status),
+            Step::Bytes(at, bytes) => self.memory.expect(rt, at, bytes),
+        }
+    }
+
+    /// Takes the steps, one after another.
+    pub(crate) fn follow(&mut self, rt: &impl Abort, steps: &[Step]) {
+        for step in steps.iter() {
+            self.takes(rt, *step);
+        }
+    }
+}
+
+// The device has a queue, and works.
+fn sets(blk: &mut Blk<FailingDisk>, layout: Layout) -> bool
+    requires { IsLayout layout }
+{
+    blk.set_queue(layout)
 }
 
 // An access outside memory is refused.

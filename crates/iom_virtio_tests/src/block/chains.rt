@@ -1,7 +1,6 @@
 use crate::block::bench::Bench;
 use crate::seen::Seen;
 use iom_virtqueue::ChainFault;
-use std::alloc::Global;
 use std::process::Abort;
 use std::test::Fail;
 
@@ -78,29 +77,34 @@ static CASES: [Case; 8] = [
     },
 ];
 
-// So many accesses are made before the fault is named. Then the device is down, and the used ring as it was.
-fn names(rt: &impl Abort, alloc: Global, case: &Case) -> Result<(), Fail> {
-    let mut bench = Bench::new(rt, alloc, 4, 0)?;
+fn puts(rt: &impl Abort, bench: &mut Bench, case: &Case) {
     bench.memory.poke_descriptor(rt, 1, 0x1000, 16, 0, 0);
-    bench.memory.poke_descriptor(rt, 2, 0x1000, 0, case.flags, case.next);
+    bench
+        .memory
+        .poke_descriptor(rt, 2, 0x1000, 0, case.flags, case.next);
     bench.memory.poke(rt, 0x28, &case.len.to_le_bytes());
     bench.memory.poke_half(rt, 0x102, case.idx);
     bench.memory.poke_half(rt, 0x104, case.entry);
-    for _ in 0..case.accesses {
+}
+
+// So many accesses are made before the fault is named. Then the device is down, and the used ring as it was.
+fn names(rt: &impl Abort, bench: &mut Bench, fault: ChainFault, accesses: u16) {
+    for _ in 0..accesses {
         bench.reads(rt);
     }
-    bench.turns(rt, Seen::Chain(case.fault));
+    bench.turns(rt, Seen::Chain(fault));
     bench.expect_status(rt, 79);
     bench.turns(rt, Seen::Down);
     bench.memory.expect_half(rt, 0x202, 0);
-    Ok(())
 }
 
 // The first fault that stands in a chain is named before anything else is read.
 #[test]
 fn faults_have_names(rt: HostRuntime) -> Result<(), Fail> {
     for case in CASES.iter() {
-        names(&rt, rt.alloc(), case)?;
+        let mut bench = Bench::new(&rt, rt.alloc(), 4, 0)?;
+        puts(&rt, &mut bench, case);
+        names(&rt, &mut bench, case.fault, case.accesses);
     }
     Ok(())
 }

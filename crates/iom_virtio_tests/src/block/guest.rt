@@ -127,9 +127,9 @@ impl Guest {
 
     /// Lays out a request with so much data, and makes it available. Its head is told.
     fn requests(&mut self, rt: &impl Abort, kind: u8, sector: u8, len: u16) -> u16 {
-        self.poke(rt, HEADER, &[kind, 0, 0, 0, 0, 0, 0, 0]);
-        self.poke(rt, HEADER + 8, &[sector, 0, 0, 0, 0, 0, 0, 0]);
-        self.poke(rt, STATUS, &[255]);
+        self.bench.memory.put(HEADER, kind);
+        self.bench.memory.put(HEADER + 8, sector);
+        self.bench.memory.put(STATUS, 255);
         let head = self.lays_out(rt, kind == IN, len);
         let entry = 0x104 + 2 * (self.requests % SIZE);
         self.bench.memory.poke_half(rt, entry, head);
@@ -213,26 +213,45 @@ impl Guest {
     fn begins_anew(&mut self, rt: &impl Abort) {
         self.bench.sets_queue(rt, u64::from(SIZE));
         self.poke(rt, 0x100, &[0; 4]);
+        self.poke(rt, HEADER, &[0; 16]);
         self.requests = 0;
     }
 
     /// Changes a byte of the table, of a ring or of a header.
     fn spoils(&mut self, rt: &impl Abort) {
-        let at = match self.draw.below(8) {
-            0 => self.draw.below(0x300),
-            1 => 0x102,
-            2 | 3 => 0x104 + self.draw.below(32),
-            4 => HEADER + self.draw.below(16),
-            _ => 16 * self.draw.below(SIZE) + self.draw.below(16),
-        };
-        let byte = match self.draw.below(3) {
-            0 => self.draw.below(256) as u8,
-            1 => self.draw.below(4) as u8,
-            _ => self.draw.below(32) as u8,
-        };
+        let place = self.draw.below(8);
+        let (from, len) = PLACES[usize::from(place)];
+        let at = from.wrapping_add(self.draw.below(len.max(1)));
+        let kind = self.draw.below(3);
+        let limit = LIMITS[usize::from(kind)];
+        let byte = self.draw.below(limit.max(1)) as u8;
         self.poke(rt, at, &[byte]);
     }
+
+    /// Changes a byte, and lets the device take a step. One that is down by then is set up anew.
+    fn spoils_a_step(&mut self, rt: &impl Abort) {
+        self.spoils(rt);
+        if self.bench.turn() == Seen::Down {
+            self.begins_anew(rt);
+        }
+    }
 }
+
+/// Where a byte is spoilt, from where on and how many there are: everywhere, the available idx, the ring, the header,
+/// and most often the table.
+static PLACES: [(u16, u16); 8] = [
+    (0, 0x300),
+    (0x102, 1),
+    (0x104, 32),
+    (0x104, 32),
+    (HEADER, 16),
+    (0, 256),
+    (0, 256),
+    (0, 256),
+];
+
+/// Below which number it is then.
+static LIMITS: [u16; 3] = [256, 4, 32];
 
 // A guest that has asked for nothing yet.
 fn begins(rt: &impl Abort, alloc: Global, seed: u64) -> Result<Box<Guest>, Fail> {
@@ -268,10 +287,7 @@ fn a_hostile_driver_is_outlived(rt: HostRuntime) -> Result<(), Fail> {
     for seed in 0..20 {
         let mut guest = begins(&rt, rt.alloc(), seed)?;
         for _ in 0..4000 {
-            guest.spoils(&rt);
-            if guest.bench.turn() == Seen::Down {
-                guest.begins_anew(&rt);
-            }
+            guest.spoils_a_step(&rt);
         }
         guest.begins_anew(&rt);
         guest.writes(&rt, 0, 4);

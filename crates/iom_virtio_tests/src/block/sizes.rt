@@ -1,21 +1,29 @@
 // The smallest queue and the largest, the longest chain, and a disk that fails at each of its calls.
 
-use crate::block::bench::Bench;
+use crate::block::bench::{Bench, Step};
 use crate::seen::Seen;
 use iom_virtqueue::ChainFault;
-use std::alloc::Global;
 use std::process::Abort;
 use std::test::Fail;
+
+static SHORT: [Step; 4] = [
+    Step::Poke(0x8, &[16]),
+    Step::Poke(0x102, &[1]),
+    Step::Turns(&[
+        Seen::Read(0x102, 2),
+        Seen::Read(0x104, 2),
+        Seen::Read(0x0, 16),
+        Seen::Chain(ChainFault::Short),
+        Seen::Down,
+    ]),
+    Step::Status(15 + 64),
+];
 
 // A queue of one descriptor has no room for a header and a status.
 #[test]
 fn one_descriptor_is_too_short(rt: HostRuntime) -> Result<(), Fail> {
     let mut bench = Bench::new(&rt, rt.alloc(), 1, 0)?;
-    bench.memory.poke(&rt, 0x8, &[16]);
-    bench.memory.poke(&rt, 0x102, &[1]);
-    bench.ends(&rt, Seen::Chain(ChainFault::Short));
-    bench.turns(&rt, Seen::Down);
-    bench.expect_status(&rt, 15 + 64);
+    bench.follow(&rt, &SHORT);
     Ok(())
 }
 
@@ -33,16 +41,21 @@ fn puts_longest(rt: &impl Abort, bench: &mut Bench) {
     bench.memory.poke_descriptor(rt, 255, 0x1b20, 1, 2, 0);
 }
 
+/// The status, the used idx and the used element, once all was read and written.
+static LONGEST: [Step; 5] = [
+    Step::Poke(0x1b20, &[255]),
+    Step::Poke(0x1002, &[1]),
+    Step::Ends(Seen::Finished(0, 513)),
+    Step::Bytes(0x1b20, &[0]),
+    Step::Bytes(0x1302, &[1, 0, 0, 0, 0, 0, 1, 2, 0, 0]),
+];
+
 // A queue of 256 descriptors, all in one chain. The table is at 0, the rings are at 0x1000 and 0x1300.
 #[test]
 fn the_longest_chain_is_served(rt: HostRuntime) -> Result<(), Fail> {
     let mut bench = Bench::largest(&rt, rt.alloc())?;
     puts_longest(&rt, &mut bench);
-    bench.memory.poke(&rt, 0x1b20, &[255]);
-    bench.memory.poke(&rt, 0x1002, &[1]);
-    bench.ends(&rt, Seen::Finished(0, 513));
-    bench.memory.expect_byte(&rt, 0x1b20, 0);
-    bench.memory.expect(&rt, 0x1302, b"\x01\x00\x00\x00\x00\x00\x01\x02\x00\x00");
+    bench.follow(&rt, &LONGEST);
     Ok(())
 }
 
@@ -59,24 +72,34 @@ static CALLS: [(u64, u8, u8, u32, [u8; 4]); 8] = [
     (8, 0, 1, 1537, [7, 7, 7, 9]),
 ];
 
-// A request of four sectors is served, whose data has this byte everywhere: header at 0x800, status at 0x810, data at
-// 0x1000.
+/// A request of four sectors: header at 0x800, status at 0x810, data at 0x1000.
+static OUT: [Step; 5] = [
+    Step::Describe(0, 0x800, 16, 1, 1),
+    Step::Describe(1, 0x1000, 2048, 1, 2),
+    Step::Describe(2, 0x810, 1, 2, 0),
+    Step::Poke(0x800, &[1]),
+    Step::Poke(0x102, &[1]),
+];
+
+static IN: [Step; 3] = [
+    Step::Describe(1, 0x1000, 2048, 3, 2),
+    Step::Poke(0x800, &[0]),
+    Step::Poke(0x102, &[2]),
+];
+
+// The request is served, where the data has this byte everywhere.
 fn serves(
     rt: &impl Abort,
     bench: &mut Bench,
-    (kind, number, byte): (u8, u8, u8),
+    request: &[Step],
+    byte: u8,
     status: u8,
     written: u32,
 ) {
     for n in 0..2048u16 {
         bench.memory.put(0x1000 + n, byte);
     }
-    let flags = if kind == 0 { 3 } else { 1 };
-    bench.memory.poke_descriptor(rt, 0, 0x800, 16, 1, 1);
-    bench.memory.poke_descriptor(rt, 1, 0x1000, 2048, flags, 2);
-    bench.memory.poke_descriptor(rt, 2, 0x810, 1, 2, 0);
-    bench.memory.poke(rt, 0x800, &[kind]);
-    bench.memory.poke(rt, 0x102, &[number]);
+    bench.follow(rt, request);
     bench.ends(rt, Seen::Finished(0, written));
     bench.memory.expect_byte(rt, 0x810, status);
 }
@@ -91,26 +114,16 @@ fn expect_data(rt: &impl Abort, bench: &Bench, bytes: &[u8; 4]) {
     }
 }
 
-// An OUT and the IN that follows.
-fn fails_at(
-    rt: &impl Abort,
-    alloc: Global,
-    (call, wrote, read, written, bytes): &(u64, u8, u8, u32, [u8; 4]),
-) -> Result<(), Fail> {
-    let mut bench = Bench::new(rt, alloc, 4, *call)?;
-    serves(rt, &mut bench, (1, 1, 7), *wrote, 1);
-    serves(rt, &mut bench, (0, 2, 9), *read, *written);
-    expect_data(rt, &bench, bytes);
-    Ok(())
-}
-
 // The disk is called four times by an OUT, and four times by the IN that follows. The request in which it
 // fails ends IOERR; the sectors before that call are done. (After an OUT that failed at its k-th sector the
 // IN is read by the calls that follow, of which none fails.)
 #[test]
 fn a_disk_fails_at_each_call(rt: HostRuntime) -> Result<(), Fail> {
-    for row in CALLS.iter() {
-        fails_at(&rt, rt.alloc(), row)?;
+    for (call, wrote, read, written, bytes) in CALLS.iter() {
+        let mut bench = Bench::new(&rt, rt.alloc(), 4, *call)?;
+        serves(&rt, &mut bench, &OUT, 7, *wrote, 1);
+        serves(&rt, &mut bench, &IN, 9, *read, *written);
+        expect_data(&rt, &bench, bytes);
     }
     Ok(())
 }

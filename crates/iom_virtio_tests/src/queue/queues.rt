@@ -2,7 +2,6 @@ use crate::expect::expect;
 use crate::queue::bench::Bench;
 use crate::seen::Seen;
 use iom_virtqueue::{ChainFault, Layout};
-use std::alloc::Global;
 use std::process::Abort;
 use std::test::Fail;
 
@@ -47,23 +46,23 @@ fn serves(rt: &impl Abort, bench: &mut Bench, idx: u16, slot: u16) {
     bench.memory.expect_half(rt, 0x1402, idx);
 }
 
-// More requests than an idx can count: each ring entry is used in its turn.
-fn goes_round(rt: &impl Abort, alloc: Global, size: u16) -> Result<(), Fail> {
-    let mut bench = Bench::new(alloc, u64::from(size))?;
+fn puts_two(rt: &impl Abort, bench: &mut Bench) {
     bench.memory.poke_descriptor(rt, 0, 0x1000, 16, 1, 1);
     bench.memory.poke_descriptor(rt, 1, 0x1800, 1, 2, 0);
-    for number in 0..65_540u32 {
-        let slot = (number % 256) as u16 & size.wrapping_sub(1);
-        serves(rt, &mut bench, ((number + 1) % 65536) as u16, slot);
-    }
-    Ok(())
 }
 
-// Queues of two descriptors and of 256.
+// More requests than an idx can count, of queues of two descriptors and of 256: each ring entry is used in its turn.
 #[test]
 fn rings_and_indices_go_round(rt: HostRuntime) -> Result<(), Fail> {
-    goes_round(&rt, rt.alloc(), 2)?;
-    goes_round(&rt, rt.alloc(), 256)
+    for size in [2u16, 256] {
+        let mut bench = Bench::new(rt.alloc(), u64::from(size))?;
+        puts_two(&rt, &mut bench);
+        for number in 0..65_540u32 {
+            let slot = (number % 256) as u16 & size.wrapping_sub(1);
+            serves(&rt, &mut bench, ((number + 1) % 65536) as u16, slot);
+        }
+    }
+    Ok(())
 }
 
 /// The size of a queue, the avail idx, and what comes of it.
@@ -85,10 +84,9 @@ fn an_index_too_far_ahead_is_a_fault(rt: HostRuntime) -> Result<(), Fail> {
     Ok(())
 }
 
-// A queue of 256, all of whose descriptors are in one chain, with a status at its end, and whose first buffer has a
-// MiB and so many bytes more. Its index and its ring entry were read.
-fn of_all_descriptors(rt: &impl Abort, alloc: Global, more: u8) -> Result<Box<Bench>, Fail> {
-    let mut bench = Bench::new(alloc, 256)?;
+// All descriptors of a queue of 256 in one chain, with a status at its end. Its first buffer has a MiB and so many bytes
+// more.
+fn puts_all(rt: &impl Abort, bench: &mut Bench, more: u8) {
     for index in 0..255u16 {
         bench.memory.poke_descriptor(rt, index, 0, 0, 1, index + 1);
     }
@@ -97,24 +95,29 @@ fn of_all_descriptors(rt: &impl Abort, alloc: Global, more: u8) -> Result<Box<Be
     bench.memory.poke_half(rt, 0x1002, 1);
     bench.turns(rt, Seen::Read(0x1002, 2));
     bench.turns(rt, Seen::Read(0x1004, 2));
-    Ok(bench)
+}
+
+fn reads_all(rt: &impl Abort, bench: &mut Bench) {
+    for index in 0..256 {
+        bench.turns(rt, Seen::Read(16 * index, 16));
+    }
+    bench.finishes(rt, 1);
 }
 
 // A chain of all 256 descriptors is read whole, with readable bytes up to the limit.
 #[test]
 fn a_chain_may_have_all_descriptors(rt: HostRuntime) -> Result<(), Fail> {
-    let mut bench = of_all_descriptors(&rt, rt.alloc(), 0)?;
-    for index in 0..256 {
-        bench.turns(&rt, Seen::Read(16 * index, 16));
-    }
-    bench.finishes(&rt, 1);
+    let mut bench = Bench::new(rt.alloc(), 256)?;
+    puts_all(&rt, &mut bench, 0);
+    reads_all(&rt, &mut bench);
     Ok(())
 }
 
 // With one byte more it is too long.
 #[test]
 fn a_chain_may_be_too_long(rt: HostRuntime) -> Result<(), Fail> {
-    let mut bench = of_all_descriptors(&rt, rt.alloc(), 1)?;
+    let mut bench = Bench::new(rt.alloc(), 256)?;
+    puts_all(&rt, &mut bench, 1);
     bench.turns(&rt, Seen::Chain(ChainFault::TooLong));
     bench.turns(&rt, Seen::Idle);
     Ok(())
