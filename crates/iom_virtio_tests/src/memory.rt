@@ -1,9 +1,7 @@
 ghost use Rattle.std.specs.Prelude.{◌≡◌, IfSome, length};
 
 use crate::expect::expect;
-use std::alloc::Global;
 use std::process::Abort;
-use std::test::Fail;
 
 const SIZE: usize = 8192;
 
@@ -14,8 +12,8 @@ pub(crate) struct Memory {
 }
 
 impl Memory {
-    pub(crate) fn new(alloc: Global) -> Result<Box<Memory>, Fail> {
-        Ok(Box::new(alloc, Memory { bytes: [0; SIZE] })?)
+    pub(crate) fn new() -> Memory {
+        Memory { bytes: [0; SIZE] }
     }
 
     /// The bytes at the address, where they lie in memory.

@@ -31,13 +31,13 @@ pub(crate) enum Step<'a> {
 #[derive(Drop)]
 pub(crate) struct Bench {
     blk: Blk<FailingDisk>,
-    pub(crate) memory: Box<Memory>,
+    pub(crate) memory: Memory,
 }
 
 impl Bench {
     /// A device that was just plugged, whose disk fails at this call.
     fn plugged(alloc: Global, fails_at: u64) -> Result<Box<Bench>, Fail> {
-        let memory = Memory::new(alloc)?;
+        let memory = Memory::new();
         let mut blk = Blk::new();
         blk.insert(FailingDisk::new(fails_at));
         Ok(Box::new(alloc, Bench { blk, memory })?)

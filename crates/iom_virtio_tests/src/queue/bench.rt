@@ -10,7 +10,7 @@ use std::test::Fail;
 #[derive(Drop)]
 pub(crate) struct Bench {
     queue: Queue,
-    pub(crate) memory: Box<Memory>,
+    pub(crate) memory: Memory,
 }
 
 // The bytes were taken, or why they weren't.
@@ -23,7 +23,7 @@ fn seen(taken: Result<(), ChainFault>, access: Seen) -> Seen {
 
 impl Bench {
     pub(crate) fn new(alloc: Global, size: u64) -> Result<Box<Bench>, Fail> {
-        let memory = Memory::new(alloc)?;
+        let memory = Memory::new();
         let layout = Layout::new(size, 0, 0x1000, 0x1400).ok_or("a layout")?;
         let queue = Queue::new(layout);
         Ok(Box::new(alloc, Bench { queue, memory })?)
