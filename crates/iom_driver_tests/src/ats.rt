@@ -2,7 +2,6 @@ use crate::bench::{OK, Step, started};
 use iom_base::Mode;
 use iom_ledger::Refusal;
 use iom_registers::Register;
-use std::test::Fail;
 
 /// V and EN_ATS; all else is as without ATS.
 static A_CONTEXT_WITH_ATS: [Step; 3] = [
@@ -12,8 +11,8 @@ static A_CONTEXT_WITH_ATS: [Step; 3] = [
 ];
 
 #[test]
-fn a_context_with_ats(rt: HostRuntime) -> Result<(), Fail> {
-    started(&rt, rt.alloc(), &A_CONTEXT_WITH_ATS)
+fn a_context_with_ats(rt: HostRuntime) {
+    started(&rt, rt.alloc(), &A_CONTEXT_WITH_ATS);
 }
 
 /// A trusted device may be attached without ATS, and is then as any other.
@@ -28,8 +27,8 @@ static A_TRUSTED_DEVICE_WITHOUT_ATS: [Step; 7] = [
 ];
 
 #[test]
-fn a_trusted_device_without_ats(rt: HostRuntime) -> Result<(), Fail> {
-    started(&rt, rt.alloc(), &A_TRUSTED_DEVICE_WITHOUT_ATS)
+fn a_trusted_device_without_ats(rt: HostRuntime) {
+    started(&rt, rt.alloc(), &A_TRUSTED_DEVICE_WITHOUT_ATS);
 }
 
 /// IOTINVAL.VMA of page 3 in address space 1, ATS.INVAL of page 3 of device 2, and the fence of ticket 1.
@@ -60,8 +59,8 @@ static A_RELEASE_ASKS_THE_DEVICE: [Step; 8] = [
 ];
 
 #[test]
-fn a_release_asks_the_device(rt: HostRuntime) -> Result<(), Fail> {
-    started(&rt, rt.alloc(), &A_RELEASE_ASKS_THE_DEVICE)
+fn a_release_asks_the_device(rt: HostRuntime) {
+    started(&rt, rt.alloc(), &A_RELEASE_ASKS_THE_DEVICE);
 }
 
 /// In the second stage alone the device drops the guest physical page.
@@ -83,8 +82,8 @@ static A_DEVICE_OF_A_GUEST_DROPS_THE_PAGE: [Step; 5] = [
 ];
 
 #[test]
-fn a_device_of_a_guest_drops_the_page(rt: HostRuntime) -> Result<(), Fail> {
-    started(&rt, rt.alloc(), &A_DEVICE_OF_A_GUEST_DROPS_THE_PAGE)
+fn a_device_of_a_guest_drops_the_page(rt: HostRuntime) {
+    started(&rt, rt.alloc(), &A_DEVICE_OF_A_GUEST_DROPS_THE_PAGE);
 }
 
 /// In both stages it drops everything.
@@ -106,8 +105,8 @@ static A_DEVICE_OF_BOTH_STAGES_DROPS_EVERYTHING: [Step; 5] = [
 ];
 
 #[test]
-fn a_device_of_both_stages_drops_everything(rt: HostRuntime) -> Result<(), Fail> {
-    started(&rt, rt.alloc(), &A_DEVICE_OF_BOTH_STAGES_DROPS_EVERYTHING)
+fn a_device_of_both_stages_drops_everything(rt: HostRuntime) {
+    started(&rt, rt.alloc(), &A_DEVICE_OF_BOTH_STAGES_DROPS_EVERYTHING);
 }
 
 /// A detach queues the same three commands as without ATS.
@@ -123,8 +122,8 @@ static A_DETACH_ASKS_NO_DEVICE: [Step; 8] = [
 ];
 
 #[test]
-fn a_detach_asks_no_device(rt: HostRuntime) -> Result<(), Fail> {
-    started(&rt, rt.alloc(), &A_DETACH_ASKS_NO_DEVICE)
+fn a_detach_asks_no_device(rt: HostRuntime) {
+    started(&rt, rt.alloc(), &A_DETACH_ASKS_NO_DEVICE);
 }
 
 /// A device that isn't trusted gets no ATS: after ids that are too wide, and before want of frames.
@@ -142,8 +141,8 @@ static OF_AN_ATTACH_WITH_ATS: [Step; 10] = [
 ];
 
 #[test]
-fn of_an_attach_with_ats(rt: HostRuntime) -> Result<(), Fail> {
-    started(&rt, rt.alloc(), &OF_AN_ATTACH_WITH_ATS)
+fn of_an_attach_with_ats(rt: HostRuntime) {
+    started(&rt, rt.alloc(), &OF_AN_ATTACH_WITH_ATS);
 }
 
 /// The ring holds 255 commands, so 84 releases leave three places, which the next one takes.
@@ -158,8 +157,8 @@ static A_RELEASE_TAKES_THE_LAST_THREE_PLACES: [Step; 7] = [
 ];
 
 #[test]
-fn a_release_takes_the_last_three_places(rt: HostRuntime) -> Result<(), Fail> {
-    started(&rt, rt.alloc(), &A_RELEASE_TAKES_THE_LAST_THREE_PLACES)
+fn a_release_takes_the_last_three_places(rt: HostRuntime) {
+    started(&rt, rt.alloc(), &A_RELEASE_TAKES_THE_LAST_THREE_PLACES);
 }
 
 /// Two places are too few with ATS, and enough without.
@@ -180,6 +179,6 @@ static TWO_PLACES_ARE_TOO_FEW: [Step; 13] = [
 ];
 
 #[test]
-fn two_places_are_too_few(rt: HostRuntime) -> Result<(), Fail> {
-    started(&rt, rt.alloc(), &TWO_PLACES_ARE_TOO_FEW)
+fn two_places_are_too_few(rt: HostRuntime) {
+    started(&rt, rt.alloc(), &TWO_PLACES_ARE_TOO_FEW);
 }

@@ -1,6 +1,5 @@
 use crate::bench::{OK, Step, sized, started};
 use iom_base::Mode;
-use std::test::Fail;
 
 /// With one level the context of id 1 stands in the directory's root, page 0x3c; the tables' root is page 0x3b.
 static A_CONTEXT_IN_THE_ROOT: [Step; 3] = [
@@ -10,8 +9,8 @@ static A_CONTEXT_IN_THE_ROOT: [Step; 3] = [
 ];
 
 #[test]
-fn a_context_in_the_root(rt: HostRuntime) -> Result<(), Fail> {
-    started(&rt, rt.alloc(), &A_CONTEXT_IN_THE_ROOT)
+fn a_context_in_the_root(rt: HostRuntime) {
+    started(&rt, rt.alloc(), &A_CONTEXT_IN_THE_ROOT);
 }
 
 /// With three levels the path of the highest id lacks two pages, 0xffb and 0xffa, and the tables' root is page
@@ -25,6 +24,6 @@ static A_CONTEXT_TWO_PAGES_BELOW: [Step; 5] = [
 ];
 
 #[test]
-fn a_context_two_pages_below(rt: HostRuntime) -> Result<(), Fail> {
-    sized(&rt, rt.alloc(), 4096, 3, &A_CONTEXT_TWO_PAGES_BELOW)
+fn a_context_two_pages_below(rt: HostRuntime) {
+    sized(&rt, rt.alloc(), 4096, 3, &A_CONTEXT_TWO_PAGES_BELOW);
 }

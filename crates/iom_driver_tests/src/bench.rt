@@ -312,26 +312,22 @@ fn ends_with(all: &[Option<Register>; 6], expected: &[Option<Register>]) -> bool
 }
 
 /// At power-on, the driver takes these steps.
-pub(crate) fn off(rt: &impl Abort, alloc: Global, steps: &[Step]) -> Result<(), Fail> {
-    let mut bench = Bench::off(alloc)?;
-    bench.follow(rt, steps);
-    Ok(())
+pub(crate) fn off(rt: &impl Abort, alloc: Global, steps: &[Step]) {
+    match Bench::off(alloc) {
+        Ok(mut bench) => bench.follow(rt, steps),
+        Err(_) => panic!(rt; "out of memory"),
+    }
 }
 
 /// Once it was started, with so many frames and levels of the directory.
-pub(crate) fn sized(
-    rt: &impl Abort,
-    alloc: Global,
-    frames: u32,
-    levels: u8,
-    steps: &[Step],
-) -> Result<(), Fail> {
-    let mut bench = Bench::of_size(alloc, frames, levels)?;
-    bench.follow(rt, steps);
-    Ok(())
+pub(crate) fn sized(rt: &impl Abort, alloc: Global, frames: u32, levels: u8, steps: &[Step]) {
+    match Bench::of_size(alloc, frames, levels) {
+        Ok(mut bench) => bench.follow(rt, steps),
+        Err(_) => panic!(rt; "out of memory"),
+    }
 }
 
 /// Once it was started, with 64 frames and a directory of one level.
-pub(crate) fn started(rt: &impl Abort, alloc: Global, steps: &[Step]) -> Result<(), Fail> {
-    sized(rt, alloc, FRAMES, 1, steps)
+pub(crate) fn started(rt: &impl Abort, alloc: Global, steps: &[Step]) {
+    sized(rt, alloc, FRAMES, 1, steps);
 }

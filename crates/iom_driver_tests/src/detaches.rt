@@ -1,7 +1,6 @@
 use crate::bench::{OK, Step, started};
 use iom_base::Mode;
 use iom_ledger::Refusal;
-use std::test::Fail;
 
 /// The commands of a detach: IODIR.INVAL_DDT of id 2, IOTINVAL.VMA of the whole address space 1, and the fence of
 /// ticket 1. The context's place is zero.
@@ -25,8 +24,8 @@ static A_DETACH_WRITES_THREE_COMMANDS: [Step; 7] = [
 ];
 
 #[test]
-fn a_detach_writes_three_commands(rt: HostRuntime) -> Result<(), Fail> {
-    started(&rt, rt.alloc(), &A_DETACH_WRITES_THREE_COMMANDS)
+fn a_detach_writes_three_commands(rt: HostRuntime) {
+    started(&rt, rt.alloc(), &A_DETACH_WRITES_THREE_COMMANDS);
 }
 
 /// What is held, and what lingers, keeps its device.
@@ -43,8 +42,8 @@ static A_DEVICE_WITH_GRANTS_STAYS: [Step; 9] = [
 ];
 
 #[test]
-fn a_device_with_grants_stays(rt: HostRuntime) -> Result<(), Fail> {
-    started(&rt, rt.alloc(), &A_DEVICE_WITH_GRANTS_STAYS)
+fn a_device_with_grants_stays(rt: HostRuntime) {
+    started(&rt, rt.alloc(), &A_DEVICE_WITH_GRANTS_STAYS);
 }
 
 /// A leaving device is neither attached nor detached; the poll that confirms its ticket gives its frames back.
@@ -64,8 +63,8 @@ static A_DEVICE_LEAVES_UNTIL_A_POLL: [Step; 12] = [
 ];
 
 #[test]
-fn a_device_leaves_until_a_poll(rt: HostRuntime) -> Result<(), Fail> {
-    started(&rt, rt.alloc(), &A_DEVICE_LEAVES_UNTIL_A_POLL)
+fn a_device_leaves_until_a_poll(rt: HostRuntime) {
+    started(&rt, rt.alloc(), &A_DEVICE_LEAVES_UNTIL_A_POLL);
 }
 
 /// The number of a leaving device is its own until then: the next device has number 2, and the third 1.
@@ -84,6 +83,6 @@ static A_NUMBER_IS_GIVEN_BACK: [Step; 11] = [
 ];
 
 #[test]
-fn a_number_is_given_back(rt: HostRuntime) -> Result<(), Fail> {
-    started(&rt, rt.alloc(), &A_NUMBER_IS_GIVEN_BACK)
+fn a_number_is_given_back(rt: HostRuntime) {
+    started(&rt, rt.alloc(), &A_NUMBER_IS_GIVEN_BACK);
 }

@@ -1,7 +1,6 @@
 // The numbers of fences, which are apart from those of tickets once the driver restarted.
 use crate::bench::{OK, Step, started};
 use iom_base::Mode;
-use std::test::Fail;
 
 /// After a restart, whose two commands for the device and whose fence come first, the first ticket's fence has
 /// number 2, and no other confirms it.
@@ -20,8 +19,8 @@ static A_TICKET_AFTER_A_RESTART_HAS_A_LATER_FENCE: [Step; 11] = [
 ];
 
 #[test]
-fn a_ticket_after_a_restart_has_a_later_fence(rt: HostRuntime) -> Result<(), Fail> {
-    started(&rt, rt.alloc(), &A_TICKET_AFTER_A_RESTART_HAS_A_LATER_FENCE)
+fn a_ticket_after_a_restart_has_a_later_fence(rt: HostRuntime) {
+    started(&rt, rt.alloc(), &A_TICKET_AFTER_A_RESTART_HAS_A_LATER_FENCE);
 }
 
 /// A ticket that waits when the driver restarts waits for the restart's fence, and no longer for its own.
@@ -41,8 +40,8 @@ static A_WAITING_TICKET_WAITS_FOR_THE_RESTART: [Step; 12] = [
 ];
 
 #[test]
-fn a_waiting_ticket_waits_for_the_restart(rt: HostRuntime) -> Result<(), Fail> {
-    started(&rt, rt.alloc(), &A_WAITING_TICKET_WAITS_FOR_THE_RESTART)
+fn a_waiting_ticket_waits_for_the_restart(rt: HostRuntime) {
+    started(&rt, rt.alloc(), &A_WAITING_TICKET_WAITS_FOR_THE_RESTART);
 }
 
 /// A detach after a restart stores the next number of a fence too, and the device has left once that is done.
@@ -60,6 +59,6 @@ static A_DEVICE_LEAVES_BY_ITS_FENCE: [Step; 10] = [
 ];
 
 #[test]
-fn a_device_leaves_by_its_fence(rt: HostRuntime) -> Result<(), Fail> {
-    started(&rt, rt.alloc(), &A_DEVICE_LEAVES_BY_ITS_FENCE)
+fn a_device_leaves_by_its_fence(rt: HostRuntime) {
+    started(&rt, rt.alloc(), &A_DEVICE_LEAVES_BY_ITS_FENCE);
 }

@@ -1,9 +1,8 @@
 use crate::bench::{OK, Step, started};
 use iom_base::Mode;
-use std::test::Fail;
 
 /// A frame is free before it is granted, and again once its release is confirmed.
-static A_FRAME_IS_FREE_ONCE_ITS_RELEASE_IS_CONFIRMED: [Step; 13] = [
+static FREE_ONCE_CONFIRMED: [Step; 13] = [
     Step::Plug(1, OK),
     Step::Attach(1, Mode::First, OK),
     Step::Free(5, true),
@@ -20,12 +19,8 @@ static A_FRAME_IS_FREE_ONCE_ITS_RELEASE_IS_CONFIRMED: [Step; 13] = [
 ];
 
 #[test]
-fn a_frame_is_free_once_its_release_is_confirmed(rt: HostRuntime) -> Result<(), Fail> {
-    started(
-        &rt,
-        rt.alloc(),
-        &A_FRAME_IS_FREE_ONCE_ITS_RELEASE_IS_CONFIRMED,
-    )
+fn a_frame_is_free_once_its_release_is_confirmed(rt: HostRuntime) {
+    started(&rt, rt.alloc(), &FREE_ONCE_CONFIRMED);
 }
 
 /// Tables and queues are reserved, and so not free; nor is a frame outside memory.
@@ -43,8 +38,8 @@ static RESERVED_FRAMES_ARE_NOT_FREE: [Step; 10] = [
 ];
 
 #[test]
-fn reserved_frames_are_not_free(rt: HostRuntime) -> Result<(), Fail> {
-    started(&rt, rt.alloc(), &RESERVED_FRAMES_ARE_NOT_FREE)
+fn reserved_frames_are_not_free(rt: HostRuntime) {
+    started(&rt, rt.alloc(), &RESERVED_FRAMES_ARE_NOT_FREE);
 }
 
 /// The frame that is granted becomes no table, though it is the highest free one.
@@ -59,6 +54,6 @@ static THE_GRANTED_FRAME_IS_PASSED_OVER: [Step; 7] = [
 ];
 
 #[test]
-fn the_granted_frame_is_passed_over(rt: HostRuntime) -> Result<(), Fail> {
-    started(&rt, rt.alloc(), &THE_GRANTED_FRAME_IS_PASSED_OVER)
+fn the_granted_frame_is_passed_over(rt: HostRuntime) {
+    started(&rt, rt.alloc(), &THE_GRANTED_FRAME_IS_PASSED_OVER);
 }

@@ -1,6 +1,5 @@
 use crate::bench::{OK, Step, started};
 use iom_base::Mode;
-use std::test::Fail;
 
 /// A poll confirms the tickets up to the completion word, once each.
 static A_POLL_CONFIRMS_UP_TO_THE_WORD: [Step; 10] = [
@@ -17,8 +16,8 @@ static A_POLL_CONFIRMS_UP_TO_THE_WORD: [Step; 10] = [
 ];
 
 #[test]
-fn a_poll_confirms_up_to_the_word(rt: HostRuntime) -> Result<(), Fail> {
-    started(&rt, rt.alloc(), &A_POLL_CONFIRMS_UP_TO_THE_WORD)
+fn a_poll_confirms_up_to_the_word(rt: HostRuntime) {
+    started(&rt, rt.alloc(), &A_POLL_CONFIRMS_UP_TO_THE_WORD);
 }
 
 /// A word above the last ticket, or below the last that was confirmed, confirms no ticket that doesn't wait.
@@ -34,8 +33,8 @@ static A_FOREIGN_WORD_CONFIRMS_NO_MORE: [Step; 8] = [
 ];
 
 #[test]
-fn a_foreign_word_confirms_no_more(rt: HostRuntime) -> Result<(), Fail> {
-    started(&rt, rt.alloc(), &A_FOREIGN_WORD_CONFIRMS_NO_MORE)
+fn a_foreign_word_confirms_no_more(rt: HostRuntime) {
+    started(&rt, rt.alloc(), &A_FOREIGN_WORD_CONFIRMS_NO_MORE);
 }
 
 /// A command that took too long is told beside.
@@ -49,6 +48,6 @@ static A_TIMEOUT_IS_TOLD: [Step; 6] = [
 ];
 
 #[test]
-fn a_timeout_is_told(rt: HostRuntime) -> Result<(), Fail> {
-    started(&rt, rt.alloc(), &A_TIMEOUT_IS_TOLD)
+fn a_timeout_is_told(rt: HostRuntime) {
+    started(&rt, rt.alloc(), &A_TIMEOUT_IS_TOLD);
 }

@@ -2,7 +2,6 @@ use crate::bench::{OK, Step, started};
 use iom_base::Mode;
 use iom_ledger::Refusal;
 use iom_registers::Register;
-use std::test::Fail;
 
 /// The tables of the first page: the root is the highest free frame, and the two tables below it are the
 /// next ones; the leaf has frame 5, and all of R, W, U, A and D.
@@ -17,8 +16,8 @@ static A_GRANT_WRITES_TABLES: [Step; 7] = [
 ];
 
 #[test]
-fn a_grant_writes_tables(rt: HostRuntime) -> Result<(), Fail> {
-    started(&rt, rt.alloc(), &A_GRANT_WRITES_TABLES)
+fn a_grant_writes_tables(rt: HostRuntime) {
+    started(&rt, rt.alloc(), &A_GRANT_WRITES_TABLES);
 }
 
 /// The commands of a release: IOTINVAL.VMA of page 3 in address space 1, and the fence of ticket 1, which
@@ -48,8 +47,8 @@ static A_RELEASE_WRITES_TWO_COMMANDS: [Step; 9] = [
 ];
 
 #[test]
-fn a_release_writes_two_commands(rt: HostRuntime) -> Result<(), Fail> {
-    started(&rt, rt.alloc(), &A_RELEASE_WRITES_TWO_COMMANDS)
+fn a_release_writes_two_commands(rt: HostRuntime) {
+    started(&rt, rt.alloc(), &A_RELEASE_WRITES_TWO_COMMANDS);
 }
 
 /// A device's commands name its own address space: the second that is attached has number 2.
@@ -64,8 +63,8 @@ static EACH_DEVICE_HAS_ITS_OWN_NUMBER: [Step; 7] = [
 ];
 
 #[test]
-fn each_device_has_its_own_number(rt: HostRuntime) -> Result<(), Fail> {
-    started(&rt, rt.alloc(), &EACH_DEVICE_HAS_ITS_OWN_NUMBER)
+fn each_device_has_its_own_number(rt: HostRuntime) {
+    started(&rt, rt.alloc(), &EACH_DEVICE_HAS_ITS_OWN_NUMBER);
 }
 
 /// The ring holds 255 commands, so 127 releases: the next finds one place.
@@ -80,6 +79,6 @@ static A_FULL_RING_REFUSES_A_RELEASE: [Step; 7] = [
 ];
 
 #[test]
-fn a_full_ring_refuses_a_release(rt: HostRuntime) -> Result<(), Fail> {
-    started(&rt, rt.alloc(), &A_FULL_RING_REFUSES_A_RELEASE)
+fn a_full_ring_refuses_a_release(rt: HostRuntime) {
+    started(&rt, rt.alloc(), &A_FULL_RING_REFUSES_A_RELEASE);
 }

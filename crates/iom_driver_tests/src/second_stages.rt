@@ -1,7 +1,6 @@
 use crate::bench::{OK, Step, sized, started};
 use iom_base::Mode;
 use iom_ledger::Refusal;
-use std::test::Fail;
 
 /// Four side by side: frames 56 to 59, the first of which the context of id 1 names, with Sv39x4 and GSCID 1; and
 /// no first stage.
@@ -17,8 +16,8 @@ static A_ROOT_OF_FOUR_FRAMES: [Step; 8] = [
 ];
 
 #[test]
-fn a_root_of_four_frames(rt: HostRuntime) -> Result<(), Fail> {
-    started(&rt, rt.alloc(), &A_ROOT_OF_FOUR_FRAMES)
+fn a_root_of_four_frames(rt: HostRuntime) {
+    started(&rt, rt.alloc(), &A_ROOT_OF_FOUR_FRAMES);
 }
 
 /// In both stages the root of the first is guest page 0, and the number is the PSCID and the GSCID.
@@ -29,8 +28,8 @@ static A_GUEST_ROOT_AT_PAGE_0: [Step; 3] = [
 ];
 
 #[test]
-fn a_guest_root_at_page_0(rt: HostRuntime) -> Result<(), Fail> {
-    started(&rt, rt.alloc(), &A_GUEST_ROOT_AT_PAGE_0)
+fn a_guest_root_at_page_0(rt: HostRuntime) {
+    started(&rt, rt.alloc(), &A_GUEST_ROOT_AT_PAGE_0);
 }
 
 /// The tables of guest page 3 are frames 55 and 54, and the leaf is as that of a first stage.
@@ -46,8 +45,8 @@ static A_GRANT_OF_A_GUEST_PAGE: [Step; 8] = [
 ];
 
 #[test]
-fn a_grant_of_a_guest_page(rt: HostRuntime) -> Result<(), Fail> {
-    started(&rt, rt.alloc(), &A_GRANT_OF_A_GUEST_PAGE)
+fn a_grant_of_a_guest_page(rt: HostRuntime) {
+    started(&rt, rt.alloc(), &A_GRANT_OF_A_GUEST_PAGE);
 }
 
 /// A release is of GSCID 1 and guest page 3: IOTINVAL.GVMA; a detach of the whole guest.
@@ -72,8 +71,8 @@ static COMMANDS_NAME_THE_GUEST: [Step; 10] = [
 ];
 
 #[test]
-fn commands_name_the_guest(rt: HostRuntime) -> Result<(), Fail> {
-    started(&rt, rt.alloc(), &COMMANDS_NAME_THE_GUEST)
+fn commands_name_the_guest(rt: HostRuntime) {
+    started(&rt, rt.alloc(), &COMMANDS_NAME_THE_GUEST);
 }
 
 /// The same in both stages.
@@ -98,8 +97,8 @@ static COMMANDS_NAME_THE_GUEST_IN_BOTH_STAGES: [Step; 10] = [
 ];
 
 #[test]
-fn commands_name_the_guest_in_both_stages(rt: HostRuntime) -> Result<(), Fail> {
-    started(&rt, rt.alloc(), &COMMANDS_NAME_THE_GUEST_IN_BOTH_STAGES)
+fn commands_name_the_guest_in_both_stages(rt: HostRuntime) {
+    started(&rt, rt.alloc(), &COMMANDS_NAME_THE_GUEST_IN_BOTH_STAGES);
 }
 
 /// All four are given back once the detach is confirmed, and not before.
@@ -118,8 +117,8 @@ static A_ROOT_IS_GIVEN_BACK_WHOLE: [Step; 11] = [
 ];
 
 #[test]
-fn a_root_is_given_back_whole(rt: HostRuntime) -> Result<(), Fail> {
-    started(&rt, rt.alloc(), &A_ROOT_IS_GIVEN_BACK_WHOLE)
+fn a_root_is_given_back_whole(rt: HostRuntime) {
+    started(&rt, rt.alloc(), &A_ROOT_IS_GIVEN_BACK_WHOLE);
 }
 
 /// A directory of three levels, where device 1 took frames 55 to 59: after these grants frames 48 to 51 are free
@@ -153,8 +152,8 @@ static PAGES_ARE_TAKEN_BEFORE_THE_ROOT: [Step; 22] = [
 ];
 
 #[test]
-fn pages_are_taken_before_the_root(rt: HostRuntime) -> Result<(), Fail> {
-    sized(&rt, rt.alloc(), 64, 3, &PAGES_ARE_TAKEN_BEFORE_THE_ROOT)
+fn pages_are_taken_before_the_root(rt: HostRuntime) {
+    sized(&rt, rt.alloc(), 64, 3, &PAGES_ARE_TAKEN_BEFORE_THE_ROOT);
 }
 
 /// A directory of three levels, where device 1 took frames 55 to 59: after these grants frames 48 to 51 are free
@@ -187,6 +186,6 @@ static OF_AN_ATTACH_WITHOUT_A_RUN: [Step; 21] = [
 ];
 
 #[test]
-fn of_an_attach_without_a_run(rt: HostRuntime) -> Result<(), Fail> {
-    sized(&rt, rt.alloc(), 64, 3, &OF_AN_ATTACH_WITHOUT_A_RUN)
+fn of_an_attach_without_a_run(rt: HostRuntime) {
+    sized(&rt, rt.alloc(), 64, 3, &OF_AN_ATTACH_WITHOUT_A_RUN);
 }

@@ -5,7 +5,6 @@ use iom_phys_mem::MemError;
 use iom_registers::Register;
 use std::alloc::Global;
 use std::process::Abort;
-use std::test::Fail;
 
 /// A start writes ddtp, cqb, cqcsr, fqb and fqcsr, in this order, and nothing else.
 static FIVE_REGISTERS_ARE_WRITTEN_IN_ORDER: [Step; 1] = [Step::Writes(&[
@@ -18,8 +17,8 @@ static FIVE_REGISTERS_ARE_WRITTEN_IN_ORDER: [Step; 1] = [Step::Writes(&[
 ])];
 
 #[test]
-fn five_registers_are_written_in_order(rt: HostRuntime) -> Result<(), Fail> {
-    started(&rt, rt.alloc(), &FIVE_REGISTERS_ARE_WRITTEN_IN_ORDER)
+fn five_registers_are_written_in_order(rt: HostRuntime) {
+    started(&rt, rt.alloc(), &FIVE_REGISTERS_ARE_WRITTEN_IN_ORDER);
 }
 
 /// With 64 frames and one level the directory's root is page 60, the queue of 256 commands fills page 63, and
@@ -33,8 +32,8 @@ static THE_REGISTERS_NAME_THE_FIXED_FRAMES: [Step; 5] = [
 ];
 
 #[test]
-fn the_registers_name_the_fixed_frames(rt: HostRuntime) -> Result<(), Fail> {
-    started(&rt, rt.alloc(), &THE_REGISTERS_NAME_THE_FIXED_FRAMES)
+fn the_registers_name_the_fixed_frames(rt: HostRuntime) {
+    started(&rt, rt.alloc(), &THE_REGISTERS_NAME_THE_FIXED_FRAMES);
 }
 
 /// The completion word and the root of the directory are zero, and no ticket waits.
@@ -47,8 +46,8 @@ static NOTHING_WAITS_AFTER_A_START: [Step; 5] = [
 ];
 
 #[test]
-fn nothing_waits_after_a_start(rt: HostRuntime) -> Result<(), Fail> {
-    started(&rt, rt.alloc(), &NOTHING_WAITS_AFTER_A_START)
+fn nothing_waits_after_a_start(rt: HostRuntime) {
+    started(&rt, rt.alloc(), &NOTHING_WAITS_AFTER_A_START);
 }
 
 fn is_bad(rt: &impl Abort, alloc: Global, frames: u32, levels: u8) {
