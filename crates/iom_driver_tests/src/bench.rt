@@ -1,4 +1,5 @@
 // A driver with memory and registers of its own, of which a test sees no parts.
+use crate::expect::expect;
 use crate::recording::Recording;
 use iom_base::{DeviceId, GrantRights, Mode};
 use iom_driver::laws::stays_ready;
@@ -14,6 +15,53 @@ use std::test::Fail;
 
 /// How many frames the memory of a bench has.
 const FRAMES: u32 = 64;
+
+/// What a call of the driver answers that gives nothing.
+pub(crate) type Done = Result<(), Refusal>;
+
+/// The number of a ticket.
+pub(crate) type Given = Result<u32, Refusal>;
+
+pub(crate) const OK: Done = Ok(());
+
+/// What a test does, with the answer, and what it looks at.
+#[derive(Clone, Copy)]
+pub(crate) enum Step<'a> {
+    Plug(DeviceId, Done),
+    /// With a cache of translations of its own.
+    PlugTrusted(DeviceId, Done),
+    Attach(DeviceId, Mode, Done),
+    AttachAts(DeviceId, Mode, Done),
+    Grant(DeviceId, u64, u64, Done),
+    /// Each page from one up to another, the last excepted, gets the frame of its number.
+    GrantEach(DeviceId, u64, u64),
+    Release(DeviceId, u64, Given),
+    /// Each page from one up to another, the last excepted, gets frame 5, and is released.
+    ReleaseEach(DeviceId, u64, u64),
+    Detach(DeviceId, Given),
+    Quarantine(DeviceId, Given),
+    MayRevive(DeviceId, Done),
+    Revive(DeviceId, Done),
+    Restart(Done),
+    /// Confirms so many tickets from the first on, and tells whether a command timed out.
+    Poll(u32, u32, bool),
+    /// Is refused.
+    PollRefused(Refusal),
+    FaultsRefused(Refusal),
+    /// A fence stores its number, as the IOMMU would.
+    Complete(u32),
+    /// The IOMMU gives a command up.
+    TimeOut,
+    Free(u32, bool),
+    Reserved(u32, bool),
+    CountFree(u32),
+    Pending(usize),
+    /// Words of memory from the address on.
+    Words(u64, &'a [u64]),
+    Register(Register, u64),
+    /// The registers that were written last, up to six: none where there were fewer.
+    Writes(&'a [Option<Register>]),
+}
 
 /// Memory, registers that remember their writes, and a driver that is ready for them.
 #[derive(Drop)]
@@ -38,7 +86,7 @@ impl Model for Bench {
 // A test owns its bench in a box: of what it owns in place each later proof would carry every part.
 impl Bench {
     /// At power-on.
-    pub(crate) fn off(alloc: Global) -> Result<Box<Bench>, Fail> {
+    fn off(alloc: Global) -> Result<Box<Bench>, Fail> {
         let bench = Bench::off_in_place(alloc)?;
         Ok(Box::new(alloc, bench)?)
     }
@@ -51,7 +99,7 @@ impl Bench {
     }
 
     /// Started, with so many frames and levels of the directory.
-    pub(crate) fn of_size(alloc: Global, frames: u32, levels: u8) -> Result<Box<Bench>, Fail> {
+    fn of_size(alloc: Global, frames: u32, levels: u8) -> Result<Box<Bench>, Fail> {
         let bench = Bench::started_in_place(alloc, frames, levels)?;
         Ok(Box::new(alloc, bench)?)
     }
@@ -64,133 +112,222 @@ impl Bench {
         Ok(Bench { memory, io, driver })
     }
 
-    /// Started, with 64 frames and a directory of one level.
-    pub(crate) fn new(alloc: Global) -> Result<Box<Bench>, Fail> {
-        Bench::of_size(alloc, FRAMES, 1)
-    }
-
-    /// Started so, and the device is attached in the first stage.
-    pub(crate) fn with_device(alloc: Global, id: DeviceId) -> Result<Box<Bench>, Fail> {
-        Bench::with_device_in(alloc, id, Mode::First)
-    }
-
-    /// Started so, and the device is attached in the mode.
-    pub(crate) fn with_device_in(
-        alloc: Global,
-        id: DeviceId,
-        mode: Mode,
-    ) -> Result<Box<Bench>, Fail> {
-        let mut bench = Bench::new(alloc)?;
-        let _ = bench.plug(id);
-        let _ = bench.attach_in(id, mode);
-        Ok(bench)
-    }
-
-    pub(crate) fn plug(&mut self, id: DeviceId) -> Result<(), Refusal> {
+    fn plug(&mut self, id: DeviceId) -> Result<(), Refusal> {
         self.driver.plug(id, false)
     }
 
     /// The device has a cache of translations of its own.
-    pub(crate) fn plug_trusted(&mut self, id: DeviceId) -> Result<(), Refusal> {
+    fn plug_trusted(&mut self, id: DeviceId) -> Result<(), Refusal> {
         self.driver.plug(id, true)
     }
 
-    /// In the first stage.
-    pub(crate) fn attach(&mut self, id: DeviceId) -> Result<(), Refusal> {
-        self.attach_in(id, Mode::First)
-    }
-
-    pub(crate) fn attach_in(&mut self, id: DeviceId, mode: Mode) -> Result<(), Refusal> {
+    fn attach_in(&mut self, id: DeviceId, mode: Mode) -> Result<(), Refusal> {
         self.driver.attach(&mut self.memory, id, mode, false)
     }
 
-    pub(crate) fn attach_with_ats(&mut self, id: DeviceId, mode: Mode) -> Result<(), Refusal> {
+    fn attach_with_ats(&mut self, id: DeviceId, mode: Mode) -> Result<(), Refusal> {
         self.driver.attach(&mut self.memory, id, mode, true)
     }
 
-    pub(crate) fn grant(&mut self, id: DeviceId, page: u64, frame: u64) -> Result<(), Refusal> {
+    fn grant(&mut self, id: DeviceId, page: u64, frame: u64) -> Result<(), Refusal> {
         self.driver
             .grant(&mut self.memory, id, page, frame, GrantRights::ReadWrite)
     }
 
-    pub(crate) fn release(&mut self, id: DeviceId, page: u64) -> Result<Ticket, Refusal> {
+    fn release(&mut self, id: DeviceId, page: u64) -> Result<Ticket, Refusal> {
         self.driver
             .release(&mut self.memory, &mut self.io, id, page)
     }
 
-    pub(crate) fn detach(&mut self, id: DeviceId) -> Result<Ticket, Refusal> {
+    fn detach(&mut self, id: DeviceId) -> Result<Ticket, Refusal> {
         self.driver.detach(&mut self.memory, &mut self.io, id)
     }
 
-    pub(crate) fn quarantine(&mut self, id: DeviceId) -> Result<Ticket, Refusal> {
+    fn quarantine(&mut self, id: DeviceId) -> Result<Ticket, Refusal> {
         self.driver.quarantine(&mut self.memory, &mut self.io, id)
     }
 
-    pub(crate) fn may_revive(&self, id: DeviceId) -> Result<(), Refusal> {
+    fn may_revive(&self, id: DeviceId) -> Result<(), Refusal> {
         self.driver.may_revive(id)
     }
 
-    pub(crate) fn revive(&mut self, id: DeviceId) -> Result<(), Refusal> {
+    fn revive(&mut self, id: DeviceId) -> Result<(), Refusal> {
         self.driver.revive(&mut self.memory, id)
     }
 
-    pub(crate) fn restart(&mut self) -> Result<(), Refusal> {
+    fn restart(&mut self) -> Result<(), Refusal> {
         self.driver.restart(&mut self.memory, &mut self.io)
     }
 
-    pub(crate) fn poll(&mut self) -> Result<Polled, Refusal> {
+    fn poll(&mut self) -> Result<Polled, Refusal> {
         self.driver.poll(&mut self.memory, &self.io)
     }
 
-    pub(crate) fn faults(&mut self) -> Result<Option<Record>, Refusal> {
+    fn faults(&mut self) -> Result<Option<Record>, Refusal> {
         self.driver.faults(&self.memory, &mut self.io)
     }
 
-    pub(crate) fn is_free(&self, frame: u32) -> bool {
+    fn is_free(&self, frame: u32) -> bool {
         self.driver.is_free(frame)
     }
 
-    pub(crate) fn is_reserved(&self, frame: u32) -> bool {
+    fn is_reserved(&self, frame: u32) -> bool {
         self.driver.is_reserved(frame)
     }
 
-    pub(crate) fn count_free(&self) -> u32 {
+    fn count_free(&self) -> u32 {
         self.driver.count_free()
     }
 
-    pub(crate) fn pending(&self) -> usize {
+    fn pending(&self) -> usize {
         self.driver.pending()
     }
 
-    /// The eight bytes at the address.
-    pub(crate) fn word(&self, address: u64) -> Option<u64> {
-        self.memory.load_u64(address)
-    }
-
-    pub(crate) fn expect_word(&self, rt: &impl Abort, address: u64, expected: u64) {
-        assert_eq!(rt; self.word(address), Some(expected), "at {address}");
-    }
-
-    pub(crate) fn register(&self, register: Register) -> u64 {
-        self.io.registers.value(register)
-    }
-
-    /// The last six registers that were written, the oldest first.
-    pub(crate) fn writes(&self) -> [Option<Register>; 6] {
-        let io = &self.io;
-        [io.first, io.second, io.third, io.fourth, io.fifth, io.sixth]
-    }
-
     /// A fence stores its number, as the IOMMU would.
-    pub(crate) fn complete(&mut self, number: u32) {
+    fn complete(&mut self, number: u32) {
         stays_ready();
         let address = 4096 * u64::from(self.memory.frames() - 3);
         self.memory.store_u32(address, number);
     }
 
     /// The IOMMU gives a command up.
-    pub(crate) fn time_out(&mut self) {
+    fn time_out(&mut self) {
         stays_ready();
         self.io.registers.set_cmd_to();
     }
+
+    fn has_words(&self, address: u64, expected: &[u64]) -> bool {
+        let mut place = address;
+        for word in expected.iter() {
+            if self.memory.load_u64(place) != Some(*word) {
+                return false;
+            }
+            place = place.wrapping_add(8);
+        }
+        true
+    }
+
+    fn register(&self, register: Register) -> u64 {
+        self.io.registers.value(register)
+    }
+
+    /// Whether these registers were written last, and in this order.
+    fn was_written(&self, expected: &[Option<Register>]) -> bool {
+        let io = &self.io;
+        let last = [io.first, io.second, io.third, io.fourth, io.fifth, io.sixth];
+        ends_with(&last, expected)
+    }
+
+    fn grant_each(&mut self, id: DeviceId, from: u64, to: u64) -> bool {
+        for page in from..to {
+            if self.grant(id, page, page) != OK {
+                return false;
+            }
+        }
+        true
+    }
+
+    fn release_each(&mut self, id: DeviceId, from: u64, to: u64) -> bool {
+        for page in from..to {
+            if self.grant(id, page, 5) != OK || self.release(id, page).is_err() {
+                return false;
+            }
+        }
+        true
+    }
+
+    /// Whether the step is done and answered so.
+    fn does(&mut self, step: Step) -> bool {
+        match step {
+            Step::Plug(id, done) => self.plug(id) == done,
+            Step::PlugTrusted(id, done) => self.plug_trusted(id) == done,
+            Step::Attach(id, mode, done) => self.attach_in(id, mode) == done,
+            Step::AttachAts(id, mode, done) => self.attach_with_ats(id, mode) == done,
+            Step::Grant(id, page, frame, done) => self.grant(id, page, frame) == done,
+            Step::GrantEach(id, from, to) => self.grant_each(id, from, to),
+            Step::Release(id, page, given) => number(self.release(id, page)) == given,
+            Step::ReleaseEach(id, from, to) => self.release_each(id, from, to),
+            Step::Detach(id, given) => number(self.detach(id)) == given,
+            Step::Quarantine(id, given) => number(self.quarantine(id)) == given,
+            Step::MayRevive(id, done) => self.may_revive(id) == done,
+            Step::Revive(id, done) => self.revive(id) == done,
+            Step::Restart(done) => self.restart() == done,
+            Step::Poll(first, count, timed_out) => self.polls(Ok((first, count, timed_out))),
+            Step::PollRefused(refusal) => self.polls(Err(refusal)),
+            _ => self.sees(step),
+        }
+    }
+
+    fn polls(&mut self, expected: Result<(u32, u32, bool), Refusal>) -> bool {
+        let polled = self.poll();
+        polled.map(|told| (told.first, told.count, told.timed_out)) == expected
+    }
+
+    /// The same of a step that is no call of the driver's but of its looks.
+    fn sees(&mut self, step: Step) -> bool {
+        match step {
+            Step::FaultsRefused(refusal) => self.faults().err() == Some(refusal),
+            Step::Free(frame, is) => self.is_free(frame) == is,
+            Step::Reserved(frame, is) => self.is_reserved(frame) == is,
+            Step::CountFree(count) => self.count_free() == count,
+            Step::Pending(count) => self.pending() == count,
+            Step::Words(address, words) => self.has_words(address, words),
+            Step::Register(register, value) => self.register(register) == value,
+            Step::Writes(registers) => self.was_written(registers),
+            Step::Complete(number) => {
+                self.complete(number);
+                true
+            }
+            Step::TimeOut => {
+                self.time_out();
+                true
+            }
+            _ => false,
+        }
+    }
+
+    /// Takes the steps, one after another.
+    pub(crate) fn follow(&mut self, rt: &impl Abort, steps: &[Step]) {
+        for step in steps.iter() {
+            expect(rt, self.does(*step));
+        }
+    }
+}
+
+/// The number of a ticket that was given.
+fn number(given: Result<Ticket, Refusal>) -> Given {
+    given.map(|ticket| ticket.0)
+}
+
+/// Whether these are the last of them.
+fn ends_with(all: &[Option<Register>; 6], expected: &[Option<Register>]) -> bool {
+    let mut place = 6usize.saturating_sub(expected.len());
+    for register in expected.iter() {
+        if place >= 6 || all[place] != *register {
+            return false;
+        }
+        place += 1;
+    }
+    true
+}
+
+/// At power-on, the driver takes these steps.
+pub(crate) fn off(rt: &impl Abort, alloc: Global, steps: &[Step]) {
+    match Bench::off(alloc) {
+        Ok(mut bench) => bench.follow(rt, steps),
+        Err(_) => panic!(rt; "out of memory"),
+    }
+}
+
+/// Once it was started, with so many frames and levels of the directory.
+pub(crate) fn sized(rt: &impl Abort, alloc: Global, frames: u32, levels: u8, steps: &[Step]) {
+    match Bench::of_size(alloc, frames, levels) {
+        Ok(mut bench) => bench.follow(rt, steps),
+        Err(_) => panic!(rt; "out of memory"),
+    }
+}
+
+/// Once it was started, with 64 frames and a directory of one level.
+pub(crate) fn started(rt: &impl Abort, alloc: Global, steps: &[Step]) {
+    sized(rt, alloc, FRAMES, 1, steps);
 }

@@ -2,7 +2,7 @@
 use iom_registers::{Mmio, RegFault, Register, Registers};
 
 /// A register file, and the last six registers that were written, the oldest first.
-#[derive(Clone, Copy, PartialEq, Eq, Debug)]
+#[derive(Clone, Copy)]
 pub struct Recording {
     pub registers: Registers,
     pub first: Option<Register>,

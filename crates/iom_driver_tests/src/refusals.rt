@@ -1,107 +1,112 @@
-use crate::bench::Bench;
-use crate::expect::{expect, expect_eq};
-use iom_driver::Ticket;
+use crate::bench::{OK, Step, off, started};
+use iom_base::Mode;
 use iom_ledger::Refusal;
-use std::test::Fail;
 
-// Before the start a device may come, and everything else is refused for that reason first.
+/// Before the start a device may come, and everything else is refused for that reason first.
+static BEFORE_THE_START: [Step; 7] = [
+    Step::Attach(1, Mode::First, Err(Refusal::NotStarted)),
+    Step::Plug(1, OK),
+    Step::Attach(1, Mode::First, Err(Refusal::NotStarted)),
+    Step::Grant(1, 3, 5, Err(Refusal::NotStarted)),
+    Step::Release(1, 3, Err(Refusal::NotStarted)),
+    Step::Detach(1, Err(Refusal::NotStarted)),
+    Step::PollRefused(Refusal::NotStarted),
+];
+
 #[test]
-fn before_the_start(rt: HostRuntime) -> Result<(), Fail> {
-    let mut bench = Bench::off(rt.alloc())?;
-    expect_eq(&rt, &bench.attach(1), &Err(Refusal::NotStarted));
-    expect_eq(&rt, &bench.plug(1), &Ok(()));
-    expect_eq(&rt, &bench.attach(1), &Err(Refusal::NotStarted));
-    expect_eq(&rt, &bench.grant(1, 3, 5), &Err(Refusal::NotStarted));
-    expect_eq(&rt, &bench.release(1, 3), &Err(Refusal::NotStarted));
-    expect_eq(&rt, &bench.detach(1), &Err(Refusal::NotStarted));
-    expect_eq(&rt, &bench.poll(), &Err(Refusal::NotStarted));
-    Ok(())
+fn before_the_start(rt: HostRuntime) {
+    off(&rt, rt.alloc(), &BEFORE_THE_START);
 }
 
-// A device that is there already; and one too many.
-#[test]
-fn of_a_plug(rt: HostRuntime) -> Result<(), Fail> {
-    let mut bench = Bench::new(rt.alloc())?;
-    for id in 0..16 {
-        expect_eq(&rt, &bench.plug(id), &Ok(()));
-    }
-    expect_eq(&rt, &bench.plug(15), &Err(Refusal::AlreadyPlugged));
-    expect_eq(&rt, &bench.plug(16), &Err(Refusal::TooManyDevices));
-    Ok(())
-}
-
-// A directory of one level names ids of 7 bits.
-#[test]
-fn of_an_attach(rt: HostRuntime) -> Result<(), Fail> {
-    let mut bench = Bench::new(rt.alloc())?;
-    expect_eq(&rt, &bench.attach(128), &Err(Refusal::NoSuchDevice));
-    expect_eq(&rt, &bench.plug(128), &Ok(()));
-    expect_eq(&rt, &bench.attach(128), &Err(Refusal::IdTooWide));
-    expect_eq(&rt, &bench.plug(127), &Ok(()));
-    expect_eq(&rt, &bench.attach(127), &Ok(()));
-    expect_eq(&rt, &bench.attach(127), &Err(Refusal::AlreadyAttached));
-    Ok(())
-}
-
-// Each reason comes before those below it.
-#[test]
-fn of_a_grant(rt: HostRuntime) -> Result<(), Fail> {
-    let mut bench = Bench::new(rt.alloc())?;
-    let far = 1 << 26;
-    expect_eq(&rt, &bench.grant(1, far, 64), &Err(Refusal::NoSuchDevice));
-    expect_eq(&rt, &bench.plug(1), &Ok(()));
-    expect_eq(&rt, &bench.grant(1, far, 64), &Err(Refusal::NotAttached));
-    expect_eq(&rt, &bench.attach(1), &Ok(()));
-    expect_eq(
-        &rt,
-        &bench.grant(1, far, 64),
-        &Err(Refusal::FrameOutOfRange),
-    );
-    expect_eq(&rt, &bench.grant(1, far, 60), &Err(Refusal::FrameReserved));
-    expect_eq(&rt, &bench.grant(1, far, 5), &Err(Refusal::IovaOutOfRange));
-    expect_eq(&rt, &bench.grant(1, far - 1, 5), &Ok(()));
-    expect_eq(&rt, &bench.grant(1, far - 1, 6), &Err(Refusal::IovaBusy));
-    expect_eq(&rt, &bench.release(1, far - 1), &Ok(Ticket(1)));
-    expect_eq(&rt, &bench.grant(1, far - 1, 6), &Err(Refusal::IovaBusy));
-    Ok(())
-}
-
-// A grant that lacks two tables where one frame is free besides its own is refused, and one that lacks one is not.
-#[test]
-fn of_a_grant_without_frames(rt: HostRuntime) -> Result<(), Fail> {
-    let mut bench = Bench::with_device(rt.alloc(), 1)?;
-    for page in 0..54 {
-        expect_eq(&rt, &bench.grant(1, page, page), &Ok(()));
-    }
-    expect(&rt, bench.is_free(56));
-    expect_eq(&rt, &bench.grant(1, 54, 54), &Ok(()));
-    expect_eq(&rt, &bench.grant(1, 1 << 18, 55), &Err(Refusal::NoFrames));
-    expect_eq(&rt, &bench.grant(1, 512, 55), &Ok(()));
-    expect(&rt, bench.is_reserved(56));
-    Ok(())
-}
+/// A device that is there already; and one too many.
+static OF_A_PLUG: [Step; 18] = [
+    Step::Plug(0, OK),
+    Step::Plug(1, OK),
+    Step::Plug(2, OK),
+    Step::Plug(3, OK),
+    Step::Plug(4, OK),
+    Step::Plug(5, OK),
+    Step::Plug(6, OK),
+    Step::Plug(7, OK),
+    Step::Plug(8, OK),
+    Step::Plug(9, OK),
+    Step::Plug(10, OK),
+    Step::Plug(11, OK),
+    Step::Plug(12, OK),
+    Step::Plug(13, OK),
+    Step::Plug(14, OK),
+    Step::Plug(15, OK),
+    Step::Plug(15, Err(Refusal::AlreadyPlugged)),
+    Step::Plug(16, Err(Refusal::TooManyDevices)),
+];
 
 #[test]
-fn of_a_release(rt: HostRuntime) -> Result<(), Fail> {
-    let mut bench = Bench::new(rt.alloc())?;
-    expect_eq(&rt, &bench.release(1, 3), &Err(Refusal::NoSuchDevice));
-    expect_eq(&rt, &bench.plug(1), &Ok(()));
-    expect_eq(&rt, &bench.release(1, 3), &Err(Refusal::NotAttached));
-    expect_eq(&rt, &bench.attach(1), &Ok(()));
-    expect_eq(&rt, &bench.release(1, 3), &Err(Refusal::NotGranted));
-    Ok(())
+fn of_a_plug(rt: HostRuntime) {
+    started(&rt, rt.alloc(), &OF_A_PLUG);
 }
 
-// A device that is cut off keeps its place, and is told apart from one that was detached.
+/// A directory of one level names ids of 7 bits.
+static OF_AN_ATTACH: [Step; 6] = [
+    Step::Attach(128, Mode::First, Err(Refusal::NoSuchDevice)),
+    Step::Plug(128, OK),
+    Step::Attach(128, Mode::First, Err(Refusal::IdTooWide)),
+    Step::Plug(127, OK),
+    Step::Attach(127, Mode::First, OK),
+    Step::Attach(127, Mode::First, Err(Refusal::AlreadyAttached)),
+];
+
 #[test]
-fn of_a_quarantined_device(rt: HostRuntime) -> Result<(), Fail> {
-    let mut bench = Bench::with_device(rt.alloc(), 1)?;
-    expect_eq(&rt, &bench.grant(1, 3, 5), &Ok(()));
-    expect_eq(&rt, &bench.quarantine(1), &Ok(Ticket(1)));
-    expect_eq(&rt, &bench.grant(1, 4, 64), &Err(Refusal::Quarantined));
-    expect_eq(&rt, &bench.release(1, 3), &Err(Refusal::Quarantined));
-    expect_eq(&rt, &bench.detach(1), &Err(Refusal::Quarantined));
-    expect_eq(&rt, &bench.quarantine(1), &Err(Refusal::Quarantined));
-    expect_eq(&rt, &bench.attach(1), &Err(Refusal::AlreadyAttached));
-    Ok(())
+fn of_an_attach(rt: HostRuntime) {
+    started(&rt, rt.alloc(), &OF_AN_ATTACH);
+}
+
+/// Each reason comes before those below it.
+static OF_A_GRANT: [Step; 11] = [
+    Step::Grant(1, (1 << 26), 64, Err(Refusal::NoSuchDevice)),
+    Step::Plug(1, OK),
+    Step::Grant(1, (1 << 26), 64, Err(Refusal::NotAttached)),
+    Step::Attach(1, Mode::First, OK),
+    Step::Grant(1, (1 << 26), 64, Err(Refusal::FrameOutOfRange)),
+    Step::Grant(1, (1 << 26), 60, Err(Refusal::FrameReserved)),
+    Step::Grant(1, (1 << 26), 5, Err(Refusal::IovaOutOfRange)),
+    Step::Grant(1, (1 << 26) - 1, 5, OK),
+    Step::Grant(1, (1 << 26) - 1, 6, Err(Refusal::IovaBusy)),
+    Step::Release(1, (1 << 26) - 1, Ok(1)),
+    Step::Grant(1, (1 << 26) - 1, 6, Err(Refusal::IovaBusy)),
+];
+
+#[test]
+fn of_a_grant(rt: HostRuntime) {
+    started(&rt, rt.alloc(), &OF_A_GRANT);
+}
+
+/// A grant that lacks two tables where one frame is free besides its own is refused, and one that lacks one is not.
+static OF_A_GRANT_WITHOUT_FRAMES: [Step; 8] = [
+    Step::Plug(1, OK),
+    Step::Attach(1, Mode::First, OK),
+    Step::GrantEach(1, 0, 54),
+    Step::Free(56, true),
+    Step::Grant(1, 54, 54, OK),
+    Step::Grant(1, 1 << 18, 55, Err(Refusal::NoFrames)),
+    Step::Grant(1, 512, 55, OK),
+    Step::Reserved(56, true),
+];
+
+#[test]
+fn of_a_grant_without_frames(rt: HostRuntime) {
+    started(&rt, rt.alloc(), &OF_A_GRANT_WITHOUT_FRAMES);
+}
+
+/// Of a device that isn't there, one that isn't attached, and a page that it doesn't hold.
+static OF_A_RELEASE: [Step; 5] = [
+    Step::Release(1, 3, Err(Refusal::NoSuchDevice)),
+    Step::Plug(1, OK),
+    Step::Release(1, 3, Err(Refusal::NotAttached)),
+    Step::Attach(1, Mode::First, OK),
+    Step::Release(1, 3, Err(Refusal::NotGranted)),
+];
+
+#[test]
+fn of_a_release(rt: HostRuntime) {
+    started(&rt, rt.alloc(), &OF_A_RELEASE);
 }

@@ -1,73 +1,84 @@
-use crate::bench::Bench;
-use crate::expect::{expect, expect_eq};
-use iom_driver::Ticket;
+use crate::bench::{OK, Step, started};
+use iom_base::Mode;
 use iom_ledger::Refusal;
 use iom_registers::Register;
-use std::test::Fail;
 
-// The tables of the first page: the root is the highest free frame, and the two tables below it are the
-// next ones; the leaf has frame 5, and all of R, W, U, A and D.
+/// The tables of the first page: the root is the highest free frame, and the two tables below it are the
+/// next ones; the leaf has frame 5, and all of R, W, U, A and D.
+static A_GRANT_WRITES_TABLES: [Step; 7] = [
+    Step::Plug(1, OK),
+    Step::Attach(1, Mode::First, OK),
+    Step::Reserved(59, true),
+    Step::Grant(1, 3, 5, OK),
+    Step::Words(0x3b000, &[58 << 10 | 1]),
+    Step::Words(0x3a000, &[57 << 10 | 1]),
+    Step::Words(0x39018, &[0x14d7]),
+];
+
 #[test]
-fn a_grant_writes_tables(rt: HostRuntime) -> Result<(), Fail> {
-    let mut bench = Bench::with_device(rt.alloc(), 1)?;
-    expect(&rt, bench.is_reserved(59));
-    expect_eq(&rt, &bench.grant(1, 3, 5), &Ok(()));
-    bench.expect_word(&rt, 0x3b000, 58 << 10 | 1);
-    bench.expect_word(&rt, 0x3a000, 57 << 10 | 1);
-    bench.expect_word(&rt, 0x39018, 0x14d7);
-    Ok(())
+fn a_grant_writes_tables(rt: HostRuntime) {
+    started(&rt, rt.alloc(), &A_GRANT_WRITES_TABLES);
 }
 
-// The commands of a release: IOTINVAL.VMA of page 3 in address space 1, and the fence of ticket 1, which
-// stores at 0x3d000. The ring begins at 0x3f000, and the tail moves on behind each.
+/// The commands of a release: IOTINVAL.VMA of page 3 in address space 1, and the fence of ticket 1, which
+/// stores at 0x3d000. The ring begins at 0x3f000, and the tail moves on behind each.
+static A_RELEASE_WRITES_TWO_COMMANDS: [Step; 9] = [
+    Step::Plug(1, OK),
+    Step::Attach(1, Mode::First, OK),
+    Step::Grant(1, 3, 5, OK),
+    Step::Release(1, 3, Ok(1)),
+    Step::Words(
+        0x3f000,
+        &[
+            0x0000_0001_0000_1401,
+            0x0000_0000_0000_0c00,
+            0x0000_0001_0000_3402,
+            0x0000_0000_0000_f400,
+        ],
+    ),
+    Step::Words(0x39018, &[0]),
+    Step::Writes(&[
+        Some(Register::Fqcsr),
+        Some(Register::Cqt),
+        Some(Register::Cqt),
+    ]),
+    Step::Register(Register::Cqt, 2),
+    Step::Pending(1),
+];
+
 #[test]
-fn a_release_writes_two_commands(rt: HostRuntime) -> Result<(), Fail> {
-    let mut bench = Bench::with_device(rt.alloc(), 1)?;
-    expect_eq(&rt, &bench.grant(1, 3, 5), &Ok(()));
-    expect_eq(&rt, &bench.release(1, 3), &Ok(Ticket(1)));
-    bench.expect_word(&rt, 0x3f000, 0x0000_0001_0000_1401);
-    bench.expect_word(&rt, 0x3f008, 0x0000_0000_0000_0c00);
-    bench.expect_word(&rt, 0x3f010, 0x0000_0001_0000_3402);
-    bench.expect_word(&rt, 0x3f018, 0x0000_0000_0000_f400);
-    bench.expect_word(&rt, 0x39018, 0);
-    let [.., before, first, second] = bench.writes();
-    expect_eq(&rt, &before, &Some(Register::Fqcsr));
-    expect_eq(&rt, &first, &Some(Register::Cqt));
-    expect_eq(&rt, &second, &Some(Register::Cqt));
-    expect_eq(&rt, &bench.register(Register::Cqt), &2);
-    expect_eq(&rt, &bench.pending(), &1);
-    Ok(())
+fn a_release_writes_two_commands(rt: HostRuntime) {
+    started(&rt, rt.alloc(), &A_RELEASE_WRITES_TWO_COMMANDS);
 }
 
-// A device's commands name its own address space: the second that is attached has number 2.
+/// A device's commands name its own address space: the second that is attached has number 2.
+static EACH_DEVICE_HAS_ITS_OWN_NUMBER: [Step; 7] = [
+    Step::Plug(9, OK),
+    Step::Plug(4, OK),
+    Step::Attach(9, Mode::First, OK),
+    Step::Attach(4, Mode::First, OK),
+    Step::Grant(4, 3, 5, OK),
+    Step::Release(4, 3, Ok(1)),
+    Step::Words(0x3f000, &[0x0000_0001_0000_2401]),
+];
+
 #[test]
-fn each_device_has_its_own_number(rt: HostRuntime) -> Result<(), Fail> {
-    let mut bench = Bench::new(rt.alloc())?;
-    expect_eq(&rt, &bench.plug(9), &Ok(()));
-    expect_eq(&rt, &bench.plug(4), &Ok(()));
-    expect_eq(&rt, &bench.attach(9), &Ok(()));
-    expect_eq(&rt, &bench.attach(4), &Ok(()));
-    expect_eq(&rt, &bench.grant(4, 3, 5), &Ok(()));
-    expect_eq(&rt, &bench.release(4, 3), &Ok(Ticket(1)));
-    bench.expect_word(&rt, 0x3f000, 0x0000_0001_0000_2401);
-    Ok(())
+fn each_device_has_its_own_number(rt: HostRuntime) {
+    started(&rt, rt.alloc(), &EACH_DEVICE_HAS_ITS_OWN_NUMBER);
 }
 
-// The ring holds 255 commands, so 127 releases: the next finds one place.
+/// The ring holds 255 commands, so 127 releases: the next finds one place.
+static A_FULL_RING_REFUSES_A_RELEASE: [Step; 7] = [
+    Step::Plug(1, OK),
+    Step::Attach(1, Mode::First, OK),
+    Step::ReleaseEach(1, 0, 127),
+    Step::Grant(1, 127, 5, OK),
+    Step::Release(1, 127, Err(Refusal::QueueFull)),
+    Step::Register(Register::Cqt, 254),
+    Step::Pending(127),
+];
+
 #[test]
-fn a_full_ring_refuses_a_release(rt: HostRuntime) -> Result<(), Fail> {
-    let mut bench = Bench::with_device(rt.alloc(), 1)?;
-    for page in 0..127u32 {
-        expect_eq(&rt, &bench.grant(1, u64::from(page), 5), &Ok(()));
-        expect_eq(
-            &rt,
-            &bench.release(1, u64::from(page)),
-            &Ok(Ticket(page + 1)),
-        );
-    }
-    expect_eq(&rt, &bench.grant(1, 127, 5), &Ok(()));
-    expect_eq(&rt, &bench.release(1, 127), &Err(Refusal::QueueFull));
-    expect_eq(&rt, &bench.register(Register::Cqt), &254);
-    expect_eq(&rt, &bench.pending(), &127);
-    Ok(())
+fn a_full_ring_refuses_a_release(rt: HostRuntime) {
+    started(&rt, rt.alloc(), &A_FULL_RING_REFUSES_A_RELEASE);
 }

@@ -1,5 +1,5 @@
-use crate::bench::Bench;
-use crate::expect::expect_eq;
+use crate::bench::{Step, off};
+use crate::expect::expect;
 use iom_base::Cause;
 use iom_driver::Driver;
 use iom_driver::laws::ready_after_record;
@@ -64,15 +64,43 @@ impl Desk {
         self.registers.value(register)
     }
 
+    fn expect_report(&mut self, rt: &impl Abort, address: u64, expected: Put) {
+        expect(rt, self.report(fault_at(address)) == expected);
+    }
+
+    // The fault of this address is told.
+    fn expect_fault(&mut self, rt: &impl Abort, address: u64) {
+        let told = self.faults();
+        expect(rt, told == Ok(Some(fault_at(address))));
+    }
+
+    // There is none.
+    fn expect_none(&mut self, rt: &impl Abort) {
+        let told = self.faults();
+        expect(rt, told == Ok(None));
+    }
+
+    fn expect_register(&self, rt: &impl Abort, register: Register, expected: u64) {
+        expect(rt, self.register(register) == expected);
+    }
+
     // So many faults fit into the queue and come out in their order, and one more is lost.
     fn overflows(&mut self, rt: &impl Abort, room: u64) {
         for at in 0..room {
-            expect_eq(rt, &self.report(fault_at(at)), &Put::Written);
+            self.expect_report(rt, at, Put::Written);
         }
-        expect_eq(rt, &self.report(fault_at(room)), &Put::Overflow);
+        self.expect_report(rt, room, Put::Overflow);
         for at in 0..room {
-            expect_eq(rt, &self.faults(), &Ok(Some(fault_at(at))));
+            self.expect_fault(rt, at);
         }
+    }
+
+    // When the queue is found empty, fqof is cleared, and the queue stays on.
+    fn opens_again(&mut self, rt: &impl Abort) {
+        self.expect_register(rt, Register::Fqcsr, 0x1_0201);
+        self.expect_report(rt, 0, Put::Overflow);
+        self.expect_none(rt);
+        self.expect_register(rt, Register::Fqcsr, 0x1_0001);
     }
 }
 
@@ -91,23 +119,24 @@ fn fault_at(address: u64) -> Record {
     Record::new(request, fault)
 }
 
+/// Before the start no fault is told.
+static OFF: [Step; 1] = [Step::FaultsRefused(Refusal::NotStarted)];
+
 #[test]
-fn before_the_start_there_are_none(rt: HostRuntime) -> Result<(), Fail> {
-    let mut bench = Bench::off(rt.alloc())?;
-    expect_eq(&rt, &bench.faults(), &Err(Refusal::NotStarted));
-    Ok(())
+fn before_the_start_there_are_none(rt: HostRuntime) {
+    off(&rt, rt.alloc(), &OFF);
 }
 
 // A fault is told once, and the head moves on behind it.
 #[test]
 fn a_fault_is_told_once(rt: HostRuntime) -> Result<(), Fail> {
     let mut desk = Desk::new(rt.alloc())?;
-    expect_eq(&rt, &desk.faults(), &Ok(None));
-    expect_eq(&rt, &desk.report(fault_at(0x4000)), &Put::Written);
-    expect_eq(&rt, &desk.faults(), &Ok(Some(fault_at(0x4000))));
-    expect_eq(&rt, &desk.register(Register::Fqh), &1);
-    expect_eq(&rt, &desk.faults(), &Ok(None));
-    expect_eq(&rt, &desk.register(Register::Fqh), &1);
+    desk.expect_none(&rt);
+    desk.expect_report(&rt, 0x4000, Put::Written);
+    desk.expect_fault(&rt, 0x4000);
+    desk.expect_register(&rt, Register::Fqh, 1);
+    desk.expect_none(&rt);
+    desk.expect_register(&rt, Register::Fqh, 1);
     Ok(())
 }
 
@@ -118,10 +147,7 @@ fn an_empty_queue_is_open_again(rt: HostRuntime) -> Result<(), Fail> {
     let mut desk = Desk::new(rt.alloc())?;
     for round in 0..3 {
         desk.overflows(&rt, 127);
-        expect_eq(&rt, &desk.register(Register::Fqcsr), &0x1_0201);
-        expect_eq(&rt, &desk.report(fault_at(0)), &Put::Overflow);
-        expect_eq(&rt, &desk.faults(), &Ok(None));
-        expect_eq(&rt, &desk.register(Register::Fqcsr), &0x1_0001);
+        desk.opens_again(&rt);
     }
     Ok(())
 }

@@ -13,6 +13,8 @@ mod commands;
 #[cfg(test)]
 mod directory;
 #[cfg(test)]
+mod expect;
+#[cfg(test)]
 mod fabric;
 #[cfg(test)]
 mod records;

@@ -1,9 +1,11 @@
 // An IOMMU with a memory of its own, of which a test sees no parts.
 //
-// What a test expects is a call too: a comparison in place is a branch that each later proof would carry. And a
-// test owns its bench in a box: of what it owns in place each later proof would carry every part.
-use crate::setup::{BASE_VALUE, CQB, CQCSR, DDTP, DEVICE, FRAMES, RING, width_at};
-use iom_base::AccessKind;
+// A test is a table of steps, which one function takes: what a test owns, and what it compares in place, each later
+// proof would carry.
+use crate::expect::expect;
+use crate::setup::{CQB, CQCSR, DEVICE, FRAMES, RECORDS, RING, width_at};
+use iom_base::{AccessKind, Rights};
+use iom_command_queue::Command;
 use iom_fabric::{PageNumber, Translation};
 use iom_inflight::MadeAt;
 use iom_iommu::{Fetched, Iommu, Reply};
@@ -14,12 +16,89 @@ use std::alloc::Global;
 use std::process::Abort;
 use std::test::Fail;
 
+/// What a fetch answers that does no command.
+#[derive(Clone, Copy)]
+pub(crate) enum Answer {
+    Waiting,
+    Empty,
+    Stopped,
+}
+
+/// What is done to the IOMMU and its memory, and what is seen of them.
+#[derive(Clone, Copy)]
+pub(crate) enum Step<'a> {
+    /// The command queue is where this value says, and on, with its interrupts enabled, and the device was added.
+    TurnOn(u64),
+    /// Another device is added.
+    Add(u32),
+    /// Software writes a register, which has that value then or another.
+    Write(u64, u64),
+    Register(u64, u64),
+    Store(u64, u64),
+    /// A store outside memory, which changes nothing.
+    Outside(u64, u64),
+    Word(u64, u64),
+    /// A command, by its two words, stands in an entry of the queue; in so many entries from the first on.
+    Put(u32, (u64, u64)),
+    PutEach(u32, (u64, u64)),
+    /// A fetch answers so, or does the command with these words, once or so many times.
+    Fetch(Answer),
+    Does((u64, u64)),
+    DoesEach(u32, (u64, u64)),
+    /// A fetch does `ATS.INVAL` of the device's page 3, and opens the request with this number; or those up to it.
+    Opens(u64),
+    OpensEach(u64),
+    /// The last fetch opened no request.
+    NoneOpened,
+    /// Twice a fetch answers so, no register changes, and the word at 0x5000 is 0.
+    Stays(Answer),
+    /// The device says that it completed the invalidation request with this number, which was open or not.
+    Done(u32, u64, bool),
+    /// So many requests are open.
+    Open(usize),
+    /// A timeout gives a command up.
+    Timeout,
+    /// A timeout has no effect, and changes nothing that software sees.
+    NoTimeout,
+    /// A device asks for a read of one byte, or for a write of these.
+    Ask(u32, u64, &'a [u8], Reply),
+    /// The same by a translated request of the device.
+    Translated(u64, &'a [u8], Reply),
+    /// The device asks for the translation of a page, which has a frame and rights, or is answered otherwise.
+    Tells(u64, u32, Rights),
+    Question(u64, Translation),
+    /// So many accesses of the device were ever accepted, and so many are in flight over all devices.
+    Counts(u64, usize),
+    /// The oldest access of the device is made, in this frame, at this offset, and is of this kind.
+    Commit,
+    Made(u32, u16, AccessKind),
+    NoneMade,
+    /// An access of the device at the address, a read or a write of these bytes, is accepted, and made in this frame.
+    GoesTo(u64, &'a [u8], u32),
+    /// The record at this place of the fault queue has these words.
+    Record(u64, [u64; 4]),
+    /// So many reads of device 1 at 0x4000 and above are refused with this reply, each at an address of its own.
+    AskEach(u32, Reply),
+}
+
 /// A memory of zeros at first, and an IOMMU for it.
 #[derive(Drop)]
 pub(crate) struct Bench {
     memory: Memory,
     iommu: Iommu<Ioatc>,
 }
+
+/// The command with these two words, which is one, is done.
+fn did(rt: &impl Abort, (first, second): (u64, u64)) -> Fetched {
+    let mut bytes = [0; 16];
+    bytes[..8].copy_from_slice(&first.to_le_bytes());
+    bytes[8..].copy_from_slice(&second.to_le_bytes());
+    let command = Command::decode(&bytes);
+    Fetched::Did(command.expect(rt, "a command"))
+}
+
+/// The words of ATS.INVAL of the page 3 of the device.
+pub(crate) const INVALIDATE: (u64, u64) = (0x0000_0502_0000_0004, 0x3000);
 
 impl Bench {
     fn new(alloc: Global) -> Result<Bench, Fail> {
@@ -36,46 +115,10 @@ impl Bench {
         Ok(Box::new(alloc, bench)?)
     }
 
-    /// The command queue is where `cqb` says, and on, with its interrupts enabled, and the device was added.
-    pub(crate) fn turned_on(rt: &impl Abort, alloc: Global, cqb: u64) -> Result<Box<Bench>, Fail> {
-        let mut bench = Bench::at_power_on(alloc)?;
-        bench.turn_on(rt, cqb);
-        Ok(bench)
-    }
-
     fn turn_on(&mut self, rt: &impl Abort, cqb: u64) {
         self.iommu.add(DEVICE);
         self.write(rt, CQB, cqb);
         self.write(rt, CQCSR, 3);
-    }
-
-    /// These words are stored at these addresses, the command queue is turned on, and `ddtp` is written.
-    pub(crate) fn with_directory(
-        rt: &impl Abort,
-        alloc: Global,
-        words: &[(u64, u64)],
-        ddtp: u64,
-    ) -> Result<Box<Bench>, Fail> {
-        let mut bench = Bench::turned_on(rt, alloc, BASE_VALUE)?;
-        bench.store_all(rt, words);
-        bench.write(rt, DDTP, ddtp);
-        Ok(bench)
-    }
-
-    /// Whether the device was added.
-    pub(crate) fn add(&mut self, device: u32) -> bool {
-        self.iommu.add(device)
-    }
-
-    /// Software reads a register.
-    pub(crate) fn read(&self, rt: &impl Abort, offset: u64) -> u64 {
-        let value = self.iommu.read(offset, width_at(offset));
-        assert!(rt; value.is_ok());
-        value.unwrap_or(0)
-    }
-
-    pub(crate) fn expect_register(&self, rt: &impl Abort, offset: u64, expected: u64) {
-        assert_eq!(rt; self.read(rt, offset), expected, "at {offset}");
     }
 
     /// An access of software with a width of its own.
@@ -88,17 +131,22 @@ impl Bench {
         self.iommu.write(offset, width, value)
     }
 
-    /// Software writes a register.
-    pub(crate) fn write(&mut self, rt: &impl Abort, offset: u64, value: u64) {
-        assert_eq!(rt; self.write_as(offset, width_at(offset), value), Ok(()));
+    fn expect_register(&self, rt: &impl Abort, offset: u64, expected: u64) {
+        let value = self.read_as(offset, width_at(offset));
+        expect(rt, value == Ok(expected));
+    }
+
+    fn write(&mut self, rt: &impl Abort, offset: u64, value: u64) {
+        let written = self.write_as(offset, width_at(offset), value);
+        expect(rt, written.is_ok());
     }
 
     pub(crate) fn registers(&self) -> Registers {
         *self.iommu.registers()
     }
 
-    pub(crate) fn store(&mut self, rt: &impl Abort, address: u64, word: u64) {
-        assert_eq!(rt; self.memory.store_u64(address, word), Some(()));
+    fn store(&mut self, rt: &impl Abort, address: u64, word: u64) {
+        expect(rt, self.memory.store_u64(address, word).is_some());
     }
 
     pub(crate) fn store_all(&mut self, rt: &impl Abort, words: &[(u64, u64)]) {
@@ -107,28 +155,36 @@ impl Bench {
         }
     }
 
-    /// A store outside memory, which changes nothing.
-    pub(crate) fn expect_outside(&mut self, rt: &impl Abort, address: u64, word: u64) {
-        assert_eq!(rt; self.memory.store_u64(address, word), None);
+    fn expect_outside(&mut self, rt: &impl Abort, address: u64, word: u64) {
+        expect(rt, self.memory.store_u64(address, word).is_none());
     }
 
-    pub(crate) fn load(&self, address: u64) -> Option<u64> {
-        self.memory.load_u64(address)
+    fn expect_word(&self, rt: &impl Abort, address: u64, expected: u64) {
+        expect(rt, self.memory.load_u64(address) == Some(expected));
     }
 
-    pub(crate) fn expect_word(&self, rt: &impl Abort, address: u64, expected: u64) {
-        assert_eq!(rt; self.load(address), Some(expected), "at {address}");
+    fn expect_record(&self, rt: &impl Abort, place: u64, words: &[u64; 4]) {
+        let mut address = RECORDS.wrapping_add(place.wrapping_mul(32));
+        for word in words.iter() {
+            self.expect_word(rt, address, *word);
+            address = address.wrapping_add(8);
+        }
     }
 
-    /// Software stores the two words of a command in an entry of the queue at `RING`.
-    pub(crate) fn put(&mut self, rt: &impl Abort, index: u32, first: u64, second: u64) {
+    fn put(&mut self, rt: &impl Abort, index: u32, (first, second): (u64, u64)) {
         let place = RING + 16 * u64::from(index);
         self.store(rt, place, first);
         self.store(rt, place + 8, second);
     }
 
+    fn put_each(&mut self, rt: &impl Abort, count: u32, words: (u64, u64)) {
+        for index in 0..count {
+            self.put(rt, index, words);
+        }
+    }
+
     /// The IOMMU takes its next command.
-    pub(crate) fn fetch(&mut self, rt: &impl Abort) -> Fetched {
+    fn fetch(&mut self, rt: &impl Abort) -> Fetched {
         let is_its = self.memory.frames() == self.iommu.frames();
         assert!(rt; is_its);
         let has_number = self.iommu.slots().last() < u64::MAX;
@@ -136,45 +192,71 @@ impl Bench {
         self.iommu.fetch(&mut self.memory)
     }
 
-    /// The last fetch opened the invalidation request with this number to this device.
-    pub(crate) fn expect_opened(&self, rt: &impl Abort, expected: Option<(u64, u32)>) {
+    fn expect_fetch(&mut self, rt: &impl Abort, expected: Fetched) {
+        expect(rt, self.fetch(rt) == expected);
+    }
+
+    fn answers(&mut self, rt: &impl Abort, answer: Answer) {
+        let expected = match answer {
+            Answer::Waiting => Fetched::Waiting,
+            Answer::Empty => Fetched::Empty,
+            Answer::Stopped => Fetched::Stopped,
+        };
+        self.expect_fetch(rt, expected);
+    }
+
+    fn does(&mut self, rt: &impl Abort, words: (u64, u64)) {
+        self.expect_fetch(rt, did(rt, words));
+    }
+
+    fn does_each(&mut self, rt: &impl Abort, count: u32, words: (u64, u64)) {
+        for _ in 0..count {
+            self.does(rt, words);
+        }
+    }
+
+    /// The last fetch opened the invalidation request with this number, or none.
+    fn expect_opened(&self, rt: &impl Abort, expected: Option<u64>) {
         let seen = self.iommu.opened().map(|slot| (slot.serial, slot.device));
-        assert_eq!(rt; seen, expected);
+        expect(rt, seen == expected.map(|serial| (serial, DEVICE)));
     }
 
-    /// The device says that it completed the invalidation request with this number.
-    pub(crate) fn expect_done(
-        &mut self,
-        rt: &impl Abort,
-        device: u32,
-        serial: u64,
-        expected: bool,
-    ) {
-        assert_eq!(rt; self.iommu.done(device, serial), expected);
+    fn opens(&mut self, rt: &impl Abort, serial: u64) {
+        self.does(rt, INVALIDATE);
+        self.expect_opened(rt, Some(serial));
     }
 
-    /// How many invalidation requests are open.
-    pub(crate) fn open_requests(&self) -> usize {
-        self.iommu.slots().len()
+    fn opens_each(&mut self, rt: &impl Abort, last: u64) {
+        for serial in 1..last.saturating_add(1) {
+            self.opens(rt, serial);
+        }
     }
 
-    /// A timeout, and whether it has an effect.
-    pub(crate) fn expect_timeout(&mut self, rt: &impl Abort, expected: bool) {
-        assert_eq!(rt; self.iommu.timeout(), expected);
+    fn stays(&mut self, rt: &impl Abort, answer: Answer) {
+        let before = self.registers();
+        self.answers(rt, answer);
+        self.answers(rt, answer);
+        expect(rt, self.registers() == before);
+        self.expect_word(rt, 0x5000, 0);
     }
 
-    pub(crate) fn expect_fetch(&mut self, rt: &impl Abort, expected: Fetched) {
-        assert_eq!(rt; self.fetch(rt), expected);
+    fn expect_done(&mut self, rt: &impl Abort, device: u32, serial: u64, is_open: bool) {
+        expect(rt, self.iommu.done(device, serial) == is_open);
     }
 
-    /// The device asks for a read of one byte, or for a write of these.
-    pub(crate) fn ask(
-        &mut self,
-        rt: &impl Abort,
-        device: u32,
-        address: u64,
-        bytes: &[u8],
-    ) -> Reply {
+    fn expect_open(&self, rt: &impl Abort, count: usize) {
+        expect(rt, self.iommu.slots().len() == count);
+    }
+
+    fn has_no_timeout(&mut self, rt: &impl Abort) {
+        let before = self.registers();
+        let open = self.iommu.slots().len();
+        expect(rt, !self.iommu.timeout());
+        expect(rt, self.registers() == before);
+        self.expect_open(rt, open);
+    }
+
+    fn ask(&mut self, rt: &impl Abort, device: u32, address: u64, bytes: &[u8]) -> Reply {
         let is_its = self.memory.frames() == self.iommu.frames();
         assert!(rt; is_its);
         let is_added = self.iommu.is_added(device);
@@ -190,7 +272,7 @@ impl Bench {
             .request(&mut self.memory, device, address, len, kind, bytes)
     }
 
-    pub(crate) fn expect_reply(
+    fn expect_reply(
         &mut self,
         rt: &impl Abort,
         device: u32,
@@ -198,10 +280,16 @@ impl Bench {
         bytes: &[u8],
         expected: Reply,
     ) {
-        assert_eq!(rt; self.ask(rt, device, address, bytes), expected);
+        expect(rt, self.ask(rt, device, address, bytes) == expected);
     }
 
-    /// The device asks for a read of one byte, or for a write of these, by a translated request.
+    fn ask_each(&mut self, rt: &impl Abort, times: u32, expected: Reply) {
+        for n in 0..times {
+            let address = 0x4000 + u64::from(n);
+            self.expect_reply(rt, 1, address, b"", expected);
+        }
+    }
+
     fn ask_translated(&mut self, rt: &impl Abort, address: u64, bytes: &[u8]) -> Reply {
         let is_its = self.memory.frames() == self.iommu.frames();
         assert!(rt; is_its);
@@ -218,36 +306,24 @@ impl Bench {
             .translated(&mut self.memory, DEVICE, address, len, kind, bytes)
     }
 
-    pub(crate) fn expect_translated(
-        &mut self,
-        rt: &impl Abort,
-        address: u64,
-        bytes: &[u8],
-        expected: Reply,
-    ) {
-        assert_eq!(rt; self.ask_translated(rt, address, bytes), expected);
-    }
-
-    /// The device asks for the translation of a page.
-    pub(crate) fn question(&mut self, rt: &impl Abort, page: u64) -> Option<Translation> {
+    fn question(&mut self, rt: &impl Abort, page: u64) -> Translation {
         let is_its = self.memory.frames() == self.iommu.frames();
         assert!(rt; is_its);
-        let page = PageNumber::new(page)?;
-        Some(self.iommu.ask(&mut self.memory, DEVICE, page))
+        let page = PageNumber::new(page).expect(rt, "52 bits");
+        self.iommu.ask(&mut self.memory, DEVICE, page)
     }
 
-    pub(crate) fn expect_answer(&mut self, rt: &impl Abort, page: u64, expected: Translation) {
-        assert_eq!(rt; self.question(rt, page), Some(expected));
+    fn expect_answer(&mut self, rt: &impl Abort, page: u64, expected: Translation) {
+        expect(rt, self.question(rt, page) == expected);
     }
 
-    /// So many accesses of the device were ever accepted, and so many are in flight over all devices.
-    pub(crate) fn expect_counts(&self, rt: &impl Abort, accepted: u64, in_flight: usize) {
-        assert_eq!(rt; self.iommu.accepted(DEVICE), accepted);
-        assert_eq!(rt; self.iommu.all_in_flight(), in_flight);
+    fn expect_counts(&self, rt: &impl Abort, accepted: u64, in_flight: usize) {
+        expect(rt, self.iommu.accepted(DEVICE) == accepted);
+        expect(rt, self.iommu.all_in_flight() == in_flight);
     }
 
     /// The oldest access of the device is made.
-    pub(crate) fn commit(&mut self, rt: &impl Abort) -> Option<MadeAt> {
+    fn commit(&mut self, rt: &impl Abort) -> Option<MadeAt> {
         let is_its = self.memory.frames() == self.iommu.frames();
         assert!(rt; is_its);
         let is_added = self.iommu.is_added(DEVICE);
@@ -255,24 +331,94 @@ impl Bench {
         self.iommu.commit(&mut self.memory, DEVICE)
     }
 
-    /// The oldest access is made: its frame, offset and kind.
-    pub(crate) fn expect_made(&mut self, rt: &impl Abort, expected: (u32, u16, AccessKind)) {
+    fn expect_made(&mut self, rt: &impl Abort, expected: Option<(u32, u16, AccessKind)>) {
         let made = self.commit(rt);
-        let seen = made.map(|made| (made.frame, made.offset, made.kind));
-        assert_eq!(rt; seen, Some(expected));
+        expect(
+            rt,
+            made.map(|made| (made.frame, made.offset, made.kind)) == expected,
+        );
     }
 
-    /// An access of the device at the address, a read or a write of these bytes, is accepted, and made in this frame.
-    pub(crate) fn goes_to(&mut self, rt: &impl Abort, address: u64, bytes: &[u8], frame: u32) {
+    fn goes_to(&mut self, rt: &impl Abort, address: u64, bytes: &[u8], frame: u32) {
         let reply = self.ask(rt, DEVICE, address, bytes);
-        assert!(rt; matches!(&reply, Reply::Accepted(_)), "{reply:?}");
-        let made = self.commit(rt).map(|made| made.frame);
-        assert_eq!(rt; made, Some(frame));
+        expect(rt, matches!(reply, Reply::Accepted(_)));
+        let made = self.commit(rt);
+        expect(rt, made.map(|made| made.frame) == Some(frame));
     }
 
-    /// A read of the device is in flight, without translation.
-    pub(crate) fn put_in_flight(&mut self, rt: &impl Abort) {
-        self.write(rt, DDTP, 1);
-        self.expect_reply(rt, DEVICE, 0x3000, b"", Reply::Accepted(1));
+    /// Takes a step of software or of memory.
+    fn takes(&mut self, rt: &impl Abort, step: Step) {
+        match step {
+            Step::TurnOn(cqb) => self.turn_on(rt, cqb),
+            Step::Add(device) => expect(rt, self.iommu.add(device)),
+            Step::Write(offset, value) => self.write(rt, offset, value),
+            Step::Register(offset, value) => self.expect_register(rt, offset, value),
+            Step::Store(address, word) => self.store(rt, address, word),
+            Step::Outside(address, word) => self.expect_outside(rt, address, word),
+            Step::Word(address, word) => self.expect_word(rt, address, word),
+            Step::Put(index, words) => self.put(rt, index, words),
+            Step::PutEach(count, words) => self.put_each(rt, count, words),
+            Step::Record(place, words) => self.expect_record(rt, place, &words),
+            _ => self.takes_command(rt, step),
+        }
+    }
+
+    /// Takes a step of the command queue.
+    fn takes_command(&mut self, rt: &impl Abort, step: Step) {
+        match step {
+            Step::Fetch(answer) => self.answers(rt, answer),
+            Step::Does(words) => self.does(rt, words),
+            Step::DoesEach(count, words) => self.does_each(rt, count, words),
+            Step::Opens(serial) => self.opens(rt, serial),
+            Step::OpensEach(last) => self.opens_each(rt, last),
+            Step::NoneOpened => self.expect_opened(rt, None),
+            Step::Stays(answer) => self.stays(rt, answer),
+            Step::Done(device, serial, is_open) => self.expect_done(rt, device, serial, is_open),
+            Step::Open(count) => self.expect_open(rt, count),
+            Step::Timeout => expect(rt, self.iommu.timeout()),
+            Step::NoTimeout => self.has_no_timeout(rt),
+            _ => self.takes_access(rt, step),
+        }
+    }
+
+    /// Takes a step of a device.
+    fn takes_access(&mut self, rt: &impl Abort, step: Step) {
+        match step {
+            Step::Ask(device, address, bytes, reply) => {
+                self.expect_reply(rt, device, address, bytes, reply);
+            }
+            Step::AskEach(times, reply) => self.ask_each(rt, times, reply),
+            Step::Translated(address, bytes, reply) => {
+                expect(rt, self.ask_translated(rt, address, bytes) == reply);
+            }
+            Step::Tells(page, frame, rights) => {
+                self.expect_answer(rt, page, Translation::Page { frame, rights });
+            }
+            Step::Question(page, answer) => self.expect_answer(rt, page, answer),
+            Step::Counts(accepted, in_flight) => self.expect_counts(rt, accepted, in_flight),
+            Step::Commit => expect(rt, self.commit(rt).is_some()),
+            Step::Made(frame, offset, kind) => self.expect_made(rt, Some((frame, offset, kind))),
+            Step::NoneMade => self.expect_made(rt, None),
+            Step::GoesTo(address, bytes, frame) => self.goes_to(rt, address, bytes, frame),
+            _ => expect(rt, false),
+        }
+    }
+
+    /// Takes the steps, one after another.
+    pub(crate) fn follow(&mut self, rt: &impl Abort, steps: &[Step]) {
+        for step in steps.iter() {
+            self.takes(rt, *step);
+        }
+    }
+}
+
+/// At power-on, with these words in memory, the steps are taken.
+pub(crate) fn follow(rt: &impl Abort, alloc: Global, words: &[(u64, u64)], steps: &[Step]) {
+    match Bench::at_power_on(alloc) {
+        Ok(mut bench) => {
+            bench.store_all(rt, words);
+            bench.follow(rt, steps);
+        }
+        Err(_) => panic!(rt; "out of memory"),
     }
 }

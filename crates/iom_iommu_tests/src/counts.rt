@@ -1,91 +1,90 @@
 // Which accesses a fence waits for.
-use crate::bench::Bench;
+use crate::bench::{Answer, Step, follow};
 use crate::setup::{BASE_VALUE, CQCSR, CQT, DDTP, DEVICE};
-use iom_command_queue::Command;
-use iom_iommu::{Fetched, Reply};
-use std::alloc::Global;
-use std::process::Abort;
-use std::test::Fail;
+use iom_iommu::Reply;
 
-/// The word of a fence with PR.
-const WITH_PR: u64 = 0x1002;
+/// A fence with PR.
+const WITH_PR: (u64, u64) = (0x1002, 0);
 
-/// The word of a fence with PW.
-const WITH_PW: u64 = 0x2002;
+/// A fence with PW.
+const WITH_PW: (u64, u64) = (0x2002, 0);
 
-/// Such a fence is done.
-fn did(pr: bool, pw: bool) -> Fetched {
-    Fetched::Did(Command::IofenceC {
-        store: None,
-        wsi: false,
-        pr,
-        pw,
-    })
-}
+/// A fence doesn't wait for what was accepted after its first fetch. The next one counts anew.
+static LATER: [Step; 15] = [
+    Step::TurnOn(BASE_VALUE),
+    Step::PutEach(2, WITH_PR),
+    Step::Write(CQT, 2),
+    Step::Write(DDTP, 1),
+    Step::Ask(DEVICE, 0x3000, b"", Reply::Accepted(1)),
+    Step::Fetch(Answer::Waiting),
+    Step::Ask(DEVICE, 0x3000, b"", Reply::Accepted(2)),
+    Step::Fetch(Answer::Waiting),
+    Step::Counts(2, 2),
+    Step::Commit,
+    Step::Counts(2, 1),
+    Step::Does(WITH_PR),
+    Step::Fetch(Answer::Waiting),
+    Step::Commit,
+    Step::Does(WITH_PR),
+];
 
-/// A bench at whose head two fences with PR stand, the first of which waits for a read. A second read was accepted
-/// since.
-fn waiting(rt: &impl Abort, alloc: Global) -> Result<Box<Bench>, Fail> {
-    let mut bench = Bench::turned_on(rt, alloc, BASE_VALUE)?;
-    bench.put(rt, 0, WITH_PR, 0);
-    bench.put(rt, 1, WITH_PR, 0);
-    bench.write(rt, CQT, 2);
-    bench.put_in_flight(rt);
-    bench.expect_fetch(rt, Fetched::Waiting);
-    bench.expect_reply(rt, DEVICE, 0x3000, b"", Reply::Accepted(2));
-    Ok(bench)
-}
-
-// A fence doesn't wait for what was accepted after its first fetch. The next one counts anew.
 #[test]
-fn later_accesses_are_not_waited_for(rt: HostRuntime) -> Result<(), Fail> {
-    let mut bench = waiting(&rt, rt.alloc())?;
-    bench.expect_fetch(&rt, Fetched::Waiting);
-    bench.expect_counts(&rt, 2, 2);
-    bench.commit(&rt);
-    bench.expect_counts(&rt, 2, 1);
-    bench.expect_fetch(&rt, did(true, false));
-    bench.expect_fetch(&rt, Fetched::Waiting);
-    bench.commit(&rt);
-    bench.expect_fetch(&rt, did(true, false));
-    Ok(())
+fn later_accesses_are_not_waited_for(rt: HostRuntime) {
+    follow(&rt, rt.alloc(), &[], &LATER);
 }
 
-// Turned off and on, the queue begins at its first entry, and the fence there counts anew.
+/// Turned off and on, the queue begins at its first entry, and the fence there counts anew.
+static GIVEN_UP: [Step; 13] = [
+    Step::TurnOn(BASE_VALUE),
+    Step::PutEach(2, WITH_PR),
+    Step::Write(CQT, 2),
+    Step::Write(DDTP, 1),
+    Step::Ask(DEVICE, 0x3000, b"", Reply::Accepted(1)),
+    Step::Fetch(Answer::Waiting),
+    Step::Ask(DEVICE, 0x3000, b"", Reply::Accepted(2)),
+    Step::Write(CQCSR, 2),
+    Step::Write(CQCSR, 3),
+    Step::Commit,
+    Step::Fetch(Answer::Waiting),
+    Step::Commit,
+    Step::Does(WITH_PR),
+];
+
 #[test]
-fn the_count_is_given_up(rt: HostRuntime) -> Result<(), Fail> {
-    let mut bench = waiting(&rt, rt.alloc())?;
-    bench.write(&rt, CQCSR, 2);
-    bench.write(&rt, CQCSR, 3);
-    bench.commit(&rt);
-    bench.expect_fetch(&rt, Fetched::Waiting);
-    bench.commit(&rt);
-    bench.expect_fetch(&rt, did(true, false));
-    Ok(())
+fn the_count_is_given_up(rt: HostRuntime) {
+    follow(&rt, rt.alloc(), &[], &GIVEN_UP);
 }
 
-/// A fetch of a fence, where an access is in flight: a read, or a write of these bytes.
-fn answers(
-    rt: &impl Abort,
-    alloc: Global,
-    word: u64,
-    bytes: &[u8],
-    wanted: Fetched,
-) -> Result<(), Fail> {
-    let mut bench = Bench::turned_on(rt, alloc, BASE_VALUE)?;
-    bench.put(rt, 0, word, 0);
-    bench.write(rt, CQT, 1);
-    bench.write(rt, DDTP, 1);
-    bench.expect_reply(rt, DEVICE, 0x3000, bytes, Reply::Accepted(1));
-    bench.expect_fetch(rt, wanted);
-    Ok(())
-}
+/// PR waits for reads alone.
+static READS: [Step; 8] = [
+    Step::TurnOn(BASE_VALUE),
+    Step::Put(0, WITH_PW),
+    Step::Put(1, WITH_PR),
+    Step::Write(CQT, 2),
+    Step::Write(DDTP, 1),
+    Step::Ask(DEVICE, 0x3000, b"", Reply::Accepted(1)),
+    Step::Does(WITH_PW),
+    Step::Fetch(Answer::Waiting),
+];
 
-// PR waits for reads alone, and PW for writes.
 #[test]
-fn each_kind_is_waited_for_by_its_own(rt: HostRuntime) -> Result<(), Fail> {
-    answers(&rt, rt.alloc(), WITH_PR, b"", Fetched::Waiting)?;
-    answers(&rt, rt.alloc(), WITH_PR, b"\xaa", did(true, false))?;
-    answers(&rt, rt.alloc(), WITH_PW, b"", did(false, true))?;
-    answers(&rt, rt.alloc(), WITH_PW, b"\xaa", Fetched::Waiting)
+fn reads_are_waited_for_by_their_own(rt: HostRuntime) {
+    follow(&rt, rt.alloc(), &[], &READS);
+}
+
+/// PW waits for writes alone.
+static WRITES: [Step; 8] = [
+    Step::TurnOn(BASE_VALUE),
+    Step::Put(0, WITH_PR),
+    Step::Put(1, WITH_PW),
+    Step::Write(CQT, 2),
+    Step::Write(DDTP, 1),
+    Step::Ask(DEVICE, 0x3000, b"\xaa", Reply::Accepted(1)),
+    Step::Does(WITH_PR),
+    Step::Fetch(Answer::Waiting),
+];
+
+#[test]
+fn writes_are_waited_for_by_their_own(rt: HostRuntime) {
+    follow(&rt, rt.alloc(), &[], &WRITES);
 }

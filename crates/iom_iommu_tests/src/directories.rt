@@ -1,8 +1,3 @@
-use crate::bench::Bench;
-use std::alloc::Global;
-use std::process::Abort;
-use std::test::Fail;
-
 /// A directory of one level in the frame 16.
 pub(crate) const ONE_LEVEL: u64 = 0x4002;
 
@@ -17,7 +12,7 @@ pub(crate) const LEAF: u64 = 0x13018;
 
 /// The directories. The device's first stage has its root in the frame 17, and leads 0x3010 to 0x20010. Its PSCID
 /// is 1.
-const WORDS: [(u64, u64); 9] = [
+pub(crate) static WORDS: [(u64, u64); 9] = [
     (CONTEXT, 1),
     (CONTEXT + 8, 0),
     (CONTEXT + 16, 0x1000),
@@ -28,8 +23,3 @@ const WORDS: [(u64, u64); 9] = [
     (0x30000, 0xd001),
     (0x34000, 0x4001),
 ];
-
-/// A bench with the directories, whose command queue is on and whose `ddtp` is written.
-pub(crate) fn directories(rt: &impl Abort, alloc: Global, ddtp: u64) -> Result<Box<Bench>, Fail> {
-    Bench::with_directory(rt, alloc, &WORDS, ddtp)
-}

@@ -1,170 +1,162 @@
-use crate::bench::Bench;
-use crate::directories::{CONTEXT, ONE_LEVEL, THREE_LEVELS, directories};
-use crate::expect::{expect, expect_eq};
-use crate::setup::{CQT, DEVICE};
+use crate::bench::{Bench, Step, follow};
+use crate::directories::{CONTEXT, ONE_LEVEL, THREE_LEVELS, WORDS};
+use crate::setup::{BASE_VALUE, CQT, DDTP, DEVICE};
 use iom_base::{AccessKind, Cause};
 use iom_iommu::Reply;
-use std::alloc::Global;
 use std::process::Abort;
 use std::test::Fail;
 
-/// A read and a write are accepted and made: the bytes of the write are stored when it is made, and not before.
-fn serves(rt: &impl Abort, alloc: Global, ddtp: u64) -> Result<(), Fail> {
-    let mut bench = directories(rt, alloc, ddtp)?;
-    bench.expect_reply(rt, DEVICE, 0x3010, b"", Reply::Accepted(1));
-    bench.expect_reply(rt, DEVICE, 0x3018, b"\xaa\xbb", Reply::Accepted(2));
-    bench.expect_made(rt, (32, 16, AccessKind::Read));
-    bench.expect_word(rt, 0x20018, 0);
-    bench.expect_made(rt, (32, 24, AccessKind::Write));
-    bench.expect_word(rt, 0x20018, 0xbbaa);
-    expect(rt, bench.commit(rt).is_none());
-    Ok(())
-}
+/// A read and a write are accepted and made: the bytes of the write are stored when it is made, and not before. Through
+/// a directory of one level.
+static SERVES: [Step; 9] = [
+    Step::TurnOn(BASE_VALUE),
+    Step::Write(DDTP, ONE_LEVEL),
+    Step::Ask(DEVICE, 0x3010, b"", Reply::Accepted(1)),
+    Step::Ask(DEVICE, 0x3018, b"\xaa\xbb", Reply::Accepted(2)),
+    Step::Made(32, 16, AccessKind::Read),
+    Step::Word(0x20018, 0),
+    Step::Made(32, 24, AccessKind::Write),
+    Step::Word(0x20018, 0xbbaa),
+    Step::NoneMade,
+];
 
-// Through a directory of one level and one of three.
+/// Through one of three.
+static SERVES_BY_THREE: [Step; 9] = [
+    Step::TurnOn(BASE_VALUE),
+    Step::Write(DDTP, THREE_LEVELS),
+    Step::Ask(DEVICE, 0x3010, b"", Reply::Accepted(1)),
+    Step::Ask(DEVICE, 0x3018, b"\xaa\xbb", Reply::Accepted(2)),
+    Step::Made(32, 16, AccessKind::Read),
+    Step::Word(0x20018, 0),
+    Step::Made(32, 24, AccessKind::Write),
+    Step::Word(0x20018, 0xbbaa),
+    Step::NoneMade,
+];
+
 #[test]
-fn a_directory_serves(rt: HostRuntime) -> Result<(), Fail> {
-    serves(&rt, rt.alloc(), ONE_LEVEL)?;
-    serves(&rt, rt.alloc(), THREE_LEVELS)
+fn a_directory_serves(rt: HostRuntime) {
+    follow(&rt, rt.alloc(), &WORDS, &SERVES);
+    follow(&rt, rt.alloc(), &WORDS, &SERVES_BY_THREE);
 }
 
-/// The answer to a read at 0x3010, where a word of the directories is this one.
-fn answer(
-    rt: &impl Abort,
-    alloc: Global,
-    ddtp: u64,
-    address: u64,
-    word: u64,
-) -> Result<Reply, Fail> {
-    let mut bench = directories(rt, alloc, ddtp)?;
-    bench.store(rt, address, word);
-    Ok(bench.ask(rt, DEVICE, 0x3010, b""))
-}
-
-/// It is refused with this cause.
-fn refuses(
-    rt: &impl Abort,
-    alloc: Global,
-    ddtp: u64,
-    address: u64,
-    word: u64,
-    cause: Cause,
-) -> Result<(), Fail> {
-    let reply = answer(rt, alloc, ddtp, address, word)?;
-    expect_eq(rt, &reply, &Reply::Fault(cause));
-    Ok(())
-}
-
-/// It is accepted where that word is 0.
-fn accepts(rt: &impl Abort, alloc: Global, ddtp: u64, address: u64) -> Result<(), Fail> {
-    let reply = answer(rt, alloc, ddtp, address, 0)?;
-    expect_eq(rt, &reply, &Reply::Accepted(1));
-    Ok(())
-}
-
-// Off, and each cause of the directory; without translation, by `ddtp` or by a context.
-#[test]
-fn causes(rt: HostRuntime) -> Result<(), Fail> {
-    refuses(&rt, rt.alloc(), 0, CONTEXT, 1, Cause::AllInboundDisallowed)?;
-    refuses(
-        &rt,
-        rt.alloc(),
+/// `ddtp`, a word of the directories and its address, and the reply to a read at 0x3010: off, and each cause of the
+/// directory; without translation, by `ddtp` or by a context.
+static CAUSES: [(u64, u64, u64, Reply); 8] = [
+    (0, CONTEXT, 1, Reply::Fault(Cause::AllInboundDisallowed)),
+    (
         ONE_LEVEL,
         CONTEXT,
         0,
-        Cause::DirectoryEntryNotValid,
-    )?;
-    refuses(
-        &rt,
-        rt.alloc(),
+        Reply::Fault(Cause::DirectoryEntryNotValid),
+    ),
+    (
         ONE_LEVEL,
         CONTEXT,
         0x1001,
-        Cause::DirectoryEntryMisconfigured,
-    )?;
-    refuses(&rt, rt.alloc(), ONE_LEVEL, 0x13018, 0, Cause::ReadPageFault)?;
-    refuses(
-        &rt,
-        rt.alloc(),
+        Reply::Fault(Cause::DirectoryEntryMisconfigured),
+    ),
+    (ONE_LEVEL, 0x13018, 0, Reply::Fault(Cause::ReadPageFault)),
+    (
         THREE_LEVELS,
         0x30000,
         0x1_0001,
-        Cause::DirectoryLoadFault,
-    )?;
-    refuses(
-        &rt,
-        rt.alloc(),
+        Reply::Fault(Cause::DirectoryLoadFault),
+    ),
+    (
         0x1_0002,
         CONTEXT,
         1,
-        Cause::DirectoryLoadFault,
-    )?;
-    accepts(&rt, rt.alloc(), 1, CONTEXT)?;
-    accepts(&rt, rt.alloc(), ONE_LEVEL, CONTEXT + 24)
+        Reply::Fault(Cause::DirectoryLoadFault),
+    ),
+    (1, CONTEXT, 0, Reply::Accepted(1)),
+    (ONE_LEVEL, CONTEXT + 24, 0, Reply::Accepted(1)),
+];
+
+fn replies(rt: &impl Abort, bench: &mut Bench, ddtp: u64, address: u64, word: u64, reply: Reply) {
+    let steps = [
+        Step::TurnOn(BASE_VALUE),
+        Step::Write(DDTP, ddtp),
+        Step::Store(address, word),
+        Step::Ask(DEVICE, 0x3010, b"", reply),
+    ];
+    bench.store_all(rt, &WORDS);
+    bench.follow(rt, &steps);
 }
 
-// Without translation the address is that of memory, of which there are 64 frames.
 #[test]
-fn edges(rt: HostRuntime) -> Result<(), Fail> {
-    let mut bench = directories(&rt, rt.alloc(), 1)?;
-    bench.expect_reply(&rt, DEVICE, 0x3_ffff, b"", Reply::Accepted(1));
-    bench.expect_reply(
-        &rt,
-        DEVICE,
-        0x4_0000,
-        b"",
-        Reply::Fault(Cause::ReadAccessFault),
-    );
-    bench.expect_reply(
-        &rt,
+fn causes(rt: HostRuntime) -> Result<(), Fail> {
+    for (ddtp, address, word, reply) in CAUSES.iter() {
+        let mut bench = Bench::at_power_on(rt.alloc())?;
+        replies(&rt, &mut bench, *ddtp, *address, *word, *reply);
+    }
+    Ok(())
+}
+
+/// Without translation the address is that of memory, of which there are 64 frames.
+static EDGES: [Step; 6] = [
+    Step::TurnOn(BASE_VALUE),
+    Step::Write(DDTP, 1),
+    Step::Ask(DEVICE, 0x3_ffff, b"", Reply::Accepted(1)),
+    Step::Ask(DEVICE, 0x4_0000, b"", Reply::Fault(Cause::ReadAccessFault)),
+    Step::Ask(
         DEVICE,
         0x4_0000,
         b"\xaa",
         Reply::Fault(Cause::WriteAccessFault),
-    );
-    bench.expect_reply(&rt, DEVICE, 0x3fff, b"\xaa\xbb", Reply::BadSpan);
-    Ok(())
+    ),
+    Step::Ask(DEVICE, 0x3fff, b"\xaa\xbb", Reply::BadSpan),
+];
+
+#[test]
+fn edges(rt: HostRuntime) {
+    follow(&rt, rt.alloc(), &WORDS, &EDGES);
 }
 
-// An id of 8 bits is too wide for a directory of one level.
-#[test]
-fn a_wide_id(rt: HostRuntime) -> Result<(), Fail> {
-    let mut bench = directories(&rt, rt.alloc(), ONE_LEVEL)?;
-    expect(&rt, bench.add(128));
-    bench.expect_reply(
-        &rt,
+/// An id of 8 bits is too wide for a directory of one level.
+static WIDE: [Step; 4] = [
+    Step::TurnOn(BASE_VALUE),
+    Step::Write(DDTP, ONE_LEVEL),
+    Step::Add(128),
+    Step::Ask(
         128,
         0x3010,
         b"",
         Reply::Fault(Cause::TransactionTypeDisallowed),
-    );
-    Ok(())
-}
+    ),
+];
 
-/// The first word of IODIR.INVAL_DDT of a device.
-fn invalidate(device: u8) -> u64 {
-    3 + (1 << 33) + (u64::from(device) << 40)
-}
-
-// A context stays cached when memory changes, and when another device's is dropped, until its own is.
 #[test]
-fn a_context_is_cached(rt: HostRuntime) -> Result<(), Fail> {
-    let mut bench = directories(&rt, rt.alloc(), ONE_LEVEL)?;
-    bench.put(&rt, 0, invalidate(4), 0);
-    bench.put(&rt, 1, invalidate(5), 0);
-    bench.write(&rt, CQT, 2);
-    bench.expect_reply(&rt, DEVICE, 0x3010, b"", Reply::Accepted(1));
-    bench.store(&rt, CONTEXT, 0);
-    bench.expect_reply(&rt, DEVICE, 0x3010, b"", Reply::Accepted(2));
-    bench.fetch(&rt);
-    bench.expect_reply(&rt, DEVICE, 0x3010, b"", Reply::Accepted(3));
-    bench.fetch(&rt);
-    bench.expect_reply(
-        &rt,
+fn a_wide_id(rt: HostRuntime) {
+    follow(&rt, rt.alloc(), &WORDS, &WIDE);
+}
+
+/// IODIR.INVAL_DDT of the devices 4 and 5.
+const OTHER_DEVICE: (u64, u64) = (0x0000_0402_0000_0003, 0);
+
+const ITS_DEVICE: (u64, u64) = (0x0000_0502_0000_0003, 0);
+
+/// A context stays cached when memory changes, and when another device's is dropped, until its own is.
+static CACHED: [Step; 12] = [
+    Step::TurnOn(BASE_VALUE),
+    Step::Write(DDTP, ONE_LEVEL),
+    Step::Put(0, OTHER_DEVICE),
+    Step::Put(1, ITS_DEVICE),
+    Step::Write(CQT, 2),
+    Step::Ask(DEVICE, 0x3010, b"", Reply::Accepted(1)),
+    Step::Store(CONTEXT, 0),
+    Step::Ask(DEVICE, 0x3010, b"", Reply::Accepted(2)),
+    Step::Does(OTHER_DEVICE),
+    Step::Ask(DEVICE, 0x3010, b"", Reply::Accepted(3)),
+    Step::Does(ITS_DEVICE),
+    Step::Ask(
         DEVICE,
         0x3010,
         b"",
         Reply::Fault(Cause::DirectoryEntryNotValid),
-    );
-    Ok(())
+    ),
+];
+
+#[test]
+fn a_context_is_cached(rt: HostRuntime) {
+    follow(&rt, rt.alloc(), &WORDS, &CACHED);
 }

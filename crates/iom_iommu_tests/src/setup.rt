@@ -1,7 +1,3 @@
-use iom_command_queue::{Command, FenceAddress, FenceStore};
-use iom_iommu::Fetched;
-use std::test::Fail;
-
 pub(crate) const DDTP: u64 = 16;
 
 pub(crate) const CQB: u64 = 24;
@@ -28,6 +24,9 @@ pub(crate) const BASE_VALUE: u64 = 0xfc07;
 /// The address of that queue.
 pub(crate) const RING: u64 = 0x3f000;
 
+/// The address of a fault queue in the frame 62.
+pub(crate) const RECORDS: u64 = 0x3e000;
+
 /// How many frames the memory of a test has.
 pub(crate) const FRAMES: u32 = 64;
 
@@ -43,13 +42,5 @@ pub(crate) fn width_at(offset: u64) -> u32 {
     }
 }
 
-/// A fence is done that stores 1, and asks for nothing else.
-pub(crate) fn did_fence_to(address: u64) -> Result<Fetched, Fail> {
-    let address = FenceAddress::new(address).ok_or("a multiple of 4")?;
-    Ok(Fetched::Did(Command::IofenceC {
-        store: Some(FenceStore { address, data: 1 }),
-        wsi: false,
-        pr: false,
-        pw: false,
-    }))
-}
+/// The words of a fence that stores 1 at 0x5000.
+pub(crate) const FENCE: (u64, u64) = (0x0000_0001_0000_0402, 0x1400);

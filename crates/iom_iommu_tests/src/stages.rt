@@ -1,10 +1,9 @@
 // Requests of devices with a second stage, alone and below a first: by tables, and by what is cached of them.
-use crate::bench::Bench;
+use crate::bench::{Bench, Step, follow};
 use crate::directories::{CONTEXT, ONE_LEVEL};
-use crate::setup::{CQT, DEVICE};
+use crate::setup::{BASE_VALUE, CQT, DDTP, DEVICE};
 use iom_base::Cause;
 use iom_iommu::Reply;
-use std::alloc::Global;
 use std::process::Abort;
 use std::test::Fail;
 
@@ -20,7 +19,7 @@ const GUEST_TABLES: u64 = 0x8000_0000_0000_0000;
 /// The context of a device, but for fsc, in a VM with GSCID 7: PSCID 1, and a second stage with its root in the frames
 /// 48 to 51. It leads the guest's pages 0, 1, 2 and 9 to the frames 36, 37, 38 and 32. The tables of the guest are in
 /// its pages 0, 1 and 2, and lead its page 3 to page 9.
-const WORDS: [(u64, u64); 12] = [
+static WORDS: [(u64, u64); 12] = [
     (CONTEXT, 1),
     (CONTEXT + 8, 0x8000_7000_0000_0030),
     (CONTEXT + 16, 0x1000),
@@ -35,99 +34,72 @@ const WORDS: [(u64, u64); 12] = [
     (0x26018, 0x24d7),
 ];
 
-/// A bench with the tables, and with this word as fsc.
-fn tables(rt: &impl Abort, alloc: Global, fsc: u64) -> Result<Box<Bench>, Fail> {
-    let mut bench = Bench::with_directory(rt, alloc, &WORDS, ONE_LEVEL)?;
-    bench.store(rt, CONTEXT + 24, fsc);
-    Ok(bench)
+const NOT_THERE: Reply = Reply::Fault(Cause::ReadGuestPageFault);
+
+const NOT_IN_TABLES: Reply = Reply::Fault(Cause::ReadPageFault);
+
+/// A second stage alone: guest physical addresses have 41 bits.
+static SECOND: [Step; 5] = [
+    Step::TurnOn(BASE_VALUE),
+    Step::Write(DDTP, ONE_LEVEL),
+    Step::GoesTo(0x9010, b"", 32),
+    Step::Ask(DEVICE, 0x3010, b"", NOT_THERE),
+    Step::Ask(DEVICE, 0x200_0000_9010, b"", NOT_THERE),
+];
+
+#[test]
+fn a_second_stage_serves(rt: HostRuntime) {
+    follow(&rt, rt.alloc(), &WORDS, &SECOND);
 }
 
-/// A read at the address is accepted on the frame 32, or refused with this cause.
-fn is_answered(rt: &impl Abort, bench: &mut Bench, address: u64, refused: Option<Cause>) {
-    match refused {
-        None => bench.goes_to(rt, address, b"", 32),
-        Some(cause) => bench.expect_reply(rt, DEVICE, address, b"", Reply::Fault(cause)),
-    }
+/// A page that the guest's tables lack is its own fault; one that they lead to a page without a leaf, or whose table
+/// is in such a page, the second stage's.
+static BOTH: [Step; 6] = [
+    Step::TurnOn(BASE_VALUE),
+    Step::Write(DDTP, ONE_LEVEL),
+    Step::Store(CONTEXT + 24, GUEST_TABLES),
+    Step::GoesTo(0x3010, b"", 32),
+    Step::Ask(DEVICE, 0x4010, b"", NOT_IN_TABLES),
+    Step::Ask(DEVICE, 0x8000_0000_0000, b"", NOT_IN_TABLES),
+];
+
+static THIRD: [Step; 4] = [
+    Step::TurnOn(BASE_VALUE),
+    Step::Write(DDTP, ONE_LEVEL),
+    Step::Store(CONTEXT + 24, GUEST_TABLES + 3),
+    Step::Ask(DEVICE, 0x3010, b"", NOT_THERE),
+];
+
+#[test]
+fn both_stages_serve(rt: HostRuntime) {
+    follow(&rt, rt.alloc(), &WORDS, &BOTH);
+    follow(&rt, rt.alloc(), &WORDS, &THIRD);
 }
 
-/// Reads at these addresses are so.
-fn answers(
+/// With this word as fsc, a read at the address goes to this frame after a command, where the second stage's leaf of the
+/// page that is cached was changed in memory before it.
+fn goes_after(
     rt: &impl Abort,
-    alloc: Global,
+    bench: &mut Bench,
     fsc: u64,
-    wanted: &[(u64, Option<Cause>)],
-) -> Result<(), Fail> {
-    let mut bench = tables(rt, alloc, fsc)?;
-    for (address, refused) in wanted {
-        is_answered(rt, &mut bench, *address, *refused);
-    }
-    Ok(())
-}
-
-// Guest physical addresses have 41 bits.
-#[test]
-fn a_second_stage_serves(rt: HostRuntime) -> Result<(), Fail> {
-    let not_there = Some(Cause::ReadGuestPageFault);
-    let wanted = [
-        (0x9010, None),
-        (0x3010, not_there),
-        (0x200_0000_9010, not_there),
-    ];
-    answers(&rt, rt.alloc(), 0, &wanted)
-}
-
-// A page that the guest's tables lack is its own fault; one that they lead to a page without a leaf, or whose table
-// is in such a page, the second stage's.
-#[test]
-fn both_stages_serve(rt: HostRuntime) -> Result<(), Fail> {
-    let wanted = [
-        (0x3010, None),
-        (0x4010, Some(Cause::ReadPageFault)),
-        (0x8000_0000_0000, Some(Cause::ReadPageFault)),
-    ];
-    answers(&rt, rt.alloc(), GUEST_TABLES, &wanted)?;
-    let third = Some(Cause::ReadGuestPageFault);
-    answers(&rt, rt.alloc(), GUEST_TABLES + 3, &[(0x3010, third)])
-}
-
-/// A read at the address goes to this frame after a command, where the second stage's leaf of the page that is cached
-/// was changed in memory before it.
-fn goes_after(rt: &impl Abort, bench: &mut Bench, address: u64, command: (u64, u64), frame: u32) {
-    bench.goes_to(rt, address, b"", 32);
-    bench.store(rt, LEAF, MOVED);
-    bench.goes_to(rt, address, b"", 32);
-    bench.put(rt, 0, command.0, command.1);
-    bench.write(rt, CQT, 1);
-    bench.fetch(rt);
-    bench.goes_to(rt, address, b"", frame);
-}
-
-/// The same, of the page 9 of a second stage alone, after each of these commands.
-fn page_goes_after(
-    rt: &impl Abort,
-    alloc: Global,
-    commands: &[(u64, u64)],
+    address: u64,
+    command: (u64, u64),
     frame: u32,
-) -> Result<(), Fail> {
-    for command in commands {
-        let mut bench = tables(rt, alloc, 0)?;
-        goes_after(rt, &mut bench, 0x9010, *command, frame);
-    }
-    Ok(())
-}
-
-/// The same, of the page 3 of a guest in both stages.
-fn guest_page_goes_after(
-    rt: &impl Abort,
-    alloc: Global,
-    commands: &[(u64, u64)],
-    frame: u32,
-) -> Result<(), Fail> {
-    for command in commands {
-        let mut bench = tables(rt, alloc, GUEST_TABLES)?;
-        goes_after(rt, &mut bench, 0x3010, *command, frame);
-    }
-    Ok(())
+) {
+    let steps = [
+        Step::TurnOn(BASE_VALUE),
+        Step::Write(DDTP, ONE_LEVEL),
+        Step::Store(CONTEXT + 24, fsc),
+        Step::GoesTo(address, b"", 32),
+        Step::Store(LEAF, MOVED),
+        Step::GoesTo(address, b"", 32),
+        Step::Put(0, command),
+        Step::Write(CQT, 1),
+        Step::Does(command),
+        Step::GoesTo(address, b"", frame),
+    ];
+    bench.store_all(rt, &WORDS);
+    bench.follow(rt, &steps);
 }
 
 /// Commands with a VM and a page, as their two words.
@@ -155,36 +127,50 @@ const VMA_OTHER_VM: (u64, u64) = (0x0000_8002_0000_0001, 0);
 
 const VMA_HOST: (u64, u64) = (1, 0);
 
-// Of a second stage alone IOTINVAL.GVMA takes out the page that it names, or all of its VM, or all; IOTINVAL.VMA
-// nothing, also where it is of a whole VM.
+/// Of a second stage alone IOTINVAL.GVMA takes out the page that it names, or all of its VM, or all; IOTINVAL.VMA
+/// nothing, also where it is of a whole VM.
+static PAGE_9: [((u64, u64), u32); 8] = [
+    (GVMA_PAGE_9, 33),
+    (GVMA_VM, 33),
+    (GVMA_ALL, 33),
+    (GVMA_PAGE_8, 32),
+    (GVMA_OTHER_VM, 32),
+    (VMA_VM, 32),
+    (VMA_VM_PSCID_1, 32),
+    (VMA_HOST, 32),
+];
+
 #[test]
 fn a_guest_page_is_cached(rt: HostRuntime) -> Result<(), Fail> {
-    let covering = [GVMA_PAGE_9, GVMA_VM, GVMA_ALL];
-    page_goes_after(&rt, rt.alloc(), &covering, 33)?;
-    let others = [GVMA_PAGE_8, GVMA_OTHER_VM, VMA_VM, VMA_VM_PSCID_1, VMA_HOST];
-    page_goes_after(&rt, rt.alloc(), &others, 32)
+    for (command, frame) in PAGE_9.iter() {
+        let mut bench = Bench::at_power_on(rt.alloc())?;
+        goes_after(&rt, &mut bench, 0, 0x9010, *command, *frame);
+    }
+    Ok(())
 }
 
-// Of both stages IOTINVAL.GVMA takes out all of its VM, whatever page it names: that is a guest physical page, and
-// what is cached doesn't tell through which it leads.
+/// Of both stages IOTINVAL.GVMA takes out all of its VM, whatever page it names: that is a guest physical page, and
+/// what is cached doesn't tell through which it leads.
+static GUEST_PAGE_3: [((u64, u64), u32); 12] = [
+    (GVMA_PAGE_9, 33),
+    (GVMA_PAGE_8, 33),
+    (GVMA_VM, 33),
+    (GVMA_ALL, 33),
+    (VMA_VM, 33),
+    (VMA_VM_PAGE_3, 33),
+    (VMA_VM_PSCID_1, 33),
+    (GVMA_OTHER_VM, 32),
+    (VMA_VM_PAGE_4, 32),
+    (VMA_VM_PSCID_2, 32),
+    (VMA_OTHER_VM, 32),
+    (VMA_HOST, 32),
+];
+
 #[test]
 fn a_page_of_both_stages_is_cached(rt: HostRuntime) -> Result<(), Fail> {
-    let covering = [
-        GVMA_PAGE_9,
-        GVMA_PAGE_8,
-        GVMA_VM,
-        GVMA_ALL,
-        VMA_VM,
-        VMA_VM_PAGE_3,
-        VMA_VM_PSCID_1,
-    ];
-    guest_page_goes_after(&rt, rt.alloc(), &covering, 33)?;
-    let others = [
-        GVMA_OTHER_VM,
-        VMA_VM_PAGE_4,
-        VMA_VM_PSCID_2,
-        VMA_OTHER_VM,
-        VMA_HOST,
-    ];
-    guest_page_goes_after(&rt, rt.alloc(), &others, 32)
+    for (command, frame) in GUEST_PAGE_3.iter() {
+        let mut bench = Bench::at_power_on(rt.alloc())?;
+        goes_after(&rt, &mut bench, GUEST_TABLES, 0x3010, *command, *frame);
+    }
+    Ok(())
 }

@@ -1,130 +1,110 @@
-use crate::expect::{expect, expect_eq};
-use crate::ledger::{all_released, bring_about, confirmed, granted, ledger_of, released};
+use crate::expect::expect;
+use crate::ledger::{Step, follow};
 use iom_base::Rights;
-use iom_ledger::{HistoryEntry, Ledger, Row};
-use std::alloc::AllocError;
+use iom_ledger::Row;
+use std::alloc::{AllocError, Global};
 use std::process::Abort;
 use std::test::Fail;
 
-/// The row of so many grants and unconfirmed releases.
-fn row(grants: u128, pending: u128) -> Option<Row> {
-    Some(Row { grants, pending })
-}
-
-/// The frame has this row, or none.
-fn has_row(rt: &impl Abort, ledger: &Ledger, frame: u32, expected: &Option<Row>) {
-    expect_eq(rt, &ledger.row(frame).copied(), expected);
-}
-
-/// Brings the entries about, and looks at the row of the frame after each.
-fn follow_row(
-    rt: &impl Abort,
-    ledger: &mut Ledger,
-    frame: u32,
-    entries: &[(HistoryEntry, Option<Row>)],
-) -> Result<(), Fail> {
-    for (entry, expected) in entries {
-        bring_about(ledger, *entry)?;
-        has_row(rt, ledger, frame, expected);
-    }
-    Ok(())
-}
-
-fn entries_of_two_pages() -> [(HistoryEntry, Option<Row>); 6] {
-    [
-        (granted(1, 3, 5, Rights::RW), row(1, 0)),
-        (granted(1, 4, 5, Rights::R), row(2, 0)),
-        (released(1, 3, 1), row(1, 1)),
-        (confirmed(1), row(1, 0)),
-        (released(1, 4, 2), row(0, 1)),
-        (confirmed(2), row(0, 0)),
-    ]
-}
-
 /// A frame is granted at two pages, and given back at one after the other.
+static TWO_PAGES: [Step; 14] = [
+    Step::Row(5, Some((0, 0))),
+    Step::Grant(1, 3, 5, Rights::RW),
+    Step::Row(5, Some((1, 0))),
+    Step::Grant(1, 4, 5, Rights::R),
+    Step::Row(5, Some((2, 0))),
+    Step::Release(1, 3, 1),
+    Step::Row(5, Some((1, 1))),
+    Step::Confirm(1),
+    Step::Row(5, Some((1, 0))),
+    Step::Release(1, 4, 2),
+    Step::Row(5, Some((0, 1))),
+    Step::Confirm(2),
+    Step::Row(5, Some((0, 0))),
+    Step::Free(5, true),
+];
+
 #[test]
 fn a_row_counts_both_grants_of_its_frame(rt: HostRuntime) -> Result<(), Fail> {
-    let mut ledger = ledger_of(rt.alloc(), 64)?;
-    has_row(&rt, &ledger, 5, &row(0, 0));
-    follow_row(&rt, &mut ledger, 5, &entries_of_two_pages())?;
-    expect(&rt, ledger.is_free(5));
-    Ok(())
-}
-
-fn entries_of_three_pages() -> [(HistoryEntry, Option<Row>); 8] {
-    [
-        (granted(1, 3, 5, Rights::RW), row(1, 0)),
-        (granted(1, 4, 5, Rights::R), row(2, 0)),
-        (granted(2, 3, 5, Rights::R), row(3, 0)),
-        (granted(1, 5, 6, Rights::R), row(3, 0)),
-        (released(1, 3, 1), row(2, 1)),
-        (all_released(1, 2), row(1, 2)),
-        (confirmed(7), row(1, 2)),
-        (confirmed(1), row(1, 1)),
-    ]
-}
-
-/// The entries after those.
-fn later_entries() -> [(HistoryEntry, Option<Row>); 5] {
-    [
-        (confirmed(2), row(1, 0)),
-        (granted(1, 4, 5, Rights::RW), row(2, 0)),
-        (all_released(2, 3), row(1, 1)),
-        (all_released(1, 3), row(0, 2)),
-        (confirmed(3), row(0, 0)),
-    ]
+    follow(&rt, rt.alloc(), 64, &TWO_PAGES)
 }
 
 /// Of three pages with the frame one is released before all of its device, and one is another device's.
+static THREE_PAGES: [Step; 28] = [
+    Step::Grant(1, 3, 5, Rights::RW),
+    Step::Row(5, Some((1, 0))),
+    Step::Grant(1, 4, 5, Rights::R),
+    Step::Row(5, Some((2, 0))),
+    Step::Grant(2, 3, 5, Rights::R),
+    Step::Row(5, Some((3, 0))),
+    Step::Grant(1, 5, 6, Rights::R),
+    Step::Row(5, Some((3, 0))),
+    Step::Release(1, 3, 1),
+    Step::Row(5, Some((2, 1))),
+    Step::ReleaseAll(1, 2),
+    Step::Row(5, Some((1, 2))),
+    Step::Confirm(7),
+    Step::Row(5, Some((1, 2))),
+    Step::Confirm(1),
+    Step::Row(5, Some((1, 1))),
+    Step::Row(6, Some((0, 1))),
+    Step::Confirm(2),
+    Step::Row(5, Some((1, 0))),
+    Step::Grant(1, 4, 5, Rights::RW),
+    Step::Row(5, Some((2, 0))),
+    Step::ReleaseAll(2, 3),
+    Step::Row(5, Some((1, 1))),
+    Step::ReleaseAll(1, 3),
+    Step::Row(5, Some((0, 2))),
+    Step::Confirm(3),
+    Step::Row(5, Some((0, 0))),
+    Step::Row(6, Some((0, 0))),
+];
+
 #[test]
 fn a_release_of_all_counts_each_page_once(rt: HostRuntime) -> Result<(), Fail> {
-    let mut ledger = ledger_of(rt.alloc(), 64)?;
-    follow_row(&rt, &mut ledger, 5, &entries_of_three_pages())?;
-    has_row(&rt, &ledger, 6, &row(0, 1));
-    follow_row(&rt, &mut ledger, 5, &later_entries())?;
-    has_row(&rt, &ledger, 6, &row(0, 0));
-    Ok(())
-}
-
-fn entries_of_one_page() -> [(HistoryEntry, Option<Row>); 3] {
-    [
-        (released(1, 3, 1), row(0, 1)),
-        (confirmed(1), row(0, 0)),
-        (granted(1, 3, 2, Rights::R), row(0, 0)),
-    ]
+    follow(&rt, rt.alloc(), 64, &THREE_PAGES)
 }
 
 /// Rows come with a grant of a frame beyond, up to its own, and stay.
+static OUTSIDE: [Step; 15] = [
+    Step::Row(3, Some((0, 0))),
+    Step::Row(4, None),
+    Step::Row(u32::MAX, None),
+    Step::Free(4, true),
+    Step::Grant(1, 3, 6, Rights::R),
+    Step::Row(5, Some((0, 0))),
+    Step::Row(6, Some((1, 0))),
+    Step::Row(7, None),
+    Step::Release(1, 3, 1),
+    Step::Row(6, Some((0, 1))),
+    Step::Confirm(1),
+    Step::Row(6, Some((0, 0))),
+    Step::Grant(1, 3, 2, Rights::R),
+    Step::Row(6, Some((0, 0))),
+    Step::Row(7, None),
+];
+
 #[test]
 fn a_frame_outside_has_no_row(rt: HostRuntime) -> Result<(), Fail> {
-    let mut ledger = ledger_of(rt.alloc(), 4)?;
-    has_row(&rt, &ledger, 3, &row(0, 0));
-    has_row(&rt, &ledger, 4, &None);
-    has_row(&rt, &ledger, u32::MAX, &None);
-    expect(&rt, ledger.is_free(4));
-    bring_about(&mut ledger, granted(1, 3, 6, Rights::R))?;
-    has_row(&rt, &ledger, 5, &row(0, 0));
-    has_row(&rt, &ledger, 6, &row(1, 0));
-    has_row(&rt, &ledger, 7, &None);
-    follow_row(&rt, &mut ledger, 6, &entries_of_one_page())?;
-    has_row(&rt, &ledger, 7, &None);
-    Ok(())
+    follow(&rt, rt.alloc(), 4, &OUTSIDE)
 }
 
 /// The row is free or not, and shows its counts.
 fn is_shown(
-    rt: &(impl Abort + AllocGlobal),
+    rt: &impl Abort,
+    alloc: Global,
     row: Row,
     is_free: bool,
     shown: &str,
 ) -> Result<(), AllocError> {
-    expect_eq(rt, &row.is_free(), &is_free);
-    let text = format!(in rt.alloc(); "{row:?}")?;
-    expect_eq(rt, &text.as_str(), &shown);
+    expect(rt, row.is_free() == is_free);
+    let text = format!(in alloc; "{row:?}")?;
+    expect(rt, text.as_str() == shown);
     Ok(())
 }
 
-const ROWS: [(u128, u128, bool, &str); 4] = [
+static ROWS: [(u128, u128, bool, &str); 4] = [
     (0, 0, true, "Row { grants: 0, pending: 0 }"),
     (1, 0, false, "Row { grants: 1, pending: 0 }"),
     (0, 1, false, "Row { grants: 0, pending: 1 }"),
@@ -139,8 +119,12 @@ const ROWS: [(u128, u128, bool, &str); 4] = [
 /// A row is free where both of its counts are 0, and shows them.
 #[test]
 fn a_row_is_free_where_nothing_names_its_frame(rt: HostRuntime) -> Result<(), Fail> {
-    for (grants, pending, is_free, shown) in ROWS {
-        is_shown(&rt, Row { grants, pending }, is_free, shown)?;
+    for (grants, pending, is_free, shown) in ROWS.iter() {
+        let row = Row {
+            grants: *grants,
+            pending: *pending,
+        };
+        is_shown(&rt, rt.alloc(), row, *is_free, shown)?;
     }
     Ok(())
 }

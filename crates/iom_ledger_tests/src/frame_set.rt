@@ -1,4 +1,4 @@
-use crate::expect::{expect, expect_eq};
+use crate::expect::expect;
 use iom_frame_set::FrameSet;
 use std::alloc::{AllocError, Global};
 use std::process::Abort;
@@ -31,7 +31,7 @@ fn with_frames(alloc: Global, frames: &[u32]) -> Result<FrameSet, AllocError> {
 /// A limit, the named frame, and the highest frame below the limit that is in both sets and isn't named.
 type Case = (u32, Option<u32>, Option<u32>);
 
-const WITH_ALL: [Case; 11] = [
+static WITH_ALL: [Case; 11] = [
     (u32::MAX, None, Some(5000)),
     (u32::MAX, Some(5000), Some(130)),
     (5000, None, Some(130)),
@@ -45,7 +45,7 @@ const WITH_ALL: [Case; 11] = [
     (0, None, None),
 ];
 
-const WITH_OTHER: [Case; 4] = [
+static WITH_OTHER: [Case; 4] = [
     (u32::MAX, None, Some(64)),
     (64, None, Some(3)),
     (5000, Some(64), Some(3)),
@@ -55,8 +55,8 @@ const WITH_OTHER: [Case; 4] = [
 /// Asked of either set, each case is answered so.
 fn are_found(rt: &impl Abort, set: &FrameSet, with: &FrameSet, cases: &[Case]) {
     for (limit, named, highest) in cases {
-        expect_eq(rt, &set.highest_in_both(with, *limit, *named), highest);
-        expect_eq(rt, &with.highest_in_both(set, *limit, *named), highest);
+        expect(rt, set.highest_in_both(with, *limit, *named) == *highest);
+        expect(rt, with.highest_in_both(set, *limit, *named) == *highest);
     }
 }
 
@@ -75,19 +75,19 @@ fn the_highest_frame_in_both_is_found(rt: HostRuntime) -> Result<(), Fail> {
 fn the_frames_in_both_are_counted(rt: HostRuntime) -> Result<(), Fail> {
     let all = full(rt.alloc())?;
     let set = set_of(rt.alloc(), &[3, 63, 64, 130, 5000])?;
-    expect_eq(&rt, &set.count_in_both(&all, 6000), &5);
-    expect_eq(&rt, &set.count_in_both(&all, 131), &4);
-    expect_eq(&rt, &set.count_in_both(&all, 130), &3);
-    expect_eq(&rt, &set.count_in_both(&all, 64), &2);
-    expect_eq(&rt, &set.count_in_both(&all, 3), &0);
-    expect_eq(&rt, &all.count_in_both(&all, 100), &100);
+    expect(&rt, set.count_in_both(&all, 6000) == 5);
+    expect(&rt, set.count_in_both(&all, 131) == 4);
+    expect(&rt, set.count_in_both(&all, 130) == 3);
+    expect(&rt, set.count_in_both(&all, 64) == 2);
+    expect(&rt, set.count_in_both(&all, 3) == 0);
+    expect(&rt, all.count_in_both(&all, 100) == 100);
     Ok(())
 }
 
 /// The highest frame of both below 4,096, besides the named one, is this.
 fn is_highest(rt: &impl Abort, set: &FrameSet, all: &FrameSet, named: Option<u32>, highest: u32) {
     let found = set.highest_in_both(all, 4096, named);
-    expect_eq(rt, &found, &Some(highest));
+    expect(rt, found == Some(highest));
 }
 
 /// All frames but 8 are taken out, one by one.

@@ -1,5 +1,6 @@
 ghost use Rattle.std.specs.Prelude.{◌≡◌, length};
 
+use crate::expect::expect;
 use iom_base::{Owner, Rights};
 use iom_ledger::Ledger;
 use iom_phys_mem::{Bytes, Memory};
@@ -25,7 +26,7 @@ struct Bench {
 }
 
 /// A call, or a look at a word of memory.
-#[derive(Clone, Copy, Debug)]
+#[derive(Clone, Copy)]
 enum Step {
     /// The frame is granted to device 1.
     Grant(u32),
@@ -42,7 +43,7 @@ enum Step {
 }
 
 /// What it answers.
-#[derive(Clone, Copy, PartialEq, Eq, Debug)]
+#[derive(Clone, Copy, PartialEq)]
 enum Answer {
     Nothing,
     Is(bool),
@@ -135,13 +136,13 @@ impl Bench {
     fn follow(&mut self, rt: &impl Abort, steps: &[(Step, Answer)]) -> Result<(), Fail> {
         for (step, expected) in steps {
             let answer = self.answer(*step)?;
-            assert_eq!(rt; answer, *expected, "{step:?}");
+            expect(rt, answer == *expected);
         }
         Ok(())
     }
 }
 
-const HIGHEST: [(Step, Answer); 19] = [
+static HIGHEST: [(Step, Answer); 19] = [
     (Step::IsReserved(59), Answer::Is(false)),
     (Step::IsReserved(60), Answer::Is(true)),
     (Step::IsReserved(63), Answer::Is(true)),
@@ -171,29 +172,27 @@ fn the_highest_free_frame_is_taken(rt: HostRuntime) -> Result<(), Fail> {
     bench.follow(&rt, &HIGHEST)
 }
 
-/// Of 64 frames 4 are fixed, so 60 can be taken, and one less where one of them is named.
+// So many frames are left, and one less where one of them is named. The highest of them is taken.
+fn takes_one(rt: &impl Abort, bench: &mut Bench, left: u32) {
+    expect(rt, bench.has_free(left, None));
+    expect(rt, !bench.has_free(left.saturating_add(1), None));
+    expect(rt, !bench.has_free(left, Some(0)));
+    let taken = bench.take(Owner::System, None);
+    expect(rt, taken == Some(left.saturating_sub(1)));
+}
+
+/// Of 64 frames 4 are fixed, so 60 can be taken.
 #[test]
 fn no_frame_is_taken_where_none_is_free(rt: HostRuntime) -> Result<(), Fail> {
     let mut bench = Bench::boxed(rt.alloc())?;
     for left in (1..61u32).rev() {
-        bench.follow(
-            &rt,
-            &[
-                (Step::HasFree(left, None), Answer::Is(true)),
-                (Step::HasFree(left + 1, None), Answer::Is(false)),
-                (Step::HasFree(left, Some(0)), Answer::Is(false)),
-                (
-                    Step::Take(Owner::System, None),
-                    Answer::Frame(Some(left - 1)),
-                ),
-            ],
-        )?;
+        takes_one(&rt, &mut bench, left);
     }
-    let last = (Step::Take(Owner::System, None), Answer::Frame(None));
-    bench.follow(&rt, &[last])
+    expect(&rt, bench.take(Owner::System, None).is_none());
+    Ok(())
 }
 
-const FOUR: [(Step, Answer); 11] = [
+static FOUR: [(Step, Answer); 11] = [
     (Step::Grant(58), Answer::Nothing),
     (Step::Store(55, 7), Answer::Nothing),
     (Step::TakeFour(ONE), Answer::Frame(Some(52))),

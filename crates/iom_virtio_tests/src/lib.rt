@@ -7,4 +7,10 @@
 #[cfg(test)]
 mod block;
 #[cfg(test)]
+mod expect;
+#[cfg(test)]
+mod memory;
+#[cfg(test)]
 mod queue;
+#[cfg(test)]
+mod seen;

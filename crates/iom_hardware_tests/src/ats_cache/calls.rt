@@ -1,3 +1,4 @@
+use crate::expect::expect;
 use iom_ats_cache::{Atc, Taken};
 use iom_base::{AccessKind, Cause, Rights};
 use iom_fabric::{Message, PageNumber, Range, Translation};
@@ -33,30 +34,33 @@ pub(crate) fn answers(
     want: Taken,
 ) {
     let taken = atc.answer(epoch, page(rt, number), translation);
-    assert_eq!(rt; taken, want, "epoch {epoch}, page {number}");
+    expect(rt, taken == want);
 }
 
 /// The question for the page is of this epoch, which is the cache's.
 pub(crate) fn asks(rt: &impl Abort, atc: &Atc, number: u64, epoch: u64) {
     let page = page(rt, number);
-    assert_eq!(rt; atc.ask(page), Message::Ask { epoch, page });
-    assert_eq!(rt; atc.epoch(), epoch);
+    expect(rt, atc.ask(page) == Message::Ask { epoch, page });
+    expect(rt, atc.epoch() == epoch);
 }
 
 pub(crate) fn reads(rt: &impl Abort, atc: &Atc, number: u64, want: Option<u32>) {
     let found = atc.look(page(rt, number), AccessKind::Read);
-    assert_eq!(rt; found, want, "a read of page {number}");
+    expect(rt, found == want);
 }
 
 fn writes(rt: &impl Abort, atc: &Atc, number: u64, want: Option<u32>) {
     let found = atc.look(page(rt, number), AccessKind::Write);
-    assert_eq!(rt; found, want, "a write of page {number}");
+    expect(rt, found == want);
 }
 
 /// The request of this number is done, and told so by the number.
 pub(crate) fn invalidates(rt: &impl Abort, atc: &mut Atc, serial: u64, range: Range) {
     assert!(rt; atc.epoch() < 100);
-    assert_eq!(rt; atc.invalidate(serial, range), Message::InvDone { serial });
+    expect(
+        rt,
+        atc.invalidate(serial, range) == Message::InvDone { serial },
+    );
 }
 
 pub(crate) fn invalidates_page(rt: &impl Abort, atc: &mut Atc, serial: u64, number: u64) {

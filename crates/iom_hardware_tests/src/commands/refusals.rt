@@ -1,38 +1,41 @@
 use crate::commands::bytes::bytes_of;
+use crate::expect::expect;
 use iom_command_queue::{Command, Illegal, Operation};
 use std::alloc::{AllocError, Global};
 use std::process::Abort;
 use std::test::Fail;
 
-// One row for each reason, and rows in which two reasons apply: the first in the order Opcode, Func,
-// Reserved, Combination is given.
+/// One row for each reason, and rows in which two reasons apply: the first in the order Opcode, Func, Reserved,
+/// Combination is given.
+static REASONS: [(u64, u64, Illegal); 12] = [
+    (0x0000_0000_0000_0005, 0, Illegal::Opcode),
+    (0x0000_0000_0000_0082, 0, Illegal::Func),
+    (0x0000_0000_0000_4002, 0, Illegal::Reserved),
+    (0x0000_0001_0000_0081, 0, Illegal::Combination),
+    // ATS.INVAL with G.
+    (0x0000_0202_0000_0004, 1, Illegal::Combination),
+    // IODIR.INVAL_PDT.
+    (0x0000_0202_0000_0083, 0, Illegal::Func),
+    // Opcode 0.
+    (0, 0, Illegal::Opcode),
+    // Two reasons each.
+    (0x0000_0000_0000_0085, 0, Illegal::Opcode),
+    (0x0000_0000_0000_4082, 0, Illegal::Func),
+    (0x0000_0001_0000_0881, 0, Illegal::Reserved),
+    (0x0000_0001_0000_0081, 1, Illegal::Reserved),
+    (0x0000_0202_0000_0004, 3, Illegal::Reserved),
+];
+
 #[test]
 fn refusals_have_their_reasons(rt: HostRuntime) {
-    let rows = [
-        (0x0000_0000_0000_0005, 0, Illegal::Opcode),
-        (0x0000_0000_0000_0082, 0, Illegal::Func),
-        (0x0000_0000_0000_4002, 0, Illegal::Reserved),
-        (0x0000_0001_0000_0081, 0, Illegal::Combination),
-        // ATS.INVAL with G.
-        (0x0000_0202_0000_0004, 1, Illegal::Combination),
-        // IODIR.INVAL_PDT.
-        (0x0000_0202_0000_0083, 0, Illegal::Func),
-        // Opcode 0.
-        (0, 0, Illegal::Opcode),
-        // Two reasons each.
-        (0x0000_0000_0000_0085, 0, Illegal::Opcode),
-        (0x0000_0000_0000_4082, 0, Illegal::Func),
-        (0x0000_0001_0000_0881, 0, Illegal::Reserved),
-        (0x0000_0001_0000_0081, 1, Illegal::Reserved),
-        (0x0000_0202_0000_0004, 3, Illegal::Reserved),
-    ];
-    for (first, second, reason) in rows {
-        assert_eq!(rt; Command::decode(&bytes_of(first, second)), Err(reason));
+    for (first, second, reason) in REASONS.iter() {
+        let decoded = Command::decode(&bytes_of(*first, *second));
+        expect(&rt, decoded == Err(*reason));
     }
 }
 
 /// How many of some words were commands, and how many were refused for each reason.
-#[derive(Clone, Copy, PartialEq, Eq, Debug)]
+#[derive(Clone, Copy, PartialEq)]
 struct Tally {
     commands: u32,
     opcode: u32,
@@ -95,7 +98,7 @@ fn one_bit_at_a_time(rt: HostRuntime) {
         reserved: 206,
         combination: 2,
     };
-    assert_eq!(rt; tally, expected);
+    expect(&rt, tally == expected);
 }
 
 fn prints(
@@ -105,23 +108,33 @@ fn prints(
     text: &str,
 ) -> Result<(), AllocError> {
     let printed = format!(in alloc; "{operation}")?;
-    assert_eq!(rt; printed.as_str(), text);
+    expect(rt, printed.as_str() == text);
+    Ok(())
+}
+
+static NAMES: [(Operation, &str); 5] = [
+    (Operation::IotinvalVma, "iotinval.vma"),
+    (Operation::IotinvalGvma, "iotinval.gvma"),
+    (Operation::IofenceC, "iofence.c"),
+    (Operation::IodirInvalDdt, "iodir.inval_ddt"),
+    (Operation::AtsInval, "ats.inval"),
+];
+
+#[test]
+fn commands_have_names(rt: HostRuntime) -> Result<(), Fail> {
+    for (operation, name) in NAMES.iter() {
+        prints(&rt, rt.alloc(), *operation, name)?;
+    }
     Ok(())
 }
 
 #[test]
-fn commands_have_names(rt: HostRuntime) -> Result<(), Fail> {
-    prints(&rt, rt.alloc(), Operation::IotinvalVma, "iotinval.vma")?;
-    prints(&rt, rt.alloc(), Operation::IotinvalGvma, "iotinval.gvma")?;
-    prints(&rt, rt.alloc(), Operation::IofenceC, "iofence.c")?;
-    prints(&rt, rt.alloc(), Operation::IodirInvalDdt, "iodir.inval_ddt")?;
-    prints(&rt, rt.alloc(), Operation::AtsInval, "ats.inval")?;
+fn a_command_has_its_operation(rt: HostRuntime) {
     let fence = Command::IofenceC {
         store: None,
         wsi: false,
         pr: false,
         pw: false,
     };
-    assert_eq!(rt; fence.operation(), Operation::IofenceC);
-    Ok(())
+    expect(&rt, fence.operation() == Operation::IofenceC);
 }

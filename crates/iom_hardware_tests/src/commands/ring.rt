@@ -1,85 +1,105 @@
+use crate::expect::expect;
 use iom_command_queue::laws::counts;
 use iom_command_queue::{Command, CommandRing, DeviceNumber, Illegal, QueueEntry};
 use iom_phys_mem::{Bytes, Memory};
 use iom_registers::{Register, Registers};
+use std::alloc::Global;
 use std::process::Abort;
 use std::test::Fail;
 
-// Registers with a command queue that begins at this page and is on.
-fn turned_on(page: u64, log2sz_less_1: u64) -> Registers {
-    let mut registers = Registers::new();
-    registers.set(Register::Cqb, page << 10 | log2sz_less_1);
-    registers.set(Register::Cqcsr, 1);
-    registers
+// A memory of 64 frames, and registers with a command queue.
+#[derive(Drop)]
+struct Bench {
+    memory: Memory,
+    registers: Registers,
 }
 
 // A command that names this device.
-fn of_device(number: u32) -> Result<Command, Fail> {
-    let device = DeviceNumber::new(number).ok_or("24 bits")?;
-    Ok(Command::IodirInvalDdt {
-        device: Some(device),
-    })
+fn of_device(rt: &impl Abort, number: u32) -> Command {
+    Command::IodirInvalDdt {
+        device: Some(DeviceNumber::new(number).expect(rt, "24 bits")),
+    }
 }
 
-// Appends where there is room, in memory.
-fn append(rt: &impl Abort, memory: &mut Memory, registers: &mut Registers, command: Command) {
-    assert!(rt; !CommandRing::is_full(registers));
-    counts(memory, registers);
-    let place = registers.command_base() + 16 * registers.command_tail() as u64;
-    assert!(rt; place / 4096 < memory.frames() as u64);
-    CommandRing::append(memory, registers, command);
-}
+impl Bench {
+    // The queue begins at this page and is on.
+    fn new(alloc: Global, page: u64, log2sz_less_1: u64) -> Result<Box<Bench>, Fail> {
+        let memory = Memory::new(alloc, 64)?;
+        let mut registers = Registers::new();
+        registers.set(Register::Cqb, page << 10 | log2sz_less_1);
+        registers.set(Register::Cqcsr, 1);
+        Ok(Box::new(alloc, Bench { memory, registers })?)
+    }
 
-// Takes what stands at the head.
-fn take(rt: &impl Abort, memory: &Memory, registers: &mut Registers) -> Option<QueueEntry> {
-    let found = CommandRing::next(memory, registers);
-    assert!(rt; registers.command_head() != registers.command_tail());
-    CommandRing::advance(registers);
-    found
+    // Appends a command that names this device, where there is room, in memory.
+    fn append(&mut self, rt: &impl Abort, number: u32) {
+        let command = of_device(rt, number);
+        assert!(rt; !CommandRing::is_full(&self.registers));
+        counts(&self.memory, &self.registers);
+        let place = self.registers.command_base() + 16 * self.registers.command_tail() as u64;
+        assert!(rt; place / 4096 < self.memory.frames() as u64);
+        CommandRing::append(&mut self.memory, &mut self.registers, command);
+    }
+
+    // This stands at the head.
+    fn expect_next(&self, rt: &impl Abort, expected: Option<QueueEntry>) {
+        let found = CommandRing::next(&self.memory, &self.registers);
+        expect(rt, found == expected);
+    }
+
+    // Takes this, which stands at the head.
+    fn takes(&mut self, rt: &impl Abort, expected: QueueEntry) {
+        self.expect_next(rt, Some(expected));
+        assert!(rt; self.registers.command_head() != self.registers.command_tail());
+        CommandRing::advance(&mut self.registers);
+    }
+
+    // Takes the command that names this device.
+    fn takes_command(&mut self, rt: &impl Abort, number: u32) {
+        let command = of_device(rt, number);
+        self.takes(rt, QueueEntry::Command(command));
+    }
+
+    fn expect_register(&self, rt: &impl Abort, register: Register, expected: u64) {
+        expect(rt, self.registers.value(register) == expected);
+    }
+
+    fn set_tail(&mut self, tail: u64) {
+        self.registers.set(Register::Cqt, tail);
+    }
+
+    // So many commands fill the ring. They come out in the order in which they went in.
+    fn goes_round(&mut self, rt: &impl Abort, first: u32, count: u32) {
+        for number in first..first.saturating_add(count) {
+            self.append(rt, number);
+        }
+        expect(rt, CommandRing::is_full(&self.registers));
+        for number in first..first.saturating_add(count) {
+            self.takes_command(rt, number);
+        }
+        self.expect_next(rt, None);
+    }
 }
 
 // A ring of two entries holds one command, at either of its places.
 #[test]
 fn a_ring_of_two_goes_round(rt: HostRuntime) -> Result<(), Fail> {
-    let mut memory = Memory::new(rt.alloc(), 64)?;
-    let mut registers = turned_on(63, 0);
-    assert_eq!(rt; registers.command_entries(), 2);
+    let mut bench = Bench::new(rt.alloc(), 63, 0)?;
     for number in 0..5u32 {
-        assert_eq!(rt; registers.command_tail(), number % 2);
-        append(&rt, &mut memory, &mut registers, of_device(number)?);
-        assert!(rt; CommandRing::is_full(&registers));
-        let command = of_device(number)?;
-        let found = take(&rt, &memory, &mut registers);
-        assert_eq!(rt; found, Some(QueueEntry::Command(command)));
-        assert_eq!(rt; CommandRing::next(&memory, &registers), None);
+        bench.expect_register(&rt, Register::Cqt, u64::from(number % 2));
+        bench.goes_round(&rt, number, 1);
     }
     Ok(())
 }
 
-// A ring of 256 entries holds 255 commands. They come out in the order in which they went in, also those
-// that lie over its end.
+// A ring of 256 entries holds 255 commands, also those that lie over its end.
 #[test]
 fn a_ring_of_256_goes_round(rt: HostRuntime) -> Result<(), Fail> {
-    let mut memory = Memory::new(rt.alloc(), 64)?;
-    let mut registers = turned_on(63, 7);
+    let mut bench = Bench::new(rt.alloc(), 63, 7)?;
     for round in 0..3u32 {
-        for number in 0..255u32 {
-            append(
-                &rt,
-                &mut memory,
-                &mut registers,
-                of_device(256 * round + number)?,
-            );
-        }
-        assert!(rt; CommandRing::is_full(&registers));
-        for number in 0..255u32 {
-            let command = of_device(256 * round + number)?;
-            let found = take(&rt, &memory, &mut registers);
-            assert_eq!(rt; found, Some(QueueEntry::Command(command)));
-        }
-        assert_eq!(rt; CommandRing::next(&memory, &registers), None);
+        bench.goes_round(&rt, 256 * round, 255);
     }
-    assert_eq!(rt; registers.command_head(), 253);
+    bench.expect_register(&rt, Register::Cqh, 253);
     Ok(())
 }
 
@@ -87,30 +107,21 @@ fn a_ring_of_256_goes_round(rt: HostRuntime) -> Result<(), Fail> {
 // memory, where zeros are no command, and the next is outside.
 #[test]
 fn a_ring_may_lie_partly_outside_memory(rt: HostRuntime) -> Result<(), Fail> {
-    let memory = Memory::new(rt.alloc(), 64)?;
-    let mut registers = turned_on(63, 8);
-    registers.set(Register::Cqt, 257);
+    let mut bench = Bench::new(rt.alloc(), 63, 8)?;
+    bench.set_tail(257);
     for _ in 0..256u32 {
-        let found = take(&rt, &memory, &mut registers);
-        assert_eq!(rt; found, Some(QueueEntry::Illegal(Illegal::Opcode)));
+        bench.takes(&rt, QueueEntry::Illegal(Illegal::Opcode));
     }
-    assert_eq!(rt;
-        CommandRing::next(&memory, &registers),
-        Some(QueueEntry::Outside)
-    );
+    bench.expect_next(&rt, Some(QueueEntry::Outside));
     Ok(())
 }
 
 // The highest base and the largest ring: nothing of it is in memory.
 #[test]
 fn a_ring_may_lie_outside_memory(rt: HostRuntime) -> Result<(), Fail> {
-    let memory = Memory::new(rt.alloc(), 64)?;
-    let mut registers = turned_on(0xfff_ffff_ffff, 31);
-    assert_eq!(rt; CommandRing::next(&memory, &registers), None);
-    registers.set(Register::Cqt, 0xffff_ffff);
-    assert_eq!(rt;
-        CommandRing::next(&memory, &registers),
-        Some(QueueEntry::Outside)
-    );
+    let mut bench = Bench::new(rt.alloc(), 0xfff_ffff_ffff, 31)?;
+    bench.expect_next(&rt, None);
+    bench.set_tail(0xffff_ffff);
+    bench.expect_next(&rt, Some(QueueEntry::Outside));
     Ok(())
 }

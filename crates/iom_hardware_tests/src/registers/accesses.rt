@@ -1,5 +1,7 @@
-use crate::registers::steps::{Step, follow};
+use crate::expect::expect;
+use crate::registers::steps::{Step, follow, reads, writes};
 use iom_registers::{DirectoryMode, Mmio, RegFault, Registers};
+use std::process::Abort;
 
 // What a read of so many bytes at an offset answers at power-on.
 fn answer(offset: u64, width: u32) -> Result<u64, RegFault> {
@@ -17,28 +19,29 @@ fn answer(offset: u64, width: u32) -> Result<u64, RegFault> {
     }
 }
 
-// Each access is answered by the table, and a refused write changes nothing.
+// The access is answered by the table, and a refused write changes nothing.
+fn is_answered(rt: &impl Abort, registers: &mut Registers, offset: u64, width: u32) {
+    let answer = answer(offset, width);
+    expect(rt, registers.read(offset, width) == answer);
+    if answer.is_err() {
+        let written = registers.write(offset, width, u64::MAX);
+        expect(rt, written.err() == answer.err());
+        expect(rt, *registers == Registers::new());
+    }
+}
+
 #[test]
 fn each_width_at_each_offset(rt: HostRuntime) {
     let mut registers = Registers::new();
     for offset in 0..96 {
         for width in [1, 2, 4, 8] {
-            let answer = answer(offset, width);
-            assert_eq!(rt;
-                registers.read(offset, width),
-                answer,
-                "{width} at {offset}"
-            );
-            if let Err(fault) = answer {
-                assert_eq!(rt; registers.write(offset, width, u64::MAX), Err(fault));
-                assert_eq!(rt; registers, Registers::new());
-            }
+            is_answered(&rt, &mut registers, offset, width);
         }
     }
 }
 
 // A mode of 15 doesn't exist, and queues of two entries have one bit of an index.
-const ONES_AND_ZEROS: [(Step, u64, u64); 24] = [
+static ONES_AND_ZEROS: [(Step, u64, u64); 24] = [
     (Step::Write(0, u64::MAX), 0, 0x0000_0020_1202_0210),
     (Step::Write(0, 0), 0, 0x0000_0020_1202_0210),
     (Step::Write(8, u64::MAX), 8, 2),
@@ -70,23 +73,30 @@ fn all_ones_and_all_zeros(rt: HostRuntime) {
     follow(&rt, &ONES_AND_ZEROS);
 }
 
+/// What is written to ddtp, what it reads then, and the mode.
+static MODES: [(u64, u64, DirectoryMode); 9] = [
+    (0xf001, 0xf001, DirectoryMode::Bare),
+    (0xf002, 0xf002, DirectoryMode::OneLevel),
+    (0xf003, 0xf003, DirectoryMode::TwoLevels),
+    (0xf004, 0xf004, DirectoryMode::ThreeLevels),
+    (0x1_0005, 0xf004, DirectoryMode::ThreeLevels),
+    (0x1_0006, 0xf004, DirectoryMode::ThreeLevels),
+    (0x1_0008, 0xf004, DirectoryMode::ThreeLevels),
+    (0x1_000f, 0xf004, DirectoryMode::ThreeLevels),
+    (0xffc0_0000_0000_f3f0, 0xf000, DirectoryMode::Off),
+];
+
+fn has_mode(rt: &impl Abort, registers: &Registers, mode: DirectoryMode) {
+    expect(rt, registers.directory_mode() == mode);
+    expect(rt, registers.directory_root() == 60);
+}
+
 #[test]
 fn modes_of_the_directory(rt: HostRuntime) {
     let mut registers = Registers::new();
-    for (value, reads, mode) in [
-        (0xf001, 0xf001, DirectoryMode::Bare),
-        (0xf002, 0xf002, DirectoryMode::OneLevel),
-        (0xf003, 0xf003, DirectoryMode::TwoLevels),
-        (0xf004, 0xf004, DirectoryMode::ThreeLevels),
-        (0x1_0005, 0xf004, DirectoryMode::ThreeLevels),
-        (0x1_0006, 0xf004, DirectoryMode::ThreeLevels),
-        (0x1_0008, 0xf004, DirectoryMode::ThreeLevels),
-        (0x1_000f, 0xf004, DirectoryMode::ThreeLevels),
-        (0xffc0_0000_0000_f3f0, 0xf000, DirectoryMode::Off),
-    ] {
-        assert_eq!(rt; registers.write(16, 8, value), Ok(()));
-        assert_eq!(rt; registers.read(16, 8), Ok(reads));
-        assert_eq!(rt; registers.directory_mode(), mode);
-        assert_eq!(rt; registers.directory_root(), 60);
+    for (value, read, mode) in MODES.iter() {
+        writes(&rt, &mut registers, 16, *value);
+        reads(&rt, &registers, 16, *read);
+        has_mode(&rt, &registers, *mode);
     }
 }

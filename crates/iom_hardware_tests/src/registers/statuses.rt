@@ -1,9 +1,11 @@
-use crate::registers::steps::{Step, follow};
-use iom_registers::{Mmio, Registers};
+use crate::expect::expect;
+use crate::registers::steps::{Step, follow, take};
+use iom_registers::Registers;
+use std::process::Abort;
 
 // An illegal command, on with interrupts: the interrupt is 1 again at once where it is cleared before the
 // bit, and stays where it isn't cleared.
-const ILLEGAL: [(Step, u64, u64); 11] = [
+static ILLEGAL: [(Step, u64, u64); 11] = [
     (Step::Write(24, 0xfc07), 24, 0xfc07),
     (Step::Write(72, 3), 72, 0x0001_0003),
     (Step::Write(36, 1), 36, 1),
@@ -18,7 +20,7 @@ const ILLEGAL: [(Step, u64, u64); 11] = [
 ];
 
 // Each of the other bits of cqcsr the same, and that a write of 1 clears its bit alone.
-const ERRORS: [(Step, u64, u64); 18] = [
+static ERRORS: [(Step, u64, u64); 18] = [
     (Step::Write(72, 3), 72, 0x0001_0003),
     (Step::Cqmf, 84, 1),
     (Step::Write(84, 1), 84, 1),
@@ -41,7 +43,7 @@ const ERRORS: [(Step, u64, u64); 18] = [
 
 // Without interrupts the bits alone are set, and cip where interrupts are enabled then. Turned off, the bits
 // stay, and a write of 1 clears them; turned on, all are cleared.
-const QUIET: [(Step, u64, u64); 14] = [
+static QUIET: [(Step, u64, u64); 14] = [
     (Step::Write(72, 1), 72, 0x0001_0001),
     (Step::CmdTo, 72, 0x0001_0201),
     (Step::FenceWIp, 72, 0x0001_0a01),
@@ -59,7 +61,7 @@ const QUIET: [(Step, u64, u64); 14] = [
 ];
 
 // The fault queue in the same way. A record sets fip where fie is 1, and it isn't 1 again once cleared.
-const FAULTS: [(Step, u64, u64); 22] = [
+static FAULTS: [(Step, u64, u64); 22] = [
     (Step::Write(76, 1), 76, 0x0001_0001),
     (Step::RecordWritten, 84, 0),
     (Step::Write(76, 3), 76, 0x0001_0003),
@@ -86,28 +88,39 @@ const FAULTS: [(Step, u64, u64); 22] = [
 
 #[test]
 fn bits_and_interrupts(rt: HostRuntime) {
-    for steps in [
-        ILLEGAL.as_slice(),
-        ERRORS.as_slice(),
-        QUIET.as_slice(),
-        FAULTS.as_slice(),
-    ] {
-        follow(&rt, steps);
-    }
+    follow(&rt, &ILLEGAL);
+    follow(&rt, &ERRORS);
+    follow(&rt, &QUIET);
+    follow(&rt, &FAULTS);
+}
+
+/// After each step, whether the command queue is on and whether it is processed, whether the fault queue is on and
+/// whether it is marked.
+static STOPS: [(Step, [bool; 4]); 6] = [
+    (Step::Look, [false, false, false, false]),
+    (Step::Write(72, 1), [true, true, false, false]),
+    (Step::Write(76, 1), [true, true, true, false]),
+    (Step::FenceWIp, [true, true, true, false]),
+    (Step::CmdTo, [true, false, true, false]),
+    (Step::Fqof, [true, false, true, true]),
+];
+
+fn are_on(rt: &impl Abort, registers: &Registers, expected: &[bool; 4]) {
+    let seen = [
+        registers.is_command_queue_on(),
+        registers.is_processing_commands(),
+        registers.is_fault_queue_on(),
+        registers.is_fault_queue_marked(),
+    ];
+    expect(rt, seen == *expected);
 }
 
 // Commands are processed while the queue is on and none of its errors is set.
 #[test]
 fn errors_stop_the_queue(rt: HostRuntime) {
     let mut registers = Registers::new();
-    assert!(rt; !registers.is_processing_commands() && !registers.is_fault_queue_on());
-    assert_eq!(rt; registers.write(72, 4, 1), Ok(()));
-    assert_eq!(rt; registers.write(76, 4, 1), Ok(()));
-    registers.set_fence_w_ip();
-    assert!(rt; registers.is_processing_commands() && registers.is_fault_queue_on());
-    registers.set_cmd_to();
-    assert!(rt; registers.is_command_queue_on() && !registers.is_processing_commands());
-    assert!(rt; !registers.is_fault_queue_marked());
-    registers.set_fqof();
-    assert!(rt; registers.is_fault_queue_on() && registers.is_fault_queue_marked());
+    for (step, expected) in STOPS.iter() {
+        take(&mut registers, *step);
+        are_on(&rt, &registers, expected);
+    }
 }

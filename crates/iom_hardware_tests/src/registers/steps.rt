@@ -1,11 +1,10 @@
-use iom_registers::{Mmio, Registers};
+use crate::expect::expect;
+use iom_registers::{Mmio, RegFault, Registers};
 use std::process::Abort;
 
 /// What is done to a register file.
-#[derive(Clone, Copy, Debug)]
+#[derive(Clone, Copy)]
 pub(crate) enum Step {
-    /// Power-on.
-    New,
     /// A write of a value to the register at an offset, with its width.
     Write(u64, u64),
     /// Nothing: the read that follows is all.
@@ -28,9 +27,8 @@ pub(crate) fn width_at(offset: u64) -> u32 {
     }
 }
 
-fn take(registers: &mut Registers, step: Step) {
+pub(crate) fn take(registers: &mut Registers, step: Step) {
     match step {
-        Step::New => *registers = Registers::new(),
         Step::Write(offset, value) => {
             let _ = registers.write(offset, width_at(offset), value);
         }
@@ -46,12 +44,23 @@ fn take(registers: &mut Registers, step: Step) {
     }
 }
 
+/// The register at the offset reads so.
+pub(crate) fn reads(rt: &impl Abort, registers: &Registers, offset: u64, value: u64) {
+    let read: Result<u64, RegFault> = registers.read(offset, width_at(offset));
+    expect(rt, read == Ok(value));
+}
+
+/// The value is written to the register at the offset.
+pub(crate) fn writes(rt: &impl Abort, registers: &mut Registers, offset: u64, value: u64) {
+    let written = registers.write(offset, width_at(offset), value);
+    expect(rt, written.is_ok());
+}
+
 /// Takes the steps from power-on: after each the register at the offset reads so.
 pub(crate) fn follow(rt: &impl Abort, steps: &[(Step, u64, u64)]) {
     let mut registers = Registers::new();
-    for (step, offset, value) in steps {
+    for (step, offset, value) in steps.iter() {
         take(&mut registers, *step);
-        let read = registers.read(*offset, width_at(*offset));
-        assert_eq!(rt; read, Ok(*value), "at {offset} after {step:?}");
+        reads(rt, &registers, *offset, *value);
     }
 }

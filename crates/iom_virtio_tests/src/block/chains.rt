@@ -1,56 +1,110 @@
-use crate::block::bench::{MEMORY, Seen, device, poke, turn};
+use crate::block::bench::Bench;
+use crate::seen::Seen;
 use iom_virtqueue::ChainFault;
 use std::process::Abort;
+use std::test::Fail;
 
-// A descriptor of 16 bytes from address 0x1000 on, at index 2, that names itself; and a ring whose first
-// entry is 2.
-const LOOPED: [u8; 16] = [0, 16, 0, 0, 0, 0, 0, 0, 16, 0, 0, 0, 1, 0, 2, 0];
-
-const FIRST: [u8; 6] = [0, 0, 1, 0, 2, 0];
-
-// With these bytes at index 2 of the table and in the ring, so many accesses are made before the fault is
-// named. Then the device is down, and the used ring as it was.
-fn names(
-    rt: &impl Abort,
-    descriptor: &[u8; 16],
-    ring: &[u8; 6],
+/// A chain in which a fault stands.
+struct Case {
+    /// The descriptor at index 2, of a buffer at 0x1000 of so many bytes: its flags and what follows it.
+    len: u32,
+    flags: u8,
+    next: u16,
+    /// The available idx, and the first entry of the ring.
+    idx: u16,
+    entry: u16,
+    /// What is named, after so many accesses.
     fault: ChainFault,
-    accesses: usize,
-) {
-    let mut memory = [0; MEMORY];
-    poke(rt, &mut memory, 0x20, descriptor);
-    poke(
-        rt,
-        &mut memory,
-        0x10,
-        &[0, 16, 0, 0, 0, 0, 0, 0, 16, 0, 0, 0, 0, 0, 0, 0],
-    );
-    poke(rt, &mut memory, 0x100, ring);
-    let mut blk = device(rt, 4, 0);
+    accesses: u16,
+}
+
+/// A descriptor that names itself.
+const LOOPED: Case = Case {
+    len: 16,
+    flags: 1,
+    next: 2,
+    idx: 1,
+    entry: 2,
+    fault: ChainFault::Loop,
+    accesses: 3,
+};
+
+static CASES: [Case; 8] = [
+    LOOPED,
+    Case {
+        idx: 5,
+        fault: ChainFault::BadIndex,
+        accesses: 1,
+        ..LOOPED
+    },
+    Case {
+        entry: 4,
+        fault: ChainFault::BadIndex,
+        accesses: 2,
+        ..LOOPED
+    },
+    Case {
+        next: 4,
+        fault: ChainFault::BadIndex,
+        ..LOOPED
+    },
+    Case {
+        flags: 4,
+        next: 0,
+        fault: ChainFault::Indirect,
+        ..LOOPED
+    },
+    Case {
+        len: 0x10_0001,
+        flags: 0,
+        next: 0,
+        fault: ChainFault::TooLong,
+        ..LOOPED
+    },
+    Case {
+        flags: 0,
+        next: 0,
+        fault: ChainFault::Short,
+        ..LOOPED
+    },
+    // Index 1 follows, which is readable.
+    Case {
+        flags: 3,
+        next: 1,
+        fault: ChainFault::Order,
+        accesses: 4,
+        ..LOOPED
+    },
+];
+
+fn puts(rt: &impl Abort, bench: &mut Bench, case: &Case) {
+    bench.memory.poke_descriptor(rt, 1, 0x1000, 16, 0, 0);
+    bench
+        .memory
+        .poke_descriptor(rt, 2, 0x1000, 0, case.flags, case.next);
+    bench.memory.poke(rt, 0x28, &case.len.to_le_bytes());
+    bench.memory.poke_half(rt, 0x102, case.idx);
+    bench.memory.poke_half(rt, 0x104, case.entry);
+}
+
+// So many accesses are made before the fault is named. Then the device is down, and the used ring as it was.
+fn names(rt: &impl Abort, bench: &mut Bench, fault: ChainFault, accesses: u16) {
     for _ in 0..accesses {
-        let seen = turn(&mut blk, &mut memory);
-        assert!(rt; matches!(seen, Seen::Read(_, _)), "{fault:?}");
+        bench.reads(rt);
     }
-    assert_eq!(rt; turn(&mut blk, &mut memory), Seen::Chain(fault));
-    assert_eq!(rt; blk.status(), 79);
-    assert_eq!(rt; turn(&mut blk, &mut memory), Seen::Down);
-    assert_eq!(rt; memory[0x202], 0);
+    bench.turns(rt, Seen::Chain(fault));
+    bench.expect_status(rt, 79);
+    bench.turns(rt, Seen::Down);
+    bench.memory.expect_half(rt, 0x202, 0);
 }
 
 // The first fault that stands in a chain is named before anything else is read.
 #[test]
-fn faults_have_names(rt: HostRuntime) {
-    let last = [0, 16, 0, 0, 0, 0, 0, 0, 16, 0, 0, 0, 0, 0, 0, 0];
-    names(&rt, &LOOPED, &FIRST, ChainFault::Loop, 3);
-    names(&rt, &LOOPED, &[0, 0, 5, 0, 2, 0], ChainFault::BadIndex, 1);
-    names(&rt, &LOOPED, &[0, 0, 1, 0, 4, 0], ChainFault::BadIndex, 2);
-    let outside = [0, 16, 0, 0, 0, 0, 0, 0, 16, 0, 0, 0, 1, 0, 4, 0];
-    names(&rt, &outside, &FIRST, ChainFault::BadIndex, 3);
-    let table = [0, 16, 0, 0, 0, 0, 0, 0, 16, 0, 0, 0, 4, 0, 0, 0];
-    names(&rt, &table, &FIRST, ChainFault::Indirect, 3);
-    let long = [0, 16, 0, 0, 0, 0, 0, 0, 1, 0, 16, 0, 0, 0, 0, 0];
-    names(&rt, &long, &FIRST, ChainFault::TooLong, 3);
-    names(&rt, &last, &FIRST, ChainFault::Short, 3);
-    let writable = [0, 16, 0, 0, 0, 0, 0, 0, 16, 0, 0, 0, 3, 0, 1, 0];
-    names(&rt, &writable, &FIRST, ChainFault::Order, 4);
+fn faults_have_names(rt: HostRuntime) -> Result<(), Fail> {
+    for case in CASES.iter() {
+        let mut bench = Bench::new(&rt, rt.alloc(), 4, 0)?;
+        puts(&rt, &mut bench, case);
+        names(&rt, &mut bench, case.fault, case.accesses);
+    }
+    Ok(())
 }

@@ -2,9 +2,9 @@
 
 ghost use Rattle.std.specs.Prelude.{◌<◌};
 
-use crate::block::bench::{MEMORY, Seen, device, poke, sets_queue, turn};
-use crate::block::disk::FailingDisk;
-use iom_virtio_blk::Blk;
+use crate::block::bench::Bench;
+use crate::expect::expect;
+use crate::seen::Seen;
 use std::alloc::Global;
 use std::process::Abort;
 use std::test::Fail;
@@ -55,7 +55,7 @@ struct Buffer {
 
 #[derive(Drop)]
 struct Guest {
-    memory: Box<[u8; MEMORY]>,
+    bench: Box<Bench>,
     draw: Draw,
     /// How many requests were made since the queue was set.
     requests: u16,
@@ -65,7 +65,7 @@ struct Guest {
 
 impl Guest {
     fn poke(&mut self, rt: &impl Abort, at: u16, bytes: &[u8]) {
-        poke(rt, &mut self.memory, usize::from(at), bytes);
+        self.bench.memory.poke(rt, at, bytes);
     }
 
     /// Cuts a buffer in two, of which one may be empty.
@@ -84,91 +84,88 @@ impl Guest {
         ]
     }
 
-    /// Writes a descriptor, which another follows where it isn't the last.
-    fn describes(&mut self, rt: &impl Abort, index: u16, buffer: Buffer, is_last: bool) {
-        let mut bytes = [0; 16];
-        bytes[..2].copy_from_slice(&buffer.address.to_le_bytes());
-        bytes[8..10].copy_from_slice(&buffer.len.to_le_bytes());
-        bytes[12] = u8::from(!is_last) + 2 * u8::from(buffer.is_writable);
-        bytes[14..].copy_from_slice(&(index.wrapping_add(1) % SIZE).to_le_bytes());
-        self.poke(rt, 16 * (index % SIZE), &bytes);
+    /// Writes a descriptor of the chain that begins at this head, the fifth of which is the last.
+    fn describes(&mut self, rt: &impl Abort, head: u16, place: u16, buffer: Buffer) {
+        let index = head.wrapping_add(place) % SIZE;
+        let next = index.wrapping_add(1) % SIZE;
+        let flags = u8::from(place != 4) + 2 * u8::from(buffer.is_writable);
+        self.bench
+            .memory
+            .poke_descriptor(rt, index, buffer.address, buffer.len, flags, next);
     }
 
-    /// Lays out a request with so much data, and makes it available. Its head is told.
-    fn requests(&mut self, rt: &impl Abort, kind: u8, sector: u8, len: u16) -> u16 {
-        let mut bytes = [0; 16];
-        bytes[0] = kind;
-        bytes[8] = sector;
-        self.poke(rt, HEADER, &bytes);
-        self.poke(rt, STATUS, &[255]);
-        let header = self.cut(Buffer {
+    /// Writes two descriptors, of a buffer that is cut in two.
+    fn describes_cut(&mut self, rt: &impl Abort, head: u16, place: u16, buffer: Buffer) {
+        let [first, second] = self.cut(buffer);
+        self.describes(rt, head, place, first);
+        self.describes(rt, head, place.wrapping_add(1), second);
+    }
+
+    /// Writes the chain of a request with so much data, and tells its head.
+    fn lays_out(&mut self, rt: &impl Abort, is_writable: bool, len: u16) -> u16 {
+        let head = self.draw.below(SIZE);
+        let header = Buffer {
             address: HEADER,
             len: 16,
             is_writable: false,
-        });
-        let data = self.cut(Buffer {
+        };
+        let data = Buffer {
             address: DATA,
             len,
-            is_writable: kind == IN,
-        });
+            is_writable,
+        };
         let status = Buffer {
             address: STATUS,
             len: 1,
             is_writable: true,
         };
-        let head = self.draw.below(SIZE);
-        let buffers = [header[0], header[1], data[0], data[1], status];
-        for place in 0..5u16 {
-            let buffer = buffers[usize::from(place)];
-            self.describes(rt, head.wrapping_add(place) % SIZE, buffer, place == 4);
-        }
-        self.poke(rt, 0x104 + 2 * (self.requests % SIZE), &head.to_le_bytes());
-        self.requests = self.requests.wrapping_add(1);
-        let count = self.requests.to_le_bytes();
-        self.poke(rt, 0x102, &count);
+        self.describes_cut(rt, head, 0, header);
+        self.describes_cut(rt, head, 2, data);
+        self.describes(rt, head, 4, status);
         head
     }
 
-    /// Takes steps until one wants no access.
-    fn waits_for(&mut self, blk: &mut Blk<FailingDisk>) -> Seen {
-        for _ in 0..64 {
-            match turn(blk, &mut self.memory) {
-                Seen::Read(_, _) | Seen::Wrote(_, _) => {}
-                other => return other,
-            }
-        }
-        Seen::Waiting
+    /// Lays out a request with so much data, and makes it available. Its head is told.
+    fn requests(&mut self, rt: &impl Abort, kind: u8, sector: u8, len: u16) -> u16 {
+        self.bench.memory.put(HEADER, kind);
+        self.bench.memory.put(HEADER + 8, sector);
+        self.bench.memory.put(STATUS, 255);
+        let head = self.lays_out(rt, kind == IN, len);
+        let entry = 0x104 + 2 * (self.requests % SIZE);
+        self.bench.memory.poke_half(rt, entry, head);
+        self.requests = self.requests.wrapping_add(1);
+        self.bench.memory.poke_half(rt, 0x102, self.requests);
+        head
     }
 
     /// The request is served: its status, its used element and the used index are as they should be.
-    fn is_served(&mut self, rt: &impl Abort, blk: &mut Blk<FailingDisk>, head: u16, written: u32) {
-        let seen = self.waits_for(blk);
-        assert_eq!(rt; seen, Seen::Finished(head, written));
-        assert_eq!(rt; self.memory[usize::from(STATUS)], 0);
-        let place = 0x204 + 8 * usize::from(self.requests.wrapping_sub(1) % SIZE);
-        let mut element = [0; 8];
-        element[..2].copy_from_slice(&head.to_le_bytes());
-        element[4..].copy_from_slice(&written.to_le_bytes());
-        assert_eq!(rt; &self.memory[place..place + 8], element.as_slice());
-        assert_eq!(rt;
-            &self.memory[0x202..0x204],
-            self.requests.to_le_bytes().as_slice()
-        );
+    fn is_served(&mut self, rt: &impl Abort, head: u16, written: u16) {
+        self.bench
+            .ends(rt, Seen::Finished(head, u32::from(written)));
+        self.bench.memory.expect_byte(rt, STATUS, 0);
+        let place = 0x204 + 8 * (self.requests.wrapping_sub(1) % SIZE);
+        self.bench.memory.expect_half(rt, place, head);
+        self.bench.memory.expect_half(rt, place + 2, 0);
+        self.bench.memory.expect_half(rt, place + 4, written);
+        self.bench.memory.expect_half(rt, place + 6, 0);
+        self.bench.memory.expect_half(rt, 0x202, self.requests);
     }
 
     /// Puts what a sector holds at this place of the data.
     fn fill(&mut self, place: u16, beginning: u8) {
-        let from = usize::from(DATA) + 512 * usize::from(place % 4);
-        for n in 0..512usize {
-            self.memory[from + n] = beginning.wrapping_add((n % 256) as u8);
+        let from = DATA + 512 * (place % 4);
+        for n in 0..512u16 {
+            let byte = beginning.wrapping_add((n % 256) as u8);
+            self.bench.memory.put(from + n, byte);
         }
     }
 
     /// Whether what a sector holds is at this place of the data.
     fn is_there(&self, place: u16, beginning: u8) -> bool {
-        let from = usize::from(DATA) + 512 * usize::from(place % 4);
-        for n in 0..512usize {
-            if self.memory[from + n] != beginning.wrapping_add((n % 256) as u8) {
+        let from = DATA + 512 * (place % 4);
+        for n in 0..512u16 {
+            let byte = beginning.wrapping_add((n % 256) as u8);
+            if self.bench.memory.byte(from + n) != byte {
                 return false;
             }
         }
@@ -176,7 +173,7 @@ impl Guest {
     }
 
     /// Writes sectors from this one on.
-    fn writes(&mut self, rt: &impl Abort, blk: &mut Blk<FailingDisk>, sector: u8, count: u16) {
+    fn writes(&mut self, rt: &impl Abort, sector: u8, count: u16) {
         for place in 0..count {
             let beginning = self.draw.below(256) as u8;
             let written = usize::from(sector) + usize::from(place);
@@ -184,80 +181,100 @@ impl Guest {
             self.fill(place, beginning);
         }
         let head = self.requests(rt, OUT, sector, count.wrapping_mul(512));
-        self.is_served(rt, blk, head, 1);
+        self.is_served(rt, head, 1);
     }
 
     /// Reads sectors from this one on: they are as they were written last.
-    fn reads(&mut self, rt: &impl Abort, blk: &mut Blk<FailingDisk>, sector: u8, count: u16) {
+    fn reads(&mut self, rt: &impl Abort, sector: u8, count: u16) {
         let len = count.wrapping_mul(512);
         let head = self.requests(rt, IN, sector, len);
-        self.is_served(rt, blk, head, u32::from(len) + 1);
+        self.is_served(rt, head, len.wrapping_add(1));
         for place in 0..count {
             let read = usize::from(sector) + usize::from(place);
-            assert!(rt; self.is_there(place, self.beginnings[read % 4]));
+            expect(rt, self.is_there(place, self.beginnings[read % 4]));
         }
     }
 
     /// A drawn request.
-    fn asks(&mut self, rt: &impl Abort, blk: &mut Blk<FailingDisk>) {
+    fn asks(&mut self, rt: &impl Abort) {
         let sector = self.draw.below(4);
         let count = self.draw.below(4 - sector) + 1;
         match self.draw.below(9) {
-            0..=3 => self.writes(rt, blk, sector as u8, count),
-            4..=7 => self.reads(rt, blk, sector as u8, count),
+            0..=3 => self.writes(rt, sector as u8, count),
+            4..=7 => self.reads(rt, sector as u8, count),
             _ => {
                 let head = self.requests(rt, FLUSH, 0, 0);
-                self.is_served(rt, blk, head, 1);
+                self.is_served(rt, head, 1);
             }
         }
     }
 
     /// Resets the device and sets its queue, with rings that have nothing.
-    fn begins_anew(&mut self, rt: &impl Abort, blk: &mut Blk<FailingDisk>) {
-        sets_queue(rt, blk, u64::from(SIZE));
+    fn begins_anew(&mut self, rt: &impl Abort) {
+        self.bench.sets_queue(rt, u64::from(SIZE));
         self.poke(rt, 0x100, &[0; 4]);
+        self.poke(rt, HEADER, &[0; 16]);
         self.requests = 0;
     }
 
     /// Changes a byte of the table, of a ring or of a header.
     fn spoils(&mut self, rt: &impl Abort) {
-        let at = match self.draw.below(8) {
-            0 => self.draw.below(0x300),
-            1 => 0x102,
-            2 | 3 => 0x104 + self.draw.below(32),
-            4 => HEADER + self.draw.below(16),
-            _ => 16 * self.draw.below(SIZE) + self.draw.below(16),
-        };
-        let byte = match self.draw.below(3) {
-            0 => self.draw.below(256) as u8,
-            1 => self.draw.below(4) as u8,
-            _ => self.draw.below(32) as u8,
-        };
+        let place = self.draw.below(8);
+        let (from, len) = PLACES[usize::from(place)];
+        let at = from.wrapping_add(self.draw.below(len.max(1)));
+        let kind = self.draw.below(3);
+        let limit = LIMITS[usize::from(kind)];
+        let byte = self.draw.below(limit.max(1)) as u8;
         self.poke(rt, at, &[byte]);
+    }
+
+    /// Changes a byte, and lets the device take a step. One that is down by then is set up anew.
+    fn spoils_a_step(&mut self, rt: &impl Abort) {
+        self.spoils(rt);
+        if self.bench.turn() == Seen::Down {
+            self.begins_anew(rt);
+        }
     }
 }
 
+/// Where a byte is spoilt, from where on and how many there are: everywhere, the available idx, the ring, the header,
+/// and most often the table.
+static PLACES: [(u16, u16); 8] = [
+    (0, 0x300),
+    (0x102, 1),
+    (0x104, 32),
+    (0x104, 32),
+    (HEADER, 16),
+    (0, 256),
+    (0, 256),
+    (0, 256),
+];
+
+/// Below which number it is then.
+static LIMITS: [u16; 3] = [256, 4, 32];
+
 // A guest that has asked for nothing yet.
-fn begins(alloc: Global, seed: u64) -> Result<Guest, Fail> {
-    Ok(Guest {
-        memory: Box::new(alloc, [0; MEMORY])?,
+fn begins(rt: &impl Abort, alloc: Global, seed: u64) -> Result<Box<Guest>, Fail> {
+    let bench = Bench::new(rt, alloc, u64::from(SIZE), 0)?;
+    let guest = Guest {
+        bench,
         draw: Draw { state: seed },
         requests: 0,
         beginnings: [0; 4],
-    })
+    };
+    Ok(Box::new(alloc, guest)?)
 }
 
 // A thousand requests for each of twenty seeds: what is read is what was written last.
 #[test]
 fn what_was_written_is_read(rt: HostRuntime) -> Result<(), Fail> {
     for seed in 0..20 {
-        let mut blk = device(&rt, u64::from(SIZE), 0);
-        let mut guest = begins(rt.alloc(), seed)?;
+        let mut guest = begins(&rt, rt.alloc(), seed)?;
         for sector in 0..4 {
-            guest.writes(&rt, &mut blk, sector, 1);
+            guest.writes(&rt, sector, 1);
         }
         for _ in 0..1000 {
-            guest.asks(&rt, &mut blk);
+            guest.asks(&rt);
         }
     }
     Ok(())
@@ -268,18 +285,14 @@ fn what_was_written_is_read(rt: HostRuntime) -> Result<(), Fail> {
 #[test]
 fn a_hostile_driver_is_outlived(rt: HostRuntime) -> Result<(), Fail> {
     for seed in 0..20 {
-        let mut blk = device(&rt, u64::from(SIZE), 0);
-        let mut guest = begins(rt.alloc(), seed)?;
+        let mut guest = begins(&rt, rt.alloc(), seed)?;
         for _ in 0..4000 {
-            guest.spoils(&rt);
-            if turn(&mut blk, &mut guest.memory) == Seen::Down {
-                guest.begins_anew(&rt, &mut blk);
-            }
+            guest.spoils_a_step(&rt);
         }
-        guest.begins_anew(&rt, &mut blk);
-        guest.writes(&rt, &mut blk, 0, 4);
+        guest.begins_anew(&rt);
+        guest.writes(&rt, 0, 4);
         for _ in 0..20 {
-            guest.asks(&rt, &mut blk);
+            guest.asks(&rt);
         }
     }
     Ok(())

@@ -1,63 +1,63 @@
-use iom_virtqueue::{ChainFault, Phase, Queue, Want};
+use crate::expect::expect;
+use crate::memory::Memory;
+use crate::seen::Seen;
+use iom_virtqueue::{ChainFault, Layout, Phase, Queue, Want};
+use std::alloc::Global;
 use std::process::Abort;
+use std::test::Fail;
 
-/// The bytes of two pages of memory, which the queue reaches at addresses from 0 on.
-pub(crate) const MEMORY: usize = 8192;
-
-/// Which access was wanted, and made, or why it wasn't.
-#[derive(Clone, Copy, PartialEq, Eq, Debug)]
-pub(crate) enum Seen {
-    Read(u64, u16),
-    Wrote(u64, u16),
-    Fault(ChainFault),
-    Nothing,
-    Outside(u64),
+/// A queue with its table at 0, its available ring at 0x1000 and its used ring at 0x1400.
+#[derive(Drop)]
+pub(crate) struct Bench {
+    queue: Queue,
+    pub(crate) memory: Memory,
 }
 
-// The access that is wanted next is made.
-pub(crate) fn turn(queue: &mut Queue, memory: &mut [u8; MEMORY]) -> Seen {
-    match queue.next() {
-        Want::Nothing => Seen::Nothing,
-        Want::Read { address, len } => {
-            if address > 7680 || len > 512 {
-                return Seen::Outside(address);
-            }
-            let from = address as usize;
-            match queue.took(&memory[from..from + usize::from(len)]) {
-                Ok(()) => Seen::Read(address, len),
-                Err(fault) => Seen::Fault(fault),
-            }
-        }
-        Want::Write { address, bytes } => {
-            if address > 7680 {
-                return Seen::Outside(address);
-            }
-            let from = address as usize;
-            let len = bytes.len();
-            memory[from..from + len].copy_from_slice(&bytes);
-            match queue.took(&[]) {
-                Ok(()) => Seen::Wrote(address, len as u16),
-                Err(fault) => Seen::Fault(fault),
-            }
-        }
+// The bytes were taken, or why they weren't.
+fn seen(taken: Result<(), ChainFault>, access: Seen) -> Seen {
+    match taken {
+        Ok(()) => access,
+        Err(fault) => Seen::Chain(fault),
     }
 }
 
-// The access that is wanted next is this one.
-pub(crate) fn turns(rt: &impl Abort, queue: &mut Queue, memory: &mut [u8; MEMORY], want: Seen) {
-    assert_eq!(rt; turn(queue, memory), want);
-}
-
-// The chain was read whole, and so many bytes were written for it.
-pub(crate) fn finishes(rt: &impl Abort, queue: &mut Queue, written: u32) {
-    assert!(rt; queue.phase() == Phase::Served);
-    if let Phase::Served = queue.phase() {
-        queue.finish(written);
+impl Bench {
+    pub(crate) fn new(alloc: Global, size: u64) -> Result<Box<Bench>, Fail> {
+        let memory = Memory::new();
+        let layout = Layout::new(size, 0, 0x1000, 0x1400).ok_or("a layout")?;
+        let queue = Queue::new(layout);
+        Ok(Box::new(alloc, Bench { queue, memory })?)
     }
-}
 
-/// Writes bytes into memory.
-pub(crate) fn poke(rt: &impl Abort, memory: &mut [u8; MEMORY], at: usize, bytes: &[u8]) {
-    assert!(rt; at <= MEMORY && bytes.len() <= MEMORY - at);
-    memory[at..at + bytes.len()].copy_from_slice(bytes);
+    // The access that is wanted next is made.
+    fn turn(&mut self) -> Seen {
+        match self.queue.next() {
+            Want::Nothing => Seen::Idle,
+            Want::Read { address, len } => match self.memory.load(address, len) {
+                Some(bytes) => seen(self.queue.took(bytes), Seen::Read(address, len)),
+                None => Seen::Outside(address),
+            },
+            Want::Write { address, bytes } => {
+                if !self.memory.store(address, &bytes) {
+                    return Seen::Outside(address);
+                }
+                let len = bytes.len() as u16;
+                seen(self.queue.took(&[]), Seen::Wrote(address, len))
+            }
+        }
+    }
+
+    /// The access that is wanted next is this one.
+    pub(crate) fn turns(&mut self, rt: &impl Abort, expected: Seen) {
+        expect(rt, self.turn() == expected);
+    }
+
+    /// The chain was read whole, and so many bytes were written for it.
+    pub(crate) fn finishes(&mut self, rt: &impl Abort, written: u32) {
+        let is_served = self.queue.phase() == Phase::Served;
+        expect(rt, is_served);
+        if let Phase::Served = self.queue.phase() {
+            self.queue.finish(written);
+        }
+    }
 }
