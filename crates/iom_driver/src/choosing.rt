@@ -62,6 +62,7 @@ pub(crate) fn reserve_root(
 
 impl Driver {
     /// So many of the highest free frames, the named one passed over.
+    #[inline(always)]
     pub(crate) fn choose(&self, count: usize, named: Option<u32>) -> Option<ArrayVec<u32, 2>>
         requires { count ≤ 2 }
         ensures chosen { IfSome result (λ chosen.
