@@ -1,10 +1,9 @@
 // Address translation services: questions, accesses through a cache, and what a hostile device makes up.
-use crate::expect::expect_eq;
+use crate::expect::expect;
 use crate::lines::{Change, Comes, Does, Way, are_lawful, are_refused};
 use iom_base::{Cause, GrantRights, Mode, Rights};
 use iom_ledger::Refusal;
 use iom_machine::DeviceKind;
-use std::test::Fail;
 
 /// A device with a cache, in the first stage: held pages, then a page that lingers, then one of which the ticket
 /// is confirmed; and at last a device that leaves.
@@ -472,30 +471,30 @@ static CHANGED_EIGHT: [Change; 2] = [
 ];
 
 #[test]
-fn a_cached_device_is_judged(rt: HostRuntime) -> Result<(), Fail> {
-    are_lawful(&rt, &CACHED)?;
-    are_refused(&rt, &CACHED, &CHANGED_ANSWERS)?;
-    are_refused(&rt, &CACHED, &CHANGED_CACHED)
+fn a_cached_device_is_judged(rt: HostRuntime) {
+    are_lawful(&rt, rt.alloc(), &CACHED);
+    are_refused(&rt, rt.alloc(), &CACHED, &CHANGED_ANSWERS);
+    are_refused(&rt, rt.alloc(), &CACHED, &CHANGED_CACHED);
 }
 
 #[test]
-fn a_forging_device_is_judged(rt: HostRuntime) -> Result<(), Fail> {
-    are_lawful(&rt, &FORGED)?;
-    are_refused(&rt, &FORGED, &CHANGED_FORGED)
+fn a_forging_device_is_judged(rt: HostRuntime) {
+    are_lawful(&rt, rt.alloc(), &FORGED);
+    are_refused(&rt, rt.alloc(), &FORGED, &CHANGED_FORGED);
 }
 
 #[test]
-fn questions_in_other_modes_are_judged(rt: HostRuntime) -> Result<(), Fail> {
-    are_lawful(&rt, &BOTH)?;
-    are_refused(&rt, &BOTH, &CHANGED_BOTH)?;
-    are_lawful(&rt, &SECOND)?;
-    are_refused(&rt, &SECOND, &CHANGED_SECOND)
+fn questions_in_other_modes_are_judged(rt: HostRuntime) {
+    are_lawful(&rt, rt.alloc(), &BOTH);
+    are_refused(&rt, rt.alloc(), &BOTH, &CHANGED_BOTH);
+    are_lawful(&rt, rt.alloc(), &SECOND);
+    are_refused(&rt, rt.alloc(), &SECOND, &CHANGED_SECOND);
 }
 
 #[test]
-fn busy_comes_before_the_cache(rt: HostRuntime) -> Result<(), Fail> {
-    are_lawful(&rt, &EIGHT_CACHED)?;
-    are_refused(&rt, &EIGHT_CACHED, &CHANGED_EIGHT)
+fn busy_comes_before_the_cache(rt: HostRuntime) {
+    are_lawful(&rt, rt.alloc(), &EIGHT_CACHED);
+    are_refused(&rt, rt.alloc(), &EIGHT_CACHED, &CHANGED_EIGHT);
 }
 
 /// Of each kind: whether it is a block device, has a cache, sends requests that the IOMMU translates, forges, sends
@@ -522,9 +521,8 @@ fn does_of(kind: DeviceKind) -> [bool; 6] {
 }
 
 #[test]
-fn kinds_do_what_they_can(rt: HostRuntime) -> Result<(), Fail> {
-    for (kind, does) in &KINDS {
-        expect_eq(&rt, &does_of(*kind), does);
+fn kinds_do_what_they_can(rt: HostRuntime) {
+    for (kind, does) in KINDS.iter() {
+        expect(&rt, does_of(*kind) == *does);
     }
-    Ok(())
 }

@@ -1,11 +1,11 @@
 // Block devices: their disks, their queues, and the accesses that their steps begin.
-use crate::expect::expect_eq;
+use crate::expect::expect;
 use crate::lines::{Change, Comes, Does, are_lawful, are_refused};
 use iom_base::{Cause, GrantRights, Mode, Rights};
 use iom_ledger::Refusal;
 use iom_machine::{BlockStep, DeviceKind, NewDevice};
 use iom_virtqueue::ChainFault;
-use std::test::Fail;
+use std::process::Abort;
 
 /// A block device from its plugging in to a detach, and what it has of its disk then; and events that others refuse.
 static BLOCK: [(Does, Comes); 40] = [
@@ -303,47 +303,49 @@ static CHANGED_SIXTEEN: [Change; 4] = [
 ];
 
 #[test]
-fn disks_are_judged(rt: HostRuntime) -> Result<(), Fail> {
-    are_lawful(&rt, &BLOCK)?;
-    are_refused(&rt, &BLOCK, &CHANGED_DISKS)
+fn disks_are_judged(rt: HostRuntime) {
+    are_lawful(&rt, rt.alloc(), &BLOCK);
+    are_refused(&rt, rt.alloc(), &BLOCK, &CHANGED_DISKS);
 }
 
 #[test]
-fn disks_of_devices_that_are_cut_off_are_judged(rt: HostRuntime) -> Result<(), Fail> {
-    are_lawful(&rt, &CUT_OFF)?;
-    are_refused(&rt, &CUT_OFF, &CHANGED_CUT_OFF)
+fn disks_of_devices_that_are_cut_off_are_judged(rt: HostRuntime) {
+    are_lawful(&rt, rt.alloc(), &CUT_OFF);
+    are_refused(&rt, rt.alloc(), &CUT_OFF, &CHANGED_CUT_OFF);
 }
 
 #[test]
-fn the_disk_comes_after_the_number_of_devices(rt: HostRuntime) -> Result<(), Fail> {
-    are_lawful(&rt, &SIXTEEN)?;
-    are_refused(&rt, &SIXTEEN, &CHANGED_SIXTEEN)
+fn the_disk_comes_after_the_number_of_devices(rt: HostRuntime) {
+    are_lawful(&rt, rt.alloc(), &SIXTEEN);
+    are_refused(&rt, rt.alloc(), &SIXTEEN, &CHANGED_SIXTEEN);
 }
 
 #[test]
-fn queues_are_judged(rt: HostRuntime) -> Result<(), Fail> {
-    are_refused(&rt, &BLOCK, &CHANGED_QUEUES)
+fn queues_are_judged(rt: HostRuntime) {
+    are_refused(&rt, rt.alloc(), &BLOCK, &CHANGED_QUEUES);
 }
 
 #[test]
-fn steps_are_judged(rt: HostRuntime) -> Result<(), Fail> {
-    are_refused(&rt, &BLOCK, &CHANGED_STEPS)
+fn steps_are_judged(rt: HostRuntime) {
+    are_refused(&rt, rt.alloc(), &BLOCK, &CHANGED_STEPS);
 }
 
 #[test]
-fn steps_through_a_cache_are_judged(rt: HostRuntime) -> Result<(), Fail> {
-    are_lawful(&rt, &CACHED)?;
-    are_refused(&rt, &CACHED, &CHANGED_CACHED)
+fn steps_through_a_cache_are_judged(rt: HostRuntime) {
+    are_lawful(&rt, rt.alloc(), &CACHED);
+    are_refused(&rt, rt.alloc(), &CACHED, &CHANGED_CACHED);
+}
+
+fn has(rt: &impl Abort, new: NewDevice, kind: DeviceKind, disk: Option<u64>) {
+    expect(rt, new.kind() == kind);
+    expect(rt, new.disk() == disk);
 }
 
 #[test]
 fn what_is_plugged_in_has_a_kind_and_a_disk(rt: HostRuntime) {
-    expect_eq(&rt, &NewDevice::Raw.kind(), &DeviceKind::Raw);
-    expect_eq(&rt, &NewDevice::Raw.disk(), &None);
+    has(&rt, NewDevice::Raw, DeviceKind::Raw, None);
     let block = NewDevice::Block { disk: 7 };
-    expect_eq(&rt, &block.kind(), &DeviceKind::Block);
-    expect_eq(&rt, &block.disk(), &Some(7));
+    has(&rt, block, DeviceKind::Block, Some(7));
     let cached = NewDevice::CachedBlock { disk: u64::MAX };
-    expect_eq(&rt, &cached.kind(), &DeviceKind::CachedBlock);
-    expect_eq(&rt, &cached.disk(), &Some(u64::MAX));
+    has(&rt, cached, DeviceKind::CachedBlock, Some(u64::MAX));
 }

@@ -1,5 +1,5 @@
 // Lists of lines, as the tests write them, for the judge.
-use crate::expect::expect_eq;
+use crate::expect::expect;
 use arrayvec::ArrayVec;
 use iom_base::{Access, AccessKind, Cause, DeviceId, GrantRights, Mode, Rights, Sequence};
 use iom_fabric::{PageNumber, Translation};
@@ -293,7 +293,7 @@ fn polled(tickets: Option<(u32, u32)>, timed_out: bool) -> Outcome {
     }
 }
 
-fn outcome_of(comes: &Comes) -> Outcome {
+pub(crate) fn outcome_of(comes: &Comes) -> Outcome {
     match *comes {
         Comes::Done => Outcome::Done,
         Comes::Refused(why) => Outcome::Refused(why),
@@ -445,26 +445,41 @@ fn changed<'a>(
     Ok(lines)
 }
 
+/// Ends the test where another line than this is the first that may not come.
+pub(crate) fn are_first(
+    rt: &impl Abort,
+    first: Result<Option<usize>, Fail>,
+    expected: Option<usize>,
+) {
+    match first {
+        Ok(first) => expect(rt, first == expected),
+        Err(_) => panic!(rt; "out of memory"),
+    }
+}
+
 /// Ends the test where one of the lines may not come.
-pub(crate) fn are_lawful(
-    rt: &(impl Abort + AllocGlobal),
-    lines: &[(Does, Comes)],
-) -> Result<(), Fail> {
-    let first = first_unlawful(rt.alloc(), lines)?;
-    expect_eq(rt, &first, &None);
-    Ok(())
+pub(crate) fn are_lawful(rt: &impl Abort, alloc: Global, lines: &[(Does, Comes)]) {
+    are_first(rt, first_unlawful(alloc, lines), None);
+}
+
+/// The first line that may not come of the run, one line of it changed.
+fn first_of_changed<'a>(
+    alloc: Global,
+    base: &[(Does<'a>, Comes<'a>)],
+    change: &Change<'a>,
+) -> Result<Option<usize>, Fail> {
+    let lines = changed(alloc, base, change)?;
+    first_unlawful(alloc, &lines)
 }
 
 /// Ends the test where one of the changes of the lawful run isn't refused at its line.
 pub(crate) fn are_refused<'a>(
-    rt: &(impl Abort + AllocGlobal),
+    rt: &impl Abort,
+    alloc: Global,
     base: &[(Does<'a>, Comes<'a>)],
     changes: &[Change<'a>],
-) -> Result<(), Fail> {
-    for change in changes {
-        let lines = changed(rt.alloc(), base, change)?;
-        let first = first_unlawful(rt.alloc(), &lines)?;
-        expect_eq(rt, &first, &Some(change.0));
+) {
+    for change in changes.iter() {
+        are_first(rt, first_of_changed(alloc, base, change), Some(change.0));
     }
-    Ok(())
 }

@@ -1,4 +1,4 @@
-use crate::expect::expect_eq;
+use crate::expect::expect;
 use crate::lines::{Change, Comes, Does, are_lawful, are_refused, line_of};
 use iom_base::{Cause, GrantRights};
 use iom_ledger::Refusal;
@@ -170,15 +170,15 @@ static PROCESSOR: [(Does, Comes); 20] = [
 ];
 
 #[test]
-fn the_worked_rows_are_lawful(rt: HostRuntime) -> Result<(), Fail> {
+fn the_worked_rows_are_lawful(rt: HostRuntime) {
     // `empty-script` and the lawful part of `script-fault` have no event
-    are_lawful(&rt, &[])?;
-    are_lawful(&rt, &FIRST_PATH)?;
-    are_lawful(&rt, &BUSY)?;
-    are_lawful(&rt, &GRANT_BOUNDARIES)?;
-    are_lawful(&rt, &STALE_BUT_LAWFUL)?;
-    are_lawful(&rt, &DRAIN)?;
-    are_lawful(&rt, &PROCESSOR)
+    are_lawful(&rt, rt.alloc(), &[]);
+    are_lawful(&rt, rt.alloc(), &FIRST_PATH);
+    are_lawful(&rt, rt.alloc(), &BUSY);
+    are_lawful(&rt, rt.alloc(), &GRANT_BOUNDARIES);
+    are_lawful(&rt, rt.alloc(), &STALE_BUT_LAWFUL);
+    are_lawful(&rt, rt.alloc(), &DRAIN);
+    are_lawful(&rt, rt.alloc(), &PROCESSOR);
 }
 
 /// A lawful run, whose lines are changed below.
@@ -481,18 +481,18 @@ static CHANGED_DETACHES: [Change; 13] = [
 ];
 
 #[test]
-fn changed_lines_are_refused(rt: HostRuntime) -> Result<(), Fail> {
-    are_lawful(&rt, &BASE)?;
-    are_refused(&rt, &BASE, &CHANGED_CALLS)?;
-    are_refused(&rt, &BASE, &CHANGED_REQUESTS)?;
-    are_refused(&rt, &BASE, &CHANGED_ACTS_OF_PROCESSOR)?;
-    are_refused(&rt, &BASE, &CHANGED_COMMITS_AND_POLLS)
+fn changed_lines_are_refused(rt: HostRuntime) {
+    are_lawful(&rt, rt.alloc(), &BASE);
+    are_refused(&rt, rt.alloc(), &BASE, &CHANGED_CALLS);
+    are_refused(&rt, rt.alloc(), &BASE, &CHANGED_REQUESTS);
+    are_refused(&rt, rt.alloc(), &BASE, &CHANGED_ACTS_OF_PROCESSOR);
+    are_refused(&rt, rt.alloc(), &BASE, &CHANGED_COMMITS_AND_POLLS);
 }
 
 #[test]
-fn detach_is_judged(rt: HostRuntime) -> Result<(), Fail> {
-    are_lawful(&rt, &DETACH)?;
-    are_refused(&rt, &DETACH, &CHANGED_DETACHES)
+fn detach_is_judged(rt: HostRuntime) {
+    are_lawful(&rt, rt.alloc(), &DETACH);
+    are_refused(&rt, rt.alloc(), &DETACH, &CHANGED_DETACHES);
 }
 
 /// How many devices there are once the line has come, the first after power-on.
@@ -509,7 +509,7 @@ fn devices_after(alloc: Global, line: &Line) -> Result<usize, Fail> {
 fn one_step_is_judged(rt: HostRuntime) -> Result<(), Fail> {
     let line = line_of(rt.alloc(), &Does::Plug(1), &Comes::Done)?;
     let devices = devices_after(rt.alloc(), &line)?;
-    expect_eq(&rt, &devices, &1);
+    expect(&rt, devices == 1);
     grants_are_at_pages();
     reclaim_theorem();
     lawful_runs_have_choices();

@@ -1,9 +1,7 @@
-use crate::expect::expect_eq;
-use crate::lines::{Change, Comes, Does, are_lawful, are_refused, first_unlawful};
+use crate::lines::{Change, Comes, Does, are_first, are_lawful, are_refused, first_unlawful};
 use iom_base::{Cause, GrantRights, Mode};
 use iom_ledger::Refusal;
 use std::alloc::Global;
-use std::process::Abort;
 use std::test::Fail;
 
 /// The row `second-stage`.
@@ -187,16 +185,16 @@ static CHANGED_IN_BOTH: [Change; 11] = [
 ];
 
 #[test]
-fn rows_of_the_second_stage_are_lawful(rt: HostRuntime) -> Result<(), Fail> {
-    are_lawful(&rt, &SECOND_STAGE)?;
-    are_lawful(&rt, &GUEST_TABLES)?;
-    are_lawful(&rt, &BOTH)
+fn rows_of_the_second_stage_are_lawful(rt: HostRuntime) {
+    are_lawful(&rt, rt.alloc(), &SECOND_STAGE);
+    are_lawful(&rt, rt.alloc(), &GUEST_TABLES);
+    are_lawful(&rt, rt.alloc(), &BOTH);
 }
 
 #[test]
-fn changed_lines_of_the_second_stage_are_refused(rt: HostRuntime) -> Result<(), Fail> {
-    are_refused(&rt, &SECOND_STAGE, &CHANGED_IN_SECOND)?;
-    are_refused(&rt, &BOTH, &CHANGED_IN_BOTH)
+fn changed_lines_of_the_second_stage_are_refused(rt: HostRuntime) {
+    are_refused(&rt, rt.alloc(), &SECOND_STAGE, &CHANGED_IN_SECOND);
+    are_refused(&rt, rt.alloc(), &BOTH, &CHANGED_IN_BOTH);
 }
 
 /// What comes before the grants of `refused_beside`.
@@ -238,25 +236,20 @@ fn refused_beside(alloc: Global, runs: u64, mode: Mode) -> Result<Option<usize>,
     first_unlawful(alloc, &lines)
 }
 
-/// Ends the test where another line is the first of those that may not come.
-fn is_refused_at(
-    rt: &(impl Abort + AllocGlobal),
-    runs: u64,
-    mode: Mode,
-    expected: Option<usize>,
-) -> Result<(), Fail> {
-    let first = refused_beside(rt.alloc(), runs, mode)?;
-    expect_eq(rt, &first, &expected);
-    Ok(())
-}
+/// After so many runs are held, an attach in a mode is refused for want of frames at this line first, or may be.
+static WANTS: [(u64, Mode, Option<usize>); 5] = [
+    // three runs are free, of which the directory may break two
+    (11, Mode::Second, Some(15)),
+    (11, Mode::Both, Some(15)),
+    // two runs, and the other frames of the others
+    (12, Mode::Second, None),
+    (12, Mode::Both, None),
+    (12, Mode::First, Some(16)),
+];
 
 #[test]
-fn a_root_of_four_frames_may_be_wanting(rt: HostRuntime) -> Result<(), Fail> {
-    // three runs are free, of which the directory may break two
-    is_refused_at(&rt, 11, Mode::Second, Some(15))?;
-    is_refused_at(&rt, 11, Mode::Both, Some(15))?;
-    // two runs, and the other frames of the others
-    is_refused_at(&rt, 12, Mode::Second, None)?;
-    is_refused_at(&rt, 12, Mode::Both, None)?;
-    is_refused_at(&rt, 12, Mode::First, Some(16))
+fn a_root_of_four_frames_may_be_wanting(rt: HostRuntime) {
+    for (runs, mode, first) in WANTS.iter() {
+        are_first(&rt, refused_beside(rt.alloc(), *runs, *mode), *first);
+    }
 }

@@ -1,11 +1,9 @@
 // Devices that don't answer: they are cut off and attached again, and the queue goes on without them.
-use crate::expect::expect_eq;
-use crate::lines::{Change, Comes, Does, Way, are_lawful, are_refused, first_unlawful};
+use crate::lines::{Change, Comes, Does, Way, are_first, are_lawful, are_refused, first_unlawful};
 use iom_base::{Cause, GrantRights, Mode};
 use iom_ledger::Refusal;
 use iom_machine::{CommandName, Fetched};
 use std::alloc::Global;
-use std::process::Abort;
 use std::test::Fail;
 
 /// A device that is cut off with an access in flight, and what is left of its two pages.
@@ -147,33 +145,31 @@ fn first_after_tickets(
     first_unlawful(alloc, &lines)
 }
 
-/// Ends the test where another line is the first of those that may not come.
-fn is_refused_after(
-    rt: &(impl Abort + AllocGlobal),
-    tickets: u32,
-    comes: Comes<'static>,
-    expected: Option<usize>,
-) -> Result<(), Fail> {
-    let first = first_after_tickets(rt.alloc(), tickets, comes)?;
-    expect_eq(rt, &first, &expected);
-    Ok(())
+#[test]
+fn quarantine_is_judged(rt: HostRuntime) {
+    are_lawful(&rt, rt.alloc(), &QUARANTINE);
+    are_refused(&rt, rt.alloc(), &QUARANTINE, &CHANGED_QUARANTINES);
 }
 
-#[test]
-fn quarantine_is_judged(rt: HostRuntime) -> Result<(), Fail> {
-    are_lawful(&rt, &QUARANTINE)?;
-    are_refused(&rt, &QUARANTINE, &CHANGED_QUARANTINES)
-}
-
-#[test]
-fn quarantine_may_find_too_many_tickets(rt: HostRuntime) -> Result<(), Fail> {
-    let full = Comes::Refused(Refusal::TooManyPending);
-    is_refused_after(&rt, 256, full, None)?;
-    is_refused_after(&rt, 256, Comes::Ticket(257), Some(514))?;
-    is_refused_after(&rt, 256, Comes::Refused(Refusal::QueueFull), Some(514))?;
+/// How many tickets wait, what a quarantine is answered then, and the first line that may not come.
+static TICKETS: [(u32, Comes, Option<usize>); 5] = [
+    (256, Comes::Refused(Refusal::TooManyPending), None),
+    (256, Comes::Ticket(257), Some(514)),
+    (256, Comes::Refused(Refusal::QueueFull), Some(514)),
     // one ticket fewer waits
-    is_refused_after(&rt, 255, Comes::Ticket(256), None)?;
-    is_refused_after(&rt, 255, full, Some(512))
+    (255, Comes::Ticket(256), None),
+    (255, Comes::Refused(Refusal::TooManyPending), Some(512)),
+];
+
+#[test]
+fn quarantine_may_find_too_many_tickets(rt: HostRuntime) {
+    for (tickets, comes, first) in TICKETS.iter() {
+        are_first(
+            &rt,
+            first_after_tickets(rt.alloc(), *tickets, *comes),
+            *first,
+        );
+    }
 }
 
 /// Devices that are attached again: one with a cache, as it was attached before; and one that leaves.
@@ -263,9 +259,9 @@ static CHANGED_REVIVES: [Change; 18] = [
 ];
 
 #[test]
-fn revive_is_judged(rt: HostRuntime) -> Result<(), Fail> {
-    are_lawful(&rt, &REVIVE)?;
-    are_refused(&rt, &REVIVE, &CHANGED_REVIVES)
+fn revive_is_judged(rt: HostRuntime) {
+    are_lawful(&rt, rt.alloc(), &REVIVE);
+    are_refused(&rt, rt.alloc(), &REVIVE, &CHANGED_REVIVES);
 }
 
 /// A ticket that waits while the queue stands, and is emptied; and an access in flight. None of it changes what the
@@ -353,18 +349,18 @@ static CHANGED_BESIDE: [Change; 5] = [
 ];
 
 #[test]
-fn restart_is_judged(rt: HostRuntime) -> Result<(), Fail> {
-    are_lawful(&rt, &STANDING)?;
-    are_refused(&rt, &STANDING, &CHANGED_RESTARTS)
+fn restart_is_judged(rt: HostRuntime) {
+    are_lawful(&rt, rt.alloc(), &STANDING);
+    are_refused(&rt, rt.alloc(), &STANDING, &CHANGED_RESTARTS);
 }
 
 #[test]
-fn timeout_is_judged(rt: HostRuntime) -> Result<(), Fail> {
-    are_refused(&rt, &STANDING, &CHANGED_TIMEOUTS)?;
-    are_refused(&rt, &STANDING, &CHANGED_BESIDE)
+fn timeout_is_judged(rt: HostRuntime) {
+    are_refused(&rt, rt.alloc(), &STANDING, &CHANGED_TIMEOUTS);
+    are_refused(&rt, rt.alloc(), &STANDING, &CHANGED_BESIDE);
 }
 
 #[test]
-fn reset_is_judged(rt: HostRuntime) -> Result<(), Fail> {
-    are_refused(&rt, &STANDING, &CHANGED_RESETS)
+fn reset_is_judged(rt: HostRuntime) {
+    are_refused(&rt, rt.alloc(), &STANDING, &CHANGED_RESETS);
 }

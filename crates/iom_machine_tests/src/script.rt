@@ -1,17 +1,17 @@
-use crate::expect::{expect, expect_eq};
-use arrayvec::ArrayVec;
+use crate::expect::expect;
+use crate::lines::{Comes, outcome_of};
 use iom_base::{Cause, GrantRights, Mode, Rights};
-use iom_fabric::Translation;
 use iom_ledger::Refusal;
-use iom_machine::{BlockStep, CommandName, Event, FaultRecord, Fetched, NewDevice, Outcome, Trace};
-use iom_script::{LineBuffer, ScriptFault, WorldSize, parse};
+use iom_machine::{BlockStep, CommandName, Event, Fetched, NewDevice, Outcome, Trace};
+use iom_script::{LineBuffer, Script, ScriptFault, WorldSize, parse};
 use iom_virtqueue::ChainFault;
+use std::alloc::Global;
 use std::process::Abort;
 use std::test::Fail;
 
 /// The line number at which the bytes are refused, or 0 where they are a script.
-fn bad_line(rt: &HostRuntime, bytes: &[u8]) -> u64 {
-    match parse(rt.alloc(), bytes) {
+fn bad_line(alloc: Global, bytes: &[u8]) -> u64 {
+    match parse(alloc, bytes) {
         Ok(_) => 0,
         Err(ScriptFault::Line(number)) => number,
         Err(ScriptFault::Memory) => u64::MAX,
@@ -19,12 +19,7 @@ fn bad_line(rt: &HostRuntime, bytes: &[u8]) -> u64 {
 }
 
 /// The bytes, as often as that.
-fn many(
-    alloc: std::alloc::Global,
-    front: &[u8],
-    piece: &[u8],
-    count: usize,
-) -> Result<Vec<u8>, Fail> {
+fn many(alloc: Global, front: &[u8], piece: &[u8], count: usize) -> Result<Vec<u8>, Fail> {
     let mut bytes = Vec::from_slice(alloc, front)?;
     for _ in 0..count {
         bytes.extend_from_slice(piece)?;
@@ -32,157 +27,150 @@ fn many(
     Ok(bytes)
 }
 
-/// Ends the test where another line is that of the outcome.
-fn is_told(rt: &impl Abort, out: &mut LineBuffer, outcome: &Outcome, line: &[u8]) {
-    out.clear();
-    out.append_line(outcome);
-    expect(rt, out.as_slice() == line);
+/// The script that these bytes are.
+fn script_of(rt: &impl Abort, alloc: Global, bytes: &[u8]) -> Script {
+    match parse(alloc, bytes) {
+        Ok(script) => script,
+        Err(_) => panic!(rt; "no script"),
+    }
 }
 
+/// Outcomes, each with its line: what the driver answers.
+static DRIVER: [(Comes, &[u8]); 9] = [
+    (Comes::Done, b"ok\n"),
+    (
+        Comes::Refused(Refusal::TooManyPending),
+        b"refused 12 TooManyPending\n",
+    ),
+    (Comes::Ticket(1), b"ticket 1\n"),
+    (Comes::Confirmed(1, 256), b"confirmed 1-256\n"),
+    (Comes::NoneConfirmed, b"confirmed -\n"),
+    (
+        Comes::Record([0x0000010800000015, 0, 0x30f0, u64::MAX]),
+        b"record 0x0000010800000015 0x0000000000000000 0x00000000000030f0 0xffffffffffffffff\n",
+    ),
+    (Comes::NoRecord, b"no record\n"),
+    (Comes::Free(true), b"free yes\n"),
+    (Comes::Free(false), b"free no\n"),
+];
+
+/// What hardware does.
+static HARDWARE: [(Comes, &[u8]); 11] = [
+    (
+        Comes::Fetched(Fetched::Did(CommandName::IotinvalVma)),
+        b"did iotinval.vma\n",
+    ),
+    (
+        Comes::Fetched(Fetched::Did(CommandName::IofenceC)),
+        b"did iofence.c\n",
+    ),
+    (Comes::Fetched(Fetched::Empty), b"empty\n"),
+    (Comes::Accepted(1, 0), b"accepted 1\n"),
+    (Comes::Busy, b"busy\n"),
+    (Comes::BadSpan, b"badspan\n"),
+    (Comes::Fault(Cause::ReadPageFault), b"fault 13\n"),
+    (Comes::Read(&[0, 0xaf]), b"read 00af\n"),
+    (Comes::Wrote(4096), b"wrote 4096\n"),
+    (Comes::Nothing, b"none\n"),
+    (Comes::Bytes(&[0, 0xaf]), b"bytes 00af\n"),
+];
+
+/// What devices with caches are answered.
+static CACHES: [(Comes, &[u8]); 8] = [
+    (Comes::Miss, b"miss\n"),
+    (
+        Comes::Told(0, 0, u32::MAX, Rights::R),
+        b"answer 4294967295 r\n",
+    ),
+    (Comes::Told(0, 0, 5, Rights::RW), b"answer 5 rw\n"),
+    (
+        Comes::ToldNone(0, 0, Cause::TransactionTypeDisallowed),
+        b"answer fault 260\n",
+    ),
+    (Comes::Kept, b"kept\n"),
+    (Comes::Stale, b"stale\n"),
+    (Comes::AnswerRefused, b"refusal\n"),
+    (Comes::Ignored, b"ignored\n"),
+];
+
+/// What becomes of messages.
+static MESSAGES: [(Comes, &[u8]); 8] = [
+    (Comes::Sent, b"sent\n"),
+    (Comes::Lost, b"lost\n"),
+    (Comes::Invalidated(1), b"invalidated 1\n"),
+    (Comes::Closed(u64::MAX), b"closed 18446744073709551615\n"),
+    (Comes::NotClosed(0), b"ignored 0\n"),
+    (Comes::Dropped, b"dropped\n"),
+    (Comes::Repeated, b"repeated\n"),
+    (Comes::NoMessage, b"none\n"),
+];
+
+/// What block devices do, and the names of faults of chains.
+static BLOCK: [(Comes, &[u8]); 12] = [
+    (Comes::Stepped(BlockStep::Idle), b"idle\n"),
+    (Comes::Stepped(BlockStep::Waiting), b"waiting\n"),
+    (Comes::Stepped(BlockStep::Asked), b"asked\n"),
+    (
+        Comes::Stepped(BlockStep::Finished {
+            head: u16::MAX,
+            len: 513,
+        }),
+        b"finished 65535 513\n",
+    ),
+    (Comes::Stepped(BlockStep::Down), b"down\n"),
+    (Comes::Status(255), b"status 255\n"),
+    (
+        Comes::Stepped(BlockStep::Chain(ChainFault::Loop)),
+        b"chain Loop\n",
+    ),
+    (
+        Comes::Stepped(BlockStep::Chain(ChainFault::BadIndex)),
+        b"chain BadIndex\n",
+    ),
+    (
+        Comes::Stepped(BlockStep::Chain(ChainFault::Order)),
+        b"chain Order\n",
+    ),
+    (
+        Comes::Stepped(BlockStep::Chain(ChainFault::Indirect)),
+        b"chain Indirect\n",
+    ),
+    (
+        Comes::Stepped(BlockStep::Chain(ChainFault::TooLong)),
+        b"chain TooLong\n",
+    ),
+    (
+        Comes::Stepped(BlockStep::Chain(ChainFault::Short)),
+        b"chain Short\n",
+    ),
+];
+
+/// Ends the test where another line is that of an outcome.
+fn are_told(rt: &impl Abort, out: &mut LineBuffer, rows: &[(Comes, &[u8])]) {
+    for (comes, line) in rows.iter() {
+        out.clear();
+        out.append_line(&outcome_of(comes));
+        expect(rt, out.as_slice() == *line);
+    }
+}
+
+// Each outcome has its line, and a buffer that is cleared has none.
 #[test]
-fn lines_tell_what_the_driver_answers(rt: HostRuntime) -> Result<(), Fail> {
-    let mut out = LineBuffer::new(rt.alloc())?;
+fn lines_tell_outcomes(rt: HostRuntime) {
+    let mut out = LineBuffer::new(rt.alloc()).expect(&rt, "memory for a buffer");
     expect(&rt, out.has_room());
-    let confirmed = Outcome::Confirmed {
-        first: 1,
-        last: 256,
-        timed_out: false,
-    };
-    let none = Outcome::NoneConfirmed { timed_out: false };
-    let record = FaultRecord {
-        words: [0x0000010800000015, 0, 0x30f0, u64::MAX],
-    };
-    let record_line =
-        b"record 0x0000010800000015 0x0000000000000000 0x00000000000030f0 0xffffffffffffffff\n";
-    let full = Outcome::Refused(Refusal::TooManyPending);
-    is_told(&rt, &mut out, &Outcome::Done, b"ok\n");
-    is_told(&rt, &mut out, &full, b"refused 12 TooManyPending\n");
-    is_told(&rt, &mut out, &Outcome::Ticket(1), b"ticket 1\n");
-    is_told(&rt, &mut out, &confirmed, b"confirmed 1-256\n");
-    is_told(&rt, &mut out, &none, b"confirmed -\n");
-    is_told(&rt, &mut out, &Outcome::Record(record), record_line);
-    is_told(&rt, &mut out, &Outcome::NoRecord, b"no record\n");
-    is_told(&rt, &mut out, &Outcome::Free(true), b"free yes\n");
-    is_told(&rt, &mut out, &Outcome::Free(false), b"free no\n");
+    are_told(&rt, &mut out, &DRIVER);
+    are_told(&rt, &mut out, &HARDWARE);
+    are_told(&rt, &mut out, &CACHES);
+    are_told(&rt, &mut out, &MESSAGES);
+    are_told(&rt, &mut out, &BLOCK);
     out.clear();
     expect(&rt, out.as_slice().is_empty());
-    Ok(())
 }
 
 #[test]
-fn lines_tell_what_hardware_does(rt: HostRuntime) -> Result<(), Fail> {
-    let mut out = LineBuffer::new(rt.alloc())?;
-    let mut read = ArrayVec::<u8, 4096>::new();
-    read.try_push(0)?;
-    read.try_push(0xaf)?;
-    let mut shown = ArrayVec::<u8, 4096>::new();
-    shown.try_push(0)?;
-    shown.try_push(0xaf)?;
-    let vma = Outcome::Fetched(Fetched::Did(CommandName::IotinvalVma));
-    let fence = Outcome::Fetched(Fetched::Did(CommandName::IofenceC));
-    is_told(&rt, &mut out, &vma, b"did iotinval.vma\n");
-    is_told(&rt, &mut out, &fence, b"did iofence.c\n");
-    is_told(&rt, &mut out, &Outcome::Fetched(Fetched::Empty), b"empty\n");
-    is_told(&rt, &mut out, &Outcome::Accepted(1), b"accepted 1\n");
-    is_told(&rt, &mut out, &Outcome::Busy, b"busy\n");
-    is_told(&rt, &mut out, &Outcome::BadSpan, b"badspan\n");
-    is_told(
-        &rt,
-        &mut out,
-        &Outcome::Fault(Cause::ReadPageFault),
-        b"fault 13\n",
-    );
-    is_told(&rt, &mut out, &Outcome::Read(read), b"read 00af\n");
-    is_told(&rt, &mut out, &Outcome::Wrote(4096), b"wrote 4096\n");
-    is_told(&rt, &mut out, &Outcome::NothingInFlight, b"none\n");
-    is_told(&rt, &mut out, &Outcome::Bytes(shown), b"bytes 00af\n");
-    Ok(())
-}
-
-#[test]
-fn lines_tell_what_devices_with_caches_are_answered(rt: HostRuntime) -> Result<(), Fail> {
-    let mut out = LineBuffer::new(rt.alloc())?;
-    let read = Outcome::Answered(Translation::Page {
-        frame: u32::MAX,
-        rights: Rights::R,
-    });
-    let both = Outcome::Answered(Translation::Page {
-        frame: 5,
-        rights: Rights::RW,
-    });
-    let none = Outcome::Answered(Translation::Refused(Cause::TransactionTypeDisallowed));
-    is_told(&rt, &mut out, &Outcome::Miss, b"miss\n");
-    is_told(&rt, &mut out, &read, b"answer 4294967295 r\n");
-    is_told(&rt, &mut out, &both, b"answer 5 rw\n");
-    is_told(&rt, &mut out, &none, b"answer fault 260\n");
-    is_told(&rt, &mut out, &Outcome::Kept, b"kept\n");
-    is_told(&rt, &mut out, &Outcome::Stale, b"stale\n");
-    is_told(&rt, &mut out, &Outcome::AnswerRefused, b"refusal\n");
-    is_told(&rt, &mut out, &Outcome::Ignored, b"ignored\n");
-    Ok(())
-}
-
-#[test]
-fn lines_tell_what_becomes_of_messages(rt: HostRuntime) -> Result<(), Fail> {
-    let mut out = LineBuffer::new(rt.alloc())?;
-    let last = Outcome::Closed(u64::MAX);
-    is_told(&rt, &mut out, &Outcome::Sent, b"sent\n");
-    is_told(&rt, &mut out, &Outcome::Lost, b"lost\n");
-    is_told(&rt, &mut out, &Outcome::Invalidated(1), b"invalidated 1\n");
-    is_told(&rt, &mut out, &last, b"closed 18446744073709551615\n");
-    is_told(&rt, &mut out, &Outcome::NotClosed(0), b"ignored 0\n");
-    is_told(&rt, &mut out, &Outcome::Dropped, b"dropped\n");
-    is_told(&rt, &mut out, &Outcome::Repeated, b"repeated\n");
-    is_told(&rt, &mut out, &Outcome::NoMessage, b"none\n");
-    Ok(())
-}
-
-#[test]
-fn lines_tell_what_block_devices_do(rt: HostRuntime) -> Result<(), Fail> {
-    let mut out = LineBuffer::new(rt.alloc())?;
-    let finished = Outcome::Stepped(BlockStep::Finished {
-        head: u16::MAX,
-        len: 513,
-    });
-    is_told(&rt, &mut out, &Outcome::Stepped(BlockStep::Idle), b"idle\n");
-    is_told(
-        &rt,
-        &mut out,
-        &Outcome::Stepped(BlockStep::Waiting),
-        b"waiting\n",
-    );
-    is_told(
-        &rt,
-        &mut out,
-        &Outcome::Stepped(BlockStep::Asked),
-        b"asked\n",
-    );
-    is_told(&rt, &mut out, &finished, b"finished 65535 513\n");
-    is_told(&rt, &mut out, &Outcome::Stepped(BlockStep::Down), b"down\n");
-    is_told(&rt, &mut out, &Outcome::Status(255), b"status 255\n");
-    Ok(())
-}
-
-/// Ends the test where a fault of a chain has another name.
-fn is_named(rt: &impl Abort, out: &mut LineBuffer, fault: ChainFault, line: &[u8]) {
-    is_told(rt, out, &Outcome::Stepped(BlockStep::Chain(fault)), line);
-}
-
-#[test]
-fn faults_of_chains_have_names(rt: HostRuntime) -> Result<(), Fail> {
-    let mut out = LineBuffer::new(rt.alloc())?;
-    is_named(&rt, &mut out, ChainFault::Loop, b"chain Loop\n");
-    is_named(&rt, &mut out, ChainFault::BadIndex, b"chain BadIndex\n");
-    is_named(&rt, &mut out, ChainFault::Order, b"chain Order\n");
-    is_named(&rt, &mut out, ChainFault::Indirect, b"chain Indirect\n");
-    is_named(&rt, &mut out, ChainFault::TooLong, b"chain TooLong\n");
-    is_named(&rt, &mut out, ChainFault::Short, b"chain Short\n");
-    Ok(())
-}
-
-#[test]
-fn counts_stand_beside_an_outcome(rt: HostRuntime) -> Result<(), Fail> {
-    let mut out = LineBuffer::new(rt.alloc())?;
+fn counts_stand_beside_an_outcome(rt: HostRuntime) {
+    let mut out = LineBuffer::new(rt.alloc()).expect(&rt, "memory for a buffer");
     out.append_trace(&Trace {
         tickets: 1,
         flight: 0,
@@ -191,12 +179,11 @@ fn counts_stand_beside_an_outcome(rt: HostRuntime) -> Result<(), Fail> {
     });
     let line = b"= tickets 1 flight 0 messages 18446744073709551615 free 60\n".as_slice();
     expect(&rt, out.as_slice() == line);
-    Ok(())
 }
 
 #[test]
-fn a_buffer_has_room_until_it_is_nearly_full(rt: HostRuntime) -> Result<(), Fail> {
-    let mut out = LineBuffer::new(rt.alloc())?;
+fn a_buffer_has_room_until_it_is_nearly_full(rt: HostRuntime) {
+    let mut out = LineBuffer::new(rt.alloc()).expect(&rt, "memory for a buffer");
     let mut count = 0usize;
     for _line in 0..2000 {
         if out.has_room() {
@@ -205,18 +192,19 @@ fn a_buffer_has_room_until_it_is_nearly_full(rt: HostRuntime) -> Result<(), Fail
         }
     }
     // 30 bytes each: the first line that might not have fitted came after 57,337 bytes.
-    expect_eq(&rt, &count, &1912);
-    Ok(())
+    expect(&rt, count == 1912);
+}
+
+fn says_nothing(rt: &impl Abort, alloc: Global, bytes: &[u8]) {
+    let script = script_of(rt, alloc, bytes);
+    expect(rt, script.world.is_none());
+    expect(rt, script.events.as_slice().is_empty());
 }
 
 #[test]
-fn an_empty_script_says_nothing(rt: HostRuntime) -> Result<(), Fail> {
-    let script = parse(rt.alloc(), b"")?;
-    expect(&rt, script.world.is_none());
-    let script = parse(rt.alloc(), b"\n# world 64 1\0\r\xff\n#\n")?;
-    expect(&rt, script.world.is_none());
-    expect(&rt, script.events.as_slice().is_empty());
-    Ok(())
+fn an_empty_script_says_nothing(rt: HostRuntime) {
+    says_nothing(&rt, rt.alloc(), b"");
+    says_nothing(&rt, rt.alloc(), b"\n# world 64 1\0\r\xff\n#\n");
 }
 
 const FIRST_PATH: &[u8] = b"\
@@ -233,49 +221,58 @@ const FIRST_PATH: &[u8] = b"\
     poll\n\
     read 000001 0x3ffc 4\n";
 
-#[test]
-fn the_first_path_is_read(rt: HostRuntime) -> Result<(), Fail> {
-    let script = parse(rt.alloc(), FIRST_PATH)?;
-    let events = script.events.as_slice();
-    expect_eq(&rt, &events.len(), &11);
-    match events.get(2) {
+/// Whether the event grants a device a page with this frame, with this right.
+fn is_grant(event: Option<&Event>, of: (u32, u64, u64), is_writable: bool) -> bool {
+    match event {
         Some(
             Event::Grant {
-                device: 1,
-                page: 3,
-                frame: 5,
+                device,
+                page,
+                frame,
                 rights,
             },
-        ) => expect(&rt, *rights == GrantRights::ReadWrite),
-        _ => return Err(Fail::new("another grant")),
+        ) => (*device, *page, *frame) == of && is_writable == (*rights == GrantRights::ReadWrite),
+        _ => false,
     }
-    match events.get(10) {
+}
+
+fn is_read(event: Option<&Event>) -> bool {
+    match event {
         Some(
             Event::Read {
                 device: 1,
                 address: 0x3ffc,
                 len: 4,
             },
-        ) => Ok(()),
-        _ => Err(Fail::new("another read")),
+        ) => true,
+        _ => false,
     }
 }
 
+/// Whether the events are as many, and the third and the last as those lines say.
+fn goes_as_said(events: &[Event]) -> bool {
+    events.len() == 11 && is_grant(events.get(2), (1, 3, 5), true) && is_read(events.get(10))
+}
+
 #[test]
-fn a_world_has_one_to_three_levels(rt: HostRuntime) -> Result<(), Fail> {
-    expect(
-        &rt,
-        is_world(parse(rt.alloc(), b"world 64 1\n")?.world, 64, 1),
-    );
-    expect(
-        &rt,
-        is_world(parse(rt.alloc(), b"world 65 2\n")?.world, 65, 2),
-    );
-    expect(
-        &rt,
-        is_world(parse(rt.alloc(), b"world 4096 3\n")?.world, 4096, 3),
-    );
-    Ok(())
+fn the_first_path_is_read(rt: HostRuntime) {
+    let script = script_of(&rt, rt.alloc(), FIRST_PATH);
+    expect(&rt, goes_as_said(script.events.as_slice()));
+}
+
+/// Worlds of each number of levels.
+static WORLDS: [(&[u8], u64, u64); 3] = [
+    (b"world 64 1\n", 64, 1),
+    (b"world 65 2\n", 65, 2),
+    (b"world 4096 3\n", 4096, 3),
+];
+
+#[test]
+fn a_world_has_one_to_three_levels(rt: HostRuntime) {
+    for (line, frames, levels) in WORLDS.iter() {
+        let script = script_of(&rt, rt.alloc(), line);
+        expect(&rt, is_world(script.world, *frames, *levels));
+    }
 }
 
 /// Whether the world has this size.
@@ -283,15 +280,6 @@ fn is_world(world: Option<WorldSize>, frames: u64, levels: u64) -> bool {
     match world {
         None => false,
         Some(size) => size.frames == frames && size.levels == levels,
-    }
-}
-
-#[test]
-fn a_detach_is_read(rt: HostRuntime) -> Result<(), Fail> {
-    let script = parse(rt.alloc(), b"world 64 2\ndetach 00000a\n")?;
-    match script.events.as_slice() {
-        [Event::Detach { device: 10 }] => Ok(()),
-        _ => Err(Fail::new("another event")),
     }
 }
 
@@ -314,20 +302,27 @@ const MODES: &[u8] = b"\
     attach 00000a first\n\
     attach 00000a second\n\
     attach 00000a both\n\
-    faults\n";
+    faults\n\
+    detach 00000a\n";
+
+/// Whether the events attach and detach as those lines say.
+fn attaches_as_said(events: &[Event]) -> bool {
+    let modes = [
+        attached_in(events.get(0)),
+        attached_in(events.get(1)),
+        attached_in(events.get(2)),
+    ];
+    let rest = match events.get(3..) {
+        Some([Event::Faults, Event::Detach { device: 10 }]) => true,
+        _ => false,
+    };
+    rest && modes == [Some(Mode::First), Some(Mode::Second), Some(Mode::Both)]
+}
 
 #[test]
-fn modes_and_faults_are_read(rt: HostRuntime) -> Result<(), Fail> {
-    let script = parse(rt.alloc(), MODES)?;
-    let events = script.events.as_slice();
-    expect_eq(&rt, &events.len(), &4);
-    expect_eq(&rt, &attached_in(events.get(0)), &Some(Mode::First));
-    expect_eq(&rt, &attached_in(events.get(1)), &Some(Mode::Second));
-    expect_eq(&rt, &attached_in(events.get(2)), &Some(Mode::Both));
-    match events.get(3) {
-        Some(Event::Faults) => Ok(()),
-        _ => Err(Fail::new("another event")),
-    }
+fn modes_and_faults_are_read(rt: HostRuntime) {
+    let script = script_of(&rt, rt.alloc(), MODES);
+    expect(&rt, attaches_as_said(script.events.as_slice()));
 }
 
 /// The lines of address translation services.
@@ -418,21 +413,26 @@ fn writes_as_said(through_cache: &Event, translated: &Event) -> bool {
     }
 }
 
-#[test]
-fn lines_of_ats_are_read(rt: HostRuntime) -> Result<(), Fail> {
-    let script = parse(rt.alloc(), ATS)?;
-    let events = script.events.as_slice();
-    expect_eq(&rt, &events.len(), &11);
-    expect(&rt, events.get(..4).is_some_and(asks_as_said));
-    expect(&rt, events.get(4..7).is_some_and(moves_as_said));
-    match events.get(7..) {
-        Some([read, write, other_read, other_write]) => {
-            expect(&rt, reads_as_said(read, other_read));
-            expect(&rt, writes_as_said(write, other_write));
-            Ok(())
+/// Whether the last four are those of the accesses.
+fn accesses_as_said(events: &[Event]) -> bool {
+    match events {
+        [read, write, other_read, other_write] => {
+            reads_as_said(read, other_read) && writes_as_said(write, other_write)
         }
-        _ => Err(Fail::new("other lines")),
+        _ => false,
     }
+}
+
+fn ats_as_said(events: &[Event]) -> bool {
+    events.get(..4).is_some_and(asks_as_said)
+        && events.get(4..7).is_some_and(moves_as_said)
+        && events.get(7..).is_some_and(accesses_as_said)
+}
+
+#[test]
+fn lines_of_ats_are_read(rt: HostRuntime) {
+    let script = script_of(&rt, rt.alloc(), ATS);
+    expect(&rt, ats_as_said(script.events.as_slice()));
 }
 
 /// The lines of block devices.
@@ -484,14 +484,14 @@ fn steps_as_said(events: &[Event]) -> bool {
     }
 }
 
+fn block_devices_as_said(events: &[Event]) -> bool {
+    events.get(..3).is_some_and(plugs_as_said) && events.get(3..).is_some_and(steps_as_said)
+}
+
 #[test]
-fn lines_of_block_devices_are_read(rt: HostRuntime) -> Result<(), Fail> {
-    let script = parse(rt.alloc(), BLOCK_DEVICES)?;
-    let events = script.events.as_slice();
-    expect_eq(&rt, &events.len(), &6);
-    expect(&rt, events.get(..3).is_some_and(plugs_as_said));
-    expect(&rt, events.get(3..).is_some_and(steps_as_said));
-    Ok(())
+fn lines_of_block_devices_are_read(rt: HostRuntime) {
+    let script = script_of(&rt, rt.alloc(), BLOCK_DEVICES);
+    expect(&rt, block_devices_as_said(script.events.as_slice()));
 }
 
 const BOUNDARIES: &[u8] = b"\
@@ -501,68 +501,73 @@ const BOUNDARIES: &[u8] = b"\
     grant ffffff 18446744073709551615 0 r\n\
     write 00000a 0x0000003ffffff000 00f1\n";
 
-#[test]
-fn boundaries_are_read(rt: HostRuntime) -> Result<(), Fail> {
-    let script = parse(rt.alloc(), BOUNDARIES)?;
-    match script.events.as_slice().first() {
-        Some(
-            Event::Grant {
-                device: 0xffffff,
-                page: u64::MAX,
-                frame: 0,
-                rights,
-            },
-        ) => expect(&rt, *rights == GrantRights::ReadOnly),
-        _ => return Err(Fail::new("another grant")),
-    }
-    match script.events.as_slice().get(1) {
+/// Whether the event is the write of those lines.
+fn is_write(event: Option<&Event>) -> bool {
+    match event {
         Some(
             Event::Write {
                 device: 10,
                 address: 0x3ffffff000,
                 bytes,
             },
-        ) => expect(&rt, bytes.as_slice() == [0u8, 0xf1].as_slice()),
-        _ => return Err(Fail::new("another write")),
+        ) => bytes.as_slice() == [0u8, 0xf1].as_slice(),
+        _ => false,
     }
-    Ok(())
+}
+
+fn boundaries_as_said(events: &[Event]) -> bool {
+    is_grant(events.get(0), (0xffffff, u64::MAX, 0), false) && is_write(events.get(1))
+}
+
+#[test]
+fn boundaries_are_read(rt: HostRuntime) {
+    let script = script_of(&rt, rt.alloc(), BOUNDARIES);
+    expect(&rt, boundaries_as_said(script.events.as_slice()));
 }
 
 const PROCESSOR: &[u8] = b"\
     world 64 1\n\
-    poke 0x5000 00f1\n\
     peek 0xffffffffffffffff 18446744073709551615\n\
-    free 63\n";
+    free 63\n\
+    poke 0x5000 00f1\n";
 
-#[test]
-fn lines_of_the_processor_are_read(rt: HostRuntime) -> Result<(), Fail> {
-    let script = parse(rt.alloc(), PROCESSOR)?;
-    match script.events.as_slice().first() {
+/// Whether the event is the poke of those lines.
+fn is_poke(event: Option<&Event>) -> bool {
+    match event {
         Some(
             Event::Poke {
                 address: 0x5000,
                 bytes,
             },
-        ) => expect(&rt, bytes.as_slice() == [0u8, 0xf1].as_slice()),
-        _ => return Err(Fail::new("another poke")),
-    }
-    match script.events.as_slice().get(1) {
-        Some(
-            Event::Peek {
-                address: u64::MAX,
-                len: u64::MAX,
-            },
-        ) => {}
-        _ => return Err(Fail::new("another peek")),
-    }
-    match script.events.as_slice().get(2) {
-        Some(Event::Free { frame: 63 }) => Ok(()),
-        _ => Err(Fail::new("another question")),
+        ) => bytes.as_slice() == [0u8, 0xf1].as_slice(),
+        _ => false,
     }
 }
 
+fn processor_as_said(events: &[Event]) -> bool {
+    let first = match events.get(..2) {
+        Some(
+            [
+                Event::Peek {
+                    address: u64::MAX,
+                    len: u64::MAX,
+                },
+                Event::Free { frame: 63 },
+            ],
+        ) => true,
+        _ => false,
+    };
+    first && is_poke(events.get(2))
+}
+
+#[test]
+fn lines_of_the_processor_are_read(rt: HostRuntime) {
+    let script = script_of(&rt, rt.alloc(), PROCESSOR);
+    expect(&rt, processor_as_said(script.events.as_slice()));
+}
+
 /// Scripts that are refused at their first line, with a bar between.
-const BAD_FIRST: &[u8] = b"\
+static BAD_FIRST: &[u8] = b"\
     fetch\n\
     |world 63 1\n\
     |world 4097 1\n\
@@ -586,12 +591,12 @@ const BAD_FIRST: &[u8] = b"\
 #[test]
 fn bad_first_lines_are_named(rt: HostRuntime) {
     for script in BAD_FIRST.split(|byte| *byte == b'|') {
-        expect_eq(&rt, &bad_line(&rt, script), &1);
+        expect(&rt, bad_line(rt.alloc(), script) == 1);
     }
 }
 
 /// Scripts that are refused at their second line.
-const BAD_SECOND: &[u8] = b"\
+static BAD_SECOND: &[u8] = b"\
     world 64 1\nfetch 1\n\
     |world 64 1\nfetch\
     |world 64 1\nworld 64 1\n\
@@ -697,33 +702,49 @@ const BAD_SECOND: &[u8] = b"\
 #[test]
 fn bad_second_lines_are_named(rt: HostRuntime) {
     for script in BAD_SECOND.split(|byte| *byte == b'|') {
-        expect_eq(&rt, &bad_line(&rt, script), &2);
+        expect(&rt, bad_line(rt.alloc(), script) == 2);
     }
 }
 
-#[test]
-fn long_lines_are_judged(rt: HostRuntime) -> Result<(), Fail> {
-    let mut bytes = many(rt.alloc(), b"world 64 1\nwrite 000001 0x0 ", b"5a", 4096)?;
-    bytes.push(b'\n')?;
-    expect_eq(&rt, &bad_line(&rt, &bytes), &0);
-    let mut bytes = many(rt.alloc(), b"world 64 1\nwrite 000001 0x0 ", b"5a", 4097)?;
-    bytes.push(b'\n')?;
-    expect_eq(&rt, &bad_line(&rt, &bytes), &2);
-    let mut bytes = many(rt.alloc(), b"#", b"a", 1048574)?;
-    bytes.push(b'\n')?;
-    expect_eq(&rt, &bad_line(&rt, &bytes), &0);
-    bytes.push(b'\n')?;
-    expect_eq(&rt, &bad_line(&rt, &bytes), &2);
-    let mut bytes = many(rt.alloc(), b"#", b"a", 1048575)?;
-    bytes.push(b'\n')?;
-    expect_eq(&rt, &bad_line(&rt, &bytes), &1);
+/// The bytes and so many of a piece behind them, with this many line feeds, are refused at this line, or are a script.
+fn is_judged(
+    rt: &impl Abort,
+    alloc: Global,
+    front: &[u8],
+    piece: &[u8],
+    count: usize,
+    feeds: usize,
+    line: u64,
+) -> Result<(), Fail> {
+    let mut bytes = many(alloc, front, piece, count)?;
+    for _ in 0..feeds {
+        bytes.push(b'\n')?;
+    }
+    expect(rt, bad_line(alloc, &bytes) == line);
     Ok(())
+}
+
+const WRITE: &[u8] = b"world 64 1\nwrite 000001 0x0 ";
+
+// A write has up to 4,096 bytes.
+#[test]
+fn long_writes_are_judged(rt: HostRuntime) -> Result<(), Fail> {
+    is_judged(&rt, rt.alloc(), WRITE, b"5a", 4096, 1, 0)?;
+    is_judged(&rt, rt.alloc(), WRITE, b"5a", 4097, 1, 2)
+}
+
+// A script has up to a MiB.
+#[test]
+fn long_scripts_are_judged(rt: HostRuntime) -> Result<(), Fail> {
+    is_judged(&rt, rt.alloc(), b"#", b"a", 1048574, 1, 0)?;
+    is_judged(&rt, rt.alloc(), b"#", b"a", 1048574, 2, 2)?;
+    is_judged(&rt, rt.alloc(), b"#", b"a", 1048575, 1, 1)
 }
 
 #[test]
 fn a_refused_allocation_is_told(rt: HostRuntime) {
     match parse(rt.alloc(), b"world 64 1\nwrite 000001 0x0 00\nfetch\n") {
-        Ok(script) => expect_eq(&rt, &script.events.as_slice().len(), &2),
+        Ok(script) => expect(&rt, script.events.as_slice().len() == 2),
         Err(ScriptFault::Memory) => {}
         Err(ScriptFault::Line(_)) => expect(&rt, false),
     }

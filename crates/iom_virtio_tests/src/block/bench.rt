@@ -8,7 +8,6 @@ use iom_virtio_blk::{Blk, OFFERED_FEATURES, Reply, Step as Stepped, WantedAccess
 use iom_virtqueue::{Layout, Want};
 use std::alloc::Global;
 use std::process::Abort;
-use std::test::Fail;
 
 /// What a test does or asks for.
 #[derive(Clone, Copy)]
@@ -36,33 +35,28 @@ pub(crate) struct Bench {
 
 impl Bench {
     /// A device that was just plugged, whose disk fails at this call.
-    fn plugged(alloc: Global, fails_at: u64) -> Result<Box<Bench>, Fail> {
-        let memory = Memory::new();
+    fn plugged(rt: &impl Abort, alloc: Global, fails_at: u64) -> Box<Bench> {
         let mut blk = Blk::new();
         blk.insert(FailingDisk::new(fails_at));
-        Ok(Box::new(alloc, Bench { blk, memory })?)
+        let memory = Memory::new();
+        Box::new(alloc, Bench { blk, memory }).expect(rt, "memory for the bench")
     }
 
     /// A device that works, with a queue of so many descriptors: its table at 0, its rings at 0x100 and 0x200.
     /// Its disk fails at this call.
-    pub(crate) fn new(
-        rt: &impl Abort,
-        alloc: Global,
-        size: u64,
-        fails_at: u64,
-    ) -> Result<Box<Bench>, Fail> {
-        let mut bench = Bench::plugged(alloc, fails_at)?;
+    pub(crate) fn new(rt: &impl Abort, alloc: Global, size: u64, fails_at: u64) -> Box<Bench> {
+        let mut bench = Bench::plugged(rt, alloc, fails_at);
         bench.turns(rt, Seen::Idle);
         bench.sets_queue(rt, size);
-        Ok(bench)
+        bench
     }
 
     /// A device that works, with a queue of 256 descriptors: its table at 0, its rings at 0x1000 and 0x1300.
-    pub(crate) fn largest(rt: &impl Abort, alloc: Global) -> Result<Box<Bench>, Fail> {
-        let mut bench = Bench::plugged(alloc, 0)?;
+    pub(crate) fn largest(rt: &impl Abort, alloc: Global) -> Box<Bench> {
+        let mut bench = Bench::plugged(rt, alloc, 0);
         expect(rt, bench.blk.negotiate(OFFERED_FEATURES));
         bench.works(rt, 256, 0x1000, 0x1300);
-        Ok(bench)
+        bench
     }
 
     /// The driver resets the device, and sets its queue.

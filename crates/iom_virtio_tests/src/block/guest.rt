@@ -7,7 +7,6 @@ use crate::expect::expect;
 use crate::seen::Seen;
 use std::alloc::Global;
 use std::process::Abort;
-use std::test::Fail;
 
 /// The descriptors of the queue: the table is at 0, the rings are at 0x100 and 0x200.
 const SIZE: u16 = 16;
@@ -254,22 +253,22 @@ static PLACES: [(u16, u16); 8] = [
 static LIMITS: [u16; 3] = [256, 4, 32];
 
 // A guest that has asked for nothing yet.
-fn begins(rt: &impl Abort, alloc: Global, seed: u64) -> Result<Box<Guest>, Fail> {
-    let bench = Bench::new(rt, alloc, u64::from(SIZE), 0)?;
+fn begins(rt: &impl Abort, alloc: Global, seed: u64) -> Box<Guest> {
+    let bench = Bench::new(rt, alloc, u64::from(SIZE), 0);
     let guest = Guest {
         bench,
         draw: Draw { state: seed },
         requests: 0,
         beginnings: [0; 4],
     };
-    Ok(Box::new(alloc, guest)?)
+    Box::new(alloc, guest).expect(rt, "memory for the guest")
 }
 
 // A thousand requests for each of twenty seeds: what is read is what was written last.
 #[test]
-fn what_was_written_is_read(rt: HostRuntime) -> Result<(), Fail> {
+fn what_was_written_is_read(rt: HostRuntime) {
     for seed in 0..20 {
-        let mut guest = begins(&rt, rt.alloc(), seed)?;
+        let mut guest = begins(&rt, rt.alloc(), seed);
         for sector in 0..4 {
             guest.writes(&rt, sector, 1);
         }
@@ -277,15 +276,14 @@ fn what_was_written_is_read(rt: HostRuntime) -> Result<(), Fail> {
             guest.asks(&rt);
         }
     }
-    Ok(())
 }
 
 // A driver that changes rings, descriptors and headers between any two steps is served or refused; once it
 // resets the device and is a good one, it is served as if nothing had been.
 #[test]
-fn a_hostile_driver_is_outlived(rt: HostRuntime) -> Result<(), Fail> {
+fn a_hostile_driver_is_outlived(rt: HostRuntime) {
     for seed in 0..20 {
-        let mut guest = begins(&rt, rt.alloc(), seed)?;
+        let mut guest = begins(&rt, rt.alloc(), seed);
         for _ in 0..4000 {
             guest.spoils_a_step(&rt);
         }
@@ -295,5 +293,4 @@ fn a_hostile_driver_is_outlived(rt: HostRuntime) -> Result<(), Fail> {
             guest.asks(&rt);
         }
     }
-    Ok(())
 }

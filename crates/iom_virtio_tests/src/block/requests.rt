@@ -2,7 +2,6 @@ use crate::block::bench::{Bench, Step};
 use crate::seen::Seen;
 use std::alloc::Global;
 use std::process::Abort;
-use std::test::Fail;
 
 /// A request for sector 0: its header and data, 1,040 bytes from 0x1000 on, and its status at 0x1800.
 static TWO_SECTORS: [Step; 4] = [
@@ -87,22 +86,21 @@ static READS_BACK: [Step; 7] = [
 ];
 
 // A device with that request, which was begun. Its disk fails at this call.
-fn begun(rt: &impl Abort, alloc: Global, call: u64) -> Result<Box<Bench>, Fail> {
-    let mut bench = Bench::new(rt, alloc, 4, call)?;
+fn begun(rt: &impl Abort, alloc: Global, call: u64) -> Box<Bench> {
+    let mut bench = Bench::new(rt, alloc, 4, call);
     bench.follow(rt, &TWO_SECTORS);
     bench.follow(rt, &BEGINS);
-    Ok(bench)
+    bench
 }
 
 // A disk fails at the second of two sectors: the request ends IOERR, with one byte written. The same head
 // again ends OK, and an IN then reads what was written.
 #[test]
-fn a_disk_fails_at_the_second_sector(rt: HostRuntime) -> Result<(), Fail> {
-    let mut bench = begun(&rt, rt.alloc(), 2)?;
+fn a_disk_fails_at_the_second_sector(rt: HostRuntime) {
+    let mut bench = begun(&rt, rt.alloc(), 2);
     bench.follow(&rt, &FAILS);
     bench.follow(&rt, &AGAIN);
     bench.follow(&rt, &READS_BACK);
-    Ok(())
 }
 
 /// A call at which the disk fails, what is read of the data, and the status.
@@ -122,12 +120,11 @@ fn ends(rt: &impl Abort, bench: &mut Bench, data: &[Seen], status: u8) {
 
 // At its first call the second sector isn't read any more; at a third call there is none that could fail.
 #[test]
-fn a_disk_fails_at_other_calls(rt: HostRuntime) -> Result<(), Fail> {
+fn a_disk_fails_at_other_calls(rt: HostRuntime) {
     for (call, data, status) in CALLS.iter() {
-        let mut bench = begun(&rt, rt.alloc(), *call)?;
+        let mut bench = begun(&rt, rt.alloc(), *call);
         ends(&rt, &mut bench, data, *status);
     }
-    Ok(())
 }
 
 /// The type of a request, its sector, how many times 256 bytes of data it has, and its status.
@@ -151,11 +148,10 @@ fn asks(rt: &impl Abort, bench: &mut Bench, kind: u8, sector: u8, len: u8) {
 // Data that ends in the middle of a sector, a sector past the disk's end, a flush, and a type that isn't
 // known: the status of each. No data is read.
 #[test]
-fn requests_end_for_their_reasons(rt: HostRuntime) -> Result<(), Fail> {
+fn requests_end_for_their_reasons(rt: HostRuntime) {
     for (kind, sector, len, status) in REASONS.iter() {
-        let mut bench = Bench::new(&rt, rt.alloc(), 4, 0)?;
+        let mut bench = Bench::new(&rt, rt.alloc(), 4, 0);
         asks(&rt, &mut bench, *kind, *sector, *len);
         ends(&rt, &mut bench, &[], *status);
     }
-    Ok(())
 }

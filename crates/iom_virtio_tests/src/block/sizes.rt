@@ -4,7 +4,6 @@ use crate::block::bench::{Bench, Step};
 use crate::seen::Seen;
 use iom_virtqueue::ChainFault;
 use std::process::Abort;
-use std::test::Fail;
 
 static SHORT: [Step; 4] = [
     Step::Poke(0x8, &[16]),
@@ -21,10 +20,9 @@ static SHORT: [Step; 4] = [
 
 // A queue of one descriptor has no room for a header and a status.
 #[test]
-fn one_descriptor_is_too_short(rt: HostRuntime) -> Result<(), Fail> {
-    let mut bench = Bench::new(&rt, rt.alloc(), 1, 0)?;
+fn one_descriptor_is_too_short(rt: HostRuntime) {
+    let mut bench = Bench::new(&rt, rt.alloc(), 1, 0);
     bench.follow(&rt, &SHORT);
-    Ok(())
 }
 
 // A chain of all descriptors: the header, 254 buffers of an IN of one sector, every other of which is empty, and
@@ -52,11 +50,10 @@ static LONGEST: [Step; 5] = [
 
 // A queue of 256 descriptors, all in one chain. The table is at 0, the rings are at 0x1000 and 0x1300.
 #[test]
-fn the_longest_chain_is_served(rt: HostRuntime) -> Result<(), Fail> {
-    let mut bench = Bench::largest(&rt, rt.alloc())?;
+fn the_longest_chain_is_served(rt: HostRuntime) {
+    let mut bench = Bench::largest(&rt, rt.alloc());
     puts_longest(&rt, &mut bench);
     bench.follow(&rt, &LONGEST);
-    Ok(())
 }
 
 /// A call at which the disk fails, the status of the OUT, that of the IN and how many bytes are written for it, and
@@ -118,12 +115,11 @@ fn expect_data(rt: &impl Abort, bench: &Bench, bytes: &[u8; 4]) {
 // fails ends IOERR; the sectors before that call are done. (After an OUT that failed at its k-th sector the
 // IN is read by the calls that follow, of which none fails.)
 #[test]
-fn a_disk_fails_at_each_call(rt: HostRuntime) -> Result<(), Fail> {
+fn a_disk_fails_at_each_call(rt: HostRuntime) {
     for (call, wrote, read, written, bytes) in CALLS.iter() {
-        let mut bench = Bench::new(&rt, rt.alloc(), 4, *call)?;
+        let mut bench = Bench::new(&rt, rt.alloc(), 4, *call);
         serves(&rt, &mut bench, &OUT, 7, *wrote, 1);
         serves(&rt, &mut bench, &IN, 9, *read, *written);
         expect_data(&rt, &bench, bytes);
     }
-    Ok(())
 }

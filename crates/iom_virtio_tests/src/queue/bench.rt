@@ -4,7 +4,6 @@ use crate::seen::Seen;
 use iom_virtqueue::{ChainFault, Layout, Phase, Queue, Want};
 use std::alloc::Global;
 use std::process::Abort;
-use std::test::Fail;
 
 /// A queue with its table at 0, its available ring at 0x1000 and its used ring at 0x1400.
 #[derive(Drop)]
@@ -22,11 +21,11 @@ fn seen(taken: Result<(), ChainFault>, access: Seen) -> Seen {
 }
 
 impl Bench {
-    pub(crate) fn new(alloc: Global, size: u64) -> Result<Box<Bench>, Fail> {
-        let memory = Memory::new();
-        let layout = Layout::new(size, 0, 0x1000, 0x1400).ok_or("a layout")?;
+    pub(crate) fn new(rt: &impl Abort, alloc: Global, size: u64) -> Box<Bench> {
+        let layout = Layout::new(size, 0, 0x1000, 0x1400).expect(rt, "a layout");
         let queue = Queue::new(layout);
-        Ok(Box::new(alloc, Bench { queue, memory })?)
+        let memory = Memory::new();
+        Box::new(alloc, Bench { queue, memory }).expect(rt, "memory for the bench")
     }
 
     // The access that is wanted next is made.

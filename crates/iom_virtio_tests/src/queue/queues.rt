@@ -3,7 +3,6 @@ use crate::queue::bench::Bench;
 use crate::seen::Seen;
 use iom_virtqueue::{ChainFault, Layout};
 use std::process::Abort;
-use std::test::Fail;
 
 // A queue has a power of two of descriptors, from 1 to 256.
 #[test]
@@ -53,16 +52,15 @@ fn puts_two(rt: &impl Abort, bench: &mut Bench) {
 
 // More requests than an idx can count, of queues of two descriptors and of 256: each ring entry is used in its turn.
 #[test]
-fn rings_and_indices_go_round(rt: HostRuntime) -> Result<(), Fail> {
+fn rings_and_indices_go_round(rt: HostRuntime) {
     for size in [2u16, 256] {
-        let mut bench = Bench::new(rt.alloc(), u64::from(size))?;
+        let mut bench = Bench::new(&rt, rt.alloc(), u64::from(size));
         puts_two(&rt, &mut bench);
         for number in 0..65_540u32 {
             let slot = (number % 256) as u16 & size.wrapping_sub(1);
             serves(&rt, &mut bench, ((number + 1) % 65536) as u16, slot);
         }
     }
-    Ok(())
 }
 
 /// The size of a queue, the avail idx, and what comes of it.
@@ -75,13 +73,12 @@ static AHEAD: [(u64, u16, Seen); 4] = [
 
 // The avail idx may be as far ahead as the queue is large, and not one farther.
 #[test]
-fn an_index_too_far_ahead_is_a_fault(rt: HostRuntime) -> Result<(), Fail> {
+fn an_index_too_far_ahead_is_a_fault(rt: HostRuntime) {
     for (size, idx, seen) in AHEAD.iter() {
-        let mut bench = Bench::new(rt.alloc(), *size)?;
+        let mut bench = Bench::new(&rt, rt.alloc(), *size);
         bench.memory.poke_half(&rt, 0x1002, *idx);
         bench.turns(&rt, *seen);
     }
-    Ok(())
 }
 
 // All descriptors of a queue of 256 in one chain, with a status at its end. Its first buffer has a MiB and so many bytes
@@ -106,19 +103,17 @@ fn reads_all(rt: &impl Abort, bench: &mut Bench) {
 
 // A chain of all 256 descriptors is read whole, with readable bytes up to the limit.
 #[test]
-fn a_chain_may_have_all_descriptors(rt: HostRuntime) -> Result<(), Fail> {
-    let mut bench = Bench::new(rt.alloc(), 256)?;
+fn a_chain_may_have_all_descriptors(rt: HostRuntime) {
+    let mut bench = Bench::new(&rt, rt.alloc(), 256);
     puts_all(&rt, &mut bench, 0);
     reads_all(&rt, &mut bench);
-    Ok(())
 }
 
 // With one byte more it is too long.
 #[test]
-fn a_chain_may_be_too_long(rt: HostRuntime) -> Result<(), Fail> {
-    let mut bench = Bench::new(rt.alloc(), 256)?;
+fn a_chain_may_be_too_long(rt: HostRuntime) {
+    let mut bench = Bench::new(&rt, rt.alloc(), 256);
     puts_all(&rt, &mut bench, 1);
     bench.turns(&rt, Seen::Chain(ChainFault::TooLong));
     bench.turns(&rt, Seen::Idle);
-    Ok(())
 }
