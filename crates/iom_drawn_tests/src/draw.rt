@@ -189,28 +189,37 @@ impl Draw {
         }
     }
 
-    /// An untranslated read up to the end of a page, so that it takes in the frame's name.
+    /// Where a read begins, and how long it is: up to the end of a page, so that it takes in the frame's name.
+    fn span_to_name(&mut self) -> (u64, u64) {
+        let before = self.below(8);
+        (self.page() + NAME_AT - before, 8 + before)
+    }
+
+    /// An untranslated read.
     fn plain_read(&mut self) -> Event
         ensures { IsNoChoice result }
     {
-        let before = self.below(8);
+        let (address, len) = self.span_to_name();
         Event::Read {
             device: self.device(),
-            address: self.page() + NAME_AT - before,
-            len: 8 + before,
+            address,
+            len,
         }
     }
 
-    /// Such a read, or one through a cache.
+    /// An untranslated read or one through a cache.
     fn read(&mut self) -> Event
         ensures { IsNoChoice result }
     {
+        let (address, len) = self.span_to_name();
         if self.below(3) == 0 {
-            self.plain_read()
+            let device = self.device();
+            Event::Read {
+                device,
+                address,
+                len,
+            }
         } else {
-            let before = self.below(8);
-            let address = self.page() + NAME_AT - before;
-            let len = 8 + before;
             let device = self.asker();
             Event::ReadThroughCache {
                 device,
@@ -220,43 +229,54 @@ impl Draw {
         }
     }
 
-    /// Where an entry of a table is written.
-    fn place_of_entry(&mut self) -> u64
-        ensures { result < 36864 }
-    {
+    /// Where a write begins, and its bytes: an entry of a table, and behind it a word that no other write has.
+    fn entry_and_own(
+        &mut self,
+        alloc: Global,
+        own: u64,
+    ) -> Result<(u64, Sequence<u8>), AllocError> {
         let place = if self.below(2) == 0 {
             self.below(8)
         } else {
             self.below(509)
         };
-        self.page() + 8 * place
+        let address = self.page() + 8 * place;
+        let entry = self.entry(2);
+        Ok((address, bytes_of(alloc, &[entry, own])?))
     }
 
-    /// An untranslated write of an entry of a table, and behind it of a word that no other write has.
+    /// An untranslated write.
     fn plain_write(&mut self, alloc: Global, own: u64) -> Result<Event, AllocError>
         ensures { IfOk result (λ event. IsNoChoice event) }
     {
-        let entry = self.entry(2);
+        let (address, bytes) = self.entry_and_own(alloc, own)?;
         Ok(Event::Write {
             device: self.device(),
-            address: self.place_of_entry(),
-            bytes: bytes_of(alloc, &[entry, own])?,
+            address,
+            bytes,
         })
     }
 
-    /// Such a write, or one through a cache.
+    /// An untranslated write or one through a cache.
     fn write(&mut self, alloc: Global, own: u64) -> Result<Event, AllocError>
         ensures { IfOk result (λ event. IsNoChoice event) }
     {
+        let (address, bytes) = self.entry_and_own(alloc, own)?;
         if self.below(3) == 0 {
-            return self.plain_write(alloc, own);
+            let device = self.device();
+            Ok(Event::Write {
+                device,
+                address,
+                bytes,
+            })
+        } else {
+            let device = self.asker();
+            Ok(Event::WriteThroughCache {
+                device,
+                address,
+                bytes,
+            })
         }
-        let entry = self.entry(2);
-        Ok(Event::WriteThroughCache {
-            device: self.asker(),
-            address: self.place_of_entry(),
-            bytes: bytes_of(alloc, &[entry, own])?,
-        })
     }
 
     /// A request at an address of one of the granted frames, that says it is translated.
