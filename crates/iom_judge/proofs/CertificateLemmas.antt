@@ -1,5 +1,5 @@
 -- A run grows with each line, and what is certified with it.
-use Rattle.std.proofs.Common.{◌≡◌, ◌≢◌, ◌∙◌, ℕ, Bool, true, false, List, [], ◌∷◌, ◌++◌, Option, None, Some, Result, Ok, Err, IfOk, IfSome, IsSomeAnd, IsTrue, MatchOption, refl, sym, ap, subst, append-nil}
+use Rattle.std.proofs.Common.{◌≡◌, ◌≢◌, ◌∙◌, ℕ, Bool, true, false, List, [], ◌∷◌, ◌++◌, Option, None, Some, Result, Ok, Err, IfOk, IfSome, IsSomeAnd, IsTrue, MatchOption, refl, sym, ap, subst, append-nil, append_assoc}
 use Rattle.std.proofs.lemmas.Bool.{false≢true}
 use Rattle.std.proofs.lemmas.List.Elements.{All-nil, filter-append}
 use Rattle.std.proofs.KnownBytes.{Consumes-nil}
@@ -17,7 +17,7 @@ use Rattle.iom_trace_lines.specs.TraceLines.{SaysLine}
 use Rattle.iom_trace_lines.specs.declared.trace.TraceLine.{TraceLine}
 use Rattle.iom_trace_lines.specs.declared.trace.TraceLine.TheVariants as says
 use Rattle.iom_judge.specs.Certificates.{is_lawful, four_disks, opening_of, SaysStep, SaySteps, AreOfRun, AreLawful, IsLawfulTrace}
-use Rattle.iom_judge.specs.Certified.{IsCertifiedBy, Certify, CertifyIf, GoesOn, HasJudged}
+use Rattle.iom_judge.specs.Certified.{IsCertifiedBy, Certify, CertifyBehind, CertifyIf, GoesOn, HasJudged}
 use Rattle.iom_judge.specs.Followed.{Follows}
 use Rattle.iom_judge.specs.declared.belief.Belief.{Belief}
 use Rattle.iom_judge.specs.declared.verdict.Verdict.{Verdict}
@@ -139,15 +139,32 @@ if_it_goes_on (Err error) P Q so found = tt
 pub not_nothing : (line : List ℕ) (read : TraceLine) → (read ≢ says.Nothing → is_spoken line ≡ true) → (other : TraceLine) → read ≡ other → other ≢ says.Nothing → is_spoken line ≡ true
 not_nothing line read spoken_line other same something = spoken_line (λ e. something (sym same ∙ e))
 
--- A line is judged: the judge has taken it too, or what it finds is no certificate.
-pub line_judged : {E : Type 0} (result : Result (Option Verdict) E) (certain : Bool) (belief : Option Belief) (lines : List (List ℕ)) (line read buffer : List ℕ) (start end : ℕ)
+-- A line is judged: the judges have taken it too, or what they find is no certificate.
+pub line_judged : {E : Type 0} (result : Result (Option Verdict) E) (certain : Bool) (belief : Option Belief) (window lines : List (List ℕ)) (line read buffer : List ℕ) (start end : ℕ)
     (first now : Option (List ℕ)) (Certified : Type 0) → read ≡ line → HasTaken (lines ++ line ∷ []) buffer start end first now
-    → IfOk result (λ found. MatchOption found (CertifyIf certain belief (lines ++ read ∷ [])) (λ verdict. is_lawful verdict ≡ false))
-    → IfOk result (λ found. MatchOption found (HasJudged certain belief buffer start end first now) (λ verdict. IsTrue (is_lawful verdict) → Certified))
-line_judged (Ok None) certain belief lines line read buffer start end first now Certified is taken found =
-    (lines ++ line ∷ [], taken, subst (λ (l : List ℕ). CertifyIf certain belief (lines ++ l ∷ [])) is found)
-line_judged (Ok (Some verdict)) certain belief lines line read buffer start end first now Certified is taken found = λ told. absurd (false≢true (sym found ∙ told))
-line_judged (Err error) certain belief lines line read buffer start end first now Certified is taken found = tt
+    → IfOk result (λ found. MatchOption found (CertifyBehind certain belief window (lines ++ read ∷ [])) (λ verdict. is_lawful verdict ≡ false))
+    → IfOk result (λ found. MatchOption found (HasJudged certain belief window buffer start end first now) (λ verdict. IsTrue (is_lawful verdict) → Certified))
+line_judged (Ok None) certain belief window lines line read buffer start end first now Certified is taken found =
+    (lines ++ line ∷ [], taken, subst (λ (l : List ℕ). CertifyBehind certain belief window (lines ++ l ∷ [])) is found)
+line_judged (Ok (Some verdict)) certain belief window lines line read buffer start end first now Certified is taken found = λ told. absurd (false≢true (sym found ∙ told))
+line_judged (Err error) certain belief window lines line read buffer start end first now Certified is taken found = tt
+
+-- one line more is kept
+pub one_kept : (certain : Bool) (belief : Option Belief) (window lines : List (List ℕ)) (line : List ℕ) → CertifyBehind certain belief window lines
+    → CertifyBehind certain belief (window ++ line ∷ []) (lines ++ line ∷ [])
+one_kept certain belief window lines line (judged, are, certified) =
+    (judged, ap (λ (l : List (List ℕ)). l ++ line ∷ []) are ∙ append_assoc judged window (line ∷ []), certified)
+
+-- the first of those that were kept is taken
+pub one_followed : (was is : Bool) (old new : Option Belief) (line : List ℕ) (window lines : List (List ℕ)) → CertifyBehind was old (line ∷ window) lines
+    → ((judged : List (List ℕ)) → CertifyIf was old judged → CertifyIf is new (judged ++ line ∷ [])) → CertifyBehind is new window lines
+one_followed was is old new line window lines (judged, are, certified) goes =
+    (judged ++ line ∷ [], are ∙ sym (append_assoc judged (line ∷ []) window), goes judged certified)
+
+-- where none is kept
+pub none_kept : (certain : Bool) (belief : Option Belief) (window lines : List (List ℕ)) → window ≡ [] → CertifyBehind certain belief window lines → CertifyIf certain belief lines
+none_kept certain belief window lines none (judged, are, certified) =
+    subst (λ (l : List (List ℕ)). CertifyIf certain belief l) (sym (are ∙ ap (λ (w : List (List ℕ)). judged ++ w) none ∙ append-nil judged)) certified
 
 -- what holds of the text that the lines make holds of what the reader had
 pub of_reader : (first : Option (List ℕ)) (lines : List (List ℕ)) → IfSome first (AreLines lines) → ((text : List ℕ) → AreLines lines text → IsLawfulTrace text) → IfSome first IsLawfulTrace
@@ -155,7 +172,7 @@ of_reader None lines are lawful = tt
 of_reader (Some text) lines are lawful = lawful text are
 
 -- before the first line
-pub nothing_taken : (certain : Bool) (belief : Option Belief) (buffer : List ℕ) (start end : ℕ) (first : Option (List ℕ)) → Holds buffer start end [] → CertifyIf certain belief []
-    → HasJudged certain belief buffer start end first first
-nothing_taken certain belief buffer start end first holds certified =
+pub nothing_taken : (certain : Bool) (belief : Option Belief) (window : List (List ℕ)) (buffer : List ℕ) (start end : ℕ) (first : Option (List ℕ)) → Holds buffer start end []
+    → CertifyBehind certain belief window [] → HasJudged certain belief window buffer start end first first
+nothing_taken certain belief window buffer start end first holds certified =
     ([], record { whole = All-nil (IsWithout 10); read = []; consumed = Consumes-nil first; waiting = []; holds = holds; is_read = refl }, certified)

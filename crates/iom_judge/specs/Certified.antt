@@ -1,6 +1,6 @@
 -- What is certified of a trace before its end, line after line.
 -- For the judge's own functions alone; no public contract cites these.
-use Rattle.std.specs.Prelude.{ℕ, Bool, List, [], ◌∷◌, Option, None, Some, IsTrue, ⊤}
+use Rattle.std.specs.Prelude.{◌≡◌, ℕ, Bool, List, [], ◌∷◌, ◌++◌, Option, None, Some, IsTrue, ⊤}
 use Rattle.iom_machine.specs.declared.event.Event.{Event}
 use Rattle.iom_machine.specs.declared.outcome.Outcome.{Outcome}
 use Rattle.iom_machine.specs.declared.state.Frame.{Frame}
@@ -41,13 +41,17 @@ Certify _ _ = ⊥
 abbrev pub CertifyIf : Bool → Option Belief → List (List ℕ) → Type 0
 CertifyIf is_certified belief lines = IsTrue is_certified → Certify belief (spoken lines)
 
+-- What is certified is so by the lines but for those of the window, which are taken later.
+abbrev pub CertifyBehind : Bool → Option Belief → List (List ℕ) → List (List ℕ) → Type 0
+CertifyBehind is_certified belief window lines = (judged : List (List ℕ)) × (lines ≡ judged ++ window) × CertifyIf is_certified belief judged
+
 -- What is certified after the event with this outcome was so before, and what is believed is followed from that.
 abbrev pub GoesOn : Bool → Option Belief → Event → Outcome → Bool → Option Belief → Type 0
 GoesOn was (Some old) event outcome is (Some new) =
     IsTrue is → IsTrue was × Follows old new event outcome
 GoesOn was _ event outcome is _ = ⊥
 
--- The judge has taken these lines, and what it certifies is so by them.
-abbrev pub HasJudged : Bool → Option Belief → List ℕ → ℕ → ℕ → Option (List ℕ) → Option (List ℕ) → Type 0
-HasJudged is_certified belief buffer start end first now =
-    (lines : List (List ℕ)) × HasTaken lines buffer start end first now × CertifyIf is_certified belief lines
+-- The judges have taken these lines, but for the window the one that certifies, and what it certifies is so by them.
+abbrev pub HasJudged : Bool → Option Belief → List (List ℕ) → List ℕ → ℕ → ℕ → Option (List ℕ) → Option (List ℕ) → Type 0
+HasJudged is_certified belief window buffer start end first now =
+    (lines : List (List ℕ)) × HasTaken lines buffer start end first now × CertifyBehind is_certified belief window lines

@@ -15,7 +15,7 @@ use crate::following::leaves_flights;
 use crate::messages::Messages;
 use crate::releases::Releases;
 use crate::subject::Subject;
-use crate::unseen::{Run, Unseen};
+use crate::unseen::{Run, SeenWrite, Unseen};
 use crate::versions::Versions;
 use iom_base::{Access, AccessKind, DeviceId, PAGE_SIZE};
 use iom_known::asked::{Asked, read_by, request, write_by};
@@ -47,6 +47,10 @@ pub(crate) struct Belief {
     pub(crate) known: Known,
     pub(crate) doubts: Doubts,
     pub(crate) unseen: Unseen,
+    /// What was seen of such writes, for a judge behind.
+    pub(crate) seen: Vec<SeenWrite>,
+    /// What a judge ahead saw of them.
+    pub(crate) told: Vec<Vec<SeenWrite>>,
     pub(crate) versions: Versions,
     pub(crate) messages: Messages,
     pub(crate) releases: Releases,
@@ -80,6 +84,8 @@ impl Belief {
             known: Known::power_on(alloc, frames, levels, &DISKS)?,
             doubts: Doubts::new(alloc),
             unseen: Unseen::new(alloc),
+            seen: Vec::new(alloc),
+            told: Vec::new(alloc),
             versions: Versions::new(alloc),
             messages: Messages::new(alloc),
             releases: Releases::new(alloc),

@@ -58,7 +58,7 @@ fn note_write(
 ) -> Result<(), AllocError> {
     if let (Outcome::Wrote(len), Some(begun)) = (outcome, doubts.begun_at(doubt)) {
         let frames = frames_of(alloc, &begun.places, AccessKind::Write)?;
-        unseen.write(alloc, frames, *len as usize)?;
+        unseen.write(alloc, begun.device, begun.number, frames, *len as usize)?;
     }
     Ok(())
 }

@@ -1,5 +1,5 @@
 // A trace, judged line by line.
-ghost use Rattle.std.specs.Prelude.{◌≡◌, ◌++◌, ◌∷◌, [], ℕ, List, Option, None, IfOk, IfSome, IsSomeAnd, IsTrue, MatchOption, false, true};
+ghost use Rattle.std.specs.Prelude.{◌≡◌, ◌++◌, ◌∷◌, [], ℕ, List, Option, None, IfOk, IfSome, IsSomeAnd, IsTrue, MatchOption, OnOk, false, true};
 ghost use Rattle.iom_script.specs.Grammar.{is_spoken};
 ghost use Rattle.iom_known.specs.Allowed.{Past, IsTrueOf};
 ghost use Rattle.iom_known.specs.Starts.{IsPowerOn, SomeAreAllowed};
@@ -8,7 +8,9 @@ ghost use Rattle.iom_judge.specs.Certificates.{four_disks, is_lawful, IsLawfulTr
 ghost use Rattle.iom_judge.specs.Certified.{CertifyIf, GoesOn, HasJudged};
 
 use crate::belief::{Belief, Shown};
+use crate::hindsight::Judges;
 use crate::subject::Subject;
+use crate::unseen::SeenWrite;
 use crate::verdict::Verdict;
 use iom_base::Access;
 use iom_machine::{Event, Outcome};
@@ -19,20 +21,20 @@ use std::io::{self, ErrorKind, Read};
 
 /// The judge of a trace, after the lines so far.
 #[derive(Drop)]
-struct Judge {
+pub(crate) struct Judge {
     alloc: Global,
     printed: LineBuffer,
     tables: Vec<u32>,
-    belief: Option<Belief>,
-    line: u64,
+    pub(crate) belief: Option<Belief>,
+    pub(crate) line: u64,
     /// Whether each line so far was followed.
-    is_certified: bool,
+    pub(crate) is_certified: bool,
     /// The last line up to which each was.
     last_followed: u64,
 }
 
 impl Judge {
-    fn new(alloc: Global) -> io::Result<Judge>
+    pub(crate) fn new(alloc: Global) -> io::Result<Judge>
         ensures { IfOk result (λ judge. CertifyIf judge.is_certified judge.belief []) }
     {
         Ok(Judge {
@@ -100,7 +102,7 @@ impl Judge {
     }
 
     /// What the next line is found, if it ends the trace.
-    fn take(&mut self, line: &[u8]) -> io::Result<Option<Verdict>>
+    pub(crate) fn take(&mut self, line: &[u8]) -> io::Result<Option<Verdict>>
         ensures { (lines : List (List ℕ)) → CertifyIf self.old.is_certified self.old.belief lines
             → IfOk result (λ found. MatchOption found
             (CertifyIf self.new.is_certified self.new.belief (lines ++ line.now ∷ []))
@@ -149,8 +151,44 @@ impl Judge {
         }
     }
 
+    /// What was seen of writes that no line of theirs shows, since it was asked last.
+    pub(crate) fn take_seen(&mut self) -> Vec<SeenWrite> {
+        match &mut self.belief {
+            None => Vec::new(self.alloc),
+            Some(belief) => belief.take_seen(self.alloc),
+        }
+    }
+
+    /// What a judge ahead saw of such writes.
+    pub(crate) fn hear(&mut self, seen: Vec<SeenWrite>) -> io::Result<()>
+        ensures { (lines : List (List ℕ)) → CertifyIf self.old.is_certified self.old.belief lines
+            → OnOk result (CertifyIf self.new.is_certified self.new.belief lines) }
+    {
+        let Some(belief) = &mut self.belief else {
+            return Ok(());
+        };
+        belief.hear(seen)?;
+        Ok(())
+    }
+
+    /// Takes the line, where each before was followed. It isn't, where it isn't found lawful.
+    pub(crate) fn follow(&mut self, line: &[u8]) -> io::Result<()>
+        ensures { (lines : List (List ℕ)) → CertifyIf self.old.is_certified self.old.belief lines
+            → OnOk result (CertifyIf self.new.is_certified self.new.belief (lines ++ line.now ∷ [])) }
+    {
+        if !self.is_certified {
+            return Ok(());
+        }
+        if self.take(line)?.is_some() {
+            self.is_certified = false;
+            return Ok(());
+        }
+        self.note_line();
+        Ok(())
+    }
+
     /// What is found of the lines, where there are no others.
-    fn end(&self) -> Verdict
+    pub(crate) fn end(&self) -> Verdict
         ensures { (text : List ℕ) (lines : List (List ℕ)) → CertifyIf self.now.is_certified self.now.belief lines
             → AreLines lines text → IsTrue (is_lawful result) → IsLawfulTrace text }
     {
@@ -167,36 +205,45 @@ impl Judge {
 
 /// What is found of the next line, if that ends the trace.
 fn judge_next<R: Read>(
-    judge: &mut Judge,
+    judges: &mut Judges,
     lines: &mut Lines,
     reader: &mut R,
 ) -> io::Result<Option<Verdict>>
     ensures { (first : Option (List ℕ))
-        → HasJudged judge.old.is_certified judge.old.belief lines.old.buffer.items lines.old.start lines.old.end first (R.remaining reader.old)
+        → HasJudged judges.old.behind.is_certified judges.old.behind.belief judges.old.window
+        lines.old.buffer.items lines.old.start lines.old.end first (R.remaining reader.old)
         → IfOk result (λ found. MatchOption found
-        (HasJudged judge.new.is_certified judge.new.belief lines.new.buffer.items lines.new.start lines.new.end first (R.remaining reader.new))
+        (HasJudged judges.new.behind.is_certified judges.new.behind.belief judges.new.window
+        lines.new.buffer.items lines.new.start lines.new.end first (R.remaining reader.new))
         (λ verdict. IsTrue (is_lawful verdict) → IfSome first IsLawfulTrace)) }
 {
     match lines.next_line(reader)? {
-        NextLine::End => Ok(Some(judge.end())),
+        NextLine::End => {
+            let verdict = judges.end()?;
+            Ok(Some(verdict))
+        }
         NextLine::Broken => Ok(Some(Verdict::Bad {
-            line: judge.line.saturating_add(1),
+            line: judges.line().saturating_add(1),
         })),
-        NextLine::Line(start, end) => judge.take(lines.between(start, end)),
+        NextLine::Line(start, end) => judges.take(lines.between(start, end)),
     }
 }
 
 /// What is found of the lines.
-fn judge_lines<R: Read>(judge: &mut Judge, lines: &mut Lines, reader: &mut R) -> io::Result<Verdict>
+fn judge_lines<R: Read>(
+    judges: &mut Judges,
+    lines: &mut Lines,
+    reader: &mut R,
+) -> io::Result<Verdict>
     ensures { (first : Option (List ℕ))
-        → HasJudged judge.old.is_certified judge.old.belief lines.old.buffer.items lines.old.start lines.old.end first (R.remaining reader.old)
+        → HasJudged judges.old.behind.is_certified judges.old.behind.belief judges.old.window
+        lines.old.buffer.items lines.old.start lines.old.end first (R.remaining reader.old)
         → IfOk result (λ verdict. IsTrue (is_lawful verdict) → IfSome first IsLawfulTrace) }
 {
     for _ in 0..u64::MAX {
-        if let Some(verdict) = judge_next(judge, lines, reader)? {
+        if let Some(verdict) = judge_next(judges, lines, reader)? {
             return Ok(verdict);
         }
-        judge.note_line();
     }
     Err(io::Error::from(ErrorKind::Other))
 }
@@ -209,7 +256,7 @@ fn judge_lines<R: Read>(judge: &mut Judge, lines: &mut Lines, reader: &mut R) ->
 pub fn judge_trace<R: Read>(alloc: Global, reader: &mut R) -> io::Result<Verdict>
     ensures { IfOk result (λ verdict. IsTrue (is_lawful verdict) → IfSome (R.remaining reader.old) IsLawfulTrace) }
 {
-    let mut judge = Judge::new(alloc)?;
+    let mut judges = Judges::new(alloc)?;
     let mut lines = Lines::new(alloc)?;
-    judge_lines(&mut judge, &mut lines, reader)
+    judge_lines(&mut judges, &mut lines, reader)
 }

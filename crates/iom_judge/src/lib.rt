@@ -12,6 +12,7 @@ mod belief;
 mod doubts;
 mod explain;
 mod following;
+mod hindsight;
 mod judging;
 mod messages;
 mod releases;

@@ -9,7 +9,7 @@ use crate::begun::{BegunAccess, Place, begun_at, places_of};
 use crate::belief::{Belief, has_other};
 use crate::doubts::{frame_at, has_both_stages};
 use crate::messages::Sent;
-use crate::unseen::Run;
+use crate::unseen::{Run, SeenWrite};
 use iom_base::{
     AcceptedAccess, Access, AccessKind, Cause, DeviceId, PAGE_LIMIT, PAGE_SIZE, Sequence,
 };
@@ -21,6 +21,10 @@ use iom_known::{BelievedFrame, Known, Question};
 use iom_machine::{BlockStep, Event, Outcome};
 use memchr::memchr_iter;
 use std::alloc::{AllocError, Global};
+use std::mem;
+
+/// So many lists of what was seen are kept at most.
+const MOST_TOLD: usize = 256;
 
 /// A step of a block device, with this access and frame.
 fn step(
@@ -372,7 +376,7 @@ impl Belief {
         begun_at(place, begun.is_cached, wanted)
     }
 
-    /// A write of so many bytes that a step may have begun, and that changes nothing.
+    /// A write of so many bytes that a step may have begun. It is the one of which it was told, or changes nothing.
     pub(crate) fn find_write(
         &self,
         alloc: Global,
@@ -381,49 +385,94 @@ impl Belief {
     ) -> Result<Option<AcceptedAccess>, AllocError>
         ensures { IfOk result (λ found. IfSome found (λ made. CouldHaveBegun begun.now made)) }
     {
-        let Some(index) = self.place_to_write(&begun.places) else {
+        if len == 0 || len > PAGE_SIZE {
+            return Ok(None);
+        }
+        let told = self.told_of(begun.device, begun.number);
+        let Some(index) = self.place_to_write(&begun.places, told) else {
             return Ok(None);
         };
         let Some(place) = begun.places.get(index) else {
             return Ok(None);
         };
-        if len == 0 || len > PAGE_SIZE {
-            return Ok(None);
-        }
+        let latest = PAGE_SIZE.saturating_sub(len) as usize;
+        let offset = told.map_or(0, |seen| seen.offset).min(latest);
+        let address = place
+            .page
+            .saturating_mul(PAGE_SIZE)
+            .saturating_add(offset as u64);
         let wanted = Access {
-            address: place.page.saturating_mul(PAGE_SIZE),
+            address,
             len,
             kind: AccessKind::Write,
-            bytes: self.first_bytes(alloc, place.frame, len as usize)?,
+            bytes: self.bytes_with(alloc, place.frame, offset, len as usize, told)?,
         };
         Ok(begun_at(*place, begun.is_cached, wanted))
     }
 
-    /// The first of these places that may be written and whose frame holds what is certain.
-    fn place_to_write(&self, places: &[Place]) -> Option<usize> {
+    /// What this belief was told of the device's write with this number.
+    fn told_of(&self, device: DeviceId, number: u64) -> Option<&SeenWrite> {
+        for list in self.told.iter() {
+            for seen in list.iter() {
+                if seen.device == device && seen.number == number {
+                    return Some(seen);
+                }
+            }
+        }
+        None
+    }
+
+    /// The first of these places that may be written, whose frame holds what is certain, and is the one that was seen, if
+    /// one was.
+    fn place_to_write(&self, places: &[Place], told: Option<&SeenWrite>) -> Option<usize> {
         for (index, place) in places.iter().enumerate() {
-            if place.is_writable && self.is_certain(place.frame) {
+            let is_other = told.is_some_and(|seen| seen.frame != place.frame);
+            if place.is_writable && !is_other && self.is_certain(place.frame) {
                 return Some(index);
             }
         }
         None
     }
 
-    /// So many bytes of the frame, the first ones.
-    fn first_bytes(
+    /// So many bytes of the frame from the offset on, with what was seen there.
+    fn bytes_with(
         &self,
         alloc: Global,
         frame: u32,
+        offset: usize,
         len: usize,
+        told: Option<&SeenWrite>,
     ) -> Result<Sequence<u8>, AllocError> {
         let mut bytes = Vec::new(alloc);
-        if let Some(believed) = self.known.frames.as_slice().get(frame as usize) {
-            if let Some(first) = believed.bytes.as_slice().get(..len) {
-                bytes.extend_from_slice(first)?;
-            }
+        for place in offset..offset.saturating_add(len) {
+            let seen = told.and_then(|write| write.byte_at(place));
+            bytes.push(seen.unwrap_or(self.byte_of(frame, place)))?;
         }
-        bytes.resize(len, 0)?;
         Ok(Sequence::from_vec(bytes))
+    }
+
+    /// The byte that is believed first at the offset of the frame.
+    fn byte_of(&self, frame: u32, offset: usize) -> u8 {
+        match self.known.frames.as_slice().get(frame as usize) {
+            None => 0,
+            Some(believed) => believed.bytes.as_slice().get(offset).copied().unwrap_or(0),
+        }
+    }
+
+    /// What was seen since it was asked last.
+    pub(crate) fn take_seen(&mut self, alloc: Global) -> Vec<SeenWrite> {
+        mem::replace(&mut self.seen, Vec::new(alloc))
+    }
+
+    /// What a judge ahead saw of writes. It changes nothing but which write is believed where one isn't shown.
+    pub(crate) fn hear(&mut self, seen: Vec<SeenWrite>) -> Result<(), AllocError>
+        ensures { (self.new.known ≡ self.old.known) × (self.new.doubts ≡ self.old.doubts) }
+    {
+        if self.told.len() >= MOST_TOLD {
+            let _oldest = self.told.remove(0);
+        }
+        self.told.push(seen)?;
+        Ok(())
     }
 
     /// A frame and an offset in it at which the bytes may stand.
@@ -446,15 +495,17 @@ impl Belief {
         doubt: usize,
         len: u64,
     ) -> Result<bool, AllocError> {
-        let frames = match self.doubts.begun_at(doubt) {
-            None => Vec::new(alloc),
-            Some(begun) => frames_of(alloc, &begun.places, AccessKind::Write)?,
+        let Some(begun) = self.doubts.begun_at(doubt) else {
+            return Ok(false);
         };
+        let (device, number) = (begun.device, begun.number);
+        let frames = frames_of(alloc, &begun.places, AccessKind::Write)?;
         if frames.is_empty() || len == 0 || len > PAGE_SIZE {
             return Ok(false);
         }
         self.doubts.forget(doubt);
-        self.unseen.write(alloc, frames, len as usize)?;
+        self.unseen
+            .write(alloc, device, number, frames, len as usize)?;
         self.is_whole_in_bytes = false;
         Ok(true)
     }
@@ -480,14 +531,21 @@ impl Belief {
             let Some((first, last)) = where_otherwise(believed, offset, bytes) else {
                 return Ok(());
             };
-            let count = self.unseen.see(frame, first, last)?;
+            let Some(found) = self.unseen.see(frame, first, last)? else {
+                return Ok(());
+            };
             let start = first.saturating_sub(offset);
-            match bytes.get(start..start.saturating_add(count)) {
-                Some(written) if count > 0 => {
-                    let _fits = store(alloc, believed, first, written)?;
-                }
-                _ => return Ok(()),
-            }
+            let Some(written) = bytes.get(start..start.saturating_add(found.count)) else {
+                return Ok(());
+            };
+            let _fits = store(alloc, believed, first, written)?;
+            self.seen.push(SeenWrite {
+                device: found.device,
+                number: found.number,
+                frame,
+                offset: first,
+                bytes: Vec::from_slice(alloc, written)?,
+            })?;
         }
         Ok(())
     }

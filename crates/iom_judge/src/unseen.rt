@@ -4,7 +4,7 @@
 // believed, one of these writes put them there, if one may: on a frame that it may have reached, and at bytes that no
 // line showed or wrote since. The others may have been it as well: so from then on no line is refused for the bytes that
 // it shows.
-use iom_base::PAGE_SIZE;
+use iom_base::{DeviceId, PAGE_SIZE};
 use iom_known::Known;
 use iom_known::owners::may_be_somebodys;
 use std::alloc::{AllocError, Global};
@@ -40,7 +40,10 @@ impl Run {
 
 /// A write that was made, of so many bytes into one of the frames.
 #[derive(Drop)]
-pub(crate) struct UnseenWrite {
+struct UnseenWrite {
+    device: DeviceId,
+    /// The write is the device's accepted access with this number.
+    number: u64,
     frames: Vec<u32>,
     len: usize,
     /// What was shown or written since.
@@ -48,14 +51,6 @@ pub(crate) struct UnseenWrite {
 }
 
 impl UnseenWrite {
-    pub(crate) fn new(alloc: Global, frames: Vec<u32>, len: usize) -> UnseenWrite {
-        UnseenWrite {
-            frames,
-            len,
-            closed: Vec::new(alloc),
-        }
-    }
-
     /// Whether it may have changed this byte.
     fn may_change(&self, frame: u32, offset: usize) -> bool {
         self.frames.contains(&frame) && !self.closed.iter().any(|run| run.has(frame, offset))
@@ -116,13 +111,21 @@ impl Unseen {
     pub(crate) fn write(
         &mut self,
         alloc: Global,
+        device: DeviceId,
+        number: u64,
         frames: Vec<u32>,
         len: usize,
     ) -> Result<(), AllocError> {
         if self.all.len() >= MOST_WRITES {
             let _first = self.all.remove(0);
         }
-        self.all.push(UnseenWrite::new(alloc, frames, len))?;
+        self.all.push(UnseenWrite {
+            device,
+            number,
+            frames,
+            len,
+            closed: Vec::new(alloc),
+        })?;
         Ok(())
     }
 
@@ -190,25 +193,56 @@ impl Unseen {
         best
     }
 
-    /// One of the writes put bytes from the offset on into the frame, up to the last one at most: it is seen now. How
-    /// many bytes it may have changed; none, where there is no such write.
+    /// One of the writes put bytes from the offset on into the frame, up to the last one at most: it is seen now. None,
+    /// where there is no such write.
     pub(crate) fn see(
         &mut self,
         frame: u32,
         offset: usize,
         last: usize,
-    ) -> Result<usize, AllocError> {
-        let Some((place, reach)) = self.best_write(frame, offset, last) else {
-            return Ok(0);
+    ) -> Result<Option<Found>, AllocError> {
+        let Some((place, count)) = self.best_write(frame, offset, last) else {
+            return Ok(None);
         };
         let Some(write) = self.all.get(place) else {
-            return Ok(0);
+            return Ok(None);
         };
+        let (device, number) = (write.device, write.number);
         let window = write.window(frame, offset);
         self.close_before(place, window)?;
         if place < self.all.len() {
             let _seen = self.all.remove(place);
         }
-        Ok(reach)
+        Ok(Some(Found {
+            device,
+            number,
+            count,
+        }))
+    }
+}
+
+/// A write that is seen, and how many bytes it may have changed.
+#[derive(Clone, Copy)]
+pub(crate) struct Found {
+    pub(crate) device: DeviceId,
+    pub(crate) number: u64,
+    pub(crate) count: usize,
+}
+
+/// Bytes of a frame that a line showed, and that a write of a step put there: the device's accepted access with this
+/// number.
+#[derive(Drop)]
+pub(crate) struct SeenWrite {
+    pub(crate) device: DeviceId,
+    pub(crate) number: u64,
+    pub(crate) frame: u32,
+    pub(crate) offset: usize,
+    pub(crate) bytes: Vec<u8>,
+}
+
+impl SeenWrite {
+    /// The byte that it put at the offset of its frame.
+    pub(crate) fn byte_at(&self, offset: usize) -> Option<u8> {
+        self.bytes.get(offset.checked_sub(self.offset)?).copied()
     }
 }

@@ -1,0 +1,161 @@
+// Two judges of a trace: one ahead, and one so many lines behind.
+//
+// What a write of a block device's step put into memory its own lines don't show, but a later one may. So the judge ahead
+// says whether a line is lawful, and tells the one behind what later lines show of such writes; the one behind takes them to
+// be so, and certifies. No certificate rests on what it is told.
+ghost use Rattle.std.specs.Prelude.{◌≡◌, IfOk, IfSome, false};
+ghost use Rattle.iom_judge.specs.Certificates.{is_lawful};
+
+use crate::judging::Judge;
+use crate::verdict::Verdict;
+use iom_base::Sequence;
+use std::alloc::Global;
+use std::io::{self, ErrorKind};
+
+/// So many lines is the one behind the other at most.
+const MOST_LINES: usize = 1024;
+
+/// So many bytes have these lines at most, but for the last of them.
+const MOST_BYTES: usize = 1_048_576;
+
+/// The two judges, and the lines that one of them hasn't taken yet.
+#[derive(Drop)]
+pub(crate) struct Judges {
+    alloc: Global,
+    ahead: Judge,
+    behind: Judge,
+    window: Sequence<Sequence<u8>>,
+    /// How many bytes these lines have.
+    bytes: usize,
+}
+
+/// What is found, if that isn't that the lines are lawful.
+fn unless_lawful(found: Option<Verdict>) -> Option<Verdict>
+    ensures { IfSome result (λ verdict. is_lawful verdict ≡ false) }
+{
+    match found {
+        None => None,
+        Some(Verdict::Lawful) => None,
+        Some(verdict) => Some(verdict),
+    }
+}
+
+/// The bytes of the line.
+fn copy_of(alloc: Global, line: &[u8]) -> io::Result<Sequence<u8>>
+    ensures { IfOk result (λ copy. copy ≡ line.now) }
+{
+    Ok(Sequence::from_vec(Vec::from_slice(alloc, line)?))
+}
+
+impl Judges {
+    ghost use Rattle.std.specs.Prelude.{◌≡◌, ◌↔◌, ◌++◌, ◌∷◌, [], ℕ, List, IfOk, IsTrue, MatchOption, OnOk, false};
+    ghost use Rattle.iom_trace_lines.specs.Taken.{AreLines};
+    ghost use Rattle.iom_judge.specs.Certificates.{is_lawful, IsLawfulTrace};
+    ghost use Rattle.iom_judge.specs.Certified.{CertifyBehind};
+
+    pub(crate) fn new(alloc: Global) -> io::Result<Judges>
+        ensures { IfOk result (λ judges. CertifyBehind judges.behind.is_certified judges.behind.belief judges.window []) }
+    {
+        Ok(Judges {
+            alloc,
+            ahead: Judge::new(alloc)?,
+            behind: Judge::new(alloc)?,
+            window: Sequence::new(alloc),
+            bytes: 0,
+        })
+    }
+
+    /// The number of the last line that was taken ahead.
+    pub(crate) fn line(&self) -> u64 {
+        self.ahead.line
+    }
+
+    /// What the next line is found, if it ends the trace.
+    pub(crate) fn take(&mut self, line: &[u8]) -> io::Result<Option<Verdict>>
+        ensures { (lines : List (List ℕ)) → CertifyBehind self.old.behind.is_certified self.old.behind.belief self.old.window lines
+            → IfOk result (λ found. MatchOption found
+            (CertifyBehind self.new.behind.is_certified self.new.behind.belief self.new.window (lines ++ line.now ∷ []))
+            (λ verdict. is_lawful verdict ≡ false)) }
+    {
+        let found = self.ahead.take(line)?;
+        if let Some(verdict) = unless_lawful(found) {
+            return Ok(Some(verdict));
+        }
+        self.keep(line)?;
+        if !self.is_full() {
+            return Ok(None);
+        }
+        self.follow()?;
+        Ok(None)
+    }
+
+    /// Whether no line is kept.
+    fn is_drained(&self) -> bool
+        ensures { IsTrue result ↔ (self.now.window ≡ []) }
+    {
+        match self.window.as_slice() {
+            [] => true,
+            [_, ..] => false,
+        }
+    }
+
+    /// Whether more lines are kept than may be.
+    fn is_full(&self) -> bool {
+        self.window.as_slice().len() > MOST_LINES || self.bytes > MOST_BYTES
+    }
+
+    /// The line is taken ahead, and kept for the judge behind.
+    fn keep(&mut self, line: &[u8]) -> io::Result<()>
+        ensures { OnOk result ((self.new.behind ≡ self.old.behind) × (self.new.window ≡ self.old.window ++ line.now ∷ [])) }
+    {
+        self.window.push(copy_of(self.alloc, line)?)?;
+        self.bytes = self.bytes.saturating_add(line.len());
+        Ok(())
+    }
+
+    /// The judge behind is told what was seen ahead, once the world has a size.
+    fn tell(&mut self) -> io::Result<()>
+        ensures { (lines : List (List ℕ)) → CertifyBehind self.old.behind.is_certified self.old.behind.belief self.old.window lines
+            → OnOk result (CertifyBehind self.new.behind.is_certified self.new.behind.belief self.new.window lines) }
+    {
+        if self.behind.belief.is_none() {
+            return Ok(());
+        }
+        let seen = self.ahead.take_seen();
+        if seen.is_empty() {
+            return Ok(());
+        }
+        self.behind.hear(seen)?;
+        Ok(())
+    }
+
+    /// The judge behind takes a line, if one is left.
+    fn follow(&mut self) -> io::Result<()>
+        ensures { (lines : List (List ℕ)) → CertifyBehind self.old.behind.is_certified self.old.behind.belief self.old.window lines
+            → OnOk result (CertifyBehind self.new.behind.is_certified self.new.behind.belief self.new.window lines) }
+    {
+        self.tell()?;
+        if self.is_drained() {
+            return Ok(());
+        }
+        let line = self.window.pop_front();
+        self.bytes = self.bytes.saturating_sub(line.as_slice().len());
+        self.behind.follow(line.as_slice())?;
+        Ok(())
+    }
+
+    /// What is found of the lines, where there are no others.
+    pub(crate) fn end(&mut self) -> io::Result<Verdict>
+        ensures { (text : List ℕ) (lines : List (List ℕ))
+            → CertifyBehind self.old.behind.is_certified self.old.behind.belief self.old.window lines
+            → AreLines lines text → IfOk result (λ verdict. IsTrue (is_lawful verdict) → IsLawfulTrace text) }
+    {
+        for _turn in 0..u64::MAX {
+            if self.is_drained() {
+                return Ok(self.behind.end());
+            }
+            self.follow()?;
+        }
+        Err(io::Error::from(ErrorKind::Other))
+    }
+}
