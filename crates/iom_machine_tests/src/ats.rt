@@ -479,9 +479,7 @@ static RUNS: [Run; 5] = [
 // Each run may come, and none of its changes.
 #[test]
 fn runs_are_judged(rt: HostRuntime) {
-    for run in RUNS.iter() {
-        are_judged(&rt, rt.alloc(), run);
-    }
+    are_judged(&rt, rt.alloc(), &RUNS);
 }
 
 /// Of each kind: whether it is a block device, has a cache, sends requests that the IOMMU translates, forges, sends

@@ -307,9 +307,7 @@ static RUNS: [Run; 4] = [
 // Each run may come, and none of its changes.
 #[test]
 fn runs_are_judged(rt: HostRuntime) {
-    for run in RUNS.iter() {
-        are_judged(&rt, rt.alloc(), run);
-    }
+    are_judged(&rt, rt.alloc(), &RUNS);
 }
 
 fn has(rt: &impl Abort, new: NewDevice, kind: DeviceKind, disk: Option<u64>) {

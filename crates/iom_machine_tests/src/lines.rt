@@ -486,11 +486,18 @@ fn is_first(rt: &impl Abort, says: &str, first: Option<usize>, expected: Option<
 }
 
 /// Ends the test where a line of the run may not come, or one of its changes isn't refused at its line.
-pub(crate) fn are_judged(rt: &impl Abort, alloc: Global, run: &Run) {
+fn is_judged(rt: &impl Abort, alloc: Global, run: &Run) {
     let (says, base, changes) = *run;
     is_first(rt, says, first_unlawful(rt, alloc, base, None), None);
     for change in changes.iter() {
         let first = first_unlawful(rt, alloc, base, Some(change));
         is_first(rt, says, first, Some(change.0));
+    }
+}
+
+/// The same of each run.
+pub(crate) fn are_judged(rt: &impl Abort, alloc: Global, runs: &[Run]) {
+    for run in runs.iter() {
+        is_judged(rt, alloc, run);
     }
 }

@@ -491,9 +491,7 @@ static RUNS: [Run; 9] = [
 // Each run may come, and none of its changes.
 #[test]
 fn runs_are_judged(rt: HostRuntime) {
-    for run in RUNS.iter() {
-        are_judged(&rt, rt.alloc(), run);
-    }
+    are_judged(&rt, rt.alloc(), &RUNS);
 }
 
 /// How many devices there are once the line has come, the first after power-on.

@@ -198,9 +198,7 @@ static RUNS: [Run; 3] = [
 // Each run may come, and none of its changes.
 #[test]
 fn runs_are_judged(rt: HostRuntime) {
-    for run in RUNS.iter() {
-        are_judged(&rt, rt.alloc(), run);
-    }
+    are_judged(&rt, rt.alloc(), &RUNS);
 }
 
 /// What comes before the grants of `refused_beside`.

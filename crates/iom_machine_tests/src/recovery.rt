@@ -281,9 +281,7 @@ static RUNS: [Run; 3] = [
 // Each run may come, and none of its changes.
 #[test]
 fn runs_are_judged(rt: HostRuntime) {
-    for run in RUNS.iter() {
-        are_judged(&rt, rt.alloc(), run);
-    }
+    are_judged(&rt, rt.alloc(), &RUNS);
 }
 
 /// A device that holds nothing yet.
