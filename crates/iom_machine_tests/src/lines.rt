@@ -1,5 +1,4 @@
 // Lists of lines, as the tests write them, for the judge.
-use crate::expect::expect;
 use arrayvec::ArrayVec;
 use iom_base::{Access, AccessKind, Cause, DeviceId, GrantRights, Mode, Rights, Sequence};
 use iom_fabric::{PageNumber, Translation};
@@ -8,7 +7,6 @@ use iom_machine::{BlockStep, Choice, Event, FaultRecord, Fetched, NewDevice, Out
 use iom_machine_judge::{Line, Verdict, judge_run};
 use std::alloc::Global;
 use std::process::Abort;
-use std::test::Fail;
 
 /// Another way of a request to memory than through the translation of the IOMMU.
 #[derive(Clone, Copy)]
@@ -118,20 +116,20 @@ pub(crate) enum Comes<'a> {
     Status(u8),
 }
 
-fn bytes_of(alloc: Global, bytes: &[u8]) -> Result<Sequence<u8>, Fail> {
+fn bytes_of(rt: &impl Abort, alloc: Global, bytes: &[u8]) -> Sequence<u8> {
     let mut made = Sequence::new(alloc);
     for byte in bytes {
-        made.push(*byte)?;
+        made.push(*byte).expect(rt, "memory for bytes");
     }
-    Ok(made)
+    made
 }
 
-fn numbers_of(alloc: Global, numbers: &[u32]) -> Result<Sequence<u32>, Fail> {
+fn numbers_of(rt: &impl Abort, alloc: Global, numbers: &[u32]) -> Sequence<u32> {
     let mut made = Sequence::new(alloc);
     for number in numbers {
-        made.push(*number)?;
+        made.push(*number).expect(rt, "memory for numbers");
     }
-    Ok(made)
+    made
 }
 
 fn plug(device: DeviceId, new: NewDevice) -> Event {
@@ -142,29 +140,29 @@ fn attach(device: DeviceId, mode: Mode, ats: bool) -> Event {
     Event::Attach { device, mode, ats }
 }
 
-/// The call of the driver, if it is one.
-fn call_of(does: &Does) -> Option<Event> {
+/// A call of the driver, or what else is done.
+fn event_of(rt: &impl Abort, alloc: Global, does: &Does) -> Event {
     match *does {
-        Does::Plug(device) => Some(plug(device, NewDevice::Raw)),
-        Does::PlugAts(device) => Some(plug(device, NewDevice::Ats)),
-        Does::PlugBlock(device, disk) => Some(plug(device, NewDevice::Block { disk })),
-        Does::PlugCachedBlock(device, disk) => Some(plug(device, NewDevice::CachedBlock { disk })),
-        Does::Attach(device, _) => Some(attach(device, Mode::First, false)),
-        Does::AttachBelow(device, _, _) => Some(attach(device, Mode::First, false)),
-        Does::AttachIn(device, mode, _) => Some(attach(device, mode, false)),
-        Does::AttachAts(device, mode, _) => Some(attach(device, mode, true)),
-        Does::Detach(device) => Some(Event::Detach { device }),
-        Does::Grant(device, page, frame, rights, _) => Some(Event::Grant {
+        Does::Plug(device) => plug(device, NewDevice::Raw),
+        Does::PlugAts(device) => plug(device, NewDevice::Ats),
+        Does::PlugBlock(device, disk) => plug(device, NewDevice::Block { disk }),
+        Does::PlugCachedBlock(device, disk) => plug(device, NewDevice::CachedBlock { disk }),
+        Does::Attach(device, _) => attach(device, Mode::First, false),
+        Does::AttachBelow(device, _, _) => attach(device, Mode::First, false),
+        Does::AttachIn(device, mode, _) => attach(device, mode, false),
+        Does::AttachAts(device, mode, _) => attach(device, mode, true),
+        Does::Detach(device) => Event::Detach { device },
+        Does::Grant(device, page, frame, rights, _) => Event::Grant {
             device,
             page,
             frame,
             rights,
-        }),
-        Does::Release(device, page) => Some(Event::Release { device, page }),
-        Does::Quarantine(device) => Some(Event::Quarantine { device }),
-        Does::Revive(device) => Some(Event::Revive { device }),
-        Does::Restart => Some(Event::Restart),
-        _ => None,
+        },
+        Does::Release(device, page) => Event::Release { device, page },
+        Does::Quarantine(device) => Event::Quarantine { device },
+        Does::Revive(device) => Event::Revive { device },
+        Does::Restart => Event::Restart,
+        _ => act_of(rt, alloc, does),
     }
 }
 
@@ -198,78 +196,80 @@ fn write_by(way: Way, device: DeviceId, address: u64, bytes: Sequence<u8>) -> Ev
     }
 }
 
-fn ask(device: DeviceId, number: u64) -> Option<Event> {
-    let page = PageNumber::new(number)?;
-    Some(Event::Ask { device, page })
+fn ask(rt: &impl Abort, device: DeviceId, number: u64) -> Event {
+    let page = PageNumber::new(number).expect(rt, "52 bits");
+    Event::Ask { device, page }
 }
 
-/// What a device or the fabric does, if it is that.
-fn act_of(alloc: Global, does: &Does) -> Result<Option<Event>, Fail> {
-    Ok(match *does {
-        Does::Read(device, address, len) => Some(Event::Read {
+/// What stores bytes.
+fn store_of(rt: &impl Abort, alloc: Global, does: &Does) -> Event {
+    match *does {
+        Does::Write(device, address, bytes) => Event::Write {
+            device,
+            address,
+            bytes: bytes_of(rt, alloc, bytes),
+        },
+        Does::WriteBy(way, device, address, bytes) => {
+            write_by(way, device, address, bytes_of(rt, alloc, bytes))
+        }
+        Does::Poke(address, bytes) => Event::Poke {
+            address,
+            bytes: bytes_of(rt, alloc, bytes),
+        },
+        _ => panic!(rt; "an event"),
+    }
+}
+
+/// What a device or the fabric does, or what else is done.
+fn act_of(rt: &impl Abort, alloc: Global, does: &Does) -> Event {
+    match *does {
+        Does::Read(device, address, len) => Event::Read {
             device,
             address,
             len,
-        }),
-        Does::Write(device, address, bytes) => Some(Event::Write {
-            device,
-            address,
-            bytes: bytes_of(alloc, bytes)?,
-        }),
-        Does::ReadBy(way, device, address, len) => Some(read_by(way, device, address, len)),
-        Does::WriteBy(way, device, address, bytes) => {
-            Some(write_by(way, device, address, bytes_of(alloc, bytes)?))
-        }
-        Does::Ask(device, page) => ask(device, page),
-        Does::Forge(device, serial) => Some(Event::Forge { device, serial }),
-        Does::Deliver(place) => Some(Event::Deliver { place }),
-        Does::Drop(place) => Some(Event::Drop { place }),
-        Does::Repeat(place) => Some(Event::Repeat { place }),
-        Does::Reset(device) => Some(Event::Reset { device }),
-        Does::Commit(device) => Some(Event::Commit { device }),
-        _ => None,
-    })
+        },
+        Does::ReadBy(way, device, address, len) => read_by(way, device, address, len),
+        Does::Ask(device, page) => ask(rt, device, page),
+        Does::Forge(device, serial) => Event::Forge { device, serial },
+        Does::Deliver(place) => Event::Deliver { place },
+        Does::Drop(place) => Event::Drop { place },
+        Does::Repeat(place) => Event::Repeat { place },
+        Does::Reset(device) => Event::Reset { device },
+        Does::Commit(device) => Event::Commit { device },
+        _ => block_event_of(rt, alloc, does),
+    }
 }
 
-/// What only a block device takes, if it is that.
-fn block_event_of(does: &Does) -> Option<Event> {
+/// What only a block device takes, or what else is done.
+fn block_event_of(rt: &impl Abort, alloc: Global, does: &Does) -> Event {
     match *does {
-        Does::Medium(device, disk) => Some(Event::Medium { device, disk }),
-        Does::Queue(device, size, descriptors, available, used) => Some(Event::Queue {
+        Does::Medium(device, disk) => Event::Medium { device, disk },
+        Does::Queue(device, size, descriptors, available, used) => Event::Queue {
             device,
             size,
             descriptors,
             available,
             used,
-        }),
-        Does::Step(device) => Some(Event::Step { device }),
-        Does::StepRead(device, _, _) => Some(Event::Step { device }),
-        Does::StepWrite(device, _, _) => Some(Event::Step { device }),
-        Does::Status(device) => Some(Event::Status { device }),
-        _ => None,
+        },
+        Does::Step(device) => Event::Step { device },
+        Does::StepRead(device, _, _) => Event::Step { device },
+        Does::StepWrite(device, _, _) => Event::Step { device },
+        Does::Status(device) => Event::Status { device },
+        _ => look_of(rt, alloc, does),
     }
 }
 
-fn event_of(alloc: Global, does: &Does) -> Result<Event, Fail> {
-    if let Some(event) = block_event_of(does) {
-        return Ok(event);
-    }
-    if let Some(act) = act_of(alloc, does)? {
-        return Ok(act);
-    }
-    Ok(match *does {
+/// What the IOMMU does, and a look, or what stores bytes.
+fn look_of(rt: &impl Abort, alloc: Global, does: &Does) -> Event {
+    match *does {
         Does::Fetch => Event::Fetch,
         Does::Timeout => Event::Timeout,
         Does::Poll => Event::Poll,
         Does::Faults => Event::Faults,
-        Does::Poke(address, bytes) => Event::Poke {
-            address,
-            bytes: bytes_of(alloc, bytes)?,
-        },
         Does::Peek(address, len) => Event::Peek { address, len },
         Does::Free(frame) => Event::Free { frame },
-        _ => call_of(does).ok_or("an event")?,
-    })
+        _ => store_of(rt, alloc, does),
+    }
 }
 
 /// The bytes of an outcome, which are few.
@@ -371,115 +371,133 @@ fn question_of(comes: &Comes) -> (DeviceId, u64) {
     }
 }
 
-/// The access that a step wants.
-fn access_of(alloc: Global, does: &Does) -> Result<Access, Fail> {
-    let (address, len, kind, bytes): (u64, u64, AccessKind, &[u8]) = match *does {
-        Does::StepRead(_, address, len) => (address, len, AccessKind::Read, &[]),
-        Does::StepWrite(_, address, bytes) => {
-            (address, bytes.len() as u64, AccessKind::Write, bytes)
-        }
-        _ => (0, 0, AccessKind::Read, &[]),
-    };
-    Ok(Access {
+/// The access that a step wants: its address, length and kind.
+fn want_of(does: &Does) -> (u64, u64, AccessKind) {
+    match *does {
+        Does::StepRead(_, address, len) => (address, len, AccessKind::Read),
+        Does::StepWrite(_, address, bytes) => (address, bytes.len() as u64, AccessKind::Write),
+        _ => (0, 0, AccessKind::Read),
+    }
+}
+
+/// Its bytes.
+fn wanted_bytes_of<'a>(does: &Does<'a>) -> &'a [u8] {
+    match *does {
+        Does::StepWrite(_, _, bytes) => bytes,
+        _ => &[],
+    }
+}
+
+fn access_of(rt: &impl Abort, alloc: Global, does: &Does) -> Access {
+    let (address, len, kind) = want_of(does);
+    Access {
         address,
         len,
         kind,
-        bytes: bytes_of(alloc, bytes)?,
-    })
+        bytes: bytes_of(rt, alloc, wanted_bytes_of(does)),
+    }
 }
 
-fn choice_of(alloc: Global, does: &Does, comes: &Comes) -> Result<Choice, Fail> {
+fn choice_of(rt: &impl Abort, alloc: Global, does: &Does, comes: &Comes) -> Choice {
     let (device, page) = question_of(comes);
-    Ok(Choice {
-        directory: numbers_of(alloc, directory_of(does))?,
-        taken: numbers_of(alloc, taken_by(does))?,
+    Choice {
+        directory: numbers_of(rt, alloc, directory_of(does)),
+        taken: numbers_of(rt, alloc, taken_by(does)),
         frame: frame_of(comes),
         device,
         page,
-        access: access_of(alloc, does)?,
-    })
+        access: access_of(rt, alloc, does),
+    }
 }
 
-pub(crate) fn line_of(alloc: Global, does: &Does, comes: &Comes) -> Result<Line, Fail> {
-    Ok(Line {
-        event: event_of(alloc, does)?,
+pub(crate) fn line_of(rt: &impl Abort, alloc: Global, does: &Does, comes: &Comes) -> Line {
+    Line {
+        event: event_of(rt, alloc, does),
         outcome: outcome_of(comes),
-        choice: choice_of(alloc, does, comes)?,
-    })
+        choice: choice_of(rt, alloc, does, comes),
+    }
 }
 
 /// The numbers of the disks.
 const DISKS: [u64; 4] = [0, 1, 2, 3];
 
 /// The first of the lines that may not come, in a world of 64 frames, one directory level and four disks.
-fn judged(alloc: Global, lines: &[Line]) -> Result<Option<usize>, Fail> {
-    match judge_run(alloc, power_on(alloc, 64, 1, &DISKS)?, lines)? {
-        Verdict::Lawful(_) => Ok(None),
-        Verdict::Unlawful { line } => Ok(Some(line)),
+pub(crate) fn judged(rt: &impl Abort, alloc: Global, lines: &[Line]) -> Option<usize> {
+    let opening = power_on(alloc, 64, 1, &DISKS).expect(rt, "memory for a world");
+    let verdict = judge_run(alloc, opening, lines).expect(rt, "memory for the judge");
+    match verdict {
+        Verdict::Lawful(_) => None,
+        Verdict::Unlawful { line } => Some(line),
     }
 }
 
-pub(crate) fn first_unlawful(
+pub(crate) fn push(
+    rt: &impl Abort,
     alloc: Global,
-    lines: &[(Does, Comes)],
-) -> Result<Option<usize>, Fail> {
-    let mut made = Vec::new(alloc);
-    for (does, comes) in lines {
-        made.push(line_of(alloc, does, comes)?)?;
-    }
-    judged(alloc, &made)
+    made: &mut Vec<Line>,
+    does: &Does,
+    comes: &Comes,
+) {
+    let line = line_of(rt, alloc, does, comes);
+    made.push(line).expect(rt, "memory for a line");
 }
 
 /// A line of a lawful run, and what it is changed to, which may not come there.
 pub(crate) type Change<'a> = (usize, Does<'a>, Comes<'a>);
 
-/// The run, one line of it changed.
-fn changed<'a>(
+/// The run, one line of it changed where this is a change.
+pub(crate) fn lines_of(
+    rt: &impl Abort,
     alloc: Global,
-    base: &[(Does<'a>, Comes<'a>)],
-    change: &Change<'a>,
-) -> Result<Vec<(Does<'a>, Comes<'a>)>, Fail> {
-    let mut lines = Vec::from_slice(alloc, base)?;
-    let line = lines.get_mut(change.0).ok_or("a line of the run")?;
-    *line = (change.1, change.2);
-    Ok(lines)
+    base: &[(Does, Comes)],
+    change: Option<&Change>,
+) -> Vec<Line> {
+    let mut made = Vec::new(alloc);
+    for (place, (does, comes)) in base.iter().enumerate() {
+        match change {
+            Some((changed, other, comes)) if *changed == place => {
+                push(rt, alloc, &mut made, other, comes);
+            }
+            _ => push(rt, alloc, &mut made, does, comes),
+        }
+    }
+    made
 }
 
-/// Ends the test where another line than this is the first that may not come.
-pub(crate) fn are_first(
+fn first_unlawful(
     rt: &impl Abort,
-    first: Result<Option<usize>, Fail>,
-    expected: Option<usize>,
-) {
-    match first {
-        Ok(first) => expect(rt, first == expected),
-        Err(_) => panic!(rt; "out of memory"),
+    alloc: Global,
+    base: &[(Does, Comes)],
+    change: Option<&Change>,
+) -> Option<usize> {
+    let made = lines_of(rt, alloc, base, change);
+    judged(rt, alloc, &made)
+}
+
+/// A lawful run: its name, its lines, and changes of single lines of it.
+pub(crate) type Run<'a> = (&'a str, &'a [(Does<'a>, Comes<'a>)], &'a [Change<'a>]);
+
+/// Ends the test where another line of the run is the first that may not come.
+fn is_first(rt: &impl Abort, says: &str, first: Option<usize>, expected: Option<usize>) {
+    assert!(rt;
+        first == expected,
+        "{says}: {first:?}, and not {expected:?}"
+    );
+}
+
+/// Ends the test where a line of the run may not come, or one of its changes isn't refused at its line.
+fn is_judged(rt: &impl Abort, alloc: Global, run: &Run) {
+    let (says, base, changes) = *run;
+    is_first(rt, says, first_unlawful(rt, alloc, base, None), None);
+    for change in changes.iter() {
+        let first = first_unlawful(rt, alloc, base, Some(change));
+        is_first(rt, says, first, Some(change.0));
     }
 }
 
-/// Ends the test where one of the lines may not come.
-pub(crate) fn are_lawful(rt: &impl Abort, alloc: Global, lines: &[(Does, Comes)]) {
-    are_first(rt, first_unlawful(alloc, lines), None);
-}
-
-/// The first line that may not come of the run, one line of it changed.
-fn first_of_changed<'a>(
-    alloc: Global,
-    base: &[(Does<'a>, Comes<'a>)],
-    change: &Change<'a>,
-) -> Result<Option<usize>, Fail> {
-    let lines = changed(alloc, base, change)?;
-    first_unlawful(alloc, &lines)
-}
-
-/// Ends the test where one of the changes of the lawful run isn't refused at its line.
-pub(crate) fn are_refused<'a>(
-    rt: &impl Abort,
-    alloc: Global,
-    base: &[(Does<'a>, Comes<'a>)],
-    changes: &[Change<'a>],
-) {
-    for change in changes.iter() {
-        are_first(rt, first_of_changed(alloc, base, change), Some(change.0));
+/// The same of each run.
+pub(crate) fn are_judged(rt: &impl Abort, alloc: Global, runs: &[Run]) {
+    for run in runs.iter() {
+        is_judged(rt, alloc, run);
     }
 }

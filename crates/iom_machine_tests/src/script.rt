@@ -1,6 +1,6 @@
 use crate::expect::expect;
 use crate::lines::{Comes, outcome_of};
-use iom_base::{Cause, GrantRights, Mode, Rights};
+use iom_base::{Cause, GrantRights, Mode, Rights, Sequence};
 use iom_ledger::Refusal;
 use iom_machine::{BlockStep, CommandName, Event, Fetched, NewDevice, Outcome, Trace};
 use iom_script::{LineBuffer, Script, ScriptFault, WorldSize, parse};
@@ -35,8 +35,9 @@ fn script_of(rt: &impl Abort, alloc: Global, bytes: &[u8]) -> Script {
     }
 }
 
-/// Outcomes, each with its line: what the driver answers.
-static DRIVER: [(Comes, &[u8]); 9] = [
+/// Outcomes, each with its line.
+static TOLD: [(Comes, &[u8]); 48] = [
+    // what the driver answers
     (Comes::Done, b"ok\n"),
     (
         Comes::Refused(Refusal::TooManyPending),
@@ -52,10 +53,7 @@ static DRIVER: [(Comes, &[u8]); 9] = [
     (Comes::NoRecord, b"no record\n"),
     (Comes::Free(true), b"free yes\n"),
     (Comes::Free(false), b"free no\n"),
-];
-
-/// What hardware does.
-static HARDWARE: [(Comes, &[u8]); 11] = [
+    // what hardware does
     (
         Comes::Fetched(Fetched::Did(CommandName::IotinvalVma)),
         b"did iotinval.vma\n",
@@ -73,10 +71,7 @@ static HARDWARE: [(Comes, &[u8]); 11] = [
     (Comes::Wrote(4096), b"wrote 4096\n"),
     (Comes::Nothing, b"none\n"),
     (Comes::Bytes(&[0, 0xaf]), b"bytes 00af\n"),
-];
-
-/// What devices with caches are answered.
-static CACHES: [(Comes, &[u8]); 8] = [
+    // what devices with caches are answered
     (Comes::Miss, b"miss\n"),
     (
         Comes::Told(0, 0, u32::MAX, Rights::R),
@@ -91,10 +86,7 @@ static CACHES: [(Comes, &[u8]); 8] = [
     (Comes::Stale, b"stale\n"),
     (Comes::AnswerRefused, b"refusal\n"),
     (Comes::Ignored, b"ignored\n"),
-];
-
-/// What becomes of messages.
-static MESSAGES: [(Comes, &[u8]); 8] = [
+    // what becomes of messages
     (Comes::Sent, b"sent\n"),
     (Comes::Lost, b"lost\n"),
     (Comes::Invalidated(1), b"invalidated 1\n"),
@@ -103,10 +95,7 @@ static MESSAGES: [(Comes, &[u8]); 8] = [
     (Comes::Dropped, b"dropped\n"),
     (Comes::Repeated, b"repeated\n"),
     (Comes::NoMessage, b"none\n"),
-];
-
-/// What block devices do, and the names of faults of chains.
-static BLOCK: [(Comes, &[u8]); 12] = [
+    // what block devices do, and the names of faults of chains
     (Comes::Stepped(BlockStep::Idle), b"idle\n"),
     (Comes::Stepped(BlockStep::Waiting), b"waiting\n"),
     (Comes::Stepped(BlockStep::Asked), b"asked\n"),
@@ -159,11 +148,7 @@ fn are_told(rt: &impl Abort, out: &mut LineBuffer, rows: &[(Comes, &[u8])]) {
 fn lines_tell_outcomes(rt: HostRuntime) {
     let mut out = LineBuffer::new(rt.alloc()).expect(&rt, "memory for a buffer");
     expect(&rt, out.has_room());
-    are_told(&rt, &mut out, &DRIVER);
-    are_told(&rt, &mut out, &HARDWARE);
-    are_told(&rt, &mut out, &CACHES);
-    are_told(&rt, &mut out, &MESSAGES);
-    are_told(&rt, &mut out, &BLOCK);
+    are_told(&rt, &mut out, &TOLD);
     out.clear();
     expect(&rt, out.as_slice().is_empty());
 }
@@ -207,57 +192,249 @@ fn an_empty_script_says_nothing(rt: HostRuntime) {
     says_nothing(&rt, rt.alloc(), b"\n# world 64 1\0\r\xff\n#\n");
 }
 
-const FIRST_PATH: &[u8] = b"\
-    world 64 1\n\
+/// A script of each kind of line, at the boundaries of what is written.
+const EACH: &[u8] = b"\
+    world 4096 1\n\
+    \n\
+    # devices\n\
     device 000001 raw\n\
-    attach 000001 first\n\
+    device 00000a ats\n\
+    device 00000a blk 18446744073709551615\n\
+    device 00000b ablk 0\n\
+    medium 00000a 3\n\
+    attach 00000a first\n\
+    attach 00000a second\n\
+    attach 00000a both\n\
+    attach 00000a second ats\n\
     grant 000001 3 5 rw\n\
-    read 000001 0x3ffc 4\n\
-    read 000001 0x3ffc 5\n\
-    commit 000001\n\
+    grant ffffff 18446744073709551615 0 r\n\
     release 000001 3\n\
-    fetch\n\
+    detach 00000a\n\
+    read 000001 0x3ffc 4\n\
+    write 00000a 0x0000003ffffff000 00f1\n\
+    aread 00000a 0x3ffc 4\n\
+    awrite 00000a 0x3ffe 00f1\n\
+    tread 00000b 0x5000 5\n\
+    twrite 00000b 0x5001 f1\n\
+    ask 00000a 4503599627370495\n\
+    forge 00000b 18446744073709551615\n\
+    deliver 0\n\
+    drop 1\n\
+    repeat 18446744073709551615\n\
+    queue 00000a 8 0x3000 0xffffffffffffffff 0x30c0\n\
+    step 00000a\n\
+    status 00000b\n\
+    commit 000001\n\
     fetch\n\
     poll\n\
-    read 000001 0x3ffc 4\n";
+    faults\n\
+    poke 0x5000 00f1\n\
+    peek 0xffffffffffffffff 18446744073709551615\n\
+    free 63\n";
 
-/// Whether the event grants a device a page with this frame, with this right.
-fn is_grant(event: Option<&Event>, of: (u32, u64, u64), is_writable: bool) -> bool {
-    match event {
-        Some(
-            Event::Grant {
-                device,
-                page,
-                frame,
-                rights,
-            },
-        ) => (*device, *page, *frame) == of && is_writable == (*rights == GrantRights::ReadWrite),
-        _ => false,
+/// An event as its name and its numbers. Bytes are a number too, the first of them the highest digits, after their count.
+type Told = (&'static str, [u64; 5]);
+
+/// The events of those lines.
+static EVENTS: [Told; 34] = [
+    ("raw", [1, 0, 0, 0, 0]),
+    ("ats", [10, 0, 0, 0, 0]),
+    ("blk", [10, u64::MAX, 0, 0, 0]),
+    ("ablk", [11, 0, 0, 0, 0]),
+    ("medium", [10, 3, 0, 0, 0]),
+    ("first", [10, 0, 0, 0, 0]),
+    ("second", [10, 0, 0, 0, 0]),
+    ("both", [10, 0, 0, 0, 0]),
+    ("second", [10, 1, 0, 0, 0]),
+    ("grant", [1, 3, 5, 1, 0]),
+    ("grant", [0xffffff, u64::MAX, 0, 0, 0]),
+    ("release", [1, 3, 0, 0, 0]),
+    ("detach", [10, 0, 0, 0, 0]),
+    ("read", [1, 0x3ffc, 4, 0, 0]),
+    ("write", [10, 0x3ffffff000, 2, 0xf1, 0]),
+    ("aread", [10, 0x3ffc, 4, 0, 0]),
+    ("awrite", [10, 0x3ffe, 2, 0xf1, 0]),
+    ("tread", [11, 0x5000, 5, 0, 0]),
+    ("twrite", [11, 0x5001, 1, 0xf1, 0]),
+    ("ask", [10, 4503599627370495, 0, 0, 0]),
+    ("forge", [11, u64::MAX, 0, 0, 0]),
+    ("deliver", [0, 0, 0, 0, 0]),
+    ("drop", [1, 0, 0, 0, 0]),
+    ("repeat", [u64::MAX, 0, 0, 0, 0]),
+    ("queue", [10, 8, 0x3000, u64::MAX, 0x30c0]),
+    ("step", [10, 0, 0, 0, 0]),
+    ("status", [11, 0, 0, 0, 0]),
+    ("commit", [1, 0, 0, 0, 0]),
+    ("fetch", [0, 0, 0, 0, 0]),
+    ("poll", [0, 0, 0, 0, 0]),
+    ("faults", [0, 0, 0, 0, 0]),
+    ("poke", [0x5000, 2, 0xf1, 0, 0]),
+    ("peek", [u64::MAX, u64::MAX, 0, 0, 0]),
+    ("free", [63, 0, 0, 0, 0]),
+];
+
+fn number_of(bytes: &Sequence<u8>) -> u64 {
+    let mut number = 0u64;
+    for byte in bytes.as_slice() {
+        number = number.wrapping_mul(256).wrapping_add(u64::from(*byte));
+    }
+    number
+}
+
+fn stored(name: &'static str, device: u32, address: u64, bytes: &Sequence<u8>) -> Told {
+    let count = bytes.as_slice().len() as u64;
+    (
+        name,
+        [u64::from(device), address, count, number_of(bytes), 0],
+    )
+}
+
+fn one(name: &'static str, number: u64) -> Told {
+    (name, [number, 0, 0, 0, 0])
+}
+
+fn of_device(name: &'static str, device: u32, second: u64) -> Told {
+    (name, [u64::from(device), second, 0, 0, 0])
+}
+
+fn read(name: &'static str, device: u32, address: u64, len: u64) -> Told {
+    (name, [u64::from(device), address, len, 0, 0])
+}
+
+fn plugged(device: u32, new: NewDevice) -> Told {
+    match new {
+        NewDevice::Raw => of_device("raw", device, 0),
+        NewDevice::Ats => of_device("ats", device, 0),
+        NewDevice::Block { disk } => of_device("blk", device, disk),
+        NewDevice::CachedBlock { disk } => of_device("ablk", device, disk),
     }
 }
 
-fn is_read(event: Option<&Event>) -> bool {
+fn attached(device: u32, mode: Mode, ats: bool) -> Told {
+    let name = match mode {
+        Mode::First => "first",
+        Mode::Second => "second",
+        Mode::Both => "both",
+    };
+    of_device(name, device, u64::from(ats))
+}
+
+/// A call of the driver, or what else the event is.
+fn told(event: &Event) -> Told {
     match event {
-        Some(
-            Event::Read {
-                device: 1,
-                address: 0x3ffc,
-                len: 4,
-            },
-        ) => true,
-        _ => false,
+        Event::Plug { device, new } => plugged(*device, *new),
+        Event::Attach { device, mode, ats } => attached(*device, *mode, *ats),
+        Event::Grant {
+            device,
+            page,
+            frame,
+            rights,
+        } => {
+            let is_writable = *rights == GrantRights::ReadWrite;
+            (
+                "grant",
+                [u64::from(*device), *page, *frame, u64::from(is_writable), 0],
+            )
+        }
+        Event::Release { device, page } => of_device("release", *device, *page),
+        Event::Detach { device } => of_device("detach", *device, 0),
+        Event::Fetch => one("fetch", 0),
+        Event::Poll => one("poll", 0),
+        Event::Faults => one("faults", 0),
+        _ => told_of_access(event),
     }
 }
 
-/// Whether the events are as many, and the third and the last as those lines say.
-fn goes_as_said(events: &[Event]) -> bool {
-    events.len() == 11 && is_grant(events.get(2), (1, 3, 5), true) && is_read(events.get(10))
+/// An access, or what else the event is.
+fn told_of_access(event: &Event) -> Told {
+    match event {
+        Event::Read {
+            device,
+            address,
+            len,
+        } => read("read", *device, *address, *len),
+        Event::ReadThroughCache {
+            device,
+            address,
+            len,
+        } => read("aread", *device, *address, *len),
+        Event::ReadTranslated {
+            device,
+            address,
+            len,
+        } => read("tread", *device, *address, *len),
+        Event::Write {
+            device,
+            address,
+            bytes,
+        } => stored("write", *device, *address, bytes),
+        Event::WriteThroughCache {
+            device,
+            address,
+            bytes,
+        } => stored("awrite", *device, *address, bytes),
+        Event::WriteTranslated {
+            device,
+            address,
+            bytes,
+        } => stored("twrite", *device, *address, bytes),
+        _ => told_of_message(event),
+    }
+}
+
+/// What becomes of a message, or what else the event is.
+fn told_of_message(event: &Event) -> Told {
+    match event {
+        Event::Ask { device, page } => of_device("ask", *device, page.number()),
+        Event::Forge { device, serial } => of_device("forge", *device, *serial),
+        Event::Deliver { place } => one("deliver", *place),
+        Event::Drop { place } => one("drop", *place),
+        Event::Repeat { place } => one("repeat", *place),
+        Event::Commit { device } => of_device("commit", *device, 0),
+        _ => told_of_others(event),
+    }
+}
+
+/// What is left.
+fn told_of_others(event: &Event) -> Told {
+    match event {
+        Event::Medium { device, disk } => of_device("medium", *device, *disk),
+        Event::Queue {
+            device,
+            size,
+            descriptors,
+            available,
+            used,
+        } => (
+            "queue",
+            [u64::from(*device), *size, *descriptors, *available, *used],
+        ),
+        Event::Step { device } => of_device("step", *device, 0),
+        Event::Status { device } => of_device("status", *device, 0),
+        Event::Poke { address, bytes } => {
+            let count = bytes.as_slice().len() as u64;
+            ("poke", [*address, count, number_of(bytes), 0, 0])
+        }
+        Event::Peek { address, len } => ("peek", [*address, *len, 0, 0, 0]),
+        Event::Free { frame } => one("free", *frame),
+        _ => one("another", 0),
+    }
+}
+
+/// Ends the test where an event isn't told so.
+fn are_read(rt: &impl Abort, events: &[Event], expected: &[Told]) {
+    expect(rt, events.len() == expected.len());
+    for (event, (name, numbers)) in events.iter().zip(expected.iter()) {
+        let (told_name, told_numbers) = told(event);
+        expect(rt, told_name == *name);
+        expect(rt, told_numbers == *numbers);
+    }
 }
 
 #[test]
-fn the_first_path_is_read(rt: HostRuntime) {
-    let script = script_of(&rt, rt.alloc(), FIRST_PATH);
-    expect(&rt, goes_as_said(script.events.as_slice()));
+fn each_line_is_read(rt: HostRuntime) {
+    let script = script_of(&rt, rt.alloc(), EACH);
+    are_read(&rt, script.events.as_slice(), &EVENTS);
 }
 
 /// Worlds of each number of levels.
@@ -281,289 +458,6 @@ fn is_world(world: Option<WorldSize>, frames: u64, levels: u64) -> bool {
         None => false,
         Some(size) => size.frames == frames && size.levels == levels,
     }
-}
-
-/// The mode of the event, if it attaches device 10 without ATS.
-fn attached_in(event: Option<&Event>) -> Option<Mode> {
-    match event {
-        Some(
-            Event::Attach {
-                device: 10,
-                mode,
-                ats: false,
-            },
-        ) => Some(*mode),
-        _ => None,
-    }
-}
-
-const MODES: &[u8] = b"\
-    world 64 2\n\
-    attach 00000a first\n\
-    attach 00000a second\n\
-    attach 00000a both\n\
-    faults\n\
-    detach 00000a\n";
-
-/// Whether the events attach and detach as those lines say.
-fn attaches_as_said(events: &[Event]) -> bool {
-    let modes = [
-        attached_in(events.get(0)),
-        attached_in(events.get(1)),
-        attached_in(events.get(2)),
-    ];
-    let rest = match events.get(3..) {
-        Some([Event::Faults, Event::Detach { device: 10 }]) => true,
-        _ => false,
-    };
-    rest && modes == [Some(Mode::First), Some(Mode::Second), Some(Mode::Both)]
-}
-
-#[test]
-fn modes_and_faults_are_read(rt: HostRuntime) {
-    let script = script_of(&rt, rt.alloc(), MODES);
-    expect(&rt, attaches_as_said(script.events.as_slice()));
-}
-
-/// The lines of address translation services.
-const ATS: &[u8] = b"\
-    world 64 1\n\
-    device 00000a ats\n\
-    attach 00000a second ats\n\
-    ask 00000a 4503599627370495\n\
-    forge 00000b 18446744073709551615\n\
-    deliver 0\n\
-    drop 1\n\
-    repeat 18446744073709551615\n\
-    aread 00000a 0x3ffc 4\n\
-    awrite 00000a 0x3ffe 00f1\n\
-    tread 00000b 0x5000 5\n\
-    twrite 00000b 0x5001 f1\n";
-
-/// Whether the events plug in, attach and ask as those lines say.
-fn asks_as_said(events: &[Event]) -> bool {
-    match events {
-        [
-            Event::Plug {
-                device: 10,
-                new: NewDevice::Ats,
-            },
-            Event::Attach {
-                device: 10,
-                mode: Mode::Second,
-                ats: true,
-            },
-            Event::Ask { device: 10, page },
-            Event::Forge {
-                device: 11,
-                serial: u64::MAX,
-            },
-        ] => page.number() == 4503599627370495,
-        _ => false,
-    }
-}
-
-/// Whether the events are those of the messages.
-fn moves_as_said(events: &[Event]) -> bool {
-    match events {
-        [
-            Event::Deliver { place: 0 },
-            Event::Drop { place: 1 },
-            Event::Repeat { place: u64::MAX },
-        ] => true,
-        _ => false,
-    }
-}
-
-/// Whether the events are the reads.
-fn reads_as_said(through_cache: &Event, translated: &Event) -> bool {
-    match (through_cache, translated) {
-        (
-            Event::ReadThroughCache {
-                device: 10,
-                address: 0x3ffc,
-                len: 4,
-            },
-            Event::ReadTranslated {
-                device: 11,
-                address: 0x5000,
-                len: 5,
-            },
-        ) => true,
-        _ => false,
-    }
-}
-
-/// Whether the events are the writes.
-fn writes_as_said(through_cache: &Event, translated: &Event) -> bool {
-    match (through_cache, translated) {
-        (
-            Event::WriteThroughCache {
-                device: 10,
-                address: 0x3ffe,
-                bytes: cached,
-            },
-            Event::WriteTranslated {
-                device: 11,
-                address: 0x5001,
-                bytes: forged,
-            },
-        ) => cached.as_slice() == [0u8, 0xf1].as_slice() && forged.as_slice() == [0xf1].as_slice(),
-        _ => false,
-    }
-}
-
-/// Whether the last four are those of the accesses.
-fn accesses_as_said(events: &[Event]) -> bool {
-    match events {
-        [read, write, other_read, other_write] => {
-            reads_as_said(read, other_read) && writes_as_said(write, other_write)
-        }
-        _ => false,
-    }
-}
-
-fn ats_as_said(events: &[Event]) -> bool {
-    events.get(..4).is_some_and(asks_as_said)
-        && events.get(4..7).is_some_and(moves_as_said)
-        && events.get(7..).is_some_and(accesses_as_said)
-}
-
-#[test]
-fn lines_of_ats_are_read(rt: HostRuntime) {
-    let script = script_of(&rt, rt.alloc(), ATS);
-    expect(&rt, ats_as_said(script.events.as_slice()));
-}
-
-/// The lines of block devices.
-const BLOCK_DEVICES: &[u8] = b"\
-    world 64 1\n\
-    device 00000a blk 18446744073709551615\n\
-    device 00000b ablk 0\n\
-    medium 00000a 3\n\
-    queue 00000a 8 0x3000 0xffffffffffffffff 0x30c0\n\
-    step 00000a\n\
-    status 00000b\n";
-
-/// Whether the events plug in and put a disk in as those lines say.
-fn plugs_as_said(events: &[Event]) -> bool {
-    match events {
-        [
-            Event::Plug {
-                device: 10,
-                new: NewDevice::Block { disk: u64::MAX },
-            },
-            Event::Plug {
-                device: 11,
-                new: NewDevice::CachedBlock { disk: 0 },
-            },
-            Event::Medium {
-                device: 10,
-                disk: 3,
-            },
-        ] => true,
-        _ => false,
-    }
-}
-
-/// Whether the events are the others of them.
-fn steps_as_said(events: &[Event]) -> bool {
-    match events {
-        [
-            Event::Queue {
-                device: 10,
-                size: 8,
-                descriptors: 0x3000,
-                available: u64::MAX,
-                used: 0x30c0,
-            },
-            Event::Step { device: 10 },
-            Event::Status { device: 11 },
-        ] => true,
-        _ => false,
-    }
-}
-
-fn block_devices_as_said(events: &[Event]) -> bool {
-    events.get(..3).is_some_and(plugs_as_said) && events.get(3..).is_some_and(steps_as_said)
-}
-
-#[test]
-fn lines_of_block_devices_are_read(rt: HostRuntime) {
-    let script = script_of(&rt, rt.alloc(), BLOCK_DEVICES);
-    expect(&rt, block_devices_as_said(script.events.as_slice()));
-}
-
-const BOUNDARIES: &[u8] = b"\
-    world 4096 1\n\
-    \n\
-    # grants\n\
-    grant ffffff 18446744073709551615 0 r\n\
-    write 00000a 0x0000003ffffff000 00f1\n";
-
-/// Whether the event is the write of those lines.
-fn is_write(event: Option<&Event>) -> bool {
-    match event {
-        Some(
-            Event::Write {
-                device: 10,
-                address: 0x3ffffff000,
-                bytes,
-            },
-        ) => bytes.as_slice() == [0u8, 0xf1].as_slice(),
-        _ => false,
-    }
-}
-
-fn boundaries_as_said(events: &[Event]) -> bool {
-    is_grant(events.get(0), (0xffffff, u64::MAX, 0), false) && is_write(events.get(1))
-}
-
-#[test]
-fn boundaries_are_read(rt: HostRuntime) {
-    let script = script_of(&rt, rt.alloc(), BOUNDARIES);
-    expect(&rt, boundaries_as_said(script.events.as_slice()));
-}
-
-const PROCESSOR: &[u8] = b"\
-    world 64 1\n\
-    peek 0xffffffffffffffff 18446744073709551615\n\
-    free 63\n\
-    poke 0x5000 00f1\n";
-
-/// Whether the event is the poke of those lines.
-fn is_poke(event: Option<&Event>) -> bool {
-    match event {
-        Some(
-            Event::Poke {
-                address: 0x5000,
-                bytes,
-            },
-        ) => bytes.as_slice() == [0u8, 0xf1].as_slice(),
-        _ => false,
-    }
-}
-
-fn processor_as_said(events: &[Event]) -> bool {
-    let first = match events.get(..2) {
-        Some(
-            [
-                Event::Peek {
-                    address: u64::MAX,
-                    len: u64::MAX,
-                },
-                Event::Free { frame: 63 },
-            ],
-        ) => true,
-        _ => false,
-    };
-    first && is_poke(events.get(2))
-}
-
-#[test]
-fn lines_of_the_processor_are_read(rt: HostRuntime) {
-    let script = script_of(&rt, rt.alloc(), PROCESSOR);
-    expect(&rt, processor_as_said(script.events.as_slice()));
 }
 
 /// Scripts that are refused at their first line, with a bar between.

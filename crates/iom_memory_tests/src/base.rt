@@ -1,4 +1,4 @@
-use crate::expect::{expect, expect_eq};
+use crate::expect::expect;
 use bitflags::Flags;
 use iom_base::{AccessKind, Cause, Rights, Sequence, Span};
 use std::alloc::{AllocError, Global};
@@ -24,36 +24,37 @@ fn other_bits_allow_nothing(rt: HostRuntime) {
     }
 }
 
-// The numbers are those of the standard's table of causes.
+/// The numbers are those of the standard's table of causes.
+static CAUSES: [(Cause, u32, &str); 11] = [
+    (Cause::ReadAccessFault, 5, "5"),
+    (Cause::WriteAccessFault, 7, "7"),
+    (Cause::ReadPageFault, 13, "13"),
+    (Cause::WritePageFault, 15, "15"),
+    (Cause::ReadGuestPageFault, 21, "21"),
+    (Cause::WriteGuestPageFault, 23, "23"),
+    (Cause::AllInboundDisallowed, 256, "256"),
+    (Cause::DirectoryLoadFault, 257, "257"),
+    (Cause::DirectoryEntryNotValid, 258, "258"),
+    (Cause::DirectoryEntryMisconfigured, 259, "259"),
+    (Cause::TransactionTypeDisallowed, 260, "260"),
+];
+
 #[test]
 fn causes_have_their_numbers(rt: HostRuntime) {
-    let causes = [
-        (Cause::ReadAccessFault, 5, "5"),
-        (Cause::WriteAccessFault, 7, "7"),
-        (Cause::ReadPageFault, 13, "13"),
-        (Cause::WritePageFault, 15, "15"),
-        (Cause::ReadGuestPageFault, 21, "21"),
-        (Cause::WriteGuestPageFault, 23, "23"),
-        (Cause::AllInboundDisallowed, 256, "256"),
-        (Cause::DirectoryLoadFault, 257, "257"),
-        (Cause::DirectoryEntryNotValid, 258, "258"),
-        (Cause::DirectoryEntryMisconfigured, 259, "259"),
-        (Cause::TransactionTypeDisallowed, 260, "260"),
-    ];
-    for (cause, code, text) in causes {
-        expect_eq(&rt, &cause.code(), &code);
-        prints(&rt, rt.alloc(), &cause, text);
+    for (cause, code, text) in CAUSES.iter() {
+        expect(&rt, u32::from(cause.code()) == *code);
+        prints(&rt, rt.alloc(), cause, text);
     }
 }
 
 #[test]
 fn faults_go_by_the_kind_of_access(rt: HostRuntime) {
-    expect_eq(&rt, &Cause::access_fault(AccessKind::Read).code(), &5);
-    expect_eq(&rt, &Cause::access_fault(AccessKind::Write).code(), &7);
-    expect_eq(&rt, &Cause::page_fault(AccessKind::Read).code(), &13);
-    expect_eq(&rt, &Cause::page_fault(AccessKind::Write).code(), &15);
-    expect_eq(&rt, &Cause::guest_page_fault(AccessKind::Read).code(), &21);
-    expect_eq(&rt, &Cause::guest_page_fault(AccessKind::Write).code(), &23);
+    expect(&rt, Cause::access_fault(AccessKind::Read).code() == 5);
+    expect(&rt, Cause::access_fault(AccessKind::Write).code() == 7);
+    expect(&rt, Cause::page_fault(AccessKind::Read).code() == 13);
+    expect(&rt, Cause::page_fault(AccessKind::Write).code() == 15);
+    expect(&rt, Cause::guest_page_fault(AccessKind::Read).code() == 21);
+    expect(&rt, Cause::guest_page_fault(AccessKind::Write).code() == 23);
 }
 
 #[test]
@@ -62,43 +63,35 @@ fn rights_print_as_letters(rt: HostRuntime) {
     prints(&rt, rt.alloc(), &Rights::RW, "rw");
 }
 
-fn is_span(rt: &impl Abort, address: u64, len: u64, want: Option<Span>) {
-    assert_eq!(rt; Span::new(address, len), want, "{len} bytes from {address}");
-}
-
-fn page(page: u64, offset: u16, len: u16) -> Option<Span> {
-    Some(Span { page, offset, len })
-}
-
-fn spans() -> [(u64, u64, Option<Span>); 17] {
-    let top = u64::MAX / 4096;
-    [
-        (0, 1, page(0, 0, 1)),
-        (0, 4096, page(0, 0, 4096)),
-        (4095, 1, page(0, 4095, 1)),
-        (4096, 8, page(1, 0, 8)),
-        (0x1234_5678, 0x988, page(0x12345, 0x678, 0x988)),
-        (u64::MAX - 7, 8, page(top, 4088, 8)),
-        (u64::MAX, 1, page(top, 4095, 1)),
-        // no byte, or more than a page
-        (0, 0, None),
-        (u64::MAX, 0, None),
-        (0, 4097, None),
-        (0, u64::MAX, None),
-        // one byte past the end of the page, where the sum wraps too
-        (1, 4096, None),
-        (4095, 2, None),
-        (0x1234_5678, 0x989, None),
-        (u64::MAX - 7, 9, None),
-        (u64::MAX, 2, None),
-        (u64::MAX, u64::MAX, None),
-    ]
-}
+/// An address, a length, and the page, the offset and the length of the span.
+static SPANS: [(u64, u64, Option<(u64, u16, u16)>); 17] = [
+    (0, 1, Some((0, 0, 1))),
+    (0, 4096, Some((0, 0, 4096))),
+    (4095, 1, Some((0, 4095, 1))),
+    (4096, 8, Some((1, 0, 8))),
+    (0x1234_5678, 0x988, Some((0x12345, 0x678, 0x988))),
+    (u64::MAX - 7, 8, Some((u64::MAX / 4096, 4088, 8))),
+    (u64::MAX, 1, Some((u64::MAX / 4096, 4095, 1))),
+    // no byte, or more than a page
+    (0, 0, None),
+    (u64::MAX, 0, None),
+    (0, 4097, None),
+    (0, u64::MAX, None),
+    // one byte past the end of the page, where the sum wraps too
+    (1, 4096, None),
+    (4095, 2, None),
+    (0x1234_5678, 0x989, None),
+    (u64::MAX - 7, 9, None),
+    (u64::MAX, 2, None),
+    (u64::MAX, u64::MAX, None),
+];
 
 #[test]
 fn spans_stay_in_their_page(rt: HostRuntime) {
-    for (address, len, want) in spans() {
-        is_span(&rt, address, len, want);
+    for (address, len, want) in SPANS.iter() {
+        let span = Span::new(*address, *len);
+        let seen = span.map(|span| (span.page, span.offset, span.len));
+        expect(&rt, seen == *want);
     }
 }
 
@@ -110,29 +103,45 @@ pub(crate) fn prints<T: Display>(rt: &impl Abort, alloc: Global, value: &T, want
         Err(AllocError) => format!(in alloc; "{value}"),
     };
     let text = text.expect(rt, "memory for a text");
-    assert_eq!(rt; text.as_str(), want);
+    expect(rt, text.as_str() == want);
 }
 
 fn holds(rt: &impl Abort, values: &Sequence<u8>, wanted: &[u8]) {
-    expect_eq(rt, &values.as_slice(), &wanted);
+    expect(rt, values.as_slice() == wanted);
 }
 
-fn three_keep_their_order(rt: &impl Abort, alloc: Global) -> Result<(), AllocError> {
+// What is pushed at the end, at the front, and written in place.
+fn pushed(alloc: Global) -> Result<Sequence<u8>, AllocError> {
     let mut values = Sequence::with_capacity(alloc, 3)?;
     values.push(5u8)?;
     values.push(6)?;
     values.push_front(4)?;
     *values.item_mut(1) = 9;
-    holds(rt, &values, &[4, 9, 6]);
-    expect_eq(rt, &values.pop_front(), &4);
-    holds(rt, &values, &[9, 6]);
-    Ok(())
+    Ok(values)
+}
+
+// A value is popped at the front.
+fn pops(rt: &impl Abort, values: &mut Sequence<u8>) {
+    holds(rt, values, &[4, 9, 6]);
+    if !values.as_slice().is_empty() {
+        expect(rt, values.pop_front() == 4);
+    }
+    holds(rt, values, &[9, 6]);
 }
 
 #[test]
-fn a_sequence_keeps_its_order(rt: HostRuntime) -> Result<(), Fail> {
-    three_keep_their_order(&rt, rt.alloc())?;
+fn a_sequence_keeps_its_order(rt: HostRuntime) {
+    let mut values = pushed(rt.alloc()).expect(&rt, "memory for three");
+    pops(&rt, &mut values);
+}
+
+#[test]
+fn a_new_sequence_is_empty(rt: HostRuntime) {
     holds(&rt, &Sequence::new(rt.alloc()), &[]);
+}
+
+#[test]
+fn a_sequence_is_a_vector(rt: HostRuntime) -> Result<(), Fail> {
     let two = Sequence::from_vec(vec![in rt.alloc(); 7u8; 2]?);
     holds(&rt, &two, &[7, 7]);
     Ok(())

@@ -1,16 +1,10 @@
 // What a test expects, as a call: a comparison in place is a branch that each later proof would carry.
 use iom_phys_mem::Bytes;
-use std::fmt::Debug;
 use std::process::Abort;
 
 /// Ends the test where this doesn't hold.
 pub(crate) fn expect(rt: &impl Abort, holds: bool) {
     assert!(rt; holds);
-}
-
-/// Ends the test where these differ.
-pub(crate) fn expect_eq<T: PartialEq + Debug>(rt: &impl Abort, seen: &T, expected: &T) {
-    assert_eq!(rt; *seen, *expected);
 }
 
 /// Ends the test where a load at the address answers something else.
@@ -20,7 +14,7 @@ pub(crate) fn expect_load<B: Bytes>(
     address: u64,
     expected: Option<u64>,
 ) {
-    assert_eq!(rt; memory.load_u64(address), expected, "at {address}");
+    expect(rt, memory.load_u64(address) == expected);
 }
 
 /// Ends the test where a store at the address isn't done, or is though it should not.
@@ -32,7 +26,7 @@ pub(crate) fn expect_store<B: Bytes>(
     is_done: bool,
 ) {
     let done = memory.store_u64(address, value).is_some();
-    assert_eq!(rt; done, is_done, "at {address}");
+    expect(rt, done == is_done);
 }
 
 /// The same of a store of four bytes.
@@ -44,5 +38,5 @@ pub(crate) fn expect_short_store<B: Bytes>(
     is_done: bool,
 ) {
     let done = memory.store_u32(address, value).is_some();
-    assert_eq!(rt; done, is_done, "at {address}");
+    expect(rt, done == is_done);
 }

@@ -4,7 +4,7 @@ ghost use Rattle.iom_base.specs.Sizes.{page_limit};
 ghost use Rattle.iom_phys_mem.specs.Words.{zeroed};
 ghost use Rattle.iom_page_table.specs.Sv39.{IsRoot, HasTable};
 
-use crate::expect::{expect, expect_eq, expect_load};
+use crate::expect::{expect, expect_load};
 use iom_base::{AccessKind, Cause, Rights};
 use iom_page_table::{PageLeaf, is_mapped, laws, map, missing, unmap};
 use iom_phys_mem::Memory;
@@ -78,13 +78,13 @@ fn fault(cause: Cause) -> Result<Walked, WalkFault> {
 // A read at the address is answered so.
 fn reads(rt: &impl Abort, memory: &Memory, address: u64, wanted: Result<Walked, WalkFault>) {
     let answer = walk_first(memory, 59, address, AccessKind::Read);
-    assert_eq!(rt; answer, wanted, "at {address}");
+    expect(rt, answer == wanted);
 }
 
 // The same of a write.
 fn writes(rt: &impl Abort, memory: &Memory, address: u64, wanted: Result<Walked, WalkFault>) {
     let answer = walk_first(memory, 59, address, AccessKind::Write);
-    assert_eq!(rt; answer, wanted, "at {address}");
+    expect(rt, answer == wanted);
 }
 
 // The dump of memory after `grant 000001 3 5 rw`: the root in frame 59, its tables in 58 and 57, and at
@@ -93,7 +93,7 @@ fn writes(rt: &impl Abort, memory: &Memory, address: u64, wanted: Result<Walked,
 fn a_page_has_the_bytes_of_a_dump(rt: HostRuntime) {
     let mut memory = empty(&rt);
     let top = map_page(&rt, &mut memory, 59, 3, 5, Rights::RW);
-    expect_eq(&rt, &top, &57);
+    expect(&rt, top == 57);
     expect_load(&rt, &memory, 0x3_b000, Some(0xe801));
     expect_load(&rt, &memory, 0x3_a000, Some(0xe401));
     expect_load(&rt, &memory, 0x3_9018, Some(0x14d7));
@@ -112,7 +112,7 @@ fn a_page_has_the_bytes_of_a_dump(rt: HostRuntime) {
 fn a_page_for_reads_has_its_bytes(rt: HostRuntime) {
     let mut memory = empty(&rt);
     let top = map_page(&rt, &mut memory, 59, 67_108_863, 5, Rights::R);
-    expect_eq(&rt, &top, &57);
+    expect(&rt, top == 57);
     expect_load(&rt, &memory, 0x3_b7f8, Some(0xe801));
     expect_load(&rt, &memory, 0x3_aff8, Some(0xe401));
     expect_load(&rt, &memory, 0x3_9ff8, Some(0x1453));
@@ -124,11 +124,11 @@ fn pages_share_tables(rt: HostRuntime) {
     let mut memory = empty(&rt);
     let top = map_page(&rt, &mut memory, 59, 3, 5, Rights::RW);
     let top = map_page(&rt, &mut memory, top, 4, 6, Rights::R);
-    expect_eq(&rt, &top, &57);
+    expect(&rt, top == 57);
     let top = map_page(&rt, &mut memory, top, 515, 7, Rights::R);
-    expect_eq(&rt, &top, &56);
+    expect(&rt, top == 56);
     let top = map_page(&rt, &mut memory, top, 262_147, 8, Rights::RW);
-    expect_eq(&rt, &top, &54);
+    expect(&rt, top == 54);
     unmap(&mut memory, ROOT, 4);
     unmap(&mut memory, ROOT, 5);
     reads(&rt, &memory, 0x3000, at(5, Rights::RW));
@@ -143,7 +143,7 @@ fn the_first_and_the_last_page_are_mapped(rt: HostRuntime) {
     let mut memory = empty(&rt);
     let top = map_page(&rt, &mut memory, 59, 0, 5, Rights::RW);
     let top = map_page(&rt, &mut memory, top, 67_108_863, 5, Rights::R);
-    expect_eq(&rt, &top, &55);
+    expect(&rt, top == 55);
     writes(&rt, &memory, 0, at(5, Rights::RW));
     reads(&rt, &memory, 0x3f_ffff_f000, at(5, Rights::R));
     writes(&rt, &memory, 0x3f_ffff_f000, fault(Cause::WritePageFault));

@@ -1,12 +1,11 @@
 ghost use Rattle.std.specs.Prelude.{◌≤◌};
 
 use crate::base::prints;
-use crate::expect::{expect, expect_eq, expect_load, expect_short_store, expect_store};
+use crate::expect::{expect, expect_load, expect_short_store, expect_store};
 use iom_base::FRAME_SIZE;
 use iom_phys_mem::{Bytes, MemError, Memory, frames};
 use std::alloc::Global;
 use std::process::Abort;
-use std::test::Fail;
 
 // The first byte past a memory of 64 frames.
 const END: u64 = 4096 * 64;
@@ -18,7 +17,7 @@ const DIGITS: u64 = 0x0807_0605_0403_0201;
 // same call, where no allocation is refused, succeeds.
 fn built(rt: &impl Abort, alloc: Global, frames: u32) -> Memory {
     let memory = Memory::new(alloc, frames).or_else(|fault| {
-        assert_eq!(rt; fault, MemError::OutOfMemory);
+        expect(rt, fault == MemError::OutOfMemory);
         Memory::new(alloc, frames)
     });
     memory.expect(rt, "memory for the frames")
@@ -26,7 +25,7 @@ fn built(rt: &impl Abort, alloc: Global, frames: u32) -> Memory {
 
 fn is_refused(rt: &impl Abort, alloc: Global, frames: u32) {
     let refused = Memory::new(alloc, frames).err();
-    assert_eq!(rt; refused, Some(MemError::BadSize), "{frames} frames");
+    expect(rt, refused == Some(MemError::BadSize));
 }
 
 fn has_size(rt: &impl Abort, alloc: Global, frames: u32)
@@ -34,7 +33,7 @@ fn has_size(rt: &impl Abort, alloc: Global, frames: u32)
 {
     let memory = built(rt, alloc, frames);
     let end = 4096 * frames as u64;
-    expect_eq(rt, &memory.frames(), &frames);
+    expect(rt, memory.frames() == frames);
     expect_load(rt, &memory, end - 8, Some(0));
     expect_load(rt, &memory, end, None);
     expect(rt, memory.frame(frames - 1).is_some());
@@ -86,50 +85,78 @@ fn unaligned_words_are_none(rt: HostRuntime) {
     }
 }
 
-fn bytes_are_written(rt: &impl Abort, memory: &mut Memory) -> Result<(), Fail> {
-    memory.frame_mut(1).ok_or("frame 1")?.fill(255);
-    expect_store(rt, memory, 4096 + 8, DIGITS, true);
-    expect_short_store(rt, memory, 4096 + 20, 0x0c0b_0a09, true);
-    let frame = memory.frame(1).ok_or("frame 1")?;
-    expect_eq(rt, &&frame[6..26], &WRITTEN.as_slice());
-    let written = frame.iter().filter(|byte| **byte != 255).count();
-    expect_eq(rt, &written, &12);
-    Ok(())
+// A byte of a frame.
+fn byte_at(memory: &Memory, frame: u32, at: usize) -> Option<u8> {
+    memory.frame(frame)?.get(at).copied()
 }
 
-const WRITTEN: [u8; 20] = [
+// Writes a byte of a frame, where there is one.
+fn set_byte(memory: &mut Memory, frame: u32, at: usize, byte: u8) -> bool {
+    match memory.frame_mut(frame) {
+        Some(bytes) => match bytes.get_mut(at) {
+            Some(place) => {
+                *place = byte;
+                true
+            }
+            None => false,
+        },
+        None => false,
+    }
+}
+
+fn fill(memory: &mut Memory, frame: u32) {
+    for at in 0..4096 {
+        set_byte(memory, frame, at, 255);
+    }
+}
+
+// How many bytes of the frame aren't 255.
+fn count_others(memory: &Memory, frame: u32) -> u32 {
+    let mut count = 0u32;
+    for at in 0..4096 {
+        if byte_at(memory, frame, at) != Some(255) {
+            count = count.wrapping_add(1);
+        }
+    }
+    count
+}
+
+/// The bytes of frame 1 from 6 on.
+static WRITTEN: [u8; 20] = [
     255, 255, 1, 2, 3, 4, 5, 6, 7, 8, 255, 255, 255, 255, 9, 10, 11, 12, 255, 255,
 ];
 
+fn are_written(rt: &impl Abort, memory: &Memory) {
+    for (place, byte) in WRITTEN.iter().enumerate() {
+        expect(rt, byte_at(memory, 1, place.wrapping_add(6)) == Some(*byte));
+    }
+    expect(rt, count_others(memory, 1) == 12);
+}
+
 // The bytes of a store, and those beside them, where all were 255.
 #[test]
-fn stores_write_their_bytes(rt: HostRuntime) -> Result<(), Fail> {
+fn stores_write_their_bytes(rt: HostRuntime) {
     let mut memory = built(&rt, rt.alloc(), 64);
-    bytes_are_written(&rt, &mut memory)
+    fill(&mut memory, 1);
+    expect_store(&rt, &mut memory, 4096 + 8, DIGITS, true);
+    expect_short_store(&rt, &mut memory, 4096 + 20, 0x0c0b_0a09, true);
+    are_written(&rt, &memory);
 }
 
-// The last byte of the frame.
-fn last_byte(memory: &Memory, frame: u32) -> Option<u8> {
-    let bytes = memory.frame(frame)?;
-    Some(bytes[4095])
+fn are_lent(rt: &impl Abort, memory: &Memory) {
+    expect_load(rt, memory, END - 8, Some(7 << 56));
+    expect(rt, byte_at(memory, 63, 4095) == Some(7));
+    expect(rt, byte_at(memory, 62, 4095) == Some(0));
 }
 
-fn set_last_byte(memory: &mut Memory, frame: u32, byte: u8) -> Option<()> {
-    let bytes = memory.frame_mut(frame)?;
-    bytes[4095] = byte;
-    Some(())
-}
-
+// A frame that is lent is the memory's, and past the last there is none.
 #[test]
-fn lent_frames_are_the_memory(rt: HostRuntime) -> Result<(), Fail> {
+fn lent_frames_are_the_memory(rt: HostRuntime) {
     let mut memory = built(&rt, rt.alloc(), 64);
-    expect(&rt, set_last_byte(&mut memory, 63, 7).is_some());
-    expect_load(&rt, &memory, END - 8, Some(7 << 56));
-    expect_eq(&rt, &last_byte(&memory, 63), &Some(7));
-    expect_eq(&rt, &last_byte(&memory, 62), &Some(0));
-    expect(&rt, memory.frame_mut(64).is_none());
-    expect(&rt, memory.frame_mut(u32::MAX).is_none());
-    Ok(())
+    expect(&rt, set_byte(&mut memory, 63, 4095, 7));
+    are_lent(&rt, &memory);
+    expect(&rt, !set_byte(&mut memory, 64, 0, 7));
+    expect(&rt, !set_byte(&mut memory, u32::MAX, 0, 7));
 }
 
 // Two frames that stand in the value itself, as a test of a layer above may have them.
@@ -166,14 +193,14 @@ fn move_word<B: Bytes>(bytes: &mut B, from: u64, to: u64) -> Option<()> {
 fn moves<B: Bytes>(rt: &impl Abort, bytes: &mut B, from: u64, end: u64, word: u64)
     requires { 8 ≤ end }
 {
-    expect_eq(rt, &move_word(bytes, from, end - 8), &Some(()));
+    expect(rt, move_word(bytes, from, end - 8) == Some(()));
     expect_load(rt, bytes, end - 8, Some(word));
-    expect_eq(rt, &move_word(bytes, from, end), &None);
+    expect(rt, move_word(bytes, from, end) == None);
 }
 
 fn moves_in_two_frames(rt: &impl Abort) {
     let mut small = TwoFrames([[0; FRAME_SIZE]; 2]);
-    expect_eq(rt, &small.frames(), &2);
+    expect(rt, small.frames() == 2);
     expect_short_store(rt, &mut small, 4, 0x0807_0605, true);
     moves(rt, &mut small, 0, 8192, 0x0807_0605_0000_0000);
 }
@@ -188,10 +215,7 @@ fn words_move_through_the_bound(rt: HostRuntime) {
 
 #[test]
 fn faults_print(rt: HostRuntime) {
-    for (fault, want) in [
-        (MemError::BadSize, "a memory has 64 to 4096 frames"),
-        (MemError::OutOfMemory, "out of memory"),
-    ] {
-        prints(&rt, rt.alloc(), &fault, want);
-    }
+    let bad_size = "a memory has 64 to 4096 frames";
+    prints(&rt, rt.alloc(), &MemError::BadSize, bad_size);
+    prints(&rt, rt.alloc(), &MemError::OutOfMemory, "out of memory");
 }

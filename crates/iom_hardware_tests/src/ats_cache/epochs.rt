@@ -1,58 +1,64 @@
-use crate::ats_cache::calls::{answers, asks, at, invalidates, invalidates_page, reads, resets};
-use iom_ats_cache::{Atc, Taken};
-use iom_fabric::Range;
-use std::process::Abort;
+use crate::ats_cache::steps::{Step, follow};
+use iom_ats_cache::Taken;
+use iom_base::Rights;
 
-// Pages 3 and 4 are at the frames 13 and 14.
-fn cache_of_two(rt: &impl Abort) -> Atc {
-    let mut atc = Atc::new();
-    answers(rt, &mut atc, 0, 3, at(13), Taken::Kept);
-    answers(rt, &mut atc, 0, 4, at(14), Taken::Kept);
-    atc
-}
+/// An invalidation takes out its page, or everything, and nothing else. The epoch rises each time, also where nothing
+/// was there to take out.
+static COVERED: [Step; 10] = [
+    Step::Answer(0, 3, 13, Rights::RW, Taken::Kept),
+    Step::Answer(0, 4, 14, Rights::RW, Taken::Kept),
+    Step::Invalidate(1, 3),
+    Step::Read(3, None),
+    Step::Read(4, Some(14)),
+    Step::Invalidate(1, 3),
+    Step::Read(4, Some(14)),
+    Step::InvalidateAll(u64::MAX),
+    Step::Read(4, None),
+    Step::Ask(4, 3),
+];
 
-// An invalidation takes out its page, or everything, and nothing else. The epoch rises each time, also where nothing
-// was there to take out.
 #[test]
 fn an_invalidation_takes_out_what_it_covers(rt: HostRuntime) {
-    let mut atc = cache_of_two(&rt);
-    invalidates_page(&rt, &mut atc, 1, 3);
-    reads(&rt, &atc, 3, None);
-    reads(&rt, &atc, 4, Some(14));
-    invalidates_page(&rt, &mut atc, 1, 3);
-    reads(&rt, &atc, 4, Some(14));
-    invalidates(&rt, &mut atc, u64::MAX, Range::Everything);
-    reads(&rt, &atc, 4, None);
-    asks(&rt, &atc, 4, 3);
+    follow(&rt, &COVERED);
 }
 
-// An answer to a question of before an invalidation isn't kept, whichever page was invalidated; nor is one of an epoch
-// that is still to come. What is asked anew is.
+/// An answer to a question of before an invalidation isn't kept, whichever page was invalidated; nor is one of an epoch
+/// that is still to come. What is asked anew is.
+static STALE: [Step; 11] = [
+    Step::Answer(0, 3, 13, Rights::RW, Taken::Kept),
+    Step::Answer(0, 4, 14, Rights::RW, Taken::Kept),
+    Step::Invalidate(1, 3),
+    Step::Answer(0, 3, 13, Rights::RW, Taken::Stale),
+    Step::Answer(0, 4, 99, Rights::RW, Taken::Stale),
+    Step::Answer(2, 3, 13, Rights::RW, Taken::Stale),
+    Step::Read(3, None),
+    Step::Read(4, Some(14)),
+    Step::Ask(3, 1),
+    Step::Answer(1, 3, 23, Rights::RW, Taken::Kept),
+    Step::Read(3, Some(23)),
+];
+
 #[test]
 fn an_answer_of_another_epoch_is_stale(rt: HostRuntime) {
-    let mut atc = cache_of_two(&rt);
-    invalidates_page(&rt, &mut atc, 1, 3);
-    answers(&rt, &mut atc, 0, 3, at(13), Taken::Stale);
-    answers(&rt, &mut atc, 0, 4, at(99), Taken::Stale);
-    answers(&rt, &mut atc, 2, 3, at(13), Taken::Stale);
-    reads(&rt, &atc, 3, None);
-    reads(&rt, &atc, 4, Some(14));
-    asks(&rt, &atc, 3, 1);
-    answers(&rt, &mut atc, 1, 3, at(23), Taken::Kept);
-    reads(&rt, &atc, 3, Some(23));
+    follow(&rt, &STALE);
 }
 
-// A reset takes out everything, and the epoch goes on: what was asked before it isn't kept after it.
+/// A reset takes out everything, and the epoch goes on: what was asked before it isn't kept after it.
+static RESETS: [Step; 11] = [
+    Step::Answer(0, 3, 13, Rights::RW, Taken::Kept),
+    Step::Answer(0, 4, 14, Rights::RW, Taken::Kept),
+    Step::Reset,
+    Step::Read(3, None),
+    Step::Read(4, None),
+    Step::Reset,
+    Step::Ask(3, 2),
+    Step::Answer(0, 3, 13, Rights::RW, Taken::Stale),
+    Step::Answer(1, 3, 13, Rights::RW, Taken::Stale),
+    Step::Answer(2, 3, 33, Rights::RW, Taken::Kept),
+    Step::Read(3, Some(33)),
+];
+
 #[test]
 fn a_reset_keeps_the_epoch(rt: HostRuntime) {
-    let mut atc = cache_of_two(&rt);
-    resets(&rt, &mut atc);
-    reads(&rt, &atc, 3, None);
-    reads(&rt, &atc, 4, None);
-    resets(&rt, &mut atc);
-    asks(&rt, &atc, 3, 2);
-    answers(&rt, &mut atc, 0, 3, at(13), Taken::Stale);
-    answers(&rt, &mut atc, 1, 3, at(13), Taken::Stale);
-    answers(&rt, &mut atc, 2, 3, at(33), Taken::Kept);
-    reads(&rt, &atc, 3, Some(33));
+    follow(&rt, &RESETS);
 }

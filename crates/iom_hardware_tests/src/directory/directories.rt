@@ -93,13 +93,18 @@ fn does(rt: &impl Abort, memory: &mut Memory, step: Step) {
     }
 }
 
-// A memory of 64 frames takes the steps.
-fn follow(rt: &impl Abort, alloc: Global, steps: &[Step]) -> Result<(), Fail> {
-    let mut memory = memory_of_64(alloc)?;
+fn takes(rt: &impl Abort, memory: &mut Memory, steps: &[Step]) {
     for step in steps.iter() {
-        does(rt, &mut memory, *step);
+        does(rt, memory, *step);
     }
-    Ok(())
+}
+
+// A memory of 64 frames takes the steps.
+fn follow(rt: &impl Abort, alloc: Global, steps: &[Step]) {
+    match memory_of_64(alloc) {
+        Ok(mut memory) => takes(rt, &mut memory, steps),
+        Err(_) => panic!(rt; "out of memory"),
+    }
 }
 
 const ONE: DirectoryMode = DirectoryMode::OneLevel;
@@ -131,8 +136,8 @@ static ONE_LEVEL: [Step; 9] = [
 ];
 
 #[test]
-fn one_level(rt: HostRuntime) -> Result<(), Fail> {
-    follow(&rt, rt.alloc(), &ONE_LEVEL)
+fn one_level(rt: HostRuntime) {
+    follow(&rt, rt.alloc(), &ONE_LEVEL);
 }
 
 /// Two levels: ids have 16 bits, and DDI[1] is bits 15:7. Ids 0001ff, 00ff81 and 00ffff have contexts.
@@ -152,8 +157,8 @@ static TWO_LEVELS: [Step; 12] = [
 ];
 
 #[test]
-fn two_levels(rt: HostRuntime) -> Result<(), Fail> {
-    follow(&rt, rt.alloc(), &TWO_LEVELS)
+fn two_levels(rt: HostRuntime) {
+    follow(&rt, rt.alloc(), &TWO_LEVELS);
 }
 
 /// Three levels: ids have 24 bits, and DDI[2] is bits 23:16. Of ffffff the indices are 255, 511, 127; of 018080
@@ -174,8 +179,8 @@ static THREE_LEVELS: [Step; 12] = [
 ];
 
 #[test]
-fn three_levels(rt: HostRuntime) -> Result<(), Fail> {
-    follow(&rt, rt.alloc(), &THREE_LEVELS)
+fn three_levels(rt: HostRuntime) {
+    follow(&rt, rt.alloc(), &THREE_LEVELS);
 }
 
 /// Off: whatever is in memory. A root outside memory. A context with a reserved bit.
@@ -189,8 +194,8 @@ static AT_THE_ROOT: [Step; 6] = [
 ];
 
 #[test]
-fn causes_at_the_root(rt: HostRuntime) -> Result<(), Fail> {
-    follow(&rt, rt.alloc(), &AT_THE_ROOT)
+fn causes_at_the_root(rt: HostRuntime) {
+    follow(&rt, rt.alloc(), &AT_THE_ROOT);
 }
 
 /// An entry that names a page outside memory; one with a reserved bit; one that isn't valid.
@@ -209,6 +214,6 @@ static AT_AN_ENTRY: [Step; 11] = [
 ];
 
 #[test]
-fn causes_at_an_entry(rt: HostRuntime) -> Result<(), Fail> {
-    follow(&rt, rt.alloc(), &AT_AN_ENTRY)
+fn causes_at_an_entry(rt: HostRuntime) {
+    follow(&rt, rt.alloc(), &AT_AN_ENTRY);
 }

@@ -139,21 +139,20 @@ impl Machine {
             Step::Store(address, word) => self.store(address, word),
         }
     }
+
+    fn follow(&mut self, rt: &impl Abort, steps: &[Step]) {
+        for step in steps.iter() {
+            self.does(rt, *step);
+        }
+    }
 }
 
 // A queue that lies where `fqb` says, and is turned on as `fqcsr` says, takes the steps.
-fn follow(
-    rt: &impl Abort,
-    alloc: Global,
-    fqb: u64,
-    fqcsr: u64,
-    steps: &[Step],
-) -> Result<(), Fail> {
-    let mut machine = Machine::new(rt, alloc, fqb, fqcsr)?;
-    for step in steps.iter() {
-        machine.does(rt, *step);
+fn follow(rt: &impl Abort, alloc: Global, fqb: u64, fqcsr: u64, steps: &[Step]) {
+    match Machine::new(rt, alloc, fqb, fqcsr) {
+        Ok(mut machine) => machine.follow(rt, steps),
+        Err(_) => panic!(rt; "out of memory"),
     }
-    Ok(())
 }
 
 /// A write of 1 to fqof, bit 9 of fqcsr, clears it; fqen is bit 0.
@@ -177,9 +176,9 @@ static OF_128: [Step; 6] = [
 
 // Rings of 2 and of 128 places at frame 62 have room for one record less, at each index of the ring.
 #[test]
-fn rings_wrap(rt: HostRuntime) -> Result<(), Fail> {
-    follow(&rt, rt.alloc(), 0xf800, 1, &OF_TWO)?;
-    follow(&rt, rt.alloc(), 0xf806, 1, &OF_128)
+fn rings_wrap(rt: HostRuntime) {
+    follow(&rt, rt.alloc(), 0xf800, 1, &OF_TWO);
+    follow(&rt, rt.alloc(), 0xf806, 1, &OF_128);
 }
 
 /// fqmf is bit 8, fqof 9, fqon 16. While fqof is 1 no record is written, though there is room.
@@ -197,8 +196,8 @@ static OVERFLOW: [Step; 10] = [
 ];
 
 #[test]
-fn overflow_stays_until_it_is_cleared(rt: HostRuntime) -> Result<(), Fail> {
-    follow(&rt, rt.alloc(), 0xf800, 1, &OVERFLOW)
+fn overflow_stays_until_it_is_cleared(rt: HostRuntime) {
+    follow(&rt, rt.alloc(), 0xf800, 1, &OVERFLOW);
 }
 
 /// A ring of 256 places at the last frame, which has room for 128 of them: the next place sets fqmf, and the
@@ -216,8 +215,8 @@ static OUTSIDE: [Step; 9] = [
 ];
 
 #[test]
-fn places_outside_memory_set_fqmf(rt: HostRuntime) -> Result<(), Fail> {
-    follow(&rt, rt.alloc(), 0xfc07, 1, &OUTSIDE)
+fn places_outside_memory_set_fqmf(rt: HostRuntime) {
+    follow(&rt, rt.alloc(), 0xfc07, 1, &OUTSIDE);
 }
 
 /// A record's bytes in memory, and the same place once somebody else wrote into it.
@@ -230,8 +229,8 @@ static BYTES: [Step; 5] = [
 ];
 
 #[test]
-fn bytes_stand_at_the_tail(rt: HostRuntime) -> Result<(), Fail> {
-    follow(&rt, rt.alloc(), 0xf806, 1, &BYTES)
+fn bytes_stand_at_the_tail(rt: HostRuntime) {
+    follow(&rt, rt.alloc(), 0xf806, 1, &BYTES);
 }
 
 #[test]
@@ -250,8 +249,8 @@ static OFF: [Step; 6] = [
 ];
 
 #[test]
-fn nothing_is_put_while_off(rt: HostRuntime) -> Result<(), Fail> {
-    follow(&rt, rt.alloc(), 0xf806, 2, &OFF)
+fn nothing_is_put_while_off(rt: HostRuntime) {
+    follow(&rt, rt.alloc(), 0xf806, 2, &OFF);
 }
 
 /// fip is bit 1 of ipsr: no record and no overflow sets it where fie is 0.
@@ -274,7 +273,7 @@ static LOUD: [Step; 8] = [
 ];
 
 #[test]
-fn fip_follows_fie(rt: HostRuntime) -> Result<(), Fail> {
-    follow(&rt, rt.alloc(), 0xf800, 1, &SILENT)?;
-    follow(&rt, rt.alloc(), 0xf800, 3, &LOUD)
+fn fip_follows_fie(rt: HostRuntime) {
+    follow(&rt, rt.alloc(), 0xf800, 1, &SILENT);
+    follow(&rt, rt.alloc(), 0xf800, 3, &LOUD);
 }

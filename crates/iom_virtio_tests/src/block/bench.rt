@@ -12,6 +12,11 @@ use std::process::Abort;
 /// What a test does or asks for.
 #[derive(Clone, Copy)]
 pub(crate) enum Step<'a> {
+    /// A request of this type for this sector is put, and begun: its header and data, 16 and so many times 256 bytes from
+    /// 0x1000 on, and its status at 0x1800.
+    Request(u8, u8, u8),
+    /// It ends with this status.
+    Finishes(u8),
     /// A descriptor is written: its index, address, length and flags, and what follows it.
     Describe(u16, u16, u16, u8, u16),
     /// Bytes are written.
@@ -74,6 +79,22 @@ impl Bench {
             Some(layout) => expect(rt, sets(&mut self.blk, layout)),
             None => expect(rt, false),
         }
+    }
+
+    /// The element at this place of the used ring, and the used index.
+    pub(crate) fn expect_used(
+        &self,
+        rt: &impl Abort,
+        place: u16,
+        head: u16,
+        written: u16,
+        idx: u16,
+    ) {
+        self.memory.expect_half(rt, place, head);
+        self.memory.expect_half(rt, place.wrapping_add(2), 0);
+        self.memory.expect_half(rt, place.wrapping_add(4), written);
+        self.memory.expect_half(rt, place.wrapping_add(6), 0);
+        self.memory.expect_half(rt, 0x202, idx);
     }
 
     pub(crate) fn expect_status(&self, rt: &impl Abort, expected: u8) {
@@ -157,8 +178,25 @@ impl Bench {
         expect(rt, false);
     }
 
+    fn request(&mut self, rt: &impl Abort, kind: u8, sector: u8, len: u8) {
+        self.memory.poke_descriptor(rt, 0, 0x1000, 16, 1, 1);
+        self.memory.poke_descriptor(rt, 1, 0x1800, 1, 2, 0);
+        self.memory.put(0x9, len);
+        self.memory.put(0x102, 1);
+        self.memory.put(0x1000, kind);
+        self.memory.put(0x1008, sector);
+        self.turns_all(rt, &BEGINS);
+    }
+
+    fn finishes(&mut self, rt: &impl Abort, status: u8) {
+        self.turns_all(rt, &ENDS);
+        self.memory.expect_byte(rt, 0x1800, status);
+    }
+
     fn takes(&mut self, rt: &impl Abort, step: Step) {
         match step {
+            Step::Request(kind, sector, len) => self.request(rt, kind, sector, len),
+            Step::Finishes(status) => self.finishes(rt, status),
             Step::Describe(index, address, len, flags, next) => self
                 .memory
                 .poke_descriptor(rt, index, address, len, flags, next),
@@ -184,6 +222,23 @@ fn sets(blk: &mut Blk<FailingDisk>, layout: Layout) -> bool
 {
     blk.set_queue(layout)
 }
+
+/// Index and ring entry, the two descriptors and the header.
+static BEGINS: [Seen; 5] = [
+    Seen::Read(0x102, 2),
+    Seen::Read(0x104, 2),
+    Seen::Read(0x0, 16),
+    Seen::Read(0x10, 16),
+    Seen::Read(0x1000, 16),
+];
+
+/// The status, the used element and the used index.
+static ENDS: [Seen; 4] = [
+    Seen::Wrote(0x1800, 1),
+    Seen::Wrote(0x204, 8),
+    Seen::Wrote(0x202, 2),
+    Seen::Finished(0, 1),
+];
 
 // An access outside memory is refused.
 fn reply(wanted: &WantedAccess) -> Reply {

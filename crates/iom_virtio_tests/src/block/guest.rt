@@ -143,11 +143,8 @@ impl Guest {
             .ends(rt, Seen::Finished(head, u32::from(written)));
         self.bench.memory.expect_byte(rt, STATUS, 0);
         let place = 0x204 + 8 * (self.requests.wrapping_sub(1) % SIZE);
-        self.bench.memory.expect_half(rt, place, head);
-        self.bench.memory.expect_half(rt, place + 2, 0);
-        self.bench.memory.expect_half(rt, place + 4, written);
-        self.bench.memory.expect_half(rt, place + 6, 0);
-        self.bench.memory.expect_half(rt, 0x202, self.requests);
+        self.bench
+            .expect_used(rt, place, head, written, self.requests);
     }
 
     /// Puts what a sector holds at this place of the data.
