@@ -38,4 +38,3 @@ abbrev pub AsksThroughCache : (DeviceKind → Bool) → Parts → ℕ → Access
 AsksThroughCache can old id access told new =
     IsUnknown old id told new ⊎ IsUnable can old id told new
     ⊎ (IsAble can old.devices id × TriesCache old id access told new)
-

@@ -40,4 +40,3 @@ outcome_of Repeated = outcome.Repeated
 outcome_of NoMessage = outcome.NoMessage
 outcome_of (Stepped step) = outcome.Stepped step
 outcome_of (Status status) = outcome.Status status
-

@@ -8,7 +8,7 @@ use Rattle.iom_device.proofs.device.place_of.Goals as goal
 pub returns-then-devices-place : goal.returns-then-devices-place
 returns-then-devices-place c =
     place_is c.args.devices.now c.args.id c.loop-place.place (get_or c.args.devices.now c.loop-place.place c.index-devices-place.result)
-        (slice_get-get_or c.args.devices.now c.loop-place.place c.index-devices-place.result c.loop-place-test.true) c.if-devices-place.true c.loop-place.invariant
+    (slice_get-get_or c.args.devices.now c.loop-place.place c.index-devices-place.result c.loop-place-test.true) c.if-devices-place.true c.loop-place.invariant
 
 pub loop-place-preserved : goal.loop-place-preserved
 loop-place-preserved c = λ j other lt at same. elim (eqb_tells j c.loop-place.place) [
