@@ -1,5 +1,4 @@
 // A driver with memory and registers of its own, of which a test sees no parts.
-use crate::expect::expect;
 use crate::recording::Recording;
 use iom_base::{DeviceId, GrantRights, Mode};
 use iom_driver::laws::stays_ready;
@@ -263,7 +262,7 @@ impl Bench {
         polled.map(|told| (told.first, told.count, told.timed_out)) == expected
     }
 
-    /// The same of a step that is no call of the driver's but of its looks.
+    /// The same of a look, and of what the IOMMU does.
     fn sees(&mut self, step: Step) -> bool {
         match step {
             Step::FaultsRefused(refusal) => self.faults().err() == Some(refusal),
@@ -286,12 +285,18 @@ impl Bench {
         }
     }
 
-    /// Takes the steps, one after another.
-    pub(crate) fn follow(&mut self, rt: &impl Abort, steps: &[Step]) {
-        for step in steps.iter() {
-            expect(rt, self.does(*step));
+    /// Takes the steps of a run, one after another.
+    fn follow(&mut self, rt: &impl Abort, says: &str, steps: &[Step]) {
+        for (place, step) in steps.iter().enumerate() {
+            let is_so = self.does(*step);
+            holds(rt, says, place, is_so);
         }
     }
+}
+
+/// Ends the test where this doesn't hold at a step of the run.
+fn holds(rt: &impl Abort, says: &str, place: usize, is_so: bool) {
+    assert!(rt; is_so, "{says}: step {place}");
 }
 
 /// The number of a ticket that was given.
@@ -311,23 +316,34 @@ fn ends_with(all: &[Option<Register>; 6], expected: &[Option<Register>]) -> bool
     true
 }
 
-/// At power-on, the driver takes these steps.
-pub(crate) fn off(rt: &impl Abort, alloc: Global, steps: &[Step]) {
-    match Bench::off(alloc) {
-        Ok(mut bench) => bench.follow(rt, steps),
-        Err(_) => panic!(rt; "out of memory"),
+/// With what a run begins.
+#[derive(Clone, Copy)]
+pub(crate) enum Start {
+    /// At power-on.
+    Off,
+    /// Started, with 64 frames and a directory of one level.
+    Usual,
+    /// Started, with so many frames and levels of the directory.
+    Sized(u32, u8),
+}
+
+/// A run: its name, with what it begins, and its steps.
+pub(crate) type Run<'a> = (&'a str, Start, &'a [Step<'a>]);
+
+fn begun(alloc: Global, start: Start) -> Result<Box<Bench>, Fail> {
+    match start {
+        Start::Off => Bench::off(alloc),
+        Start::Usual => Bench::of_size(alloc, FRAMES, 1),
+        Start::Sized(frames, levels) => Bench::of_size(alloc, frames, levels),
     }
 }
 
-/// Once it was started, with so many frames and levels of the directory.
-pub(crate) fn sized(rt: &impl Abort, alloc: Global, frames: u32, levels: u8, steps: &[Step]) {
-    match Bench::of_size(alloc, frames, levels) {
-        Ok(mut bench) => bench.follow(rt, steps),
-        Err(_) => panic!(rt; "out of memory"),
+/// The steps of each run are answered so.
+pub(crate) fn follow(rt: &impl Abort, alloc: Global, runs: &[Run]) {
+    for (says, start, steps) in runs.iter() {
+        match begun(alloc, *start) {
+            Ok(mut bench) => bench.follow(rt, says, steps),
+            Err(_) => panic!(rt; "out of memory"),
+        }
     }
-}
-
-/// Once it was started, with 64 frames and a directory of one level.
-pub(crate) fn started(rt: &impl Abort, alloc: Global, steps: &[Step]) {
-    sized(rt, alloc, FRAMES, 1, steps);
 }

@@ -1,88 +1,90 @@
-use crate::bench::{OK, Step, started};
+use crate::bench::{OK, Run, Start, Step, follow};
 use iom_base::Mode;
 use iom_ledger::Refusal;
 
-/// The commands of a detach: IODIR.INVAL_DDT of id 2, IOTINVAL.VMA of the whole address space 1, and the fence of
-/// ticket 1. The context's place is zero.
-static A_DETACH_WRITES_THREE_COMMANDS: [Step; 7] = [
-    Step::Plug(2, OK),
-    Step::Attach(2, Mode::First, OK),
-    Step::Words(0x3c040, &[1]),
-    Step::Detach(2, Ok(1)),
-    Step::Words(0x3c040, &[0]),
-    Step::Words(
-        0x3f000,
+/// What a detach writes and gives back.
+static RUNS: [Run; 4] = [
+    // The commands of a detach: IODIR.INVAL_DDT of id 2, IOTINVAL.VMA of the whole address space 1, and the fence of
+    // ticket 1. The context's place is zero.
+    (
+        "a detach writes three commands",
+        Start::Usual,
         &[
-            0x0000_0202_0000_0003,
-            0,
-            0x0000_0001_0000_1001,
-            0,
-            0x0000_0001_0000_3402,
+            Step::Plug(2, OK),
+            Step::Attach(2, Mode::First, OK),
+            Step::Words(0x3c040, &[1]),
+            Step::Detach(2, Ok(1)),
+            Step::Words(0x3c040, &[0]),
+            Step::Words(
+                0x3f000,
+                &[
+                    0x0000_0202_0000_0003,
+                    0,
+                    0x0000_0001_0000_1001,
+                    0,
+                    0x0000_0001_0000_3402,
+                ],
+            ),
+            Step::Pending(1),
         ],
     ),
-    Step::Pending(1),
+    // What is held, and what lingers, keeps its device.
+    (
+        "a device with grants stays",
+        Start::Usual,
+        &[
+            Step::Plug(1, OK),
+            Step::Attach(1, Mode::First, OK),
+            Step::Grant(1, 3, 5, OK),
+            Step::Detach(1, Err(Refusal::StillGranted)),
+            Step::Release(1, 3, Ok(1)),
+            Step::Detach(1, Err(Refusal::StillGranted)),
+            Step::Complete(1),
+            Step::Poll(1, 1, false),
+            Step::Detach(1, Ok(2)),
+        ],
+    ),
+    // A leaving device is neither attached nor detached; the poll that confirms its ticket gives its frames back.
+    (
+        "a device leaves until a poll",
+        Start::Usual,
+        &[
+            Step::Plug(1, OK),
+            Step::Attach(1, Mode::First, OK),
+            Step::Detach(1, Ok(1)),
+            Step::Attach(1, Mode::First, Err(Refusal::AlreadyAttached)),
+            Step::Grant(1, 3, 5, Err(Refusal::NotAttached)),
+            Step::Detach(1, Err(Refusal::NotAttached)),
+            Step::Poll(0, 0, false),
+            Step::Reserved(59, true),
+            Step::Complete(1),
+            Step::Poll(1, 1, false),
+            Step::Free(59, true),
+            Step::Attach(1, Mode::First, OK),
+        ],
+    ),
+    // The number of a leaving device is its own until then: the next device has number 2, and the third 1.
+    (
+        "a number is given back",
+        Start::Usual,
+        &[
+            Step::Plug(1, OK),
+            Step::Attach(1, Mode::First, OK),
+            Step::Plug(2, OK),
+            Step::Plug(3, OK),
+            Step::Detach(1, Ok(1)),
+            Step::Attach(2, Mode::First, OK),
+            Step::Complete(1),
+            Step::Poll(1, 1, false),
+            Step::Attach(3, Mode::First, OK),
+            Step::Words(0x3c050, &[0x2000]),
+            Step::Words(0x3c070, &[0x1000]),
+        ],
+    ),
 ];
 
+// Each step is answered as its run says.
 #[test]
-fn a_detach_writes_three_commands(rt: HostRuntime) {
-    started(&rt, rt.alloc(), &A_DETACH_WRITES_THREE_COMMANDS);
-}
-
-/// What is held, and what lingers, keeps its device.
-static A_DEVICE_WITH_GRANTS_STAYS: [Step; 9] = [
-    Step::Plug(1, OK),
-    Step::Attach(1, Mode::First, OK),
-    Step::Grant(1, 3, 5, OK),
-    Step::Detach(1, Err(Refusal::StillGranted)),
-    Step::Release(1, 3, Ok(1)),
-    Step::Detach(1, Err(Refusal::StillGranted)),
-    Step::Complete(1),
-    Step::Poll(1, 1, false),
-    Step::Detach(1, Ok(2)),
-];
-
-#[test]
-fn a_device_with_grants_stays(rt: HostRuntime) {
-    started(&rt, rt.alloc(), &A_DEVICE_WITH_GRANTS_STAYS);
-}
-
-/// A leaving device is neither attached nor detached; the poll that confirms its ticket gives its frames back.
-static A_DEVICE_LEAVES_UNTIL_A_POLL: [Step; 12] = [
-    Step::Plug(1, OK),
-    Step::Attach(1, Mode::First, OK),
-    Step::Detach(1, Ok(1)),
-    Step::Attach(1, Mode::First, Err(Refusal::AlreadyAttached)),
-    Step::Grant(1, 3, 5, Err(Refusal::NotAttached)),
-    Step::Detach(1, Err(Refusal::NotAttached)),
-    Step::Poll(0, 0, false),
-    Step::Reserved(59, true),
-    Step::Complete(1),
-    Step::Poll(1, 1, false),
-    Step::Free(59, true),
-    Step::Attach(1, Mode::First, OK),
-];
-
-#[test]
-fn a_device_leaves_until_a_poll(rt: HostRuntime) {
-    started(&rt, rt.alloc(), &A_DEVICE_LEAVES_UNTIL_A_POLL);
-}
-
-/// The number of a leaving device is its own until then: the next device has number 2, and the third 1.
-static A_NUMBER_IS_GIVEN_BACK: [Step; 11] = [
-    Step::Plug(1, OK),
-    Step::Attach(1, Mode::First, OK),
-    Step::Plug(2, OK),
-    Step::Plug(3, OK),
-    Step::Detach(1, Ok(1)),
-    Step::Attach(2, Mode::First, OK),
-    Step::Complete(1),
-    Step::Poll(1, 1, false),
-    Step::Attach(3, Mode::First, OK),
-    Step::Words(0x3c050, &[0x2000]),
-    Step::Words(0x3c070, &[0x1000]),
-];
-
-#[test]
-fn a_number_is_given_back(rt: HostRuntime) {
-    started(&rt, rt.alloc(), &A_NUMBER_IS_GIVEN_BACK);
+fn devices_leave(rt: HostRuntime) {
+    follow(&rt, rt.alloc(), &RUNS);
 }

@@ -1,4 +1,4 @@
-use crate::bench::{Step, off};
+use crate::bench::{Run, Start, Step, follow};
 use crate::expect::expect;
 use iom_base::Cause;
 use iom_driver::Driver;
@@ -119,12 +119,20 @@ fn fault_at(address: u64) -> Record {
     Record::new(request, fault)
 }
 
-/// Before the start no fault is told.
-static OFF: [Step; 1] = [Step::FaultsRefused(Refusal::NotStarted)];
+/// Before the start.
+static RUNS: [Run; 1] = [
+    // Before the start no fault is told.
+    (
+        "before the start there are none",
+        Start::Off,
+        &[Step::FaultsRefused(Refusal::NotStarted)],
+    ),
+];
 
+// Each step is answered as its run says.
 #[test]
-fn before_the_start_there_are_none(rt: HostRuntime) {
-    off(&rt, rt.alloc(), &OFF);
+fn no_fault_is_told_before_the_start(rt: HostRuntime) {
+    follow(&rt, rt.alloc(), &RUNS);
 }
 
 // A fault is told once, and the head moves on behind it.

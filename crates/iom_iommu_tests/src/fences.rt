@@ -45,7 +45,8 @@ fn an_interrupt_is_enabled_first(rt: HostRuntime) {
 }
 
 /// Fences that store 7 at 0x5000, without PR (bit 12) and PW (bit 13), with the one, the other, and both. One with PR
-/// waits while a read is in flight, and changes nothing that software sees; then it is done. One without it doesn't wait.
+/// waits while a read is in flight, and changes nothing that software sees; then it is done. One without it doesn't
+/// wait.
 static PLAIN: [Step; 9] = [
     Step::TurnOn(BASE_VALUE),
     Step::Put(0, (0x0000_0007_0000_0402, 0x1400)),

@@ -1,5 +1,5 @@
-// Invalidation requests to devices: the slots that they take, and fences that wait for them (IOMMU specification, section
-// 3.1.4).
+// Invalidation requests to devices: the slots that they take, and fences that wait for them (IOMMU specification,
+// section 3.1.4).
 use crate::bench::{Answer, INVALIDATE, Step, follow};
 use crate::setup::{BASE_VALUE, CQCSR, CQH, CQT, DDTP, DEVICE};
 use iom_iommu::Reply;
@@ -53,8 +53,8 @@ fn a_fence_waits_for_requests(rt: HostRuntime) {
     follow(&rt, rt.alloc(), &[], &EACH);
 }
 
-/// An access that is accepted while a request is open is waited for, though the fence was fetched before it; one that is
-/// accepted once the fence found none open isn't.
+/// An access that is accepted while a request is open is waited for, though the fence was fetched before it; one that
+/// is accepted once the fence found none open isn't.
 static COUNTS: [Step; 17] = [
     Step::TurnOn(BASE_VALUE),
     Step::PutEach(1, INVALIDATE),

@@ -1,8 +1,8 @@
 // The records of faults: the words that they have, their order, and those that are dropped (IOMMU specification,
 // section 3.2).
 //
-// The directory of one level is in the frame 60, with the context of the device: GSCID 1 and PSCID 1, a second stage with
-// its root in the frames 56 to 59, and fsc as it is put there. The fault queue has 128 places in the frame 62.
+// The directory of one level is in the frame 60, with the context of the device: GSCID 1 and PSCID 1, a second stage
+// with its root in the frames 56 to 59, and fsc as it is put there. The fault queue has 128 places in the frame 62.
 use crate::bench::{Step, follow};
 use crate::setup::{DDTP, FQB, FQCSR, FQH, FQT, IPSR};
 use iom_base::Cause;

@@ -76,8 +76,8 @@ fn both_stages_serve(rt: HostRuntime) {
     follow(&rt, rt.alloc(), &WORDS, &THIRD);
 }
 
-/// With this word as fsc, a read at the address goes to this frame after a command, where the second stage's leaf of the
-/// page that is cached was changed in memory before it.
+/// With this word as fsc, a read at the address goes to this frame after a command, where the second stage's leaf of
+/// the page that is cached was changed in memory before it.
 fn goes_after(
     rt: &impl Abort,
     bench: &mut Bench,

@@ -4,8 +4,8 @@ use crate::setup::{BASE_VALUE, CQCSR, CQH, CQT, FENCE};
 use iom_registers::Registers;
 use std::test::Fail;
 
-/// Opcode 5 stops the queue, and this bit of cqcsr says why. Nothing is fetched and no word is stored, whatever stands at
-/// the head, until a 1 is written to that bit; then the command at the head is done.
+/// Opcode 5 stops the queue, and this bit of cqcsr says why. Nothing is fetched and no word is stored, whatever
+/// stands at the head, until a 1 is written to that bit; then the command at the head is done.
 static ILLEGAL: [Step; 12] = [
     Step::TurnOn(BASE_VALUE),
     Step::Put(0, (5, 0)),

@@ -1,7 +1,7 @@
 // A fence that waits for invalidation requests is given up (IOMMU specification, section 3.1.4, and chapter 5, cmd_to).
 //
-// A fence that was given up: `cmd_to` is set and the interrupt pending, no request is open, the head stays at the fence,
-// and its word isn't stored.
+// A fence that was given up: `cmd_to` is set and the interrupt pending, no request is open, the head stays at the
+// fence, and its word isn't stored.
 use crate::bench::{Answer, INVALIDATE, Step, follow};
 use crate::setup::{BASE_VALUE, CQCSR, CQH, CQT, DDTP, DEVICE, FENCE, IPSR};
 use iom_iommu::Reply;

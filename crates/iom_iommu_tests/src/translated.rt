@@ -1,5 +1,5 @@
-// Translated requests of a device, by addresses of memory, and the records of those that are refused (IOMMU specification,
-// sections 2.3 and 3.2).
+// Translated requests of a device, by addresses of memory, and the records of those that are refused (IOMMU
+// specification, sections 2.3 and 3.2).
 use crate::bench::{Step, follow};
 use crate::directories::{CONTEXT, ONE_LEVEL, WORDS};
 use crate::setup::{BASE_VALUE, DDTP, FQB, FQCSR, FQT};

@@ -37,8 +37,8 @@ fn goes_after(rt: &impl Abort, bench: &mut Bench, command: (u64, u64), frame: u3
     bench.follow(rt, &steps);
 }
 
-/// Commands, and where the page goes after them: by the cached leaf where they cover other pages, or other address spaces,
-/// or no translation; and else by the leaf in memory.
+/// Commands, and where the page goes after them: by the cached leaf where they cover other pages, or other address
+/// spaces, or no translation; and else by the leaf in memory.
 static COMMANDS: [((u64, u64), u32); 10] = [
     // IOTINVAL.VMA of the page 4, and of PSCID 2.
     ((0x0000_0001_0000_1401, 0x1000), 32),

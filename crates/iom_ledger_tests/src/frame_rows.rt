@@ -25,8 +25,8 @@ static TWO_PAGES: [Step; 14] = [
 ];
 
 #[test]
-fn a_row_counts_both_grants_of_its_frame(rt: HostRuntime) -> Result<(), Fail> {
-    follow(&rt, rt.alloc(), 64, &TWO_PAGES)
+fn a_row_counts_both_grants_of_its_frame(rt: HostRuntime) {
+    follow(&rt, rt.alloc(), 64, &TWO_PAGES);
 }
 
 /// Of three pages with the frame one is released before all of its device, and one is another device's.
@@ -62,8 +62,8 @@ static THREE_PAGES: [Step; 28] = [
 ];
 
 #[test]
-fn a_release_of_all_counts_each_page_once(rt: HostRuntime) -> Result<(), Fail> {
-    follow(&rt, rt.alloc(), 64, &THREE_PAGES)
+fn a_release_of_all_counts_each_page_once(rt: HostRuntime) {
+    follow(&rt, rt.alloc(), 64, &THREE_PAGES);
 }
 
 /// Rows come with a grant of a frame beyond, up to its own, and stay.
@@ -86,8 +86,8 @@ static OUTSIDE: [Step; 15] = [
 ];
 
 #[test]
-fn a_frame_outside_has_no_row(rt: HostRuntime) -> Result<(), Fail> {
-    follow(&rt, rt.alloc(), 4, &OUTSIDE)
+fn a_frame_outside_has_no_row(rt: HostRuntime) {
+    follow(&rt, rt.alloc(), 4, &OUTSIDE);
 }
 
 /// The row is free or not, and shows its counts.

@@ -151,18 +151,18 @@ fn answers(ledger: &Ledger, step: Step) -> bool {
     }
 }
 
-/// A ledger of so many frames takes the steps.
-pub(crate) fn follow(
-    rt: &impl Abort,
-    alloc: Global,
-    frames: u32,
-    steps: &[Step],
-) -> Result<(), Fail> {
-    let mut ledger = ledger_of(alloc, frames)?;
+fn takes(rt: &impl Abort, ledger: &mut Ledger, steps: &[Step]) {
     for step in steps.iter() {
-        expect(rt, does(&mut ledger, *step));
+        expect(rt, does(ledger, *step));
     }
-    Ok(())
+}
+
+/// A ledger of so many frames takes the steps.
+pub(crate) fn follow(rt: &impl Abort, alloc: Global, frames: u32, steps: &[Step]) {
+    match ledger_of(alloc, frames) {
+        Ok(mut ledger) => takes(rt, &mut ledger, steps),
+        Err(_) => panic!(rt; "out of memory"),
+    }
 }
 
 /// A ledger of no grants, boxed: of what a test owns in place each later proof would carry every part.
@@ -216,8 +216,8 @@ static TWO_DEVICES: [Step; 39] = [
 ];
 
 #[test]
-fn a_frame_of_two_devices_is_free_after_the_last_confirmation(rt: HostRuntime) -> Result<(), Fail> {
-    follow(&rt, rt.alloc(), 4, &TWO_DEVICES)
+fn a_frame_of_two_devices_is_free_after_the_last_confirmation(rt: HostRuntime) {
+    follow(&rt, rt.alloc(), 4, &TWO_DEVICES);
 }
 
 /// What stands at a page.
@@ -543,6 +543,6 @@ static SIX_FRAMES: [Step; 38] = [
 ];
 
 #[test]
-fn the_free_frames_are_those_of_no_row(rt: HostRuntime) -> Result<(), Fail> {
-    follow(&rt, rt.alloc(), 6, &SIX_FRAMES)
+fn the_free_frames_are_those_of_no_row(rt: HostRuntime) {
+    follow(&rt, rt.alloc(), 6, &SIX_FRAMES);
 }

@@ -1,7 +1,6 @@
 // The pages of a device at which it holds something or something lingers.
 use crate::ledger::{Step, follow};
 use iom_base::Rights;
-use std::test::Fail;
 
 /// Pages are listed in the order in which they were granted, whatever their numbers, and one that was released
 /// stays at its place while it lingers. Another device's page isn't among them.
@@ -22,8 +21,8 @@ static LISTED: [Step; 13] = [
 ];
 
 #[test]
-fn pages_are_listed_as_they_were_granted(rt: HostRuntime) -> Result<(), Fail> {
-    follow(&rt, rt.alloc(), 8, &LISTED)
+fn pages_are_listed_as_they_were_granted(rt: HostRuntime) {
+    follow(&rt, rt.alloc(), 8, &LISTED);
 }
 
 /// A page at which nothing lingers any more is listed no longer: the last one takes its place. Granted again, it
@@ -46,6 +45,6 @@ static NO_LONGER: [Step; 14] = [
 ];
 
 #[test]
-fn a_confirmed_page_is_listed_no_longer(rt: HostRuntime) -> Result<(), Fail> {
-    follow(&rt, rt.alloc(), 8, &NO_LONGER)
+fn a_confirmed_page_is_listed_no_longer(rt: HostRuntime) {
+    follow(&rt, rt.alloc(), 8, &NO_LONGER);
 }
