@@ -14,9 +14,10 @@ fn each_drawn_step_in_every_mode_is_lawful(rt: HostRuntime) -> Result<(), Fail> 
     Ok(())
 }
 
+/// One long run: a device in seven is the one in the second stage.
 #[test]
 fn devices_in_every_mode_reach_memory(rt: HostRuntime) -> Result<(), Fail> {
-    let run = Run::drawn(rt.alloc(), Plan::Modes, 1, 2000)?;
+    let run = Run::drawn(rt.alloc(), Plan::Modes, 1, 10_000)?;
     for device in [run.ids.first, run.ids.other, run.ids.raw] {
         let made = count_made(&run.steps, device);
         assert!(rt; made > 20, "device {device}");
