@@ -14,7 +14,7 @@ fn each_drawn_step_in_every_mode_is_lawful(rt: HostRuntime) -> Result<(), Fail> 
     Ok(())
 }
 
-/// One long run: a device in seven is the one in the second stage.
+/// One long run: few of the drawn tables of a guest lead anywhere.
 #[test]
 fn devices_in_every_mode_reach_memory(rt: HostRuntime) -> Result<(), Fail> {
     let run = Run::drawn(rt.alloc(), Plan::Modes, 1, 10_000)?;

@@ -308,9 +308,10 @@ impl Run {
         }
     }
 
-    /// A drawn event.
+    /// A drawn event. Where no device has a cache, a guest's tables are written more often.
     fn go_on(&mut self, draw: &mut Draw, own: u64) -> Result<(), Fail> {
-        if draw.below(10) == 0 {
+        let others = if self.plan == Plan::Modes { 6 } else { 10 };
+        if draw.below(others) == 0 {
             return self.poke(draw);
         }
         if self.plan == Plan::Lifecycle {
