@@ -310,8 +310,12 @@ impl Run {
 
     /// A drawn event. Where no device has a cache, a guest's tables are written more often.
     fn go_on(&mut self, draw: &mut Draw, own: u64) -> Result<(), Fail> {
-        let others = if self.plan == Plan::Modes { 6 } else { 10 };
-        if draw.below(others) == 0 {
+        let drawn = if self.plan == Plan::Modes {
+            draw.below(6)
+        } else {
+            draw.below(10)
+        };
+        if drawn == 0 {
             return self.poke(draw);
         }
         if self.plan == Plan::Lifecycle {
