@@ -33,8 +33,7 @@ use Rattle.iom_device.specs.Caches.{device_with, kind_in, cache_of, epoch_in, wi
 use Rattle.iom_composition.specs.Devices.{shown_devices}
 use Rattle.iom_composition.specs.Parts.{Parts}
 use Rattle.iom_composition.specs.Read.{values_of}
-use Rattle.iom_device.specs.Calls.{reset_of}
-use Rattle.iom_composition.specs.Recovery.{with_reset}
+use Rattle.iom_device.specs.Calls.{reset_of, with_reset}
 use Rattle.iom_composition.specs.Requests.{reply_told_of}
 use Rattle.iom_composition.specs.Scenes.{Values, HasFaithfulScene}
 use Rattle.iom_composition.specs.Sound.{AreSound}

@@ -22,8 +22,8 @@ use Rattle.iom_device.specs.Caches.{device_with, kind_in, cache_in, cache_of, ep
 use Rattle.iom_composition.specs.Stays.{SameIfRefused, waiting_in}
 use Rattle.iom_composition.specs.Parts.{Parts}
 use Rattle.iom_composition.specs.Read.{values_of}
-use Rattle.iom_device.specs.Calls.{reset_of}
-use Rattle.iom_composition.specs.Recovery.{with_reset, ResetsDevice}
+use Rattle.iom_device.specs.Calls.{reset_of, with_reset}
+use Rattle.iom_composition.specs.Recovery.{ResetsDevice}
 use Rattle.iom_composition.specs.Shows.{PartsShow}
 use Rattle.iom_composition.specs.Sound.{AreSound, AreKnown, HaveOwnIds, known_ids}
 use Rattle.iom_composition.specs.Traffic.{entries_by, entries_in, traffic_of}

@@ -28,8 +28,8 @@ use Rattle.iom_device.specs.Caches.{cache_of, device_with, epoch_in, kind_in}
 use Rattle.iom_composition.specs.Devices.{shown_attachment}
 use Rattle.iom_composition.specs.Parts.{Parts}
 use Rattle.iom_composition.specs.Read.{values_of, accesses_of}
-use Rattle.iom_device.specs.Calls.{reset_of}
-use Rattle.iom_composition.specs.Recovery.{with_reset, devices_revived, RevivesDevice}
+use Rattle.iom_device.specs.Calls.{reset_of, with_reset, devices_revived}
+use Rattle.iom_composition.specs.Recovery.{RevivesDevice}
 use Rattle.iom_composition.specs.Sound.{AreSound, known_ids}
 use Rattle.iom_composition.specs.Traffic.{entries_in, traffic_of}
 use Rattle.iom_composition.proofs.CacheSets.{kind_set}
@@ -150,12 +150,3 @@ keeps_revived old new events id told sound own ready below revives = by revives.
     by : (answer : Result (Unit {0}) Refusal) → AnswersRevive old.driver old.memory id answer new.driver new.memory → new.devices ≡ devices_revived answer old.devices id → AreSound new events
     by (Ok done) (admitted, writes) devices = revived_sound old new events id sound own ready below admitted writes devices revives.iommu revives.fabric
     by (Err why) (refused, driver_stays, memory_stays) devices = rw (memory_stays, revives.iommu, driver_stays, devices, revives.fabric) sound
-
--- a device that may be revived is reset, whatever the driver answers then
-pub devices_then : (d d' : DriverState) (memory memory' : List (List ℕ)) (id : ℕ) (answer : Result (Unit {0}) Refusal) (devices : List Device) → NoneApplies (why_not_revive d id)
-    → AnswersRevive d memory id answer d' memory' → with_reset devices id ≡ devices_revived answer devices id
-devices_then d d' memory memory' id (Ok done) devices admitted call = refl
-devices_then d d' memory memory' id (Err why) devices admitted call = absurd (none_some (sym admitted ∙ call.0))
-  where
-    none_some : ◌≡◌ {A = Option Refusal} None (Some why) → ⊥
-    none_some same = cc

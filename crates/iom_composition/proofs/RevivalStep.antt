@@ -31,8 +31,8 @@ use Rattle.iom_composition.specs.Devices.{shown_attachment}
 use Rattle.iom_composition.specs.Stays.{AreSame, SameIfRefused, waiting_in}
 use Rattle.iom_composition.specs.OwnIommu.{Iommu}
 use Rattle.iom_composition.specs.Parts.{Parts}
-use Rattle.iom_device.specs.Calls.{reset_of}
-use Rattle.iom_composition.specs.Recovery.{with_reset, devices_revived, RevivesDevice}
+use Rattle.iom_device.specs.Calls.{reset_of, with_reset, devices_revived}
+use Rattle.iom_composition.specs.Recovery.{RevivesDevice}
 use Rattle.iom_composition.specs.Shows.{PartsShow}
 use Rattle.iom_composition.specs.Sound.{AreSound}
 use Rattle.iom_composition.proofs.CacheSets as caches

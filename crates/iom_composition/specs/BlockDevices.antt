@@ -20,9 +20,9 @@ use Rattle.iom_virtqueue.specs.declared.layout.Layout.{Layout}
 use Rattle.iom_virtqueue.specs.Layouts.{IsLayout}
 use Rattle.iom_device.specs.declared.device.Device.{Device}
 use Rattle.iom_device.specs.Caches.{IsAble, device_with, epoch_in, kind_in, with_has_disk}
+use Rattle.iom_device.specs.Calls.{with_reset}
 use Rattle.iom_composition.specs.Messages.{with_sent}
 use Rattle.iom_composition.specs.Parts.{Parts}
-use Rattle.iom_composition.specs.Recovery.{with_reset}
 use Rattle.iom_composition.specs.Requests.{AsksAccess}
 use Rattle.iom_composition.specs.ThroughCache.{AsksThroughCache}
 use Rattle.iom_composition.specs.Unable.{IsUnknown, IsUnable}

@@ -1,6 +1,6 @@
 -- What is done about a device that doesn't answer: it is cut off, and attached again once its ticket is confirmed; a fence that waits for it is given up; and
--- the command queue is emptied, and filled with what is still needed. And what a reset does to a device's own cache.
-use Rattle.std.specs.Prelude.{◌≡◌, ◌⊎◌, ℕ, Bool, List, Result, Ok, Err, if◌then◌else◌}
+-- the command queue is emptied, and filled with what is still needed. And a reset.
+use Rattle.std.specs.Prelude.{◌≡◌, ◌⊎◌, ℕ, Bool, Result, if◌then◌else◌}
 use Rattle.iom_driver.specs.declared.answers.Ticket.{Ticket}
 use Rattle.iom_driver.specs.Quarantines.{AnswersQuarantine}
 use Rattle.iom_driver.specs.Restarts.{AnswersRestart}
@@ -11,10 +11,9 @@ use Rattle.iom_ledger.specs.declared.refusal.Refusal.{Refusal}
 use Rattle.iom_machine.specs.declared.outcome.Outcome.{Outcome}
 use Rattle.iom_machine.specs.declared.outcome.Outcome.TheVariants as outcome
 use Rattle.iom_machine.specs.Kinds.{is_any_kind}
-use Rattle.iom_device.specs.Calls.{reset_of}
-use Rattle.iom_device.specs.declared.device.Device.{Device}
+use Rattle.iom_device.specs.Calls.{devices_revived, with_reset}
 use Rattle.iom_composition.specs.Answers.{told_of, ticket_told_of}
-use Rattle.iom_device.specs.Caches.{IsAble, cache_of, with_cache}
+use Rattle.iom_device.specs.Caches.{IsAble}
 use Rattle.iom_composition.specs.Parts.{Parts}
 use Rattle.iom_composition.specs.Unable.{IsUnknown}
 
@@ -25,15 +24,6 @@ pub record QuarantinesDevice (old : Parts) (id : ℕ) (told : Outcome) (new : Pa
   pub call : AnswersQuarantine mmio old.driver old.memory old.iommu id answer new.driver new.memory new.iommu
   pub devices : new.devices ≡ old.devices
   pub fabric : new.fabric ≡ old.fabric
-
--- the devices after a reset of the one with this id
-abbrev pub with_reset : List Device → ℕ → List Device
-with_reset devices id = with_cache devices id (reset_of (cache_of devices id))
-
--- the device is reset, unless its revival was refused
-abbrev pub devices_revived : Result (Unit {0}) Refusal → List Device → ℕ → List Device
-devices_revived (Ok done) devices id = with_reset devices id
-devices_revived (Err why) devices id = devices
 
 -- A DEVICE THAT WAS CUT OFF is attached again, and reset
 pub record RevivesDevice (old : Parts) (id : ℕ) (told : Outcome) (new : Parts) : Type 0 where

@@ -1,11 +1,14 @@
 -- What a device does with its own cache of translations: it has one from the plug on, empties it at a reset, and obeys requests to invalidate.
-use Rattle.std.specs.Prelude.{◌≡◌, ℕ, ◌+◌, [], Option, None, Some, if◌then◌else◌}
+use Rattle.std.specs.Prelude.{◌≡◌, ℕ, ◌+◌, List, [], Option, None, Some, Result, Ok, Err, if◌then◌else◌}
 use Rattle.iom_ats_cache.specs.Cache.{Cache, empty_cache}
 use Rattle.iom_ats_cache.specs.Calls.{Invalidates}
 use Rattle.iom_fabric.specs.declared.message.Message.{Message}
 use Rattle.iom_fabric.specs.declared.message.Range.{Range}
+use Rattle.iom_ledger.specs.declared.refusal.Refusal.{Refusal}
 use Rattle.iom_machine.specs.declared.state.DeviceKind.{DeviceKind}
 use Rattle.iom_machine.specs.Refusals.{has_cache}
+use Rattle.iom_device.specs.declared.device.Device.{Device}
+use Rattle.iom_device.specs.Caches.{cache_of, with_cache}
 
 -- the cache of a device of this kind that is plugged in, if it has one
 abbrev pub new_cache : DeviceKind → Option Cache
@@ -15,6 +18,15 @@ new_cache kind = if has_cache kind then Some empty_cache else None
 abbrev pub reset_of : Option Cache → Option Cache
 reset_of None = None
 reset_of (Some cache) = Some (record { epoch = cache.epoch + 1; entries = [] })
+
+-- the devices after a reset of the one with this id
+abbrev pub with_reset : List Device → ℕ → List Device
+with_reset devices id = with_cache devices id (reset_of (cache_of devices id))
+
+-- the device is reset, unless its revival was refused
+abbrev pub devices_revived : Result (Unit {0}) Refusal → List Device → ℕ → List Device
+devices_revived (Ok done) devices id = with_reset devices id
+devices_revived (Err why) devices id = devices
 
 -- A DEVICE OBEYS a request to invalidate, where it has a cache, and ignores it else: its word that it is done, and its cache then
 abbrev pub Obeys : Option Cache → (serial : ℕ) → Range → Option Message → Option Cache → Type 0

@@ -2,8 +2,8 @@
 ghost use Rattle.std.specs.Prelude.{◌≡◌, ◌+◌, ◌<◌, ◌^◌, None, MatchOption, is_some};
 ghost use Rattle.std.specs.Option.{option_and_then};
 ghost use Rattle.iom_ats_cache.specs.Cache.{Cache, frame_for};
-ghost use Rattle.iom_device.specs.Caches.{epoch_of, device_with, IsPlaceOf};
-ghost use Rattle.iom_device.specs.Calls.{Obeys, new_cache, reset_of};
+ghost use Rattle.iom_device.specs.Caches.{epoch_of, epoch_in, device_with, IsPlaceOf};
+ghost use Rattle.iom_device.specs.Calls.{Obeys, new_cache, reset_of, with_reset};
 
 use iom_ats_cache::Atc;
 use iom_base::{AccessKind, DeviceId};
@@ -42,6 +42,16 @@ pub fn place_of(devices: &[Device], id: DeviceId) -> Option<usize>
         }
     }
     None
+}
+
+/// The device with this id is reset, if there is one.
+pub fn reset(devices: &mut Vec<Device>, id: DeviceId)
+    requires { epoch_in devices.old.items id + 1 < 2 ^ 64 }
+    ensures { devices.new.items ≡ with_reset devices.old.items id }
+{
+    if let Some(place) = place_of(devices, id) {
+        devices[place].reset();
+    }
 }
 
 impl Device {

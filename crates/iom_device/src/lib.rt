@@ -8,4 +8,4 @@
 
 mod device;
 
-pub use device::{Device, place_of};
+pub use device::{Device, place_of, reset};

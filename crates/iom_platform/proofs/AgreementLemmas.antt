@@ -15,8 +15,7 @@ use Rattle.iom_composition.specs.BlockDevices.{devices_left}
 use Rattle.iom_device.specs.Caches.{cache_of, kind_in, with_has_disk}
 use Rattle.iom_world.specs.Happens.{Happens}
 use Rattle.iom_composition.specs.Parts.{Parts}
-use Rattle.iom_device.specs.Calls.{reset_of}
-use Rattle.iom_composition.specs.Recovery.{with_reset}
+use Rattle.iom_device.specs.Calls.{reset_of, with_reset}
 use Rattle.iom_composition.specs.Sound.{HaveOwnIds}
 use Rattle.iom_world.specs.Seen.{parts_of, disks_of}
 use Rattle.iom_platform.specs.declared.block.Block.{Block}

@@ -18,8 +18,7 @@ use Rattle.iom_device.specs.Caches.{kind_in, cache_of, with_cache}
 use Rattle.iom_composition.specs.Deliveries.{Arrives, ArrivesIfAny}
 use Rattle.iom_composition.specs.Does.{Does, disks_after}
 use Rattle.iom_composition.specs.Parts.{Parts}
-use Rattle.iom_composition.specs.Recovery.{devices_revived}
-use Rattle.iom_device.specs.Calls.{reset_of}
+use Rattle.iom_device.specs.Calls.{reset_of, devices_revived}
 use Rattle.iom_composition.specs.Requests.{AsksAccess, AsksTranslated}
 use Rattle.iom_composition.specs.ThroughCache.{AsksThroughCache, FindsFrame, cached_frame}
 use Rattle.iom_platform.specs.Agreement.{known_blocks}

@@ -18,13 +18,12 @@ ghost use Rattle.iom_world.specs.Seen.{parts_of, disks_of};
 ghost use Rattle.iom_world.specs.Told.{outcome_of};
 
 use crate::disks::{is_among, take_out};
-use crate::recovery::reset;
 use crate::sender::Sender;
 use crate::told::Told;
 use crate::world::World;
 use iom_base::{AccessKind, DeviceId, PAGE_SIZE};
 use iom_composition::laws_below;
-use iom_device::{Device, place_of};
+use iom_device::{Device, place_of, reset};
 use iom_driver::Ticket;
 use iom_fabric::{Message, PageNumber};
 use iom_ledger::Refusal;

@@ -2,25 +2,16 @@
 ghost use Rattle.std.specs.Prelude.{◌≡◌, ◌+◌, ◌<◌, ◌^◌, ℕ, if◌then◌else◌};
 ghost use Rattle.iom_machine.specs.declared.outcome.Outcome.TheVariants as outcome;
 ghost use Rattle.iom_device.specs.Caches.{epoch_in};
-ghost use Rattle.iom_composition.specs.Recovery.{with_reset, QuarantinesDevice, RevivesDevice, RestartsQueue, TimesOutFence, ResetsDevice};
+ghost use Rattle.iom_composition.specs.Recovery.{QuarantinesDevice, RevivesDevice, RestartsQueue, TimesOutFence, ResetsDevice};
 ghost use Rattle.iom_world.specs.Seen.{parts_of, disks_of};
 ghost use Rattle.iom_world.specs.Told.{outcome_of};
 
 use crate::told::Told;
 use crate::world::World;
 use iom_base::DeviceId;
-use iom_device::{Device, place_of};
+use iom_device::reset;
 use iom_ledger::Refusal;
-
-/// The device with this id is reset, if there is one.
-pub(crate) fn reset(devices: &mut Vec<Device>, id: DeviceId)
-    requires { epoch_in devices.old.items id + 1 < 2 ^ 64 }
-    ensures { devices.new.items ≡ with_reset devices.old.items id }
-{
-    if let Some(place) = place_of(devices, id) {
-        devices[place].reset();
-    }
-}
+use iom_revival::revive;
 
 impl Told {
     /// What a timeout is told as.
@@ -57,11 +48,8 @@ impl World {
         ensures disks { disks_of self.new ≡ disks_of self.old }
         ensures events { self.new.events ≡ self.old.events }
     {
-        if let Err(why) = self.driver.may_revive(id) {
-            return Told::Refused(why);
-        }
-        reset(&mut self.devices, id);
-        Told::of(self.driver.revive(&mut self.memory, id))
+        let answer = revive(&mut self.driver, &mut self.memory, &mut self.devices, id);
+        Told::of(answer)
     }
 
     /// The command queue is emptied, and filled with what is still needed.

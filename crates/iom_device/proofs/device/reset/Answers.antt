@@ -3,7 +3,7 @@ use Rattle.iom_device.specs.declared.device.Device.{Device}
 use Rattle.iom_device.specs.Caches.{cache_of, device_with}
 use Rattle.iom_device.specs.Calls.{reset_of}
 use Rattle.iom_device.proofs.CachePlaces.{with_none}
-use Rattle.iom_world.proofs.recovery.reset.Goals as goal
+use Rattle.iom_device.proofs.device.reset.Goals as goal
 
 pub returns-in_default : goal.returns-in_default
 returns-in_default c =
