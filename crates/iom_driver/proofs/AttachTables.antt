@@ -64,10 +64,3 @@ tables_attached memory memory' marks marks' ledger devices id stage tables plugg
       | inr was ↦ tables_stay memory memory' marks marks' ledger ledger other found.mode found.root (tables other found (sym (ap owned_stages was.1) ∙ at))
           (λ n mark. kept n other mark) (λ page. refl)
     ]
-
--- a device that is there and owns nothing may be attached, where the directory can name it
-pub may_attach : (d : DriverState) (id : ℕ) (ats : Bool) → d.started ≡ true → is_plugged d.devices id ≡ true → owned_stages_of d.devices id ≡ None → id < id_limit d.levels
-    → (ats && not (is_trusted d.devices id)) ≡ false → NoneApplies (why_not_attach d id ats)
-may_attach d id ats runs plugged none narrow trusted =
-    let test : nat_le (id_limit d.levels) id ≡ false = lt-leb (id_limit d.levels) id narrow in
-    rw (runs, plugged, none, test, trusted) refl

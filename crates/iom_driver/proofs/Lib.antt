@@ -9,6 +9,7 @@ pub mod Gone
 pub mod GoneMore
 pub mod Openings
 pub mod Ring
+pub mod Appended
 pub mod Marks
 pub mod Directories
 pub mod Modes
@@ -20,6 +21,7 @@ pub mod Chosen
 pub mod Taken
 pub mod Keeps
 pub mod AttachTables
+pub mod AttachReasons
 pub mod AttachRoots
 pub mod AttachDirectory
 pub mod GrantTables
