@@ -50,3 +50,24 @@ pub other_frames : (r : Registers) (memory memory' : List (List ℕ)) (command :
 other_frames r memory memory' command ring written n apart =
     let below : command_tail r < command_entries r = subst (λ m. r.cqt % m < m) (sym ring.entries) (mod-lt r.cqt (omega arith)) in
     written.other_frames n (λ same. apart (same ∙ in_ring r (length memory) (command_tail r) ring below))
+
+-- what stays, whatever is appended
+pub record GoesOn (r r' : Registers) (memory memory' : List (List ℕ)) : Type 0 where
+  pub named : KeepsDirectory r r'
+  pub faults : KeepsFaults r r'
+  pub other_frames : (n : ℕ) → n ≢ command_frame (length memory) → slice_get memory' n ≡ slice_get memory n
+  pub size : length memory' ≡ length memory
+
+-- first by one, and then by another
+pub goes_on : (r r' r'' : Registers) (memory memory' memory'' : List (List ℕ)) → GoesOn r r' memory memory' → GoesOn r' r'' memory' memory'' → GoesOn r r'' memory memory''
+goes_on r r' r'' memory memory' memory'' first second = record {
+  named = (second.named.0 ∙ first.named.0, second.named.1 ∙ first.named.1);
+  faults = record {
+    on = second.faults.on ∙ first.faults.on;
+    base = second.faults.base ∙ first.faults.base;
+    head = second.faults.head ∙ first.faults.head;
+    tail = second.faults.tail ∙ first.faults.tail;
+  };
+  other_frames = λ n apart. second.other_frames n (subst (λ k. n ≢ command_frame k) (sym first.size) apart) ∙ first.other_frames n apart;
+  size = second.size ∙ first.size;
+}

@@ -1,4 +1,5 @@
 pub mod Lists
+pub mod Told
 pub mod Places
 pub mod Ids
 pub mod Numbers

@@ -1,9 +1,7 @@
-use Rattle.std.proofs.Common.{◌≡◌, ◌⊎◌, ◌∙◌, ℕ, Bool, List, length, Some, None, refl, sym, ap, subst}
+use Rattle.std.proofs.Common.{◌≡◌, ◌⊎◌, ◌∙◌, ℕ, List, length, None, refl, sym, ap, subst}
 use Rattle.iom_base.specs.declared.mode.Mode.{Mode}
 use Rattle.iom_directory.specs.Pages.{root_level, missing_pages}
-use Rattle.iom_ledger.specs.declared.refusal.Refusal.{Refusal}
 use Rattle.iom_ledger.specs.declared.refusal.Refusal.TheVariants.{NoFrames}
-use Rattle.iom_ledger.specs.Refusals.{first_that_applies, NoneApplies, IsRefusedBy}
 use Rattle.iom_table_frames.specs.Marks.{HasFree}
 use Rattle.iom_driver.specs.Attaching.{NoRootBelow, LacksRoot, lacking_pages, limit_below}
 use Rattle.iom_driver.specs.Choices.{AreHighestFree}
@@ -13,6 +11,7 @@ use Rattle.iom_driver.specs.Reasons.{why_not_attach}
 use Rattle.iom_driver.specs.Seen.{state_of}
 use Rattle.iom_driver.specs.State.{DriverState}
 use Rattle.iom_driver.specs.declared.device.Device.{Device}
+use Rattle.iom_driver.proofs.Told.{first_told, none_told}
 use Rattle.iom_driver.proofs.driver.Driver.attach.Goals as goal
 
 -- where too few frames are free, for as many pages as the directory lacks
@@ -23,14 +22,6 @@ lacks d memory id mode frames lacking many is none =
     let too_few : ℕ → ℕ → Type 0 =
     λ l f. (¬ HasFree d.marks d.ledger None l f) ⊎ ((few : List ℕ) × AreHighestFree d.marks d.ledger None f l few × NoRootBelow mode d (limit_below f few)) in
     subst (λ f. too_few (lacking_pages d memory id) f) many (subst (λ l. too_few l frames) is none)
-
--- a reason that applies is the one that is told
-first_told : (reasons : List (Bool × Refusal)) (may : Refusal → Type 0) (why : Refusal) → first_that_applies reasons ≡ Some why → IsRefusedBy reasons may why
-first_told reasons may why first = rw first refl
-
--- one that may come comes where none applies
-none_told : (reasons : List (Bool × Refusal)) (may : Refusal → Type 0) (why : Refusal) → NoneApplies reasons → may why → IsRefusedBy reasons may why
-none_told reasons may why none comes = rw none comes
 
 pub returns-in-Err-clause-effect : goal.returns-in-Err-clause-effect
 returns-in-Err-clause-effect c =
