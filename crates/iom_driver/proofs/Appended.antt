@@ -12,6 +12,7 @@ use Rattle.iom_registers.proofs.Modulo.{twice, next_below}
 use Rattle.iom_driver.specs.Directory.{KeepsDirectory}
 use Rattle.iom_driver.specs.Layout.{command_frame}
 use Rattle.iom_driver.specs.Ready.{IsRing, KeepsFaults}
+use Rattle.iom_driver.proofs.Again.{faults_through, named_through}
 use Rattle.iom_driver.proofs.Ring.{in_ring}
 
 -- the registers, once the tail moved on
@@ -61,13 +62,8 @@ pub record GoesOn (r r' : Registers) (memory memory' : List (List ℕ)) : Type 0
 -- first by one, and then by another
 pub goes_on : (r r' r'' : Registers) (memory memory' memory'' : List (List ℕ)) → GoesOn r r' memory memory' → GoesOn r' r'' memory' memory'' → GoesOn r r'' memory memory''
 goes_on r r' r'' memory memory' memory'' first second = record {
-  named = (second.named.0 ∙ first.named.0, second.named.1 ∙ first.named.1);
-  faults = record {
-    on = second.faults.on ∙ first.faults.on;
-    base = second.faults.base ∙ first.faults.base;
-    head = second.faults.head ∙ first.faults.head;
-    tail = second.faults.tail ∙ first.faults.tail;
-  };
+  named = named_through r r' r'' first.named second.named;
+  faults = faults_through r r' r'' first.faults second.faults;
   other_frames = λ n apart. second.other_frames n (subst (λ k. n ≢ command_frame k) (sym first.size) apart) ∙ first.other_frames n apart;
   size = second.size ∙ first.size;
 }
