@@ -1,5 +1,5 @@
 -- What appending a command leaves of the registers and of memory: the tail moves on by one, and bytes change in the ring's frame alone.
-use Rattle.std.proofs.Common.{◌≡◌, ◌≢◌, ◌+◌, ◌-◌, ◌*◌, ◌/◌, ◌%◌, ◌<◌, ◌≤◌, ◌∙◌, ℕ, inl, inr, List, length, slice_get, refl, sym, ap, subst, arith}
+use Rattle.std.proofs.Common.{◌≡◌, ◌≢◌, ◌+◌, ◌%◌, ◌<◌, ◌∙◌, ℕ, inl, inr, List, length, slice_get, refl, sym, ap, subst, arith}
 use Rattle.std.proofs.Math.Nat.{mod-lt}
 use Rattle.std.proofs.lemmas.Bool.Decides.{eqb_tells, nat_tests}
 use Rattle.iom_command_queue.specs.declared.command.Command.{Command}

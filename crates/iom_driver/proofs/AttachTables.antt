@@ -1,11 +1,9 @@
 -- The tables of the devices when one more is attached.
-use Rattle.std.proofs.Common.{◌≡◌, ◌<◌, ◌∙◌, ◌&&◌, not, inl, inr, ℕ, Bool, List, [], ◌∷◌, Option, Some, None, option_map, slice_get, refl, sym, ap, subst, true, false, nat_le}
-use Rattle.std.proofs.lemmas.Bool.{lt-leb}
+use Rattle.std.proofs.Common.{◌≡◌, ◌∙◌, inl, inr, ℕ, List, [], ◌∷◌, Option, Some, None, option_map, slice_get, refl, sym, ap, subst, true}
 use Rattle.iom_base.specs.declared.mode.Mode.{Mode}
 use Rattle.iom_base.specs.declared.owner.Owner.{Owner}
 use Rattle.iom_base.specs.declared.owner.Owner.TheVariants.{OneDevice}
 use Rattle.iom_ledger.specs.declared.ledger.Ledger.{Ledger}
-use Rattle.iom_ledger.specs.Refusals.{NoneApplies}
 use Rattle.iom_ledger.specs.Shown.{held_in}
 use Rattle.iom_page_table.proofs.Stays.{root_tree, zeroed_frames, zeroed_leaves}
 use Rattle.iom_page_table.proofs.Words.{zero_entry}
@@ -16,10 +14,7 @@ use Rattle.iom_driver.specs.declared.device.Device.{Device}
 use Rattle.iom_driver.specs.declared.device.Stages.{Stages}
 use Rattle.iom_driver.specs.Admitted.{IsAligned}
 use Rattle.iom_driver.specs.Attaching.{root_frames}
-use Rattle.iom_driver.specs.Devices.{owned_stages, owned_stages_of, is_plugged, is_trusted, with_attachment}
-use Rattle.iom_driver.specs.Layout.{id_limit}
-use Rattle.iom_driver.specs.Reasons.{why_not_attach}
-use Rattle.iom_driver.specs.State.{DriverState}
+use Rattle.iom_driver.specs.Devices.{owned_stages, is_plugged, with_attachment}
 use Rattle.iom_driver.specs.Tables.{AreTablesOf, HaveTables, leaf_for}
 use Rattle.iom_driver.proofs.Keeps.{set_or_other}
 use Rattle.iom_driver.proofs.Marks.{Among}

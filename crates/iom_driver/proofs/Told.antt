@@ -1,5 +1,5 @@
 -- The refusal that a call tells: the first reason that applies, reason by reason.
-use Rattle.std.proofs.Common.{◌≡◌, ◌≢◌, ◌<◌, ◌≤◌, ◌+◌, ◌-◌, ◌∙◌, ℕ, Bool, true, false, List, [], ◌∷◌, Option, Some, None, nat_le, refl, subst, arith}
+use Rattle.std.proofs.Common.{◌≡◌, ◌≢◌, ◌<◌, ◌≤◌, ◌+◌, ◌-◌, ℕ, Bool, true, false, List, [], ◌∷◌, Some, nat_le, refl, subst, arith}
 use Rattle.std.proofs.lemmas.Bool.{leb-false, le-leb, lt-leb}
 use Rattle.iom_command_queue.specs.Waiting.{how_many}
 use Rattle.iom_ledger.specs.declared.refusal.Refusal.{Refusal}

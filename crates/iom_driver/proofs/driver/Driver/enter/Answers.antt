@@ -1,7 +1,6 @@
-use Rattle.std.proofs.Common.{◌≡◌, ◌≢◌, ◌<◌, ◌≤◌, ◌++◌, ◌∙◌, ℕ, List, length, Option, Some, None, Ok, slice_get, slice_set, get_or, refl, sym, ap, subst, arith}
+use Rattle.std.proofs.Common.{◌≡◌, ◌<◌, ◌≤◌, ◌++◌, ◌∙◌, ℕ, List, length, Option, None, Ok, slice_get, slice_set, get_or, refl, sym, ap, subst, arith}
 use Rattle.iom_base.specs.declared.owner.Owner.{Owner}
 use Rattle.iom_base.specs.declared.owner.Owner.TheVariants.{System, OneDevice}
-use Rattle.iom_device_dir.specs.declared.context.Context.{Context}
 use Rattle.iom_device_dir.specs.Paths.{ids_below}
 use Rattle.iom_directory.specs.Pages.{root_level, missing_pages}
 use Rattle.iom_directory.specs.Written.{hung}
@@ -9,10 +8,9 @@ use Rattle.iom_driver.specs.declared.device.Attachment.TheVariants.{Attached}
 use Rattle.iom_driver.specs.declared.device.Device.{Device}
 use Rattle.iom_driver.specs.declared.device.Stages.{Stages}
 use Rattle.iom_driver.specs.declared.driver.Driver.{Driver}
-use Rattle.iom_driver.specs.Attaching.{IsRootBelow, root_frames, limit_below, lacking_pages}
+use Rattle.iom_driver.specs.Attaching.{IsRootBelow, root_frames, limit_below}
 use Rattle.iom_driver.specs.Choices.{AreHighestFree, marked_for, cleared}
 use Rattle.iom_driver.specs.Devices.{attachment_of, with_attachment}
-use Rattle.iom_driver.specs.Directory.{context_for}
 use Rattle.iom_driver.specs.Entering.{MayEnter}
 use Rattle.iom_driver.specs.Layout.{directory_frame, fault_frame}
 use Rattle.iom_driver.specs.Places.{IsPlaceOf}
