@@ -1,4 +1,4 @@
-use Rattle.std.proofs.Common.{◌≡◌, ◌∙◌, ℕ, List, ◌∷◌, true, false, Option, Some, Result, Ok, Err, OnOk, OnErr, length, slice_get, get_or, ◌<◌, refl, sym, ap, subst}
+use Rattle.std.proofs.Common.{◌≡◌, ◌∙◌, ℕ, List, ◌∷◌, true, false, Option, Some, Result, Ok, Err, OnOk, OnErr, length, slice_get, get_or, ◌<◌, ◌≤◌, refl, sym, ap, subst}
 use Rattle.std.specs.Result.{is_err}
 use Rattle.std.proofs.lemmas.Bool.{false≢true}
 use Rattle.iom_base.specs.declared.owner.Owner.{Owner}
@@ -25,7 +25,7 @@ use Rattle.iom_driver.specs.State.{DriverState}
 use Rattle.iom_driver.specs.Tables.{HaveTables}
 use Rattle.iom_driver.proofs.Chosen.{AreChosen, are_chosen, enough}
 use Rattle.iom_driver.proofs.Directories.{directory_stay, in_stands, stands_in}
-use Rattle.iom_driver.proofs.GrantTables.{may_be_mapped, IsMapped, mapped_is, others_kept, kept_others, tables_granted}
+use Rattle.iom_driver.proofs.GrantTables.{missing_two, may_be_mapped, IsMapped, mapped_is, others_kept, kept_others, tables_granted}
 use Rattle.iom_driver.proofs.Keeps.{sound_granted}
 use Rattle.iom_driver.proofs.Marks.{length-cleared, length-marked_for, mark_stays}
 use Rattle.iom_driver.proofs.Places.{attached_owns}
@@ -110,6 +110,9 @@ returns-in_default c =
       stand = c.requires.stand;
       ready = λ r ready. ready;
     }
+
+pub choose-requires : goal.choose-requires
+choose-requires c = subst (λ n. n ≤ 2) (sym c.missing-lacking.ensures) (missing_two c.args.memory.now c.in-Ok.stage.root c.args.page)
 
 pub grant-requires : goal.grant-requires
 grant-requires c = record {
