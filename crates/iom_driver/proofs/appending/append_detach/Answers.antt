@@ -1,10 +1,45 @@
-use Rattle.std.proofs.Common.{◌≡◌, ◌≢◌, ◌∙◌, ℕ, slice_get, refl, ap, subst}
+use Rattle.std.proofs.Common.{◌≡◌, ◌≢◌, ◌+◌, ◌<◌, ◌≤◌, ◌∙◌, ℕ, length, slice_get, refl, sym, ap, subst, arith}
 use Rattle.iom_command_queue.specs.declared.command.Command.{Command}
+use Rattle.iom_command_queue.specs.Waiting.{how_many}
 use Rattle.iom_driver.specs.Appends.{Appends, fence}
 use Rattle.iom_driver.specs.Layout.{command_frame}
 use Rattle.iom_driver.specs.Ready.{IsRing}
 use Rattle.iom_driver.proofs.Appended.{GoesOn, goes_on}
 use Rattle.iom_driver.proofs.appending.append_detach.Goals as goal
+
+pub append-requires : goal.append-requires
+append-requires g c =
+    let r = g.M.Mmio.registers c.args.io.now in
+    let room : how_many r + 3 < 256 = c.requires.room in
+    record {
+      many = subst (λ n. 64 ≤ n) (sym c.requires.frames) c.requires.many;
+      ring = subst (λ n. IsRing n r) (sym c.requires.frames) c.requires.ring;
+      room = omega (arith, room);
+    }
+
+pub append-requires-2 : goal.append-requires-2
+append-requires-2 g c =
+    let r1 = g.M.Mmio.registers c.append.new.io in
+    let room : how_many (g.M.Mmio.registers c.args.io.now) + 3 < 256 = c.requires.room in
+    let one : how_many r1 ≡ how_many (g.M.Mmio.registers c.args.io.now) + 1 = c.append.ensures.count in
+    record {
+      many = subst (λ n. 64 ≤ n) (sym (c.append.ensures.size ∙ c.requires.frames)) c.requires.many;
+      ring = subst (λ n. IsRing n r1) (sym c.append.ensures.size) c.append.ensures.ring;
+      room = omega (arith, room, one);
+    }
+
+pub append-requires-3 : goal.append-requires-3
+append-requires-3 g c =
+    let r1 = g.M.Mmio.registers c.append.new.io in
+    let r2 = g.M.Mmio.registers c.append-2.new.io in
+    let room : how_many (g.M.Mmio.registers c.args.io.now) + 3 < 256 = c.requires.room in
+    let one : how_many r1 ≡ how_many (g.M.Mmio.registers c.args.io.now) + 1 = c.append.ensures.count in
+    let two : how_many r2 ≡ how_many r1 + 1 = c.append-2.ensures.count in
+    record {
+      many = subst (λ n. 64 ≤ n) (sym (c.append-2.ensures.size ∙ c.append.ensures.size ∙ c.requires.frames)) c.requires.many;
+      ring = subst (λ n. IsRing n r2) (sym c.append-2.ensures.size) c.append-2.ensures.ring;
+      room = omega (arith, room, one, two);
+    }
 
 pub returns : goal.returns
 returns g c =

@@ -1,4 +1,4 @@
-use Rattle.std.proofs.Common.{◌≡◌, ◌+◌, ◌≤◌, ◌∙◌, Bool, Option, sym, subst, arith}
+use Rattle.std.proofs.Common.{◌≡◌, ◌+◌, ◌<◌, ◌≤◌, ◌^◌, ◌∙◌, Bool, Option, Some, IfSome, length, refl, sym, subst, arith}
 use Rattle.iom_command_queue.specs.declared.command.Command.{Command}
 use Rattle.iom_command_queue.specs.Waiting.{how_many}
 use Rattle.iom_driver.specs.declared.device.Stages.{Stages}
@@ -8,6 +8,36 @@ use Rattle.iom_driver.specs.Ready.{IsRing}
 use Rattle.iom_driver.specs.Restarts.{device_reset, requeued_for}
 use Rattle.iom_driver.proofs.Appended.{GoesOn, goes_on}
 use Rattle.iom_driver.proofs.appending.append_device.Goals as goal
+
+pub append-requires : goal.append-requires
+append-requires g c =
+    let room : how_many (g.M.Mmio.registers c.args.io.now) + 3 < 256 = c.requires.room in
+    record { many = c.requires.many; ring = c.requires.ring; room = omega (arith, room) }
+
+pub append-requires-2 : goal.append-requires-2
+append-requires-2 g c =
+    let r1 = g.M.Mmio.registers c.append.new.io in
+    let room : how_many (g.M.Mmio.registers c.args.io.now) + 3 < 256 = c.requires.room in
+    let one : how_many r1 ≡ how_many (g.M.Mmio.registers c.args.io.now) + 1 = c.append.ensures.count in
+    record {
+      many = subst (λ n. 64 ≤ n) (sym c.append.ensures.size) c.requires.many;
+      ring = subst (λ n. IsRing n r1) (sym c.append.ensures.size) c.append.ensures.ring;
+      room = omega (arith, room, one);
+    }
+
+pub append_device_reset-requires : goal.append_device_reset-requires
+append_device_reset-requires g c =
+    let r1 = g.M.Mmio.registers c.append.new.io in
+    let r2 = g.M.Mmio.registers c.append-2.new.io in
+    let room : how_many (g.M.Mmio.registers c.args.io.now) + 3 < 256 = c.requires.room in
+    let one : how_many r1 ≡ how_many (g.M.Mmio.registers c.args.io.now) + 1 = c.append.ensures.count in
+    let two : how_many r2 ≡ how_many r1 + 1 = c.append-2.ensures.count in
+    record {
+      many = subst (λ n. 64 ≤ n) (sym (c.append-2.ensures.size ∙ c.append.ensures.size)) c.requires.many;
+      ring = subst (λ n. IsRing n r2) (sym c.append-2.ensures.size) c.append-2.ensures.ring;
+      room = omega (arith, room, one, two);
+      id = (subst (λ (o : Option Stages). IfSome o (λ (stage : Stages). (c.args.device.id < 2 ^ 24) × (stage.number < 2 ^ 16))) (sym c.owned_stages.ensures ∙ c.in-Some.is) c.requires.namable).0;
+    }
 
 pub returns : goal.returns
 returns g c =

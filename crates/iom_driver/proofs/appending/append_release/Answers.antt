@@ -1,11 +1,59 @@
-use Rattle.std.proofs.Common.{◌≡◌, ◌≢◌, ◌∙◌, ℕ, [], ◌∷◌, slice_get, refl, ap, subst}
+use Rattle.std.proofs.Common.{◌≡◌, ◌≢◌, ◌+◌, ◌<◌, ◌≤◌, ◌∙◌, ℕ, Bool, true, false, if◌then◌else◌, [], ◌∷◌, length, slice_get, refl, sym, ap, subst, arith}
+use Rattle.std.proofs.lemmas.Bool.{false≢true}
 use Rattle.iom_command_queue.specs.declared.command.Command.{Command}
+use Rattle.iom_command_queue.specs.Waiting.{how_many}
 use Rattle.iom_driver.specs.Appends.{Appends, device_invalidation, fence}
 use Rattle.iom_driver.specs.Layout.{command_frame, completion_address}
 use Rattle.iom_driver.specs.Ready.{IsRing}
 use Rattle.iom_driver.proofs.Appended.{GoesOn, goes_on}
 use Rattle.iom_driver.proofs.AppendLists.{appends_both}
 use Rattle.iom_driver.proofs.appending.append_release.Goals as goal
+
+-- there is room for each of the commands
+room_for_one : (n : ℕ) (ats : Bool) → n + (if ats then 3 else 2) < 256 → n + 1 < 256
+room_for_one n true room = omega (arith, room)
+room_for_one n false room = omega (arith, room)
+
+room_for_two : (n n' : ℕ) (ats : Bool) → n + (if ats then 3 else 2) < 256 → n' ≡ n + 1 → ats ≡ true → n' + 1 < 256
+room_for_two n n' true room one is = omega (arith, room, one)
+room_for_two n n' false room one is = absurd (false≢true is)
+
+room_for_three : (n n' n'' : ℕ) (ats : Bool) → n + (if ats then 3 else 2) < 256 → n' ≡ n + 1 → n'' ≡ n' + (if ats then 1 else 0) → n'' + 1 < 256
+room_for_three n n' n'' true room one two = omega (arith, room, one, two)
+room_for_three n n' n'' false room one two = omega (arith, room, one, two)
+
+pub append-requires : goal.append-requires
+append-requires g c =
+    let r = g.M.Mmio.registers c.args.io.now in
+    record {
+      many = subst (λ n. 64 ≤ n) (sym c.requires.frames) c.requires.many;
+      ring = subst (λ n. IsRing n r) (sym c.requires.frames) c.requires.ring;
+      room = room_for_one (how_many r) c.args.stage.ats c.requires.room;
+    }
+
+pub append_device_invalidation-requires : goal.append_device_invalidation-requires
+append_device_invalidation-requires g c =
+    let r = g.M.Mmio.registers c.args.io.now in
+    let r1 = g.M.Mmio.registers c.append.new.io in
+    record {
+      many = subst (λ n. 64 ≤ n) (sym (c.append.ensures.size ∙ c.requires.frames)) c.requires.many;
+      ring = subst (λ n. IsRing n r1) (sym c.append.ensures.size) c.append.ensures.ring;
+      room = room_for_two (how_many r) (how_many r1) c.args.stage.ats c.requires.room c.append.ensures.count;
+      id = c.requires.id;
+      page = c.requires.page;
+    }
+
+pub append-requires-2 : goal.append-requires-2
+append-requires-2 g c =
+    let r = g.M.Mmio.registers c.args.io.now in
+    let r1 = g.M.Mmio.registers c.append.new.io in
+    let r2 = g.M.Mmio.registers c.append_device_invalidation.new.io in
+    let own = c.append_device_invalidation.ensures in
+    record {
+      many = subst (λ n. 64 ≤ n) (sym (own.size ∙ c.append.ensures.size ∙ c.requires.frames)) c.requires.many;
+      ring = subst (λ n. IsRing n r2) (sym own.size) own.ring;
+      room = room_for_three (how_many r) (how_many r1) (how_many r2) c.args.stage.ats c.requires.room c.append.ensures.count own.count;
+    }
 
 pub returns : goal.returns
 returns g c =
