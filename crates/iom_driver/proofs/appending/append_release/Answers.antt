@@ -1,12 +1,10 @@
-use Rattle.std.proofs.Common.{◌≡◌, ◌≢◌, ◌+◌, ◌<◌, ◌≤◌, ◌∙◌, ℕ, Bool, true, false, if◌then◌else◌, [], ◌∷◌, length, slice_get, refl, sym, ap, subst, arith}
+use Rattle.std.proofs.Common.{◌≡◌, ◌≢◌, ◌+◌, ◌<◌, ◌≤◌, ◌∙◌, ℕ, Bool, true, false, if◌then◌else◌, List, length, slice_get, sym, subst, arith}
 use Rattle.std.proofs.lemmas.Bool.{false≢true}
-use Rattle.iom_command_queue.specs.declared.command.Command.{Command}
 use Rattle.iom_command_queue.specs.Waiting.{how_many}
-use Rattle.iom_driver.specs.Appends.{Appends, device_invalidation, fence}
-use Rattle.iom_driver.specs.Layout.{command_frame, completion_address}
+use Rattle.iom_registers.specs.declared.registers.Registers.{Registers}
+use Rattle.iom_driver.specs.Layout.{command_frame}
 use Rattle.iom_driver.specs.Ready.{IsRing}
 use Rattle.iom_driver.proofs.Appended.{GoesOn, goes_on}
-use Rattle.iom_driver.proofs.AppendLists.{appends_both}
 use Rattle.iom_driver.proofs.appending.append_release.Goals as goal
 
 -- there is room for each of the commands
@@ -55,38 +53,28 @@ append-requires-2 g c =
       room = room_for_three (how_many r) (how_many r1) (how_many r2) c.args.stage.ats c.requires.room c.append.ensures.count own.count;
     }
 
-pub returns : goal.returns
-returns g c =
-    let frames = c.args.frames in
+-- what stays over all three
+stays : (frames : ℕ) (r r' : Registers) (memory memory' : List (List ℕ)) → length memory ≡ frames → GoesOn r r' memory memory'
+    → (n : ℕ) → n ≢ command_frame frames → slice_get memory' n ≡ slice_get memory n
+stays frames r r' memory memory' size on = subst (λ k. (n : ℕ) → n ≢ command_frame k → slice_get memory' n ≡ slice_get memory n) size on.other_frames
+
+pub returns-clause-ring : goal.returns-clause-ring
+returns-clause-ring g c =
+    let size = c.append_device_invalidation.ensures.size ∙ c.append.ensures.size ∙ c.requires.frames in
+    subst (λ n. IsRing n (g.M.Mmio.registers c.append-2.new.io)) size c.append-2.ensures.ring
+
+pub returns-clause-other_frames : goal.returns-clause-other_frames
+returns-clause-other_frames g c =
     let m0 = c.args.memory.now in
     let m1 = c.append.new.memory in
     let m2 = c.append_device_invalidation.new.memory in
     let m3 = c.append-2.new.memory in
-    let io0 = c.args.io.now in
-    let io1 = c.append.new.io in
-    let io2 = c.append_device_invalidation.new.io in
-    let io3 = c.append-2.new.io in
-    let r0 = g.M.Mmio.registers io0 in
-    let r1 = g.M.Mmio.registers io1 in
-    let r2 = g.M.Mmio.registers io2 in
-    let r3 = g.M.Mmio.registers io3 in
+    let r0 = g.M.Mmio.registers c.args.io.now in
+    let r1 = g.M.Mmio.registers c.append.new.io in
+    let r2 = g.M.Mmio.registers c.append_device_invalidation.new.io in
+    let r3 = g.M.Mmio.registers c.append-2.new.io in
     let own = c.append_device_invalidation.ensures in
     let one : GoesOn r0 r1 m0 m1 = record { named = c.append.ensures.named; faults = c.append.ensures.faults; other_frames = c.append.ensures.other_frames; size = c.append.ensures.size } in
     let two : GoesOn r1 r2 m1 m2 = record { named = own.named; faults = own.faults; other_frames = own.other_frames; size = own.size } in
     let three : GoesOn r2 r3 m2 m3 = record { named = c.append-2.ensures.named; faults = c.append-2.ensures.faults; other_frames = c.append-2.ensures.other_frames; size = c.append-2.ensures.size } in
-    let both = goes_on r0 r1 r2 m0 m1 m2 one two in
-    let all = goes_on r0 r2 r3 m0 m2 m3 both three in
-    record {
-      appended = (
-        m1,
-        io1,
-        subst (λ (command : Command). Appends g.M.Mmio m0 io0 command m1 io1) c.invalidation.ensures c.append.ensures.appended,
-        appends_both g.M.Mmio m1 m2 m3 io1 io2 io3 (device_invalidation c.args.id c.args.stage c.args.page) (fence (completion_address frames) c.args.number ∷ []) own.appended
-            (m3, io3, subst (λ (command : Command). Appends g.M.Mmio m2 io2 command m3 io3) (c.fence.ensures ∙ ap (λ a. fence a c.args.number) c.completion_address.ensures.value) c.append-2.ensures.appended, (refl, refl)),
-      );
-      ring = subst (λ n. IsRing n r3) (both.size ∙ c.requires.frames) c.append-2.ensures.ring;
-      named = all.named;
-      faults = all.faults;
-      other_frames = subst (λ k. (n : ℕ) → n ≢ command_frame k → slice_get m3 n ≡ slice_get m0 n) c.requires.frames all.other_frames;
-      size = all.size;
-    }
+    stays c.args.frames r0 r3 m0 m3 c.requires.frames (goes_on r0 r2 r3 m0 m2 m3 (goes_on r0 r1 r2 m0 m1 m2 one two) three)
