@@ -9,7 +9,6 @@ pub mod Tickets
 pub mod Gone
 pub mod GoneMore
 pub mod Openings
-pub mod Accesses
 pub mod Ring
 pub mod Appended
 pub mod Marks
