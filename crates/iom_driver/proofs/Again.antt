@@ -1,7 +1,7 @@
 -- The command queue once it is turned off and on again: it is where it was, and empty.
-use Rattle.std.proofs.Common.{◌≡◌, ◌%◌, ◌∙◌, ℕ, List, [], sym, ap}
+use Rattle.std.proofs.Common.{◌≡◌, ◌%◌, ◌∙◌, ℕ, List, [], refl, sym, ap}
 use Rattle.std.proofs.Math.Nat.{zero-mod}
-use Rattle.iom_command_queue.specs.Waiting.{commands_in}
+use Rattle.iom_command_queue.specs.Waiting.{commands_in, distance, how_many}
 use Rattle.iom_command_queue.proofs.Waits.{empty}
 use Rattle.iom_registers.specs.declared.registers.Registers.{Registers}
 use Rattle.iom_registers.specs.declared.register.Register.TheVariants.{Cqcsr, Cqt}
@@ -19,6 +19,20 @@ again_head frames r ring = rw ring.on (zero-mod _)
 
 again_tail : (frames : ℕ) (r : Registers) → IsRing frames r → command_tail (again r) ≡ 0
 again_tail frames r ring = ap (λ n. n % command_entries r) (zero-mod (command_entries r)) ∙ zero-mod (command_entries r)
+
+pub again_ring : (frames : ℕ) (r : Registers) → IsRing frames r → IsRing frames (again r)
+again_ring frames r ring = record { on = rw ring.on refl; base = ring.base; entries = ring.entries }
+
+pub again_named : (r : Registers) → KeepsDirectory r (again r)
+again_named r = (refl, refl)
+
+pub again_faults : (r : Registers) → KeepsFaults r (again r)
+again_faults r = record { on = refl; base = refl; head = refl; tail = refl }
+
+pub again_count : (frames : ℕ) (r : Registers) → IsRing frames r → how_many (again r) ≡ 0
+again_count frames r ring =
+    let size = command_entries r in
+    ap (λ i. distance size i (command_tail (again r))) (again_head frames r ring) ∙ ap (λ t. distance size 0 t) (again_tail frames r ring)
 
 pub again_empty : (memory : List (List ℕ)) (frames : ℕ) (r : Registers) → IsRing frames r → commands_in memory (again r) ≡ []
 again_empty memory frames r ring = empty memory (again r) (again_head frames r ring ∙ sym (again_tail frames r ring))

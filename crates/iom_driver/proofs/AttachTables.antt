@@ -1,11 +1,9 @@
 -- The tables of the devices when one more is attached.
-use Rattle.std.proofs.Common.{◌≡◌, ◌<◌, ◌∙◌, ◌&&◌, not, inl, inr, ℕ, Bool, List, [], ◌∷◌, Option, Some, None, option_map, slice_get, refl, sym, ap, subst, true, false, nat_le}
-use Rattle.std.proofs.lemmas.Bool.{lt-leb}
+use Rattle.std.proofs.Common.{◌≡◌, ◌∙◌, inl, inr, ℕ, List, [], ◌∷◌, Option, Some, None, option_map, slice_get, refl, sym, ap, subst, true}
 use Rattle.iom_base.specs.declared.mode.Mode.{Mode}
 use Rattle.iom_base.specs.declared.owner.Owner.{Owner}
 use Rattle.iom_base.specs.declared.owner.Owner.TheVariants.{OneDevice}
 use Rattle.iom_ledger.specs.declared.ledger.Ledger.{Ledger}
-use Rattle.iom_ledger.specs.Refusals.{NoneApplies}
 use Rattle.iom_ledger.specs.Shown.{held_in}
 use Rattle.iom_page_table.proofs.Stays.{root_tree, zeroed_frames, zeroed_leaves}
 use Rattle.iom_page_table.proofs.Words.{zero_entry}
@@ -16,10 +14,7 @@ use Rattle.iom_driver.specs.declared.device.Device.{Device}
 use Rattle.iom_driver.specs.declared.device.Stages.{Stages}
 use Rattle.iom_driver.specs.Admitted.{IsAligned}
 use Rattle.iom_driver.specs.Attaching.{root_frames}
-use Rattle.iom_driver.specs.Devices.{owned_stages, owned_stages_of, is_plugged, is_trusted, with_attachment}
-use Rattle.iom_driver.specs.Layout.{id_limit}
-use Rattle.iom_driver.specs.Reasons.{why_not_attach}
-use Rattle.iom_driver.specs.State.{DriverState}
+use Rattle.iom_driver.specs.Devices.{owned_stages, is_plugged, with_attachment}
 use Rattle.iom_driver.specs.Tables.{AreTablesOf, HaveTables, leaf_for}
 use Rattle.iom_driver.proofs.Keeps.{set_or_other}
 use Rattle.iom_driver.proofs.Marks.{Among}
@@ -64,10 +59,3 @@ tables_attached memory memory' marks marks' ledger devices id stage tables plugg
       | inr was ↦ tables_stay memory memory' marks marks' ledger ledger other found.mode found.root (tables other found (sym (ap owned_stages was.1) ∙ at))
           (λ n mark. kept n other mark) (λ page. refl)
     ]
-
--- a device that is there and owns nothing may be attached, where the directory can name it
-pub may_attach : (d : DriverState) (id : ℕ) (ats : Bool) → d.started ≡ true → is_plugged d.devices id ≡ true → owned_stages_of d.devices id ≡ None → id < id_limit d.levels
-    → (ats && not (is_trusted d.devices id)) ≡ false → NoneApplies (why_not_attach d id ats)
-may_attach d id ats runs plugged none narrow trusted =
-    let test : nat_le (id_limit d.levels) id ≡ false = lt-leb (id_limit d.levels) id narrow in
-    rw (runs, plugged, none, test, trusted) refl

@@ -45,6 +45,25 @@ if_some : (P : Stages → Type 0) (o : Option Stages) → ((stage : Stages) → 
 if_some P None each = tt
 if_some P (Some stage) each = each stage refl
 
+pub sound_restarted : (ledger : Ledger) (marks : List (Option Owner)) (devices : List Device) (frames levels : ℕ) (started : Bool) (given confirmed restarts restarted : ℕ)
+    → IsSound ledger marks devices frames levels started given confirmed restarts restarted → given + restarts < 4294967295
+    → IsSound ledger marks devices frames levels started given confirmed (restarts + 1) given
+sound_restarted ledger marks devices frames levels started given confirmed restarts restarted sound more = record {
+  sizes = sound.sizes;
+  fixed = sound.fixed;
+  grants = sound.grants;
+  holders = sound.holders;
+  numbers = sound.numbers;
+  named = sound.named;
+  tickets = sound.tickets;
+  fences = record { earlier = omega arith; numbered = omega (arith, more) };
+  leaving = sound.leaving;
+  quarantined = sound.quarantined;
+  ids = sound.ids;
+  few = sound.few;
+  idle = sound.idle;
+}
+
 -- the ids and numbers of all devices that own stages fit into commands
 pub all_namable : (devices : List Device) (levels : ℕ) → HaveOwnIds devices → HaveNumbers devices → AreNamed devices levels → All IsNamable devices
 all_namable devices levels own numbers named k d lt =

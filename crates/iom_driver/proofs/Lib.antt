@@ -1,4 +1,5 @@
 pub mod Lists
+pub mod Told
 pub mod Places
 pub mod Ids
 pub mod Numbers
@@ -9,6 +10,7 @@ pub mod Gone
 pub mod GoneMore
 pub mod Openings
 pub mod Ring
+pub mod Appended
 pub mod Marks
 pub mod Directories
 pub mod Modes
@@ -20,6 +22,7 @@ pub mod Chosen
 pub mod Taken
 pub mod Keeps
 pub mod AttachTables
+pub mod AttachReasons
 pub mod AttachRoots
 pub mod AttachDirectory
 pub mod GrantTables

@@ -1,5 +1,5 @@
 -- The registers go on to name the driver's ring, and the list of the commands in it.
-use Rattle.std.proofs.Common.{zero, suc, ◌≡◌, ◌+◌, ◌-◌, ◌*◌, ◌/◌, ◌%◌, ◌^◌, ◌<◌, ◌≤◌, ◌++◌, ◌∙◌, ℕ, true, List, [], ◌∷◌, length, map, slice_get, refl, sym, ap, subst, arith, All}
+use Rattle.std.proofs.Common.{zero, suc, ◌≡◌, ◌+◌, ◌-◌, ◌*◌, ◌/◌, ◌%◌, ◌^◌, ◌<◌, ◌≤◌, ◌++◌, ◌∙◌, ℕ, true, Some, List, [], ◌∷◌, length, map, slice_get, refl, sym, ap, subst, arith, All}
 use Rattle.std.proofs.lemmas.List.Elements.{All-nil}
 use Rattle.std.proofs.Math.Nat.{zero-mod}
 use Rattle.iom_command_queue.specs.declared.command.Command.{Command}
@@ -11,14 +11,16 @@ use Rattle.iom_fault_queue.specs.declared.entry.Entry.{Entry}
 use Rattle.iom_fault_queue.specs.Ring.{records_in}
 use Rattle.iom_fault_queue.proofs.Lists.{empty as no_records}
 use Rattle.iom_registers.specs.declared.mmio.Mmio.{Ghosts}
+use Rattle.iom_registers.specs.Bits.{bits}
+use Rattle.iom_registers.specs.declared.directory.DirectoryPointer.{DirectoryPointer}
 use Rattle.iom_registers.specs.declared.registers.Registers.{Registers}
 use Rattle.iom_registers.specs.declared.register.Register.TheVariants.{Ddtp, Cqb, Cqcsr, Fqb, Fqcsr}
-use Rattle.iom_registers.specs.Fields.{entry_count}
+use Rattle.iom_registers.specs.Fields.{entry_count, ddtp_written, with_mode, mode_at, pointer_to}
 use Rattle.iom_registers.specs.Queues.{command_base, command_entries, command_head, command_tail, directory_mode, directory_root, is_command_queue_on, fault_base, fault_entries, fault_head, fault_tail, is_fault_queue_on}
 use Rattle.iom_registers.specs.Table.{written}
 use Rattle.iom_driver.specs.Appends.{AppendsAll}
 use Rattle.iom_driver.specs.Calls.{IsOff}
-use Rattle.iom_driver.specs.Directory.{NamesDirectory}
+use Rattle.iom_driver.specs.Directory.{NamesDirectory, mode_of}
 use Rattle.iom_driver.specs.Layout.{IsLevels, command_frame, cqb_of, ddtp_of, fqb_of}
 use Rattle.iom_driver.specs.Ready.{IsRing, IsReport, IsFaultRing}
 
@@ -118,19 +120,22 @@ pub stays_named : (frames levels : ℕ) (old new : Registers) → (directory_mod
     → NamesDirectory frames levels new
 stays_named frames levels old new same names = record { mode = same.0 ∙ names.mode; root = same.1 ∙ names.root }
 
+started_pointer : (r : Registers) (ddtp cqb fqb : ℕ) → IsOff r → (started r ddtp cqb fqb).ddtp ≡ ddtp_written r.ddtp ddtp
+started_pointer r ddtp cqb fqb off = rw (off.off, off.faults_off) refl
+
+-- the number of iommu_mode is one above that of the levels
+mode_above : (levels : ℕ) → IsLevels levels → mode_at (levels + 1) ≡ Some (mode_of levels)
+mode_above zero range = absurd (omega arith)
+mode_above (suc zero) range = refl
+mode_above (suc (suc zero)) range = refl
+mode_above (suc (suc (suc zero))) range = refl
+mode_above (suc (suc (suc (suc n)))) range = absurd (omega arith)
+
 -- after a start the registers name the directory
 pub started_names : (r : Registers) (frames levels : ℕ) → IsOff r → frames ≤ 4096 → IsLevels levels → (cqb fqb : ℕ) → NamesDirectory frames levels (started r (ddtp_of frames levels) cqb fqb)
-started_names r frames levels off few range cqb fqb = by levels range.0 range.1
-  where
-    low : (n : ℕ) → n ≤ 3 → ddtp_of frames n / 2 ^ 0 % 2 ^ (3 + 1 - 0) ≡ n + 1
-    low n le = omega (arith, le)
-
-    high : (n : ℕ) → n ≤ 3 → ddtp_of frames n / 2 ^ 10 % 2 ^ (53 + 1 - 10) ≡ frames - 4
-    high n le = omega (arith, le, few)
-
-    by : (n : ℕ) → 1 ≤ n → n ≤ 3 → NamesDirectory frames n (started r (ddtp_of frames n) cqb fqb)
-    by zero one three = absurd (omega arith)
-    by (suc zero) one three = record { mode = rw (off.off, off.faults_off) (rw (low 1 three) refl); root = rw (off.off, off.faults_off) (rw (low 1 three) (high 1 three)) }
-    by (suc (suc zero)) one three = record { mode = rw (off.off, off.faults_off) (rw (low 2 three) refl); root = rw (off.off, off.faults_off) (rw (low 2 three) (high 2 three)) }
-    by (suc (suc (suc zero))) one three = record { mode = rw (off.off, off.faults_off) (rw (low 3 three) refl); root = rw (off.off, off.faults_off) (rw (low 3 three) (high 3 three)) }
-    by (suc (suc (suc (suc n)))) one three = absurd (omega arith)
+started_names r frames levels off few range cqb fqb =
+    let low : bits 3 0 (ddtp_of frames levels) ≡ levels + 1 = omega (arith, range.1) in
+    let high : bits 53 10 (ddtp_of frames levels) ≡ frames - 4 = omega (arith, range.1, few) in
+    let pointer : (started r (ddtp_of frames levels) cqb fqb).ddtp ≡ pointer_to (mode_of levels) (ddtp_of frames levels) =
+    started_pointer r (ddtp_of frames levels) cqb fqb off ∙ ap (λ m. with_mode r.ddtp m (ddtp_of frames levels)) (ap mode_at low ∙ mode_above levels range) in
+    record { mode = ap (λ (p : DirectoryPointer). p.mode) pointer; root = ap (λ (p : DirectoryPointer). p.ppn) pointer ∙ high }

@@ -10,11 +10,17 @@ use Rattle.iom_registers.specs.declared.registers.Registers.{Registers}
 use Rattle.iom_table_frames.specs.Marks.{is_marked}
 use Rattle.iom_driver.specs.declared.device.Stages.{Stages}
 use Rattle.iom_driver.specs.declared.device.Attachment.TheVariants.{Quarantined}
-use Rattle.iom_driver.specs.Devices.{attachment_of, stages_of}
+use Rattle.iom_driver.specs.Devices.{attachment_of, is_plugged, stages_of, owned_stages_of}
 use Rattle.iom_driver.specs.Fences.{last_fence}
-use Rattle.iom_driver.specs.Layout.{queue_entries}
+use Rattle.iom_driver.specs.Layout.{id_limit, queue_entries}
 use Rattle.iom_driver.specs.Reasons.{release_places}
 use Rattle.iom_driver.specs.State.{DriverState}
+
+pub record MayBeAttached (d : DriverState) (id : ℕ) : Type 0 where
+  pub started : d.started ≡ true
+  pub plugged : is_plugged d.devices id ≡ true
+  pub nothing : owned_stages_of d.devices id ≡ None
+  pub narrow : id < id_limit d.levels
 
 pub record MayBeGranted (d : DriverState) (id page frame : ℕ) (stage : Stages) : Type 0 where
   pub attached : stages_of d.devices id ≡ Some stage

@@ -16,6 +16,7 @@ pub mod Choices
 pub mod Appends
 pub mod Calls
 pub mod Attaching
+pub mod Entering
 pub mod Leaving
 pub mod Quarantines
 pub mod Revivals

@@ -4,15 +4,18 @@ ghost use Rattle.iom_base.specs.Sizes.{page_limit};
 ghost use Rattle.iom_ledger.specs.declared.refusal.Refusal.{Refusal};
 ghost use Rattle.iom_ledger.specs.Refusals.{first_that_applies, NoneApplies};
 ghost use Rattle.iom_registers.specs.Queues.{command_entries};
-ghost use Rattle.iom_driver.specs.Admitted.{MayBeGranted, MayBeReleased, MayBeDetached, MayBeQuarantined, MayBeRevived};
+ghost use Rattle.iom_driver.specs.Admitted.{MayBeAttached, MayBeGranted, MayBeReleased, MayBeDetached, MayBeQuarantined, MayBeRevived};
 ghost use Rattle.iom_driver.specs.Devices.{device_of, stages_of};
 ghost use Rattle.iom_driver.specs.Layout.{queue_entries};
-ghost use Rattle.iom_driver.specs.Reasons.{release_places, why_not_attached, why_not_grant, why_not_release, why_not_detach, why_not_quarantine, why_not_revive, HasGrants};
+ghost use Rattle.iom_driver.specs.Places.{IsPlaceOf};
+ghost use Rattle.iom_driver.specs.Reasons.{release_places, why_not_attach, why_not_attached, why_not_grant, why_not_release, why_not_detach, why_not_quarantine, why_not_revive, HasGrants};
 ghost use Rattle.iom_driver.specs.Seen.{state_of};
 
 use crate::access::lacks_places;
 use crate::device::{Attachment, Stages};
 use crate::driver::Driver;
+use crate::layout::id_limit;
+use crate::lookups::place_of;
 use iom_base::{DeviceId, PAGE_LIMIT};
 use iom_ledger::{MAX_PENDING, Refusal};
 use iom_registers::Mmio;
@@ -25,6 +28,32 @@ fn release_places(stage: Stages) -> u64
 }
 
 impl Driver {
+    /// Where the device stands that may be attached, or why it may not.
+    pub(crate) fn admit_attach(&self, id: DeviceId, ats: bool) -> Result<usize, Refusal>
+        ensures admitted { IfOk result (λ place. NoneApplies (why_not_attach (state_of self.now) id ats)) }
+        ensures may { IfOk result (λ place. MayBeAttached (state_of self.now) id) }
+        ensures place { IfOk result (λ place. IsPlaceOf self.now.devices.items id place) }
+        ensures refused { IfErr result (λ why. first_that_applies (why_not_attach (state_of self.now) id ats) ≡ Some why) }
+    {
+        if !self.started {
+            return Err(Refusal::NotStarted);
+        }
+        let Some(place) = place_of(&self.devices, id) else {
+            return Err(Refusal::NoSuchDevice);
+        };
+        let device = self.devices[place];
+        if device.attachment.owned_stages().is_some() {
+            return Err(Refusal::AlreadyAttached);
+        }
+        if id >= id_limit(self.levels) {
+            return Err(Refusal::IdTooWide);
+        }
+        if device.lacks_trust(ats) {
+            return Err(Refusal::NotTrusted);
+        }
+        Ok(place)
+    }
+
     /// The stages of the attached device, or why it has none.
     fn stages_of(&self, id: DeviceId) -> Result<Stages, Refusal>
         ensures started { IfOk result (λ stage. self.now.started ≡ true) }

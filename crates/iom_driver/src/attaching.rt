@@ -6,10 +6,12 @@ ghost use Rattle.iom_device_dir.specs.declared.stages.FirstStage.TheVariants as 
 ghost use Rattle.iom_device_dir.specs.declared.stages.SecondStage.TheVariants as second;
 ghost use Rattle.iom_registers.specs.declared.registers.Registers.{Registers};
 ghost use Rattle.iom_driver.specs.Admitted.{IsAligned};
-ghost use Rattle.iom_driver.specs.Attaching.{AnswersAttach, IsRootBelow, NoRootBelow, limit_below};
+ghost use Rattle.iom_driver.specs.Attaching.{AnswersAttach, IsRootBelow, NoRootBelow, TakesRoot, limit_below};
 ghost use Rattle.iom_driver.specs.Choices.{AreHighestFree};
 ghost use Rattle.iom_driver.specs.Devices.{is_used, IsLowestNumber};
 ghost use Rattle.iom_driver.specs.Directory.{context_for};
+ghost use Rattle.iom_driver.specs.Entering.{MayEnter};
+ghost use Rattle.iom_driver.specs.Places.{IsPlaceOf};
 ghost use Rattle.iom_driver.specs.Ready.{TablesStand, IsReady};
 ghost use Rattle.iom_driver.specs.Seen.{state_of};
 ghost use Rattle.iom_table_frames.specs.Marks.{HasFree};
@@ -17,8 +19,7 @@ ghost use Rattle.iom_table_frames.specs.Marks.{HasFree};
 use crate::choosing::{reserve_all, reserve_root};
 use crate::device::{Attachment, Device, Stages};
 use crate::driver::Driver;
-use crate::layout::{MAX_DEVICES, directory_frame, id_limit};
-use crate::lookups::place_of;
+use crate::layout::{MAX_DEVICES, directory_frame};
 use arrayvec::ArrayVec;
 use iom_base::{DeviceId, Mode, Owner, Ppn};
 use iom_device_dir::{Context, FirstStage, GuestRoot, Pscid, SecondStage};
@@ -145,6 +146,32 @@ impl Driver {
         Some(Taken { pages, root })
     }
 
+    /// The frames are reserved, the pages for the system and the root's for the device, and made zero; the pages
+    /// are hung on the id's path, with the device's context; and the device is attached in the stages.
+    fn enter(
+        &mut self,
+        memory: &mut Memory,
+        id: DeviceId,
+        place: usize,
+        stages: Stages,
+        pages: &[u32],
+    )
+        requires stand { TablesStand (state_of self.old) memory.old }
+        requires may { MayEnter (state_of self.old) self.old.frames memory.old id stages pages.now }
+        requires place { IsPlaceOf self.old.devices.items id place }
+        ensures effect { TakesRoot (state_of self.old) memory.old id stages.mode stages.ats (state_of self.new) memory.new }
+        ensures stand { TablesStand (state_of self.new) memory.new }
+        ensures ready { (r : Registers) → IsReady (state_of self.old) memory.old r → IsReady (state_of self.new) memory.new r }
+    {
+        let directory = directory_frame(self.frames);
+        let context = context_for(stages);
+        let owner = Owner::OneDevice(id);
+        reserve_all(&mut self.marks, memory, pages, Owner::System);
+        reserve_root(&mut self.marks, memory, stages.mode, stages.root, owner);
+        put_context(memory, self.levels, directory, id, context, pages);
+        self.devices[place].attachment = Attachment::Attached(stages);
+    }
+
     /// The device is attached in the mode, with ATS (it may ask for translations and keep them) or without: the
     /// directory pages that its id's path lacks, from the root of the directory down, and then the root of its
     /// tables take the highest free frames, a root of a second stage the highest four side by side; its address
@@ -164,27 +191,15 @@ impl Driver {
         ensures stand { TablesStand (state_of self.new) memory.new }
         ensures ready { (r : Registers) → IsReady (state_of self.old) memory.old r → IsReady (state_of self.new) memory.new r }
     {
-        if !self.started {
-            return Err(Refusal::NotStarted);
-        }
-        let Some(place) = place_of(&self.devices, id) else {
-            return Err(Refusal::NoSuchDevice);
+        let place = match self.admit_attach(id, ats) {
+            Ok(place) => place,
+            Err(why) => return Err(why),
         };
-        if self.devices[place].attachment.owned_stages().is_some() {
-            return Err(Refusal::AlreadyAttached);
-        }
-        if id >= id_limit(self.levels) {
-            return Err(Refusal::IdTooWide);
-        }
-        if self.devices[place].lacks_trust(ats) {
-            return Err(Refusal::NotTrusted);
-        }
         let directory = directory_frame(self.frames);
         let lacking = missing(memory, self.levels, directory, id);
         let Some(taken) = self.choose_with_root(mode, lacking) else {
             return Err(Refusal::NoFrames);
         };
-        let pages = taken.pages.as_slice();
         let root = taken.root;
         let number = lowest_number(&self.devices);
         let stages = Stages {
@@ -193,11 +208,7 @@ impl Driver {
             number,
             ats,
         };
-        let context = context_for(stages);
-        reserve_all(&mut self.marks, memory, pages, Owner::System);
-        reserve_root(&mut self.marks, memory, mode, root, Owner::OneDevice(id));
-        put_context(memory, self.levels, directory, id, context, pages);
-        self.devices[place].attachment = Attachment::Attached(stages);
+        self.enter(memory, id, place, stages, taken.pages.as_slice());
         Ok(())
     }
 }

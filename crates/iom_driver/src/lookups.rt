@@ -32,9 +32,10 @@ fn opening(alloc: Global, frames: u32, levels: u8) -> Result<Driver, AllocError>
     ensures ready { IfOk result (λ driver. (memory : List (List ℕ)) (r : Registers)
         → length memory ≡ frames → IsReady (state_of driver) memory r) }
 {
-    let ledger = Ledger::new(alloc, frames)?;
-    let marks = TableFrames::new(alloc, frames)?;
+    // The ledger comes last, so that none is ever dropped here.
     let devices = Vec::with_capacity(alloc, MAX_DEVICES)?;
+    let marks = TableFrames::new(alloc, frames)?;
+    let ledger = Ledger::new(alloc, frames)?;
     Ok(Driver {
         ledger,
         marks,

@@ -1,17 +1,29 @@
-use Rattle.std.proofs.Common.{◌≡◌, ◌∙◌, length, ap}
-use Rattle.iom_command_queue.specs.Waiting.{commands_in}
+use Rattle.std.proofs.Common.{◌≡◌, ◌∙◌, length, sym, ap, subst}
+use Rattle.iom_command_queue.specs.Waiting.{commands_in, how_many}
 use Rattle.iom_registers.specs.declared.registers.Registers.{Registers}
 use Rattle.iom_registers.specs.declared.register.Register.TheVariants.{Cqcsr, Cqt}
 use Rattle.iom_registers.specs.Table.{written}
-use Rattle.iom_driver.proofs.Again.{again, again_empty}
+use Rattle.iom_driver.specs.Directory.{KeepsDirectory}
+use Rattle.iom_driver.specs.Ready.{IsRing, KeepsFaults}
+use Rattle.iom_driver.proofs.Again.{again, again_ring, again_empty, again_count, again_named, again_faults}
 use Rattle.iom_driver.proofs.restarting.turn_off_and_on.Goals as goal
 
-pub returns-clause-empty : goal.returns-clause-empty
-returns-clause-empty g c =
+pub returns : goal.returns
+returns g c =
     let r = g.M.Mmio.registers in
+    let after = g.M.Mmio.after in
     let law = g.met.M.Mmio.writes_registers in
-    let ran : r c.write-3.new.io ≡ again (r c.args.io.now) =
-    ap r c.write-3.ensures ∙ law c.write-2.new.io Cqcsr 1
+    let memory = c.args.memory.now in
+    let was = r c.args.io.now in
+    let ran : again was ≡ r c.write-3.new.io =
+    sym (ap r c.write-3.ensures ∙ law c.write-2.new.io Cqcsr 1
     ∙ ap (λ (x : Registers). written x Cqcsr 1) (ap r c.write-2.ensures ∙ law c.write.new.io Cqt 0
-    ∙ ap (λ (x : Registers). written x Cqt 0) (ap r c.write.ensures ∙ law c.args.io.now Cqcsr 0)) in
-    ap (λ (x : Registers). commands_in c.args.memory.now x) ran ∙ again_empty c.args.memory.now (length c.args.memory.now) (r c.args.io.now) c.requires
+    ∙ ap (λ (x : Registers). written x Cqt 0) (ap r c.write.ensures ∙ law c.args.io.now Cqcsr 0))) in
+    record {
+      registers = c.write-3.ensures ∙ ap (λ x. after x Cqcsr 1) (c.write-2.ensures ∙ ap (λ x. after x Cqt 0) c.write.ensures);
+      ring = subst (λ (s : Registers). IsRing (length memory) s) ran (again_ring (length memory) was c.requires);
+      empty = ap (λ (s : Registers). commands_in memory s) (sym ran) ∙ again_empty memory (length memory) was c.requires;
+      count = ap (λ (s : Registers). how_many s) (sym ran) ∙ again_count (length memory) was c.requires;
+      named = subst (λ (s : Registers). KeepsDirectory was s) ran (again_named was);
+      faults = subst (λ (s : Registers). KeepsFaults was s) ran (again_faults was);
+    }

@@ -43,8 +43,11 @@ owned_tables : (memory : List (List ℕ)) (marks : List (Option Owner)) (ledger 
     → HaveTables memory marks ledger devices → HaveTables memory marks ledger devices'
 owned_tables memory marks ledger devices devices' same tables id stage at = tables id stage (sym (same id) ∙ at)
 
-pub returns-in-Err-clause-effect : goal.returns-in-Err-clause-effect
-returns-in-Err-clause-effect g c = record { told = c.in-Err.ensures.refused; effect = (refl, refl, refl) }
+pub returns-in-Err : goal.returns-in-Err
+returns-in-Err g c = record {
+  effect = record { told = c.in-Err.ensures.refused; effect = (refl, refl, refl) };
+  ready = c.requires.ready;
+}
 
 pub invariant_of-self : goal.invariant_of-self
 invariant_of-self g c =
@@ -56,6 +59,9 @@ invariant_of-self g c =
           (sound_detached driver.ledger driver.marks driver.devices.items driver.frames driver.levels driver.started driver.given driver.confirmed driver.restarts driver.restarted c.args.id c.in-Ok.stage
           driver.sound may.started may.attached may.none_held may.number);
     }
+
+pub clear_context-requires-clause-levels : goal.clear_context-requires-clause-levels
+clear_context-requires-clause-levels g c = c.args.self.now.sound.sizes.in_range
 
 pub clear_context-requires-clause-id : goal.clear_context-requires-clause-id
 clear_context-requires-clause-id g c =
@@ -69,6 +75,19 @@ clear_context-requires-clause-directory g c =
     let stand = c.requires.ready.stand in
     rw c.directory_frame-directory.ensures
     (in_stands driver.frames c.args.memory.now driver.marks driver.devices.items driver.levels (stand.size ∙ driver.sound.sizes.marked) (stand.directory c.in-Ok.ensures.may.started)).tree
+
+pub append_detach-requires-clause-frames : goal.append_detach-requires-clause-frames
+append_detach-requires-clause-frames g c = c.clear_context.ensures.size ∙ c.requires.ready.stand.size ∙ c.args.self.now.sound.sizes.marked
+
+pub append_detach-requires-clause-many : goal.append_detach-requires-clause-many
+append_detach-requires-clause-many g c = c.args.self.now.sound.sizes.size.0
+
+pub append_detach-requires-clause-ring : goal.append_detach-requires-clause-ring
+append_detach-requires-clause-ring g c =
+    subst (λ n. IsRing n (g.M.Mmio.registers c.args.io.now)) (c.requires.ready.stand.size ∙ c.args.self.now.sound.sizes.marked) (c.requires.ready.ring c.in-Ok.ensures.may.started)
+
+pub append_detach-requires-clause-room : goal.append_detach-requires-clause-room
+append_detach-requires-clause-room g c = c.in-Ok.ensures.may.room
 
 pub append_detach-requires-clause-id : goal.append_detach-requires-clause-id
 append_detach-requires-clause-id g c =

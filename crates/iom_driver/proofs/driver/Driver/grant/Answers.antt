@@ -1,4 +1,4 @@
-use Rattle.std.proofs.Common.{◌≡◌, ◌∙◌, ℕ, List, ◌∷◌, true, false, Option, Some, Result, Ok, Err, OnOk, OnErr, length, slice_get, refl, sym, ap, subst}
+use Rattle.std.proofs.Common.{◌≡◌, ◌∙◌, ℕ, List, ◌∷◌, true, false, Option, Some, Result, Ok, Err, OnOk, OnErr, length, slice_get, get_or, ◌<◌, ◌≤◌, refl, sym, ap, subst}
 use Rattle.std.specs.Result.{is_err}
 use Rattle.std.proofs.lemmas.Bool.{false≢true}
 use Rattle.iom_base.specs.declared.owner.Owner.{Owner}
@@ -7,25 +7,31 @@ use Rattle.iom_base.specs.declared.rights.Rights.{Rights}
 use Rattle.iom_ledger.specs.Changes.{IsUnchanged, ShowsGrant}
 use Rattle.iom_ledger.specs.declared.entry.HistoryEntry.TheVariants as entry
 use Rattle.iom_ledger.specs.declared.ledger.Ledger.{Ledger}
+use Rattle.iom_ledger.specs.declared.refusal.Refusal.TheVariants.{NoFrames}
 use Rattle.iom_ledger.specs.History.{History}
 use Rattle.iom_ledger.specs.Shown.{Agrees}
 use Rattle.iom_page_table.specs.declared.leaf.PageLeaf.{PageLeaf}
 use Rattle.iom_page_table.specs.Sv39.{missing_for, mapped}
-use Rattle.iom_driver.specs.Calls.{granted_leaf, KeepsOthers}
+use Rattle.iom_table_frames.specs.Marks.{HasFree}
+use Rattle.iom_driver.specs.Calls.{granted_leaf, KeepsOthers, HasFrames, IsSame, LacksTables}
 use Rattle.iom_driver.specs.Choices.{AreHighestFree, marked_for, cleared}
-use Rattle.iom_driver.specs.Devices.{attachment_of}
+use Rattle.iom_driver.specs.declared.device.Stages.{Stages}
+use Rattle.iom_driver.specs.Devices.{attachment_of, stages_of}
 use Rattle.iom_driver.specs.Layout.{fault_frame}
+use Rattle.iom_driver.specs.Reasons.{why_not_grant}
 use Rattle.iom_driver.specs.Seen.{state_of}
 use Rattle.iom_driver.specs.Sound.{IsSound}
+use Rattle.iom_driver.specs.State.{DriverState}
 use Rattle.iom_driver.specs.Tables.{HaveTables}
 use Rattle.iom_driver.proofs.Chosen.{AreChosen, are_chosen, enough}
 use Rattle.iom_driver.proofs.Directories.{directory_stay, in_stands, stands_in}
-use Rattle.iom_driver.proofs.GrantTables.{may_be_mapped, IsMapped, mapped_is, others_kept, kept_others, tables_granted}
+use Rattle.iom_driver.proofs.GrantTables.{missing_two, may_be_mapped, IsMapped, mapped_is, others_kept, kept_others, tables_granted}
 use Rattle.iom_driver.proofs.Keeps.{sound_granted}
 use Rattle.iom_driver.proofs.Marks.{length-cleared, length-marked_for, mark_stays}
 use Rattle.iom_driver.proofs.Places.{attached_owns}
 use Rattle.iom_driver.proofs.Stays.{all_stay, ready_from}
 use Rattle.iom_driver.proofs.Taken.{unmarked, owned_not_chosen}
+use Rattle.iom_driver.proofs.Told.{first_told, none_told}
 use Rattle.iom_driver.proofs.driver.Driver.grant.Goals as goal
 
 -- what is promised where there is no error, and where there is one
@@ -55,6 +61,83 @@ mapped_as memory before after root page leaf clears maps chosen is clears_is map
 chosen_below : (marks : List (Option Owner)) (ledger : Ledger) (named limit count : ℕ) (chosen : List ℕ) (memory : List (List ℕ)) → limit ≡ length memory
     → AreHighestFree marks ledger (Some named) limit count chosen → AreChosen marks ledger (Some named) (length memory) count chosen
 chosen_below marks ledger named limit count chosen memory many chose = are_chosen marks ledger (Some named) (length memory) count chosen (subst (λ n. AreHighestFree marks ledger (Some named) n count chosen) many chose)
+
+-- nothing changes
+same_state : (d : DriverState) → IsSame d d
+same_state d = record {
+  ledger = record { held = λ id page. refl; lingering = λ id page. refl; pending = refl };
+  agrees = λ h agrees. agrees;
+  rest = refl;
+}
+
+pub returns-in-Err : goal.returns-in-Err
+returns-in-Err c =
+    let d = state_of c.args.self.now in
+    let memory = c.args.memory.now in
+    record {
+      effect = (
+        first_told (why_not_grant d c.args.id c.args.page c.args.frame) (LacksTables d memory c.args.id c.args.page c.args.frame) c.in-Err.why c.in-Err.ensures.refused,
+        same_state d,
+        refl,
+      );
+      stand = c.requires.stand;
+      ready = λ r ready. ready;
+    }
+
+-- where too few are free for the tables that the page lacks
+no_frames : (d : DriverState) (memory : List (List ℕ)) (id page frame : ℕ) (stage : Stages) (frames lacking : ℕ) → stages_of d.devices id ≡ Some stage → frames ≡ length memory
+    → lacking ≡ missing_for memory stage.root page → ¬ HasFree d.marks d.ledger (Some frame) lacking frames → ¬ HasFrames d memory id page frame
+no_frames d memory id page frame stage frames lacking at many is none = λ has.
+    let both : Some has.stage ≡ Some stage = sym has.attached ∙ at in
+    let same : has.stage ≡ stage = cc in
+    none (subst (λ n. HasFree d.marks d.ledger (Some frame) lacking n) (sym many)
+    (subst (λ n. HasFree d.marks d.ledger (Some frame) n (length memory)) (sym is)
+    (subst (λ (s : Stages). HasFree d.marks d.ledger (Some frame) (missing_for memory s.root page) (length memory)) same has.enough)))
+
+pub returns-in_default : goal.returns-in_default
+returns-in_default c =
+    let driver = c.args.self.now in
+    let d = state_of driver in
+    let memory = c.args.memory.now in
+    let many : driver.frames ≡ length memory = sym (c.requires.stand.size ∙ driver.sound.sizes.marked) in
+    let without = no_frames d memory c.args.id c.args.page c.args.frame c.in-Ok.stage driver.frames c.missing-lacking.result c.in-Ok.ensures.may.attached many c.missing-lacking.ensures c.in_default.ensures.none in
+    record {
+      effect = (
+        none_told (why_not_grant d c.args.id c.args.page c.args.frame) (LacksTables d memory c.args.id c.args.page c.args.frame) NoFrames c.in-Ok.ensures.admitted without,
+        same_state d,
+        refl,
+      );
+      stand = c.requires.stand;
+      ready = λ r ready. ready;
+    }
+
+pub choose-requires : goal.choose-requires
+choose-requires c = subst (λ n. n ≤ 2) (sym c.missing-lacking.ensures) (missing_two c.args.memory.now c.in-Ok.stage.root c.args.page)
+
+pub grant-requires : goal.grant-requires
+grant-requires c = record {
+  not_held = c.in-Ok.ensures.may.not_held;
+  not_lingering = c.in-Ok.ensures.may.not_lingering;
+  right = c.rights-rights.ensures.grantable;
+}
+
+pub reserve_all-requires : goal.reserve_all-requires
+reserve_all-requires c =
+    let driver = c.args.self.now in
+    let memory = c.args.memory.now in
+    let chosen = c.in-Some.tables.items in
+    let are : AreChosen driver.marks driver.ledger (Some c.args.frame) driver.frames c.missing-lacking.result chosen =
+    are_chosen driver.marks driver.ledger (Some c.args.frame) driver.frames c.missing-lacking.result chosen c.in-Some.ensures.chosen in
+    rw c.as_slice.ensures.value record {
+      marked = λ k d lt. subst (λ n. get_or chosen k d < n) (sym driver.sound.sizes.marked) (are.inside k d lt);
+      inside = λ k d lt. subst (λ n. get_or chosen k d < n) (sym (c.requires.stand.size ∙ driver.sound.sizes.marked)) (are.inside k d lt);
+    }
+
+pub map-requires-clause-page : goal.map-requires-clause-page
+map-requires-clause-page c = c.in-Ok.ensures.may.page_low
+
+pub map-requires-clause-rights : goal.map-requires-clause-rights
+map-requires-clause-rights c = c.rights-rights.ensures.grantable
 
 pub returns-then-is_err-clause-stand : goal.returns-then-is_err-clause-stand
 returns-then-is_err-clause-stand c =

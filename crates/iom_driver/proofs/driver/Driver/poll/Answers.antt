@@ -1,4 +1,4 @@
-use Rattle.std.proofs.Common.{◌≡◌, ◌↔◌, ◌≤◌, ◌+◌, ◌*◌, ◌∙◌, ℕ, List, length, false, map, Option, Some, slice_get, refl, sym, ap, subst, arith}
+use Rattle.std.proofs.Common.{◌≡◌, ◌≢◌, ◌-◌, ◌↔◌, ◌≤◌, ◌+◌, ◌*◌, ◌∙◌, ℕ, List, length, false, map, Option, Some, slice_get, refl, sym, ap, subst, arith}
 use Rattle.std.proofs.lemmas.Bool.{false≢true}
 use Rattle.std.proofs.lemmas.List.{length-map}
 use Rattle.iom_base.specs.declared.owner.Owner.{Owner}
@@ -7,7 +7,7 @@ use Rattle.iom_phys_mem.specs.Words.{word_at}
 use Rattle.iom_driver.specs.declared.device.Device.{Device}
 use Rattle.iom_driver.specs.Confirmed.{once_confirmed, given_back, is_gone, has_left, ClearsGone}
 use Rattle.iom_driver.specs.Directory.{NamesDirectory}
-use Rattle.iom_driver.specs.Fences.{fence_of}
+use Rattle.iom_driver.specs.Fences.{fence_of, done_by}
 use Rattle.iom_driver.specs.Layout.{completion_address, fault_frame}
 use Rattle.iom_driver.specs.Ready.{IsRing}
 use Rattle.iom_driver.specs.Seen.{state_of}
@@ -19,6 +19,7 @@ use Rattle.iom_driver.proofs.DoneTickets.{done_given, done_exactly}
 use Rattle.iom_driver.proofs.Gone.{none_left, nobody_gone, marks_same, devices_same}
 use Rattle.iom_driver.proofs.Ids.{device_at}
 use Rattle.iom_driver.proofs.Keeps.{sound_polled}
+use Rattle.iom_driver.proofs.Lists.{differs}
 use Rattle.iom_driver.proofs.Places.{attachment_is}
 use Rattle.iom_driver.proofs.PollTables.{owned_stays, tables_polled, directory_polled}
 use Rattle.iom_driver.proofs.driver.Driver.poll.Goals as goal
@@ -80,6 +81,34 @@ invariant_of-self g c =
           (sound_polled driver.ledger c.confirm_after.new.ledger driver.marks driver.devices.items driver.frames driver.levels driver.started driver.given driver.confirmed driver.restarts driver.restarted done
           driver.sound c.confirm_after.ensures.shown low high);
     }
+
+pub returns-clause-effect : goal.returns-clause-effect
+returns-clause-effect g c =
+    let driver = c.args.self.now in
+    let memory = c.args.memory.now in
+    let done = c.last_done-done.result in
+    let word = c.first_word-word.result in
+    let many : length memory ≡ driver.frames = c.requires.ready.stand.size ∙ driver.sound.sizes.marked in
+    let read : word_at 4 memory (completion_address driver.frames) ≡ Some word = ap (λ f. word_at 4 memory (4096 * f)) (sym c.completion_frame.ensures) ∙ c.first_word-word.ensures in
+    let by : done ≡ driver.confirmed + (done_by (state_of driver) word - driver.confirmed) = c.last_done-done.ensures in
+    let up : driver.confirmed + (done - driver.confirmed) ≡ done = omega (arith, by) in
+    let count : done - driver.confirmed ≡ done_by (state_of driver) word - driver.confirmed = omega (arith, by) in
+    let some : done - driver.confirmed ≢ 0 = omega (arith, by, c.if-done-self.false) in (
+      rw c.if-not-self.false refl,
+      record {
+        word = word;
+        read = ap (λ n. word_at 4 memory (completion_address n)) many ∙ read;
+        count = count;
+        exact = λ ticket late given.
+            subst (λ n. (ticket ≤ driver.confirmed + n) ↔ (fence_of (state_of driver) ticket ≤ word)) (sym count) (done_exactly (state_of driver) word ticket late given);
+        first = rw (differs (done - driver.confirmed) 0 some) refl;
+        timed_out = c.has_timed_out-timed_out.ensures;
+        shown = c.confirm_after.ensures.shown;
+        agrees = c.confirm_after.ensures.agrees;
+        driver = rw (c.let_go.ensures.marks, c.let_go.ensures.devices, up) refl;
+        cleared = subst (λ n. ClearsGone n driver.devices.items driver.marks memory c.let_go.new.memory) (sym up) c.let_go.ensures.memory;
+      },
+    )
 
 pub returns-clause-ready : goal.returns-clause-ready
 returns-clause-ready g c =

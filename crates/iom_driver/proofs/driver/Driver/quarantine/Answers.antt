@@ -31,6 +31,15 @@ there : {A : Type 0} (o : Option A) → IsSome o → (x : A) × (o ≡ Some x)
 there None present = cc
 there (Some x) present = (x, refl)
 
+pub returns-in-Err : goal.returns-in-Err
+returns-in-Err g c = record {
+  effect = (c.in-Err.ensures.refused, refl, refl, refl);
+  ready = c.requires.ready;
+}
+
+pub clear_context-requires-clause-levels : goal.clear_context-requires-clause-levels
+clear_context-requires-clause-levels g c = c.args.self.now.sound.sizes.in_range
+
 pub clear_context-requires-clause-id : goal.clear_context-requires-clause-id
 clear_context-requires-clause-id g c =
     let driver = c.args.self.now in
@@ -87,6 +96,19 @@ invariant_of-self g c =
           (sound_quarantined driver.ledger c.release_all.new.self driver.marks driver.devices.items driver.frames driver.levels driver.started driver.given driver.confirmed driver.restarts driver.restarted c.args.id c.in-Ok.stage
           driver.sound c.release_all.ensures.released may.started may.attached may.number);
     }
+
+pub append_detach-requires-clause-frames : goal.append_detach-requires-clause-frames
+append_detach-requires-clause-frames g c = c.clear_leaves.ensures.size ∙ c.clear_context.ensures.size ∙ c.requires.ready.stand.size ∙ c.args.self.now.sound.sizes.marked
+
+pub append_detach-requires-clause-many : goal.append_detach-requires-clause-many
+append_detach-requires-clause-many g c = c.args.self.now.sound.sizes.size.0
+
+pub append_detach-requires-clause-ring : goal.append_detach-requires-clause-ring
+append_detach-requires-clause-ring g c =
+    subst (λ n. IsRing n (g.M.Mmio.registers c.args.io.now)) (c.requires.ready.stand.size ∙ c.args.self.now.sound.sizes.marked) (c.requires.ready.ring c.in-Ok.ensures.may.started)
+
+pub append_detach-requires-clause-room : goal.append_detach-requires-clause-room
+append_detach-requires-clause-room g c = c.in-Ok.ensures.may.room
 
 pub append_detach-requires-clause-id : goal.append_detach-requires-clause-id
 append_detach-requires-clause-id g c =

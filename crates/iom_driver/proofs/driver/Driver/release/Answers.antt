@@ -31,6 +31,15 @@ there (Some x) present = (x, refl)
 not_of_device : (marks : List (Option Owner)) (n id : ℕ) → slice_get marks n ≡ Some (Some System) → slice_get marks n ≡ Some (Some (OneDevice id)) → ⊥
 not_of_device marks n id system own = let both : ◌≡◌ {A = Option (Option Owner)} (Some (Some System)) (Some (Some (OneDevice id))) = sym system ∙ own in cc
 
+pub returns-in-Err : goal.returns-in-Err
+returns-in-Err g c = record {
+  effect = (c.in-Err.ensures.refused, refl, refl, refl);
+  ready = c.requires.ready;
+}
+
+pub release-requires-clause-held : goal.release-requires-clause-held
+release-requires-clause-held g c = c.in-Ok.ensures.may.held
+
 pub release-requires-clause-room : goal.release-requires-clause-room
 release-requires-clause-room g c =
     let driver = c.args.self.now in
@@ -55,6 +64,19 @@ pub unmap-requires-clause-page : goal.unmap-requires-clause-page
 unmap-requires-clause-page g c =
     let held = there _ c.in-Ok.ensures.may.held in
     (c.args.self.now.sound.grants.held c.args.id c.args.page held.0.0 held.0.1 held.1).page_low
+
+pub append_release-requires-clause-frames : goal.append_release-requires-clause-frames
+append_release-requires-clause-frames g c = c.unmap.ensures.size ∙ c.requires.ready.stand.size ∙ c.args.self.now.sound.sizes.marked
+
+pub append_release-requires-clause-many : goal.append_release-requires-clause-many
+append_release-requires-clause-many g c = c.args.self.now.sound.sizes.size.0
+
+pub append_release-requires-clause-ring : goal.append_release-requires-clause-ring
+append_release-requires-clause-ring g c =
+    subst (λ n. IsRing n (g.M.Mmio.registers c.args.io.now)) (c.requires.ready.stand.size ∙ c.args.self.now.sound.sizes.marked) (c.requires.ready.ring c.in-Ok.ensures.may.started)
+
+pub append_release-requires-clause-room : goal.append_release-requires-clause-room
+append_release-requires-clause-room g c = c.in-Ok.ensures.may.room
 
 pub append_release-requires-clause-id : goal.append_release-requires-clause-id
 append_release-requires-clause-id g c =

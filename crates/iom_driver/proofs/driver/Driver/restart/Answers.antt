@@ -1,6 +1,9 @@
-use Rattle.std.proofs.Common.{◌≡◌, ◌≢◌, ◌<◌, ◌≤◌, ◌+◌, ◌++◌, ◌∙◌, ℕ, List, [], ◌∷◌, map, All, length, slice_get, refl, sym, ap, subst, arith}
+use Rattle.std.proofs.Common.{◌≡◌, ◌≢◌, ◌<◌, ◌≤◌, ◌+◌, ◌++◌, ◌∙◌, ℕ, List, [], ◌∷◌, map, All, not, nat_le, length, slice_get, refl, sym, ap, subst, arith}
+use Rattle.std.proofs.lemmas.Bool.{le-leb}
 use Rattle.iom_command_queue.specs.declared.entry.QueueEntry.{QueueEntry}
 use Rattle.iom_command_queue.specs.declared.entry.QueueEntry.TheVariants as stands
+use Rattle.iom_command_queue.specs.Waiting.{how_many}
+use Rattle.iom_ledger.specs.declared.refusal.Refusal.TheVariants.{NotStarted, NumbersUsedUp}
 use Rattle.iom_driver.specs.declared.device.Device.{Device}
 use Rattle.iom_driver.specs.Appends.{fence, AppendsAll}
 use Rattle.iom_driver.specs.Directory.{NamesDirectory}
@@ -11,18 +14,72 @@ use Rattle.iom_driver.specs.Restarts.{all_requeued, restart_commands, IsNamable}
 use Rattle.iom_driver.specs.Seen.{state_of}
 use Rattle.iom_driver.proofs.Again.{faults_through, named_through}
 use Rattle.iom_driver.proofs.AppendLists.{appends_both}
-use Rattle.iom_driver.proofs.CuttingOff.{may_restart, all_namable}
+use Rattle.iom_driver.proofs.CuttingOff.{may_restart, sound_restarted, all_namable}
 use Rattle.iom_driver.proofs.Directories.{directory_stay, in_stands, stands_in}
 use Rattle.iom_driver.proofs.FaultRings.{fault_ring_stays}
 use Rattle.iom_driver.proofs.Ring.{all_last, stays_named}
 use Rattle.iom_driver.proofs.Stays.{all_stay, of_one}
+use Rattle.iom_driver.proofs.Told.{applies, passes, more_numbers, no_more_numbers}
 use Rattle.iom_driver.proofs.driver.Driver.restart.Goals as goal
 
-pub append_devices-requires-clause-namable : goal.append_devices-requires-clause-namable
-append_devices-requires-clause-namable g c =
+pub returns-then-not-self : goal.returns-then-not-self
+returns-then-not-self g c =
+    let d = state_of c.args.self.now in
+    record {
+      effect = (applies (not d.started) NotStarted ((nat_le 4294967295 (last_fence d), NumbersUsedUp) ∷ []) (ap not c.if-not-self.true), refl, refl, refl);
+      ready = c.requires.ready;
+    }
+
+pub returns-then-last_fence-eq4294967295 : goal.returns-then-last_fence-eq4294967295
+returns-then-last_fence-eq4294967295 g c =
+    let d = state_of c.args.self.now in
+    let last = no_more_numbers (last_fence d) c.last_fence.result c.last_fence.ensures c.if-last_fence-eq4294967295.true in
+    record {
+      effect = (
+        passes (not d.started) NotStarted ((nat_le 4294967295 (last_fence d), NumbersUsedUp) ∷ []) (ap not c.if-not-self.false)
+            ∙ applies (nat_le 4294967295 (last_fence d)) NumbersUsedUp [] (le-leb 4294967295 (last_fence d) last),
+        refl,
+        refl,
+        refl,
+      );
+      ready = c.requires.ready;
+    }
+
+pub append_devices-requires : goal.append_devices-requires
+append_devices-requires g c =
     let driver = c.args.self.now in
-    subst (λ (ds : List Device). All IsNamable ds) (sym c.deref.ensures.value)
-    (all_namable driver.devices.items driver.levels driver.sound.ids driver.sound.numbers driver.sound.named)
+    let many : length c.args.memory.now ≡ driver.frames = c.requires.ready.stand.size ∙ driver.sound.sizes.marked in
+    let least : 64 ≤ driver.frames = driver.sound.sizes.size.0 in
+    record {
+      many = omega (arith, many, least);
+      ring = c.turn_off_and_on.ensures.ring;
+      empty = c.turn_off_and_on.ensures.count;
+      few = subst (λ (ds : List Device). length ds ≤ 16) (sym c.deref.ensures.value) driver.sound.few;
+      namable =
+          subst (λ (ds : List Device). All IsNamable ds) (sym c.deref.ensures.value)
+          (all_namable driver.devices.items driver.levels driver.sound.ids driver.sound.numbers driver.sound.named);
+    }
+
+pub append_fence-requires : goal.append_fence-requires
+append_fence-requires g c =
+    let driver = c.args.self.now in
+    let many : length c.args.memory.now ≡ driver.frames = c.requires.ready.stand.size ∙ driver.sound.sizes.marked in
+    let count : how_many (g.M.Mmio.registers c.append_devices.new.io) ≤ 48 = c.append_devices.ensures.count in
+    record {
+      frames = c.append_devices.ensures.size ∙ many;
+      many = driver.sound.sizes.size.0;
+      ring = subst (λ n. IsRing n (g.M.Mmio.registers c.append_devices.new.io)) many c.append_devices.ensures.ring;
+      room = omega (arith, count);
+    }
+
+pub invariant_of-self : goal.invariant_of-self
+invariant_of-self g c =
+    let driver = c.args.self.now in
+    let d = state_of driver in
+    let more = more_numbers (last_fence d) c.last_fence.result driver.sound.fences.numbered c.last_fence.ensures c.if-last_fence-eq4294967295.false in
+    record {
+      sound = sound_restarted driver.ledger driver.marks driver.devices.items driver.frames driver.levels driver.started driver.given driver.confirmed driver.restarts driver.restarted driver.sound more;
+    }
 
 pub returns-clause-effect : goal.returns-clause-effect
 returns-clause-effect g c =

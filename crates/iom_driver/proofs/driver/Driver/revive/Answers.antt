@@ -20,11 +20,28 @@ use Rattle.iom_driver.proofs.driver.Driver.revive.Goals as goal
 none_contained : (f : ℕ) → Contains [] f → ⊥
 none_contained f here = absurd (omega (arith, here.1))
 
+pub returns-in-Err : goal.returns-in-Err
+returns-in-Err c = record {
+  effect = (c.in-Err.ensures.refused, refl, refl);
+  stand = c.requires.stand;
+  ready = λ r ready. ready;
+}
+
 pub context_for-requires-clause-root : goal.context_for-requires-clause-root
 context_for-requires-clause-root c =
     let may = c.in-Ok.ensures.may in
     let stage = c.in-Ok.stage in
     (rooted stage.mode c.args.memory.now stage.root (c.requires.stand.tables c.args.id stage (ap owned_stages may.cut_off)).tree).aligned
+
+pub put_context-requires-clause-levels : goal.put_context-requires-clause-levels
+put_context-requires-clause-levels c = c.args.self.now.sound.sizes.in_range
+
+pub put_context-requires-clause-directory : goal.put_context-requires-clause-directory
+put_context-requires-clause-directory c =
+    let driver = c.args.self.now in
+    let stand = c.requires.stand in
+    rw c.directory_frame-directory.ensures
+    (in_stands driver.frames c.args.memory.now driver.marks driver.devices.items driver.levels (stand.size ∙ driver.sound.sizes.marked) (stand.directory c.in-Ok.ensures.may.started)).tree
 
 pub put_context-requires-clause-id : goal.put_context-requires-clause-id
 put_context-requires-clause-id c =
