@@ -17,11 +17,11 @@ use Rattle.iom_trace_lines.specs.TraceLines.{SaysLine}
 use Rattle.iom_trace_lines.specs.declared.trace.TraceLine.{TraceLine}
 use Rattle.iom_trace_lines.specs.declared.trace.TraceLine.TheVariants as says
 use Rattle.iom_judge.specs.Certificates.{is_lawful, four_disks, opening_of, SaysStep, SaySteps, AreOfRun, AreLawful, IsLawfulTrace}
-use Rattle.iom_judge.specs.Certified.{IsCertifiedBy, Certify, CertifyBehind, CertifyIf, GoesOn, HasJudged}
-use Rattle.iom_judge.specs.Followed.{Follows}
+use Rattle.iom_judge.specs.Certified.{IsCertifiedBy, Certify, CertifyBehind, CertifyIf, Follows, GoesOn, HasJudged}
 use Rattle.iom_judge.specs.declared.belief.Belief.{Belief}
 use Rattle.iom_judge.specs.declared.verdict.Verdict.{Verdict}
-use Rattle.iom_judge.proofs.FollowSteps.{certified_on, certified_anyway, certified_settled, none_of_none}
+use Rattle.iom_doubts.proofs.FollowSteps.{none_of_none}
+use Rattle.iom_judge.proofs.CertifiedSteps.{certified_on, certified_anyway, certified_settled}
 
 -- one line more that says a step
 steps_more : (lines : List (List ℕ)) (line : List ℕ) (events : List Event) (outcomes : List Outcome) (event : Event) (outcome : Outcome)

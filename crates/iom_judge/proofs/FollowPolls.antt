@@ -11,17 +11,17 @@ use Rattle.iom_machine.specs.declared.outcome.Outcome.TheVariants.{Confirmed}
 use Rattle.iom_machine.specs.declared.state.State.{State}
 use Rattle.iom_machine.proofs.InFlightLemmas.{All-at}
 use Rattle.iom_known.specs.Allowed.{Past, IsTrueOf, state_of}
-use Rattle.iom_known.specs.Leaves.{ConfirmsNext, past_confirmed}
+use Rattle.iom_known_acts.specs.Leaves.{ConfirmsNext, past_confirmed}
 use Rattle.iom_known.specs.Reached.{CanReach}
 use Rattle.iom_known.specs.Steps.{IsLedBack}
 use Rattle.iom_known.specs.declared.known.Known.{Known}
-use Rattle.iom_known.proofs.PollSteps.{poll_explained}
-use Rattle.iom_judge.specs.Followed.{IsFollowed, StepsBy}
-use Rattle.iom_judge.specs.Begun.{IsReachedAt, on_frame}
-use Rattle.iom_judge.specs.Doubted.{IsAllReached, MayBeBy}
-use Rattle.iom_judge.specs.declared.doubts.Doubt.{Doubt}
-use Rattle.iom_judge.specs.declared.doubts.Doubt.TheVariants.{Begun, InFlight}
-use Rattle.iom_judge.proofs.FlightPolls.{DoubtsMay, all_flights_may, poll_flies}
+use Rattle.iom_known_acts.proofs.PollSteps.{poll_explained}
+use Rattle.iom_doubts.specs.Followed.{IsFollowed, StepsBy}
+use Rattle.iom_doubts.specs.Begun.{IsReachedAt, on_frame}
+use Rattle.iom_doubts.specs.Doubted.{IsAllReached, MayBeBy}
+use Rattle.iom_doubts.specs.declared.doubts.Doubt.{Doubt}
+use Rattle.iom_doubts.specs.declared.doubts.Doubt.TheVariants.{Begun, InFlight}
+use Rattle.iom_doubts.proofs.FlightPolls.{DoubtsMay, all_flights_may, poll_flies}
 
 -- what is in flight by a doubt of which each frame is reached may still reach its frame
 reached_by : (known : Known) (past : Past) (doubt : Doubt) (id number : ℕ) (made other : AcceptedAccess) → IsTrueOf known past → IsAllReached known doubt

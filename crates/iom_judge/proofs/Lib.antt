@@ -1,15 +1,3 @@
 pub mod CertificateLemmas
-pub mod FlightAccepts
-pub mod FlightActs
-pub mod FlightCommits
-pub mod FlightEvents
-pub mod FlightLemmas
-pub mod FlightPolls
-pub mod FlightRequests
-pub mod FlightSteps
-pub mod FollowBegun
-pub mod FollowCommits
+pub mod CertifiedSteps
 pub mod FollowPolls
-pub mod FollowRequests
-pub mod FollowSteps
-pub mod Results

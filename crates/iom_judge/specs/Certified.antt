@@ -1,6 +1,7 @@
 -- What is certified of a trace before its end, line after line.
 -- For the judge's own functions alone; no public contract cites these.
 use Rattle.std.specs.Prelude.{◌≡◌, ℕ, Bool, List, [], ◌∷◌, ◌++◌, Option, None, Some, IsTrue, ⊤}
+use Rattle.iom_base.specs.declared.access.AcceptedAccess.{AcceptedAccess}
 use Rattle.iom_machine.specs.declared.event.Event.{Event}
 use Rattle.iom_machine.specs.declared.outcome.Outcome.{Outcome}
 use Rattle.iom_machine.specs.declared.state.Frame.{Frame}
@@ -13,7 +14,9 @@ use Rattle.iom_trace_lines.specs.Taken.{HasTaken}
 use Rattle.iom_trace_lines.specs.TraceLines.{SaysLine}
 use Rattle.iom_trace_lines.specs.declared.trace.TraceLine.TheVariants.{World}
 use Rattle.iom_judge.specs.Certificates.{opening_of, SaySteps}
-use Rattle.iom_judge.specs.Followed.{Follows, IsCertifiedWith}
+use Rattle.iom_doubts.specs.Doubted.{MayFly, flown}
+use Rattle.iom_doubts.specs.Followed.{IsFollowed, StepsBy}
+use Rattle.iom_doubts.specs.declared.doubts.Doubt.{Doubt}
 use Rattle.iom_judge.specs.declared.belief.Belief.{Belief}
 
 -- There is a past that is true of what is known, and with that each state that is allowed, with all in flight as it is known, is one to which the machine runs from power-on by these events with
@@ -23,6 +26,14 @@ pub record IsCertified (known : Known) (size : WorldSize) (events : List Event) 
   pub is_true : IsTrueOf known past
   pub runs : (frames : List Frame) → AreAllowed known past frames
       → Run (opening_of size) events outcomes (state_of known past.history frames)
+
+-- There is a past that is true of what is known, and with that each state that is allowed, whatever frames the accesses in doubt are on, is one to which the
+-- machine runs from power-on by these events with these outcomes.
+pub record IsCertifiedWith (known : Known) (doubts : List Doubt) (size : WorldSize) (events : List Event) (outcomes : List Outcome) : Type 0 where
+  pub past : Past
+  pub is_true : IsTrueOf known past
+  pub runs : (flights : List (List AcceptedAccess)) (frames : List Frame) → MayFly doubts known.devices flights → AreAllowed known past frames
+      → Run (opening_of size) events outcomes (flown flights (state_of known past.history frames))
 
 -- what is believed is certified by what the lines say
 pub record IsCertifiedBy (belief : Belief) (size : WorldSize) (lines : List (List ℕ)) : Type 0 where
@@ -44,6 +55,11 @@ CertifyIf is_certified belief lines = IsTrue is_certified → Certify belief (sp
 -- What is certified is so by the lines but for those of the window, which are taken later.
 abbrev pub CertifyBehind : Bool → Option Belief → List (List ℕ) → List (List ℕ) → Type 0
 CertifyBehind is_certified belief window lines = (judged : List (List ℕ)) × (lines ≡ judged ++ window) × CertifyIf is_certified belief judged
+
+-- What is believed after the event with this outcome is followed from what was believed before, with each past that was true of that.
+abbrev pub Follows : Belief → Belief → Event → Outcome → Type 0
+Follows old new event outcome =
+    (past : Past) → IsTrueOf old.known past → IsFollowed old.known old.doubts.all.items new.known new.doubts.all.items (StepsBy event outcome) past
 
 -- What is certified after the event with this outcome was so before, and what is believed is followed from that.
 abbrev pub GoesOn : Bool → Option Belief → Event → Outcome → Bool → Option Belief → Type 0

@@ -7,27 +7,26 @@ ghost use Rattle.iom_known.specs.Asked.{IsAskedBy};
 ghost use Rattle.iom_known.specs.Starts.{IsPowerOn};
 ghost use Rattle.iom_known.specs.Steps.{IsExplained};
 ghost use Rattle.iom_judge.specs.Certificates.{four_disks};
-ghost use Rattle.iom_judge.specs.Doubted.{IsAllReached, IsNotAbout};
-ghost use Rattle.iom_judge.specs.Followed.{Follows};
+ghost use Rattle.iom_doubts.specs.Doubted.{AreAmong, IsAllReached, IsNotAbout};
+ghost use Rattle.iom_doubts.specs.Followed.{IsReadyFor};
+ghost use Rattle.iom_judge.specs.Certified.{Follows};
 
-use crate::doubts::{Doubts, flight_of, frame_at};
-use crate::following::leaves_flights;
-use crate::messages::Messages;
-use crate::releases::Releases;
-use crate::subject::Subject;
-use crate::unseen::{Run, SeenWrite, Unseen};
-use crate::versions::Versions;
-use iom_base::{Access, AccessKind, DeviceId, PAGE_SIZE};
+use crate::in_doubt::act_in_doubt;
+use iom_base::{Access, DeviceId, PAGE_SIZE};
+use iom_doubts::doubts::{Doubts, Flight, flight_of};
+use iom_doubts::outcomes::leaves_flights;
+use iom_doubts::unseen::SeenWrite;
+use iom_doubts::{Memory, is_ready_for};
+use iom_known::Known;
 use iom_known::asked::{Asked, read_by, request, write_by};
-use iom_known::contents::{keep, store};
-use iom_known::devices::place_of;
-use iom_known::in_flight::drop_oldest;
-use iom_known::owners::{may_be_nobodys, may_be_somebodys};
-use iom_known::polls::{begin_poll, end_poll, poll};
-use iom_known::processor::{peek, poke};
-use iom_known::requests::answers_absent;
-use iom_known::{Known, Question};
+use iom_known::devices::device_with;
+use iom_known::owners::may_be_nobodys;
+use iom_known::reach::frame_at;
+use iom_known_acts::act;
+use iom_known_acts::polls::{begin_poll, end_poll, poll};
 use iom_machine::{Event, Outcome};
+use iom_reasons::{Facts, Notes, Subject};
+use iom_trace_lines::CAUSES;
 use std::alloc::{AllocError, Global};
 
 /// What a line shows of what its answer doesn't.
@@ -46,18 +45,8 @@ pub(crate) struct Shown<'a> {
 pub(crate) struct Belief {
     pub(crate) known: Known,
     pub(crate) doubts: Doubts,
-    pub(crate) unseen: Unseen,
-    /// What was seen of such writes, for a judge behind.
-    pub(crate) seen: Vec<SeenWrite>,
-    /// What a judge ahead saw of them.
-    pub(crate) told: Vec<Vec<SeenWrite>>,
-    pub(crate) versions: Versions,
-    pub(crate) messages: Messages,
-    pub(crate) releases: Releases,
-    /// Whether nothing that is possible was left out of whose the frames are, beyond what is known of it.
-    pub(crate) is_whole: bool,
-    /// Whether none was of what they hold.
-    pub(crate) is_whole_in_bytes: bool,
+    pub(crate) memory: Memory,
+    pub(crate) notes: Notes,
     /// Whether each line so far was followed: each state that was allowed after it, whatever frames the accesses in doubt
     /// are on, is one to which the machine came by it.
     pub(crate) is_followed: bool,
@@ -66,11 +55,33 @@ pub(crate) struct Belief {
 /// The numbers of the disks that a world has at power-on.
 const DISKS: [u64; 4] = [0, 1, 2, 3];
 
-/// Whether the frame may hold other bytes than those that are believed first.
-pub(crate) fn has_other(known: &Known, frame: u32) -> bool {
-    match known.frames.as_slice().get(frame as usize) {
-        None => false,
-        Some(believed) => believed.other.is_some(),
+/// Whether this came of an attach or a grant that is done.
+fn may_take_tables(event: &Event, outcome: &Outcome) -> bool {
+    let Outcome::Done = outcome else {
+        return false;
+    };
+    matches!(event, Event::Attach { .. } | Event::Grant { .. })
+}
+
+/// Whether a peek showed bytes of a frame that is somebody's.
+fn shows_somebodys(known: &Known, event: &Event, outcome: &Outcome) -> bool {
+    let Outcome::Bytes(_) = outcome else {
+        return false;
+    };
+    match event {
+        Event::Peek { address, .. } => !may_be_nobodys(known, *address / PAGE_SIZE),
+        _ => false,
+    }
+}
+
+/// The first of the frames on which the access may be that is asked for: by the grants, where none is kept.
+fn first_frame(known: &Known, asked: &Asked, flight: &Flight) -> u32 {
+    if let Some(first) = flight.frames.first() {
+        return *first;
+    }
+    match frame_at(known, asked.device, asked.access.address / PAGE_SIZE) {
+        None => 0,
+        Some(frame) => frame,
     }
 }
 
@@ -83,35 +94,57 @@ impl Belief {
         Ok(Belief {
             known: Known::power_on(alloc, frames, levels, &DISKS)?,
             doubts: Doubts::new(alloc),
-            unseen: Unseen::new(alloc),
-            seen: Vec::new(alloc),
-            told: Vec::new(alloc),
-            versions: Versions::new(alloc),
-            messages: Messages::new(alloc),
-            releases: Releases::new(alloc),
-            is_whole: true,
-            is_whole_in_bytes: true,
+            memory: Memory::new(alloc),
+            notes: Notes::new(alloc),
             is_followed: true,
         })
     }
 
-    /// Whether nothing that is possible was left out.
+    /// Whether nothing that is possible was left out of whose the frames are.
     fn is_exact(&self) -> bool {
-        self.known.is_exact && self.is_whole
+        self.known.is_exact && self.memory.is_whole
     }
 
     /// Whether what may not come of what the line is about can't come: nothing was left out of what that depends on.
     pub(crate) fn decides(&self, subject: Subject) -> bool {
-        (self.is_exact() || !subject.is_about_frames())
-            && (self.is_whole_in_bytes || !subject.is_about_bytes())
+        if subject.is_about_frames() && !self.is_exact() {
+            return false;
+        }
+        self.memory.is_whole_in_bytes || !subject.is_about_bytes()
+    }
+
+    /// Whether the oldest access of the device is one that a step began, and isn't shown.
+    fn hides_oldest(&self, id: DeviceId) -> bool {
+        let Some(device) = device_with(self.known.devices.as_slice(), id) else {
+            return false;
+        };
+        match self.doubts.place_of_oldest(device) {
+            None => false,
+            Some(place) => self.doubts.begun_at(place).is_some(),
+        }
+    }
+
+    /// Why this may not come of what the line is about.
+    pub(crate) fn reason(&self, alloc: Global, subject: Subject) -> Result<String, AllocError> {
+        let is_hidden = match subject {
+            Subject::Commit(id) => self.hides_oldest(id),
+            _ => false,
+        };
+        let facts = Facts {
+            known: &self.known,
+            notes: &self.notes,
+            causes: &CAUSES,
+            is_hidden,
+        };
+        facts.reason(alloc, subject)
     }
 
     /// Whether nothing is believed of a frame in more than one way, but for whose it is.
     pub(crate) fn is_settled(&self) -> bool
         ensures { IsTrue result
-            ↔ ((self.now.doubts.all.items ≡ []) × (self.now.unseen.all.items ≡ []) × (self.now.versions.all.items ≡ [])) }
+            ↔ ((self.now.doubts.all.items ≡ []) × (self.now.memory.unseen.all.items ≡ []) × (self.now.memory.versions.all.items ≡ [])) }
     {
-        self.doubts.is_empty() && self.unseen.is_empty() && self.versions.is_known()
+        self.doubts.is_empty() && self.memory.is_settled()
     }
 
     /// Whether each line so far was followed, and none of the doubts is about the device's access with this number.
@@ -161,11 +194,7 @@ impl Belief {
             return request(&mut self.known, asked, outcome, frame);
         }
         let flight = flight_of(alloc, &self.known, &asked, *number)?;
-        let page = asked.access.address / PAGE_SIZE;
-        let frame = match flight.frames.first() {
-            Some(first) => *first,
-            None => frame_at(&self.known, asked.device, page).unwrap_or(0),
-        };
+        let frame = first_frame(&self.known, &asked, &flight);
         if !request(&mut self.known, asked, outcome, frame)? {
             return Ok(false);
         }
@@ -189,250 +218,10 @@ impl Belief {
         if self.follows_reached() {
             return Ok(end_poll(alloc, &mut self.known));
         }
-        self.versions.forget_reserved(&self.known);
+        self.memory.versions.forget_reserved(&self.known);
         self.doubts.narrow(alloc, &mut self.known)?;
         self.is_followed = false;
         Ok(end_poll(alloc, &mut self.known))
-    }
-
-    /// A commit, where it isn't known on which frame the access is, or what the frame holds.
-    fn commit_in_doubt(
-        &mut self,
-        alloc: Global,
-        place: usize,
-        outcome: &Outcome,
-    ) -> Result<bool, AllocError> {
-        let Some(device) = self.known.devices.as_slice().get(place) else {
-            return Ok(false);
-        };
-        let Some(made) = device.in_flight.as_slice().first() else {
-            return Ok(matches!(outcome, Outcome::NothingInFlight));
-        };
-        let doubt = self.doubts.place_of_oldest(device);
-        if let Some(doubt) = doubt {
-            if self.doubts.begun_at(doubt).is_some() {
-                return self.commit_step(alloc, place, doubt, outcome);
-            }
-        }
-        let mut frames = Vec::new(alloc);
-        match doubt.and_then(|place| self.doubts.at(place)) {
-            None => frames.push(made.frame)?,
-            Some(doubt) => frames.extend_from_slice(&doubt.frames)?,
-        }
-        let offset = (made.access.address % PAGE_SIZE) as usize;
-        let (kind, asked) = (made.access.kind, made.access.len);
-        match (outcome, kind) {
-            (Outcome::Read(bytes), AccessKind::Read) => {
-                if let [frame] = frames.as_slice() {
-                    self.reveal(alloc, *frame, offset, bytes.as_slice())?;
-                }
-                self.commit_read(place, doubt, frames, offset, bytes.as_slice(), asked)
-            }
-            (Outcome::Wrote(len), AccessKind::Write) if *len == asked => {
-                self.commit_write(alloc, place, doubt, &frames, offset)
-            }
-            _ => Ok(false),
-        }
-    }
-
-    /// A read is made on one of the frames.
-    fn commit_read(
-        &mut self,
-        place: usize,
-        doubt: Option<usize>,
-        frames: Vec<u32>,
-        offset: usize,
-        bytes: &[u8],
-        len: u64,
-    ) -> Result<bool, AllocError> {
-        let mut frames = frames;
-        let known = &self.known;
-        let versions = &self.versions;
-        frames.retain(|frame| versions.may_show(known, *frame, offset, bytes));
-        let Some(frame) = frames.first().copied() else {
-            return Ok(false);
-        };
-        if bytes.len() as u64 != len {
-            return Ok(false);
-        }
-        self.versions.narrow(&self.known, &frames, offset, bytes);
-        self.keep_one(&frames, offset, bytes);
-        if let Some(doubt) = doubt {
-            self.doubts.decide(&mut self.known, doubt, frame);
-        }
-        self.unseen.close_all(&frames, offset, bytes.len())?;
-        if place < self.known.devices.as_slice().len() {
-            drop_oldest(&mut self.known.devices, place);
-        }
-        Ok(true)
-    }
-
-    /// One of the frames, which are the only ones that may have these bytes, has them.
-    pub(crate) fn keep_one(&mut self, frames: &[u32], offset: usize, bytes: &[u8]) {
-        for frame in frames {
-            if !has_other(&self.known, *frame) {
-                return;
-            }
-        }
-        let Some(first) = frames.first() else {
-            return;
-        };
-        let number = *first as usize;
-        if number < self.known.frames.as_slice().len() {
-            let _may_show = keep(self.known.frames.item_mut(number), offset, bytes);
-        }
-        if frames.len() > 1 {
-            self.known.is_exact = false;
-        }
-    }
-
-    /// The frames have what is believed of their bytes, and not what they may have instead.
-    fn leave_others(&mut self, frames: &[u32]) {
-        for frame in frames {
-            if has_other(&self.known, *frame) {
-                let number = *frame as usize;
-                if number < self.known.frames.as_slice().len() {
-                    self.known.frames.item_mut(number).other = None;
-                }
-                self.known.is_exact = false;
-            }
-        }
-    }
-
-    /// A write is made on one of the frames.
-    fn commit_write(
-        &mut self,
-        alloc: Global,
-        place: usize,
-        doubt: Option<usize>,
-        frames: &[u32],
-        offset: usize,
-    ) -> Result<bool, AllocError> {
-        if place >= self.known.devices.as_slice().len() {
-            return Ok(false);
-        }
-        let device = self.known.devices.item_mut(place);
-        if device.in_flight.as_slice().is_empty() {
-            return Ok(false);
-        }
-        let made = device.in_flight.pop_front();
-        let bytes = made.access.bytes.as_slice();
-        if let Some(doubt) = doubt {
-            self.doubts.forget(doubt);
-        }
-        self.unseen.close_all(frames, offset, bytes.len())?;
-        let is_whole = match frames {
-            [frame] => self.write(alloc, *frame, offset, bytes)?,
-            _ => self
-                .versions
-                .part(alloc, &self.known, frames, offset, bytes)?,
-        };
-        if !is_whole {
-            self.known.is_exact = false;
-        }
-        Ok(true)
-    }
-
-    /// The bytes are written into the frame.
-    fn write(
-        &mut self,
-        alloc: Global,
-        frame: u32,
-        offset: usize,
-        bytes: &[u8],
-    ) -> Result<bool, AllocError> {
-        let number = frame as usize;
-        if number < self.known.frames.as_slice().len() {
-            let _fits = store(alloc, self.known.frames.item_mut(number), offset, bytes)?;
-        }
-        self.versions.write(alloc, frame, offset, bytes)
-    }
-
-    /// A commit.
-    fn commit(
-        &mut self,
-        alloc: Global,
-        id: DeviceId,
-        outcome: &Outcome,
-    ) -> Result<bool, AllocError> {
-        let Some(place) = place_of(self.known.devices.as_slice(), id) else {
-            return Ok(answers_absent(outcome));
-        };
-        let may_come = self.commit_in_doubt(alloc, place, outcome)?;
-        self.versions.settle(alloc, &mut self.known)?;
-        Ok(may_come)
-    }
-
-    /// A poke.
-    fn poke(
-        &mut self,
-        alloc: Global,
-        address: u64,
-        bytes: &[u8],
-        outcome: &Outcome,
-    ) -> Result<bool, AllocError> {
-        let may_come = poke(alloc, &mut self.known, address, bytes, outcome)?;
-        if may_come && matches!(outcome, Outcome::Done) {
-            let Ok(frame) = u32::try_from(address / PAGE_SIZE) else {
-                return Ok(may_come);
-            };
-            let offset = (address % PAGE_SIZE) as usize;
-            self.unseen.close(Run::new(frame, offset, bytes.len()))?;
-            if !self.versions.write(alloc, frame, offset, bytes)? {
-                self.known.is_exact = false;
-            }
-        }
-        Ok(may_come)
-    }
-
-    /// A peek, where memory may be in several ways.
-    fn peek_versions(
-        &mut self,
-        alloc: Global,
-        address: u64,
-        len: u64,
-        outcome: &Outcome,
-    ) -> Result<bool, AllocError> {
-        if self.versions.is_known() {
-            return Ok(peek(&mut self.known, address, len, outcome));
-        }
-        let Outcome::Bytes(bytes) = outcome else {
-            return Ok(peek(&mut self.known, address, len, outcome));
-        };
-        let Ok(frame) = u32::try_from(address / PAGE_SIZE) else {
-            return Ok(peek(&mut self.known, address, len, outcome));
-        };
-        let offset = (address % PAGE_SIZE) as usize;
-        let bytes = bytes.as_slice();
-        let fits = bytes.len() as u64 == len && self.versions.touches(frame);
-        if !fits || !self.versions.may_show(&self.known, frame, offset, bytes) {
-            return Ok(peek(&mut self.known, address, len, outcome));
-        }
-        if may_be_somebodys(&self.known, u64::from(frame)) {
-            self.known.is_exact = false;
-        }
-        self.versions.narrow(&self.known, &[frame], offset, bytes);
-        self.versions.settle(alloc, &mut self.known)?;
-        Ok(true)
-    }
-
-    /// A peek.
-    fn peek(
-        &mut self,
-        alloc: Global,
-        address: u64,
-        len: u64,
-        outcome: &Outcome,
-    ) -> Result<bool, AllocError> {
-        let (Outcome::Bytes(bytes), Ok(frame)) = (outcome, u32::try_from(address / PAGE_SIZE))
-        else {
-            return self.peek_versions(alloc, address, len, outcome);
-        };
-        let offset = (address % PAGE_SIZE) as usize;
-        self.reveal(alloc, frame, offset, bytes.as_slice())?;
-        let may_come = self.peek_versions(alloc, address, len, outcome)?;
-        self.unseen.close(Run::new(frame, offset, bytes.len()))?;
-        Ok(may_come)
     }
 
     /// Whether this may come of the event, where the lines so far are lawful. Where it may, what is believed afterwards is
@@ -445,7 +234,7 @@ impl Belief {
         outcome: &Outcome,
         shown: Shown<'_>,
     ) -> Result<bool, AllocError>
-        ensures explained { self.old.doubts.all.items ≡ [] → self.old.unseen.all.items ≡ [] → self.old.versions.all.items ≡ []
+        ensures explained { self.old.doubts.all.items ≡ [] → self.old.memory.unseen.all.items ≡ [] → self.old.memory.versions.all.items ≡ []
             → IfOk result (λ may. IsTrue may → (past : Past) → IsTrueOf self.old.known past
             → IsExplained self.old.known self.new.known event outcome.now past) }
         ensures followed { IfOk result (λ may. IsTrue may → IsTrue self.new.is_followed → Follows self.old self.new event outcome.now) }
@@ -496,42 +285,78 @@ impl Belief {
         outcome: &Outcome,
         tables: Option<&[u32]>,
     ) -> Result<bool, AllocError>
-        ensures explained { self.old.doubts.all.items ≡ [] → self.old.unseen.all.items ≡ [] → self.old.versions.all.items ≡ []
+        ensures explained { self.old.doubts.all.items ≡ [] → self.old.memory.unseen.all.items ≡ [] → self.old.memory.versions.all.items ≡ []
             → IfOk result (λ may. IsTrue may → (past : Past) → IsTrueOf self.old.known past
             → IsExplained self.old.known self.new.known event.now outcome.now past) }
         ensures followed { IfOk result (λ may. IsTrue may → IsTrue self.new.is_followed → Follows self.old self.new event.now outcome.now) }
     {
         let question = self.question_of(event, outcome);
         if self.is_settled() {
-            return self.known.act(alloc, event, outcome, tables, question);
+            return act(&mut self.known, alloc, event, outcome, tables, question);
         }
         if let Event::Poll = event {
             return self.poll(alloc, outcome);
         }
-        if self.is_ready_for(alloc, event, outcome)? {
-            return self.known.act(alloc, event, outcome, tables, question);
+        if self.is_ready(alloc, event, outcome)? {
+            return act(&mut self.known, alloc, event, outcome, tables, question);
         }
-        let may_come = self.act_in_doubt(alloc, event, outcome, tables, question)?;
+        let may_come = act_in_doubt(
+            alloc,
+            &mut self.known,
+            &mut self.doubts,
+            &mut self.memory,
+            event,
+            outcome,
+            tables,
+            question,
+        )?;
         self.is_followed = false;
         Ok(may_come)
     }
 
-    /// The same, where something is in doubt on which it may depend.
-    fn act_in_doubt(
+    /// Whether each line so far was followed, and the event with this outcome can be as if nothing were in doubt. An access
+    /// that is made is put where it may be.
+    fn is_ready(
         &mut self,
         alloc: Global,
         event: &Event,
         outcome: &Outcome,
-        tables: Option<&[u32]>,
-        question: Option<Question>,
-    ) -> Result<bool, AllocError> {
-        match event {
-            Event::Commit { device } => self.commit(alloc, *device, outcome),
-            Event::Poke { address, bytes } => {
-                self.poke(alloc, *address, bytes.as_slice(), outcome)
-            }
-            Event::Peek { address, len } => self.peek(alloc, *address, *len, outcome),
-            _ => self.known.act(alloc, event, outcome, tables, question),
+    ) -> Result<bool, AllocError>
+        ensures { IfOk result (λ ready. IsTrue ready → IsReadyFor self.old.known self.old.doubts.all.items self.new.known event.now outcome.now
+            × AreAmong self.new.doubts.all.items self.old.doubts.all.items) }
+    {
+        if !self.is_followed {
+            return Ok(false);
+        }
+        is_ready_for(
+            alloc,
+            &mut self.known,
+            &mut self.doubts,
+            &mut self.memory,
+            event,
+            outcome,
+        )
+    }
+
+    /// What a judge ahead saw of writes. It changes nothing but which write is believed where one isn't shown.
+    pub(crate) fn hear(&mut self, seen: Vec<SeenWrite>) -> Result<(), AllocError>
+        ensures { (self.new.known ≡ self.old.known) × (self.new.doubts ≡ self.old.doubts) }
+    {
+        self.memory.hear(seen)
+    }
+
+    /// Notes what was perhaps taken for tables, and what bytes showed that weren't followed.
+    fn note_frames(&mut self, event: &Event, outcome: &Outcome)
+        ensures known { self.new.known ≡ self.old.known }
+        ensures followed { self.new.is_followed ≡ self.old.is_followed }
+        ensures doubts { self.new.doubts ≡ self.old.doubts }
+    {
+        if may_take_tables(event, outcome) {
+            self.memory.unseen.leave_taken(&self.known);
+        }
+        // bytes that weren't followed may have shown that the frame is somebody's, and it need not be
+        if !self.memory.is_whole_in_bytes && shows_somebodys(&self.known, event, outcome) {
+            self.memory.is_whole = false;
         }
     }
 
@@ -541,26 +366,8 @@ impl Belief {
         ensures followed { self.new.is_followed ≡ self.old.is_followed }
         ensures doubts { self.new.doubts ≡ self.old.doubts }
     {
-        match (event, outcome) {
-            (Event::Release { device, page }, Outcome::Ticket(ticket)) => {
-                self.releases.note(*ticket, *device, Some(*page))?;
-            }
-            (Event::Quarantine { device }, Outcome::Ticket(ticket)) => {
-                self.releases.note(*ticket, *device, None)?;
-            }
-            (Event::Poll, Outcome::Confirmed { last, .. }) => self.releases.confirm(*last),
-            (Event::Attach { .. } | Event::Grant { .. }, Outcome::Done) => {
-                self.unseen.leave_taken(&self.known);
-            }
-            // bytes that weren't followed may have shown that the frame is somebody's, and it need not be
-            (Event::Peek { address, .. }, Outcome::Bytes(_))
-                if !self.is_whole_in_bytes && !may_be_nobodys(&self.known, *address / PAGE_SIZE) =>
-                {
-                    self.is_whole = false;
-                }
-            _ => {}
-        }
-        self.messages.note(event, outcome)
+        self.note_frames(event, outcome);
+        self.notes.note(event, outcome)
     }
 
     /// The same, and notes what comes of it.
@@ -571,7 +378,7 @@ impl Belief {
         outcome: &Outcome,
         tables: Option<&[u32]>,
     ) -> Result<bool, AllocError>
-        ensures explained { self.old.doubts.all.items ≡ [] → self.old.unseen.all.items ≡ [] → self.old.versions.all.items ≡ []
+        ensures explained { self.old.doubts.all.items ≡ [] → self.old.memory.unseen.all.items ≡ [] → self.old.memory.versions.all.items ≡ []
             → IfOk result (λ may. IsTrue may → (past : Past) → IsTrueOf self.old.known past
             → IsExplained self.old.known self.new.known event.now outcome.now past) }
         ensures followed { IfOk result (λ may. IsTrue may → IsTrue self.new.is_followed → Follows self.old self.new event.now outcome.now) }

@@ -9,11 +9,11 @@ ghost use Rattle.iom_judge.specs.Certified.{CertifyIf, GoesOn, HasJudged};
 
 use crate::belief::{Belief, Shown};
 use crate::hindsight::Judges;
-use crate::subject::Subject;
-use crate::unseen::SeenWrite;
 use crate::verdict::Verdict;
 use iom_base::Access;
+use iom_doubts::unseen::SeenWrite;
 use iom_machine::{Event, Outcome};
+use iom_reasons::Subject;
 use iom_script::{LineBuffer, WorldSize};
 use iom_trace_lines::{Lines, NextLine, TraceLine, read_line};
 use std::alloc::Global;
@@ -155,7 +155,7 @@ impl Judge {
     pub(crate) fn take_seen(&mut self) -> Vec<SeenWrite> {
         match &mut self.belief {
             None => Vec::new(self.alloc),
-            Some(belief) => belief.take_seen(self.alloc),
+            Some(belief) => belief.memory.take_seen(self.alloc),
         }
     }
 

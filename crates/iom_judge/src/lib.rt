@@ -7,21 +7,12 @@
 //! longer trace.
 #![tactic(auto)]
 
-mod begun;
 mod belief;
-mod doubts;
-mod explain;
-mod following;
 mod hindsight;
+mod in_doubt;
 mod judging;
-mod messages;
-mod releases;
 mod steps;
-mod subject;
-mod unseen;
 mod verdict;
-mod versions;
-mod words;
 
 pub use iom_known::{Known, explained_lines_are_a_run};
 pub use iom_trace_lines::{read_outcome, trace_of};

@@ -1,5 +1,5 @@
 -- Lists by their places: changed element by element, numbered by a test, and frames that become an owner's.
-use Rattle.std.proofs.Common.{◌≡◌, ◌≢◌, ◌∙◌, ◌+◌, ◌<◌, ℕ, zero, suc, Bool, true, false, cond, ◌||◌, nat_eq, List, [], ◌∷◌, All, Option, None, Some, length, slice_get, slice_set, refl, sym, ap, arith}
+use Rattle.std.proofs.Common.{◌≡◌, ◌≢◌, ◌∙◌, ◌+◌, ◌<◌, ℕ, zero, suc, Bool, true, false, cond, ◌||◌, nat_eq, List, [], ◌∷◌, All, Option, None, Some, length, slice_get, slice_set, refl, sym, ap, subst, arith}
 use Rattle.std.specs.List.{list_any}
 use Rattle.std.specs.Option.{option_map, option_map_or}
 use Rattle.std.proofs.lemmas.Bool.{false≢true, eqb-true, eq-eqb}
@@ -144,3 +144,21 @@ reserved_at owner (n ∷ numbers) frames k =
     reserved_at owner numbers (with_frame frames n (λ frame. record frame { owner = Some owner })) k
     ∙ ap (option_map (owned (list_any (nat_eq k) numbers) owner)) (with_owner_at owner frames n k)
     ∙ owned_twice owner (slice_get frames k) (nat_eq k n) (list_any (nat_eq k) numbers)
+
+-- what there is for each number, as a list
+pub chosen : {X : Type 0} (P : ℕ → X → Type 0) (n : ℕ) → ((k : ℕ) → k < n → (x : X) × P k x) → (xs : List X) × (length xs ≡ n) × ((k : ℕ) (x : X) → slice_get xs k ≡ Some x → P k x)
+chosen P zero each = ([], refl, (λ k x at. absurd (none x at)))
+  where
+    none : {Y : Type 0} (y : Y) → ◌≡◌ {A = Option Y} None (Some y) → ⊥
+    none y e = cc
+chosen P (suc n) each =
+    let first = each 0 (omega arith) in
+    let rest = chosen (λ k. P (suc k)) n (λ k low. each (suc k) (omega (arith, low))) in
+    (first.0 ∷ rest.0, ap (λ (k : ℕ). suc k) rest.1, by first.0 first.1 rest.0 rest.2)
+  where
+    some_same : {Y : Type 0} (a b : Y) → ◌≡◌ {A = Option Y} (Some a) (Some b) → a ≡ b
+    some_same a b e = cc
+
+    by : (x : _) → P 0 x → (xs : List _) → ((k : ℕ) (y : _) → slice_get xs k ≡ Some y → P (suc k) y) → (k : ℕ) (y : _) → slice_get (x ∷ xs) k ≡ Some y → P k y
+    by x is xs later zero y at = subst (P 0) (some_same x y at) is
+    by x is xs later (suc k) y at = later k y at

@@ -21,12 +21,10 @@ use Rattle.iom_machine.proofs.HeadlineLemmas.{element_at}
 use Rattle.iom_machine.proofs.InFlightLemmas.{All-at}
 use Rattle.iom_machine.proofs.SoundLemmas.{length-reserved_for}
 use Rattle.iom_known.specs.Allowed.{Past, IsTrueOf, IsAsBelieved, MayOwn, MayHaveBytes, bytes_believed, ids_of}
-use Rattle.iom_known.specs.Owners.{HasSomeOwner}
-use Rattle.iom_known.specs.Starts.{frame_of_zeros, IsPowerOn, SomeAreAllowed}
+use Rattle.iom_known.specs.Starts.{HasSomeOwner, frame_of_zeros, IsPowerOn, SomeAreAllowed}
 use Rattle.iom_known.specs.declared.frames.BelievedFrame.{BelievedFrame}
 use Rattle.iom_known.specs.declared.known.Known.{Known}
-use Rattle.iom_known.proofs.ListLemmas.{same_elements, owned, reserved_at}
-use Rattle.iom_known.proofs.PollSteps.{chosen}
+use Rattle.iom_known.proofs.ListLemmas.{chosen, same_elements, owned, reserved_at}
 
 -- the system had zeros
 abbrev pub had_zeros : ℕ → Owner → List ℕ → Bool

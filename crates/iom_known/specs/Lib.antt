@@ -1,9 +1,7 @@
 pub mod Allowed
 pub mod Asked
 pub mod Contents
-pub mod Leaves
 pub mod Lines
-pub mod Owners
 pub mod Reached
 pub mod Reasons
 pub mod Starts

@@ -1,5 +1,7 @@
 -- What is believed at power-on: the machine's state then, and no other.
-use Rattle.std.specs.Prelude.{◌≡◌, ℕ, List, [], None}
+use Rattle.std.specs.Prelude.{◌≡◌, ℕ, ◌+◌, ◌<◌, List, [], None}
+use Rattle.std.specs.Int.{bit_at}
+use Rattle.iom_base.specs.Sizes.{device_limit}
 use Rattle.iom_machine.specs.PowerOn.{opening}
 use Rattle.iom_machine.specs.declared.state.Frame.{Frame}
 use Rattle.iom_known.specs.Allowed.{Past, IsTrueOf, AreAllowed, state_of}
@@ -21,3 +23,7 @@ pub record IsPowerOn (known : Known) (frames levels : ℕ) (disks : List ℕ) : 
 -- some frames are allowed
 abbrev pub SomeAreAllowed : Known → Past → Type 0
 SomeAreAllowed known past = (frames : List Frame) × AreAllowed known past frames
+
+-- somebody may be the frame's owner, or it may be nobody's
+abbrev pub HasSomeOwner : BelievedFrame → Type 0
+HasSomeOwner believed = (k : ℕ) × (k < device_limit + 2) × (bit_at believed.owners k ≡ 1)

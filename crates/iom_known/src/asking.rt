@@ -94,7 +94,7 @@ fn accept(
 }
 
 /// An access of the device at the place that the IOMMU translates. Where it is accepted, that is on this frame.
-pub(crate) fn answer(
+pub fn answer(
     known: &mut Known,
     place: usize,
     access: Access,
@@ -120,7 +120,7 @@ pub(crate) fn answer(
 }
 
 /// An access of the device at the place through its own cache. Where it is accepted, that is on this frame.
-pub(crate) fn answer_through_cache(
+pub fn answer_through_cache(
     known: &mut Known,
     place: usize,
     access: Access,

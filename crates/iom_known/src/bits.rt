@@ -3,7 +3,7 @@ ghost use Rattle.std.specs.Prelude.{◌≡◌, ◌≢◌, ◌↔◌, ◌<◌, �
 ghost use Rattle.std.specs.Int.{bit_at};
 
 /// Whether the bit at the place is set.
-pub(crate) fn has_bit(word: u64, place: u32) -> bool
+pub fn has_bit(word: u64, place: u32) -> bool
     requires { place < 64 }
     ensures { IsTrue result ↔ (bit_at word place ≡ 1) }
 {
@@ -11,7 +11,7 @@ pub(crate) fn has_bit(word: u64, place: u32) -> bool
 }
 
 /// The word with the bit at the place set.
-pub(crate) fn with_bit(word: u64, place: u32) -> u64
+pub fn with_bit(word: u64, place: u32) -> u64
     requires { place < 64 }
     ensures set { bit_at result place ≡ 1 }
     ensures others { (k : ℕ) → k ≢ place → bit_at result k ≡ bit_at word k }
@@ -20,7 +20,7 @@ pub(crate) fn with_bit(word: u64, place: u32) -> u64
 }
 
 /// The word with the bit at the place clear.
-pub(crate) fn without_bit(word: u64, place: u32) -> u64
+pub fn without_bit(word: u64, place: u32) -> u64
     requires { place < 64 }
     ensures clear { bit_at result place ≡ 0 }
     ensures others { (k : ℕ) → k < 64 → k ≢ place → bit_at result k ≡ bit_at word k }

@@ -29,7 +29,7 @@ fn may_lack_context(attachment: Attachment) -> bool
 }
 
 /// Whether the IOMMU may find no context of the device, and refuse what it sends with the cause.
-pub(crate) fn may_find_no_context(known: &Known, device: &Device, cause: Cause) -> bool
+pub fn may_find_no_context(known: &Known, device: &Device, cause: Cause) -> bool
     ensures { IsTrue result → MayFindNoContext (bare known.now) device.now cause }
 {
     if !may_lack_context(device.attachment) {
@@ -39,7 +39,7 @@ pub(crate) fn may_find_no_context(known: &Known, device: &Device, cause: Cause) 
 }
 
 /// Whether a request that says it is translated already may be refused, with the cause.
-pub(crate) fn may_fault_translated(known: &Known, device: &Device, cause: Cause) -> bool
+pub fn may_fault_translated(known: &Known, device: &Device, cause: Cause) -> bool
     ensures { IsTrue result → MayFaultTranslated (bare known.now) device.now cause }
 {
     if is_same_cause(cause, Cause::TransactionTypeDisallowed) {
@@ -59,7 +59,7 @@ fn faults_translated(known: &Known, device: &Device, access: &Access, cause: Cau
 }
 
 /// Whether a plugged device's request that says it is translated already may be answered so.
-pub(crate) fn may_answer_translated(
+pub fn may_answer_translated(
     known: &Known,
     device: &Device,
     access: &Access,
@@ -132,7 +132,7 @@ fn finds_no_context(known: &Known, device: &Device, access: &Access, cause: Caus
 }
 
 /// Whether this may come of a plugged device's access through its cache.
-pub(crate) fn may_answer_cached(
+pub fn may_answer_cached(
     known: &Known,
     device: &Device,
     access: &Access,

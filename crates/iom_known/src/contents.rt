@@ -19,7 +19,7 @@ fn ends_within(offset: usize, len: usize, limit: usize) -> bool
 }
 
 /// Whether all the bytes are zero.
-pub(crate) fn are_zero(bytes: &[u8]) -> bool
+pub fn are_zero(bytes: &[u8]) -> bool
     ensures { IsTrue result ↔ EachIndex bytes.now (λ k. slice_index bytes.now k ≡ 0) }
 {
     bytes.iter().all(|byte| *byte == 0)
@@ -197,12 +197,7 @@ fn may_be_nobodys_at(frames: &[BelievedFrame], number: usize) -> bool
 }
 
 /// Whether there is such a frame, and it may be nobody's and have these bytes from the offset on.
-pub(crate) fn may_show_at(
-    frames: &[BelievedFrame],
-    number: usize,
-    offset: usize,
-    bytes: &[u8],
-) -> bool {
+pub fn may_show_at(frames: &[BelievedFrame], number: usize, offset: usize, bytes: &[u8]) -> bool {
     match frames.get(number) {
         None => false,
         Some(believed) => believed.may_be_nobodys() && shows(believed, offset, bytes),
@@ -210,7 +205,7 @@ pub(crate) fn may_show_at(
 }
 
 /// The frame has these bytes from the offset on where it is nobody's, if that may be.
-pub(crate) fn keep_at(
+pub fn keep_at(
     frames: &mut Sequence<BelievedFrame>,
     number: usize,
     offset: usize,
@@ -226,7 +221,7 @@ pub(crate) fn keep_at(
 }
 
 /// The frame is nobody's and has these bytes from the offset on, where that may be.
-pub(crate) fn keep_nobodys(
+pub fn keep_nobodys(
     frames: &mut Sequence<BelievedFrame>,
     number: usize,
     offset: usize,
@@ -247,7 +242,7 @@ pub(crate) fn keep_nobodys(
 }
 
 /// The bytes are written into the frame from the offset on, which is nobody's, where that may be.
-pub(crate) fn store_nobodys(
+pub fn store_nobodys(
     alloc: Global,
     frames: &mut Sequence<BelievedFrame>,
     number: usize,
@@ -270,7 +265,7 @@ pub(crate) fn store_nobodys(
 }
 
 /// The frame is somebody's, where it may be.
-pub(crate) fn be_somebodys(frames: &mut Sequence<BelievedFrame>, number: usize) -> bool
+pub fn be_somebodys(frames: &mut Sequence<BelievedFrame>, number: usize) -> bool
     ensures { IsTrue result → ChangesAt number frames.old frames.new IsSomebodysNow }
 {
     if number >= frames.as_slice().len() {

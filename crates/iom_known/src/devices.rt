@@ -36,7 +36,7 @@ pub fn place_of(devices: &[Device], id: DeviceId) -> Option<usize>
 }
 
 /// How the device is attached, of these; detached, where it is none of them.
-pub(crate) fn attachment_in(devices: &[Device], id: DeviceId) -> Attachment
+pub fn attachment_in(devices: &[Device], id: DeviceId) -> Attachment
     ensures { result ≡ attachment_in devices.now id }
 {
     match device_with(devices, id) {
@@ -46,7 +46,7 @@ pub(crate) fn attachment_in(devices: &[Device], id: DeviceId) -> Attachment
 }
 
 /// The device is so attached.
-pub(crate) fn set_attachment(devices: &mut Sequence<Device>, place: usize, attachment: Attachment)
+pub fn set_attachment(devices: &mut Sequence<Device>, place: usize, attachment: Attachment)
     requires { place < length devices.old }
     ensures { (device : Device) → slice_get devices.old place ≡ Some device
         → devices.new ≡ slice_set devices.old place (record device { attachment = attachment }) }
@@ -66,7 +66,7 @@ fn leaving_under(ticket: u32, attachment: Attachment) -> Attachment
 }
 
 /// The device has a disk.
-pub(crate) fn give_disk(devices: &mut Sequence<Device>, place: usize)
+pub fn give_disk(devices: &mut Sequence<Device>, place: usize)
     requires { place < length devices.old }
     ensures { (device : Device) → slice_get devices.old place ≡ Some device
         → devices.new ≡ slice_set devices.old place (record device { has_disk = true }) }
@@ -76,7 +76,7 @@ pub(crate) fn give_disk(devices: &mut Sequence<Device>, place: usize)
 }
 
 /// The device leaves under the ticket, where it is attached, and has no disk any more.
-pub(crate) fn start_leaving(devices: &mut Sequence<Device>, place: usize, ticket: u32)
+pub fn start_leaving(devices: &mut Sequence<Device>, place: usize, ticket: u32)
     requires { place < length devices.old }
     ensures { (device : Device) → slice_get devices.old place ≡ Some device
         → devices.new ≡ slice_set devices.old place
@@ -98,7 +98,7 @@ fn cut_off_under(ticket: u32, attachment: Attachment) -> Attachment
 }
 
 /// The device is cut off under the ticket, where it is attached.
-pub(crate) fn cut_off(devices: &mut Sequence<Device>, place: usize, ticket: u32)
+pub fn cut_off(devices: &mut Sequence<Device>, place: usize, ticket: u32)
     requires { place < length devices.old }
     ensures { (device : Device) → slice_get devices.old place ≡ Some device
         → devices.new ≡ slice_set devices.old place (record device { attachment = cut_off_under ticket device.attachment }) }
@@ -118,7 +118,7 @@ fn attached_again(attachment: Attachment) -> Attachment
 }
 
 /// The device is attached again as it was before, where it is cut off.
-pub(crate) fn attach_again(devices: &mut Sequence<Device>, place: usize)
+pub fn attach_again(devices: &mut Sequence<Device>, place: usize)
     requires { place < length devices.old }
     ensures { (device : Device) → slice_get devices.old place ≡ Some device
         → devices.new ≡ slice_set devices.old place (record device { attachment = attached_again device.attachment }) }

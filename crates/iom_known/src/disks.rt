@@ -3,14 +3,14 @@ ghost use Rattle.std.specs.Prelude.{◌≡◌};
 ghost use Rattle.iom_machine.specs.Disks.{is_among, is_missing, without_disk};
 
 /// Whether the disk is one of these.
-pub(crate) fn is_among(disks: &[u64], disk: u64) -> bool
+pub fn is_among(disks: &[u64], disk: u64) -> bool
     ensures { result ≡ is_among disks.now disk }
 {
     disks.iter().any(|other| *other == disk)
 }
 
 /// Whether a disk is named, and isn't one of these.
-pub(crate) fn is_missing(disks: &[u64], named: Option<u64>) -> bool
+pub fn is_missing(disks: &[u64], named: Option<u64>) -> bool
     ensures { result ≡ is_missing disks.now named }
 {
     match named {
@@ -20,7 +20,7 @@ pub(crate) fn is_missing(disks: &[u64], named: Option<u64>) -> bool
 }
 
 /// The disk that is named, if one is, is put into a device, and so is no more among these.
-pub(crate) fn take_out(disks: &mut Vec<u64>, named: Option<u64>)
+pub fn take_out(disks: &mut Vec<u64>, named: Option<u64>)
     ensures { disks.new.items ≡ without_disk named disks.old.items }
 {
     if let Some(disk) = named {

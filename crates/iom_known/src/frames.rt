@@ -6,22 +6,22 @@ use iom_base::Sequence;
 use std::alloc::Global;
 
 /// The place among a frame's possible owners that stands for nobody.
-pub(crate) const NOBODY: u32 = 0;
+pub const NOBODY: u32 = 0;
 
 /// The place that stands for the system.
-pub(crate) const SYSTEM: u32 = 1;
+pub const SYSTEM: u32 = 1;
 
 /// The place that stands for the first device plugged in; those of the others follow.
 const FIRST_DEVICE: u32 = 2;
 
 /// The frame is nobody's, and that is certain.
-pub(crate) const ONLY_NOBODY: u64 = 1;
+pub const ONLY_NOBODY: u64 = 1;
 
 /// The frame is the system's.
-pub(crate) const ONLY_SYSTEM: u64 = 2;
+pub const ONLY_SYSTEM: u64 = 2;
 
 /// The place of the device that was plugged in as the one with this number, counted from 0.
-pub(crate) fn place_of_owner(device: usize) -> u32
+pub fn place_of_owner(device: usize) -> u32
     requires { device < 16 }
     ensures { result ≡ device + 2 }
 {
@@ -45,7 +45,7 @@ impl BelievedFrame {
     ghost use Rattle.iom_known.specs.Starts.{frame_of_zeros};
 
     /// A frame of zeros with these possible owners.
-    pub(crate) fn of_zeros(alloc: Global, owners: u64) -> BelievedFrame
+    pub fn of_zeros(alloc: Global, owners: u64) -> BelievedFrame
         ensures { result ≡ frame_of_zeros owners }
     {
         BelievedFrame {
@@ -68,7 +68,7 @@ impl BelievedFrame {
     }
 
     /// It is nobody's.
-    pub(crate) fn set_nobodys(&mut self)
+    pub fn set_nobodys(&mut self)
         ensures { self.new ≡ record self.old { owners = 1 } }
     {
         self.owners = ONLY_NOBODY;

@@ -7,7 +7,7 @@ use iom_base::{AcceptedAccess, Sequence};
 use iom_machine::Device;
 
 /// Whether the device has nothing in flight.
-pub(crate) fn is_idle(device: &Device) -> bool
+pub fn is_idle(device: &Device) -> bool
     ensures { IsTrue result ↔ (device.now.in_flight ≡ []) }
 {
     match device.in_flight.as_slice() {
@@ -17,7 +17,7 @@ pub(crate) fn is_idle(device: &Device) -> bool
 }
 
 /// The oldest access in flight of the device at the place.
-pub(crate) fn oldest(devices: &[Device], place: usize) -> Option<&AcceptedAccess>
+pub fn oldest(devices: &[Device], place: usize) -> Option<&AcceptedAccess>
     requires { place < length devices.now }
     ensures { (device : Device) → slice_get devices.now place ≡ Some device
         → option_copied result ≡ slice_get device.in_flight 0 }
@@ -26,7 +26,7 @@ pub(crate) fn oldest(devices: &[Device], place: usize) -> Option<&AcceptedAccess
 }
 
 /// Takes the oldest access of the device at the place, which is in flight no more.
-pub(crate) fn take_oldest(devices: &mut Sequence<Device>, place: usize) -> AcceptedAccess
+pub fn take_oldest(devices: &mut Sequence<Device>, place: usize) -> AcceptedAccess
     requires { (place < length devices.old) × ((device : Device) → slice_get devices.old place ≡ Some device → 0 < length device.in_flight) }
     ensures { (device : Device) → slice_get devices.old place ≡ Some device
         → (slice_get device.in_flight 0 ≡ Some result) × (devices.new ≡ slice_set devices.old place (record device { in_flight = drop 1 device.in_flight })) }

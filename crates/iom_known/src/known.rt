@@ -93,14 +93,14 @@ impl Known {
     }
 
     /// How many frames memory has.
-    pub(crate) fn frame_count(&self) -> u64
+    pub fn frame_count(&self) -> u64
         ensures { result ≡ length self.now.frames }
     {
         self.frames.as_slice().len() as u64
     }
 
     /// Whether the ticket is confirmed.
-    pub(crate) fn is_confirmed(&self, ticket: u32) -> bool
+    pub fn is_confirmed(&self, ticket: u32) -> bool
         ensures { (past : Past) → IsTrueOf self.now past → result ≡ confirms past.history ticket }
     {
         0 < ticket && ticket <= self.last_confirmed

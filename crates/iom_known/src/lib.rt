@@ -1,5 +1,5 @@
-//! What is known of the ledger machine's state where only its events and their outcomes are shown, and how each event
-//! changes that.
+//! What is known of the ledger machine's state where only its events and their outcomes are shown, and how an event changes
+//! that by which a device asks for an access. The events that ask for none are in `iom_known_acts`.
 //!
 //! A [`Known`] has the grants as an `iom_ledger` ledger, the devices with what they have in flight, and of each frame who
 //! may be its owner and which bytes it has. It allows states of the machine, each with a past that it is true of. Whoever
@@ -8,40 +8,27 @@
 //! access of a device in both stages may be on is for the layer above, which names one.
 #![tactic(auto)]
 
-mod acts;
 pub mod asked;
-mod asking;
-mod attaches;
-mod bits;
+pub mod asking;
+pub mod bits;
 pub mod block_devices;
 pub mod cached;
-mod calls;
-mod commits;
 pub mod contents;
 pub mod devices;
-mod disks;
-mod explained;
-mod frames;
-mod grants;
+pub mod disks;
+pub mod frames;
 pub mod in_flight;
 mod known;
 mod laws;
-mod leaves;
 pub mod owners;
-pub mod polls;
 mod possible;
-pub mod processor;
-mod questions;
 pub mod reach;
 pub mod reached;
 pub mod reasons;
 pub mod requests;
-mod scarce;
-mod taking;
 mod way;
 
 pub use frames::BelievedFrame;
 pub use known::Known;
 pub use laws::explained_lines_are_a_run;
-pub use questions::Question;
 pub use way::Way;

@@ -3,8 +3,7 @@ ghost use Rattle.std.specs.Prelude.{◌≡◌, ◌<◌, IsTrue, IfSome, IsSomeAn
 ghost use Rattle.iom_known.specs.declared.frames.BelievedFrame.{BelievedFrame};
 ghost use Rattle.std.specs.Int.{bit_at};
 
-use crate::bits::without_bit;
-use crate::frames::{BelievedFrame, NOBODY};
+use crate::frames::BelievedFrame;
 use crate::known::Known;
 use iom_base::Sequence;
 use iom_ledger::Ledger;
@@ -27,25 +26,8 @@ pub fn may_be_somebodys(known: &Known, frame: u64) -> bool {
     }
 }
 
-/// The frame is nobody's.
-pub(crate) fn set_nobodys(known: &mut Known, frame: u64) {
-    let frame = frame as usize;
-    if frame < known.frames.as_slice().len() {
-        known.frames.item_mut(frame).set_nobodys();
-    }
-}
-
-/// The frame is somebody's.
-pub(crate) fn set_somebodys(known: &mut Known, frame: u64) {
-    let frame = frame as usize;
-    if frame < known.frames.as_slice().len() {
-        let believed = known.frames.item_mut(frame);
-        believed.owners = without_bit(believed.owners, NOBODY);
-    }
-}
-
 /// The number of the frame, where one can have it.
-pub(crate) fn number_of(frame: u64) -> Option<u32>
+pub fn number_of(frame: u64) -> Option<u32>
     ensures { IfSome result (λ number. number ≡ frame) }
 {
     if frame < 1 << 32 {
@@ -56,7 +38,7 @@ pub(crate) fn number_of(frame: u64) -> Option<u32>
 }
 
 /// The possible owners of the frame.
-pub(crate) fn owners_of(known: &Known, frame: u64) -> Option<u64>
+pub fn owners_of(known: &Known, frame: u64) -> Option<u64>
     ensures { IfSome result (λ owners. IsSomeAnd (slice_get known.now.frames frame) (λ believed. owners ≡ believed.owners)) }
 {
     let believed = known.frames.as_slice().get(frame as usize)?;
@@ -64,7 +46,7 @@ pub(crate) fn owners_of(known: &Known, frame: u64) -> Option<u64>
 }
 
 /// The frame at the place has these possible owners.
-pub(crate) fn set_owners(frames: &mut Sequence<BelievedFrame>, place: usize, owners: u64)
+pub fn set_owners(frames: &mut Sequence<BelievedFrame>, place: usize, owners: u64)
     requires { place < length frames.old }
     ensures { (believed : BelievedFrame) → slice_get frames.old place ≡ Some believed
         → frames.new ≡ slice_set frames.old place (record believed { owners = owners }) }

@@ -1,6 +1,6 @@
 // Whether some state of the machine is as it is believed to be.
 ghost use Rattle.std.specs.Prelude.{IsTrue, All};
-ghost use Rattle.iom_known.specs.Owners.{HasSomeOwner};
+ghost use Rattle.iom_known.specs.Starts.{HasSomeOwner};
 
 use crate::bits::has_bit;
 use crate::frames::BelievedFrame;

@@ -20,7 +20,7 @@ fn serves(pair: Option<(u32, Rights)>, frame: u32, kind: AccessKind) -> bool
 }
 
 /// Whether the device holds the frame at the page, with such a right.
-pub(crate) fn holds_at(known: &Known, id: DeviceId, page: u64, frame: u32, kind: AccessKind) -> bool
+pub fn holds_at(known: &Known, id: DeviceId, page: u64, frame: u32, kind: AccessKind) -> bool
     ensures { IsTrue result → (past : Past) → IsTrueOf known.now past
         → (rights : Rights) × Holds past.history id page (frame, rights) × (allows rights kind ≡ true) }
 {
@@ -28,13 +28,7 @@ pub(crate) fn holds_at(known: &Known, id: DeviceId, page: u64, frame: u32, kind:
 }
 
 /// Whether the frame lingers at the page, with such a right.
-pub(crate) fn lingers_at(
-    known: &Known,
-    id: DeviceId,
-    page: u64,
-    frame: u32,
-    kind: AccessKind,
-) -> bool
+pub fn lingers_at(known: &Known, id: DeviceId, page: u64, frame: u32, kind: AccessKind) -> bool
     ensures { IsTrue result → (past : Past) → IsTrueOf known.now past
         → (rights : Rights) × Lingers past.history id page (frame, rights) × (allows rights kind ≡ true) }
 {
@@ -42,27 +36,36 @@ pub(crate) fn lingers_at(
 }
 
 /// Whether the device holds the frame where the access is to, with a right that allows it.
-pub(crate) fn holds(known: &Known, id: DeviceId, access: &Access, frame: u32) -> bool
+pub fn holds(known: &Known, id: DeviceId, access: &Access, frame: u32) -> bool
     ensures { IsTrue result → (past : Past) → IsTrueOf known.now past → HoldsFor past.history id access.now frame }
 {
     holds_at(known, id, access.address / PAGE_SIZE, frame, access.kind)
 }
 
 /// Whether the frame lingers there, with such a right.
-pub(crate) fn lingers(known: &Known, id: DeviceId, access: &Access, frame: u32) -> bool
+pub fn lingers(known: &Known, id: DeviceId, access: &Access, frame: u32) -> bool
     ensures { IsTrue result → (past : Past) → IsTrueOf known.now past → LingersFor past.history id access.now frame }
 {
     lingers_at(known, id, access.address / PAGE_SIZE, frame, access.kind)
 }
 
 /// Whether the device holds nothing there with such a right.
-pub(crate) fn holds_none(known: &Known, id: DeviceId, access: &Access) -> bool
+pub fn holds_none(known: &Known, id: DeviceId, access: &Access) -> bool
     ensures { IsTrue result → (past : Past) → IsTrueOf known.now past → HoldsNoneFor past.history id access.now }
 {
     match known.ledger.holds(id, access.address / PAGE_SIZE) {
         None => true,
         Some((_, rights)) => !rights.allows(access.kind),
     }
+}
+
+/// The frame that the device holds at the page, or that lingers there.
+pub fn frame_at(known: &Known, id: DeviceId, page: u64) -> Option<u32> {
+    let pair = known
+        .ledger
+        .holds(id, page)
+        .or(known.ledger.lingers(id, page))?;
+    Some(pair.0)
 }
 
 /// Whether the device may reach the frame at the page by an access of this kind.
@@ -90,7 +93,7 @@ pub fn may(known: &Known, id: DeviceId, frame: u32, kind: AccessKind) -> bool
 }
 
 /// Whether the frame lingers at some page of the device, with a right that allows the kind.
-pub(crate) fn lingers_somewhere(known: &Known, id: DeviceId, frame: u32, kind: AccessKind) -> bool
+pub fn lingers_somewhere(known: &Known, id: DeviceId, frame: u32, kind: AccessKind) -> bool
     ensures { IsTrue result → (past : Past) → IsTrueOf known.now past → LingersSomewhere past.history id frame kind }
 {
     for index in 0..known.ledger.page_count(id) {
@@ -105,7 +108,7 @@ pub(crate) fn lingers_somewhere(known: &Known, id: DeviceId, frame: u32, kind: A
 
 /// Whether the device may reach the frame by an access of this kind. It is looked for at this page first, so that
 /// the others needn't be.
-pub(crate) fn may_from(known: &Known, id: DeviceId, page: u64, frame: u32, kind: AccessKind) -> bool
+pub fn may_from(known: &Known, id: DeviceId, page: u64, frame: u32, kind: AccessKind) -> bool
     ensures { IsTrue result → (past : Past) → IsTrueOf known.now past → May past.history id frame kind }
 {
     if may_at(known, id, page, frame, kind) {

@@ -1,12 +1,18 @@
 // The frames that a device may reach, each once, in one pass over its pages.
-ghost use Rattle.std.specs.Prelude.{◌≡◌, ◌⊎◌, true, ℕ, IfOk, IfSome, IsTrue, OnOk};
+ghost use Rattle.std.specs.Prelude.{◌≡◌, ◌==◌, ◌⊎◌, true, ℕ, List, IfOk, IfSome, IsTrue, OnOk, Some, find, slice_get};
 ghost use Rattle.iom_base.specs.declared.access.AccessKind.{AccessKind};
 ghost use Rattle.iom_ledger.specs.History.{Holds, Lingers};
-ghost use Rattle.iom_known.specs.Allowed.{Past, IsTrueOf};
-ghost use Rattle.iom_known.specs.Reached.{IsReached, AreReached, IsServed, AreServed};
+ghost use Rattle.iom_machine.specs.Requests.{MayAccept};
+ghost use Rattle.iom_machine.specs.ThroughCache.{MayGoThrough};
+ghost use Rattle.iom_machine.specs.declared.state.Device.{Device};
+ghost use Rattle.iom_machine.specs.declared.state.Frame.{Frame};
+ghost use Rattle.iom_known.specs.Allowed.{Past, IsTrueOf, state_of};
+ghost use Rattle.iom_known.specs.Reached.{IsReached, AreReached, IsServed, AreServed, HasBothStages};
 
+use crate::devices::place_of;
 use crate::known::Known;
-use iom_base::{AccessKind, DeviceId, Rights};
+use crate::way::Way;
+use iom_base::{Access, AccessKind, DeviceId, Mode, Rights};
 use iom_machine::{Attachment, Device};
 use std::alloc::{AllocError, Global};
 
@@ -128,15 +134,38 @@ pub fn frames_open_to(
     Ok(frames)
 }
 
-/// A page at which the device holds the frame, or at which that lingers.
-pub fn page_with(known: &Known, id: DeviceId, frame: u32) -> Option<u64> {
-    for index in 0..known.ledger.page_count(id) {
-        let page = known.ledger.page_at(id, index)?;
-        if let Some((on, _)) = pair_at(known, id, page, true) {
-            if on == frame {
-                return Some(page);
-            }
-        }
+/// Whether a request of the device is, or was, translated in both stages.
+pub fn has_both_stages(attachment: Attachment) -> bool
+    ensures { IsTrue result → HasBothStages attachment }
+{
+    match attachment {
+        Attachment::Detached => false,
+        Attachment::Attached { mode, .. }
+        | Attachment::Quarantined { mode, .. }
+        | Attachment::Leaving { mode, .. } => mode == Mode::Both,
     }
-    None
+}
+
+/// The frames on which the access of a device in both stages may be accepted; none, of another device. Its address
+/// has nothing to do with them.
+pub fn possible_frames(
+    alloc: Global,
+    way: Way,
+    known: &Known,
+    id: DeviceId,
+    access: &Access,
+) -> Result<Vec<u32>, AllocError>
+    ensures { IfOk result (λ found. (device : Device) → find (λ it. it.id == id) known.now.devices ≡ Some device
+        → (k frame : ℕ) → slice_get found.items k ≡ Some frame → (past : Past) (frames : List Frame) → IsTrueOf known.now past
+        → MayAccept device.attachment (state_of known.now past.history frames) id access.now frame
+        × MayGoThrough device.attachment (state_of known.now past.history frames) id access.now frame) }
+{
+    let Some(place) = place_of(known.devices.as_slice(), id) else {
+        return Ok(Vec::new(alloc));
+    };
+    let device = &known.devices.as_slice()[place];
+    if way == Way::Forged || !has_both_stages(device.attachment) {
+        return Ok(Vec::new(alloc));
+    }
+    frames_open_to(alloc, known, device, access.kind)
 }

@@ -86,7 +86,7 @@ fn first_id_above(levels: u8) -> u32
 }
 
 /// Whether the device directory can't name the id.
-pub(crate) fn too_wide(known: &Known, id: DeviceId) -> bool
+pub fn too_wide(known: &Known, id: DeviceId) -> bool
     ensures { result ≡ is_too_wide (bare known.now) id }
 {
     id >= first_id_above(known.levels)
@@ -233,7 +233,7 @@ pub fn late_grant_refusal(known: &Known, id: DeviceId, page: u64) -> Option<Refu
 }
 
 /// Whether no reason applies to a grant of a frame that is nobody's.
-pub(crate) fn may_grant(known: &Known, id: DeviceId, page: u64, frame: u64) -> bool
+pub fn may_grant(known: &Known, id: DeviceId, page: u64, frame: u64) -> bool
     ensures { IsTrue result → (past : Past) (frames : List Frame) → IsTrueOf known.now past
         → length frames ≡ length known.now.frames
         → is_reserved frames frame ≡ false → NoneApplies (grant_reasons (state_of known.now past.history frames) id page frame) }
@@ -323,7 +323,7 @@ pub fn revive_refusal(known: &Known, id: DeviceId) -> Option<Refusal>
     revive_refusal_by(known, id, reaching)
 }
 
-pub(crate) fn frame_refusal(known: &Known, frame: u64) -> Option<Refusal>
+pub fn frame_refusal(known: &Known, frame: u64) -> Option<Refusal>
     ensures { (past : Past) (frames : List Frame) → length frames ≡ length known.now.frames
         → result ≡ first_that_applies (frame_reasons (state_of known.now past.history frames) frame) }
 {
@@ -335,7 +335,7 @@ pub(crate) fn frame_refusal(known: &Known, frame: u64) -> Option<Refusal>
 }
 
 /// Whether the refusal is the first that applied, or, where none did, one that may come all the same.
-pub(crate) fn refuses(first: Option<Refusal>, may_come: bool, why: Refusal) -> bool
+pub fn refuses(first: Option<Refusal>, may_come: bool, why: Refusal) -> bool
     ensures { IsTrue result ↔ MatchOption first (IsTrue may_come) (λ it. why ≡ it) }
 {
     match first {
@@ -344,14 +344,14 @@ pub(crate) fn refuses(first: Option<Refusal>, may_come: bool, why: Refusal) -> b
     }
 }
 
-pub(crate) fn is_memory(why: Refusal) -> bool
+pub fn is_memory(why: Refusal) -> bool
     ensures { IsTrue result ↔ (why ≡ Memory) }
 {
     matches!(why, Refusal::Memory)
 }
 
 /// Whether it is told that too few frames are free, where no reason comes first.
-pub(crate) fn tells_too_few(first: Option<Refusal>, why: Refusal) -> bool
+pub fn tells_too_few(first: Option<Refusal>, why: Refusal) -> bool
     ensures { IsTrue result → (first ≡ None) × (why ≡ NoFrames) }
 {
     if first.is_some() {

@@ -27,7 +27,7 @@ pub fn answers_absent(outcome: &Outcome) -> bool
 }
 
 /// Whether a device is answered so whose kind can't do what is asked.
-pub(crate) fn answers_unable(outcome: &Outcome) -> bool
+pub fn answers_unable(outcome: &Outcome) -> bool
     ensures { IsTrue result ↔ (outcome.now ≡ Refused WrongKind) }
 {
     match outcome {
@@ -36,7 +36,7 @@ pub(crate) fn answers_unable(outcome: &Outcome) -> bool
     }
 }
 
-pub(crate) fn is_within_page(access: &Access) -> bool
+pub fn is_within_page(access: &Access) -> bool
     ensures { IsTrue result ↔ IsWithinPage access.now }
 {
     Span::new(access.address, access.len).is_some()
@@ -49,7 +49,7 @@ fn is_busy(device: &Device) -> bool
 }
 
 /// Whether the request comes before the IOMMU.
-pub(crate) fn is_forwarded(device: &Device, access: &Access) -> bool
+pub fn is_forwarded(device: &Device, access: &Access) -> bool
     ensures { IsTrue result ↔ IsForwarded device.now.in_flight access.now.address access.now.len }
 {
     if !is_within_page(access) {
@@ -58,7 +58,7 @@ pub(crate) fn is_forwarded(device: &Device, access: &Access) -> bool
     !is_busy(device)
 }
 
-pub(crate) fn answers_busy(device: &Device, access: &Access) -> bool
+pub fn answers_busy(device: &Device, access: &Access) -> bool
     ensures { IsTrue result ↔ (IsWithinPage access.now × IsBusy device.now.in_flight) }
 {
     if !is_within_page(access) {
@@ -68,20 +68,20 @@ pub(crate) fn answers_busy(device: &Device, access: &Access) -> bool
 }
 
 /// Whether the number is that of the device's next accepted access.
-pub(crate) fn is_next(device: &Device, number: u64) -> bool
+pub fn is_next(device: &Device, number: u64) -> bool
     ensures { IsTrue result ↔ (number ≡ device.now.accepted + 1) }
 {
     u128::from(number) == u128::from(device.accepted) + 1
 }
 
-pub(crate) fn is_same_cause(cause: Cause, fault: Cause) -> bool
+pub fn is_same_cause(cause: Cause, fault: Cause) -> bool
     ensures { IsTrue result ↔ (cause ≡ fault) }
 {
     cause == fault
 }
 
 /// The cause where no context of the device is found.
-pub(crate) fn cause_without_context(known: &Known, id: DeviceId) -> Cause
+pub fn cause_without_context(known: &Known, id: DeviceId) -> Cause
     ensures { result ≡ cause_without_context (bare known.now) id }
 {
     if too_wide(known, id) {
@@ -92,7 +92,7 @@ pub(crate) fn cause_without_context(known: &Known, id: DeviceId) -> Cause
 }
 
 /// Whether the cause is a page fault of the mode.
-pub(crate) fn is_page_fault_of(mode: Mode, kind: AccessKind, cause: Cause) -> bool
+pub fn is_page_fault_of(mode: Mode, kind: AccessKind, cause: Cause) -> bool
     ensures { IsTrue result ↔ IsPageFaultOf mode kind cause }
 {
     match mode {
@@ -115,7 +115,7 @@ fn accepts_in_one_stage(known: &Known, id: DeviceId, access: &Access, frame: u32
 }
 
 /// Whether a device that was cut off under the ticket may have the access accepted, on the frame.
-pub(crate) fn accepts_cut_off(
+pub fn accepts_cut_off(
     ticket: u32,
     mode: Mode,
     known: &Known,
@@ -196,7 +196,7 @@ fn faults_cut_off(
 }
 
 /// Whether the IOMMU may refuse the access, with the cause.
-pub(crate) fn may_fault(known: &Known, device: &Device, access: &Access, cause: Cause) -> bool
+pub fn may_fault(known: &Known, device: &Device, access: &Access, cause: Cause) -> bool
     ensures { IsTrue result → (past : Past) (frames : List Frame) → IsTrueOf known.now past
         → MayFault device.now.attachment (state_of known.now past.history frames) device.now.id access.now cause }
 {
@@ -246,7 +246,7 @@ fn faults(known: &Known, device: &Device, access: &Access, cause: Cause) -> bool
 }
 
 /// Whether a plugged device's request may be answered so.
-pub(crate) fn may_answer(
+pub fn may_answer(
     known: &Known,
     device: &Device,
     access: &Access,

@@ -1,7 +1,7 @@
 use Rattle.std.proofs.Common.{◌≡◌, All, take, subst, arith}
 use Rattle.std.proofs.lemmas.Grind.{common_steps}
 use Rattle.std.proofs.lemmas.List.Elements.{All-more}
-use Rattle.iom_known.specs.Owners.{HasSomeOwner}
+use Rattle.iom_known.specs.Starts.{HasSomeOwner}
 use Rattle.iom_known.proofs.possible.all_have_owners.Goals as goal
 
 pub loop-believed-preserved : goal.loop-believed-preserved

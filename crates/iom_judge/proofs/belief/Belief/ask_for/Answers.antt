@@ -1,7 +1,7 @@
 use Rattle.std.proofs.Common.{inl, refl}
 use Rattle.iom_known.proofs.AskedSteps.{if_ok_as}
-use Rattle.iom_judge.proofs.FollowRequests.{adds_request, asked_follows}
-use Rattle.iom_judge.proofs.FollowSteps.{explained_leaves}
+use Rattle.iom_doubts.proofs.FollowRequests.{adds_request, asked_follows}
+use Rattle.iom_doubts.proofs.FollowSteps.{explained_leaves}
 use Rattle.iom_judge.proofs.belief.Belief.ask_for.Goals as goal
 
 pub returns-then-leaves_flights-clause-followed : goal.returns-then-leaves_flights-clause-followed

@@ -1,10 +1,10 @@
 use Rattle.std.proofs.Common.{sym, subst}
 use Rattle.iom_machine.specs.declared.event.Event.TheVariants as events
 use Rattle.iom_machine.specs.declared.outcome.Outcome.{Outcome}
-use Rattle.iom_known.specs.Leaves.{past_confirmed}
-use Rattle.iom_judge.specs.Followed.{IsFollowed, StepsBy}
+use Rattle.iom_known_acts.specs.Leaves.{past_confirmed}
+use Rattle.iom_doubts.specs.Followed.{IsFollowed, StepsBy}
 use Rattle.iom_judge.proofs.FollowPolls.{poll_follows}
-use Rattle.iom_judge.proofs.FollowSteps.{explained_leaves}
+use Rattle.iom_doubts.proofs.FollowSteps.{explained_leaves}
 use Rattle.iom_judge.proofs.belief.Belief.poll.Goals as goal
 
 pub returns-then-follows_reached : goal.returns-then-follows_reached

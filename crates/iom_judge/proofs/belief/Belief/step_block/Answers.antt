@@ -2,10 +2,10 @@ use Rattle.std.proofs.Common.{sym, subst}
 use Rattle.iom_machine.specs.declared.event.Event.TheVariants as events
 use Rattle.iom_machine.specs.declared.outcome.Outcome.{Outcome}
 use Rattle.iom_known.specs.Steps.{IsExplained}
-use Rattle.iom_judge.specs.Followed.{IsFollowed, StepsBy}
-use Rattle.iom_judge.specs.declared.doubts.Doubts.{Doubts}
-use Rattle.iom_judge.proofs.FollowBegun.{begun_follows}
-use Rattle.iom_judge.proofs.FollowSteps.{explained_leaves}
+use Rattle.iom_doubts.specs.Followed.{IsFollowed, StepsBy}
+use Rattle.iom_doubts.specs.declared.doubts.Doubts.{Doubts}
+use Rattle.iom_doubts.proofs.FollowBegun.{begun_follows}
+use Rattle.iom_doubts.proofs.FollowSteps.{explained_leaves}
 use Rattle.iom_judge.proofs.belief.Belief.step_block.Goals as goal
 
 pub returns-in-Accepted-clause-explained : goal.returns-in-Accepted-clause-explained

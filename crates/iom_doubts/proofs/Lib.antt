@@ -1,0 +1,13 @@
+pub mod FlightAccepts
+pub mod FlightActs
+pub mod FlightCommits
+pub mod FlightEvents
+pub mod FlightLemmas
+pub mod FlightPolls
+pub mod FlightRequests
+pub mod FlightSteps
+pub mod FollowBegun
+pub mod FollowCommits
+pub mod FollowRequests
+pub mod FollowSteps
+pub mod Results

@@ -1,0 +1,3 @@
+pub mod Begun
+pub mod Doubted
+pub mod Followed

@@ -1,0 +1,20 @@
+use Rattle.std.proofs.Common.{false}
+use Rattle.std.proofs.lemmas.Bool.{false≢true}
+use Rattle.iom_ledger.specs.Refusals.{IsRefusedBy}
+use Rattle.iom_machine.specs.Refusals.{NeverElse, revive_reasons}
+use Rattle.iom_machine.specs.declared.event.Event.TheVariants as events
+use Rattle.iom_known.specs.Allowed.{state_of}
+use Rattle.iom_known.proofs.StayLemmas.{stays, same_state, refused_by}
+use Rattle.iom_known_acts.proofs.calls.revive.Goals as goal
+
+pub returns-in-Done : goal.returns-in-Done
+returns-in-Done c = rw c.in-Done.is c.revive_done.ensures
+
+pub returns-in-Refused : goal.returns-in-Refused
+returns-in-Refused c true past is =
+    stays c.args.known.now (events.Revive c.args.id) c.args.outcome.now past is
+    (λ frames allowed.
+    let state = state_of c.args.known.now past.history frames in
+    let refused : IsRefusedBy (revive_reasons state c.args.id) NeverElse c.in-Refused.why =
+    refused_by c.revive_refusal.result (revive_reasons state c.args.id) false NeverElse c.in-Refused.why (c.revive_refusal.ensures past frames is) (λ never. absurd (false≢true never)) (c.refuses.ensures.0 true) in
+    rw c.in-Refused.is (refused, same_state state))
