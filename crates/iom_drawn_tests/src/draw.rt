@@ -33,7 +33,7 @@ pub(crate) fn bytes_of(alloc: Global, words: &[u64]) -> Result<Sequence<u8>, All
 }
 
 /// The ids of the three devices.
-#[derive(Clone, Copy, PartialEq, Eq, Debug)]
+#[derive(Clone, Copy)]
 pub(crate) struct Ids {
     /// That of the device with a cache in the first stage.
     pub(crate) first: DeviceId,

@@ -1,17 +1,13 @@
 //! The judge of the ledger machine finds each step of the drawn runs lawful in which devices stay attached.
 
-use crate::judged::is_lawful;
-use crate::notes::{Note, too_seldom};
-use crate::run::{Plan, Run};
+use crate::judged::{are_lawful, have_often};
+use crate::notes::Note;
+use crate::run::Plan;
 use std::test::Fail;
 
 #[test]
 fn each_drawn_step_with_translation_services_is_lawful(rt: HostRuntime) -> Result<(), Fail> {
-    for seed in 0..100 {
-        let run = Run::drawn(rt.alloc(), Plan::Steady, seed, 2000)?;
-        is_lawful(&rt, &run)?;
-    }
-    Ok(())
+    are_lawful(&rt, Plan::Steady)
 }
 
 /// So often each of these comes at least, in the runs that are counted.
@@ -31,9 +27,5 @@ static LEAST: [(Note, usize); 10] = [
 /// One run with a device in both stages, and one with a device in the second.
 #[test]
 fn devices_use_what_they_keep_and_drop_it(rt: HostRuntime) -> Result<(), Fail> {
-    for seed in [1, 6] {
-        let run = Run::drawn(rt.alloc(), Plan::Steady, seed, 2000)?;
-        assert_eq!(rt; too_seldom(&run.steps, &LEAST), None, "seed {seed}");
-    }
-    Ok(())
+    have_often(&rt, Plan::Steady, [1, 6], 2000, &LEAST)
 }

@@ -1,7 +1,9 @@
 // The judge of the ledger machine over a run.
 
 use crate::choices::Choices;
-use crate::run::Run;
+use crate::expect::expect;
+use crate::notes::{Note, come_often};
+use crate::run::{Plan, Run};
 use iom_machine::power_on;
 use iom_machine_judge::judge;
 use std::alloc::{AllocError, Global};
@@ -26,9 +28,42 @@ fn lawful(alloc: Global, run: &Run) -> Result<usize, AllocError> {
     Ok(run.steps.len())
 }
 
-/// Ends the test where the judge finds a step of the run that isn't lawful.
-pub(crate) fn is_lawful(rt: &(impl Abort + AllocGlobal), run: &Run) -> Result<(), Fail> {
-    let count = lawful(rt.alloc(), run)?;
-    assert_eq!(rt; count, run.steps.len());
+/// Whether the judge finds each step of a run of 2,000 events lawful, and the world counts its events.
+fn is_lawful(alloc: Global, plan: Plan, seed: u64) -> Result<bool, Fail> {
+    let run = Run::drawn(alloc, plan, seed, 2000)?;
+    Ok(run.has_count() && lawful(alloc, &run)? == run.steps.len())
+}
+
+/// Ends the test where that isn't so of one of a hundred runs.
+pub(crate) fn are_lawful(rt: &(impl Abort + AllocGlobal), plan: Plan) -> Result<(), Fail> {
+    for seed in 0..100 {
+        expect(rt, is_lawful(rt.alloc(), plan, seed)?);
+    }
+    Ok(())
+}
+
+/// Whether in a run of so many events each of these comes so often at least.
+fn has_often(
+    alloc: Global,
+    plan: Plan,
+    seed: u64,
+    count: u64,
+    least: &[(Note, usize)],
+) -> Result<bool, Fail> {
+    let run = Run::drawn(alloc, plan, seed, count)?;
+    Ok(come_often(&run.steps, least))
+}
+
+/// Ends the test where that isn't so of one of the runs of these two seeds.
+pub(crate) fn have_often(
+    rt: &(impl Abort + AllocGlobal),
+    plan: Plan,
+    seeds: [u64; 2],
+    count: u64,
+    least: &[(Note, usize)],
+) -> Result<(), Fail> {
+    for seed in seeds {
+        expect(rt, has_often(rt.alloc(), plan, seed, count, least)?);
+    }
     Ok(())
 }

@@ -24,6 +24,8 @@ mod drawn_ats;
 #[cfg(test)]
 mod drawn_modes;
 #[cfg(test)]
+mod expect;
+#[cfg(test)]
 mod judged;
 #[cfg(test)]
 mod lifecycle;

@@ -1,17 +1,13 @@
 //! The judge finds each step of the drawn runs lawful too in which devices come and go, and don't always answer.
 
-use crate::judged::is_lawful;
-use crate::notes::{Note, too_seldom};
-use crate::run::{Plan, Run};
+use crate::judged::{are_lawful, have_often};
+use crate::notes::Note;
+use crate::run::Plan;
 use std::test::Fail;
 
 #[test]
 fn each_drawn_step_of_a_lifecycle_is_lawful(rt: HostRuntime) -> Result<(), Fail> {
-    for seed in 0..100 {
-        let run = Run::drawn(rt.alloc(), Plan::Lifecycle, seed, 2000)?;
-        is_lawful(&rt, &run)?;
-    }
-    Ok(())
+    are_lawful(&rt, Plan::Lifecycle)
 }
 
 /// So often each of these comes at least, in the runs that are counted.
@@ -37,9 +33,5 @@ static LEAST: [(Note, usize); 16] = [
 /// One long run over a directory of one level, and one over three.
 #[test]
 fn devices_are_cut_off_and_come_back(rt: HostRuntime) -> Result<(), Fail> {
-    for seed in [1, 2] {
-        let run = Run::drawn(rt.alloc(), Plan::Lifecycle, seed, 6000)?;
-        assert_eq!(rt; too_seldom(&run.steps, &LEAST), None, "seed {seed}");
-    }
-    Ok(())
+    have_often(&rt, Plan::Lifecycle, [1, 2], 6000, &LEAST)
 }

@@ -8,14 +8,14 @@ use std::alloc::{AllocError, Global};
 const MOST_MESSAGES: usize = 64;
 
 /// A device asks for the translation of a page.
-#[derive(Clone, Copy, PartialEq, Eq, Debug)]
+#[derive(Clone, Copy)]
 pub(crate) struct Question {
     pub(crate) device: DeviceId,
     pub(crate) page: u64,
 }
 
 /// What is said in a message, as far as the test has to know.
-#[derive(Clone, Copy, PartialEq, Eq, Debug)]
+#[derive(Clone, Copy)]
 pub(crate) enum Said {
     Question(Question),
     Answer,

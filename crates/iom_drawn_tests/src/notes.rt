@@ -6,7 +6,7 @@ use iom_ledger::Refusal;
 use iom_machine::{Event, Fetched, Outcome};
 
 /// What is counted of a run.
-#[derive(Clone, Copy, PartialEq, Eq, Debug)]
+#[derive(Clone, Copy, PartialEq)]
 pub(crate) enum Note {
     /// A device keeps an answer.
     Kept,
@@ -152,12 +152,12 @@ pub(crate) fn count_made(steps: &[Step], asked: DeviceId) -> usize {
         .count()
 }
 
-/// What comes in these steps less often than the list says, if anything does.
-pub(crate) fn too_seldom(steps: &[Step], least: &[(Note, usize)]) -> Option<Note> {
+/// Whether each of the list comes in these steps as often as it says at least.
+pub(crate) fn come_often(steps: &[Step], least: &[(Note, usize)]) -> bool {
     for (note, least) in least {
         if count(steps, *note) < *least {
-            return Some(*note);
+            return false;
         }
     }
-    None
+    true
 }

@@ -26,7 +26,7 @@ const WIDE: Ids = Ids {
 };
 
 /// What is drawn beside accesses, messages and what the driver does about pages.
-#[derive(Clone, Copy, PartialEq, Eq, Debug)]
+#[derive(Clone, Copy, PartialEq)]
 pub(crate) enum Plan {
     /// Three raw devices, one in each mode, that stay attached and send no message.
     Modes,
@@ -108,6 +108,11 @@ impl Run {
             })?;
         }
         Ok(())
+    }
+
+    /// Whether the world counts the events that happened to it.
+    pub(crate) fn has_count(&self) -> bool {
+        self.world.events() == self.steps.len() as u64
     }
 
     fn plug_and_attach(

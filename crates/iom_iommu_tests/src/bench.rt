@@ -14,7 +14,6 @@ use iom_registers::{Mmio, RegFault, Registers};
 use iom_tlb::Ioatc;
 use std::alloc::Global;
 use std::process::Abort;
-use std::test::Fail;
 
 /// What a fetch answers that does no command.
 #[derive(Clone, Copy)]
@@ -101,18 +100,14 @@ fn did(rt: &impl Abort, (first, second): (u64, u64)) -> Fetched {
 pub(crate) const INVALIDATE: (u64, u64) = (0x0000_0502_0000_0004, 0x3000);
 
 impl Bench {
-    fn new(alloc: Global) -> Result<Bench, Fail> {
-        let cache = Ioatc::new(alloc)?;
-        Ok(Bench {
-            memory: Memory::new(alloc, FRAMES)?,
-            iommu: Iommu::new(alloc, FRAMES, cache)?,
-        })
-    }
-
-    /// At power-on.
-    pub(crate) fn at_power_on(alloc: Global) -> Result<Box<Bench>, Fail> {
-        let bench = Bench::new(alloc)?;
-        Ok(Box::new(alloc, bench)?)
+    /// At power-on. Boxed: of what a test owns in place each later proof would carry every part.
+    pub(crate) fn at_power_on(rt: &impl Abort, alloc: Global) -> Box<Bench> {
+        let cache = Ioatc::new(alloc).expect(rt, "memory for the cache");
+        let bench = Bench {
+            memory: Memory::new(alloc, FRAMES).expect(rt, "memory for the frames"),
+            iommu: Iommu::new(alloc, FRAMES, cache).expect(rt, "memory for the IOMMU"),
+        };
+        Box::new(alloc, bench).expect(rt, "memory for the bench")
     }
 
     fn turn_on(&mut self, rt: &impl Abort, cqb: u64) {
@@ -155,10 +150,6 @@ impl Bench {
         }
     }
 
-    fn expect_outside(&mut self, rt: &impl Abort, address: u64, word: u64) {
-        expect(rt, self.memory.store_u64(address, word).is_none());
-    }
-
     fn expect_word(&self, rt: &impl Abort, address: u64, expected: u64) {
         expect(rt, self.memory.load_u64(address) == Some(expected));
     }
@@ -192,21 +183,17 @@ impl Bench {
         self.iommu.fetch(&mut self.memory)
     }
 
-    fn expect_fetch(&mut self, rt: &impl Abort, expected: Fetched) {
-        expect(rt, self.fetch(rt) == expected);
-    }
-
     fn answers(&mut self, rt: &impl Abort, answer: Answer) {
         let expected = match answer {
             Answer::Waiting => Fetched::Waiting,
             Answer::Empty => Fetched::Empty,
             Answer::Stopped => Fetched::Stopped,
         };
-        self.expect_fetch(rt, expected);
+        expect(rt, self.fetch(rt) == expected);
     }
 
     fn does(&mut self, rt: &impl Abort, words: (u64, u64)) {
-        self.expect_fetch(rt, did(rt, words));
+        expect(rt, self.fetch(rt) == did(rt, words));
     }
 
     fn does_each(&mut self, rt: &impl Abort, count: u32, words: (u64, u64)) {
@@ -240,10 +227,6 @@ impl Bench {
         self.expect_word(rt, 0x5000, 0);
     }
 
-    fn expect_done(&mut self, rt: &impl Abort, device: u32, serial: u64, is_open: bool) {
-        expect(rt, self.iommu.done(device, serial) == is_open);
-    }
-
     fn expect_open(&self, rt: &impl Abort, count: usize) {
         expect(rt, self.iommu.slots().len() == count);
     }
@@ -272,21 +255,10 @@ impl Bench {
             .request(&mut self.memory, device, address, len, kind, bytes)
     }
 
-    fn expect_reply(
-        &mut self,
-        rt: &impl Abort,
-        device: u32,
-        address: u64,
-        bytes: &[u8],
-        expected: Reply,
-    ) {
-        expect(rt, self.ask(rt, device, address, bytes) == expected);
-    }
-
     fn ask_each(&mut self, rt: &impl Abort, times: u32, expected: Reply) {
         for n in 0..times {
             let address = 0x4000 + u64::from(n);
-            self.expect_reply(rt, 1, address, b"", expected);
+            expect(rt, self.ask(rt, 1, address, b"") == expected);
         }
     }
 
@@ -311,10 +283,6 @@ impl Bench {
         assert!(rt; is_its);
         let page = PageNumber::new(page).expect(rt, "52 bits");
         self.iommu.ask(&mut self.memory, DEVICE, page)
-    }
-
-    fn expect_answer(&mut self, rt: &impl Abort, page: u64, expected: Translation) {
-        expect(rt, self.question(rt, page) == expected);
     }
 
     fn expect_counts(&self, rt: &impl Abort, accepted: u64, in_flight: usize) {
@@ -354,7 +322,9 @@ impl Bench {
             Step::Write(offset, value) => self.write(rt, offset, value),
             Step::Register(offset, value) => self.expect_register(rt, offset, value),
             Step::Store(address, word) => self.store(rt, address, word),
-            Step::Outside(address, word) => self.expect_outside(rt, address, word),
+            Step::Outside(address, word) => {
+                expect(rt, self.memory.store_u64(address, word).is_none());
+            }
             Step::Word(address, word) => self.expect_word(rt, address, word),
             Step::Put(index, words) => self.put(rt, index, words),
             Step::PutEach(count, words) => self.put_each(rt, count, words),
@@ -373,7 +343,9 @@ impl Bench {
             Step::OpensEach(last) => self.opens_each(rt, last),
             Step::NoneOpened => self.expect_opened(rt, None),
             Step::Stays(answer) => self.stays(rt, answer),
-            Step::Done(device, serial, is_open) => self.expect_done(rt, device, serial, is_open),
+            Step::Done(device, serial, is_open) => {
+                expect(rt, self.iommu.done(device, serial) == is_open);
+            }
             Step::Open(count) => self.expect_open(rt, count),
             Step::Timeout => expect(rt, self.iommu.timeout()),
             Step::NoTimeout => self.has_no_timeout(rt),
@@ -385,16 +357,17 @@ impl Bench {
     fn takes_access(&mut self, rt: &impl Abort, step: Step) {
         match step {
             Step::Ask(device, address, bytes, reply) => {
-                self.expect_reply(rt, device, address, bytes, reply);
+                expect(rt, self.ask(rt, device, address, bytes) == reply);
             }
             Step::AskEach(times, reply) => self.ask_each(rt, times, reply),
             Step::Translated(address, bytes, reply) => {
                 expect(rt, self.ask_translated(rt, address, bytes) == reply);
             }
             Step::Tells(page, frame, rights) => {
-                self.expect_answer(rt, page, Translation::Page { frame, rights });
+                let page_at = Translation::Page { frame, rights };
+                expect(rt, self.question(rt, page) == page_at);
             }
-            Step::Question(page, answer) => self.expect_answer(rt, page, answer),
+            Step::Question(page, answer) => expect(rt, self.question(rt, page) == answer),
             Step::Counts(accepted, in_flight) => self.expect_counts(rt, accepted, in_flight),
             Step::Commit => expect(rt, self.commit(rt).is_some()),
             Step::Made(frame, offset, kind) => self.expect_made(rt, Some((frame, offset, kind))),
@@ -414,11 +387,7 @@ impl Bench {
 
 /// At power-on, with these words in memory, the steps are taken.
 pub(crate) fn follow(rt: &impl Abort, alloc: Global, words: &[(u64, u64)], steps: &[Step]) {
-    match Bench::at_power_on(alloc) {
-        Ok(mut bench) => {
-            bench.store_all(rt, words);
-            bench.follow(rt, steps);
-        }
-        Err(_) => panic!(rt; "out of memory"),
-    }
+    let mut bench = Bench::at_power_on(rt, alloc);
+    bench.store_all(rt, words);
+    bench.follow(rt, steps);
 }

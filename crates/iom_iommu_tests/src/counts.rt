@@ -28,11 +28,6 @@ static LATER: [Step; 15] = [
     Step::Does(WITH_PR),
 ];
 
-#[test]
-fn later_accesses_are_not_waited_for(rt: HostRuntime) {
-    follow(&rt, rt.alloc(), &[], &LATER);
-}
-
 /// Turned off and on, the queue begins at its first entry, and the fence there counts anew.
 static GIVEN_UP: [Step; 13] = [
     Step::TurnOn(BASE_VALUE),
@@ -50,11 +45,6 @@ static GIVEN_UP: [Step; 13] = [
     Step::Does(WITH_PR),
 ];
 
-#[test]
-fn the_count_is_given_up(rt: HostRuntime) {
-    follow(&rt, rt.alloc(), &[], &GIVEN_UP);
-}
-
 /// PR waits for reads alone.
 static READS: [Step; 8] = [
     Step::TurnOn(BASE_VALUE),
@@ -66,11 +56,6 @@ static READS: [Step; 8] = [
     Step::Does(WITH_PW),
     Step::Fetch(Answer::Waiting),
 ];
-
-#[test]
-fn reads_are_waited_for_by_their_own(rt: HostRuntime) {
-    follow(&rt, rt.alloc(), &[], &READS);
-}
 
 /// PW waits for writes alone.
 static WRITES: [Step; 8] = [
@@ -85,6 +70,9 @@ static WRITES: [Step; 8] = [
 ];
 
 #[test]
-fn writes_are_waited_for_by_their_own(rt: HostRuntime) {
+fn fences_wait_for_accesses(rt: HostRuntime) {
+    follow(&rt, rt.alloc(), &[], &LATER);
+    follow(&rt, rt.alloc(), &[], &GIVEN_UP);
+    follow(&rt, rt.alloc(), &[], &READS);
     follow(&rt, rt.alloc(), &[], &WRITES);
 }

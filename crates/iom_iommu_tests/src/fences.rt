@@ -23,11 +23,6 @@ static RAISES: [Step; 16] = [
     Step::Register(IPSR, 0),
 ];
 
-#[test]
-fn a_fence_raises_an_interrupt(rt: HostRuntime) {
-    follow(&rt, rt.alloc(), &[], &RAISES);
-}
-
 /// Without cie a done fence sets its bit, and no interrupt is pending.
 static QUIET: [Step; 7] = [
     Step::TurnOn(BASE_VALUE),
@@ -38,11 +33,6 @@ static QUIET: [Step; 7] = [
     Step::Register(CQCSR, 0x0001_0801),
     Step::Register(IPSR, 0),
 ];
-
-#[test]
-fn an_interrupt_is_enabled_first(rt: HostRuntime) {
-    follow(&rt, rt.alloc(), &[], &QUIET);
-}
 
 /// Fences that store 7 at 0x5000, without PR (bit 12) and PW (bit 13), with the one, the other, and both. One with PR
 /// waits while a read is in flight, and changes nothing that software sees; then it is done. One without it doesn't
@@ -99,14 +89,6 @@ static WITH_BOTH: [Step; 11] = [
     Step::Fetch(Answer::Empty),
 ];
 
-#[test]
-fn a_fence_waits_for_accesses(rt: HostRuntime) {
-    follow(&rt, rt.alloc(), &[], &PLAIN);
-    follow(&rt, rt.alloc(), &[], &WITH_PR);
-    follow(&rt, rt.alloc(), &[], &WITH_PW);
-    follow(&rt, rt.alloc(), &[], &WITH_BOTH);
-}
-
 /// A fence that can't be done since its word has no place waits first.
 static NO_PLACE: [Step; 10] = [
     Step::TurnOn(BASE_VALUE),
@@ -122,6 +104,12 @@ static NO_PLACE: [Step; 10] = [
 ];
 
 #[test]
-fn waiting_comes_before_storing(rt: HostRuntime) {
+fn fences_interrupt_and_wait(rt: HostRuntime) {
+    follow(&rt, rt.alloc(), &[], &RAISES);
+    follow(&rt, rt.alloc(), &[], &QUIET);
+    follow(&rt, rt.alloc(), &[], &PLAIN);
+    follow(&rt, rt.alloc(), &[], &WITH_PR);
+    follow(&rt, rt.alloc(), &[], &WITH_PW);
+    follow(&rt, rt.alloc(), &[], &WITH_BOTH);
     follow(&rt, rt.alloc(), &[], &NO_PLACE);
 }

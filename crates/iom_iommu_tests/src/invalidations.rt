@@ -25,11 +25,6 @@ static FULL: [Step; 17] = [
     Step::Register(CQH, 33),
 ];
 
-#[test]
-fn no_more_than_32_are_open(rt: HostRuntime) {
-    follow(&rt, rt.alloc(), &[], &FULL);
-}
-
 /// A fence waits for each open request, also one without PR and PW.
 static EACH: [Step; 14] = [
     Step::TurnOn(BASE_VALUE),
@@ -47,11 +42,6 @@ static EACH: [Step; 14] = [
     Step::Does((2, 0)),
     Step::NoneOpened,
 ];
-
-#[test]
-fn a_fence_waits_for_requests(rt: HostRuntime) {
-    follow(&rt, rt.alloc(), &[], &EACH);
-}
 
 /// An access that is accepted while a request is open is waited for, though the fence was fetched before it; one that
 /// is accepted once the fence found none open isn't.
@@ -75,11 +65,6 @@ static COUNTS: [Step; 17] = [
     Step::Does((0x1002, 0)),
 ];
 
-#[test]
-fn a_fence_counts_once_none_is_open(rt: HostRuntime) {
-    follow(&rt, rt.alloc(), &[], &COUNTS);
-}
-
 /// Turned off and on, the queue has no open request, and the numbers go on.
 static OFF: [Step; 16] = [
     Step::TurnOn(BASE_VALUE),
@@ -101,6 +86,9 @@ static OFF: [Step; 16] = [
 ];
 
 #[test]
-fn the_queue_is_turned_off(rt: HostRuntime) {
+fn requests_are_waited_for(rt: HostRuntime) {
+    follow(&rt, rt.alloc(), &[], &FULL);
+    follow(&rt, rt.alloc(), &[], &EACH);
+    follow(&rt, rt.alloc(), &[], &COUNTS);
     follow(&rt, rt.alloc(), &[], &OFF);
 }

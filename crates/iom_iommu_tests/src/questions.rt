@@ -57,15 +57,6 @@ static NO_CONTEXT: [Step; 8] = [
     Step::Record(0, [0x0000_0520_0000_0102, 0, 0x3000, 0]),
 ];
 
-// Each of them is recorded, with its cause.
-#[test]
-fn a_question_is_not_let_through(rt: HostRuntime) {
-    follow(&rt, rt.alloc(), &WORDS, &NO_ATS);
-    follow(&rt, rt.alloc(), &WORDS, &BARE);
-    follow(&rt, rt.alloc(), &WORDS, &OFF);
-    follow(&rt, rt.alloc(), &WORDS, &NO_CONTEXT);
-}
-
 /// A page that is there is told with its frame and right, and stays cached; one that isn't leaves no record.
 static ANSWERED: [Step; 15] = [
     Step::TurnOn(BASE_VALUE),
@@ -85,11 +76,6 @@ static ANSWERED: [Step; 15] = [
     Step::Tells(4, 33, Rights::R),
 ];
 
-#[test]
-fn a_question_is_answered(rt: HostRuntime) {
-    follow(&rt, rt.alloc(), &WORDS, &ANSWERED);
-}
-
 /// Where both stages are Bare a page is its own frame, where memory has one: the last is 63.
 static NO_STAGE: [Step; 10] = [
     Step::TurnOn(BASE_VALUE),
@@ -105,6 +91,11 @@ static NO_STAGE: [Step; 10] = [
 ];
 
 #[test]
-fn a_question_of_no_stage(rt: HostRuntime) {
+fn questions_are_answered(rt: HostRuntime) {
+    follow(&rt, rt.alloc(), &WORDS, &NO_ATS);
+    follow(&rt, rt.alloc(), &WORDS, &BARE);
+    follow(&rt, rt.alloc(), &WORDS, &OFF);
+    follow(&rt, rt.alloc(), &WORDS, &NO_CONTEXT);
+    follow(&rt, rt.alloc(), &WORDS, &ANSWERED);
     follow(&rt, rt.alloc(), &WORDS, &NO_STAGE);
 }

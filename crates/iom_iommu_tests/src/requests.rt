@@ -4,7 +4,6 @@ use crate::setup::{BASE_VALUE, CQT, DDTP, DEVICE};
 use iom_base::{AccessKind, Cause};
 use iom_iommu::Reply;
 use std::process::Abort;
-use std::test::Fail;
 
 /// A read and a write are accepted and made: the bytes of the write are stored when it is made, and not before. Through
 /// a directory of one level.
@@ -32,12 +31,6 @@ static SERVES_BY_THREE: [Step; 9] = [
     Step::Word(0x20018, 0xbbaa),
     Step::NoneMade,
 ];
-
-#[test]
-fn a_directory_serves(rt: HostRuntime) {
-    follow(&rt, rt.alloc(), &WORDS, &SERVES);
-    follow(&rt, rt.alloc(), &WORDS, &SERVES_BY_THREE);
-}
 
 /// `ddtp`, a word of the directories and its address, and the reply to a read at 0x3010: off, and each cause of the
 /// directory; without translation, by `ddtp` or by a context.
@@ -84,12 +77,11 @@ fn replies(rt: &impl Abort, bench: &mut Bench, ddtp: u64, address: u64, word: u6
 }
 
 #[test]
-fn causes(rt: HostRuntime) -> Result<(), Fail> {
+fn causes(rt: HostRuntime) {
     for (ddtp, address, word, reply) in CAUSES.iter() {
-        let mut bench = Bench::at_power_on(rt.alloc())?;
+        let mut bench = Bench::at_power_on(&rt, rt.alloc());
         replies(&rt, &mut bench, *ddtp, *address, *word, *reply);
     }
-    Ok(())
 }
 
 /// Without translation the address is that of memory, of which there are 64 frames.
@@ -107,11 +99,6 @@ static EDGES: [Step; 6] = [
     Step::Ask(DEVICE, 0x3fff, b"\xaa\xbb", Reply::BadSpan),
 ];
 
-#[test]
-fn edges(rt: HostRuntime) {
-    follow(&rt, rt.alloc(), &WORDS, &EDGES);
-}
-
 /// An id of 8 bits is too wide for a directory of one level.
 static WIDE: [Step; 4] = [
     Step::TurnOn(BASE_VALUE),
@@ -124,11 +111,6 @@ static WIDE: [Step; 4] = [
         Reply::Fault(Cause::TransactionTypeDisallowed),
     ),
 ];
-
-#[test]
-fn a_wide_id(rt: HostRuntime) {
-    follow(&rt, rt.alloc(), &WORDS, &WIDE);
-}
 
 /// IODIR.INVAL_DDT of the devices 4 and 5.
 const OTHER_DEVICE: (u64, u64) = (0x0000_0402_0000_0003, 0);
@@ -157,6 +139,10 @@ static CACHED: [Step; 12] = [
 ];
 
 #[test]
-fn a_context_is_cached(rt: HostRuntime) {
+fn requests_are_answered(rt: HostRuntime) {
+    follow(&rt, rt.alloc(), &WORDS, &SERVES);
+    follow(&rt, rt.alloc(), &WORDS, &SERVES_BY_THREE);
+    follow(&rt, rt.alloc(), &WORDS, &EDGES);
+    follow(&rt, rt.alloc(), &WORDS, &WIDE);
     follow(&rt, rt.alloc(), &WORDS, &CACHED);
 }

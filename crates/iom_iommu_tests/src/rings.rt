@@ -30,11 +30,6 @@ static ROUND: [Step; 22] = [
     Step::Register(CQH, 3),
 ];
 
-#[test]
-fn the_ring_goes_round(rt: HostRuntime) {
-    follow(&rt, rt.alloc(), &[], &ROUND);
-}
-
 /// A queue of 512 entries in the last frame: those behind memory can't be loaded.
 static LEAVES: [Step; 9] = [
     Step::TurnOn(0xfc08),
@@ -48,11 +43,6 @@ static LEAVES: [Step; 9] = [
     Step::Register(IPSR, 1),
 ];
 
-#[test]
-fn the_ring_leaves_memory(rt: HostRuntime) {
-    follow(&rt, rt.alloc(), &[], &LEAVES);
-}
-
 /// A queue that lies outside memory as a whole. That it is empty is seen without a load.
 static OUTSIDE: [Step; 6] = [
     Step::TurnOn(0x1_0007),
@@ -64,6 +54,8 @@ static OUTSIDE: [Step; 6] = [
 ];
 
 #[test]
-fn the_ring_lies_outside(rt: HostRuntime) {
+fn rings_lie_anywhere(rt: HostRuntime) {
+    follow(&rt, rt.alloc(), &[], &ROUND);
+    follow(&rt, rt.alloc(), &[], &LEAVES);
     follow(&rt, rt.alloc(), &[], &OUTSIDE);
 }

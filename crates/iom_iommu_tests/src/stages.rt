@@ -5,7 +5,6 @@ use crate::setup::{BASE_VALUE, CQT, DDTP, DEVICE};
 use iom_base::Cause;
 use iom_iommu::Reply;
 use std::process::Abort;
-use std::test::Fail;
 
 /// The second stage's leaf of the guest's page 9: the frame 32, to be read and written; as it is at first.
 const LEAF: u64 = 0x35048;
@@ -47,11 +46,6 @@ static SECOND: [Step; 5] = [
     Step::Ask(DEVICE, 0x200_0000_9010, b"", NOT_THERE),
 ];
 
-#[test]
-fn a_second_stage_serves(rt: HostRuntime) {
-    follow(&rt, rt.alloc(), &WORDS, &SECOND);
-}
-
 /// A page that the guest's tables lack is its own fault; one that they lead to a page without a leaf, or whose table
 /// is in such a page, the second stage's.
 static BOTH: [Step; 6] = [
@@ -69,12 +63,6 @@ static THIRD: [Step; 4] = [
     Step::Store(CONTEXT + 24, GUEST_TABLES + 3),
     Step::Ask(DEVICE, 0x3010, b"", NOT_THERE),
 ];
-
-#[test]
-fn both_stages_serve(rt: HostRuntime) {
-    follow(&rt, rt.alloc(), &WORDS, &BOTH);
-    follow(&rt, rt.alloc(), &WORDS, &THIRD);
-}
 
 /// With this word as fsc, a read at the address goes to this frame after a command, where the second stage's leaf of
 /// the page that is cached was changed in memory before it.
@@ -141,12 +129,11 @@ static PAGE_9: [((u64, u64), u32); 8] = [
 ];
 
 #[test]
-fn a_guest_page_is_cached(rt: HostRuntime) -> Result<(), Fail> {
+fn a_guest_page_is_cached(rt: HostRuntime) {
     for (command, frame) in PAGE_9.iter() {
-        let mut bench = Bench::at_power_on(rt.alloc())?;
+        let mut bench = Bench::at_power_on(&rt, rt.alloc());
         goes_after(&rt, &mut bench, 0, 0x9010, *command, *frame);
     }
-    Ok(())
 }
 
 /// Of both stages IOTINVAL.GVMA takes out all of its VM, whatever page it names: that is a guest physical page, and
@@ -167,10 +154,16 @@ static GUEST_PAGE_3: [((u64, u64), u32); 12] = [
 ];
 
 #[test]
-fn a_page_of_both_stages_is_cached(rt: HostRuntime) -> Result<(), Fail> {
+fn a_page_of_both_stages_is_cached(rt: HostRuntime) {
     for (command, frame) in GUEST_PAGE_3.iter() {
-        let mut bench = Bench::at_power_on(rt.alloc())?;
+        let mut bench = Bench::at_power_on(&rt, rt.alloc());
         goes_after(&rt, &mut bench, GUEST_TABLES, 0x3010, *command, *frame);
     }
-    Ok(())
+}
+
+#[test]
+fn stages_serve(rt: HostRuntime) {
+    follow(&rt, rt.alloc(), &WORDS, &SECOND);
+    follow(&rt, rt.alloc(), &WORDS, &BOTH);
+    follow(&rt, rt.alloc(), &WORDS, &THIRD);
 }

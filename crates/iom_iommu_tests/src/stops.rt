@@ -2,7 +2,6 @@ use crate::bench::{Answer, Bench, Step, follow};
 use crate::expect::expect;
 use crate::setup::{BASE_VALUE, CQCSR, CQH, CQT, FENCE};
 use iom_registers::Registers;
-use std::test::Fail;
 
 /// Opcode 5 stops the queue, and this bit of cqcsr says why. Nothing is fetched and no word is stored, whatever
 /// stands at the head, until a 1 is written to that bit; then the command at the head is done.
@@ -37,19 +36,12 @@ static NO_PLACE: [Step; 12] = [
     Step::Word(0x5000, 1),
 ];
 
-#[test]
-fn it_stays_stopped_until_cleared(rt: HostRuntime) {
-    follow(&rt, rt.alloc(), &[], &ILLEGAL);
-    follow(&rt, rt.alloc(), &[], &NO_PLACE);
-}
-
 // At power-on the queue is off: nothing is fetched, and no register changes.
 #[test]
-fn a_queue_at_power_on_is_stopped(rt: HostRuntime) -> Result<(), Fail> {
-    let mut bench = Bench::at_power_on(rt.alloc())?;
+fn a_queue_at_power_on_is_stopped(rt: HostRuntime) {
+    let mut bench = Bench::at_power_on(&rt, rt.alloc());
     bench.follow(&rt, &[Step::Fetch(Answer::Stopped)]);
     expect(&rt, bench.registers() == Registers::new());
-    Ok(())
 }
 
 /// While the queue is off nothing is fetched. Turned on, it begins at its first entry.
@@ -67,6 +59,8 @@ static OFF: [Step; 10] = [
 ];
 
 #[test]
-fn a_queue_that_is_off_is_stopped(rt: HostRuntime) {
+fn a_queue_is_stopped(rt: HostRuntime) {
+    follow(&rt, rt.alloc(), &[], &ILLEGAL);
+    follow(&rt, rt.alloc(), &[], &NO_PLACE);
     follow(&rt, rt.alloc(), &[], &OFF);
 }

@@ -4,7 +4,6 @@ use crate::setup::{BASE_VALUE, CQCSR, CQH, CQT, DDTP, DEVICE, IPSR};
 use iom_iommu::Reply;
 use iom_registers::{RegFault, Registers};
 use std::process::Abort;
-use std::test::Fail;
 
 /// A fence that stores 1 at 0x10000, as 4 bytes.
 static STORES: [Step; 9] = [
@@ -18,11 +17,6 @@ static STORES: [Step; 9] = [
     Step::Register(IPSR, 0),
     Step::Word(0x10000, 0xffff_ffff_0000_0001),
 ];
-
-#[test]
-fn a_fence_stores_four_bytes(rt: HostRuntime) {
-    follow(&rt, rt.alloc(), &[], &STORES);
-}
 
 /// A command, and cqcsr once it stopped the queue: a fence that stores at 0x40000, which is outside, sets cqmf; of the
 /// others each sets cmd_ill.
@@ -55,12 +49,11 @@ fn stops(rt: &impl Abort, bench: &mut Bench, command: (u64, u64), cqcsr: u64) {
 
 // Each command, from a fresh start.
 #[test]
-fn a_command_stops_the_queue(rt: HostRuntime) -> Result<(), Fail> {
+fn a_command_stops_the_queue(rt: HostRuntime) {
     for (command, cqcsr) in STOPS.iter() {
-        let mut bench = Bench::at_power_on(rt.alloc())?;
+        let mut bench = Bench::at_power_on(&rt, rt.alloc());
         stops(&rt, &mut bench, *command, *cqcsr);
     }
-    Ok(())
 }
 
 /// Commands that store nothing: IOTINVAL.VMA of the page 3 of PSCID 1, IOTINVAL.GVMA of GSCID 1, IODIR.INVAL_DDT of the
@@ -96,11 +89,6 @@ static OTHERS: [Step; 19] = [
     Step::Register(CQCSR, 0x0001_0003),
 ];
 
-#[test]
-fn other_commands_are_done_in_order(rt: HostRuntime) {
-    follow(&rt, rt.alloc(), &[], &OTHERS);
-}
-
 // An access of software is answered so, and the registers are as at power-on.
 fn is_refused(rt: &impl Abort, bench: &mut Bench, offset: u64, fault: RegFault) {
     let written = bench.write_as(offset, 4, BASE_VALUE);
@@ -110,13 +98,18 @@ fn is_refused(rt: &impl Abort, bench: &mut Bench, offset: u64, fault: RegFault) 
 
 // A refused access changes nothing, and the registers are those of the table.
 #[test]
-fn registers_are_reached(rt: HostRuntime) -> Result<(), Fail> {
-    let mut bench = Bench::at_power_on(rt.alloc())?;
+fn registers_are_reached(rt: HostRuntime) {
+    let mut bench = Bench::at_power_on(&rt, rt.alloc());
     expect(&rt, bench.read_as(0, 8) == Ok(0x0000_0020_1202_0210));
     is_refused(&rt, &mut bench, 24, RegFault::BadWidth);
     is_refused(&rt, &mut bench, 28, RegFault::BadOffset);
     expect(&rt, bench.write_as(24, 8, BASE_VALUE).is_ok());
     expect(&rt, bench.read_as(24, 8) == Ok(BASE_VALUE));
     expect(&rt, bench.registers().command_base() == 0x3f000);
-    Ok(())
+}
+
+#[test]
+fn commands_are_done(rt: HostRuntime) {
+    follow(&rt, rt.alloc(), &[], &STORES);
+    follow(&rt, rt.alloc(), &[], &OTHERS);
 }

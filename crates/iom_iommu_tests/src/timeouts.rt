@@ -36,11 +36,6 @@ static ONCE: [Step; 23] = [
     Step::Done(DEVICE, 1, false),
 ];
 
-#[test]
-fn a_fence_that_waits_is_given_up_once(rt: HostRuntime) {
-    follow(&rt, rt.alloc(), &[], &ONCE);
-}
-
 /// A fence that no fetch has found yet doesn't wait, though a request is open.
 static NOT_FETCHED: [Step; 10] = [
     Step::TurnOn(BASE_VALUE),
@@ -54,11 +49,6 @@ static NOT_FETCHED: [Step; 10] = [
     Step::Fetch(Answer::Waiting),
     Step::Timeout,
 ];
-
-#[test]
-fn a_fence_that_was_not_fetched_is_not_given_up(rt: HostRuntime) {
-    follow(&rt, rt.alloc(), &[], &NOT_FETCHED);
-}
 
 /// A fence whose requests were all completed since its last fetch is not given up: the next fetch does it.
 static COMPLETED: [Step; 13] = [
@@ -76,11 +66,6 @@ static COMPLETED: [Step; 13] = [
     Step::Word(0x5000, 1),
     Step::Register(CQH, 3),
 ];
-
-#[test]
-fn a_fence_whose_requests_are_done_is_not_given_up(rt: HostRuntime) {
-    follow(&rt, rt.alloc(), &[], &COMPLETED);
-}
 
 /// A fence that waits for accesses alone is not given up.
 static ACCESSES: [Step; 15] = [
@@ -101,11 +86,6 @@ static ACCESSES: [Step; 15] = [
     Step::Word(0x5000, 1),
 ];
 
-#[test]
-fn a_fence_that_waits_for_accesses_is_not_given_up(rt: HostRuntime) {
-    follow(&rt, rt.alloc(), &[], &ACCESSES);
-}
-
 /// An ATS.INVAL that waits for one of 32 requests is not given up.
 static REQUEST: [Step; 11] = [
     Step::TurnOn(BASE_VALUE),
@@ -120,11 +100,6 @@ static REQUEST: [Step; 11] = [
     Step::Done(DEVICE, 7, true),
     Step::Opens(33),
 ];
-
-#[test]
-fn a_request_that_waits_is_not_given_up(rt: HostRuntime) {
-    follow(&rt, rt.alloc(), &[], &REQUEST);
-}
 
 /// Turned off and on, the queue begins at its first entry, and the numbers go on: the fence waits and is given up
 /// again.
@@ -155,11 +130,6 @@ static AGAIN: [Step; 24] = [
     Step::Done(DEVICE, 1, false),
 ];
 
-#[test]
-fn the_queue_is_turned_off_after_a_timeout(rt: HostRuntime) {
-    follow(&rt, rt.alloc(), &[], &AGAIN);
-}
-
 /// A 1 written to `cmd_to` clears it. The fence at the head is fetched again, and done, since no request is open.
 static CLEARED: [Step; 14] = [
     Step::TurnOn(BASE_VALUE),
@@ -178,11 +148,6 @@ static CLEARED: [Step; 14] = [
     Step::NoTimeout,
 ];
 
-#[test]
-fn the_fence_is_done_once_the_bit_is_cleared(rt: HostRuntime) {
-    follow(&rt, rt.alloc(), &[], &CLEARED);
-}
-
 /// While the queue is off no fence waits.
 static OFF: [Step; 12] = [
     Step::TurnOn(BASE_VALUE),
@@ -200,6 +165,13 @@ static OFF: [Step; 12] = [
 ];
 
 #[test]
-fn no_fence_waits_while_the_queue_is_off(rt: HostRuntime) {
+fn fences_are_given_up(rt: HostRuntime) {
+    follow(&rt, rt.alloc(), &[], &ONCE);
+    follow(&rt, rt.alloc(), &[], &NOT_FETCHED);
+    follow(&rt, rt.alloc(), &[], &COMPLETED);
+    follow(&rt, rt.alloc(), &[], &ACCESSES);
+    follow(&rt, rt.alloc(), &[], &REQUEST);
+    follow(&rt, rt.alloc(), &[], &AGAIN);
+    follow(&rt, rt.alloc(), &[], &CLEARED);
     follow(&rt, rt.alloc(), &[], &OFF);
 }

@@ -21,11 +21,6 @@ static SERVED: [Step; 11] = [
     Step::Register(FQT, 0),
 ];
 
-#[test]
-fn a_translated_request_is_served(rt: HostRuntime) {
-    follow(&rt, rt.alloc(), &WORDS, &SERVED);
-}
-
 /// A context with EN_ATS clear.
 static NO_ATS: [Step; 8] = [
     Step::TurnOn(BASE_VALUE),
@@ -61,14 +56,6 @@ static OFF: [Step; 8] = [
     Step::Record(0, [0x0000_0518_0000_0100, 0, 0x3010, 0]),
 ];
 
-// Each of them is recorded, with its cause.
-#[test]
-fn a_translated_request_is_not_let_through(rt: HostRuntime) {
-    follow(&rt, rt.alloc(), &WORDS, &NO_ATS);
-    follow(&rt, rt.alloc(), &WORDS, &BARE);
-    follow(&rt, rt.alloc(), &WORDS, &OFF);
-}
-
 /// A write of an address outside memory.
 static OUTSIDE: [Step; 8] = [
     Step::TurnOn(BASE_VALUE),
@@ -82,6 +69,10 @@ static OUTSIDE: [Step; 8] = [
 ];
 
 #[test]
-fn a_translated_request_leaves_memory(rt: HostRuntime) {
+fn translated_requests_are_answered(rt: HostRuntime) {
+    follow(&rt, rt.alloc(), &WORDS, &SERVED);
+    follow(&rt, rt.alloc(), &WORDS, &NO_ATS);
+    follow(&rt, rt.alloc(), &WORDS, &BARE);
+    follow(&rt, rt.alloc(), &WORDS, &OFF);
     follow(&rt, rt.alloc(), &WORDS, &OUTSIDE);
 }

@@ -5,7 +5,6 @@ use crate::setup::{BASE_VALUE, CQT, DDTP, DEVICE};
 use iom_base::Cause;
 use iom_iommu::Reply;
 use std::process::Abort;
-use std::test::Fail;
 
 /// The leaf of the frame 32, to be read and written; as it is at first.
 const WRITABLE: u64 = 0x80d7;
@@ -57,12 +56,11 @@ static COMMANDS: [((u64, u64), u32); 10] = [
 ];
 
 #[test]
-fn a_translation_is_cached_until_it_is_taken_out(rt: HostRuntime) -> Result<(), Fail> {
+fn a_translation_is_cached_until_it_is_taken_out(rt: HostRuntime) {
     for (command, frame) in COMMANDS.iter() {
-        let mut bench = Bench::at_power_on(rt.alloc())?;
+        let mut bench = Bench::at_power_on(&rt, rt.alloc());
         goes_after(&rt, &mut bench, *command, *frame);
     }
-    Ok(())
 }
 
 /// A cached translation that may only be read, by this leaf, serves no write: the write walks, and is refused while the
@@ -85,12 +83,11 @@ fn needs_its_right(rt: &impl Abort, bench: &mut Bench, leaf: u64) {
 
 // By a leaf to be read, and by one whose D is clear.
 #[test]
-fn a_write_needs_its_right(rt: HostRuntime) -> Result<(), Fail> {
+fn a_write_needs_its_right(rt: HostRuntime) {
     for leaf in [READ_ONLY, CLEAN] {
-        let mut bench = Bench::at_power_on(rt.alloc())?;
+        let mut bench = Bench::at_power_on(&rt, rt.alloc());
         needs_its_right(&rt, &mut bench, leaf);
     }
-    Ok(())
 }
 
 /// A walk that was refused keeps nothing: the next one finds the leaf that is there now.

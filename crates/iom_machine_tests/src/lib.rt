@@ -1,4 +1,4 @@
-//! Calls of the public functions of `iom_machine`, `iom_machine_judge` and `iom_script`, on their happy paths
+//! Calls of the public functions of `iom_machine`, `iom_machine_judge`, `iom_device` and `iom_script`, on their happy paths
 //! and at their edges.
 //!
 //! The crate has tests alone, and nothing stands on it. It stands apart from the crates that it calls
@@ -10,6 +10,8 @@
 mod ats;
 #[cfg(test)]
 mod block_devices;
+#[cfg(test)]
+mod devices;
 #[cfg(test)]
 mod expect;
 #[cfg(test)]

@@ -1,5 +1,5 @@
-//! Calls of the public functions of the crates under the ledger and the world, on their happy paths and at
-//! their edges: one module for each crate.
+//! Calls of the public functions of the crates under the world that are about memory and who holds it, on their happy
+//! paths and at their edges.
 //!
 //! The crate has tests alone, and nothing stands on it. It stands apart from the crates that it calls
 //! because a crate with tests of its own is proved twice, without them and with them; and apart from
@@ -11,10 +11,20 @@ mod base;
 #[cfg(test)]
 mod expect;
 #[cfg(test)]
+mod frame_rows;
+#[cfg(test)]
+mod frame_set;
+#[cfg(test)]
 mod inflight;
 #[cfg(test)]
+mod ledger;
+#[cfg(test)]
 mod page_table;
+#[cfg(test)]
+mod pages;
 #[cfg(test)]
 mod phys_mem;
 #[cfg(test)]
 mod stage_walk;
+#[cfg(test)]
+mod table_frames;

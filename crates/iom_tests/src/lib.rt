@@ -2,12 +2,10 @@
 //! one module for each. Worlds that are drawn are in `iom_drawn_tests`, and those of the crates below in crates of their own.
 //!
 //! The crate has tests alone, and nothing stands on it. It stands apart from the crates that it calls
-//! because a crate with tests of its own is proved twice, without them and with them. Beside it
-//! `iom_worked` runs whole scripts.
+//! because a crate with tests of its own is proved twice, without them and with them. What comes of
+//! events is told by the worked scripts of `iom_worked`, which need no proof of their own.
 #![tactic(auto)]
 
-#[cfg(test)]
-mod block_devices;
 #[cfg(test)]
 mod expect;
 #[cfg(test)]

@@ -1,6 +1,6 @@
 ghost use Rattle.std.specs.Prelude.{Some};
 
-use crate::expect::{expect, expect_eq};
+use crate::expect::expect;
 use iom_runner::{ArgsFault, ProgramFault, RunFault, read_words, run, run_words};
 use iom_virtio_blk::MemoryDisk;
 use std::alloc::Global;
@@ -16,17 +16,6 @@ struct Slow<'a> {
     at_once: usize,
     interrupted: bool,
     calls: usize,
-}
-
-impl Slow<'_> {
-    fn new(bytes: &[u8], at_once: usize, calls: usize) -> Slow<'_> {
-        Slow {
-            rest: bytes,
-            at_once,
-            interrupted: false,
-            calls,
-        }
-    }
 }
 
 impl Read for Slow<'_> {
@@ -61,18 +50,6 @@ struct Stingy {
     takes_nothing: bool,
 }
 
-impl Stingy {
-    fn new(alloc: Global, at_once: usize, room: usize) -> Stingy {
-        Stingy {
-            got: Vec::new(alloc),
-            at_once,
-            room,
-            interrupted: false,
-            takes_nothing: false,
-        }
-    }
-}
-
 impl Write for Stingy {
     ghost contents = { λ w. Some w.got.items };
 
@@ -99,29 +76,67 @@ impl Write for Stingy {
     }
 }
 
-/// Runs a script without disks, and writes its lines without counts.
-fn told<R: Read, W: Write>(alloc: Global, reader: &mut R, writer: &mut W) -> Result<(), RunFault> {
-    run(alloc, reader, writer, Vec::<MemoryDisk>::new(alloc), false)
+/// How a run ends.
+#[derive(Clone, Copy, PartialEq)]
+enum End {
+    Done,
+    Reading,
+    Writing,
+    Memory,
+    /// The line with this number is bad.
+    BadLine(u64),
 }
 
-/// The status of a run: 0, or that of its fault.
-fn status(done: Result<(), RunFault>) -> u8 {
+fn end_of(done: Result<(), RunFault>) -> End {
     match done {
-        Ok(()) => 0,
-        Err(fault) => ProgramFault::Run(fault).status(),
+        Ok(()) => End::Done,
+        Err(RunFault::Reading) => End::Reading,
+        Err(RunFault::Writing) => End::Writing,
+        Err(RunFault::Memory) => End::Memory,
+        Err(RunFault::Script(line)) => End::BadLine(line),
     }
 }
 
-/// The bytes, as often as that, after a beginning.
-fn many(alloc: Global, front: &[u8], piece: &[u8], count: usize) -> Result<Vec<u8>, Fail> {
-    let mut bytes = Vec::from_slice(alloc, front)?;
-    for _ in 0..count {
-        bytes.extend_from_slice(piece)?;
-    }
-    Ok(bytes)
+/// Runs a script without disks, and writes its lines without counts.
+fn ends(alloc: Global, reader: &mut Slow, writer: &mut Stingy) -> End {
+    let disks = Vec::<MemoryDisk>::new(alloc);
+    end_of(run(alloc, reader, writer, disks, false))
 }
 
-const FIRST_PATH: &[u8] = b"\
+/// A run: its script; how many bytes are read and how many are written at once; after how many calls reading fails, and
+/// after how many bytes writing; how it ends, and what it wrote by then.
+#[derive(Clone, Copy)]
+struct Play<'a> {
+    script: &'a [u8],
+    read: usize,
+    written: usize,
+    calls: usize,
+    room: usize,
+    /// Writing doesn't fail after that many bytes, but takes nothing.
+    takes_nothing: bool,
+    end: End,
+    lines: &'a [u8],
+}
+
+/// Whether the run ends so, and wrote that.
+fn is_so(alloc: Global, play: &Play) -> bool {
+    let mut reader = Slow {
+        rest: play.script,
+        at_once: play.read,
+        interrupted: false,
+        calls: play.calls,
+    };
+    let mut writer = Stingy {
+        got: Vec::new(alloc),
+        at_once: play.written,
+        room: play.room,
+        interrupted: false,
+        takes_nothing: play.takes_nothing,
+    };
+    ends(alloc, &mut reader, &mut writer) == play.end && writer.got.as_slice() == play.lines
+}
+
+static FIRST_PATH: &[u8] = b"\
     world 64 1\n\
     device 000001 raw\n\
     attach 000001 first\n\
@@ -135,7 +150,7 @@ const FIRST_PATH: &[u8] = b"\
     poll\n\
     read 000001 0x3ffc 4\n";
 
-const FIRST_PATH_LINES: &[u8] = b"\
+static FIRST_PATH_LINES: &[u8] = b"\
     ok\n\
     ok\n\
     ok\n\
@@ -149,20 +164,178 @@ const FIRST_PATH_LINES: &[u8] = b"\
     confirmed 1-1\n\
     fault 13\n";
 
+/// The first path, read and written whole.
+fn whole() -> Play<'static> {
+    Play {
+        script: FIRST_PATH,
+        read: usize::MAX,
+        written: usize::MAX,
+        calls: usize::MAX,
+        room: usize::MAX,
+        takes_nothing: false,
+        end: End::Done,
+        lines: FIRST_PATH_LINES,
+    }
+}
+
+/// Scripts that say nothing, or of which a line is bad: nothing is written.
+static SILENT: [(&[u8], End); 10] = [
+    (b"", End::Done),
+    (b"\n# nothing\n", End::Done),
+    (b"# a\0b\r\xff\n", End::Done),
+    (b"world 64 1\nfetch 1\n", End::BadLine(2)),
+    (b"world 64 1\nfetch", End::BadLine(2)),
+    (b"world 64 1\r\n", End::BadLine(1)),
+    (b"world 64 1\n\nfetch\0\n", End::BadLine(3)),
+    (b"world 64 1\nfetch \xff\n", End::BadLine(2)),
+    (
+        b"world 64 1\n#\n\ngrant 000001 18446744073709551616 5 rw\n",
+        End::BadLine(4),
+    ),
+    (b"fetch\n", End::BadLine(1)),
+];
+
 #[test]
-fn the_first_path_is_told(rt: HostRuntime) -> Result<(), Fail> {
-    let mut out = Vec::new(rt.alloc());
-    told(rt.alloc(), &mut FIRST_PATH, &mut out)?;
-    assert_eq!(rt; out.as_slice(), FIRST_PATH_LINES);
-    Ok(())
+fn scripts_are_told(rt: HostRuntime) {
+    expect(&rt, is_so(rt.alloc(), &whole()));
+    for (script, end) in SILENT.iter() {
+        let play = Play {
+            script,
+            end: *end,
+            lines: b"",
+            ..whole()
+        };
+        expect(&rt, is_so(rt.alloc(), &play));
+    }
+}
+
+#[test]
+fn a_write_of_no_bytes_is_a_fault(rt: HostRuntime) {
+    let play = Play {
+        written: 10,
+        room: 20,
+        takes_nothing: true,
+        end: End::Writing,
+        lines: b"ok\nok\nok\nok\naccepted",
+        ..whole()
+    };
+    expect(&rt, is_so(rt.alloc(), &play));
+}
+
+#[test]
+fn short_reads_and_writes_are_continued(rt: HostRuntime) {
+    for at_once in 1..9usize {
+        let play = Play {
+            read: at_once,
+            written: at_once,
+            ..whole()
+        };
+        expect(&rt, is_so(rt.alloc(), &play));
+    }
+}
+
+#[test]
+fn a_failing_read_writes_nothing(rt: HostRuntime) {
+    for calls in 0..9usize {
+        let play = Play {
+            read: 30,
+            written: 7,
+            calls,
+            end: End::Reading,
+            lines: b"",
+            ..whole()
+        };
+        expect(&rt, is_so(rt.alloc(), &play));
+    }
+}
+
+#[test]
+fn a_failing_write_leaves_a_beginning(rt: HostRuntime) {
+    for room in 0..FIRST_PATH_LINES.len() {
+        let play = Play {
+            written: 10,
+            room,
+            end: End::Writing,
+            lines: FIRST_PATH_LINES.get(..room).unwrap_or(b""),
+            ..whole()
+        };
+        expect(&rt, is_so(rt.alloc(), &play));
+    }
+}
+
+/// A script of a beginning and a line or a part of one so many times; how many bytes are written at once; how the run ends,
+/// and the beginning of what it wrote and the line so many times.
+struct Long<'a> {
+    script: (&'a [u8], &'a [u8], usize),
+    written: usize,
+    end: End,
+    lines: (&'a [u8], &'a [u8], usize),
+}
+
+const NO_LINES: (&[u8], &[u8], usize) = (b"", b"", 0);
+
+/// A megabyte of one line; of lines: 11 bytes of the first and 5 of each other, 1,048,576 in all; one line more than that;
+/// and more than a whole buffer of lines, written a byte at a time.
+static LONG: [Long; 4] = [
+    Long {
+        script: (b"", b"poll", 262145),
+        written: usize::MAX,
+        end: End::BadLine(1),
+        lines: NO_LINES,
+    },
+    Long {
+        script: (b"world 64 1\n", b"poll\n", 209713),
+        written: usize::MAX,
+        end: End::Done,
+        lines: (b"ok\n", b"confirmed -\n", 209713),
+    },
+    Long {
+        script: (b"world 64 1\n", b"poll\n", 209714),
+        written: usize::MAX,
+        end: End::BadLine(209715),
+        lines: NO_LINES,
+    },
+    Long {
+        script: (b"world 64 1\n", b"poll\n", 7000),
+        written: 1,
+        end: End::Done,
+        lines: (b"ok\n", b"confirmed -\n", 7000),
+    },
+];
+
+/// The bytes, as often as that, after a beginning.
+fn many(rt: &impl Abort, alloc: Global, (front, piece, count): (&[u8], &[u8], usize)) -> Vec<u8> {
+    let mut bytes = Vec::from_slice(alloc, front).expect(rt, "memory for a text");
+    for _ in 0..count {
+        bytes
+            .extend_from_slice(piece)
+            .expect(rt, "memory for a text");
+    }
+    bytes
+}
+
+#[test]
+fn long_scripts_are_told(rt: HostRuntime) {
+    for long in LONG.iter() {
+        let script = many(&rt, rt.alloc(), long.script);
+        let lines = many(&rt, rt.alloc(), long.lines);
+        let play = Play {
+            script: script.as_slice(),
+            written: long.written,
+            end: long.end,
+            lines: lines.as_slice(),
+            ..whole()
+        };
+        expect(&rt, is_so(rt.alloc(), &play));
+    }
 }
 
 /// A page is granted and released, and the ticket isn't confirmed.
-const COUNTED: &[u8] = b"world 64 1\ndevice 000001 raw\nattach 000001 first\n\
+static COUNTED: &[u8] = b"world 64 1\ndevice 000001 raw\nattach 000001 first\n\
     grant 000001 3 5 rw\nread 000001 0x3000 1\nrelease 000001 3\n";
 
 /// Four frames are the system's. The device's root takes one, and the page's tables two.
-const COUNTED_LINES: &[u8] = b"\
+static COUNTED_LINES: &[u8] = b"\
     ok\n= tickets 0 flight 0 messages 0 free 60\n\
     ok\n= tickets 0 flight 0 messages 0 free 60\n\
     ok\n= tickets 0 flight 0 messages 0 free 59\n\
@@ -170,145 +343,27 @@ const COUNTED_LINES: &[u8] = b"\
     accepted 1\n= tickets 0 flight 1 messages 0 free 56\n\
     ticket 1\n= tickets 1 flight 1 messages 0 free 56\n";
 
-#[test]
-fn counts_stand_behind_each_line(rt: HostRuntime) -> Result<(), Fail> {
-    let mut out = Vec::new(rt.alloc());
-    run_words(&rt, rt.alloc(), &["--trace"], &mut COUNTED, &mut out)?;
-    assert_eq!(rt; out.as_slice(), COUNTED_LINES);
-    Ok(())
+/// Whether the program ends so with the words and an input, and writes that.
+fn is_run(rt: &HostRuntime, words: &[&str], script: &[u8], end: End, lines: &[u8]) -> bool {
+    let mut input = script;
+    let mut written = Vec::new(rt.alloc());
+    let ended = match run_words(rt, rt.alloc(), words, &mut input, &mut written) {
+        Ok(()) => Some(End::Done),
+        Err(ProgramFault::Run(fault)) => Some(end_of(Err(fault))),
+        Err(ProgramFault::Args(_)) => None,
+    };
+    ended == Some(end) && written.as_slice() == lines
 }
 
+// Counts stand behind each line where they are asked for. Where a file is absent nothing is read and written.
 #[test]
-fn short_reads_and_writes_are_continued(rt: HostRuntime) -> Result<(), Fail> {
-    for at_once in 1..9usize {
-        let mut input = Slow::new(FIRST_PATH, at_once, usize::MAX);
-        let mut out = Stingy::new(rt.alloc(), at_once, usize::MAX);
-        told(rt.alloc(), &mut input, &mut out)?;
-        assert_eq!(rt; out.got.as_slice(), FIRST_PATH_LINES);
-    }
-    Ok(())
-}
-
-#[test]
-fn a_failing_read_writes_nothing(rt: HostRuntime) -> Result<(), Fail> {
-    for calls in 0..9usize {
-        let mut input = Slow::new(FIRST_PATH, 30, calls);
-        let mut out = Stingy::new(rt.alloc(), 7, usize::MAX);
-        match told(rt.alloc(), &mut input, &mut out) {
-            Err(RunFault::Reading) => {}
-            _ => return Err(Fail::new("no fault of reading")),
-        }
-        assert!(rt; out.got.is_empty());
-    }
-    Ok(())
-}
-
-#[test]
-fn a_failing_write_leaves_a_beginning(rt: HostRuntime) -> Result<(), Fail> {
-    for room in 0..FIRST_PATH_LINES.len() {
-        let mut out = Stingy::new(rt.alloc(), 10, room);
-        match told(rt.alloc(), &mut FIRST_PATH, &mut out) {
-            Err(RunFault::Writing) => {}
-            _ => return Err(Fail::new("no fault of writing")),
-        }
-        assert_eq!(rt; Some(out.got.as_slice()), FIRST_PATH_LINES.get(..room));
-    }
-    Ok(())
-}
-
-#[test]
-fn a_write_of_no_bytes_is_a_fault(rt: HostRuntime) -> Result<(), Fail> {
-    let mut out = Stingy::new(rt.alloc(), 10, 20);
-    out.takes_nothing = true;
-    match told(rt.alloc(), &mut FIRST_PATH, &mut out) {
-        Err(RunFault::Writing) => {}
-        _ => return Err(Fail::new("no fault of writing")),
-    }
-    assert_eq!(rt; out.got.len(), 20usize);
-    Ok(())
-}
-
-#[test]
-fn a_script_that_says_nothing_prints_nothing(rt: HostRuntime) -> Result<(), Fail> {
-    let silent: [&[u8]; 3] = [b"", b"\n# nothing\n", b"# a\0b\r\xff\n"];
-    for mut script in silent {
-        let mut out = Vec::new(rt.alloc());
-        told(rt.alloc(), &mut script, &mut out)?;
-        assert!(rt; out.is_empty());
-    }
-    Ok(())
-}
-
-/// Ends the test where the script isn't refused at the line with this number, or something is written.
-fn is_bad_at(rt: &(impl Abort + AllocGlobal), script: &[u8], number: u64) -> Result<(), Fail> {
-    let mut rest = script;
-    let mut out = Vec::new(rt.alloc());
-    match told(rt.alloc(), &mut rest, &mut out) {
-        Err(RunFault::Script(named)) => expect_eq(rt, &named, &number),
-        _ => return Err(Fail::new("no bad line")),
-    }
-    expect(rt, out.is_empty());
-    Ok(())
-}
-
-/// Scripts, and the lines at which they are refused.
-static BAD: [(&[u8], u64); 7] = [
-    (b"world 64 1\nfetch 1\n", 2),
-    (b"world 64 1\nfetch", 2),
-    (b"world 64 1\r\n", 1),
-    (b"world 64 1\n\nfetch\0\n", 3),
-    (b"world 64 1\nfetch \xff\n", 2),
-    (
-        b"world 64 1\n#\n\ngrant 000001 18446744073709551616 5 rw\n",
-        4,
-    ),
-    (b"fetch\n", 1),
-];
-
-#[test]
-fn a_bad_line_is_named(rt: HostRuntime) -> Result<(), Fail> {
-    for (script, number) in &BAD {
-        is_bad_at(&rt, script, *number)?;
-    }
-    Ok(())
-}
-
-#[test]
-fn a_megabyte_of_one_line_is_bad(rt: HostRuntime) -> Result<(), Fail> {
-    let script = many(rt.alloc(), b"", b"poll", 262145)?;
-    let mut out = Vec::new(rt.alloc());
-    let done = told(rt.alloc(), &mut script.as_slice(), &mut out);
-    assert_eq!(rt; status(done), 2u8);
-    assert!(rt; out.is_empty());
-    Ok(())
-}
-
-#[test]
-fn a_megabyte_of_lines_is_told(rt: HostRuntime) -> Result<(), Fail> {
-    // 11 bytes of the first line and 5 of each other: 1,048,576 in all.
-    let script = many(rt.alloc(), b"world 64 1\n", b"poll\n", 209713)?;
-    let lines = many(rt.alloc(), b"ok\n", b"confirmed -\n", 209713)?;
-    let mut out = Vec::new(rt.alloc());
-    told(rt.alloc(), &mut script.as_slice(), &mut out)?;
-    assert!(rt; out.as_slice() == lines.as_slice());
-    Ok(())
-}
-
-#[test]
-fn many_short_writes_are_continued(rt: HostRuntime) -> Result<(), Fail> {
-    // More than a whole buffer of lines, a byte at a time.
-    let script = many(rt.alloc(), b"world 64 1\n", b"poll\n", 7000)?;
-    let lines = many(rt.alloc(), b"ok\n", b"confirmed -\n", 7000)?;
-    let mut out = Stingy::new(rt.alloc(), 1, usize::MAX);
-    told(rt.alloc(), &mut script.as_slice(), &mut out)?;
-    assert!(rt; out.got.as_slice() == lines.as_slice());
-    Ok(())
-}
-
-#[test]
-fn one_line_too_many_is_named(rt: HostRuntime) -> Result<(), Fail> {
-    let script = many(rt.alloc(), b"world 64 1\n", b"poll\n", 209714)?;
-    is_bad_at(&rt, &script, 209715)
+fn words_say_what_is_run(rt: HostRuntime) {
+    let first = is_run(&rt, &[], FIRST_PATH, End::Done, FIRST_PATH_LINES);
+    expect(&rt, first);
+    let counted = is_run(&rt, &["--trace"], COUNTED, End::Done, COUNTED_LINES);
+    expect(&rt, counted);
+    let absent = is_run(&rt, &["absent.iommu"], FIRST_PATH, End::Reading, b"");
+    expect(&rt, absent);
 }
 
 /// Faults with their texts and statuses.
@@ -332,91 +387,63 @@ fn is_told(
     text: &str,
     status: u8,
 ) -> Result<(), Fail> {
-    assert_eq!(rt; format!(in rt.alloc(); "{fault}")?.as_str(), text);
-    assert_eq!(rt; fault.status(), status);
+    let told = format!(in rt.alloc(); "{fault}")?;
+    expect(rt, told.as_str() == text && fault.status() == status);
     Ok(())
 }
 
 #[test]
 fn faults_have_texts_and_statuses(rt: HostRuntime) -> Result<(), Fail> {
-    for (fault, text, status) in &FAULTS {
+    for (fault, text, status) in FAULTS.iter() {
         is_told(&rt, fault, text, *status)?;
     }
     Ok(())
 }
 
-#[test]
-fn a_file_that_is_absent_is_not_read(rt: HostRuntime) -> Result<(), Fail> {
-    let mut out = Vec::new(rt.alloc());
-    match run_words(
-        &rt,
-        rt.alloc(),
-        &["absent.iommu"],
-        &mut FIRST_PATH,
-        &mut out,
-    ) {
-        Err(ProgramFault::Run(RunFault::Reading)) => {}
-        _ => return Err(Fail::new("no fault of reading")),
-    }
-    assert!(rt; out.is_empty());
-    run_words(&rt, rt.alloc(), &[], &mut FIRST_PATH, &mut out)?;
-    assert_eq!(rt; out.as_slice(), FIRST_PATH_LINES);
-    Ok(())
-}
-
-/// Ends the test where this one word names another file, or none.
-fn names_file(rt: &(impl Abort + AllocGlobal), file: &str) -> Result<(), Fail> {
-    let words = [file];
-    let read = read_words(rt.alloc(), &words)?;
-    assert_eq!(rt; read.file, Some(file));
-    Ok(())
-}
-
-/// Ends the test where `--trace` before this word isn't read as the flag and the file.
-fn wants_counts(rt: &(impl Abort + AllocGlobal), file: &str) -> Result<(), Fail> {
-    let words = ["--trace", file];
-    let read = read_words(rt.alloc(), &words)?;
-    assert!(rt; read.trace);
-    assert_eq!(rt; read.file, Some(file));
-    Ok(())
-}
-
-/// Whether these words name no file, and ask for counts or don't.
-fn names_none(alloc: Global, words: &[&str], trace: bool) -> Result<bool, Fail> {
-    let read = read_words(alloc, words)?;
-    Ok(read.file.is_none() && read.trace == trace)
-}
-
-fn is_bad(alloc: Global, words: &[&str]) -> bool {
-    matches!(read_words(alloc, words), Err(ArgsFault::Bad))
-}
-
-static FILES: [&str; 5] = ["a", "a b-c", "/", "\u{e9}=\u{1f600}", "help"];
-
-static BAD_WORDS: [&[&str]; 11] = [
-    &[""],
-    &["-"],
-    &["--"],
-    &["--help"],
-    &["-h"],
-    &["a", "b"],
-    &["--", "a"],
-    &["a", "--trace"],
-    &["--trace", "--trace"],
-    &["--trace", ""],
-    &["--trace", "a", "b"],
+/// The words of a command line, and whether counts are asked for and which file is named; or that they are none.
+static WORDS: [(&[&str], Option<(bool, Option<&str>)>); 23] = [
+    (&[], Some((false, None))),
+    (&["--trace"], Some((true, None))),
+    (&["a"], Some((false, Some("a")))),
+    (&["a b-c"], Some((false, Some("a b-c")))),
+    (&["/"], Some((false, Some("/")))),
+    (
+        &["\u{e9}=\u{1f600}"],
+        Some((false, Some("\u{e9}=\u{1f600}"))),
+    ),
+    (&["help"], Some((false, Some("help")))),
+    (&["--trace", "a"], Some((true, Some("a")))),
+    (&["--trace", "a b-c"], Some((true, Some("a b-c")))),
+    (&["--trace", "/"], Some((true, Some("/")))),
+    (
+        &["--trace", "\u{e9}=\u{1f600}"],
+        Some((true, Some("\u{e9}=\u{1f600}"))),
+    ),
+    (&["--trace", "help"], Some((true, Some("help")))),
+    (&[""], None),
+    (&["-"], None),
+    (&["--"], None),
+    (&["--help"], None),
+    (&["-h"], None),
+    (&["a", "b"], None),
+    (&["--", "a"], None),
+    (&["a", "--trace"], None),
+    (&["--trace", "--trace"], None),
+    (&["--trace", ""], None),
+    (&["--trace", "a", "b"], None),
 ];
 
+fn are_read(alloc: Global, words: &[&str], expected: &Option<(bool, Option<&str>)>) -> bool {
+    match (read_words(alloc, words), expected) {
+        (Ok(read), Some((trace, file))) => read.trace == *trace && read.file == *file,
+        (Err(ArgsFault::Bad), None) => true,
+        _ => false,
+    }
+}
+
 #[test]
-fn command_lines_are_read(rt: HostRuntime) -> Result<(), Fail> {
-    expect(&rt, names_none(rt.alloc(), &[], false)?);
-    expect(&rt, names_none(rt.alloc(), &["--trace"], true)?);
-    for file in &FILES {
-        names_file(&rt, file)?;
-        wants_counts(&rt, file)?;
+fn command_lines_are_read(rt: HostRuntime) {
+    for (words, expected) in WORDS.iter() {
+        expect(&rt, are_read(rt.alloc(), words, expected));
     }
-    for words in &BAD_WORDS {
-        expect(&rt, is_bad(rt.alloc(), words));
-    }
-    Ok(())
 }

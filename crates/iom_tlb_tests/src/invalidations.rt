@@ -1,12 +1,13 @@
-use crate::caches::{keep, new_plain, new_ways};
+use crate::expect::expect;
+use crate::steps::{keep, new_plain, new_ways};
 use iom_base::Rights;
 use iom_command_queue::{AtsRange, Command, DeviceNumber, PageNumber, Pscid};
 use iom_tlb::{Cover, Space, TransCache, Translation, invalidate};
 use std::alloc::Global;
 use std::process::Abort;
 
-// Two host address spaces, two VMs, two address spaces of the first VM and one of the second.
-const SPACES: [Space; 7] = [
+/// Two host address spaces, two VMs, two address spaces of the first VM and one of the second.
+static SPACES: [Space; 7] = [
     Space::First { pscid: 1 },
     Space::First { pscid: 2 },
     Space::Second { gscid: 1 },
@@ -16,141 +17,133 @@ const SPACES: [Space; 7] = [
     Space::Both { gscid: 2, pscid: 1 },
 ];
 
-const TRANSLATION: Translation = Translation {
+static TRANSLATION: Translation = Translation {
     frame: 5,
     rights: Rights::RW,
 };
 
-// Pages 3 and 4 of each of the address spaces.
+/// A command, by the fields that count.
+enum Order {
+    /// GSCID, PSCID and page, where GV, PSCV and AV are 1.
+    Vma(Option<u16>, Option<u32>, Option<u64>),
+    Gvma(Option<u16>, Option<u64>),
+    Fence,
+    /// An invalidation of the directory.
+    Directory,
+    /// One of a device's cache.
+    Ats,
+}
+
+/// A command, and which of the address spaces have pages 3 and 4 after it: 1 for each that has.
+type Left = (Order, [u8; 7], [u8; 7]);
+
+/// What each row of the tables of IOTINVAL.VMA and IOTINVAL.GVMA leaves. Of GVMA AV is ignored if GV is 0; a two-stage
+/// translation doesn't tell which guest physical pages it was made from, so each of the VM goes. At the end commands that leave
+/// every translation.
+#[rattlefmt::skip]
+static ROWS: [Left; 15] = [
+    (Order::Vma(None, None, None), [0, 0, 1, 1, 1, 1, 1], [0, 0, 1, 1, 1, 1, 1]),
+    (Order::Vma(None, Some(1), None), [0, 1, 1, 1, 1, 1, 1], [0, 1, 1, 1, 1, 1, 1]),
+    (Order::Vma(None, None, Some(3)), [0, 0, 1, 1, 1, 1, 1], [1, 1, 1, 1, 1, 1, 1]),
+    (Order::Vma(None, Some(1), Some(3)), [0, 1, 1, 1, 1, 1, 1], [1, 1, 1, 1, 1, 1, 1]),
+    (Order::Vma(Some(1), None, None), [1, 1, 1, 1, 0, 0, 1], [1, 1, 1, 1, 0, 0, 1]),
+    (Order::Vma(Some(1), Some(1), None), [1, 1, 1, 1, 0, 1, 1], [1, 1, 1, 1, 0, 1, 1]),
+    (Order::Vma(Some(1), None, Some(3)), [1, 1, 1, 1, 0, 0, 1], [1, 1, 1, 1, 1, 1, 1]),
+    (Order::Vma(Some(1), Some(1), Some(3)), [1, 1, 1, 1, 0, 1, 1], [1, 1, 1, 1, 1, 1, 1]),
+    (Order::Gvma(None, None), [1, 1, 0, 0, 0, 0, 0], [1, 1, 0, 0, 0, 0, 0]),
+    (Order::Gvma(None, Some(3)), [1, 1, 0, 0, 0, 0, 0], [1, 1, 0, 0, 0, 0, 0]),
+    (Order::Gvma(Some(1), None), [1, 1, 0, 1, 0, 0, 1], [1, 1, 0, 1, 0, 0, 1]),
+    (Order::Gvma(Some(1), Some(3)), [1, 1, 0, 1, 0, 0, 1], [1, 1, 1, 1, 0, 0, 1]),
+    (Order::Fence, [1; 7], [1; 7]),
+    (Order::Directory, [1; 7], [1; 7]),
+    (Order::Ats, [1; 7], [1; 7]),
+];
+
+fn page_of(number: &Option<u64>) -> Option<PageNumber> {
+    number.and_then(|number| PageNumber::new(number))
+}
+
+fn command_of(rt: &impl Abort, order: &Order) -> Command {
+    match order {
+        Order::Vma(gscid, pscid, page) => Command::IotinvalVma {
+            gscid: *gscid,
+            pscid: pscid.and_then(|number| Pscid::new(number)),
+            page: page_of(page),
+        },
+        Order::Gvma(gscid, page) => Command::IotinvalGvma {
+            gscid: *gscid,
+            page: page_of(page),
+        },
+        Order::Fence => Command::IofenceC {
+            store: None,
+            wsi: false,
+            pr: true,
+            pw: true,
+        },
+        Order::Directory => Command::IodirInvalDdt { device: None },
+        Order::Ats => Command::AtsInval {
+            device: DeviceNumber::new(1).expect(rt, "24 bits"),
+            range: AtsRange::Everything,
+        },
+    }
+}
+
+/// Pages 3 and 4 of each of the address spaces.
 fn fill<C: TransCache>(cache: &mut C) {
-    for space in SPACES {
-        keep(cache, space, 3, TRANSLATION);
-        keep(cache, space, 4, TRANSLATION);
+    for space in SPACES.iter() {
+        keep(cache, *space, 3, TRANSLATION);
+        keep(cache, *space, 4, TRANSLATION);
     }
 }
 
-// Which of the address spaces have the page: 1 for each that has.
-fn has<C: TransCache>(rt: &impl Abort, cache: &mut C, page: u64, want: [u8; 7]) {
-    for at in 0..7 {
-        let found = cache.look(SPACES[at], page);
-        let stays = want[at] == 1;
-        assert_eq!(rt;
-            found,
-            stays.then_some(TRANSLATION),
-            "page {page} of space {at}"
-        );
+/// Those of the address spaces have the page, and no others.
+fn has<C: TransCache>(rt: &impl Abort, cache: &mut C, page: u64, want: &[u8; 7]) {
+    for (space, stays) in SPACES.iter().zip(want.iter()) {
+        let expected = (*stays == 1).then_some(TRANSLATION);
+        expect(rt, cache.look(*space, page) == expected);
     }
 }
 
-// What a command leaves of pages 3 and 4 in a cache that was empty.
-fn leaves_in<C: TransCache>(
-    rt: &impl Abort,
-    cache: &mut C,
-    command: &Command,
-    page_3: [u8; 7],
-    page_4: [u8; 7],
-) {
+/// What a row's command leaves of pages 3 and 4 in a cache that was empty.
+fn leaves<C: TransCache>(rt: &impl Abort, cache: &mut C, row: &Left) {
     fill(cache);
-    invalidate(cache, command);
-    has(rt, cache, 3, page_3);
-    has(rt, cache, 4, page_4);
+    invalidate(cache, &command_of(rt, &row.0));
+    has(rt, cache, 3, &row.1);
+    has(rt, cache, 4, &row.2);
 }
 
-// The same in either cache.
-fn leaves(rt: &impl Abort, alloc: Global, command: Command, page_3: [u8; 7], page_4: [u8; 7]) {
+/// The same in either cache.
+fn leaves_in_each(rt: &impl Abort, alloc: Global, row: &Left) {
     let mut plain = new_plain(rt, alloc);
-    leaves_in(rt, &mut plain, &command, page_3, page_4);
+    leaves(rt, &mut plain, row);
     let mut ways = new_ways(rt, alloc);
-    leaves_in(rt, &mut ways, &command, page_3, page_4);
+    leaves(rt, &mut ways, row);
 }
-
-fn vma(gscid: Option<u16>, pscid: Option<u32>, page: Option<u64>) -> Command {
-    Command::IotinvalVma {
-        gscid,
-        pscid: pscid.and_then(|number| Pscid::new(number)),
-        page: page.and_then(|number| PageNumber::new(number)),
-    }
-}
-
-fn gvma(gscid: Option<u16>, page: Option<u64>) -> Command {
-    Command::IotinvalGvma {
-        gscid,
-        page: page.and_then(|number| PageNumber::new(number)),
-    }
-}
-
-/// What each row of the table of IOTINVAL.VMA leaves of pages 3 and 4 of the address spaces: GSCID, PSCID and page
-/// where GV, PSCV and AV are 1.
-#[rattlefmt::skip]
-const VMA_ROWS: [(Option<u16>, Option<u32>, Option<u64>, [u8; 7], [u8; 7]); 8] = [
-    (None, None, None, [0, 0, 1, 1, 1, 1, 1], [0, 0, 1, 1, 1, 1, 1]),
-    (None, Some(1), None, [0, 1, 1, 1, 1, 1, 1], [0, 1, 1, 1, 1, 1, 1]),
-    (None, None, Some(3), [0, 0, 1, 1, 1, 1, 1], [1, 1, 1, 1, 1, 1, 1]),
-    (None, Some(1), Some(3), [0, 1, 1, 1, 1, 1, 1], [1, 1, 1, 1, 1, 1, 1]),
-    (Some(1), None, None, [1, 1, 1, 1, 0, 0, 1], [1, 1, 1, 1, 0, 0, 1]),
-    (Some(1), Some(1), None, [1, 1, 1, 1, 0, 1, 1], [1, 1, 1, 1, 0, 1, 1]),
-    (Some(1), None, Some(3), [1, 1, 1, 1, 0, 0, 1], [1, 1, 1, 1, 1, 1, 1]),
-    (Some(1), Some(1), Some(3), [1, 1, 1, 1, 0, 1, 1], [1, 1, 1, 1, 1, 1, 1]),
-];
 
 #[test]
-fn rows_of_iotinval_vma(rt: HostRuntime) {
-    for (gscid, pscid, page, page_3, page_4) in VMA_ROWS {
-        leaves(&rt, rt.alloc(), vma(gscid, pscid, page), page_3, page_4);
+fn commands_take_out_what_the_tables_say(rt: HostRuntime) {
+    for row in ROWS.iter() {
+        leaves_in_each(&rt, rt.alloc(), row);
     }
 }
 
-/// The same of IOTINVAL.GVMA, where AV is ignored if GV is 0. A two-stage translation doesn't tell which guest
-/// physical pages it was made from, so each of the VM goes.
-#[rattlefmt::skip]
-const GVMA_ROWS: [(Option<u16>, Option<u64>, [u8; 7], [u8; 7]); 4] = [
-    (None, None, [1, 1, 0, 0, 0, 0, 0], [1, 1, 0, 0, 0, 0, 0]),
-    (None, Some(3), [1, 1, 0, 0, 0, 0, 0], [1, 1, 0, 0, 0, 0, 0]),
-    (Some(1), None, [1, 1, 0, 1, 0, 0, 1], [1, 1, 0, 1, 0, 0, 1]),
-    (Some(1), Some(3), [1, 1, 0, 1, 0, 0, 1], [1, 1, 1, 1, 0, 0, 1]),
-];
-
-#[test]
-fn rows_of_iotinval_gvma(rt: HostRuntime) {
-    for (gscid, page, page_3, page_4) in GVMA_ROWS {
-        leaves(&rt, rt.alloc(), gvma(gscid, page), page_3, page_4);
-    }
-}
-
-// A fence, an invalidation of the directory and one of a device's cache leave every translation.
-#[test]
-fn other_commands_take_out_nothing(rt: HostRuntime) {
-    let fence = Command::IofenceC {
-        store: None,
-        wsi: false,
-        pr: true,
-        pw: true,
-    };
-    let directory = Command::IodirInvalDdt { device: None };
-    let ats = Command::AtsInval {
-        device: DeviceNumber::new(1).expect(&rt, "24 bits"),
-        range: AtsRange::Everything,
-    };
-    for command in [fence, directory, ats] {
-        leaves(&rt, rt.alloc(), command, [1; 7], [1; 7]);
-    }
-}
+/// A cover of a space's kind, with nothing named.
+static SECOND: Cover = Cover::Second {
+    gscid: None,
+    page: None,
+};
 
 fn takes_out_one_kind<C: TransCache>(rt: &impl Abort, cache: &mut C) {
     fill(cache);
-    let second = Cover::Second {
-        gscid: None,
-        page: None,
-    };
-    assert!(rt; second.covers(Space::Second { gscid: 9 }, 9));
-    cache.drop_where(&second);
-    has(rt, cache, 3, [1, 1, 0, 0, 1, 1, 1]);
-    has(rt, cache, 4, [1, 1, 0, 0, 1, 1, 1]);
+    cache.drop_where(&SECOND);
+    has(rt, cache, 3, &[1, 1, 0, 0, 1, 1, 1]);
+    has(rt, cache, 4, &[1, 1, 0, 0, 1, 1, 1]);
 }
 
-// A cover of a space's kind, with nothing named, takes out that kind.
+// It takes out that kind.
 #[test]
 fn a_cover_is_of_one_kind(rt: HostRuntime) {
+    expect(&rt, SECOND.covers(Space::Second { gscid: 9 }, 9));
     let mut plain = new_plain(&rt, rt.alloc());
     takes_out_one_kind(&rt, &mut plain);
     let mut ways = new_ways(&rt, rt.alloc());

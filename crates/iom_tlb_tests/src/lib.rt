@@ -8,12 +8,14 @@
 #![tactic(auto)]
 
 #[cfg(test)]
-mod caches;
+mod expect;
 #[cfg(test)]
 mod invalidations;
 mod one_translation;
 #[cfg(test)]
 mod recency;
+#[cfg(test)]
+mod steps;
 #[cfg(test)]
 mod ways;
 

@@ -5,7 +5,7 @@ use std::alloc::Global;
 use std::fs;
 
 /// The worked scripts of `data/rows`. A new one is its two files and a line here.
-static ROWS: [&str; 42] = [
+static ROWS: [&str; 50] = [
     "empty-script",
     "first-path",
     "grant-boundaries",
@@ -48,10 +48,18 @@ static ROWS: [&str; 42] = [
     "chain-fault-6-short",
     "chain-fault-7-order",
     "lost-message-to-quarantine",
+    "plugged-and-attached-once",
+    "a-disk-is-used-once",
+    "queue-sizes",
+    "steps-begin-accesses",
+    "steps-and-statuses",
+    "own-bytes-after-a-reset",
+    "index-far-ahead",
+    "counts-of-a-block-device",
 ];
 
-/// The row that is run with `--trace`.
-const COUNTED: &str = "lost-message-to-quarantine";
+/// The rows that are run with `--trace`.
+static COUNTED: [&str; 2] = ["lost-message-to-quarantine", "counts-of-a-block-device"];
 
 /// The scripts of `data/examples`, in the order in which they are best read.
 static EXAMPLES: [&str; 20] = [
@@ -124,7 +132,7 @@ fn judged(alloc: Global, script: &str, wanted: &str) -> anyhow::Result<String> {
 
 /// Runs a script, and tells how what it prints compares with what is wanted, and what is found of both.
 fn tell(rt: &HostRuntime, name: &str, script: &str, wanted: &str) -> anyhow::Result<()> {
-    let compared = compared(rt.alloc(), script, wanted, name == COUNTED)?;
+    let compared = compared(rt.alloc(), script, wanted, COUNTED.contains(&name))?;
     let judged = judged(rt.alloc(), script, wanted)?;
     println!(rt; "{name}: {compared}; {judged}")?;
     Ok(())

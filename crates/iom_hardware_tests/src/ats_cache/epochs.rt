@@ -17,11 +17,6 @@ static COVERED: [Step; 10] = [
     Step::Ask(4, 3),
 ];
 
-#[test]
-fn an_invalidation_takes_out_what_it_covers(rt: HostRuntime) {
-    follow(&rt, &COVERED);
-}
-
 /// An answer to a question of before an invalidation isn't kept, whichever page was invalidated; nor is one of an epoch
 /// that is still to come. What is asked anew is.
 static STALE: [Step; 11] = [
@@ -37,11 +32,6 @@ static STALE: [Step; 11] = [
     Step::Answer(1, 3, 23, Rights::RW, Taken::Kept),
     Step::Read(3, Some(23)),
 ];
-
-#[test]
-fn an_answer_of_another_epoch_is_stale(rt: HostRuntime) {
-    follow(&rt, &STALE);
-}
 
 /// A reset takes out everything, and the epoch goes on: what was asked before it isn't kept after it.
 static RESETS: [Step; 11] = [
@@ -59,6 +49,8 @@ static RESETS: [Step; 11] = [
 ];
 
 #[test]
-fn a_reset_keeps_the_epoch(rt: HostRuntime) {
+fn epochs_decide_what_is_kept(rt: HostRuntime) {
+    follow(&rt, &COVERED);
+    follow(&rt, &STALE);
     follow(&rt, &RESETS);
 }

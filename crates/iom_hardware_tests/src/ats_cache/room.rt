@@ -15,11 +15,6 @@ static WITH_RIGHTS: [Step; 9] = [
     Step::Read(4, None),
 ];
 
-#[test]
-fn an_answer_is_found_with_its_right(rt: HostRuntime) {
-    follow(&rt, &WITH_RIGHTS);
-}
-
 /// A second answer for a page takes the place of the first, with frame and right. A refusal changes nothing, whether it is
 /// of the cache's epoch or not.
 static LAST: [Step; 7] = [
@@ -31,11 +26,6 @@ static LAST: [Step; 7] = [
     Step::Write(3, None),
     Step::Ask(3, 0),
 ];
-
-#[test]
-fn the_last_answer_counts(rt: HostRuntime) {
-    follow(&rt, &LAST);
-}
 
 /// 32 pages are kept, and the 33rd takes out the one that was kept first. A page that is answered anew is the newest, and
 /// takes out no other; looks change nothing.
@@ -54,6 +44,8 @@ static ROOM: [Step; 11] = [
 ];
 
 #[test]
-fn thirty_two_pages_are_kept(rt: HostRuntime) {
+fn answers_are_found_and_go(rt: HostRuntime) {
+    follow(&rt, &WITH_RIGHTS);
+    follow(&rt, &LAST);
     follow(&rt, &ROOM);
 }

@@ -5,7 +5,22 @@ use iom_phys_mem::{Bytes, Memory};
 use iom_registers::{Register, Registers};
 use std::alloc::Global;
 use std::process::Abort;
-use std::test::Fail;
+
+/// What is done to a ring, and what is seen of it.
+#[derive(Clone, Copy)]
+enum Step {
+    /// So many commands, which name devices from this one on, fill the ring. They come out in the order in which they went
+    /// in, and then there is none.
+    GoesRound(u32, u32),
+    Reads(Register, u64),
+    SetTail(u64),
+    /// So many entries stand at the head in turn that are no command.
+    TakeZeros(u32),
+    /// None stands at the head.
+    NextNone,
+    /// One stands there that lies outside memory.
+    NextOutside,
+}
 
 // A memory of 64 frames, and registers with a command queue.
 #[derive(Drop)]
@@ -23,12 +38,12 @@ fn of_device(rt: &impl Abort, number: u32) -> Command {
 
 impl Bench {
     // The queue begins at this page and is on.
-    fn new(alloc: Global, page: u64, log2sz_less_1: u64) -> Result<Box<Bench>, Fail> {
-        let memory = Memory::new(alloc, 64)?;
+    fn new(rt: &impl Abort, alloc: Global, page: u64, log2sz_less_1: u64) -> Box<Bench> {
+        let memory = Memory::new(alloc, 64).expect(rt, "memory for the frames");
         let mut registers = Registers::new();
         registers.set(Register::Cqb, page << 10 | log2sz_less_1);
         registers.set(Register::Cqcsr, 1);
-        Ok(Box::new(alloc, Bench { memory, registers })?)
+        Box::new(alloc, Bench { memory, registers }).expect(rt, "memory for the bench")
     }
 
     // Appends a command that names this device, where there is room, in memory.
@@ -41,87 +56,106 @@ impl Bench {
         CommandRing::append(&mut self.memory, &mut self.registers, command);
     }
 
-    // This stands at the head.
-    fn expect_next(&self, rt: &impl Abort, expected: Option<QueueEntry>) {
-        let found = CommandRing::next(&self.memory, &self.registers);
-        expect(rt, found == expected);
+    // What stands at the head.
+    fn next(&self) -> Option<QueueEntry> {
+        CommandRing::next(&self.memory, &self.registers)
     }
 
     // Takes this, which stands at the head.
     fn takes(&mut self, rt: &impl Abort, expected: QueueEntry) {
-        self.expect_next(rt, Some(expected));
+        expect(rt, self.next() == Some(expected));
         assert!(rt; self.registers.command_head() != self.registers.command_tail());
         CommandRing::advance(&mut self.registers);
     }
 
-    // Takes the command that names this device.
-    fn takes_command(&mut self, rt: &impl Abort, number: u32) {
-        let command = of_device(rt, number);
-        self.takes(rt, QueueEntry::Command(command));
-    }
-
-    fn expect_register(&self, rt: &impl Abort, register: Register, expected: u64) {
-        expect(rt, self.registers.value(register) == expected);
-    }
-
-    fn set_tail(&mut self, tail: u64) {
-        self.registers.set(Register::Cqt, tail);
-    }
-
-    // So many commands fill the ring. They come out in the order in which they went in.
     fn goes_round(&mut self, rt: &impl Abort, first: u32, count: u32) {
         for number in first..first.saturating_add(count) {
             self.append(rt, number);
         }
         expect(rt, CommandRing::is_full(&self.registers));
         for number in first..first.saturating_add(count) {
-            self.takes_command(rt, number);
+            self.takes(rt, QueueEntry::Command(of_device(rt, number)));
         }
-        self.expect_next(rt, None);
+        expect(rt, self.next().is_none());
+    }
+
+    fn take_zeros(&mut self, rt: &impl Abort, count: u32) {
+        for _ in 0..count {
+            self.takes(rt, QueueEntry::Illegal(Illegal::Opcode));
+        }
+    }
+
+    fn does(&mut self, rt: &impl Abort, step: Step) {
+        match step {
+            Step::GoesRound(first, count) => self.goes_round(rt, first, count),
+            Step::Reads(register, value) => expect(rt, self.registers.value(register) == value),
+            Step::SetTail(tail) => self.registers.set(Register::Cqt, tail),
+            Step::TakeZeros(count) => self.take_zeros(rt, count),
+            Step::NextNone => expect(rt, self.next().is_none()),
+            Step::NextOutside => expect(rt, self.next() == Some(QueueEntry::Outside)),
+        }
+    }
+
+    fn follow(&mut self, rt: &impl Abort, steps: &[Step]) {
+        for step in steps.iter() {
+            self.does(rt, *step);
+        }
     }
 }
 
-// A ring of two entries holds one command, at either of its places.
-#[test]
-fn a_ring_of_two_goes_round(rt: HostRuntime) -> Result<(), Fail> {
-    let mut bench = Bench::new(rt.alloc(), 63, 0)?;
-    for number in 0..5u32 {
-        bench.expect_register(&rt, Register::Cqt, u64::from(number % 2));
-        bench.goes_round(&rt, number, 1);
-    }
-    Ok(())
-}
+/// The page in which a queue begins, what its base register says of its size, and what is done.
+static RINGS: [(u64, u64, &[Step]); 4] = [
+    // A ring of two entries holds one command, at either of its places.
+    (
+        63,
+        0,
+        &[
+            Step::Reads(Register::Cqt, 0),
+            Step::GoesRound(0, 1),
+            Step::Reads(Register::Cqt, 1),
+            Step::GoesRound(1, 1),
+            Step::Reads(Register::Cqt, 0),
+            Step::GoesRound(2, 1),
+            Step::Reads(Register::Cqt, 1),
+            Step::GoesRound(3, 1),
+            Step::Reads(Register::Cqt, 0),
+            Step::GoesRound(4, 1),
+        ],
+    ),
+    // A ring of 256 entries holds 255 commands, also those that lie over its end.
+    (
+        63,
+        7,
+        &[
+            Step::GoesRound(0, 255),
+            Step::GoesRound(256, 255),
+            Step::GoesRound(512, 255),
+            Step::Reads(Register::Cqh, 253),
+        ],
+    ),
+    // A ring of 512 entries that begins in the last frame of memory: of its entries the first 256 are in memory, where zeros
+    // are no command, and the next is outside.
+    (
+        63,
+        8,
+        &[Step::SetTail(257), Step::TakeZeros(256), Step::NextOutside],
+    ),
+    // The highest base and the largest ring: nothing of it is in memory.
+    (
+        0xfff_ffff_ffff,
+        31,
+        &[
+            Step::NextNone,
+            Step::SetTail(0xffff_ffff),
+            Step::NextOutside,
+        ],
+    ),
+];
 
-// A ring of 256 entries holds 255 commands, also those that lie over its end.
 #[test]
-fn a_ring_of_256_goes_round(rt: HostRuntime) -> Result<(), Fail> {
-    let mut bench = Bench::new(rt.alloc(), 63, 7)?;
-    for round in 0..3u32 {
-        bench.goes_round(&rt, 256 * round, 255);
+fn rings_go_round_and_may_lie_outside_memory(rt: HostRuntime) {
+    for (page, log2sz_less_1, steps) in RINGS.iter() {
+        let mut bench = Bench::new(&rt, rt.alloc(), *page, *log2sz_less_1);
+        bench.follow(&rt, steps);
     }
-    bench.expect_register(&rt, Register::Cqh, 253);
-    Ok(())
-}
-
-// A ring of 512 entries that begins in the last frame of memory: of its entries the first 256 are in
-// memory, where zeros are no command, and the next is outside.
-#[test]
-fn a_ring_may_lie_partly_outside_memory(rt: HostRuntime) -> Result<(), Fail> {
-    let mut bench = Bench::new(rt.alloc(), 63, 8)?;
-    bench.set_tail(257);
-    for _ in 0..256u32 {
-        bench.takes(&rt, QueueEntry::Illegal(Illegal::Opcode));
-    }
-    bench.expect_next(&rt, Some(QueueEntry::Outside));
-    Ok(())
-}
-
-// The highest base and the largest ring: nothing of it is in memory.
-#[test]
-fn a_ring_may_lie_outside_memory(rt: HostRuntime) -> Result<(), Fail> {
-    let mut bench = Bench::new(rt.alloc(), 0xfff_ffff_ffff, 31)?;
-    bench.expect_next(&rt, None);
-    bench.set_tail(0xffff_ffff);
-    bench.expect_next(&rt, Some(QueueEntry::Outside));
-    Ok(())
 }

@@ -3,12 +3,18 @@ use iom_base::DeviceId;
 use iom_device_dir::{Context, DirCache, FirstStage, Pscid, SecondStage};
 use std::alloc::Global;
 use std::process::Abort;
-use std::test::Fail;
 
-// A cache, boxed: of what a test owns in place each later proof would carry every part.
-fn cache(alloc: Global) -> Result<Box<DirCache>, Fail> {
-    let cache = DirCache::new(alloc)?;
-    Ok(Box::new(alloc, cache)?)
+/// What is done to a cache, and what it answers: for each number from one up to another, the last excepted.
+#[derive(Clone, Copy)]
+enum Step {
+    /// The context that tells this number is kept for the device of the same number.
+    Keep(u16, u16),
+    /// The device has it; and so they were looked at in order.
+    Has(u16, u16),
+    /// It has none.
+    Lacks(u16, u16),
+    DropOne(DeviceId),
+    DropAll,
 }
 
 // A context that tells its number.
@@ -22,66 +28,72 @@ fn context(rt: &impl Abort, number: u16) -> Context {
     }
 }
 
-// Keeps the context of this number for the device of the same; and again where the first finds no memory.
-fn keep(rt: &impl Abort, cache: &mut DirCache, number: u16) {
-    let id = DeviceId::from(number);
-    let context = context(rt, number);
-    cache.keep(id, context);
-    if cache.look(id).is_none() {
-        cache.keep(id, context);
-    }
-}
-
-// The device has the context of this number, or none.
-fn has(rt: &impl Abort, cache: &mut DirCache, number: u16, is_there: bool) {
-    let found = cache.look(DeviceId::from(number));
-    let seen = found.map(|context| context.gscid);
-    let expected = if is_there { Some(number) } else { None };
-    expect(rt, seen == expected);
-}
-
-fn keep_all(rt: &impl Abort, cache: &mut DirCache, first: u16, last: u16) {
+// Keeps each, and again where the first keep finds no memory.
+fn keep_each(rt: &impl Abort, cache: &mut DirCache, first: u16, last: u16) {
     for number in first..last {
-        keep(rt, cache, number);
+        let id = DeviceId::from(number);
+        cache.keep(id, context(rt, number));
+        if cache.look(id).is_none() {
+            cache.keep(id, context(rt, number));
+        }
     }
 }
 
-// From the first number up to the last each device has its own context; and so they were looked at in order.
-fn has_all(rt: &impl Abort, cache: &mut DirCache, first: u16, last: u16) {
+fn look_each(rt: &impl Abort, cache: &mut DirCache, first: u16, last: u16, are_there: bool) {
     for number in first..last {
-        has(rt, cache, number, true);
+        let found = cache.look(DeviceId::from(number));
+        let seen = found.map(|context| context.gscid);
+        expect(rt, seen == are_there.then_some(number));
     }
 }
 
-// Sixteen are kept. A seventeenth takes out the one that was looked at the longest ago, and a look at one makes
-// the next go in its place.
-#[test]
-fn least_recently_used_goes(rt: HostRuntime) -> Result<(), Fail> {
-    let mut cache = cache(rt.alloc())?;
-    keep_all(&rt, &mut cache, 0, 16);
-    has_all(&rt, &mut cache, 0, 16);
-    keep(&rt, &mut cache, 16);
-    has(&rt, &mut cache, 0, false);
-    has_all(&rt, &mut cache, 1, 17);
-    has(&rt, &mut cache, 1, true);
-    keep(&rt, &mut cache, 17);
-    has(&rt, &mut cache, 2, false);
-    has(&rt, &mut cache, 1, true);
-    has_all(&rt, &mut cache, 3, 18);
-    Ok(())
+fn does(rt: &impl Abort, cache: &mut DirCache, step: Step) {
+    match step {
+        Step::Keep(first, last) => keep_each(rt, cache, first, last),
+        Step::Has(first, last) => look_each(rt, cache, first, last, true),
+        Step::Lacks(first, last) => look_each(rt, cache, first, last, false),
+        Step::DropOne(id) => cache.drop_one(id),
+        Step::DropAll => cache.drop_all(),
+    }
 }
 
-// A drop of one leaves the others, and a drop of all none.
+// A new cache takes the steps.
+fn follow(rt: &impl Abort, alloc: Global, steps: &[Step]) {
+    let mut cache = DirCache::new(alloc).expect(rt, "memory for the cache");
+    for step in steps.iter() {
+        does(rt, &mut cache, *step);
+    }
+}
+
+/// Sixteen are kept. A seventeenth takes out the one that was looked at the longest ago, and a look at one makes the next go
+/// in its place.
+static SIXTEEN: [Step; 10] = [
+    Step::Keep(0, 16),
+    Step::Has(0, 16),
+    Step::Keep(16, 17),
+    Step::Lacks(0, 1),
+    Step::Has(1, 17),
+    Step::Has(1, 2),
+    Step::Keep(17, 18),
+    Step::Lacks(2, 3),
+    Step::Has(1, 2),
+    Step::Has(3, 18),
+];
+
+/// A drop of one leaves the others, and a drop of all none.
+static DROPS: [Step; 8] = [
+    Step::Keep(1, 4),
+    Step::DropOne(2),
+    Step::Has(1, 2),
+    Step::Lacks(2, 3),
+    Step::Has(3, 4),
+    Step::DropAll,
+    Step::Lacks(1, 2),
+    Step::Lacks(3, 4),
+];
+
 #[test]
-fn drops(rt: HostRuntime) -> Result<(), Fail> {
-    let mut cache = cache(rt.alloc())?;
-    keep_all(&rt, &mut cache, 1, 4);
-    cache.drop_one(2);
-    has(&rt, &mut cache, 1, true);
-    has(&rt, &mut cache, 2, false);
-    has(&rt, &mut cache, 3, true);
-    cache.drop_all();
-    has(&rt, &mut cache, 1, false);
-    has(&rt, &mut cache, 3, false);
-    Ok(())
+fn the_least_recently_used_goes(rt: HostRuntime) {
+    follow(&rt, rt.alloc(), &SIXTEEN);
+    follow(&rt, rt.alloc(), &DROPS);
 }

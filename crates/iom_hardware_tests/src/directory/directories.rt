@@ -135,11 +135,6 @@ static ONE_LEVEL: [Step; 9] = [
     Step::Ends(ONE, 60, u32::MAX, DISALLOWED),
 ];
 
-#[test]
-fn one_level(rt: HostRuntime) {
-    follow(&rt, rt.alloc(), &ONE_LEVEL);
-}
-
 /// Two levels: ids have 16 bits, and DDI[1] is bits 15:7. Ids 0001ff, 00ff81 and 00ffff have contexts.
 static TWO_LEVELS: [Step; 12] = [
     Step::Store(0x3_c000 + 8 * 3, (58 << 10) + 1),
@@ -155,11 +150,6 @@ static TWO_LEVELS: [Step; 12] = [
     Step::Ends(TWO, 60, 0x1_01ff, DISALLOWED),
     Step::Ends(TWO, 60, 0x100_ffff, DISALLOWED),
 ];
-
-#[test]
-fn two_levels(rt: HostRuntime) {
-    follow(&rt, rt.alloc(), &TWO_LEVELS);
-}
 
 /// Three levels: ids have 24 bits, and DDI[2] is bits 23:16. Of ffffff the indices are 255, 511, 127; of 018080
 /// they are 1, 257, 0. Its own index at each level: the same numbers in another order lead elsewhere.
@@ -178,11 +168,6 @@ static THREE_LEVELS: [Step; 12] = [
     Step::Ends(THREE, 60, u32::MAX, DISALLOWED),
 ];
 
-#[test]
-fn three_levels(rt: HostRuntime) {
-    follow(&rt, rt.alloc(), &THREE_LEVELS);
-}
-
 /// Off: whatever is in memory. A root outside memory. A context with a reserved bit.
 static AT_THE_ROOT: [Step; 6] = [
     Step::Context(0x3_c000, 1),
@@ -192,11 +177,6 @@ static AT_THE_ROOT: [Step; 6] = [
     Step::Store(0x3_c010, 0x1001),
     Step::Ends(ONE, 60, 0, MISCONFIGURED),
 ];
-
-#[test]
-fn causes_at_the_root(rt: HostRuntime) {
-    follow(&rt, rt.alloc(), &AT_THE_ROOT);
-}
 
 /// An entry that names a page outside memory; one with a reserved bit; one that isn't valid.
 static AT_AN_ENTRY: [Step; 11] = [
@@ -214,6 +194,10 @@ static AT_AN_ENTRY: [Step; 11] = [
 ];
 
 #[test]
-fn causes_at_an_entry(rt: HostRuntime) {
+fn directories_lead_to_contexts(rt: HostRuntime) {
+    follow(&rt, rt.alloc(), &ONE_LEVEL);
+    follow(&rt, rt.alloc(), &TWO_LEVELS);
+    follow(&rt, rt.alloc(), &THREE_LEVELS);
+    follow(&rt, rt.alloc(), &AT_THE_ROOT);
     follow(&rt, rt.alloc(), &AT_AN_ENTRY);
 }

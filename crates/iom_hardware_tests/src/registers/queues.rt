@@ -60,11 +60,6 @@ static INDICES: [(Step, u64, u64); 20] = [
     (Step::Write(40, 0xf800), 52, 0),
 ];
 
-#[test]
-fn indices_modulo_the_size(rt: HostRuntime) {
-    follow(&rt, &INDICES);
-}
-
 // A base stays while its queue is on, and the other queue's doesn't. The index that the IOMMU moves is 0
 // after the queue was turned on, and stays where the queue is on already, or is turned off.
 static SWITCHES: [(Step, u64, u64); 18] = [
@@ -89,6 +84,7 @@ static SWITCHES: [(Step, u64, u64); 18] = [
 ];
 
 #[test]
-fn queues_turned_on_and_off(rt: HostRuntime) {
+fn indices_go_round_and_queues_are_switched(rt: HostRuntime) {
+    follow(&rt, &INDICES);
     follow(&rt, &SWITCHES);
 }

@@ -151,17 +151,11 @@ fn answers(ledger: &Ledger, step: Step) -> bool {
     }
 }
 
-fn takes(rt: &impl Abort, ledger: &mut Ledger, steps: &[Step]) {
-    for step in steps.iter() {
-        expect(rt, does(ledger, *step));
-    }
-}
-
 /// A ledger of so many frames takes the steps.
 pub(crate) fn follow(rt: &impl Abort, alloc: Global, frames: u32, steps: &[Step]) {
-    match ledger_of(alloc, frames) {
-        Ok(mut ledger) => takes(rt, &mut ledger, steps),
-        Err(_) => panic!(rt; "out of memory"),
+    let mut ledger = ledger_of(alloc, frames).expect(rt, "memory for a ledger");
+    for step in steps.iter() {
+        expect(rt, does(&mut ledger, *step));
     }
 }
 

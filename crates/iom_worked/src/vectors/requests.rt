@@ -1,5 +1,5 @@
-//! What a request is answered, and what the record of its fault tells.
-use crate::case::{Answer, Case, Told};
+// What a request is answered, and what the record of its fault tells.
+use crate::vectors::case::{Answer, Case, Told};
 use iom_base::{AccessKind, Cause, PAGE_SIZE};
 use iom_iommu::{Iommu, Reply};
 use iom_phys_mem::{Bytes, Memory};

@@ -1,20 +1,17 @@
-//! Runs translations that independent implementations confirmed, an emulated processor's page walk and an
-//! emulated RISC-V IOMMU, and prints how many agree: with the walks of [`iom_stage_walk`], from the root tables
-//! that the device's context names, which [`iom_device_dir::locate`] finds; and with
-//! [`iom_iommu::Iommu::request`], where the device asks for one byte, and a fault is told by its record.
-//!
-//! `data/first.tsv` is about first-stage tables, `data/directory.tsv` about directories and contexts,
-//! `data/second.tsv` and `data/both.tsv` about a second stage and both, and so is `data/random.tsv`, with tables
-//! drawn at random. They have a case a line: group, name, ddtp, device id, address, `r` or `w`, the words of memory
-//! (`address=value`, hexadecimal; all other bytes of its 2,048 frames are zero), the wanted answer, and who
-//! confirmed it. The first line names the columns.
-#![tactic(auto)]
-
+// Translations that independent implementations confirmed, an emulated processor's page walk and an emulated RISC-V IOMMU,
+// and how many agree: with the walks of `iom_stage_walk`, from the root tables that the device's context names, which
+// `iom_device_dir::locate` finds; and with `Iommu::request` of `iom_iommu`, where the device asks for one byte, and a fault
+// is told by its record.
+//
+// `data/vectors/first.tsv` is about first-stage tables, `directory.tsv` about directories and contexts, `second.tsv` and
+// `both.tsv` about a second stage and both, and so is `random.tsv`, with tables drawn at random. They have a case a line:
+// group, name, ddtp, device id, address, `r` or `w`, the words of memory (`address=value`, hexadecimal; all other bytes of
+// its 2,048 frames are zero), the wanted answer, and who confirmed it. The first line names the columns.
 mod case;
 mod requests;
 mod walks;
 
-use crate::case::{Answer, is_wanted, parse, store_words};
+use crate::vectors::case::{Answer, is_wanted, parse, store_words};
 use iom_phys_mem::Memory;
 use std::alloc::Global;
 use std::fs;
@@ -89,23 +86,24 @@ fn print(rt: &HostRuntime, name: &str, by: &str, tally: Tally) -> anyhow::Result
     Ok(())
 }
 
-fn main(rt: HostRuntime) -> anyhow::Result<()> {
+/// Runs the cases of each file in both ways, and prints how many agree.
+pub(crate) fn tell(rt: &HostRuntime) -> anyhow::Result<()> {
     let mut memory = Memory::new(rt.alloc(), 2048)?;
     for (by, words) in [(By::Walk, "by walks"), (By::Request, "by requests")] {
         let mut all = Tally::new();
         for (name, file) in [
-            ("first stage", "first.tsv"),
-            ("directory", "directory.tsv"),
-            ("second stage", "second.tsv"),
-            ("both stages", "both.tsv"),
-            ("random", "random.tsv"),
+            ("first stage", "vectors/first.tsv"),
+            ("directory", "vectors/directory.tsv"),
+            ("second stage", "vectors/second.tsv"),
+            ("both stages", "vectors/both.tsv"),
+            ("random", "vectors/random.tsv"),
         ] {
-            let text = fs::read_to_string(&rt, file)?;
+            let text = fs::read_to_string(rt, file)?;
             let tally = tally_of(rt.alloc(), &mut memory, text.as_str(), by);
-            print(&rt, name, words, tally)?;
+            print(rt, name, words, tally)?;
             all.add(tally);
         }
-        print(&rt, "all", words, all)?;
+        print(rt, "all", words, all)?;
     }
     Ok(())
 }

@@ -1,8 +1,8 @@
-//! What walks answer, from the root tables that the device's context names.
+// What walks answer, from the root tables that the device's context names.
 ghost use Rattle.std.specs.Prelude.{◌≢◌};
 ghost use Rattle.iom_registers.specs.declared.directory.DirectoryMode.TheVariants.{Bare};
 
-use crate::case::{Answer, Case, Told};
+use crate::vectors::case::{Answer, Case, Told};
 use iom_base::{Cause, PAGE_SIZE};
 use iom_device_dir::{Context, FirstStage, SecondStage, locate};
 use iom_phys_mem::{Bytes, Memory};

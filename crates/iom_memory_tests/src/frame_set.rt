@@ -2,18 +2,18 @@ use crate::expect::expect;
 use iom_frame_set::FrameSet;
 use std::alloc::{AllocError, Global};
 use std::process::Abort;
-use std::test::Fail;
 
 // The sets of a test are boxed: of what a test owns in place each later proof would carry every part.
 
 /// A set of all frames.
-fn full(alloc: Global) -> Result<Box<FrameSet>, Fail> {
-    Ok(Box::new(alloc, FrameSet::full(alloc))?)
+fn full(rt: &impl Abort, alloc: Global) -> Box<FrameSet> {
+    Box::new(alloc, FrameSet::full(alloc)).expect(rt, "memory for a set")
 }
 
 /// A set of these frames.
-fn set_of(alloc: Global, frames: &[u32]) -> Result<Box<FrameSet>, Fail> {
-    Ok(Box::new(alloc, with_frames(alloc, frames)?)?)
+fn set_of(rt: &impl Abort, alloc: Global, frames: &[u32]) -> Box<FrameSet> {
+    let set = with_frames(alloc, frames).expect(rt, "memory for a set");
+    Box::new(alloc, set).expect(rt, "memory for a set")
 }
 
 /// The same in place, with room for each frame below 6,000.
@@ -61,27 +61,30 @@ fn are_found(rt: &impl Abort, set: &FrameSet, with: &FrameSet, cases: &[Case]) {
 }
 
 #[test]
-fn the_highest_frame_in_both_is_found(rt: HostRuntime) -> Result<(), Fail> {
-    let all = full(rt.alloc())?;
-    let set = set_of(rt.alloc(), &[3, 63, 64, 130, 5000])?;
-    let other = set_of(rt.alloc(), &[2, 3, 62, 65, 64, 131, 4096, 5001])?;
+fn the_highest_frame_in_both_is_found(rt: HostRuntime) {
+    let all = full(&rt, rt.alloc());
+    let set = set_of(&rt, rt.alloc(), &[3, 63, 64, 130, 5000]);
+    let other = set_of(&rt, rt.alloc(), &[2, 3, 62, 65, 64, 131, 4096, 5001]);
     are_found(&rt, &set, &all, &WITH_ALL);
     are_found(&rt, &set, &other, &WITH_OTHER);
-    Ok(())
+}
+
+/// A limit, and how many of the frames 3, 63, 64, 130 and 5,000 are below it.
+static COUNTS: [(u32, u32); 5] = [(6000, 5), (131, 4), (130, 3), (64, 2), (3, 0)];
+
+fn are_counted(rt: &impl Abort, set: &FrameSet, all: &FrameSet) {
+    for (limit, count) in COUNTS.iter() {
+        expect(rt, set.count_in_both(all, *limit) == *count);
+    }
 }
 
 // Of the common frames those below the limit are counted, also in the middle of a word.
 #[test]
-fn the_frames_in_both_are_counted(rt: HostRuntime) -> Result<(), Fail> {
-    let all = full(rt.alloc())?;
-    let set = set_of(rt.alloc(), &[3, 63, 64, 130, 5000])?;
-    expect(&rt, set.count_in_both(&all, 6000) == 5);
-    expect(&rt, set.count_in_both(&all, 131) == 4);
-    expect(&rt, set.count_in_both(&all, 130) == 3);
-    expect(&rt, set.count_in_both(&all, 64) == 2);
-    expect(&rt, set.count_in_both(&all, 3) == 0);
+fn the_frames_in_both_are_counted(rt: HostRuntime) {
+    let all = full(&rt, rt.alloc());
+    let set = set_of(&rt, rt.alloc(), &[3, 63, 64, 130, 5000]);
+    are_counted(&rt, &set, &all);
     expect(&rt, all.count_in_both(&all, 100) == 100);
-    Ok(())
 }
 
 /// The highest frame of both below 4,096, besides the named one, is this.
@@ -101,14 +104,13 @@ fn take_out(set: &mut FrameSet) -> Result<(), AllocError> {
 
 /// From the largest memory all frames but 8 are taken out, one by one.
 #[test]
-fn a_frame_that_is_taken_out_is_found_no_more(rt: HostRuntime) -> Result<(), Fail> {
-    let mut set = full(rt.alloc())?;
-    let all = full(rt.alloc())?;
+fn a_frame_that_is_taken_out_is_found_no_more(rt: HostRuntime) {
+    let mut set = full(&rt, rt.alloc());
+    let all = full(&rt, rt.alloc());
     is_highest(&rt, &set, &all, None, 4095);
-    take_out(&mut set)?;
+    expect(&rt, take_out(&mut set).is_ok());
     expect(&rt, !set.contains(4095));
     expect(&rt, set.contains(4096));
     is_highest(&rt, &set, &all, None, 7);
     is_highest(&rt, &set, &all, Some(7), 6);
-    Ok(())
 }
