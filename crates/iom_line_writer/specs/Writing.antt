@@ -3,8 +3,8 @@ use Rattle.std.specs.Prelude.{◌≡◌, ℕ, Bool, List, ◌∷◌, ◌++◌, O
 use Rattle.std.specs.Io.KnownBytes.{Appends}
 use Rattle.iom_machine.specs.declared.outcome.Outcome.{Outcome}
 use Rattle.iom_machine.specs.declared.outcome.Trace.{Trace}
-use Rattle.iom_runner.specs.declared.writing.LineWriter.{LineWriter}
-use Rattle.iom_runner.specs.Told.{told_line}
+use Rattle.iom_line_writer.specs.declared.writing.LineWriter.{LineWriter}
+use Rattle.iom_line_writer.specs.Told.{told_line}
 
 -- known contents grow by a beginning of the text
 abbrev pub AppendsFront : Option (List ℕ) → Option (List ℕ) → List ℕ → Type 0

@@ -1,6 +1,6 @@
 use Rattle.std.proofs.Common.{length}
-use Rattle.iom_runner.proofs.WritingLemmas.{IsLeft}
-use Rattle.iom_runner.proofs.writing.write_all.Given as goal
+use Rattle.iom_line_writer.proofs.WritingLemmas.{IsLeft}
+use Rattle.iom_line_writer.proofs.writing.write_all.Given as goal
 
 -- what isn't left is written
 abbrev pub invariant-loop-rest : goal.invariant-loop-rest

@@ -10,7 +10,7 @@ use Rattle.clap.specs.Matches.{found_of, first_value, one_text}
 use Rattle.clap.specs.declared.parser.matches.ArgMatches.{ArgMatches}
 use Rattle.clap.specs.Simple.{App, HasMatchesOf, matches_of, is_simple}
 use Rattle.clap.proofs.WalkLemmas.{first_value-rows, one_text-rows}
-use Rattle.iom_runner.specs.CommandLine.{is_trace, is_file, is_command_line, wants_trace, named_file, program_command}
+use Rattle.iom_command_line.specs.CommandLine.{is_trace, is_file, is_command_line, wants_trace, named_file, program_command}
 
 simple : is_simple program_command ≡ true
 simple = refl

@@ -1,7 +1,7 @@
 -- Where the buffer isn't written out, its own lines aren't all written.
 use Rattle.iom_script.specs.Lines.{trace_line}
-use Rattle.iom_runner.proofs.WritingLemmas.{at_err, part-longer}
-use Rattle.iom_runner.proofs.writing.LineWriter.put_trace.Goals as goal
+use Rattle.iom_line_writer.proofs.WritingLemmas.{at_err, part-longer}
+use Rattle.iom_line_writer.proofs.writing.LineWriter.put_trace.Goals as goal
 
 pub returns-in_err-write_out-clause-failed : goal.returns-in_err-write_out-clause-failed
 returns-in_err-write_out-clause-failed g c =

@@ -1,9 +1,9 @@
 -- A lawful command line is read as it stands.
 use Rattle.std.proofs.Common.{◌≡◌, ◌∙◌, true, map}
 use Rattle.clap.specs.Simple.{app_of}
-use Rattle.iom_runner.specs.CommandLine.{is_command_line, wants_trace}
-use Rattle.iom_runner.proofs.CommandLineLemmas.{file_found, flag_found, flag_read, taken}
-use Rattle.iom_runner.proofs.arguments.read_words.Goals as goal
+use Rattle.iom_command_line.specs.CommandLine.{is_command_line, wants_trace}
+use Rattle.iom_command_line.proofs.CommandLineLemmas.{file_found, flag_found, flag_read, taken}
+use Rattle.iom_command_line.proofs.arguments.read_words.Goals as goal
 
 pub returns-in-Ok-try_get_matches_from-clause-trace : goal.returns-in-Ok-try_get_matches_from-clause-trace
 returns-in-Ok-try_get_matches_from-clause-trace c =

@@ -1,5 +1,5 @@
 use Rattle.std.specs.Io.KnownBytes.{Keeps}
-use Rattle.iom_runner.proofs.writing.write_once.Given as goal
+use Rattle.iom_line_writer.proofs.writing.write_once.Given as goal
 
 -- nothing is written yet
 abbrev pub invariant-loop : goal.invariant-loop

@@ -2,9 +2,9 @@
 ghost use Rattle.std.specs.Prelude.{◌≡◌, ◌≢◌, true, false, map, option_map, IfOk, Err};
 ghost use Rattle.clap.specs.Simple.{app_of};
 ghost use Rattle.clap.specs.Walk.{rule_of};
-ghost use Rattle.iom_runner.specs.CommandLine.{is_trace, is_file, is_command_line, wants_trace, named_file, trace_rule, file_rule, bare_command, program_command};
+ghost use Rattle.iom_command_line.specs.CommandLine.{is_trace, is_file, is_command_line, wants_trace, named_file, trace_rule, file_rule, bare_command, program_command};
 
-use crate::faults::ArgsFault;
+use crate::fault::ArgsFault;
 use clap::error::ErrorKind;
 use clap::{Arg, ArgAction, Command};
 use std::alloc::{AllocError, Global};

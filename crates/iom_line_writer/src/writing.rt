@@ -4,7 +4,7 @@ ghost use Rattle.std.specs.Io.{WritesAtMost};
 ghost use Rattle.std.specs.IoError.{error_kind};
 ghost use Rattle.std.specs.Io.KnownBytes.{Appends, WriteAppends};
 ghost use Rattle.iom_script.specs.Lines.{line_of, trace_line};
-ghost use Rattle.iom_runner.specs.Writing.{AppendsPart, KeepsWriter, wants_counts, TakesText, FailsAt, TakesLine, FailsWriting};
+ghost use Rattle.iom_line_writer.specs.Writing.{AppendsPart, KeepsWriter, wants_counts, TakesText, FailsAt, TakesLine, FailsWriting};
 
 use iom_machine::{Outcome, Sink, Trace};
 use iom_script::LineBuffer;
@@ -12,7 +12,7 @@ use std::io::{self, ErrorKind, Write};
 
 /// A writer failed, or took nothing.
 #[derive(Debug, Drop)]
-pub(crate) struct WriteFault;
+pub struct WriteFault;
 
 impl From<io::Error> for WriteFault {
     fn from(_error: io::Error) -> WriteFault {
@@ -41,7 +41,7 @@ fn write_once<W: Write>(writer: &mut W, bytes: &[u8]) -> io::Result<usize>
 
 /// Writes all the bytes, in as many calls as that takes. A write of no bytes is a fault. At a fault a
 /// beginning of the bytes was written, and not all of them.
-pub(crate) fn write_all<W: Write>(writer: &mut W, bytes: &[u8]) -> io::Result<()>
+fn write_all<W: Write>(writer: &mut W, bytes: &[u8]) -> io::Result<()>
     ensures all { OnOk result (Appends (W.contents writer.old) (W.contents writer.new) bytes.now) }
     ensures part { OnErr result (AppendsPart (W.contents writer.old) (W.contents writer.new) bytes.now) }
     ensures retried { IfErr result (λ error. error_kind error ≢ ErrorKind.Interrupted) }
@@ -59,15 +59,17 @@ pub(crate) fn write_all<W: Write>(writer: &mut W, bytes: &[u8]) -> io::Result<()
 
 /// A sink that puts the line of each outcome into a buffer, and behind it the line of its counts where it wants
 /// these, and writes the buffer out when it is nearly full. It takes no memory.
-pub(crate) struct LineWriter<'a, W> {
-    pub(crate) buffer: LineBuffer,
-    pub(crate) writer: &'a mut W,
+pub struct LineWriter<'a, W> {
+    /// The lines that aren't written yet.
+    pub buffer: LineBuffer,
+    pub writer: &'a mut W,
     /// Whether it wants the counts.
-    pub(crate) counts: bool,
+    pub counts: bool,
 }
 
 impl<'a, W: Write> LineWriter<'a, W> {
-    pub(crate) fn new(buffer: LineBuffer, writer: &'a mut W, counts: bool) -> LineWriter<'a, W>
+    /// A sink that writes to the writer by way of this buffer, with the counts or without.
+    pub fn new(buffer: LineBuffer, writer: &'a mut W, counts: bool) -> LineWriter<'a, W>
         ensures buffer { result.buffer ≡ buffer }
         ensures same_writer { result.writer.ghost_name ≡ writer.entry.ghost_name }
         ensures contents { result.writer.now ≡ writer.old }
@@ -81,7 +83,7 @@ impl<'a, W: Write> LineWriter<'a, W> {
     }
 
     /// Writes out the lines in the buffer. At a fault a beginning of them was written, and not all.
-    pub(crate) fn write_out(&mut self) -> Result<(), WriteFault>
+    pub fn write_out(&mut self) -> Result<(), WriteFault>
         ensures same_writer { KeepsWriter self.old self.new }
         ensures empty { OnOk result (self.new.buffer ≡ []) }
         ensures all { OnOk result (Appends (W.contents self.old.writer.now) (W.contents self.new.writer.now) self.old.buffer) }

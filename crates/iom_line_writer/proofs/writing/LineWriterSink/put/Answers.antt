@@ -3,9 +3,9 @@ use Rattle.std.proofs.Common.{Option, sym, subst}
 use Rattle.std.proofs.lemmas.Result.{on_ok_weaker, on_err_weaker}
 use Rattle.iom_machine.specs.declared.outcome.Trace.{Trace}
 use Rattle.iom_script.specs.Lines.{line_of, trace_line}
-use Rattle.iom_runner.specs.Writing.{TakesLine, FailsWriting}
-use Rattle.iom_runner.proofs.WritingLemmas.{at_err, takes-more, fails-line, fails-later}
-use Rattle.iom_runner.proofs.writing.LineWriterSink.put.Goals as goal
+use Rattle.iom_line_writer.specs.Writing.{TakesLine, FailsWriting}
+use Rattle.iom_line_writer.proofs.WritingLemmas.{at_err, takes-more, fails-line, fails-later}
+use Rattle.iom_line_writer.proofs.writing.LineWriterSink.put.Goals as goal
 
 pub returns-in_err-put_line-clause-failed : goal.returns-in_err-put_line-clause-failed
 returns-in_err-put_line-clause-failed g c =

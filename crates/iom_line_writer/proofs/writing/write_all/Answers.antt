@@ -1,7 +1,7 @@
 use Rattle.std.proofs.Common.{◌<◌, length, arith}
 use Rattle.std.proofs.lemmas.Bool.Decides.{nat_tests}
-use Rattle.iom_runner.proofs.WritingLemmas.{at_err, left_after, left_is_part, none_written}
-use Rattle.iom_runner.proofs.writing.write_all.Goals as goal
+use Rattle.iom_line_writer.proofs.WritingLemmas.{at_err, left_after, left_is_part, none_written}
+use Rattle.iom_line_writer.proofs.writing.write_all.Goals as goal
 
 pub returns-in_err-count-clause-part : goal.returns-in_err-count-clause-part
 returns-in_err-count-clause-part g c =
