@@ -1,7 +1,6 @@
 -- What is written, a part after another.
-use Rattle.std.proofs.Common.{◌≡◌, ◌-◌, ◌<◌, ◌++◌, ◌∙◌, ℕ, suc, Bool, List, [], ◌∷◌, length, take, drop, Option, None, Some, is_some, Result, Ok, Err, OnErr, refl, sym, ap, subst, append_assoc, append-nil, arith, length-drop, take-append-drop}
+use Rattle.std.proofs.Common.{◌≡◌, ◌-◌, ◌<◌, ◌++◌, ◌∙◌, ℕ, List, [], ◌∷◌, length, take, drop, Option, None, Some, Result, Ok, Err, OnErr, refl, sym, ap, subst, append_assoc, append-nil, arith, length-drop, take-append-drop}
 use Rattle.std.proofs.lemmas.List.{take_all}
-use Rattle.std.proofs.lemmas.List.Elements.{All-nil, All-cons}
 use Rattle.std.specs.Io.KnownBytes.{Appends, Keeps}
 use Rattle.std.proofs.KnownBytes.{Appends-nil, Appends-trans, Appends-kept}
 use Rattle.iom_machine.specs.declared.outcome.Outcome.{Outcome}
@@ -9,7 +8,7 @@ use Rattle.iom_machine.specs.declared.outcome.Trace.{Trace}
 use Rattle.iom_script.specs.Lines.{line_of, trace_line}
 use Rattle.iom_line_writer.specs.declared.writing.LineWriter.{LineWriter}
 use Rattle.iom_line_writer.specs.Told.{told_line, told_lines}
-use Rattle.iom_line_writer.specs.Writing.{AppendsFront, AppendsPart, wants_counts, TakesText, FailsAt, TakesLine, FailsWriting}
+use Rattle.iom_line_writer.specs.Writing.{AppendsFront, AppendsPart, TakesText, FailsAt, FailsWriting}
 
 -- nothing is written of a text
 pub front-none : (known : Option (List ℕ)) (text : List ℕ) → AppendsFront known known text
