@@ -1,10 +1,17 @@
-use Rattle.std.proofs.Common.{◌≡◌, None, refl, subst}
+use Rattle.std.proofs.Common.{◌≡◌, None, refl, subst, arith}
 use Rattle.iom_platform.specs.Blocks.{block_with, HearsRefusal}
 use Rattle.iom_platform.specs.Places.{IsPlaceOf}
 use Rattle.iom_platform.specs.Seen.{blocks_seen}
 use Rattle.iom_platform.proofs.BlockLemmas.{hears_refusal, entries_kept}
 use Rattle.iom_platform.proofs.PlaceLemmas.{at_place, changed_from, changed_none}
+use Rattle.iom_platform.proofs.StepLemmas.{get_lt}
 use Rattle.iom_platform.proofs.blocks.hear_refusal.Goals as goal
+
+pub index_mut-requires : goal.index_mut-requires
+index_mut-requires g c =
+    let lt = get_lt c.deref.result.now c.in-Some.place c.in-Some.ensures.block c.in-Some.ensures.there in
+    let len = c.deref.ensures.len in
+    omega (arith, lt, len)
 
 pub returns-in_default-clause-seen : goal.returns-in_default-clause-seen
 returns-in_default-clause-seen g c =

@@ -1,11 +1,18 @@
-use Rattle.std.proofs.Common.{◌≡◌, None, refl, subst, false, true, is_some, ap}
+use Rattle.std.proofs.Common.{◌≡◌, None, refl, subst, false, true, is_some, ap, arith}
 use Rattle.iom_platform.specs.Agreement.{entries_of}
 use Rattle.iom_platform.specs.Blocks.{block_with, HasDisk}
 use Rattle.iom_platform.specs.Places.{IsPlaceOf}
 use Rattle.iom_platform.specs.Seen.{blocks_seen, state_of}
 use Rattle.iom_platform.proofs.BlockLemmas.{has_disk, entries_as}
 use Rattle.iom_platform.proofs.PlaceLemmas.{at_place, changed_from, none_entries, none_some, is_empty}
+use Rattle.iom_platform.proofs.StepLemmas.{get_lt}
 use Rattle.iom_platform.proofs.blocks.insert.Goals as goal
+
+pub index_mut-requires : goal.index_mut-requires
+index_mut-requires g c =
+    let lt = get_lt c.deref.result.now c.in-Some.place c.in-Some.ensures.block c.in-Some.ensures.there in
+    let len = c.deref.ensures.len in
+    omega (arith, lt, len)
 
 pub returns-in-Some-clause-seen : goal.returns-in-Some-clause-seen
 returns-in-Some-clause-seen g c =
