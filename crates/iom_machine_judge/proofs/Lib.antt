@@ -1,3 +1,4 @@
 mod BlockLemmas
 mod HistoryLoops
 mod VerdictLemmas
+pub mod LeftLemmas

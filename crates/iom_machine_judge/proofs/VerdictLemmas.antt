@@ -1,5 +1,5 @@
 -- What the judge finds of the first line and of the later ones.
-use Rattle.std.proofs.Common.{◌≡◌, ◌↔◌, ℕ, zero, suc, ◌+◌, ◌≤◌, List, [], ◌∷◌, map, length, drop, Option, None, Some, Result, Ok, Err, IfOk, IfSome, slice_get, refl, sym, ap, ◌∙◌, subst, arith}
+use Rattle.std.proofs.Common.{◌≡◌, ◌↔◌, Bool, true, ℕ, zero, suc, ◌+◌, ◌≤◌, List, [], ◌∷◌, map, length, drop, Option, None, Some, Result, Ok, Err, IfOk, IfSome, slice_get, refl, sym, ap, ◌∙◌, subst, arith}
 use Rattle.std.proofs.lemmas.Grind.{common_steps}
 use Rattle.std.specs.declared.alloc.AllocError.{AllocError}
 use Rattle.iom_machine.specs.declared.choice.Choice.{Choice}
@@ -10,17 +10,16 @@ use Rattle.iom_machine_judge.specs.declared.line.Verdict.TheVariants.{Lawful, Un
 use Rattle.iom_machine.specs.declared.outcome.Outcome.{Outcome}
 use Rattle.iom_machine.specs.declared.state.State.{State}
 use Rattle.iom_machine.specs.Machine.{ChosenStep, Run}
+use Rattle.iom_machine_judge.specs.Deciding.{left_by}
 use Rattle.iom_machine_judge.specs.Verdicts.{LineStep, LinesRun, FirstUnlawfulAt, IsVerdict}
 use Rattle.iom_machine.proofs.SoundLemmas.{same_size-step}
 use Rattle.iom_machine.proofs.StepLemmas.{only_state}
 
 -- a step that the judge decides keeps the number of frames
-pub same_size_if_ok : (result : Result (Option State) AllocError) (choice : Choice) (old : State) (event : Event) (outcome : Outcome)
-    → IfOk result (λ next. (new : State) → (next ≡ Some new) ↔ ChosenStep choice old event outcome new)
-    → IfOk result (λ next. IfSome next (λ new. length new.frames ≡ length old.frames))
-same_size_if_ok (Ok None) choice old event outcome decides = tt
-same_size_if_ok (Ok (Some new)) choice old event outcome decides = same_size-step old new event outcome (choice, (decides new).0 refl)
-same_size_if_ok (Err e) choice old event outcome decides = decides
+pub same_size_if_left : (may : Bool) (choice : Choice) (old left : State) (event : Event) (outcome : Outcome) → may ≡ true
+    → ((new : State) → (left_by may left ≡ Some new) ↔ ChosenStep choice old event outcome new) → length left.frames ≡ length old.frames
+same_size_if_left may choice old left event outcome lawful decides =
+    same_size-step old left event outcome (choice, (decides left).0 (ap (λ (b : Bool). left_by b left) lawful))
 
 -- the line decides the next state
 abbrev pub Leaves : State → Line → State → Type 0

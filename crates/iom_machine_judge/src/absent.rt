@@ -1,11 +1,10 @@
 // What an event that names a device is answered first.
-ghost use Rattle.std.specs.Prelude.{◌≡◌, ◌↔◌, IsTrue, Some};
+ghost use Rattle.std.specs.Prelude.{◌≡◌, ◌↔◌, IsTrue};
 ghost use Rattle.iom_ledger.specs.declared.refusal.Refusal.TheVariants.{NoSuchDevice, WrongKind};
 ghost use Rattle.iom_machine.specs.declared.outcome.Outcome.TheVariants.{Refused};
-ghost use Rattle.iom_machine.specs.declared.state.State.{State};
 
 use iom_ledger::Refusal;
-use iom_machine::{Outcome, State};
+use iom_machine::Outcome;
 
 /// Whether a device that isn't plugged in is answered so.
 pub(crate) fn answers_absent(outcome: &Outcome) -> bool
@@ -25,11 +24,4 @@ pub(crate) fn answers_unable(outcome: &Outcome) -> bool
         Outcome::Refused(why) => *why == Refusal::WrongKind,
         _ => false,
     }
-}
-
-/// The state as it is, where that may be.
-pub(crate) fn stays_if(may: bool, state: State) -> Option<State>
-    ensures { (new : State) → (result ≡ Some new) ↔ (IsTrue may × (new ≡ state)) }
-{
-    if may { Some(state) } else { None }
 }

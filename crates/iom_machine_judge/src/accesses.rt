@@ -2,7 +2,7 @@
 ghost use Rattle.std.specs.Prelude.{◌≡◌, ◌↔◌, IfOk, Some};
 ghost use Rattle.iom_base.specs.Accesses.{read_of, write_of};
 ghost use Rattle.iom_machine.specs.declared.state.State.{State};
-ghost use Rattle.iom_machine_judge.specs.Deciding.{UntranslatedStep, TranslatedStep, CachedStep};
+ghost use Rattle.iom_machine_judge.specs.Deciding.{UntranslatedStep, TranslatedStep, CachedStep, left_by};
 
 use crate::requests::judge_request;
 use crate::through_cache::judge_through_cache;
@@ -37,15 +37,15 @@ fn write_asked(alloc: Global, address: u64, bytes: &[u8]) -> Result<Access, Allo
     })
 }
 
-/// The state after a request that the IOMMU translates, where it may be answered so, on this frame.
+/// Whether a request that the IOMMU translates may be answered so, on this frame; the state is then what it leaves.
 pub(crate) fn decide_untranslated(
     alloc: Global,
-    state: State,
+    state: &mut State,
     event: &Event,
     outcome: &Outcome,
     frame: u32,
-) -> Result<Option<State>, AllocError>
-    ensures { IfOk result (λ next. (new : State) → (next ≡ Some new) ↔ UntranslatedStep frame state event.now outcome.now new) }
+) -> Result<bool, AllocError>
+    ensures { IfOk result (λ may. (new : State) → (left_by may state.new ≡ Some new) ↔ UntranslatedStep frame state.old event.now outcome.now new) }
 {
     match event {
         Event::Read {
@@ -64,18 +64,18 @@ pub(crate) fn decide_untranslated(
             let access = write_asked(alloc, *address, bytes.as_slice())?;
             judge_request(state, *device, access, outcome, frame)
         }
-        _ => Ok(None),
+        _ => Ok(false),
     }
 }
 
-/// The state after a request that says it is translated already, where it may be answered so.
+/// Whether a request that says it is translated already may be answered so, which leaves the state as it is.
 pub(crate) fn decide_translated(
     alloc: Global,
-    state: State,
+    state: &State,
     event: &Event,
     outcome: &Outcome,
-) -> Result<Option<State>, AllocError>
-    ensures { IfOk result (λ next. (new : State) → (next ≡ Some new) ↔ TranslatedStep state event.now outcome.now new) }
+) -> Result<bool, AllocError>
+    ensures { IfOk result (λ may. (new : State) → (left_by may state.now ≡ Some new) ↔ TranslatedStep state.now event.now outcome.now new) }
 {
     match event {
         Event::ReadTranslated {
@@ -94,19 +94,19 @@ pub(crate) fn decide_translated(
             let access = write_asked(alloc, *address, bytes.as_slice())?;
             Ok(judge_translated(state, *device, &access, outcome))
         }
-        _ => Ok(None),
+        _ => Ok(false),
     }
 }
 
-/// The state after an access through the device's own cache, where this may come of it, on this frame.
+/// Whether this may come of an access through the device's own cache, on this frame; the state is then what it leaves.
 pub(crate) fn decide_through_cache(
     alloc: Global,
-    state: State,
+    state: &mut State,
     event: &Event,
     outcome: &Outcome,
     frame: u32,
-) -> Result<Option<State>, AllocError>
-    ensures { IfOk result (λ next. (new : State) → (next ≡ Some new) ↔ CachedStep frame state event.now outcome.now new) }
+) -> Result<bool, AllocError>
+    ensures { IfOk result (λ may. (new : State) → (left_by may state.new ≡ Some new) ↔ CachedStep frame state.old event.now outcome.now new) }
 {
     match event {
         Event::ReadThroughCache {
@@ -125,6 +125,6 @@ pub(crate) fn decide_through_cache(
             let access = write_asked(alloc, *address, bytes.as_slice())?;
             judge_through_cache(state, *device, access, outcome, frame)
         }
-        _ => Ok(None),
+        _ => Ok(false),
     }
 }

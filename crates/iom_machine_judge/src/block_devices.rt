@@ -10,8 +10,9 @@ ghost use Rattle.iom_machine.specs.Requests.{IsForwarded};
 ghost use Rattle.iom_machine.specs.Judging.{StandsAt};
 ghost use Rattle.iom_machine.specs.Machine.{InsertsDisk, SetsQueue, Steps, TellsStatus};
 ghost use Rattle.iom_virtqueue.specs.Layouts.{IsLayout, layout_of};
+ghost use Rattle.iom_machine_judge.specs.Deciding.{left_by};
 
-use crate::absent::{answers_absent, answers_unable, stays_if};
+use crate::absent::{answers_absent, answers_unable};
 use crate::devices::{device_with, give_disk, place_of};
 use crate::requests::{self, is_forwarded, is_within_page};
 use crate::through_cache;
@@ -78,57 +79,56 @@ fn is_bad_medium(why: Refusal) -> bool
     why == Refusal::BadMedium
 }
 
-/// The state after a disk is put into the block device at the place, where this may come of it.
+/// Whether this may come of a disk that is put into the block device at the place; the state is then what it leaves.
 fn insert(
     alloc: Global,
-    state: State,
+    state: &mut State,
     place: usize,
     disk: u64,
     outcome: &Outcome,
-) -> Result<Option<State>, AllocError>
-    requires { place < length state.devices }
-    ensures { IfOk result (λ next. (device : Device) → slice_get state.devices place ≡ Some device → StandsAt state.devices device.id place
-        → (new : State) → (next ≡ Some new) ↔ Inserts disk state device outcome.now new) }
+) -> Result<bool, AllocError>
+    requires { place < length state.old.devices }
+    ensures { IfOk result (λ may. (device : Device) → slice_get state.old.devices place ≡ Some device → StandsAt state.old.devices device.id place
+        → (new : State) → (left_by may state.new ≡ Some new) ↔ Inserts disk state.old device outcome.now new) }
 {
     let device = &state.devices.as_slice()[place];
-    let may = may_insert(&state, device, disk);
+    let may = may_insert(state, device, disk);
     match outcome {
         Outcome::Done => {
             if !may {
-                return Ok(None);
+                return Ok(false);
             }
-            let mut next = state;
-            let left = without_disk(alloc, next.disks.as_slice(), Some(disk))?;
-            next.disks = left;
-            give_disk(&mut next.devices, place);
-            Ok(Some(next))
+            let left = without_disk(alloc, state.disks.as_slice(), Some(disk))?;
+            state.disks = left;
+            give_disk(&mut state.devices, place);
+            Ok(true)
         }
         Outcome::Refused(why) => {
             if may {
-                return Ok(None);
+                return Ok(false);
             }
-            Ok(stays_if(is_bad_medium(*why), state))
+            Ok(is_bad_medium(*why))
         }
-        _ => Ok(None),
+        _ => Ok(false),
     }
 }
 
-/// The state after a disk is put into a block device, where this may come of it.
+/// Whether this may come of a disk that is put into a block device; the state is then what it leaves.
 pub(crate) fn judge_medium(
     alloc: Global,
-    state: State,
+    state: &mut State,
     id: DeviceId,
     disk: u64,
     outcome: &Outcome,
-) -> Result<Option<State>, AllocError>
-    ensures { IfOk result (λ next. (new : State) → (next ≡ Some new) ↔ InsertsDisk disk state id outcome.now new) }
+) -> Result<bool, AllocError>
+    ensures { IfOk result (λ may. (new : State) → (left_by may state.new ≡ Some new) ↔ InsertsDisk disk state.old id outcome.now new) }
 {
     let Some(place) = place_of(state.devices.as_slice(), id) else {
-        return Ok(stays_if(answers_absent(outcome), state));
+        return Ok(answers_absent(outcome));
     };
     let device = &state.devices.as_slice()[place];
     if !device.kind.is_block_device() {
-        return Ok(stays_if(answers_unable(outcome), state));
+        return Ok(answers_unable(outcome));
     }
     insert(alloc, state, place, disk, outcome)
 }
@@ -162,26 +162,25 @@ fn may_set(size: u64, descriptors: u64, available: u64, used: u64, outcome: &Out
     }
 }
 
-/// The state after the queue of a block device is set so, where this may come of it.
+/// Whether this may come where the queue of a block device is set so, which leaves the state as it is.
 pub(crate) fn judge_queue(
-    state: State,
+    state: &State,
     id: DeviceId,
     size: u64,
     descriptors: u64,
     available: u64,
     used: u64,
     outcome: &Outcome,
-) -> Option<State>
-    ensures { (new : State) → (result ≡ Some new) ↔ SetsQueue (layout_of size descriptors available used) state id outcome.now new }
+) -> bool
+    ensures { (new : State) → (left_by result state.now ≡ Some new) ↔ SetsQueue (layout_of size descriptors available used) state.now id outcome.now new }
 {
     match device_with(state.devices.as_slice(), id) {
-        None => stays_if(answers_absent(outcome), state),
+        None => answers_absent(outcome),
         Some(device) => {
             if !device.kind.is_block_device() {
-                return stays_if(answers_unable(outcome), state);
+                return answers_unable(outcome);
             }
-            let may = may_set(size, descriptors, available, used, outcome);
-            stays_if(may, state)
+            may_set(size, descriptors, available, used, outcome)
         }
     }
 }
@@ -192,17 +191,17 @@ fn is_status(outcome: &Outcome) -> bool
     matches!(outcome, Outcome::Status(_))
 }
 
-/// The state after the status of a block device is read, where this may come of it.
-pub(crate) fn judge_status(state: State, id: DeviceId, outcome: &Outcome) -> Option<State>
-    ensures { (new : State) → (result ≡ Some new) ↔ TellsStatus state id outcome.now new }
+/// Whether this may come where the status of a block device is read, which leaves the state as it is.
+pub(crate) fn judge_status(state: &State, id: DeviceId, outcome: &Outcome) -> bool
+    ensures { (new : State) → (left_by result state.now ≡ Some new) ↔ TellsStatus state.now id outcome.now new }
 {
     match device_with(state.devices.as_slice(), id) {
-        None => stays_if(answers_absent(outcome), state),
+        None => answers_absent(outcome),
         Some(device) => {
             if !device.kind.is_block_device() {
-                return stays_if(answers_unable(outcome), state);
+                return answers_unable(outcome);
             }
-            stays_if(is_status(outcome), state)
+            is_status(outcome)
         }
     }
 }
@@ -273,61 +272,62 @@ fn copy_of(alloc: Global, access: &Access) -> Result<Access, AllocError>
     })
 }
 
-/// The state after an access of the device at the place that the IOMMU translates, where this may come of it.
+/// Whether this may come of an access of the device at the place that the IOMMU translates; the state is then what
+/// it leaves.
 fn begin_untranslated(
-    state: State,
+    state: &mut State,
     place: usize,
     access: Access,
     frame: u32,
     outcome: &Outcome,
-) -> Result<Option<State>, AllocError>
-    requires { place < length state.devices }
-    ensures { IfOk result (λ next. (device : Device) → slice_get state.devices place ≡ Some device → StandsAt state.devices device.id place
-        → (new : State) → (next ≡ Some new) ↔ IsAnswered false state device access frame outcome.now new) }
+) -> Result<bool, AllocError>
+    requires { place < length state.old.devices }
+    ensures { IfOk result (λ may. (device : Device) → slice_get state.old.devices place ≡ Some device → StandsAt state.old.devices device.id place
+        → (new : State) → (left_by may state.new ≡ Some new) ↔ IsAnswered false state.old device access frame outcome.now new) }
 {
     let device = &state.devices.as_slice()[place];
-    if !requests::may_answer(&state, device, &access, frame, outcome) {
-        return Ok(None);
+    if !requests::may_answer(state, device, &access, frame, outcome) {
+        return Ok(false);
     }
-    let next = requests::after_answer(state, place, access, frame, outcome)?;
-    Ok(Some(next))
+    requests::after_answer(state, place, access, frame, outcome)?;
+    Ok(true)
 }
 
 /// The same of an access through its cache.
 fn begin_through_cache(
-    state: State,
+    state: &mut State,
     place: usize,
     access: Access,
     frame: u32,
     outcome: &Outcome,
-) -> Result<Option<State>, AllocError>
-    requires { place < length state.devices }
-    ensures { IfOk result (λ next. (device : Device) → slice_get state.devices place ≡ Some device → StandsAt state.devices device.id place
-        → (new : State) → (next ≡ Some new) ↔ IsAnswered true state device access frame outcome.now new) }
+) -> Result<bool, AllocError>
+    requires { place < length state.old.devices }
+    ensures { IfOk result (λ may. (device : Device) → slice_get state.old.devices place ≡ Some device → StandsAt state.old.devices device.id place
+        → (new : State) → (left_by may state.new ≡ Some new) ↔ IsAnswered true state.old device access frame outcome.now new) }
 {
     let device = &state.devices.as_slice()[place];
-    if !through_cache::may_answer(&state, device, &access, frame, outcome) {
-        return Ok(None);
+    if !through_cache::may_answer(state, device, &access, frame, outcome) {
+        return Ok(false);
     }
-    let next = through_cache::after_answer(state, place, access, frame, outcome)?;
-    Ok(Some(next))
+    through_cache::after_answer(state, place, access, frame, outcome)?;
+    Ok(true)
 }
 
-/// The state after the device at the place begins the access, where this may come of it.
+/// Whether this may come where the device at the place begins the access; the state is then what it leaves.
 fn begin(
     alloc: Global,
-    state: State,
+    state: &mut State,
     place: usize,
     access: &Access,
     frame: u32,
     outcome: &Outcome,
-) -> Result<Option<State>, AllocError>
-    requires { place < length state.devices }
-    ensures { IfOk result (λ next. (device : Device) → slice_get state.devices place ≡ Some device → StandsAt state.devices device.id place
-        → (new : State) → (next ≡ Some new) ↔ Begins state device access.now frame outcome.now new) }
+) -> Result<bool, AllocError>
+    requires { place < length state.old.devices }
+    ensures { IfOk result (λ may. (device : Device) → slice_get state.old.devices place ≡ Some device → StandsAt state.old.devices device.id place
+        → (new : State) → (left_by may state.new ≡ Some new) ↔ Begins state.old device access.now frame outcome.now new) }
 {
     if !may_want(access) {
-        return Ok(None);
+        return Ok(false);
     }
     let wanted = copy_of(alloc, access)?;
     let device = &state.devices.as_slice()[place];
@@ -338,47 +338,46 @@ fn begin(
     }
 }
 
-/// The state after a step of the block device at the place, where this may come of it.
+/// Whether this may come of a step of the block device at the place; the state is then what it leaves.
 fn take_step(
     alloc: Global,
-    state: State,
+    state: &mut State,
     place: usize,
     outcome: &Outcome,
     choice: &Choice,
-) -> Result<Option<State>, AllocError>
-    requires { place < length state.devices }
-    ensures { IfOk result (λ next. (device : Device) → slice_get state.devices place ≡ Some device → StandsAt state.devices device.id place
-        → (new : State) → (next ≡ Some new) ↔ TakesStep state device choice.now.access choice.now.frame outcome.now new) }
+) -> Result<bool, AllocError>
+    requires { place < length state.old.devices }
+    ensures { IfOk result (λ may. (device : Device) → slice_get state.old.devices place ≡ Some device → StandsAt state.old.devices device.id place
+        → (new : State) → (left_by may state.new ≡ Some new) ↔ TakesStep state.old device choice.now.access choice.now.frame outcome.now new) }
 {
     match outcome {
         Outcome::Stepped(step) => {
             let device = &state.devices.as_slice()[place];
-            let may = may_be(device, &choice.access, *step);
-            Ok(stays_if(may, state))
+            Ok(may_be(device, &choice.access, *step))
         }
         Outcome::Accepted(_) | Outcome::Busy | Outcome::Fault(_) => {
             begin(alloc, state, place, &choice.access, choice.frame, outcome)
         }
-        _ => Ok(None),
+        _ => Ok(false),
     }
 }
 
-/// The state after a step of a block device, where this may come of it.
+/// Whether this may come of a step of a block device; the state is then what it leaves.
 pub(crate) fn judge_step(
     alloc: Global,
-    state: State,
+    state: &mut State,
     id: DeviceId,
     outcome: &Outcome,
     choice: &Choice,
-) -> Result<Option<State>, AllocError>
-    ensures { IfOk result (λ next. (new : State) → (next ≡ Some new) ↔ Steps choice.now.access choice.now.frame state id outcome.now new) }
+) -> Result<bool, AllocError>
+    ensures { IfOk result (λ may. (new : State) → (left_by may state.new ≡ Some new) ↔ Steps choice.now.access choice.now.frame state.old id outcome.now new) }
 {
     let Some(place) = place_of(state.devices.as_slice(), id) else {
-        return Ok(stays_if(answers_absent(outcome), state));
+        return Ok(answers_absent(outcome));
     };
     let device = &state.devices.as_slice()[place];
     if !device.kind.is_block_device() {
-        return Ok(stays_if(answers_unable(outcome), state));
+        return Ok(answers_unable(outcome));
     }
     take_step(alloc, state, place, outcome, choice)
 }

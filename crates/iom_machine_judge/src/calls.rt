@@ -4,6 +4,7 @@ ghost use Rattle.iom_machine.specs.declared.state.State.{State};
 ghost use Rattle.iom_machine.specs.Frames.{IsFree};
 ghost use Rattle.iom_machine.specs.Refusals.{MayRefusePlug, MayRefuseAttach, MayRefuseGrant, MayFindNoPlace};
 ghost use Rattle.iom_machine.specs.Machine.{Plugs, Attaches, Detaches, Grants, Releases, Fetches, TakesRecord};
+ghost use Rattle.iom_machine_judge.specs.Deciding.{left_by};
 
 use crate::block_devices::without_disk;
 use crate::devices::{place_of, set_attachment, start_leaving};
@@ -52,26 +53,25 @@ pub(crate) fn may_find_no_place(why: Refusal) -> bool
     matches!(why, Refusal::QueueFull | Refusal::NumbersUsedUp)
 }
 
-/// The state after a plug, where it may come so.
+/// Whether a plug may come so; the state is then what it leaves.
 pub(crate) fn judge_plug(
     alloc: Global,
-    state: State,
+    state: &mut State,
     id: DeviceId,
     what: NewDevice,
     outcome: &Outcome,
-) -> Result<Option<State>, AllocError>
-    ensures { IfOk result (λ next. (new : State) → (next ≡ Some new) ↔ Plugs state id what outcome.now new) }
+) -> Result<bool, AllocError>
+    ensures { IfOk result (λ may. (new : State) → (left_by may state.new ≡ Some new) ↔ Plugs state.old id what outcome.now new) }
 {
-    let first = plug_refusal(&state, id, what);
+    let first = plug_refusal(state, id, what);
     match outcome {
         Outcome::Done => {
             if first.is_some() {
-                return Ok(None);
+                return Ok(false);
             }
-            let mut next = state;
-            let left = without_disk(alloc, next.disks.as_slice(), what.disk())?;
-            next.disks = left;
-            next.devices.push(Device {
+            let left = without_disk(alloc, state.disks.as_slice(), what.disk())?;
+            state.disks = left;
+            state.devices.push(Device {
                 id,
                 kind: what.kind(),
                 has_disk: what.disk().is_some(),
@@ -79,16 +79,10 @@ pub(crate) fn judge_plug(
                 accepted: 0,
                 in_flight: Sequence::new(alloc),
             })?;
-            Ok(Some(next))
+            Ok(true)
         }
-        Outcome::Refused(why) => {
-            if refuses(first, may_refuse_plug(*why), *why) {
-                Ok(Some(state))
-            } else {
-                Ok(None)
-            }
-        }
-        _ => Ok(None),
+        Outcome::Refused(why) => Ok(refuses(first, may_refuse_plug(*why), *why)),
+        _ => Ok(false),
     }
 }
 
@@ -102,179 +96,159 @@ fn are_both_free(state: &State, pages: &[u32], taken: &[u32]) -> bool
     are_free_besides(state, None, taken)
 }
 
-/// The state after an attach, where it may come so, and these frames become pages of the device
-/// directory and tables.
+/// Whether an attach may come so, by which these frames become pages of the device directory and tables; the state
+/// is then what it leaves.
 pub(crate) fn judge_attach(
-    state: State,
+    state: &mut State,
     id: DeviceId,
     mode: Mode,
     ats: bool,
     outcome: &Outcome,
     pages: &[u32],
     taken: &[u32],
-) -> Option<State>
-    ensures { (new : State) → (result ≡ Some new) ↔ Attaches pages.now taken.now state id mode ats outcome.now new }
+) -> bool
+    ensures { (new : State) → (left_by result state.new ≡ Some new) ↔ Attaches pages.now taken.now state.old id mode ats outcome.now new }
 {
-    let first = attach_refusal(&state, id, ats);
+    let first = attach_refusal(state, id, ats);
     match outcome {
         Outcome::Done => {
             if first.is_some() {
-                return None;
+                return false;
             }
-            if !are_both_free(&state, pages, taken) {
-                return None;
+            if !are_both_free(state, pages, taken) {
+                return false;
             }
             match place_of(state.devices.as_slice(), id) {
-                None => None,
+                None => false,
                 Some(place) => {
-                    let mut next = state;
-                    set_attachment(&mut next.devices, place, Attachment::Attached { mode, ats });
-                    reserve(&mut next.frames, pages, Owner::System);
-                    reserve(&mut next.frames, taken, Owner::OneDevice(id));
-                    Some(next)
+                    set_attachment(
+                        &mut state.devices,
+                        place,
+                        Attachment::Attached { mode, ats },
+                    );
+                    reserve(&mut state.frames, pages, Owner::System);
+                    reserve(&mut state.frames, taken, Owner::OneDevice(id));
+                    true
                 }
             }
         }
         Outcome::Refused(why) => {
-            let may_come = may_refuse_attach(&state, mode, *why);
-            if refuses(first, may_come, *why) {
-                Some(state)
-            } else {
-                None
-            }
+            let may_come = may_refuse_attach(state, mode, *why);
+            refuses(first, may_come, *why)
         }
-        _ => None,
+        _ => false,
     }
 }
 
-/// The state after a detach, where it may come so.
-pub(crate) fn judge_detach(state: State, id: DeviceId, outcome: &Outcome) -> Option<State>
-    ensures { (new : State) → (result ≡ Some new) ↔ Detaches state id outcome.now new }
+/// Whether a detach may come so; the state is then what it leaves.
+pub(crate) fn judge_detach(state: &mut State, id: DeviceId, outcome: &Outcome) -> bool
+    ensures { (new : State) → (left_by result state.new ≡ Some new) ↔ Detaches state.old id outcome.now new }
 {
-    let first = detach_refusal(&state, id);
+    let first = detach_refusal(state, id);
     match outcome {
         Outcome::Ticket(ticket) => {
             if first.is_some() || u64::from(*ticket) != u64::from(state.last_ticket) + 1 {
-                return None;
+                return false;
             }
             match place_of(state.devices.as_slice(), id) {
-                None => None,
+                None => false,
                 Some(place) => {
-                    let mut next = state;
-                    start_leaving(&mut next.devices, place, *ticket);
-                    next.last_ticket = *ticket;
-                    Some(next)
+                    start_leaving(&mut state.devices, place, *ticket);
+                    state.last_ticket = *ticket;
+                    true
                 }
             }
         }
-        Outcome::Refused(why) => {
-            if refuses(first, may_find_no_place(*why), *why) {
-                Some(state)
-            } else {
-                None
-            }
-        }
-        _ => None,
+        Outcome::Refused(why) => refuses(first, may_find_no_place(*why), *why),
+        _ => false,
     }
 }
 
-/// The state after a grant, where it may come so, and these frames become tables.
+/// Whether a grant may come so, by which these frames become tables; the state is then what it leaves.
 pub(crate) fn judge_grant(
-    state: State,
+    state: &mut State,
     id: DeviceId,
     page: u64,
     frame: u64,
     rights: GrantRights,
     outcome: &Outcome,
     taken: &[u32],
-) -> Result<Option<State>, AllocError>
-    requires { length state.frames ≤ 2 ^ 32 }
-    ensures { IfOk result (λ next. (new : State) → (next ≡ Some new) ↔ Grants taken.now state id page frame rights outcome.now new) }
+) -> Result<bool, AllocError>
+    requires { length state.old.frames ≤ 2 ^ 32 }
+    ensures { IfOk result (λ may. (new : State) → (left_by may state.new ≡ Some new) ↔ Grants taken.now state.old id page frame rights outcome.now new) }
 {
-    let first = grant_refusal(&state, id, page, frame);
+    let first = grant_refusal(state, id, page, frame);
     match outcome {
         Outcome::Done => {
             if first.is_some() {
-                return Ok(None);
+                return Ok(false);
             }
-            if !are_free_besides(&state, Some(frame), taken) {
-                return Ok(None);
+            if !are_free_besides(state, Some(frame), taken) {
+                return Ok(false);
             }
-            let mut next = state;
             let number = frame as u32;
-            next.history.push_front(HistoryEntry::Granted {
+            state.history.push_front(HistoryEntry::Granted {
                 device: id,
                 page,
                 frame: number,
                 rights: rights.rights(),
             })?;
-            reserve(&mut next.frames, taken, Owner::OneDevice(id));
-            Ok(Some(next))
+            reserve(&mut state.frames, taken, Owner::OneDevice(id));
+            Ok(true)
         }
         Outcome::Refused(why) => {
-            let may_come = may_refuse_grant(&state, frame, *why);
-            if refuses(first, may_come, *why) {
-                Ok(Some(state))
-            } else {
-                Ok(None)
-            }
+            let may_come = may_refuse_grant(state, frame, *why);
+            Ok(refuses(first, may_come, *why))
         }
-        _ => Ok(None),
+        _ => Ok(false),
     }
 }
 
-/// The state after a release, where it may come so.
+/// Whether a release may come so; the state is then what it leaves.
 pub(crate) fn judge_release(
-    state: State,
+    state: &mut State,
     id: DeviceId,
     page: u64,
     outcome: &Outcome,
-) -> Result<Option<State>, AllocError>
-    ensures { IfOk result (λ next. (new : State) → (next ≡ Some new) ↔ Releases state id page outcome.now new) }
+) -> Result<bool, AllocError>
+    ensures { IfOk result (λ may. (new : State) → (left_by may state.new ≡ Some new) ↔ Releases state.old id page outcome.now new) }
 {
-    let first = release_refusal(&state, id, page);
+    let first = release_refusal(state, id, page);
     match outcome {
         Outcome::Ticket(ticket) => {
             if first.is_some() || u64::from(*ticket) != u64::from(state.last_ticket) + 1 {
-                return Ok(None);
+                return Ok(false);
             }
-            let mut next = state;
-            next.history.push_front(HistoryEntry::Released {
+            state.history.push_front(HistoryEntry::Released {
                 device: id,
                 page,
                 ticket: *ticket,
             })?;
-            next.last_ticket = *ticket;
-            Ok(Some(next))
+            state.last_ticket = *ticket;
+            Ok(true)
         }
-        Outcome::Refused(why) => {
-            if refuses(first, may_find_no_place(*why), *why) {
-                Ok(Some(state))
-            } else {
-                Ok(None)
-            }
-        }
-        _ => Ok(None),
+        Outcome::Refused(why) => Ok(refuses(first, may_find_no_place(*why), *why)),
+        _ => Ok(false),
     }
 }
 
-/// The state after a fetch, where it may come so.
-pub(crate) fn judge_fetch(state: State, outcome: &Outcome) -> Option<State>
-    ensures { (new : State) → (result ≡ Some new) ↔ Fetches state outcome.now new }
+/// Whether a fetch may come so, which leaves every state as it is.
+pub(crate) fn judge_fetch(outcome: &Outcome) -> bool
+    ensures { (old new : State) → (left_by result old ≡ Some new) ↔ Fetches old outcome.now new }
 {
     match outcome {
-        Outcome::Fetched(_) => Some(state),
-        _ => None,
+        Outcome::Fetched(_) => true,
+        _ => false,
     }
 }
 
-/// The state after the driver asked for a fault record, where it may come so.
-pub(crate) fn judge_faults(state: State, outcome: &Outcome) -> Option<State>
-    ensures { (new : State) → (result ≡ Some new) ↔ TakesRecord state outcome.now new }
+/// Whether this may come where the driver asks for a fault record, which leaves every state as it is.
+pub(crate) fn judge_faults(outcome: &Outcome) -> bool
+    ensures { (old new : State) → (left_by result old ≡ Some new) ↔ TakesRecord old outcome.now new }
 {
     match outcome {
-        Outcome::Record(_) => Some(state),
-        Outcome::NoRecord => Some(state),
-        _ => None,
+        Outcome::Record(_) => true,
+        Outcome::NoRecord => true,
+        _ => false,
     }
 }

@@ -9,8 +9,9 @@ ghost use Rattle.iom_machine.specs.Frames.{bytes_of, stored};
 ghost use Rattle.iom_base.specs.Accesses.{offset_of};
 ghost use Rattle.iom_machine.specs.Judging.{StandsAt};
 ghost use Rattle.iom_machine.specs.Machine.{GivesBytes, MakesWrite, Makes, Commits};
+ghost use Rattle.iom_machine_judge.specs.Deciding.{left_by};
 
-use crate::absent::{answers_absent, stays_if};
+use crate::absent::answers_absent;
 use crate::devices::{drop_oldest, place_of, take_oldest};
 use crate::history::may;
 use iom_base::{AcceptedAccess, AccessKind, DeviceId, PAGE_SIZE, Sequence};
@@ -187,57 +188,49 @@ fn write(alloc: Global, state: &mut State, place: usize) -> Result<(), AllocErro
     )
 }
 
-/// The state after the oldest access in flight of a plugged device is made so.
+/// Whether the oldest access in flight of a plugged device may be made so; the state is then what that leaves.
 fn judge_make(
     alloc: Global,
-    state: State,
+    state: &mut State,
     place: usize,
     outcome: &Outcome,
-) -> Result<Option<State>, AllocError>
-    requires { place < length state.devices }
-    ensures { IfOk result (λ next. (device : Device) → slice_get state.devices place ≡ Some device → StandsAt state.devices device.id place
-        → (new : State) → (next ≡ Some new) ↔ Makes state device outcome.now new) }
+) -> Result<bool, AllocError>
+    requires { place < length state.old.devices }
+    ensures { IfOk result (λ may. (device : Device) → slice_get state.old.devices place ≡ Some device → StandsAt state.old.devices device.id place
+        → (new : State) → (left_by may state.new ≡ Some new) ↔ Makes state.old device outcome.now new) }
 {
     let device = &state.devices.as_slice()[place];
     match outcome {
         Outcome::Read(bytes) => {
-            if !makes_read(&state, device, bytes.as_slice()) {
-                return Ok(None);
+            if !makes_read(state, device, bytes.as_slice()) {
+                return Ok(false);
             }
-            let mut next = state;
-            drop_oldest(&mut next.devices, place);
-            Ok(Some(next))
+            drop_oldest(&mut state.devices, place);
+            Ok(true)
         }
         Outcome::Wrote(len) => {
-            if !makes_write(&state, device, *len) {
-                return Ok(None);
+            if !makes_write(state, device, *len) {
+                return Ok(false);
             }
-            let mut next = state;
-            write(alloc, &mut next, place)?;
-            Ok(Some(next))
+            write(alloc, state, place)?;
+            Ok(true)
         }
-        Outcome::NothingInFlight => {
-            if has_none_in_flight(device) {
-                Ok(Some(state))
-            } else {
-                Ok(None)
-            }
-        }
-        _ => Ok(None),
+        Outcome::NothingInFlight => Ok(has_none_in_flight(device)),
+        _ => Ok(false),
     }
 }
 
-/// The state after a commit, where it may come so.
+/// Whether a commit may come so; the state is then what it leaves.
 pub(crate) fn judge_commit(
     alloc: Global,
-    state: State,
+    state: &mut State,
     id: DeviceId,
     outcome: &Outcome,
-) -> Result<Option<State>, AllocError>
-    ensures { IfOk result (λ next. (new : State) → (next ≡ Some new) ↔ Commits state id outcome.now new) }
+) -> Result<bool, AllocError>
+    ensures { IfOk result (λ may. (new : State) → (left_by may state.new ≡ Some new) ↔ Commits state.old id outcome.now new) }
 {
     match place_of(state.devices.as_slice(), id) {
-        None => Ok(stays_if(answers_absent(outcome), state)),
+        None => Ok(answers_absent(outcome)),
         Some(place) => judge_make(alloc, state, place, outcome),
     }
 }

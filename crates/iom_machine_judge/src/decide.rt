@@ -2,7 +2,7 @@
 ghost use Rattle.std.specs.Prelude.{◌≡◌, ◌↔◌, ◌^◌, ◌≤◌, Some, IfOk, IfSome, length};
 ghost use Rattle.iom_machine.specs.declared.state.State.{State};
 ghost use Rattle.iom_machine.specs.Machine.{ChosenStep};
-ghost use Rattle.iom_machine_judge.specs.Deciding.{CallStep, RecoveryStep, BlockDeviceStep};
+ghost use Rattle.iom_machine_judge.specs.Deciding.{CallStep, RecoveryStep, BlockDeviceStep, left_by};
 ghost use Rattle.iom_machine_judge.specs.Verdicts.{IsVerdict, RunsAreChosen};
 
 use crate::accesses::{decide_through_cache, decide_translated, decide_untranslated};
@@ -19,16 +19,16 @@ use crate::recovery::{judge_quarantine, judge_reset, judge_restart, judge_revive
 use iom_machine::{Choice, Event, Outcome, State};
 use std::alloc::{AllocError, Global};
 
-/// The state after a call of the driver, where it may come so.
+/// Whether a call of the driver may come so; the state is then what it leaves.
 fn decide_call(
     alloc: Global,
-    state: State,
+    state: &mut State,
     event: &Event,
     outcome: &Outcome,
     choice: &Choice,
-) -> Result<Option<State>, AllocError>
-    requires { length state.frames ≤ 2 ^ 32 }
-    ensures { IfOk result (λ next. (new : State) → (next ≡ Some new) ↔ CallStep choice.now state event.now outcome.now new) }
+) -> Result<bool, AllocError>
+    requires { length state.old.frames ≤ 2 ^ 32 }
+    ensures { IfOk result (λ may. (new : State) → (left_by may state.new ≡ Some new) ↔ CallStep choice.now state.old event.now outcome.now new) }
 {
     let taken = choice.taken.as_slice();
     match event {
@@ -45,37 +45,33 @@ fn decide_call(
             rights,
         } => judge_grant(state, *device, *page, *frame, *rights, outcome, taken),
         Event::Release { device, page } => judge_release(state, *device, *page, outcome),
-        _ => Ok(None),
+        _ => Ok(false),
     }
 }
 
-/// The state after an event that has to do with a device that doesn't answer, where it may come so.
-fn decide_recovery(
-    state: State,
-    event: &Event,
-    outcome: &Outcome,
-) -> Result<Option<State>, AllocError>
-    ensures { IfOk result (λ next. (new : State) → (next ≡ Some new) ↔ RecoveryStep state event.now outcome.now new) }
+/// Whether an event may come so that has to do with a device that doesn't answer; the state is then what it leaves.
+fn decide_recovery(state: &mut State, event: &Event, outcome: &Outcome) -> Result<bool, AllocError>
+    ensures { IfOk result (λ may. (new : State) → (left_by may state.new ≡ Some new) ↔ RecoveryStep state.old event.now outcome.now new) }
 {
     match event {
         Event::Quarantine { device } => judge_quarantine(state, *device, outcome),
         Event::Revive { device } => Ok(judge_revive(state, *device, outcome)),
-        Event::Restart => Ok(judge_restart(state, outcome)),
-        Event::Timeout => Ok(judge_timeout(state, outcome)),
+        Event::Restart => Ok(judge_restart(outcome)),
+        Event::Timeout => Ok(judge_timeout(outcome)),
         Event::Reset { device } => Ok(judge_reset(state, *device, outcome)),
-        _ => Ok(None),
+        _ => Ok(false),
     }
 }
 
-/// The state after an event that only a block device takes, where it may come so.
+/// Whether an event may come so that only a block device takes; the state is then what it leaves.
 fn decide_block_device(
     alloc: Global,
-    state: State,
+    state: &mut State,
     event: &Event,
     outcome: &Outcome,
     choice: &Choice,
-) -> Result<Option<State>, AllocError>
-    ensures { IfOk result (λ next. (new : State) → (next ≡ Some new) ↔ BlockDeviceStep choice.now state event.now outcome.now new) }
+) -> Result<bool, AllocError>
+    ensures { IfOk result (λ may. (new : State) → (left_by may state.new ≡ Some new) ↔ BlockDeviceStep choice.now state.old event.now outcome.now new) }
 {
     match event {
         Event::Medium { device, disk } => judge_medium(alloc, state, *device, *disk, outcome),
@@ -96,20 +92,20 @@ fn decide_block_device(
         )),
         Event::Step { device } => judge_step(alloc, state, *device, outcome, choice),
         Event::Status { device } => Ok(judge_status(state, *device, outcome)),
-        _ => Ok(None),
+        _ => Ok(false),
     }
 }
 
-/// The state after the event, where it may come so.
+/// Whether the event may come so; the state is then what it leaves. Where it may not, it may be anything.
 fn decide(
     alloc: Global,
-    state: State,
+    state: &mut State,
     event: &Event,
     outcome: &Outcome,
     choice: &Choice,
-) -> Result<Option<State>, AllocError>
-    requires { length state.frames ≤ 2 ^ 32 }
-    ensures { IfOk result (λ next. (new : State) → (next ≡ Some new) ↔ ChosenStep choice.now state event.now outcome.now new) }
+) -> Result<bool, AllocError>
+    requires { length state.old.frames ≤ 2 ^ 32 }
+    ensures { IfOk result (λ may. (new : State) → (left_by may state.new ≡ Some new) ↔ ChosenStep choice.now state.old event.now outcome.now new) }
 {
     match event {
         Event::Plug { .. }
@@ -124,9 +120,9 @@ fn decide(
         | Event::Reset { .. } => decide_recovery(state, event, outcome),
         Event::Medium { .. } | Event::Queue { .. } | Event::Step { .. } | Event::Status { .. } =>
             decide_block_device(alloc, state, event, outcome, choice),
-        Event::Fetch => Ok(judge_fetch(state, outcome)),
+        Event::Fetch => Ok(judge_fetch(outcome)),
         Event::Poll => judge_poll(alloc, state, outcome),
-        Event::Faults => Ok(judge_faults(state, outcome)),
+        Event::Faults => Ok(judge_faults(outcome)),
         Event::Read { .. } | Event::Write { .. } => {
             decide_untranslated(alloc, state, event, outcome, choice.frame)
         }
@@ -139,8 +135,8 @@ fn decide(
         Event::Ask { device, .. } => Ok(judge_ask(state, *device, outcome)),
         Event::Forge { device, .. } => Ok(judge_forge(state, *device, outcome)),
         Event::Deliver { .. } => Ok(judge_deliver(state, outcome, choice)),
-        Event::Drop { .. } => Ok(judge_drop(state, outcome)),
-        Event::Repeat { .. } => Ok(judge_repeat(state, outcome)),
+        Event::Drop { .. } => Ok(judge_drop(outcome)),
+        Event::Repeat { .. } => Ok(judge_repeat(outcome)),
         Event::Commit { device } => judge_commit(alloc, state, *device, outcome),
         Event::Poke { address, bytes } => {
             judge_poke(alloc, state, *address, bytes.as_slice(), outcome)
@@ -165,7 +161,9 @@ pub fn judge(
     ensures decides { IfOk result (λ next. (new : State) → (next ≡ Some new) ↔ ChosenStep choice.now state event.now outcome.now new) }
     ensures same_size { IfOk result (λ next. IfSome next (λ new. length new.frames ≡ length state.frames)) }
 {
-    decide(alloc, state, event, outcome, choice)
+    let mut next = state;
+    let may = decide(alloc, &mut next, event, outcome, choice)?;
+    if may { Ok(Some(next)) } else { Ok(None) }
 }
 
 /// Whether the lines are a run from the state: the state that it leaves, or the first line, counted

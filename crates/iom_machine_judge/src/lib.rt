@@ -5,7 +5,8 @@
 //! what events of one sort ask, over the state itself: `calls.rt`, `recovery.rt`, `polls.rt` the driver's,
 //! `requests.rt`, `translated.rt`, `through_cache.rt` a device's accesses, `questions.rt` and `messages.rt` what
 //! address translation services add, `block_devices.rt`, `commits.rt` and `processor.rt` the rest. They look
-//! things up in `history.rt`, `pairs.rt`, `frames.rt`, `devices.rt` and `reasons.rt`.
+//! things up in `history.rt`, `pairs.rt`, `frames.rt`, `devices.rt` and `reasons.rt`. Each is lent the state, and answers
+//! whether the event may come so; the state is then what that leaves (`left_by`).
 //!
 //! It is no part of `iom_machine`, since the world and all that is above it stand on the definitions and never
 //! call the judge. Tests call it.

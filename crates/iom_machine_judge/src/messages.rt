@@ -5,52 +5,53 @@ ghost use Rattle.iom_machine.specs.Devices.{device_of};
 ghost use Rattle.iom_machine.specs.Questions.{MayTell};
 ghost use Rattle.iom_machine.specs.Messages.{Sends, Delivers, Drops, Repeats};
 ghost use Rattle.iom_machine.specs.Machine.{Asks, Forges};
+ghost use Rattle.iom_machine_judge.specs.Deciding.{left_by};
 
-use crate::absent::{answers_absent, answers_unable, stays_if};
+use crate::absent::{answers_absent, answers_unable};
 use crate::devices::device_with;
 use crate::questions::may_tell;
 use iom_base::DeviceId;
 use iom_fabric::Translation;
 use iom_machine::{Choice, Outcome, State};
 
-/// The state after a message is sent, or lost.
-fn judge_send(state: State, outcome: &Outcome) -> Option<State>
-    ensures { (new : State) → (result ≡ Some new) ↔ Sends state outcome.now new }
+/// Whether a message is sent, or lost, which leaves every state as it is.
+fn judge_send(outcome: &Outcome) -> bool
+    ensures { (old new : State) → (left_by result old ≡ Some new) ↔ Sends old outcome.now new }
 {
     match outcome {
-        Outcome::Sent => Some(state),
-        Outcome::Lost => Some(state),
-        _ => None,
+        Outcome::Sent => true,
+        Outcome::Lost => true,
+        _ => false,
     }
 }
 
-/// The state after a question, where this may come of it.
-pub(crate) fn judge_ask(state: State, id: DeviceId, outcome: &Outcome) -> Option<State>
-    ensures { (new : State) → (result ≡ Some new) ↔ Asks state id outcome.now new }
+/// Whether this may come of a question, which leaves the state as it is.
+pub(crate) fn judge_ask(state: &State, id: DeviceId, outcome: &Outcome) -> bool
+    ensures { (new : State) → (left_by result state.now ≡ Some new) ↔ Asks state.now id outcome.now new }
 {
     match device_with(state.devices.as_slice(), id) {
-        None => stays_if(answers_absent(outcome), state),
+        None => answers_absent(outcome),
         Some(device) => {
             if device.kind.asks_questions() {
-                judge_send(state, outcome)
+                judge_send(outcome)
             } else {
-                stays_if(answers_unable(outcome), state)
+                answers_unable(outcome)
             }
         }
     }
 }
 
-/// The state after a device says that an invalidation is done, where this may come of it.
-pub(crate) fn judge_forge(state: State, id: DeviceId, outcome: &Outcome) -> Option<State>
-    ensures { (new : State) → (result ≡ Some new) ↔ Forges state id outcome.now new }
+/// Whether this may come where a device says that an invalidation is done, which leaves the state as it is.
+pub(crate) fn judge_forge(state: &State, id: DeviceId, outcome: &Outcome) -> bool
+    ensures { (new : State) → (left_by result state.now ≡ Some new) ↔ Forges state.now id outcome.now new }
 {
     match device_with(state.devices.as_slice(), id) {
-        None => stays_if(answers_absent(outcome), state),
+        None => answers_absent(outcome),
         Some(device) => {
             if device.kind.forges() {
-                judge_send(state, outcome)
+                judge_send(outcome)
             } else {
-                stays_if(answers_unable(outcome), state)
+                answers_unable(outcome)
             }
         }
     }
@@ -66,46 +67,43 @@ fn is_told(state: &State, asker: DeviceId, page: u64, told: Translation) -> bool
     }
 }
 
-/// The state after a delivery, where this may come of it.
-pub(crate) fn judge_deliver(state: State, outcome: &Outcome, choice: &Choice) -> Option<State>
-    ensures { (new : State) → (result ≡ Some new) ↔ Delivers choice.now.device choice.now.page state outcome.now new }
+/// Whether this may come of a delivery, which leaves the state as it is.
+pub(crate) fn judge_deliver(state: &State, outcome: &Outcome, choice: &Choice) -> bool
+    ensures { (new : State) → (left_by result state.now ≡ Some new) ↔ Delivers choice.now.device choice.now.page state.now outcome.now new }
 {
     match outcome {
-        Outcome::Answered(told) => {
-            let may = is_told(&state, choice.device, choice.page, *told);
-            stays_if(may, state)
-        }
-        Outcome::Kept => Some(state),
-        Outcome::Stale => Some(state),
-        Outcome::AnswerRefused => Some(state),
-        Outcome::Ignored => Some(state),
-        Outcome::Invalidated(_) => Some(state),
-        Outcome::Closed(_) => Some(state),
-        Outcome::NotClosed(_) => Some(state),
-        Outcome::NoMessage => Some(state),
-        _ => None,
+        Outcome::Answered(told) => is_told(state, choice.device, choice.page, *told),
+        Outcome::Kept => true,
+        Outcome::Stale => true,
+        Outcome::AnswerRefused => true,
+        Outcome::Ignored => true,
+        Outcome::Invalidated(_) => true,
+        Outcome::Closed(_) => true,
+        Outcome::NotClosed(_) => true,
+        Outcome::NoMessage => true,
+        _ => false,
     }
 }
 
-/// The state after a message is dropped, where this may come of it.
-pub(crate) fn judge_drop(state: State, outcome: &Outcome) -> Option<State>
-    ensures { (new : State) → (result ≡ Some new) ↔ Drops state outcome.now new }
+/// Whether this may come where a message is dropped, which leaves every state as it is.
+pub(crate) fn judge_drop(outcome: &Outcome) -> bool
+    ensures { (old new : State) → (left_by result old ≡ Some new) ↔ Drops old outcome.now new }
 {
     match outcome {
-        Outcome::Dropped => Some(state),
-        Outcome::NoMessage => Some(state),
-        _ => None,
+        Outcome::Dropped => true,
+        Outcome::NoMessage => true,
+        _ => false,
     }
 }
 
-/// The state after a message is repeated, where this may come of it.
-pub(crate) fn judge_repeat(state: State, outcome: &Outcome) -> Option<State>
-    ensures { (new : State) → (result ≡ Some new) ↔ Repeats state outcome.now new }
+/// Whether this may come where a message is repeated, which leaves every state as it is.
+pub(crate) fn judge_repeat(outcome: &Outcome) -> bool
+    ensures { (old new : State) → (left_by result old ≡ Some new) ↔ Repeats old outcome.now new }
 {
     match outcome {
-        Outcome::Repeated => Some(state),
-        Outcome::Lost => Some(state),
-        Outcome::NoMessage => Some(state),
-        _ => None,
+        Outcome::Repeated => true,
+        Outcome::Lost => true,
+        Outcome::NoMessage => true,
+        _ => false,
     }
 }

@@ -5,6 +5,7 @@ ghost use Rattle.iom_machine.specs.Devices.{DeviceMay};
 ghost use Rattle.iom_ledger.specs.Confirmations.{confirmed_from};
 ghost use Rattle.iom_machine.specs.Tickets.{AreNextTickets};
 ghost use Rattle.iom_machine.specs.Machine.{Polls};
+ghost use Rattle.iom_machine_judge.specs.Deciding.{left_by};
 
 use crate::history::{last_ticket_confirmed, may};
 use crate::leaving::take_leave;
@@ -69,28 +70,27 @@ fn are_next_tickets(state: &State, first: u32, last: u32) -> bool
     last <= state.last_ticket
 }
 
-/// The state after a poll, where it may come so.
+/// Whether a poll may come so; the state is then what it leaves.
 pub(crate) fn judge_poll(
     alloc: Global,
-    state: State,
+    state: &mut State,
     outcome: &Outcome,
-) -> Result<Option<State>, AllocError>
-    ensures { IfOk result (λ next. (new : State) → (next ≡ Some new) ↔ Polls state outcome.now new) }
+) -> Result<bool, AllocError>
+    ensures { IfOk result (λ may. (new : State) → (left_by may state.new ≡ Some new) ↔ Polls state.old outcome.now new) }
 {
     match outcome {
         Outcome::Confirmed { first, last, .. } => {
-            if !are_next_tickets(&state, *first, *last) {
-                return Ok(None);
+            if !are_next_tickets(state, *first, *last) {
+                return Ok(false);
             }
-            let mut next = state;
-            confirm(&mut next.history, *first, *last)?;
-            if !all_may(next.history.as_slice(), next.devices.as_slice()) {
-                return Ok(None);
+            confirm(&mut state.history, *first, *last)?;
+            if !all_may(state.history.as_slice(), state.devices.as_slice()) {
+                return Ok(false);
             }
-            take_leave(alloc, &mut next)?;
-            Ok(Some(next))
+            take_leave(alloc, state)?;
+            Ok(true)
         }
-        Outcome::NoneConfirmed { .. } => Ok(Some(state)),
-        _ => Ok(None),
+        Outcome::NoneConfirmed { .. } => Ok(true),
+        _ => Ok(false),
     }
 }

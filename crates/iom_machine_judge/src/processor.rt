@@ -3,6 +3,7 @@ ghost use Rattle.std.specs.Prelude.{◌≡◌, ◌↔◌, IfOk, IsTrue, Some};
 ghost use Rattle.iom_base.specs.Spans.{FitsInPage};
 ghost use Rattle.iom_machine.specs.declared.state.State.{State};
 ghost use Rattle.iom_machine.specs.Machine.{Pokes, ShowsBytes, Peeks, TellsFree};
+ghost use Rattle.iom_machine_judge.specs.Deciding.{left_by};
 
 use crate::commits::{are_same, first_bytes, frame_bytes, later_bytes, store};
 use crate::frames::{has_owner, is_free};
@@ -17,42 +18,40 @@ fn is_within_page(address: u64, len: u64) -> bool
     Span::new(address, len).is_some()
 }
 
-/// The state after a poke, where it may come so.
+/// Whether a poke may come so; the state is then what it leaves.
 pub(crate) fn judge_poke(
     alloc: Global,
-    state: State,
+    state: &mut State,
     address: u64,
     bytes: &[u8],
     outcome: &Outcome,
-) -> Result<Option<State>, AllocError>
-    ensures { IfOk result (λ next. (new : State) → (next ≡ Some new) ↔ Pokes state address bytes.now outcome.now new) }
+) -> Result<bool, AllocError>
+    ensures { IfOk result (λ may. (new : State) → (left_by may state.new ≡ Some new) ↔ Pokes state.old address bytes.now outcome.now new) }
 {
     let fits = is_within_page(address, bytes.len() as u64);
-    let first = poke_refusal(&state, address / PAGE_SIZE);
+    let first = poke_refusal(state, address / PAGE_SIZE);
     match outcome {
-        Outcome::BadSpan => { if fits { Ok(None) } else { Ok(Some(state)) } }
+        Outcome::BadSpan => Ok(!fits),
         Outcome::Refused(why) => {
-            if fits && refuses(first, false, *why) {
-                Ok(Some(state))
-            } else {
-                Ok(None)
+            if !fits {
+                return Ok(false);
             }
+            Ok(refuses(first, false, *why))
         }
         Outcome::Done => {
             if !fits || first.is_some() {
-                return Ok(None);
+                return Ok(false);
             }
-            let mut next = state;
             store(
                 alloc,
-                &mut next.frames,
+                &mut state.frames,
                 address / PAGE_SIZE,
                 address % PAGE_SIZE,
                 bytes,
             )?;
-            Ok(Some(next))
+            Ok(true)
         }
-        _ => Ok(None),
+        _ => Ok(false),
     }
 }
 
@@ -71,52 +70,43 @@ fn shows(state: &State, address: u64, len: u64, bytes: &[u8]) -> bool
     are_same(bytes, named)
 }
 
-/// The state after a peek, where it may come so.
-pub(crate) fn judge_peek(state: State, address: u64, len: u64, outcome: &Outcome) -> Option<State>
-    ensures { (new : State) → (result ≡ Some new) ↔ Peeks state address len outcome.now new }
+/// Whether a peek may come so, which leaves the state as it is.
+pub(crate) fn judge_peek(state: &State, address: u64, len: u64, outcome: &Outcome) -> bool
+    ensures { (new : State) → (left_by result state.now ≡ Some new) ↔ Peeks state.now address len outcome.now new }
 {
     let fits = is_within_page(address, len);
-    let first = frame_refusal(&state, address / PAGE_SIZE);
+    let first = frame_refusal(state, address / PAGE_SIZE);
     match outcome {
-        Outcome::BadSpan => { if fits { None } else { Some(state) } }
+        Outcome::BadSpan => !fits,
         Outcome::Refused(why) => {
-            if fits && refuses(first, false, *why) {
-                Some(state)
-            } else {
-                None
+            if !fits {
+                return false;
             }
+            refuses(first, false, *why)
         }
         Outcome::Bytes(bytes) => {
-            if !fits || first.is_some() || !shows(&state, address, len, bytes.as_slice()) {
-                None
-            } else {
-                Some(state)
+            if !fits || first.is_some() {
+                return false;
             }
+            shows(state, address, len, bytes.as_slice())
         }
-        _ => None,
+        _ => false,
     }
 }
 
-/// The state after the question whether the frame is free, where it may be answered so.
-pub(crate) fn judge_free(state: State, frame: u64, outcome: &Outcome) -> Option<State>
-    ensures { (new : State) → (result ≡ Some new) ↔ TellsFree state frame outcome.now new }
+/// Whether the question whether the frame is free may be answered so, which leaves the state as it is.
+pub(crate) fn judge_free(state: &State, frame: u64, outcome: &Outcome) -> bool
+    ensures { (new : State) → (left_by result state.now ≡ Some new) ↔ TellsFree state.now frame outcome.now new }
 {
-    let first = frame_refusal(&state, frame);
+    let first = frame_refusal(state, frame);
     match outcome {
-        Outcome::Refused(why) => {
-            if refuses(first, false, *why) {
-                Some(state)
-            } else {
-                None
-            }
-        }
+        Outcome::Refused(why) => refuses(first, false, *why),
         Outcome::Free(told) => {
-            if first.is_some() || *told != is_free(&state, frame) {
-                None
-            } else {
-                Some(state)
+            if first.is_some() || *told != is_free(state, frame) {
+                return false;
             }
+            true
         }
-        _ => None,
+        _ => false,
     }
 }

@@ -4,8 +4,9 @@ ghost use Rattle.iom_machine.specs.declared.outcome.Outcome.TheVariants.{Done};
 ghost use Rattle.iom_machine.specs.declared.state.State.{State};
 ghost use Rattle.iom_machine.specs.Refusals.{MayRefuseRestart};
 ghost use Rattle.iom_machine.specs.Machine.{Quarantines, Revives, Restarts, TimesOut, Resets};
+ghost use Rattle.iom_machine_judge.specs.Deciding.{left_by};
 
-use crate::absent::{answers_absent, stays_if};
+use crate::absent::answers_absent;
 use crate::calls::may_find_no_place;
 use crate::devices::{attach_again, cut_off, device_with, place_of};
 use crate::reasons::{quarantine_refusal, refuses, revive_refusal};
@@ -14,72 +15,58 @@ use iom_ledger::{HistoryEntry, Refusal};
 use iom_machine::{Outcome, State};
 use std::alloc::AllocError;
 
-/// The state after a quarantine, where it may come so.
+/// Whether a quarantine may come so; the state is then what it leaves.
 pub(crate) fn judge_quarantine(
-    state: State,
+    state: &mut State,
     id: DeviceId,
     outcome: &Outcome,
-) -> Result<Option<State>, AllocError>
-    ensures { IfOk result (λ next. (new : State) → (next ≡ Some new) ↔ Quarantines state id outcome.now new) }
+) -> Result<bool, AllocError>
+    ensures { IfOk result (λ may. (new : State) → (left_by may state.new ≡ Some new) ↔ Quarantines state.old id outcome.now new) }
 {
-    let first = quarantine_refusal(&state, id);
+    let first = quarantine_refusal(state, id);
     match outcome {
         Outcome::Ticket(ticket) => {
             if first.is_some() || u64::from(*ticket) != u64::from(state.last_ticket) + 1 {
-                return Ok(None);
+                return Ok(false);
             }
             match place_of(state.devices.as_slice(), id) {
-                None => Ok(None),
+                None => Ok(false),
                 Some(place) => {
-                    let mut next = state;
-                    next.history.push_front(HistoryEntry::AllReleased {
+                    state.history.push_front(HistoryEntry::AllReleased {
                         device: id,
                         ticket: *ticket,
                     })?;
-                    cut_off(&mut next.devices, place, *ticket);
-                    next.last_ticket = *ticket;
-                    Ok(Some(next))
+                    cut_off(&mut state.devices, place, *ticket);
+                    state.last_ticket = *ticket;
+                    Ok(true)
                 }
             }
         }
-        Outcome::Refused(why) => {
-            if refuses(first, may_find_no_place(*why), *why) {
-                Ok(Some(state))
-            } else {
-                Ok(None)
-            }
-        }
-        _ => Ok(None),
+        Outcome::Refused(why) => Ok(refuses(first, may_find_no_place(*why), *why)),
+        _ => Ok(false),
     }
 }
 
-/// The state after a revival, where it may come so.
-pub(crate) fn judge_revive(state: State, id: DeviceId, outcome: &Outcome) -> Option<State>
-    ensures { (new : State) → (result ≡ Some new) ↔ Revives state id outcome.now new }
+/// Whether a revival may come so; the state is then what it leaves.
+pub(crate) fn judge_revive(state: &mut State, id: DeviceId, outcome: &Outcome) -> bool
+    ensures { (new : State) → (left_by result state.new ≡ Some new) ↔ Revives state.old id outcome.now new }
 {
-    let first = revive_refusal(&state, id);
+    let first = revive_refusal(state, id);
     match outcome {
         Outcome::Done => {
             if first.is_some() {
-                return None;
+                return false;
             }
             match place_of(state.devices.as_slice(), id) {
-                None => None,
+                None => false,
                 Some(place) => {
-                    let mut next = state;
-                    attach_again(&mut next.devices, place);
-                    Some(next)
+                    attach_again(&mut state.devices, place);
+                    true
                 }
             }
         }
-        Outcome::Refused(why) => {
-            if refuses(first, false, *why) {
-                Some(state)
-            } else {
-                None
-            }
-        }
-        _ => None,
+        Outcome::Refused(why) => refuses(first, false, *why),
+        _ => false,
     }
 }
 
@@ -89,31 +76,25 @@ fn may_refuse_restart(why: Refusal) -> bool
     matches!(why, Refusal::NumbersUsedUp)
 }
 
-/// The state after a restart, where it may come so.
-pub(crate) fn judge_restart(state: State, outcome: &Outcome) -> Option<State>
-    ensures { (new : State) → (result ≡ Some new) ↔ Restarts state outcome.now new }
+/// Whether a restart may come so, which leaves every state as it is.
+pub(crate) fn judge_restart(outcome: &Outcome) -> bool
+    ensures { (old new : State) → (left_by result old ≡ Some new) ↔ Restarts old outcome.now new }
 {
     match outcome {
-        Outcome::Done => Some(state),
-        Outcome::Refused(why) => {
-            if may_refuse_restart(*why) {
-                Some(state)
-            } else {
-                None
-            }
-        }
-        _ => None,
+        Outcome::Done => true,
+        Outcome::Refused(why) => may_refuse_restart(*why),
+        _ => false,
     }
 }
 
-/// The state after a timeout, where it may come so.
-pub(crate) fn judge_timeout(state: State, outcome: &Outcome) -> Option<State>
-    ensures { (new : State) → (result ≡ Some new) ↔ TimesOut state outcome.now new }
+/// Whether a timeout may come so, which leaves every state as it is.
+pub(crate) fn judge_timeout(outcome: &Outcome) -> bool
+    ensures { (old new : State) → (left_by result old ≡ Some new) ↔ TimesOut old outcome.now new }
 {
     match outcome {
-        Outcome::TimedOut => Some(state),
-        Outcome::NoEffect => Some(state),
-        _ => None,
+        Outcome::TimedOut => true,
+        Outcome::NoEffect => true,
+        _ => false,
     }
 }
 
@@ -124,12 +105,12 @@ fn is_done(outcome: &Outcome) -> bool
     matches!(outcome, Outcome::Done)
 }
 
-/// The state after a device is reset, where it may come so.
-pub(crate) fn judge_reset(state: State, id: DeviceId, outcome: &Outcome) -> Option<State>
-    ensures { (new : State) → (result ≡ Some new) ↔ Resets state id outcome.now new }
+/// Whether a reset of a device may come so, which leaves the state as it is.
+pub(crate) fn judge_reset(state: &State, id: DeviceId, outcome: &Outcome) -> bool
+    ensures { (new : State) → (left_by result state.now ≡ Some new) ↔ Resets state.now id outcome.now new }
 {
     match device_with(state.devices.as_slice(), id) {
-        None => stays_if(answers_absent(outcome), state),
-        Some(_device) => stays_if(is_done(outcome), state),
+        None => answers_absent(outcome),
+        Some(_device) => is_done(outcome),
     }
 }

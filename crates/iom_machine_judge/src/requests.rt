@@ -1,5 +1,5 @@
 // What a device's request may be answered.
-ghost use Rattle.std.specs.Prelude.{◌≡◌, ◌↔◌, ◌+◌, ◌<◌, IfOk, IsTrue, Some, slice_get, length};
+ghost use Rattle.std.specs.Prelude.{◌≡◌, ◌↔◌, ◌+◌, ◌<◌, IfOk, OnOk, IsTrue, Some, slice_get, length};
 ghost use Rattle.iom_machine.specs.declared.state.Device.{Device};
 ghost use Rattle.iom_machine.specs.declared.state.State.{State};
 ghost use Rattle.iom_base.specs.Accesses.{IsWithinPage};
@@ -7,8 +7,9 @@ ghost use Rattle.iom_machine.specs.Requests.{IsBusy, IsForwarded, HoldsFor, Hold
 ghost use Rattle.iom_machine.specs.Requests.{MayFault, MayAcceptInOneStage, MayAnswer, state_after};
 ghost use Rattle.iom_machine.specs.Machine.{Requests};
 ghost use Rattle.iom_machine.specs.Judging.{StandsAt};
+ghost use Rattle.iom_machine_judge.specs.Deciding.{left_by};
 
-use crate::absent::{answers_absent, answers_unable, stays_if};
+use crate::absent::{answers_absent, answers_unable};
 use crate::cut_off::{accepts_cut_off, cause_without_context, faults_cut_off, is_page_fault_of};
 use crate::devices::{accept, place_of};
 use crate::history::{is_held_for, lingers_in, may, pair_held};
@@ -230,45 +231,44 @@ pub(crate) fn may_answer(
     }
 }
 
-/// The state after the answer.
+/// The answer makes the state this.
 pub(crate) fn after_answer(
-    state: State,
+    state: &mut State,
     place: usize,
     access: Access,
     frame: u32,
     outcome: &Outcome,
-) -> Result<State, AllocError>
-    requires { place < length state.devices }
-    ensures { IfOk result (λ new. (device : Device) → StandsAt state.devices device.id place → slice_get state.devices place ≡ Some device
-        → MayAnswer state device access frame outcome.now → new ≡ state_after state device access frame outcome.now) }
+) -> Result<(), AllocError>
+    requires { place < length state.old.devices }
+    ensures { OnOk result ((device : Device) → StandsAt state.old.devices device.id place → slice_get state.old.devices place ≡ Some device
+        → MayAnswer state.old device access frame outcome.now → state.new ≡ state_after state.old device access frame outcome.now) }
 {
-    let mut next = state;
     if let Outcome::Accepted(number) = outcome {
-        accept(&mut next.devices, place, *number, access, frame)?;
+        accept(&mut state.devices, place, *number, access, frame)?;
     }
-    Ok(next)
+    Ok(())
 }
 
-/// The state after a request, where it may be answered so, on this frame.
+/// Whether a request may be answered so, on this frame; the state is then what it leaves.
 pub(crate) fn judge_request(
-    state: State,
+    state: &mut State,
     id: DeviceId,
     access: Access,
     outcome: &Outcome,
     frame: u32,
-) -> Result<Option<State>, AllocError>
-    ensures { IfOk result (λ next. (new : State) → (next ≡ Some new) ↔ Requests frame state id access outcome.now new) }
+) -> Result<bool, AllocError>
+    ensures { IfOk result (λ may. (new : State) → (left_by may state.new ≡ Some new) ↔ Requests frame state.old id access outcome.now new) }
 {
     let Some(place) = place_of(state.devices.as_slice(), id) else {
-        return Ok(stays_if(answers_absent(outcome), state));
+        return Ok(answers_absent(outcome));
     };
     let device = &state.devices.as_slice()[place];
     if !device.kind.sends_untranslated() {
-        return Ok(stays_if(answers_unable(outcome), state));
+        return Ok(answers_unable(outcome));
     }
-    if !may_answer(&state, device, &access, frame, outcome) {
-        return Ok(None);
+    if !may_answer(state, device, &access, frame, outcome) {
+        return Ok(false);
     }
-    let next = after_answer(state, place, access, frame, outcome)?;
-    Ok(Some(next))
+    after_answer(state, place, access, frame, outcome)?;
+    Ok(true)
 }

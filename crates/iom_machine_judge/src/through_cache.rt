@@ -1,5 +1,5 @@
 // What may come of an access through the device's own cache of translations.
-ghost use Rattle.std.specs.Prelude.{◌≡◌, ◌↔◌, ◌+◌, ◌<◌, IfOk, IsTrue, Some, slice_get, length};
+ghost use Rattle.std.specs.Prelude.{◌≡◌, ◌↔◌, ◌+◌, ◌<◌, IfOk, OnOk, IsTrue, Some, slice_get, length};
 ghost use Rattle.iom_machine.specs.declared.state.Device.{Device};
 ghost use Rattle.iom_machine.specs.declared.state.State.{State};
 ghost use Rattle.iom_machine.specs.Requests.{IsForwarded};
@@ -7,8 +7,9 @@ ghost use Rattle.iom_machine.specs.Translated.{MayFindNoContext};
 ghost use Rattle.iom_machine.specs.ThroughCache.{at_frame, MayHaveCached, MayGoThrough, MayAnswerThroughCache, state_after_cached};
 ghost use Rattle.iom_machine.specs.Machine.{RequestsThroughCache};
 ghost use Rattle.iom_machine.specs.Judging.{StandsAt};
+ghost use Rattle.iom_machine_judge.specs.Deciding.{left_by};
 
-use crate::absent::{answers_absent, answers_unable, stays_if};
+use crate::absent::{answers_absent, answers_unable};
 use crate::cut_off::accepts_cut_off;
 use crate::devices::{accept, place_of};
 use crate::history::may;
@@ -110,46 +111,45 @@ pub(crate) fn may_answer(
     }
 }
 
-/// The state after it.
+/// It makes the state this.
 pub(crate) fn after_answer(
-    state: State,
+    state: &mut State,
     place: usize,
     access: Access,
     frame: u32,
     outcome: &Outcome,
-) -> Result<State, AllocError>
-    requires { place < length state.devices }
-    ensures { IfOk result (λ new. (device : Device) → StandsAt state.devices device.id place → slice_get state.devices place ≡ Some device
-        → MayAnswerThroughCache state device access frame outcome.now → new ≡ state_after_cached state device access frame outcome.now) }
+) -> Result<(), AllocError>
+    requires { place < length state.old.devices }
+    ensures { OnOk result ((device : Device) → StandsAt state.old.devices device.id place → slice_get state.old.devices place ≡ Some device
+        → MayAnswerThroughCache state.old device access frame outcome.now → state.new ≡ state_after_cached state.old device access frame outcome.now) }
 {
-    let mut next = state;
     if let Outcome::Accepted(number) = outcome {
         let sent = at_frame(access, frame);
-        accept(&mut next.devices, place, *number, sent, frame)?;
+        accept(&mut state.devices, place, *number, sent, frame)?;
     }
-    Ok(next)
+    Ok(())
 }
 
-/// The state after an access through the device's own cache, where this may come of it, on this frame.
+/// Whether this may come of an access through the device's own cache, on this frame; the state is then what it leaves.
 pub(crate) fn judge_through_cache(
-    state: State,
+    state: &mut State,
     id: DeviceId,
     access: Access,
     outcome: &Outcome,
     frame: u32,
-) -> Result<Option<State>, AllocError>
-    ensures { IfOk result (λ next. (new : State) → (next ≡ Some new) ↔ RequestsThroughCache frame state id access outcome.now new) }
+) -> Result<bool, AllocError>
+    ensures { IfOk result (λ may. (new : State) → (left_by may state.new ≡ Some new) ↔ RequestsThroughCache frame state.old id access outcome.now new) }
 {
     let Some(place) = place_of(state.devices.as_slice(), id) else {
-        return Ok(stays_if(answers_absent(outcome), state));
+        return Ok(answers_absent(outcome));
     };
     let device = &state.devices.as_slice()[place];
     if !device.kind.sends_through_cache() {
-        return Ok(stays_if(answers_unable(outcome), state));
+        return Ok(answers_unable(outcome));
     }
-    if !may_answer(&state, device, &access, frame, outcome) {
-        return Ok(None);
+    if !may_answer(state, device, &access, frame, outcome) {
+        return Ok(false);
     }
-    let next = after_answer(state, place, access, frame, outcome)?;
-    Ok(Some(next))
+    after_answer(state, place, access, frame, outcome)?;
+    Ok(true)
 }

@@ -5,8 +5,9 @@ ghost use Rattle.iom_base.specs.Accesses.{IsWithinPage};
 ghost use Rattle.iom_machine.specs.Requests.{IsForwarded};
 ghost use Rattle.iom_machine.specs.Translated.{MayLackContext, MayFindNoContext, MayFaultTranslated, MayAnswerTranslated};
 ghost use Rattle.iom_machine.specs.Machine.{RequestsTranslated};
+ghost use Rattle.iom_machine_judge.specs.Deciding.{left_by};
 
-use crate::absent::{answers_absent, answers_unable, stays_if};
+use crate::absent::{answers_absent, answers_unable};
 use crate::cut_off::cause_without_context;
 use crate::devices::device_with;
 use crate::requests::{answers_busy, is_forwarded, is_same_cause, is_within_page};
@@ -65,23 +66,22 @@ fn may_answer(state: &State, device: &Device, access: &Access, outcome: &Outcome
     }
 }
 
-/// The state after such a request, where it may be answered so.
+/// Whether such a request may be answered so, which leaves the state as it is.
 pub(crate) fn judge_translated(
-    state: State,
+    state: &State,
     id: DeviceId,
     access: &Access,
     outcome: &Outcome,
-) -> Option<State>
-    ensures { (new : State) → (result ≡ Some new) ↔ RequestsTranslated state id access.now outcome.now new }
+) -> bool
+    ensures { (new : State) → (left_by result state.now ≡ Some new) ↔ RequestsTranslated state.now id access.now outcome.now new }
 {
     match device_with(state.devices.as_slice(), id) {
-        None => stays_if(answers_absent(outcome), state),
+        None => answers_absent(outcome),
         Some(device) => {
             if !device.kind.forges() {
-                return stays_if(answers_unable(outcome), state);
+                return answers_unable(outcome);
             }
-            let may = may_answer(&state, device, access, outcome);
-            stays_if(may, state)
+            may_answer(state, device, access, outcome)
         }
     }
 }

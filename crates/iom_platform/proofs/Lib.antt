@@ -10,3 +10,4 @@ pub mod PlugLemmas
 pub mod StartLemmas
 pub mod RunLemmas
 pub mod NeverRefused
+pub mod BlockLemmas

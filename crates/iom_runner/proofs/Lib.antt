@@ -1,7 +1,6 @@
-pub mod WritingLemmas
 pub mod ReadingLemmas
 pub mod CountedLemmas
 pub mod AnswerLemmas
 pub mod RunLemmas
 pub mod TextLemmas
-pub mod CommandLineLemmas
+pub mod SinkLemmas

@@ -18,12 +18,13 @@ use Rattle.iom_platform.specs.Seen.{Seen}
 use Rattle.iom_platform.proofs.RunLemmas.{are_outcomes}
 use Rattle.iom_script.specs.declared.script.WorldSize.{WorldSize}
 use Rattle.iom_world.specs.declared.world.World.{World}
-use Rattle.iom_runner.specs.declared.writing.LineWriter.{LineWriter}
+use Rattle.iom_line_writer.specs.declared.writing.LineWriter.{LineWriter}
 use Rattle.iom_runner.specs.Text.{Setting, power_on, run_text, AreThere, AreTraces, TellsRun, TellsPlatform, WritesRun, BeginsRun, BeginsRunSoFar}
-use Rattle.iom_runner.specs.Told.{told_line, told_lines}
-use Rattle.iom_runner.specs.Writing.{AppendsFront, AppendsPart, KeepsWriter, wants_counts, TakesText, TakesLine, FailsWriting}
+use Rattle.iom_line_writer.specs.Told.{told_line, told_lines}
+use Rattle.iom_line_writer.specs.Writing.{AppendsFront, AppendsPart, KeepsWriter, wants_counts, TakesText, TakesLine, FailsWriting}
 use Rattle.iom_runner.proofs.AnswerLemmas.{CountedRun, goes_on}
-use Rattle.iom_runner.proofs.WritingLemmas.{front-longer, part-front, part-longer, takes-more, takes-lines, counts-there, as-many, lines-append, fails-later, all_written, part_written, part_failed}
+use Rattle.iom_line_writer.proofs.WritingLemmas.{front-longer, part-front, part-longer, takes-more, lines-append, fails-later, all_written, part_written, part_failed}
+use Rattle.iom_runner.proofs.SinkLemmas.{takes-lines, counts-there, as-many}
 
 -- power-on is reached, by no events
 power_on_is_reached : (setting : Setting) (size : WorldSize) → IsReached (power_on setting size)

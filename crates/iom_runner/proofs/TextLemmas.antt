@@ -7,8 +7,8 @@ use Rattle.iom_script.specs.declared.script.Script.{Script}
 use Rattle.iom_script.specs.declared.script.WorldSize.{WorldSize}
 use Rattle.iom_script.specs.Grammar.{IsScript, IsFirstBadLine}
 use Rattle.iom_script.proofs.LimitLemmas.{front_script, front_fault}
-use Rattle.iom_runner.specs.declared.faults.ArgsFault.{ArgsFault}
-use Rattle.iom_runner.specs.declared.faults.ArgsFault.TheVariants as args_faults
+use Rattle.iom_command_line.specs.declared.fault.ArgsFault.{ArgsFault}
+use Rattle.iom_command_line.specs.declared.fault.ArgsFault.TheVariants as args_faults
 use Rattle.iom_runner.specs.declared.faults.ProgramFault.{ProgramFault}
 use Rattle.iom_runner.specs.declared.faults.ProgramFault.TheVariants as programs
 use Rattle.iom_runner.specs.declared.faults.RunFault.{RunFault}
@@ -18,7 +18,7 @@ use Rattle.iom_runner.specs.Disks.{program_setting}
 use Rattle.iom_runner.specs.Reading.{IsReadFault}
 use Rattle.iom_runner.specs.Runs.{TellsScript, RunsBytes, RunsProgram, AreLeft}
 use Rattle.iom_runner.specs.Text.{Setting, TellsRun, TellsPlatform, TellsSoFar, IsTextOf, WritesText, WritesLines, WritesRun, BeginsRun, BeginsRunSoFar}
-use Rattle.iom_runner.specs.Writing.{AppendsFront, AppendsPart}
+use Rattle.iom_line_writer.specs.Writing.{AppendsFront, AppendsPart}
 use Rattle.iom_runner.proofs.RunLemmas.{machine_run}
 
 -- what tells a run from power-on tells a script with a world of that size

@@ -1,9 +1,6 @@
 pub mod Reading
 pub mod Statuses
-pub mod Told
-pub mod Writing
 pub mod Text
 pub mod Bytes
-pub mod CommandLine
 pub mod Runs
 pub mod Disks

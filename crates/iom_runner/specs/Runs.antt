@@ -3,7 +3,7 @@ use Rattle.std.specs.Prelude.{◌≡◌, ◌≢◌, ℕ, List, Option, None, Res
 use Rattle.std.specs.Io.KnownBytes.{Keeps}
 use Rattle.iom_script.specs.declared.script.Script.{Script}
 use Rattle.iom_script.specs.Grammar.{IsScript, IsFirstBadLine}
-use Rattle.iom_runner.specs.declared.faults.ArgsFault.TheVariants as args_faults
+use Rattle.iom_command_line.specs.declared.fault.ArgsFault.TheVariants as args_faults
 use Rattle.iom_runner.specs.declared.faults.RunFault.{RunFault}
 use Rattle.iom_runner.specs.declared.faults.RunFault.TheVariants.{Reading, Writing, Memory, Script as BadLine}
 use Rattle.iom_runner.specs.declared.faults.ProgramFault.{ProgramFault}

@@ -1,6 +1,6 @@
 -- The statuses that the program ends with, where it doesn't end well.
 use Rattle.std.specs.Prelude.{ℕ}
-use Rattle.iom_runner.specs.declared.faults.ArgsFault.TheVariants as args_faults
+use Rattle.iom_command_line.specs.declared.fault.ArgsFault.TheVariants as args_faults
 use Rattle.iom_runner.specs.declared.faults.RunFault.TheVariants as run_faults
 use Rattle.iom_runner.specs.declared.faults.ProgramFault.{ProgramFault}
 use Rattle.iom_runner.specs.declared.faults.ProgramFault.TheVariants.{Args, Run}

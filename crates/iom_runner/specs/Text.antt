@@ -16,8 +16,8 @@ use Rattle.iom_platform.specs.Seen.{Seen}
 use Rattle.iom_script.specs.declared.script.Script.{Script}
 use Rattle.iom_script.specs.declared.script.WorldSize.{WorldSize}
 use Rattle.iom_virtio_blk.specs.Disks.{DiskState}
-use Rattle.iom_runner.specs.Told.{told_line, told_lines}
-use Rattle.iom_runner.specs.Writing.{AppendsFront, AppendsPart}
+use Rattle.iom_line_writer.specs.Told.{told_line, told_lines}
+use Rattle.iom_line_writer.specs.Writing.{AppendsFront, AppendsPart}
 
 -- what scripts are run with: the disks that are at hand, whose numbers are their places from 0, and whether the counts stand behind each line
 pub record Setting : Type 0 where

@@ -3,6 +3,7 @@ ghost use Rattle.std.specs.Prelude.{◌≡◌};
 ghost use Rattle.iom_runner.specs.Bytes.{run_fault_of};
 ghost use Rattle.iom_runner.specs.Statuses.{status_of};
 
+use iom_command_line::ArgsFault;
 use iom_script::ScriptFault;
 use thiserror::Error;
 
@@ -31,16 +32,6 @@ impl From<ScriptFault> for RunFault {
             ScriptFault::Memory => RunFault::Memory,
         }
     }
-}
-
-/// Why a command line can't be read.
-#[derive(Debug, Drop, Error)]
-pub enum ArgsFault {
-    /// It isn't one of the lawful ones.
-    #[error("bad command line")]
-    Bad,
-    #[error("out of memory")]
-    Memory,
 }
 
 /// Why the program doesn't end well.

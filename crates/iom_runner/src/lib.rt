@@ -12,16 +12,13 @@
 //! fault its exit status.
 #![tactic(auto)]
 
-mod arguments;
 mod disks;
 mod faults;
 mod program;
 mod reading;
 mod runner;
-mod writing;
 
-pub use arguments::{Args, read_words};
 pub use disks::program_disks;
-pub use faults::{ArgsFault, ProgramFault, RunFault};
+pub use faults::{ProgramFault, RunFault};
 pub use program::{run_words, start};
 pub use runner::run;

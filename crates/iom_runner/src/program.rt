@@ -1,33 +1,18 @@
 // The program `iommu-run`, from its command line to its exit status.
 ghost use Rattle.std.specs.Prelude.{◌≡◌, ◌≢◌, ℕ, List, true, map, Err, None};
 ghost use Rattle.std.specs.Io.KnownBytes.{Keeps};
-ghost use Rattle.iom_runner.specs.CommandLine.{is_command_line, wants_trace, named_file};
+ghost use Rattle.iom_command_line.specs.CommandLine.{is_command_line, wants_trace, named_file};
 ghost use Rattle.iom_runner.specs.Disks.{program_setting};
 ghost use Rattle.iom_runner.specs.Reading.{ConsumesAtMost};
 ghost use Rattle.iom_runner.specs.Runs.{RunsProgram, AreLeft};
 
-use crate::arguments::read_words;
 use crate::disks::run_with_disks;
-use crate::faults::{ArgsFault, ProgramFault, RunFault};
+use crate::faults::{ProgramFault, RunFault};
+use iom_command_line::{ArgsFault, read_words, words_of};
 use std::alloc::Global;
-use std::env;
 use std::fs::{self, Files};
-use std::io::{ErrorKind, Read, Write};
+use std::io::{Read, Write};
 use std::process::ExitCode;
-
-/// The words of the command line, after the program's name. One that isn't text is a bad one.
-fn words_of(rt: &HostRuntime) -> Result<Vec<String>, ArgsFault> {
-    let args = match env::args(rt) {
-        Ok(args) => args,
-        Err(error) if error.kind() == ErrorKind::OutOfMemory => return Err(ArgsFault::Memory),
-        Err(_) => return Err(ArgsFault::Bad),
-    };
-    let mut words = Vec::new(rt.alloc());
-    for word in args.skip(1) {
-        words.push(word).map_err(|_| ArgsFault::Memory)?;
-    }
-    Ok(words)
-}
 
 /// Runs the script in the file that the words name, or the one on the input where they name none, with the
 /// program's disks, and writes its lines to the output, with the counts where the words ask for these. A file

@@ -9,11 +9,11 @@ ghost use Rattle.iom_runner.specs.Disks.{setting_of};
 ghost use Rattle.iom_runner.specs.Reading.{ConsumesAtMost};
 ghost use Rattle.iom_runner.specs.Runs.{TellsScript, RunsBytes, AreLeft};
 ghost use Rattle.iom_runner.specs.Text.{Setting, WritesRun, BeginsRun, BeginsRunSoFar};
-ghost use Rattle.iom_runner.specs.Writing.{KeepsWriter};
+ghost use Rattle.iom_line_writer.specs.Writing.{KeepsWriter};
 
 use crate::faults::RunFault;
 use crate::reading::read_script;
-use crate::writing::{LineWriter, WriteFault};
+use iom_line_writer::{LineWriter, WriteFault};
 use iom_machine::{Event, Outcome, Sink};
 use iom_platform::Platform;
 use iom_script::{LineBuffer, Script, WorldSize, parse};

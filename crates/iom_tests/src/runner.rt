@@ -1,7 +1,8 @@
 ghost use Rattle.std.specs.Prelude.{Some};
 
 use crate::expect::expect;
-use iom_runner::{ArgsFault, ProgramFault, RunFault, read_words, run, run_words};
+use iom_command_line::{ArgsFault, read_words};
+use iom_runner::{ProgramFault, RunFault, run, run_words};
 use iom_virtio_blk::MemoryDisk;
 use std::alloc::Global;
 use std::io::{self, ErrorKind, Read, Write};

@@ -1,14 +1,20 @@
 use Rattle.std.proofs.Common.{◌∙◌, ◌≡◌, ◌+◌, sym, arith}
 use Rattle.iom_machine.proofs.CallLemmas.{none_if_not_some, detached_as}
 use Rattle.iom_machine.proofs.HeadlineLemmas.{element_at}
+use Rattle.iom_machine.specs.Refusals.{detach_reasons, MayFindNoPlace}
+use Rattle.iom_machine_judge.proofs.LeftLemmas.{refused_by}
 use Rattle.iom_machine_judge.proofs.calls.judge_detach.Goals as goal
 
 pub returns-in-Some : goal.returns-in-Some
 returns-in-Some c =
     let place = rw c.as_slice.ensures at c.in-Some.ensures in
-    let found = element_at c.args.state.devices c.in-Some.place place.0 in
-    let next_one : c.in-Ticket.ticket ≡ c.args.state.last_ticket + 1 = omega (arith, c.from.ensures, c.from-else-is_some.ensures, c.if-from.false) in
+    let found = element_at c.args.state.now.devices c.in-Some.place place.0 in
+    let next_one : c.in-Ticket.ticket ≡ c.args.state.now.last_ticket + 1 = omega (arith, c.from.ensures, c.from-else-is_some.ensures, c.if-from.false) in
     rw c.in-Ticket.is
-    (detached_as c.in-Ticket.ticket c.args.state c.args.id c.in-Some.place found.0 _
+    (detached_as c.in-Ticket.ticket c.args.state.now c.args.id c.in-Some.place found.0 _
     (sym c.detach_refusal-first.ensures ∙ none_if_not_some _ (sym c.is_some.ensures ∙ c.if-is_some.false))
     next_one place found.1 (c.start_leaving.ensures found.0 found.1))
+
+pub returns-in-Refused : goal.returns-in-Refused
+returns-in-Refused c = rw c.in-Refused.is
+    (refused_by c.detach_refusal-first.result (detach_reasons c.args.state.now c.args.id) c.may_find_no_place.result c.refuses.result MayFindNoPlace c.in-Refused.why c.args.state.now c.detach_refusal-first.ensures c.may_find_no_place.ensures c.refuses.ensures)

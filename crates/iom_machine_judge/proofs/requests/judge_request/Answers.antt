@@ -1,55 +1,41 @@
-use Rattle.std.proofs.Common.{◌≡◌, Some, None, slice_get, refl, sym, ◌∙◌}
+use Rattle.std.proofs.Common.{◌≡◌, Some, None, sym, ◌∙◌}
 use Rattle.std.proofs.lemmas.Bool.{false≢true}
-use Rattle.std.proofs.lemmas.Option.{slice_get_read}
-use Rattle.iom_ledger.specs.declared.refusal.Refusal.TheVariants.{NoSuchDevice, WrongKind}
-use Rattle.iom_machine.specs.declared.outcome.Outcome.TheVariants.{Refused}
 use Rattle.iom_machine.specs.declared.state.Device.{Device}
 use Rattle.iom_machine.specs.declared.state.State.{State}
 use Rattle.iom_machine.specs.Kinds.{sends_untranslated}
 use Rattle.iom_machine.specs.Requests.{MayAnswer, state_after}
-use Rattle.iom_machine.proofs.StepLemmas.{lawful, unlawful, acts_there, acts_unable, acts_absent, stays_where, own_place}
+use Rattle.iom_machine.proofs.StepLemmas.{lawful, unlawful, acts_there, own_place}
+use Rattle.iom_machine_judge.proofs.LeftLemmas.{absent_by, unable_at, read_there}
 use Rattle.iom_machine_judge.proofs.requests.judge_request.Goals as goal
 
 pub returns-in_default : goal.returns-in_default
 returns-in_default c =
-    acts_absent sends_untranslated c.stays_if.result
-    (λ (d : Device) (new : State). MayAnswer c.args.state d c.args.access c.args.frame c.args.outcome.now × (new ≡ state_after c.args.state d c.args.access c.args.frame c.args.outcome.now))
-    c.args.state c.args.id c.args.outcome.now (rw c.as_slice.ensures at c.in_default.ensures)
-    (stays_where c.stays_if.result c.answers_absent.result (c.args.outcome.now ≡ Refused NoSuchDevice) c.args.state c.answers_absent.ensures c.stays_if.ensures)
+    absent_by sends_untranslated (λ (d : Device) (new : State). MayAnswer c.args.state.now d c.args.access c.args.frame c.args.outcome.now × (new ≡ state_after c.args.state.now d c.args.access c.args.frame c.args.outcome.now))
+    c.args.state.now c.args.id c.args.outcome.now c.answers_absent.result
+    (rw c.as_slice.ensures at c.in_default.ensures) c.answers_absent.ensures
 
 pub returns-then-not-sends_untranslated : goal.returns-then-not-sends_untranslated
 returns-then-not-sends_untranslated c =
-    let place = rw c.as_slice.ensures at c.in-Some.ensures in
-    let device = c.index-as_slice-place.result in
-    let at : slice_get c.args.state.devices c.in-Some.place ≡ Some device =
-    slice_get_read c.args.state.devices _ c.in-Some.place device refl place.0 (rw c.as_slice-2.ensures at c.index-as_slice-place.is) in
-    acts_unable sends_untranslated c.stays_if-then-not-sends_untranslated.result
-    (λ (d : Device) (new : State). MayAnswer c.args.state d c.args.access c.args.frame c.args.outcome.now × (new ≡ state_after c.args.state d c.args.access c.args.frame c.args.outcome.now))
-    c.args.state c.args.id c.args.outcome.now device (place.1 ∙ at) (sym c.sends_untranslated.ensures ∙ c.if-not-sends_untranslated.true)
-    (stays_where c.stays_if-then-not-sends_untranslated.result c.answers_unable.result (c.args.outcome.now ≡ Refused WrongKind) c.args.state c.answers_unable.ensures
-    c.stays_if-then-not-sends_untranslated.ensures)
+    unable_at sends_untranslated (λ (d : Device) (new : State). MayAnswer c.args.state.now d c.args.access c.args.frame c.args.outcome.now × (new ≡ state_after c.args.state.now d c.args.access c.args.frame c.args.outcome.now))
+    c.args.state.now c.args.id c.args.outcome.now c.in-Some.place c.index-as_slice-place.result c.answers_unable.result
+    (rw c.as_slice.ensures at c.in-Some.ensures) (rw c.as_slice-2.ensures at c.index-as_slice-place.is) (sym c.sends_untranslated.ensures ∙ c.if-not-sends_untranslated.true) c.answers_unable.ensures
 
 pub returns-then-not-may_answer : goal.returns-then-not-may_answer
 returns-then-not-may_answer c =
     let place = rw c.as_slice.ensures at c.in-Some.ensures in
     let device = c.index-as_slice-place.result in
-    let at : slice_get c.args.state.devices c.in-Some.place ≡ Some device =
-    slice_get_read c.args.state.devices _ c.in-Some.place device refl place.0 (rw c.as_slice-2.ensures at c.index-as_slice-place.is) in
-    acts_there sends_untranslated None
-    (λ (d : Device) (new : State). MayAnswer c.args.state d c.args.access c.args.frame c.args.outcome.now × (new ≡ state_after c.args.state d c.args.access c.args.frame c.args.outcome.now))
-    c.args.state c.args.id c.args.outcome.now device (place.1 ∙ at) (sym c.sends_untranslated.ensures ∙ c.if-not-sends_untranslated.false)
-    (unlawful (MayAnswer c.args.state device c.args.access c.args.frame c.args.outcome.now) (state_after c.args.state device c.args.access c.args.frame c.args.outcome.now)
-    (λ may. false≢true (sym c.if-not-may_answer.true ∙ c.may_answer.ensures.1 may)))
+    let at = read_there c.args.state.now.devices c.in-Some.place device place.0 (rw c.as_slice-2.ensures at c.index-as_slice-place.is) in
+    acts_there sends_untranslated None (λ (d : Device) (new : State). MayAnswer c.args.state.now d c.args.access c.args.frame c.args.outcome.now × (new ≡ state_after c.args.state.now d c.args.access c.args.frame c.args.outcome.now))
+    c.args.state.now c.args.id c.args.outcome.now device (place.1 ∙ at) (sym c.sends_untranslated.ensures ∙ c.if-not-sends_untranslated.false)
+    (unlawful (MayAnswer c.args.state.now device c.args.access c.args.frame c.args.outcome.now) (state_after c.args.state.now device c.args.access c.args.frame c.args.outcome.now) (λ may. false≢true (sym c.if-not-may_answer.true ∙ c.may_answer.ensures.1 may)))
 
 pub returns : goal.returns
 returns c =
     let place = rw c.as_slice.ensures at c.in-Some.ensures in
     let device = c.index-as_slice-place.result in
-    let at : slice_get c.args.state.devices c.in-Some.place ≡ Some device =
-    slice_get_read c.args.state.devices _ c.in-Some.place device refl place.0 (rw c.as_slice-2.ensures at c.index-as_slice-place.is) in
+    let at = read_there c.args.state.now.devices c.in-Some.place device place.0 (rw c.as_slice-2.ensures at c.index-as_slice-place.is) in
     let answers = c.may_answer.ensures.0 c.if-not-may_answer.false in
-    acts_there sends_untranslated (Some c.in_ok-next.next)
-    (λ (d : Device) (new : State). MayAnswer c.args.state d c.args.access c.args.frame c.args.outcome.now × (new ≡ state_after c.args.state d c.args.access c.args.frame c.args.outcome.now))
-    c.args.state c.args.id c.args.outcome.now device (place.1 ∙ at) (sym c.sends_untranslated.ensures ∙ c.if-not-sends_untranslated.false)
-    (lawful (MayAnswer c.args.state device c.args.access c.args.frame c.args.outcome.now) c.in_ok-next.next (state_after c.args.state device c.args.access c.args.frame c.args.outcome.now) answers
-    (c.in_ok-next.ensures device (own_place c.args.state.devices c.args.id c.in-Some.place device place at) at answers))
+    acts_there sends_untranslated (Some c.after_answer.new.state) (λ (d : Device) (new : State). MayAnswer c.args.state.now d c.args.access c.args.frame c.args.outcome.now × (new ≡ state_after c.args.state.now d c.args.access c.args.frame c.args.outcome.now))
+    c.args.state.now c.args.id c.args.outcome.now device (place.1 ∙ at) (sym c.sends_untranslated.ensures ∙ c.if-not-sends_untranslated.false)
+    (lawful (MayAnswer c.args.state.now device c.args.access c.args.frame c.args.outcome.now) c.after_answer.new.state (state_after c.args.state.now device c.args.access c.args.frame c.args.outcome.now) answers
+    (c.in_ok-after_answer.ensures device (own_place c.args.state.now.devices c.args.id c.in-Some.place device place at) at answers))

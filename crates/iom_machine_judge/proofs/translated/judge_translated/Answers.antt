@@ -1,28 +1,22 @@
 use Rattle.std.proofs.Common.{◌≡◌, sym, ◌∙◌}
-use Rattle.iom_ledger.specs.declared.refusal.Refusal.TheVariants.{NoSuchDevice, WrongKind}
-use Rattle.iom_machine.specs.declared.outcome.Outcome.TheVariants.{Refused}
 use Rattle.iom_machine.specs.declared.state.Device.{Device}
 use Rattle.iom_machine.specs.declared.state.State.{State}
 use Rattle.iom_machine.specs.Kinds.{forges}
 use Rattle.iom_machine.specs.Translated.{MayAnswerTranslated}
-use Rattle.iom_machine.proofs.StepLemmas.{acts_there, acts_unable, acts_absent, stays_where}
+use Rattle.iom_machine_judge.proofs.LeftLemmas.{absent_by, unable_by, able_stays}
 use Rattle.iom_machine_judge.proofs.translated.judge_translated.Goals as goal
 
 pub returns-in-None : goal.returns-in-None
 returns-in-None c =
-    acts_absent forges c.stays_if.result (λ (d : Device) (new : State). MayAnswerTranslated c.args.state d c.args.access.now c.args.outcome.now × (new ≡ c.args.state))
-    c.args.state c.args.id c.args.outcome.now (sym (rw c.as_slice.ensures at c.in-None.ensures))
-    (stays_where c.stays_if.result c.answers_absent.result (c.args.outcome.now ≡ Refused NoSuchDevice) c.args.state c.answers_absent.ensures c.stays_if.ensures)
+    absent_by forges (λ (d : Device) (new : State). MayAnswerTranslated c.args.state.now d c.args.access.now c.args.outcome.now × (new ≡ c.args.state.now)) c.args.state.now c.args.id c.args.outcome.now c.answers_absent.result
+    (sym (rw c.as_slice.ensures at c.in-None.ensures)) c.answers_absent.ensures
 
 pub returns-then-not-forges : goal.returns-then-not-forges
 returns-then-not-forges c =
-    acts_unable forges c.stays_if-then-not-forges.result (λ (d : Device) (new : State). MayAnswerTranslated c.args.state d c.args.access.now c.args.outcome.now × (new ≡ c.args.state))
-    c.args.state c.args.id c.args.outcome.now c.in-Some.device.now (sym (rw c.as_slice.ensures at c.in-Some.ensures)) (sym c.forges.ensures ∙ c.if-not-forges.true)
-    (stays_where c.stays_if-then-not-forges.result c.answers_unable.result (c.args.outcome.now ≡ Refused WrongKind) c.args.state c.answers_unable.ensures c.stays_if-then-not-forges.ensures)
+    unable_by forges (λ (d : Device) (new : State). MayAnswerTranslated c.args.state.now d c.args.access.now c.args.outcome.now × (new ≡ c.args.state.now)) c.args.state.now c.args.id c.args.outcome.now c.in-Some.device.now c.answers_unable.result
+    (sym (rw c.as_slice.ensures at c.in-Some.ensures)) (sym c.forges.ensures ∙ c.if-not-forges.true) c.answers_unable.ensures
 
 pub returns-else-not-forges : goal.returns-else-not-forges
 returns-else-not-forges c =
-    acts_there forges c.stays_if-in-Some.result (λ (d : Device) (new : State). MayAnswerTranslated c.args.state d c.args.access.now c.args.outcome.now × (new ≡ c.args.state))
-    c.args.state c.args.id c.args.outcome.now c.in-Some.device.now (sym (rw c.as_slice.ensures at c.in-Some.ensures)) (sym c.forges.ensures ∙ c.if-not-forges.false)
-    (stays_where c.stays_if-in-Some.result c.may_answer-may.result (MayAnswerTranslated c.args.state c.in-Some.device.now c.args.access.now c.args.outcome.now) c.args.state
-    c.may_answer-may.ensures c.stays_if-in-Some.ensures)
+    able_stays forges (λ (d : Device). MayAnswerTranslated c.args.state.now d c.args.access.now c.args.outcome.now) c.args.state.now c.args.id c.args.outcome.now c.in-Some.device.now c.may_answer.result
+    (sym (rw c.as_slice.ensures at c.in-Some.ensures)) (sym c.forges.ensures ∙ c.if-not-forges.false) c.may_answer.ensures

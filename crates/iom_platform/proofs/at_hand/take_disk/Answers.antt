@@ -1,8 +1,20 @@
-use Rattle.std.proofs.Common.{◌∙◌, ap, subst}
+use Rattle.std.proofs.Common.{◌≡◌, ◌∙◌, false, ap, subst, arith}
 use Rattle.std.proofs.lemmas.Option.{get_or_from_slice_get}
+use Rattle.iom_machine.specs.Disks.{is_among}
+use Rattle.iom_platform.specs.Agreement.{numbers_of}
 use Rattle.iom_platform.specs.Places.{IsDiskAt, others_than}
 use Rattle.iom_platform.proofs.DiskLemmas.{takes_out}
+use Rattle.iom_platform.proofs.StepLemmas.{get_lt}
 use Rattle.iom_platform.proofs.at_hand.take_disk.Goals as goal
+
+pub returns-in_default : goal.returns-in_default
+returns-in_default g c = subst (λ at_hand. is_among (numbers_of at_hand) c.args.number ≡ false) c.deref.ensures.value c.in_default.ensures
+
+pub remove-taken-requires : goal.remove-taken-requires
+remove-taken-requires g c =
+    let lt = get_lt c.deref.result.now c.in-Some.place c.in-Some.ensures.one c.in-Some.ensures.there in
+    let len = c.deref.ensures.len in
+    omega (arith, lt, len)
 
 pub returns : goal.returns
 returns g c =

@@ -2,7 +2,7 @@
 use Rattle.std.proofs.Common.{◌∙◌, [], Ok, Err, ap, map}
 use Rattle.std.proofs.KnownBytes.{Keeps-refl}
 use Rattle.std.proofs.lemmas.Result.{err_from_is_err_and}
-use Rattle.iom_runner.specs.CommandLine.{wants_trace}
+use Rattle.iom_command_line.specs.CommandLine.{wants_trace}
 use Rattle.iom_runner.specs.Disks.{program_setting}
 use Rattle.iom_runner.proofs.TextLemmas.{input_of, input_is_left, program_as, program_ran, program_failed, words_unread}
 use Rattle.iom_runner.proofs.program.run_words.Goals as goal

@@ -3,7 +3,7 @@ use Rattle.std.proofs.lemmas.Result.{on_ok_weaker, on_err_weaker}
 use Rattle.iom_platform.specs.Seen.{platform_seen}
 use Rattle.iom_runner.specs.Text.{power_on}
 use Rattle.iom_runner.proofs.RunLemmas.{IsFirst, begins_whole, so_far_none, told_whole, told_in_part, told_until_failure, same_if_ran, same_if_failed}
-use Rattle.iom_runner.proofs.WritingLemmas.{at_err}
+use Rattle.iom_line_writer.proofs.WritingLemmas.{at_err}
 use Rattle.iom_runner.proofs.runner.tell_events.Goals as goal
 
 pub returns-in_err-put-clause-so_far : goal.returns-in_err-put-clause-so_far

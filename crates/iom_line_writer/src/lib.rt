@@ -1,0 +1,11 @@
+//! Lines on their way out: the line of each outcome, and behind it that of its counts where these are wanted, to any
+//! writer, by way of a buffer.
+//!
+//! A [`LineWriter`] is a sink of outcomes ([`iom_machine::Sink`]). The layer above may rely on this: what it wrote and
+//! what stands in its buffer are the lines of the outcomes that it took, in order and complete; where the writer fails,
+//! what was written is a beginning of those lines, and not all of them.
+#![tactic(auto)]
+
+mod writing;
+
+pub use writing::{LineWriter, WriteFault};

@@ -1,0 +1,34 @@
+use Rattle.std.proofs.Common.{◌≡◌, None, refl, subst, arith}
+use Rattle.iom_platform.specs.Blocks.{block_with, HearsMade}
+use Rattle.iom_platform.specs.Places.{IsPlaceOf}
+use Rattle.iom_platform.specs.Seen.{blocks_seen}
+use Rattle.iom_platform.proofs.BlockLemmas.{hears_made, entries_kept}
+use Rattle.iom_platform.proofs.PlaceLemmas.{at_place, changed_from, changed_none}
+use Rattle.iom_platform.proofs.StepLemmas.{get_lt}
+use Rattle.iom_platform.proofs.blocks.hear_made.Goals as goal
+
+pub index_mut-requires : goal.index_mut-requires
+index_mut-requires g c =
+    let lt = get_lt c.deref.result.now c.in-Some.place c.in-Some.ensures.block c.in-Some.ensures.there in
+    let len = c.deref.ensures.len in
+    omega (arith, lt, len)
+
+pub returns-in_default-clause-seen : goal.returns-in_default-clause-seen
+returns-in_default-clause-seen g c =
+    changed_none (HearsMade c.args.number c.args.bytes.now) (blocks_seen g.D.Disk.held g.D.Disk.failed c.args.blocks.now.items) c.args.id
+    (subst (λ blocks. block_with (blocks_seen g.D.Disk.held g.D.Disk.failed blocks) c.args.id ≡ None) c.deref.ensures.value c.in_default.ensures)
+
+pub returns-in-Some-clause-seen : goal.returns-in-Some-clause-seen
+returns-in-Some-clause-seen g c =
+    let here = subst (λ blocks. IsPlaceOf g.D.Disk.held g.D.Disk.failed blocks c.args.id c.in-Some.place) c.deref.ensures.value c.in-Some.ensures in
+    let at = c.index_mut.result.now in
+    let is = at_place g.D.Disk.held g.D.Disk.failed c.args.blocks.now.items c.args.id c.in-Some.place at here c.index_mut.ensures.value in
+    changed_from g.D.Disk.held g.D.Disk.failed (HearsMade c.args.number c.args.bytes.now) c.args.blocks.now.items c.args.id c.in-Some.place at (record { id = at.id; blk = c.made.new.self }) here is refl
+    (hears_made g.D.Disk.held g.D.Disk.failed at (record { id = at.id; blk = c.made.new.self }) c.args.number c.args.bytes.now c.made.ensures.own c.made.ensures.others c.made.ensures.disk)
+
+pub returns-in-Some-clause-entries : goal.returns-in-Some-clause-entries
+returns-in-Some-clause-entries g c =
+    let here = subst (λ blocks. IsPlaceOf g.D.Disk.held g.D.Disk.failed blocks c.args.id c.in-Some.place) c.deref.ensures.value c.in-Some.ensures in
+    let at = c.index_mut.result.now in
+    let is = at_place g.D.Disk.held g.D.Disk.failed c.args.blocks.now.items c.args.id c.in-Some.place at here c.index_mut.ensures.value in
+    entries_kept g.D.Disk.held g.D.Disk.failed c.args.blocks.now.items c.args.id c.in-Some.place at (record { id = at.id; blk = c.made.new.self }) here is refl c.made.ensures.disk
