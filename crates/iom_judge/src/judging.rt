@@ -256,7 +256,7 @@ fn judge_lines<R: Read>(
 pub fn judge_trace<R: Read>(alloc: Global, reader: &mut R) -> io::Result<Verdict>
     ensures { IfOk result (λ verdict. IsTrue (is_lawful verdict) → IfSome (R.remaining reader.old) IsLawfulTrace) }
 {
-    let mut judges = Judges::new(alloc)?;
     let mut lines = Lines::new(alloc)?;
+    let mut judges = Judges::new(alloc)?;
     judge_lines(&mut judges, &mut lines, reader)
 }
