@@ -9,7 +9,7 @@ use Rattle.iom_device.specs.Caches.{device_with, epoch_in, epoch_of, cache_in}
 use Rattle.iom_composition.specs.Messages.{with_sent}
 use Rattle.iom_composition.specs.Parts.{Parts}
 use Rattle.iom_world.specs.Seen.{parts_of}
-use Rattle.iom_composition.proofs.MessageKeeps.{keeps_question}
+use Rattle.iom_soundness.proofs.MessageKeeps.{keeps_question}
 use Rattle.iom_composition.proofs.MessageLemmas.{sent_as}
 use Rattle.iom_composition.proofs.PresentLemmas.{kind_absent}
 use Rattle.iom_world.proofs.world.World.ask.Goals as goal

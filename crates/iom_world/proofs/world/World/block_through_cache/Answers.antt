@@ -13,7 +13,7 @@ use Rattle.iom_composition.specs.Messages.{with_sent}
 use Rattle.iom_world.specs.Seen.{parts_of}
 use Rattle.iom_composition.specs.ThroughCache.{AsksThroughCache}
 use Rattle.iom_world.specs.Told.{outcome_of}
-use Rattle.iom_composition.proofs.BlockKeeps.{asked_sound, no_miss, carries_of}
+use Rattle.iom_soundness.proofs.BlockKeeps.{asked_sound, no_miss, carries_of}
 use Rattle.iom_composition.proofs.MessageLemmas.{sent_as}
 use Rattle.iom_world.proofs.world.World.block_through_cache.Goals as goal
 use Rattle.iom_world.proofs.world.World.block_through_cache.Goals.{After-send}

@@ -5,7 +5,7 @@ use Rattle.iom_machine.specs.declared.outcome.Outcome.TheVariants as outcome
 use Rattle.iom_composition.specs.Commits.{TellsMade, TellsKind}
 use Rattle.iom_composition.specs.Parts.{Parts}
 use Rattle.iom_world.specs.Seen.{parts_of}
-use Rattle.iom_composition.proofs.CommitKeeps.{keeps_oldest}
+use Rattle.iom_soundness.proofs.CommitKeeps.{keeps_oldest}
 use Rattle.iom_composition.proofs.DriverLemmas.{sound_driver}
 use Rattle.iom_composition.proofs.PartsLemmas.{stays_of}
 use Rattle.iom_composition.proofs.MadeFrames.{made_unreserved, read_told}

@@ -5,10 +5,10 @@ use Rattle.iom_composition.specs.Deliveries.{ArrivesIfAny, Arrives}
 use Rattle.iom_composition.specs.Parts.{Parts}
 use Rattle.iom_world.specs.Seen.{parts_of}
 use Rattle.iom_world.specs.Told.{outcome_of}
-use Rattle.iom_composition.proofs.AskedLemmas.{service_laws}
-use Rattle.iom_composition.proofs.DeliverStep.{removed_none, keeps_arrived}
+use Rattle.iom_soundness.proofs.AskedLemmas.{service_laws}
+use Rattle.iom_lawful_steps.proofs.DeliverStep.{removed_none, keeps_arrived}
 use Rattle.iom_composition.proofs.DriverLemmas.{sound_driver}
-use Rattle.iom_composition.proofs.MessageKeeps.{dropped_sound}
+use Rattle.iom_soundness.proofs.MessageKeeps.{dropped_sound}
 use Rattle.iom_composition.proofs.PartsLemmas.{stays_of, reported_of}
 use Rattle.iom_world.proofs.world.World.deliver.Goals as goal
 

@@ -4,7 +4,7 @@ use Rattle.iom_composition.specs.Answers.{ticket_told_of}
 use Rattle.iom_composition.specs.Parts.{Parts}
 use Rattle.iom_world.specs.Seen.{parts_of}
 use Rattle.iom_composition.proofs.DriverLemmas.{sound_driver}
-use Rattle.iom_composition.proofs.DetachKeeps.{keeps_detached}
+use Rattle.iom_soundness.proofs.DetachKeeps.{keeps_detached}
 use Rattle.iom_world.proofs.world.World.detach.Goals as goal
 
 pub let_go-requires : goal.let_go-requires

@@ -6,7 +6,7 @@ use Rattle.iom_composition.specs.Parts.{Parts}
 use Rattle.iom_world.specs.Seen.{parts_of}
 use Rattle.iom_composition.proofs.DriverLemmas.{sound_driver}
 use Rattle.iom_composition.proofs.PartsLemmas.{stays_of}
-use Rattle.iom_composition.proofs.FetchKeeps.{keeps_fetched}
+use Rattle.iom_soundness.proofs.FetchKeeps.{keeps_fetched}
 use Rattle.iom_world.proofs.world.World.fetch.Goals as goal
 use Rattle.iom_composition.specs.Messages.{with_fetched}
 

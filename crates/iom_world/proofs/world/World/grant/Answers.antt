@@ -3,7 +3,7 @@ use Rattle.iom_driver.specs.Seen.{state_of}
 use Rattle.iom_composition.specs.Answers.{told_of}
 use Rattle.iom_composition.specs.Parts.{Parts}
 use Rattle.iom_world.specs.Seen.{parts_of}
-use Rattle.iom_composition.proofs.DriverKeeps.{keeps_granted}
+use Rattle.iom_soundness.proofs.DriverKeeps.{keeps_granted}
 use Rattle.iom_composition.proofs.DriverLemmas.{sound_driver}
 use Rattle.iom_world.proofs.world.World.grant.Goals as goal
 

@@ -7,7 +7,7 @@ use Rattle.iom_composition.specs.BlockDevices.{MayTake}
 use Rattle.iom_device.specs.Caches.{device_with}
 use Rattle.iom_world.specs.Seen.{parts_of}
 use Rattle.iom_composition.specs.Sound.{AreSound}
-use Rattle.iom_composition.proofs.BlockKeeps.{disk_sound}
+use Rattle.iom_soundness.proofs.BlockKeeps.{disk_sound}
 use Rattle.iom_composition.proofs.PresentLemmas.{kind_absent}
 use Rattle.iom_world.proofs.world.World.medium.Goals as goal
 

@@ -4,7 +4,7 @@ use Rattle.iom_virtqueue.specs.Layouts.{layout_of}
 use Rattle.iom_device.specs.declared.device.Device.{Device}
 use Rattle.iom_composition.specs.Parts.{Parts}
 use Rattle.iom_world.specs.Seen.{parts_of}
-use Rattle.iom_composition.proofs.BlockKeeps.{keeps_queue}
+use Rattle.iom_soundness.proofs.BlockKeeps.{keeps_queue}
 use Rattle.iom_composition.proofs.PresentLemmas.{kind_absent}
 use Rattle.iom_world.proofs.world.World.queue.Goals as goal
 

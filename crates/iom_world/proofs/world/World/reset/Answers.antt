@@ -4,7 +4,7 @@ use Rattle.iom_device.specs.declared.device.Device.{Device}
 use Rattle.iom_composition.specs.Parts.{Parts}
 use Rattle.iom_world.specs.Seen.{parts_of}
 use Rattle.iom_composition.proofs.PresentLemmas.{kind_absent}
-use Rattle.iom_composition.proofs.ResetKeeps.{keeps_reset}
+use Rattle.iom_soundness.proofs.ResetKeeps.{keeps_reset}
 use Rattle.iom_world.proofs.world.World.reset.Goals as goal
 
 pub returns-in_default-clause-does : goal.returns-in_default-clause-does

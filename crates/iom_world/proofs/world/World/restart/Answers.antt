@@ -4,7 +4,7 @@ use Rattle.iom_composition.specs.Answers.{told_of}
 use Rattle.iom_composition.specs.Parts.{Parts}
 use Rattle.iom_world.specs.Seen.{parts_of}
 use Rattle.iom_composition.proofs.DriverLemmas.{sound_driver}
-use Rattle.iom_composition.proofs.RestartKeeps.{keeps_restarted}
+use Rattle.iom_soundness.proofs.RestartKeeps.{keeps_restarted}
 use Rattle.iom_world.proofs.world.World.restart.Goals as goal
 
 pub invariant_of-self : goal.invariant_of-self

@@ -4,7 +4,7 @@ use Rattle.iom_composition.specs.Answers.{told_of}
 use Rattle.iom_composition.specs.Parts.{Parts}
 use Rattle.iom_world.specs.Seen.{parts_of}
 use Rattle.iom_composition.proofs.DriverLemmas.{sound_driver}
-use Rattle.iom_composition.proofs.RevivalKeeps.{keeps_revived}
+use Rattle.iom_soundness.proofs.RevivalKeeps.{keeps_revived}
 use Rattle.iom_world.proofs.world.World.revive.Goals as goal
 
 pub invariant_of-self : goal.invariant_of-self

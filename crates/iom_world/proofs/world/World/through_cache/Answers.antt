@@ -22,7 +22,7 @@ use Rattle.iom_world.specs.Seen.{parts_of}
 use Rattle.iom_composition.specs.ThroughCache.{AsksThroughCache, FindsFrame}
 use Rattle.iom_world.specs.Senders.{kinds_of}
 use Rattle.iom_world.specs.Told.{outcome_of}
-use Rattle.iom_composition.proofs.AskedLemmas.{keeps_through_cache_counted}
+use Rattle.iom_soundness.proofs.AskedLemmas.{keeps_through_cache_counted}
 use Rattle.iom_composition.proofs.DriverLemmas.{sound_driver}
 use Rattle.iom_composition.proofs.PresentLemmas.{row_present, kind_present, kind_absent}
 use Rattle.iom_world.proofs.world.World.through_cache.Goals as goal

@@ -7,7 +7,7 @@ use Rattle.iom_composition.specs.Parts.{Parts}
 use Rattle.iom_composition.specs.Requests.{reply_told_of}
 use Rattle.iom_world.specs.Seen.{parts_of}
 use Rattle.iom_composition.proofs.DriverLemmas.{sound_driver}
-use Rattle.iom_composition.proofs.AskedLemmas.{keeps_asked_counted}
+use Rattle.iom_soundness.proofs.AskedLemmas.{keeps_asked_counted}
 use Rattle.iom_composition.proofs.PresentLemmas.{row_present, kind_present, kind_absent}
 use Rattle.iom_world.proofs.world.World.write.Goals as goal
 
