@@ -37,13 +37,14 @@ impl DirCache {
     }
 
     /// The context of the device, where it was the last to be used or kept: then it stands where a look would
-    /// put it.
+    /// put it. None says nothing: another may be cached for the device.
+    #[inline(always)]
     #[tactic(auto, unfolding(crate::specs::Cached::cached_contexts))]
-    fn last_used(&self, id: DeviceId) -> Option<Context>
-        ensures { IfSome result (λ context. cached_contexts self.now id ≡ Some context) }
+    pub fn last_used(&self, id: DeviceId) -> Option<&Context>
+        ensures { IfSome result (λ context. cached_contexts self.now id ≡ Some context.now) }
     {
         let (last, context) = self.contexts.peek_mru()?;
-        if *last == id { Some(*context) } else { None }
+        if *last == id { Some(context) } else { None }
     }
 
     /// The context that is cached for the device, by a search.
@@ -67,7 +68,7 @@ impl DirCache {
     {
         // A device that makes one request after another is found without a search.
         if let Some(context) = self.last_used(id) {
-            return Some(context);
+            return Some(*context);
         }
         self.search(id)
     }

@@ -1,17 +1,44 @@
 // An untranslated request is served (IOMMU specification, section 2.3, "Process to translate an IOVA").
-ghost use Rattle.std.specs.Prelude.{◌<◌, length, IfOk};
+ghost use Rattle.std.specs.Prelude.{◌≢◌, ◌<◌, length, IfOk};
 ghost use Rattle.iom_device_dir.specs.Cached.{cached_contexts};
+ghost use Rattle.iom_device_dir.specs.Located.{located_context};
 ghost use Rattle.iom_iommu.specs.Cached.{AreTranslationsIn};
-ghost use Rattle.iom_iommu.specs.Service.{Serves, KeepsContext};
+ghost use Rattle.iom_iommu.specs.Service.{context_for, Serves, ServesBy, KeepsContext, KeepsLocated};
+ghost use Rattle.iom_registers.specs.Queues.{directory_mode};
+ghost use Rattle.iom_registers.specs.declared.directory.DirectoryMode.TheVariants.{Bare};
 
 use crate::contexts::find_context;
-use crate::translations::{own_page, plain, translate_by};
+use crate::translations::{own_page, plain, translate, translate_by};
 use iom_base::{AccessKind, Cause, DeviceId};
 use iom_device_dir::DirCache;
 use iom_phys_mem::Memory;
 use iom_registers::{DirectoryMode, Registers};
 use iom_stage_walk::WalkFault;
 use iom_tlb::{TransCache, Translation};
+
+/// The translation of an access of a device whose context has to be searched for.
+// On its own, so that a device that makes one request after another doesn't pay for it.
+#[inline(never)]
+fn serve_by_search<C: TransCache>(
+    memory: &Memory,
+    registers: &Registers,
+    contexts: &mut DirCache,
+    translations: &mut C,
+    device: DeviceId,
+    address: u64,
+    kind: AccessKind,
+) -> Result<Translation, WalkFault>
+    requires inside { AreTranslationsIn (length memory.now) (C.content translations.old) }
+    requires mode { directory_mode registers.now ≢ Bare }
+    ensures served { ServesBy C.SURE (context_for memory.now registers.now (cached_contexts contexts.old) device) memory.now address kind
+        (C.content translations.old) result (C.content translations.new) }
+    ensures kept { KeepsLocated (cached_contexts contexts.old device) (located_context memory.now registers.now.ddtp device)
+        (cached_contexts contexts.old) device (cached_contexts contexts.new) }
+    ensures inside { IfOk result (λ translation. translation.frame < length memory.now) }
+{
+    let found = find_context(memory, registers, contexts, device);
+    translate_by(memory, found, address, kind, translations)
+}
 
 /// The translation of an access of the device. The context and the translation that this finds in memory are
 /// cached, the context also where the translation then faults.
@@ -34,8 +61,19 @@ pub(crate) fn serve<C: TransCache>(
         DirectoryMode::Off => Err(plain(Cause::AllInboundDisallowed)),
         DirectoryMode::Bare => own_page(memory, address, kind),
         DirectoryMode::OneLevel | DirectoryMode::TwoLevels | DirectoryMode::ThreeLevels => {
-            let found = find_context(memory, registers, contexts, device);
-            translate_by(memory, found, address, kind, translations)
+            // A device that makes one request after another pays for no search, and for no copy of its context.
+            match contexts.last_used(device) {
+                Some(context) => translate(memory, context, address, kind, translations),
+                None => serve_by_search(
+                    memory,
+                    registers,
+                    contexts,
+                    translations,
+                    device,
+                    address,
+                    kind,
+                ),
+            }
         }
     }
 }

@@ -59,8 +59,6 @@ fn space_of(context: &Context) -> Option<Space>
 }
 
 /// Where the walk of the context's stages ends. One of them at least isn't Bare.
-// On its own, so that a translation that is cached doesn't pay for it, and is written into its callers.
-#[inline(never)]
 fn walk(
     memory: &Memory,
     context: &Context,
@@ -87,6 +85,8 @@ fn walk(
 
 /// The translation that the walk reaches. It is kept for the page of the address space; where the walk stops, nothing
 /// is.
+// On its own, so that a translation that is cached doesn't pay for it, and is written into its callers.
+#[inline(never)]
 fn walk_and_keep<C: TransCache>(
     memory: &Memory,
     context: &Context,
@@ -132,7 +132,7 @@ fn find_cached<C: TransCache>(
 
 /// The translation to which the stages of the context lead.
 #[inline(always)]
-fn translate<C: TransCache>(
+pub(crate) fn translate<C: TransCache>(
     memory: &Memory,
     context: &Context,
     address: u64,
