@@ -1,0 +1,6 @@
+pub mod QueueTurns
+pub mod DeviceTurns
+pub mod LifeLemmas
+pub mod BlockChanges
+pub mod EventLives
+pub mod RunLives

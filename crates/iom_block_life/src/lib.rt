@@ -1,0 +1,28 @@
+//! The life of a block device, from the setting of its queue to the next reset: which entries of its ring it uses, and
+//! which requests it finishes.
+//!
+//! OASIS Virtual I/O Device (VIRTIO) Version 1.2, section 2.7.6 ("The Virtqueue Available Ring") and section 2.7.8
+//! ("The Virtqueue Used Ring"). `iom_virtio_blk` says of each call of a device what it does, and `iom_platform` which
+//! calls an event makes. This crate has no code: `specs/Lives.antt` says what a life is, calls one after another, each
+//! with the device before and after it, and [`uses_each_entry_once`] what follows from all of them together;
+//! `specs/Runs.antt` and [`runs_use_each_entry_once`] say the same of the events of a run and their outcomes. Both hold
+//! whatever the driver writes into its rings, and whenever.
+#![tactic(auto)]
+
+ghost use Rattle.iom_block_life.specs.Lives.{LivesUseEachOnce};
+ghost use Rattle.iom_block_life.specs.Runs.{QueuesBeginLives, RunsUseEachOnce};
+
+/// Whatever happens to a device since its queue was set: it takes the entries of its ring in their order, from the
+/// first one on, each once. The requests that it finishes are those that it took, in the same order and each once, but
+/// for the last one, which may be in work or given up. The used idx that it wrote last counts those that were
+/// finished.
+pub fn uses_each_entry_once()
+    ensures { LivesUseEachOnce }
+{}
+
+/// The same of a block device in a run of the model, from the event that set its queue to the next one that may end
+/// its life: the heads of its lines `finished` are those of the entries that it took, in their order and each once.
+pub fn runs_use_each_entry_once()
+    ensures begin { QueuesBeginLives }
+    ensures runs { RunsUseEachOnce }
+{}
