@@ -21,9 +21,9 @@ pub struct DirCache {
 }
 
 impl DirCache {
-    ghost use Rattle.std.specs.Prelude.{◌==◌, true, Some, IfOk, IfSome};
+    ghost use Rattle.std.specs.Prelude.{◌==◌, ◌≢◌, ◌↔◌, true, None, Some, IfOk, IfSome, IsSome};
     ghost use Rattle.iom_device_dir.specs.Contents.{IsEmptyContent, LooksUp, KeepsOne, DropsCovered};
-    ghost use Rattle.iom_device_dir.specs.Cached.{cached_contexts};
+    ghost use Rattle.iom_device_dir.specs.Cached.{cached_contexts, last_in};
 
     /// A cache of nothing, or the want of memory.
     #[tactic(auto, unfolding(crate::specs::Cached::cached_contexts))]
@@ -36,12 +36,13 @@ impl DirCache {
         })
     }
 
-    /// The context of the device, where it was the last to be used or kept: then it stands where a look would
-    /// put it. None says nothing: another may be cached for the device.
+    /// The context of the device, where of those that are cached it was the last that was looked at or kept: then it
+    /// stands where a look would put it. None where another one was, though one may be cached for the device.
     #[inline(always)]
-    #[tactic(auto, unfolding(crate::specs::Cached::cached_contexts))]
+    #[tactic(auto, unfolding(crate::specs::Cached::cached_contexts, crate::specs::Cached::last_in))]
     pub fn last_used(&self, id: DeviceId) -> Option<&Context>
-        ensures { IfSome result (λ context. cached_contexts self.now id ≡ Some context.now) }
+        ensures cached { IfSome result (λ context. cached_contexts self.now id ≡ Some context.now) }
+        ensures last { IsSome result ↔ (last_in self.now ≡ Some id) }
     {
         let (last, context) = self.contexts.peek_mru()?;
         if *last == id { Some(context) } else { None }
@@ -52,7 +53,9 @@ impl DirCache {
     #[inline(never)]
     #[tactic(auto, using(crate::proofs::CachedIds::looked), unfolding(crate::specs::Cached::cached_contexts))]
     fn search(&mut self, id: DeviceId) -> Option<Context>
-        ensures { LooksUp (cached_contexts self.old) id result (cached_contexts self.new) }
+        ensures looked { LooksUp (cached_contexts self.old) id result (cached_contexts self.new) }
+        ensures last { IsSome result → last_in self.new ≡ Some id }
+        ensures stays { result ≡ None → last_in self.new ≡ last_in self.old }
     {
         // Its contract says that the keys are distinct, here and below.
         let _ = self.contexts.len();
@@ -61,10 +64,13 @@ impl DirCache {
         found
     }
 
-    /// The context that is cached for the device. Nothing changes but which goes next.
+    /// The context that is cached for the device, which is now the last that was looked at. Nothing else changes
+    /// but which goes next.
     #[inline(always)]
     pub fn look(&mut self, id: DeviceId) -> Option<Context>
-        ensures { LooksUp (cached_contexts self.old) id result (cached_contexts self.new) }
+        ensures looked { LooksUp (cached_contexts self.old) id result (cached_contexts self.new) }
+        ensures last { IsSome result → last_in self.new ≡ Some id }
+        ensures stays { result ≡ None → last_in self.new ≡ last_in self.old }
     {
         // A device that makes one request after another is found without a search.
         if let Some(context) = self.last_used(id) {
@@ -76,7 +82,9 @@ impl DirCache {
     /// Caches the context for the device. At most one other goes. Where none is cached for it yet, and there is
     /// no memory for it, nothing changes and nobody is told: the next look finds none.
     pub fn keep(&mut self, id: DeviceId, context: Context)
-        ensures { KeepsOne (cached_contexts self.old) id context (cached_contexts self.new) }
+        ensures kept { KeepsOne (cached_contexts self.old) id context (cached_contexts self.new) }
+        ensures last { IsSome (cached_contexts self.new id) → last_in self.new ≡ Some id }
+        ensures stays { cached_contexts self.new id ≡ None → last_in self.new ≡ last_in self.old }
     {
         let _ = self.contexts.len();
         let _ = self.contexts.put(id, context);
@@ -85,7 +93,8 @@ impl DirCache {
     /// Drops the context of the device alone (IODIR.INVAL_DDT with DV).
     #[tactic(auto, using(crate::proofs::CachedIds::dropped), unfolding(crate::specs::Cached::cached_contexts))]
     pub fn drop_one(&mut self, id: DeviceId)
-        ensures { DropsCovered (cached_contexts self.old) (λ key. key == id) (cached_contexts self.new) }
+        ensures dropped { DropsCovered (cached_contexts self.old) (λ key. key == id) (cached_contexts self.new) }
+        ensures stays { last_in self.old ≢ Some id → last_in self.new ≡ last_in self.old }
     {
         let _ = self.contexts.len();
         self.contexts.pop(&id);

@@ -170,7 +170,8 @@ impl<C: TransCache> Iommu<C> {
         self.fence_waits = false;
     }
 
-    /// How many accesses were accepted before the command at the head was first fetched.
+    /// How many accesses were accepted when the fence at the head was first fetched with no request open, if it was;
+    /// else how many were so far.
     fn counted(&self) -> u64
         ensures { result ≡ counted_in self.now }
     {
