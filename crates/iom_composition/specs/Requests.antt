@@ -55,7 +55,8 @@ AsksTranslated old id access told new =
     IsUnknown old id told new ⊎ IsUnable forges old id told new
     ⊎ (IsAble forges old.devices id × IsReplied (AnswersTranslated old.memory old.iommu id access) old told new)
 
--- the IOMMU finds for the device a context with both stages, whose tables have these roots
+-- the IOMMU finds for the device a context with both stages, whose tables have these roots; for a question too, since a context that lets ATS through is the one
+-- that is found
 pub record IsInBoth (parts : Parts) (id first second : ℕ) : Type 0 where
   pub context : Context
   pub found : context_for parts.memory (registers_of parts.iommu) (contexts_of parts.iommu) id ≡ Ok context

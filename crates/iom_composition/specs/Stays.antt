@@ -1,24 +1,19 @@
 -- What an event does to a world, and what comes of it.
 use Rattle.std.specs.Prelude.{◌≡◌, ℕ, ⊤, true, List, length, Option}
-use Rattle.iom_base.specs.declared.access.Access.{Access}
-use Rattle.iom_base.specs.Accesses.{read_of, write_of}
 use Rattle.iom_command_queue.specs.declared.entry.QueueEntry.{QueueEntry}
 use Rattle.iom_command_queue.specs.Waiting.{commands_in}
 use Rattle.iom_driver.specs.Layout.{completion_address}
 use Rattle.iom_iommu.specs.Parts.{registers_of}
 use Rattle.iom_ledger.specs.Changes.{IsUnchanged}
 use Rattle.iom_ledger.specs.declared.refusal.Refusal.{Refusal}
-use Rattle.iom_ledger.specs.History.{History}
 use Rattle.iom_machine.specs.declared.event.Event.{Event}
 use Rattle.iom_machine.specs.declared.event.Event.TheVariants as events
 use Rattle.iom_machine.specs.declared.outcome.Outcome.{Outcome}
 use Rattle.iom_machine.specs.declared.outcome.Outcome.TheVariants.{Refused, Fetched}
 use Rattle.iom_machine.specs.declared.outcome.Fetched.TheVariants as tells
-use Rattle.iom_machine.specs.Machine.{Step}
 use Rattle.iom_phys_mem.specs.Words.{word_at}
 use Rattle.iom_registers.specs.Queues.{command_status}
 use Rattle.iom_composition.specs.Parts.{Parts}
-use Rattle.iom_composition.specs.Requests.{ReadsGuestTables}
 
 -- all is the same but what room the driver's ledger has
 pub record AreSame (old new : Parts) : Type 0 where
@@ -77,41 +72,6 @@ KeepsCommands (events.Status id) old new = waiting_in new ≡ waiting_in old
 KeepsCommands (events.Poke address bytes) old new = waiting_in new ≡ waiting_in old
 KeepsCommands (events.Peek address len) old new = waiting_in new ≡ waiting_in old
 KeepsCommands (events.Free frame) old new = waiting_in new ≡ waiting_in old
-
--- a request is translated by a guest's own tables only where the device may read them; of a block device, whichever access its step wants
-abbrev pub ReadsGuestTablesFor : Event → Parts → History → Type 0
-ReadsGuestTablesFor (events.Read id address len) old history = ReadsGuestTables old history id (read_of address len)
-ReadsGuestTablesFor (events.Write id address bytes) old history = ReadsGuestTables old history id (write_of address bytes)
-ReadsGuestTablesFor (events.Step id) old history = (access : Access) → ReadsGuestTables old history id access
-ReadsGuestTablesFor (events.Plug id what) old history = ⊤
-ReadsGuestTablesFor (events.Medium id disk) old history = ⊤
-ReadsGuestTablesFor (events.Attach id mode ats) old history = ⊤
-ReadsGuestTablesFor (events.Detach id) old history = ⊤
-ReadsGuestTablesFor (events.Grant id page frame rights) old history = ⊤
-ReadsGuestTablesFor (events.Release id page) old history = ⊤
-ReadsGuestTablesFor (events.Quarantine id) old history = ⊤
-ReadsGuestTablesFor (events.Revive id) old history = ⊤
-ReadsGuestTablesFor events.Restart old history = ⊤
-ReadsGuestTablesFor events.Fetch old history = ⊤
-ReadsGuestTablesFor events.Timeout old history = ⊤
-ReadsGuestTablesFor events.Poll old history = ⊤
-ReadsGuestTablesFor events.Faults old history = ⊤
-ReadsGuestTablesFor (events.Reset id) old history = ⊤
-ReadsGuestTablesFor (events.Queue id size descriptors available used) old history = ⊤
-ReadsGuestTablesFor (events.Status id) old history = ⊤
-ReadsGuestTablesFor (events.Commit id) old history = ⊤
-ReadsGuestTablesFor (events.ReadTranslated id address len) old history = ⊤
-ReadsGuestTablesFor (events.WriteTranslated id address bytes) old history = ⊤
-ReadsGuestTablesFor (events.ReadThroughCache id address len) old history = ⊤
-ReadsGuestTablesFor (events.WriteThroughCache id address bytes) old history = ⊤
-ReadsGuestTablesFor (events.Ask id page) old history = ⊤
-ReadsGuestTablesFor (events.Forge id serial) old history = ⊤
-ReadsGuestTablesFor (events.Deliver place) old history = ⊤
-ReadsGuestTablesFor (events.Drop place) old history = ⊤
-ReadsGuestTablesFor (events.Repeat place) old history = ⊤
-ReadsGuestTablesFor (events.Poke address bytes) old history = ⊤
-ReadsGuestTablesFor (events.Peek address len) old history = ⊤
-ReadsGuestTablesFor (events.Free frame) old history = ⊤
 
 -- a fence was given up, and the driver didn't restart since (`cmd_to` of `cqcsr`)
 abbrev pub HasTimedOut : Parts → Type 0

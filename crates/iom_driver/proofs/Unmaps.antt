@@ -180,6 +180,24 @@ held_contained ledger id page pages held among = contained_among page (held_page
     by (first ∷ others) (inl same) = kept (is_some (held_in ledger id first)) first others refl (inl same)
     by (first ∷ others) (inr later) = kept (is_some (held_in ledger id first)) first others refl (inr (by others later))
 
+-- and it holds each of those
+pub contained_held : (ledger : Ledger) (id page : ℕ) (pages : List ℕ) → Contains (held_pages ledger id pages) page → IsSome (held_in ledger id page)
+contained_held ledger id page pages among = by pages (among_contained page (held_pages ledger id pages) among)
+  where
+    there : (o : Option Pair) → is_some o ≡ true → IsSome o
+    there None held = cc
+    there (Some pair) held = cc
+
+    kept : (b : Bool) (first : ℕ) (others : List ℕ) → is_some (held_in ledger id first) ≡ b → (Among page (held_pages ledger id others) → IsSome (held_in ledger id page))
+        → Among page (if b then first ∷ held_pages ledger id others else held_pages ledger id others) → IsSome (held_in ledger id page)
+    kept true first others held later (inl same) = there (held_in ledger id page) (ap (λ p. is_some (held_in ledger id p)) same ∙ held)
+    kept true first others held later (inr at) = later at
+    kept false first others held later at = later at
+
+    by : (ps : List ℕ) → Among page (held_pages ledger id ps) → IsSome (held_in ledger id page)
+    by [] at = absurd at
+    by (first ∷ others) at = kept (is_some (held_in ledger id first)) first others refl (by others) at
+
 -- the leaf of each page that the device holds is cleared, and no other, and no frame but its tables' changes
 pub record AreUnmapped (ledger : Ledger) (id root : ℕ) (memory memory' : List (List ℕ)) : Type 0 where
   pub tree : IsRoot memory' root

@@ -1,5 +1,5 @@
 -- What a quarantine answers, what it leaves, and what stays.
-use Rattle.std.specs.Prelude.{◌≡◌, ◌≢◌, ℕ, ◌+◌, ◌^◌, ◌<◌, List, [], ◌∷◌, ◌++◌, false, filter, length, map, Contains, None, Some, IsSome, is_some, Result, Ok, Err, slice_get, if◌then◌else◌}
+use Rattle.std.specs.Prelude.{◌≡◌, ◌≢◌, ◌↔◌, ℕ, ◌+◌, ◌^◌, ◌<◌, List, [], ◌∷◌, ◌++◌, false, filter, length, map, Contains, None, Some, IsSome, is_some, Result, Ok, Err, slice_get, if◌then◌else◌}
 use Rattle.iom_base.specs.declared.owner.Owner.TheVariants.{OneDevice}
 use Rattle.iom_command_queue.specs.declared.entry.QueueEntry.TheVariants as stands
 use Rattle.iom_command_queue.specs.Waiting.{commands_in}
@@ -41,14 +41,14 @@ LosesHeldLeaves ledger id root old new = (page : ℕ) → page < 2 ^ 52
     → leaf_of first_levels new root page ≡ (if is_some (held_in ledger id page) then None else leaf_of first_levels old root page)
 
 -- The next ticket is given, and the device is cut off under it, with its stages. Its context's bytes are zero, and then the leaves of these pages are cleared,
--- among which is each that it holds. All of these are released. Then the commands of a detach are appended. No frame but the device's, the directory's pages
+-- which are those that it holds. All of these are released. Then the commands of a detach are appended. No frame but the device's, the directory's pages
 -- and the ring's changes.
 pub record QueuesQuarantine {M : Type 0} (g : Ghosts M) (d : DriverState) (memory : List (List ℕ)) (io : M) (id ticket : ℕ) (d' : DriverState) (memory' : List (List ℕ)) (io' : M) : Type 0 where
   pub stage : Stages
   pub attached : stages_of d.devices id ≡ Some stage
   pub next : ticket ≡ d.given + 1
   pub pages : List ℕ
-  pub all : (page : ℕ) → IsSome (held_in d.ledger id page) → Contains pages page
+  pub all : (page : ℕ) → IsSome (held_in d.ledger id page) ↔ Contains pages page
   pub shown : ShowsReleaseOfAll d.ledger d'.ledger id ticket
   pub agrees : (h : History) → Agrees d.ledger h → confirms h ticket ≡ false → Agrees d'.ledger (entry.AllReleased id ticket ∷ h)
   pub driver : d' ≡ record d { ledger = d'.ledger; devices = with_attachment d.devices id (attachment.Quarantined ticket stage); given = ticket }

@@ -4,7 +4,6 @@ use Rattle.iom_base.specs.declared.access.Access.{Access}
 use Rattle.iom_base.specs.declared.access.AccessKind.TheVariants.{Read}
 use Rattle.iom_base.specs.declared.mode.Mode.{Mode}
 use Rattle.iom_base.specs.declared.mode.Mode.TheVariants.{First, Second, Both}
-use Rattle.iom_base.specs.Accesses.{read_of, write_of}
 use Rattle.iom_base.specs.declared.ppn.Ppn.{Ppn}
 use Rattle.iom_device_dir.specs.declared.context.Context.{Context}
 use Rattle.iom_device_dir.specs.declared.stages.FirstStage.{FirstStage}
@@ -20,13 +19,10 @@ use Rattle.iom_driver.specs.Directory.{context_in, context_for}
 use Rattle.iom_driver.specs.Tables.{AreTablesOf}
 use Rattle.iom_iommu.specs.Parts.{contexts_of}
 use Rattle.iom_iommu.specs.Service.{found_context}
-use Rattle.iom_machine.specs.declared.event.Event.{Event}
-use Rattle.iom_machine.specs.declared.event.Event.TheVariants as events
 use Rattle.iom_machine.specs.declared.state.State.{State}
 use Rattle.iom_stage_walk.specs.Laws.{IsLed}
 use Rattle.iom_stage_walk.specs.Paths.{first_levels}
 use Rattle.iom_stage_walk.specs.Second.{second_levels}
-use Rattle.iom_composition.specs.Stays.{ReadsGuestTablesFor}
 use Rattle.iom_composition.specs.Parts.{Parts}
 use Rattle.iom_composition.specs.Requests.{MayReadFrom, ReadsGuestTables}
 use Rattle.iom_composition.specs.Shows.{PartsShow}
@@ -96,39 +92,3 @@ module _ (laws : ServiceLaws) (parts : Parts) (events : ℕ) (sound : AreSound p
       let at_root : at_second ≡ stage.root = sym is.host_is ∙ roots.2 in
       let led = (laws.walks.led first_levels second_levels parts.memory at_first at_second access.address access.kind walked reaches).0 in
       λ k d lt. led_may stage stage.mode roots.0 tables (get_or walked.guest_frames k d) (subst (λ n. IsLed second_levels parts.memory n (get_or walked.guest_frames k d)) at_root (led k d lt))
-
--- EACH EVENT
-pub guest_tables_for : ServiceLaws → (parts : Parts) (counted : ℕ) (event : Event) → AreSound parts counted → IsSoundDriver parts.driver → (state : State) → PartsShow parts state
-    → ReadsGuestTablesFor event parts state.history
-guest_tables_for laws parts counted (events.Read id address len) sound own state shows = reads_guest_tables laws parts counted sound own state shows id (read_of address len)
-guest_tables_for laws parts counted (events.Write id address bytes) sound own state shows = reads_guest_tables laws parts counted sound own state shows id (write_of address bytes)
-guest_tables_for laws parts counted (events.Step id) sound own state shows = λ access. reads_guest_tables laws parts counted sound own state shows id access
-guest_tables_for laws parts counted (events.Plug id what) sound own state shows = tt
-guest_tables_for laws parts counted (events.Medium id disk) sound own state shows = tt
-guest_tables_for laws parts counted (events.Attach id mode ats) sound own state shows = tt
-guest_tables_for laws parts counted (events.Detach id) sound own state shows = tt
-guest_tables_for laws parts counted (events.Grant id page frame rights) sound own state shows = tt
-guest_tables_for laws parts counted (events.Release id page) sound own state shows = tt
-guest_tables_for laws parts counted (events.Quarantine id) sound own state shows = tt
-guest_tables_for laws parts counted (events.Revive id) sound own state shows = tt
-guest_tables_for laws parts counted events.Restart sound own state shows = tt
-guest_tables_for laws parts counted events.Fetch sound own state shows = tt
-guest_tables_for laws parts counted events.Timeout sound own state shows = tt
-guest_tables_for laws parts counted events.Poll sound own state shows = tt
-guest_tables_for laws parts counted events.Faults sound own state shows = tt
-guest_tables_for laws parts counted (events.Commit id) sound own state shows = tt
-guest_tables_for laws parts counted (events.ReadTranslated id address len) sound own state shows = tt
-guest_tables_for laws parts counted (events.WriteTranslated id address bytes) sound own state shows = tt
-guest_tables_for laws parts counted (events.ReadThroughCache id address len) sound own state shows = tt
-guest_tables_for laws parts counted (events.WriteThroughCache id address bytes) sound own state shows = tt
-guest_tables_for laws parts counted (events.Ask id page) sound own state shows = tt
-guest_tables_for laws parts counted (events.Forge id serial) sound own state shows = tt
-guest_tables_for laws parts counted (events.Deliver place) sound own state shows = tt
-guest_tables_for laws parts counted (events.Drop place) sound own state shows = tt
-guest_tables_for laws parts counted (events.Repeat place) sound own state shows = tt
-guest_tables_for laws parts counted (events.Reset id) sound own state shows = tt
-guest_tables_for laws parts counted (events.Queue id size descriptors available used) sound own state shows = tt
-guest_tables_for laws parts counted (events.Status id) sound own state shows = tt
-guest_tables_for laws parts counted (events.Poke address bytes) sound own state shows = tt
-guest_tables_for laws parts counted (events.Peek address len) sound own state shows = tt
-guest_tables_for laws parts counted (events.Free frame) sound own state shows = tt

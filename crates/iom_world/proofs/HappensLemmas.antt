@@ -50,7 +50,7 @@ use Rattle.iom_lawful_steps.proofs.TranslatedStep.{translated_step}
 use Rattle.iom_lawful_steps.proofs.EventLemmas.{no_choice, frame_chosen, access_chosen, question_chosen, frames_taken, pages_taken}
 use Rattle.iom_composition.proofs.ServedLemmas.{ServiceLaws}
 use Rattle.iom_soundness.proofs.AskedLemmas.{service_laws}
-use Rattle.iom_lawful_steps.proofs.GuestMay.{guest_tables_for}
+use Rattle.iom_lawful_steps.proofs.GuestMay.{reads_guest_tables}
 use Rattle.iom_composition.proofs.PartsLemmas.{StaysReported, reported_of}
 use Rattle.iom_soundness.proofs.ReportKeeps.{taken_step}
 
@@ -141,7 +141,7 @@ happens laws old new event told fits does disks counted =
       does = does;
       disks = disks;
       commands = commands_stay (disks_of old) (parts_of old) (parts_of new) old.events event told old.sound (sound_driver old.driver) reported does;
-      guest = λ state shows. guest_tables_for service (parts_of old) old.events event old.sound (sound_driver old.driver) state shows.0;
+      guest = λ state shows id access. reads_guest_tables service (parts_of old) old.events old.sound (sound_driver old.driver) state shows.0 id access;
       stopped = λ stopped. stays_stopped (parts_of old) (parts_of new) old.events new.events old.sound (sound_driver old.driver) reported new.sound stopped (disks_of old) event told does;
       refused = refused_same (disks_of old) (parts_of old) (parts_of new) event told does;
       events = counted;

@@ -23,7 +23,7 @@ use Rattle.iom_driver.proofs.Places.{attached_owns, attached_there, attachment_s
 use Rattle.iom_driver.proofs.Ring.{same_commands, all_last, stays_named}
 use Rattle.iom_driver.proofs.Stays.{all_stay, of_one}
 use Rattle.iom_driver.proofs.Tickets.{few_rise}
-use Rattle.iom_driver.proofs.Unmaps.{AreUnmapped, frame_stays, tables_unmapped}
+use Rattle.iom_driver.proofs.Unmaps.{AreUnmapped, contained_held, frame_stays, tables_unmapped}
 use Rattle.iom_driver.proofs.driver.Driver.quarantine.Goals as goal
 
 -- a value that is there
@@ -171,7 +171,7 @@ returns-clause-effect g c =
         attached = may.attached;
         next = refl;
         pages = pages;
-        all = c.clear_leaves.ensures.all;
+        all = λ page. (c.clear_leaves.ensures.all page, contained_held driver.ledger id page (pages_listed driver.ledger id));
         shown = c.release_all.ensures.released;
         agrees = c.release_all.ensures.agrees;
         driver = rw c.set_attachment.ensures refl;
