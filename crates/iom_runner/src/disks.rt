@@ -14,6 +14,7 @@ use iom_script::Script;
 use iom_virtio_blk::MemoryDisk;
 use std::alloc::{AllocError, Global};
 use std::io::{Read, Write};
+use std::mem;
 
 /// The disks of the program: 0 and 1 have 64 sectors, 2 has 2, and 3 has 64 and fails at its second call.
 pub fn program_disks(alloc: Global) -> Result<Vec<MemoryDisk>, AllocError>
@@ -62,5 +63,8 @@ pub(crate) fn run_with_disks<R: Read, W: Write>(
 {
     let bytes = read_script(alloc, reader)?;
     let script = script_of(alloc, &bytes)?;
-    tell_with_disks(alloc, &script, counts, writer)
+    let told = tell_with_disks(alloc, &script, counts, writer);
+    // It is the program's only run: the events go when the process ends, and not one by one.
+    mem::forget(script);
+    told
 }

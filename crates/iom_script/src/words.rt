@@ -166,7 +166,7 @@ fn leading_number(text: &[u8]) -> Option<(u64, usize)>
 }
 
 /// The number that the word says.
-// A call, as `number_and` is: written into the readers of all events, the loop would carry what their lines say.
+// A call: written into the readers of all events, the loop would carry what their lines say.
 #[inline(never)]
 pub(crate) fn number_of(text: &[u8]) -> Option<u64>
     ensures { Reads result (IsNumber text.now) }
@@ -311,7 +311,8 @@ pub(crate) fn device_and(text: &[u8]) -> Option<(DeviceId, &[u8])>
 }
 
 /// The number that the first word says, and what follows it.
-#[inline(never)]
+// Written into its few readers: what it answers would go through memory.
+#[inline(always)]
 pub(crate) fn number_and(text: &[u8]) -> Option<(u64, &[u8])>
     ensures { Reads (with_rest result) (λ found. Begins IsNumber text.now found.0 found.1) }
 {

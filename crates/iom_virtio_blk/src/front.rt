@@ -158,7 +158,10 @@ impl Front {
         ensures taken { TakesBytes self.old bytes.now self.new }
         ensures ready { IsReady self.new }
     {
-        if self.got.len() == bytes.len() {
+        if bytes.is_empty() {
+            // A write gives none.
+            self.got.clear();
+        } else if self.got.len() == bytes.len() {
             // Most reads are as long as the one before, and to clear its bytes is to fill them with zeros.
             self.got.as_mut_slice().copy_from_slice(bytes);
         } else {

@@ -18,6 +18,7 @@ ghost use Rattle.iom_world.specs.Seen.{parts_of, disks_of};
 ghost use Rattle.iom_world.specs.Told.{outcome_of};
 
 use crate::disks::{is_among, take_out};
+use crate::kept_outcomes::KeptOutcomes;
 use crate::sender::Sender;
 use crate::told::Told;
 use crate::world::World;
@@ -27,7 +28,7 @@ use iom_device::{Device, place_of, reset};
 use iom_driver::Ticket;
 use iom_fabric::{Message, PageNumber};
 use iom_ledger::Refusal;
-use iom_machine::{BlockStep, DeviceKind};
+use iom_machine::{BlockStep, DeviceKind, Outcome};
 use iom_virtqueue::Layout;
 
 /// The device with this id has a disk from now on, or has none.
@@ -192,7 +193,7 @@ impl World {
 
     /// A block device without a cache asks for an access: answered as that of any device is. What the device with this
     /// id is, is known.
-    fn block_request(
+    fn block_request<'a>(
         &mut self,
         id: DeviceId,
         known: Option<DeviceKind>,
@@ -200,23 +201,24 @@ impl World {
         len: u64,
         kind: AccessKind,
         bytes: &[u8],
-    ) -> Told
+        kept: &'a mut KeptOutcomes,
+    ) -> &'a mut Outcome
         requires below { (flights_of self.old.iommu).so_far < self.old.events }
         requires count { (flights_of self.old.iommu).so_far + 1 < 2 ^ 64 }
         requires wants { MayWant (access_of address len kind bytes.now) }
         requires known { known ≡ kind_in self.old.devices.items id }
-        ensures does { AsksAccess is_block_device (parts_of self.old) id (access_of address len kind bytes.now) (outcome_of result) (parts_of self.new) }
+        ensures does { AsksAccess is_block_device (parts_of self.old) id (access_of address len kind bytes.now) result.now (parts_of self.new) }
         ensures disks { disks_of self.new ≡ disks_of self.old }
         ensures events { self.new.events ≡ self.old.events }
     {
         laws_below();
         let Some(device) = known else {
-            return Told::Refused(Refusal::NoSuchDevice);
+            return kept.tell(Told::Refused(Refusal::NoSuchDevice));
         };
         if !device.is_block_device() {
-            return Told::Refused(Refusal::WrongKind);
+            return kept.tell(Told::Refused(Refusal::WrongKind));
         }
-        Told::of_reply(
+        kept.tell_reply(
             self.iommu
                 .request(&mut self.memory, id, address, len, kind, bytes),
         )
@@ -252,26 +254,27 @@ impl World {
     /// The step of a block device wants this access, within one page: `Accepted`, `Busy` or `Fault` as for any
     /// device's, be it untranslated or, where the device has a cache, through that; `Stepped(Asked)` where it
     /// misses there. The event is counted by the caller.
-    pub(crate) fn access(
+    pub(crate) fn access<'a>(
         &mut self,
         id: DeviceId,
         address: u64,
         len: u64,
         kind: AccessKind,
         bytes: &[u8],
-    ) -> Told
+        kept: &'a mut KeptOutcomes,
+    ) -> &'a mut Outcome
         requires below { (flights_of self.old.iommu).so_far < self.old.events }
         requires count { (flights_of self.old.iommu).so_far + 1 < 2 ^ 64 }
         requires wants { MayWant (access_of address len kind bytes.now) }
-        ensures does { BeginsAccess (parts_of self.old) id (access_of address len kind bytes.now) (outcome_of result) (parts_of self.new) }
+        ensures does { BeginsAccess (parts_of self.old) id (access_of address len kind bytes.now) result.now (parts_of self.new) }
         ensures fits { address < 2 ^ 64 }
         ensures disks { disks_of self.new ≡ disks_of self.old }
         ensures events { self.new.events ≡ self.old.events }
     {
         let known = self.kind_of(id);
         if caches(known) {
-            return self.block_through_cache(id, address, len, kind, bytes);
+            return kept.tell(self.block_through_cache(id, address, len, kind, bytes));
         }
-        self.block_request(id, known, address, len, kind, bytes)
+        self.block_request(id, known, address, len, kind, bytes, kept)
     }
 }

@@ -1,9 +1,11 @@
 //! Where the outcomes of events are told.
 ghost use Rattle.std.specs.Prelude.{◌≡◌};
+ghost use Rattle.iom_composition.specs.Requests.{reply_told_of};
 ghost use Rattle.iom_world.specs.Told.{outcome_of};
 
 use crate::told::Told;
 use arrayvec::ArrayVec;
+use iom_iommu::Reply;
 use iom_machine::Outcome;
 
 /// A place for each kind of outcome, so that what a place held before is of the same kind as what is
@@ -131,8 +133,8 @@ impl KeptOutcomes {
         }
     }
 
-    /// The outcome that says what is told, in its kind's place.
-    // Who tells knows the kind: written into its caller, this searches for no place.
+    /// The outcome that says what is told.
+    // It stands in its kind's place. Who tells knows the kind: written into its caller, this searches for no place.
     #[inline(always)]
     pub(crate) fn tell(&mut self, told: Told) -> &mut Outcome
         ensures { result.now ≡ outcome_of told }
@@ -140,5 +142,19 @@ impl KeptOutcomes {
         let place = self.place_for(&told);
         told.tell(place);
         place
+    }
+
+    /// The outcome that says what the IOMMU answered to a request.
+    // Each kind by itself: what is told needn't be put together first.
+    #[inline(always)]
+    pub(crate) fn tell_reply(&mut self, reply: Reply) -> &mut Outcome
+        ensures { result.now ≡ reply_told_of reply }
+    {
+        match reply {
+            Reply::Accepted(number) => self.tell(Told::Accepted(number)),
+            Reply::Busy => self.tell(Told::Busy),
+            Reply::BadSpan => self.tell(Told::BadSpan),
+            Reply::Fault(cause) => self.tell(Told::Fault(cause)),
+        }
     }
 }

@@ -181,11 +181,11 @@ impl World {
     }
 
     /// One event, and what comes of it: a lawful step of the ledger machine from every state that the
-    /// world shows. It does to memory, IOMMU, driver and devices what the call behind it says; where a
-    /// request is accepted, a guest's own tables were read from frames that the device may read; from a timeout to the next restart no
-    /// fence is done; a refusal changes nothing. Each event is counted, whatever comes of it. A step of a
-    /// block device, and its status, are for whoever has the device itself: [`World::begin`],
-    /// [`World::rest`] and [`World::tell_status`].
+    /// world shows. It does to memory, IOMMU, driver and devices what the call behind it says; where a walk
+    /// through both stages gives a translation, a guest's own tables are read from frames that the device may
+    /// read; from a timeout to the next restart no fence is done; a refusal changes nothing. Each event is
+    /// counted, whatever comes of it. A step of a block device, and its status, are for whoever has the device
+    /// itself: [`World::begin`], [`World::rest`] and [`World::tell_status`].
     #[inline(always)]
     pub fn take<'a>(&mut self, event: &Event, kept: &'a mut KeptOutcomes) -> &'a mut Outcome
         requires event { IsNoChoice event.now }
@@ -225,7 +225,7 @@ impl World {
     {
         laws_below();
         self.events += 1;
-        kept.tell(self.access(device, address, len, kind, bytes))
+        self.access(device, address, len, kind, bytes, kept)
     }
 
     /// The step of a block device that began no access. Where no block device has the id it is refused.

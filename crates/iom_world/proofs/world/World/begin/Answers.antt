@@ -1,8 +1,6 @@
-use Rattle.std.proofs.Common.{inl, sym, subst, arith}
+use Rattle.std.proofs.Common.{inl, arith}
 use Rattle.iom_iommu.specs.Requests.{access_of}
 use Rattle.iom_machine.specs.declared.event.Event.TheVariants as events
-use Rattle.iom_machine.specs.declared.outcome.Outcome.{Outcome}
-use Rattle.iom_composition.specs.BlockDevices.{BeginsAccess}
 use Rattle.iom_world.specs.Seen.{parts_of}
 use Rattle.iom_lawful_steps.proofs.EventLemmas.{sound_counted, below_counted}
 use Rattle.iom_world.proofs.HappensLemmas.{happens}
@@ -22,16 +20,8 @@ returns-clause-happens c =
     let old = c.args.self.now in
     let new = c.access.new.self in
     let access = access_of c.args.address c.args.len c.args.kind c.args.bytes.now in
-    happens c.laws_below.ensures old new (events.Step c.args.device) c.tell.result.now tt
-    (inl (
-      access,
-      c.access.ensures.fits,
-      c.requires.wants,
-      subst (λ (t : Outcome). BeginsAccess (parts_of old) c.args.device access t (parts_of new)) (sym c.tell.ensures) c.access.ensures.does,
-    ))
+    happens c.laws_below.ensures old new (events.Step c.args.device) c.access.result.now tt (inl (access, c.access.ensures.fits, c.requires.wants, c.access.ensures.does))
     c.access.ensures.disks c.access.ensures.events
 
 pub returns-clause-begins : goal.returns-clause-begins
-returns-clause-begins c =
-    let access = access_of c.args.address c.args.len c.args.kind c.args.bytes.now in
-    subst (λ (t : Outcome). BeginsAccess (parts_of c.args.self.now) c.args.device access t (parts_of c.access.new.self)) (sym c.tell.ensures) c.access.ensures.does
+returns-clause-begins c = c.access.ensures.does

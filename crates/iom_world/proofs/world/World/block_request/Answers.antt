@@ -28,12 +28,12 @@ invariant_of-self c =
 
 pub returns-clause-does : goal.returns-clause-does
 returns-clause-does c =
-    inr (inr ((c.in-Some.device, sym c.requires.known ∙ c.in-Some.is, sym c.is_block_device.ensures ∙ c.if-not-is_block_device.false), record { reply = c.request.result; told_so = c.of_reply.ensures; call = c.request.ensures.answered; driver = refl; devices = refl; fabric = refl }))
+    inr (inr ((c.in-Some.device, sym c.requires.known ∙ c.in-Some.is, sym c.is_block_device.ensures ∙ c.if-not-is_block_device.false), record { reply = c.request.result; told_so = c.tell_reply.ensures; call = c.request.ensures.answered; driver = refl; devices = refl; fabric = refl }))
 
 pub returns-in_default-clause-does : goal.returns-in_default-clause-does
 returns-in_default-clause-does c =
     let world = c.args.self.now in
-    inl (record { absent = kind_absent world.devices.items c.args.id (sym c.requires.known ∙ c.in_default.is); told_so = refl; same = refl })
+    inl (record { absent = kind_absent world.devices.items c.args.id (sym c.requires.known ∙ c.in_default.is); told_so = c.tell.ensures; same = refl })
 
 pub request-requires-clause-carries : goal.request-requires-clause-carries
 request-requires-clause-carries c = carries_of c.args.kind c.args.len c.args.bytes.now c.requires.wants.1
