@@ -4,7 +4,9 @@ use Rattle.std.proofs.lemmas.Bool.{cases_eq}
 use Rattle.iom_virtqueue.specs.declared.phase.Phase.{Phase}
 use Rattle.iom_virtqueue.specs.declared.phase.Phase.TheVariants.{AvailableIndex, RingEntry, Table, Served, UsedElement, UsedIndex, Faulted}
 use Rattle.iom_virtqueue.specs.Descriptors.{number_at, descriptor_of, next_of}
-use Rattle.iom_virtqueue.specs.Queues.{QueueState, after, after_in, after_fault, fault_of, goes_on_at, new_requests, element_piece}
+use Rattle.iom_virtqueue.specs.declared.layout.Layout.{Layout}
+use Rattle.iom_virtqueue.specs.Accesses.{reads}
+use Rattle.iom_virtqueue.specs.Queues.{QueueState, ring_entry, wanted_in, after, after_in, after_fault, fault_of, goes_on_at, new_requests, element_piece}
 use Rattle.iom_virtio_blk.specs.declared.front.Front.{Front}
 use Rattle.iom_virtio_blk.specs.declared.serving.Job.{Job}
 use Rattle.iom_virtio_blk.specs.declared.serving.Job.TheVariants.{Header, Reading, Writing, Ending}
@@ -14,17 +16,17 @@ use Rattle.iom_virtio_blk.specs.declared.step.Reply.{Reply}
 use Rattle.iom_virtio_blk.specs.declared.step.Reply.TheVariants.{Accepted, Busy, Asked, Fault}
 use Rattle.iom_virtio_blk.specs.declared.step.Step.{Step}
 use Rattle.iom_virtio_blk.specs.declared.step.Step.TheVariants.{Idle, Waiting, Down, Chain, Finished, Wants}
-use Rattle.iom_virtio_blk.specs.Blocks.{IsTaking, EndsWaiting, TakesBytes, replied, down, queue_in}
+use Rattle.iom_virtio_blk.specs.Blocks.{IsTaking, EndsWaiting, TakesBytes, wants_in, wanted_by, replied, down, queue_in}
 use Rattle.iom_virtio_blk.specs.Steps.{Device, Steps, GoesOnIn, UsesIn, TakesQueue, Serves}
 use Rattle.iom_block_life.specs.Lives.{Turn, Turns, Taken, entry_in, taken_at, finished_at}
 use Rattle.iom_block_life.specs.Lives.{TakesStep, HearsMade, HearsReply, HearsRefusal, ChangesDisk}
 use Rattle.iom_block_life.proofs.QueueTurns.{in_work, in_work_in, sound, GoesOn, stays, takes, finishes}
 
--- a device whose queue lies in a ring of that size works, and counts modulo 2^16
-pub record Works (s : ℕ) (d : Device) : Type 0 where
+-- a device whose queue lies so works, and counts modulo 2^16
+pub record Works (layout : Layout) (d : Device) : Type 0 where
   pub stage : d.front.stage ≡ DriverOk
-  pub size : d.front.queue.layout.size ≡ s
-  pub power : 256 % s ≡ 0
+  pub lies : d.front.queue.layout ≡ layout
+  pub power : 256 % layout.size ≡ 0
   pub small : d.front.queue.finished < 65536
   pub sound : d.front.queue.phase ≢ Faulted
 
@@ -36,8 +38,8 @@ pub record Stops (old new : Device) (taken : List Taken) (finished : List ℕ) :
   pub counted : new.front.queue.finished ≡ old.front.queue.finished
 
 -- it goes on to work, or stops
-abbrev pub Follows : ℕ → Device → Device → List Taken → List ℕ → Type 0
-Follows s old new taken finished = (GoesOn s old.front.queue new.front.queue taken finished × (new.front.stage ≡ DriverOk)) ⊎ Stops old new taken finished
+abbrev pub Follows : Layout → Device → Device → List Taken → List ℕ → Type 0
+Follows layout old new taken finished = (GoesOn layout old.front.queue new.front.queue taken finished × (new.front.stage ≡ DriverOk)) ⊎ Stops old new taken finished
 
 abbrev IsWorking : Stage → Type 0
 IsWorking Reset = Unit {0}
@@ -49,19 +51,19 @@ pub not_both : (stage : Stage) → stage ≡ DriverOk → stage ≡ NeedsReset �
 not_both stage works stops = subst IsWorking (sym works ∙ stops) tt
 
 -- the queue is as it was, and the device still works
-pub stands : (s : ℕ) (old new : Device) → Works s old → new.front.queue ≡ old.front.queue → new.front.stage ≡ old.front.stage → Follows s old new [] []
-stands s old new works queue stage =
-    inl (stays s old.front.queue new.front.queue works.size works.small (ap (λ q. q.layout) queue) (ap (λ q. q.finished) queue) (ap in_work queue) (λ fault. works.sound (sym (ap (λ q. q.phase) queue) ∙ fault)), stage ∙ works.stage)
+pub stands : (layout : Layout) (old new : Device) → Works layout old → new.front.queue ≡ old.front.queue → new.front.stage ≡ old.front.stage → Follows layout old new [] []
+stands layout old new works queue stage =
+    inl (stays layout old.front.queue new.front.queue works.lies works.small (ap (λ q. q.layout) queue) (ap (λ q. q.finished) queue) (ap in_work queue) (λ fault. works.sound (sym (ap (λ q. q.phase) queue) ∙ fault)), stage ∙ works.stage)
 
 -- what the bytes of an access make of the queue, by what it does
-abbrev OnTaking : ℕ → Front → QueueState → Phase → Type 0
-OnTaking s b q AvailableIndex = GoesOn s b.queue q (entry_in true AvailableIndex b) []
-OnTaking s b q RingEntry = GoesOn s b.queue q (entry_in true RingEntry b) []
-OnTaking s b q (Table index) = GoesOn s b.queue q (entry_in true (Table index) b) []
-OnTaking s b q Served = Unit {0}
-OnTaking s b q (UsedElement done) = GoesOn s b.queue q (entry_in true (UsedElement done) b) []
-OnTaking s b q UsedIndex = GoesOn s b.queue q [] (b.queue.head ∷ [])
-OnTaking s b q Faulted = Unit {0}
+abbrev OnTaking : Layout → Front → QueueState → Phase → Type 0
+OnTaking layout b q AvailableIndex = GoesOn layout b.queue q (entry_in true AvailableIndex b) []
+OnTaking layout b q RingEntry = GoesOn layout b.queue q (entry_in true RingEntry b) []
+OnTaking layout b q (Table index) = GoesOn layout b.queue q (entry_in true (Table index) b) []
+OnTaking layout b q Served = Unit {0}
+OnTaking layout b q (UsedElement done) = GoesOn layout b.queue q (entry_in true (UsedElement done) b) []
+OnTaking layout b q UsedIndex = GoesOn layout b.queue q [] (b.queue.head ∷ [])
+OnTaking layout b q Faulted = Unit {0}
 
 none_there : (c : Bool) (head : ℕ) → in_work_in (if c then AvailableIndex else RingEntry) head ≡ []
 none_there true head = refl
@@ -90,28 +92,33 @@ still_sound false done = sound (UsedElement done) tt
 work_at : (q : QueueState) (phase : Phase) → q.phase ≡ phase → in_work q ≡ in_work_in phase q.head
 work_at q phase is = ap (λ p. in_work_in p q.head) is
 
-taking : (s : ℕ) (d : Device) → Works s d → (phase : Phase) → d.front.queue.phase ≡ phase
-    → OnTaking s d.front (after_in phase d.front.queue d.front.got.items) phase
-taking s d works AvailableIndex is =
+-- what it reads there
+wanted_is : (b : Front) → b.queue.phase ≡ RingEntry → wanted_by b ≡ reads (ring_entry b.queue) 2
+wanted_is b is = ap (λ phase. wants_in phase b) is ∙ ap (λ phase. wanted_in phase b.queue) is
+
+taking : (layout : Layout) (d : Device) → Works layout d → (phase : Phase) → d.front.queue.phase ≡ phase
+    → OnTaking layout d.front (after_in phase d.front.queue d.front.got.items) phase
+taking layout d works AvailableIndex is =
     let q = d.front.queue in
-    stays s q _ works.size works.small refl refl
+    stays layout q _ works.lies works.small refl refl
     (none_there (new_requests (number_at 2 0 d.front.got.items) q.finished == 0) q.head ∙ sym (work_at q AvailableIndex is))
     (none_sound (new_requests (number_at 2 0 d.front.got.items) q.finished == 0))
-taking s d works RingEntry is =
-    takes s d.front.queue _ (number_at 2 0 d.front.got.items) works.size works.small refl refl (work_at d.front.queue RingEntry is) refl (sound _ tt)
-taking s d works (Table index) is =
+taking layout d works RingEntry is =
+    takes layout d.front.queue _ (number_at 2 0 d.front.got.items) (wanted_by d.front) works.lies works.small refl refl (work_at d.front.queue RingEntry is) refl (sound _ tt)
+    (wanted_is d.front is)
+taking layout d works (Table index) is =
     let q = d.front.queue in
-    stays s q _ works.size works.small refl refl (one_there (next_of (descriptor_of d.front.got.items)) q.head ∙ sym (work_at q (Table index) is))
+    stays layout q _ works.lies works.small refl refl (one_there (next_of (descriptor_of d.front.got.items)) q.head ∙ sym (work_at q (Table index) is))
     (one_sound (next_of (descriptor_of d.front.got.items)))
-taking s d works Served is = tt
-taking s d works (UsedElement done) is =
+taking layout d works Served is = tt
+taking layout d works (UsedElement done) is =
     let q = d.front.queue in
-    stays s q _ works.size works.small refl refl
+    stays layout q _ works.lies works.small refl refl
     (one_still (done + element_piece q done == 8) (done + element_piece q done) q.head ∙ sym (work_at q (UsedElement done) is))
     (still_sound (done + element_piece q done == 8) (done + element_piece q done))
-taking s d works UsedIndex is =
-    finishes s d.front.queue _ works.size works.power works.small refl refl (work_at d.front.queue UsedIndex is) refl (sound _ tt)
-taking s d works Faulted is = tt
+taking layout d works UsedIndex is =
+    finishes layout d.front.queue _ works.lies works.power works.small refl refl (work_at d.front.queue UsedIndex is) refl (sound _ tt)
+taking layout d works Faulted is = tt
 
 -- the queue after its access, by what it did
 after_at : (q : QueueState) (bytes : List ℕ) (phase : Phase) → q.phase ≡ phase → fault_of q bytes ≡ None → after q bytes ≡ after_in phase q bytes
@@ -121,12 +128,12 @@ queue_then : (old new : Device) (phase : Phase) → old.front.queue.phase ≡ ph
     → new.front.queue ≡ after_in phase old.front.queue old.front.got.items
 queue_then old new phase is moved = ap (λ b. b.queue) moved.2 ∙ after_at old.front.queue old.front.got.items phase is moved.0
 
-moves : (s : ℕ) (old new : Device) → Works s old → (phase : Phase) → old.front.queue.phase ≡ phase → TakesQueue old new → OnTaking s old.front new.front.queue phase
-moves s old new works phase is moved =
-    subst (λ (q : QueueState). OnTaking s old.front q phase) (sym (queue_then old new phase is moved)) (taking s old works phase is)
+moves : (layout : Layout) (old new : Device) → Works layout old → (phase : Phase) → old.front.queue.phase ≡ phase → TakesQueue old new → OnTaking layout old.front new.front.queue phase
+moves layout old new works phase is moved =
+    subst (λ (q : QueueState). OnTaking layout old.front q phase) (sym (queue_then old new phase is moved)) (taking layout old works phase is)
 
-stage_then : (s : ℕ) (old new : Device) → Works s old → TakesQueue old new → new.front.stage ≡ DriverOk
-stage_then s old new works moved = ap (λ b. b.stage) moved.2 ∙ works.stage
+stage_then : (layout : Layout) (old new : Device) → Works layout old → TakesQueue old new → new.front.stage ≡ DriverOk
+stage_then layout old new works moved = ap (λ b. b.stage) moved.2 ∙ works.stage
 
 served_work : (job : Job) (b : Front) → b.queue.phase ≡ Served → in_work (queue_in job b) ≡ in_work b.queue
 served_work Header b is = refl
@@ -146,57 +153,57 @@ served_sound Reading b is = is
 served_sound Writing b is = is
 served_sound (Ending end) b is = sound (UsedElement 0) tt
 
-serves : (s : ℕ) (old new : Device) → Works s old → old.front.queue.phase ≡ Served → Serves old new → Follows s old new [] []
-serves s old new works is (done, called, front) =
+serves : (layout : Layout) (old new : Device) → Works layout old → old.front.queue.phase ≡ Served → Serves old new → Follows layout old new [] []
+serves layout old new works is (done, called, front) =
     let job = old.front.serving.job in
     let queue : new.front.queue ≡ queue_in job old.front = ap (λ b. b.queue) front in
     let same = served_layout job old.front in
     inl (
-      stays s old.front.queue new.front.queue works.size works.small (ap (λ q. q.layout) queue ∙ same.0) (ap (λ q. q.finished) queue ∙ same.1)
+      stays layout old.front.queue new.front.queue works.lies works.small (ap (λ q. q.layout) queue ∙ same.0) (ap (λ q. q.finished) queue ∙ same.1)
           (ap in_work queue ∙ served_work job old.front is)
           (λ fault. served_sound job old.front works.sound (sym (ap (λ q. q.phase) queue) ∙ fault)),
       ap (λ b. b.stage) front ∙ works.stage,
     )
 
 -- the device goes on to another access, with the bytes of the last one
-uses : (s : ℕ) (old new : Device) → Works s old → (new.front.queue.phase ≢ AvailableIndex) → (phase : Phase) → old.front.queue.phase ≡ phase
-    → UsesIn phase old new → Follows s old new (entry_in true phase old.front) []
-uses s old new works moved AvailableIndex is used = inl (moves s old new works AvailableIndex is used, stage_then s old new works used)
-uses s old new works moved RingEntry is used = inl (moves s old new works RingEntry is used, stage_then s old new works used)
-uses s old new works moved (Table index) is used = inl (moves s old new works (Table index) is used, stage_then s old new works used)
-uses s old new works moved Served is used = serves s old new works is used
-uses s old new works moved (UsedElement done) is used = inl (moves s old new works (UsedElement done) is used, stage_then s old new works used)
-uses s old new works moved UsedIndex is used = absurd (moved (ap (λ q. q.phase) (queue_then old new UsedIndex is used)))
-uses s old new works moved Faulted is used = absurd (works.sound is)
+uses : (layout : Layout) (old new : Device) → Works layout old → (new.front.queue.phase ≢ AvailableIndex) → (phase : Phase) → old.front.queue.phase ≡ phase
+    → UsesIn phase old new → Follows layout old new (entry_in true phase old.front) []
+uses layout old new works moved AvailableIndex is used = inl (moves layout old new works AvailableIndex is used, stage_then layout old new works used)
+uses layout old new works moved RingEntry is used = inl (moves layout old new works RingEntry is used, stage_then layout old new works used)
+uses layout old new works moved (Table index) is used = inl (moves layout old new works (Table index) is used, stage_then layout old new works used)
+uses layout old new works moved Served is used = serves layout old new works is used
+uses layout old new works moved (UsedElement done) is used = inl (moves layout old new works (UsedElement done) is used, stage_then layout old new works used)
+uses layout old new works moved UsedIndex is used = absurd (moved (ap (λ q. q.phase) (queue_then old new UsedIndex is used)))
+uses layout old new works moved Faulted is used = absurd (works.sound is)
 
-goes_on : (s : ℕ) (old new : Device) → Works s old → (old.front.is_made ≡ true → new.front.queue.phase ≢ AvailableIndex)
-    → (made : Bool) → old.front.is_made ≡ made → GoesOnIn made old new → Follows s old new (entry_in made old.front.queue.phase old.front) []
-goes_on s old new works moved false is same = stands s old new works (ap (λ d. d.front.queue) same) (ap (λ d. d.front.stage) same)
-goes_on s old new works moved true is used = uses s old new works (moved is) old.front.queue.phase refl used
+goes_on : (layout : Layout) (old new : Device) → Works layout old → (old.front.is_made ≡ true → new.front.queue.phase ≢ AvailableIndex)
+    → (made : Bool) → old.front.is_made ≡ made → GoesOnIn made old new → Follows layout old new (entry_in made old.front.queue.phase old.front) []
+goes_on layout old new works moved false is same = stands layout old new works (ap (λ d. d.front.queue) same) (ap (λ d. d.front.stage) same)
+goes_on layout old new works moved true is used = uses layout old new works (moved is) old.front.queue.phase refl used
 
-pub steps_on : (s : ℕ) (old new : Device) → Works s old → (outcome : Step) → Steps old outcome new
-    → Follows s old new (taken_at old (TakesStep outcome)) (finished_at (TakesStep outcome))
-steps_on s old new works Down happens = absurd (not_both old.front.stage works.stage happens.0)
-steps_on s old new works Idle (inl happens) = absurd (happens.0 works.stage)
-steps_on s old new works Idle (inr happens) =
-    inl (moves s old new works AvailableIndex happens.0.1 happens.1, stage_then s old new works happens.1)
-steps_on s old new works Waiting happens = stands s old new works (ap (λ d. d.front.queue) happens.2) (ap (λ d. d.front.stage) happens.2)
-steps_on s old new works (Chain fault) happens = inr (record {
+pub steps_on : (layout : Layout) (old new : Device) → Works layout old → (outcome : Step) → Steps old outcome new
+    → Follows layout old new (taken_at old (TakesStep outcome)) (finished_at (TakesStep outcome))
+steps_on layout old new works Down happens = absurd (not_both old.front.stage works.stage happens.0)
+steps_on layout old new works Idle (inl happens) = absurd (happens.0 works.stage)
+steps_on layout old new works Idle (inr happens) =
+    inl (moves layout old new works AvailableIndex happens.0.1 happens.1, stage_then layout old new works happens.1)
+steps_on layout old new works Waiting happens = stands layout old new works (ap (λ d. d.front.queue) happens.2) (ap (λ d. d.front.stage) happens.2)
+steps_on layout old new works (Chain fault) happens = inr (record {
   stage = ap (λ b. b.stage) happens.4;
   none_taken = refl;
   none_finished = refl;
   counted = ap (λ b. b.queue.finished) happens.4 ∙ ap (λ f. (after_fault f old.front.queue old.front.got.items).finished) happens.2;
 })
-steps_on s old new works (Finished head len) happens = inl (
-  subst (λ (h : ℕ). GoesOn s old.front.queue new.front.queue [] (h ∷ [])) (sym happens.2) (moves s old new works UsedIndex happens.1 happens.4),
-  stage_then s old new works happens.4,
+steps_on layout old new works (Finished head len) happens = inl (
+  subst (λ (h : ℕ). GoesOn layout old.front.queue new.front.queue [] (h ∷ [])) (sym happens.2) (moves layout old new works UsedIndex happens.1 happens.4),
+  stage_then layout old new works happens.4,
 )
-steps_on s old new works (Wants want) happens = goes_on s old new works happens.3 old.front.is_made refl happens.4
+steps_on layout old new works (Wants want) happens = goes_on layout old new works happens.3 old.front.is_made refl happens.4
 
 -- the device is as it was, or down
-stays_or_stops : (s : ℕ) (old new : Device) → Works s old → (new.front ≡ old.front) ⊎ (new.front ≡ down old.front) → Follows s old new [] []
-stays_or_stops s old new works (inl same) = stands s old new works (ap (λ b. b.queue) same) (ap (λ b. b.stage) same)
-stays_or_stops s old new works (inr ended) =
+stays_or_stops : (layout : Layout) (old new : Device) → Works layout old → (new.front ≡ old.front) ⊎ (new.front ≡ down old.front) → Follows layout old new [] []
+stays_or_stops layout old new works (inl same) = stands layout old new works (ap (λ b. b.queue) same) (ap (λ b. b.stage) same)
+stays_or_stops layout old new works (inr ended) =
     inr (record { stage = ap (λ b. b.stage) ended; none_taken = refl; none_finished = refl; counted = ap (λ b. b.queue.finished) ended })
 
 is_it : (held : Option ℕ) (number : ℕ) → (held ≡ Some number) ⊎ (held ≢ Some number)
@@ -218,33 +225,33 @@ is_it (Some held) number = by (cases_eq held number)
     by (inl same) = inl (ap Some same)
     by (inr differ) = inr (λ same. differ (ap number_or same))
 
-heard : (s : ℕ) (old new : Device) (bytes : List ℕ) → Works s old → EndsWaiting old.front bytes new.front → Follows s old new [] []
-heard s old new bytes works (inl took) =
+heard : (layout : Layout) (old new : Device) (bytes : List ℕ) → Works layout old → EndsWaiting old.front bytes new.front → Follows layout old new [] []
+heard layout old new bytes works (inl took) =
     let kept : TakesBytes old.front bytes new.front = took.1 in
-    stands s old new works (ap (λ b. b.queue) kept.rest) (ap (λ b. b.stage) kept.rest)
-heard s old new bytes works (inr lost) = stays_or_stops s old new works (inr lost.1)
+    stands layout old new works (ap (λ b. b.queue) kept.rest) (ap (λ b. b.stage) kept.rest)
+heard layout old new bytes works (inr lost) = stays_or_stops layout old new works (inr lost.1)
 
-replied_on : (s : ℕ) (old new : Device) → Works s old → (reply : Reply) → new.front ≡ replied reply old.front → Follows s old new [] []
-replied_on s old new works (Accepted number) is = stands s old new works (ap (λ b. b.queue) is) (ap (λ b. b.stage) is)
-replied_on s old new works Busy is = stays_or_stops s old new works (inl is)
-replied_on s old new works (Asked page) is = stands s old new works (ap (λ b. b.queue) is) (ap (λ b. b.stage) is)
-replied_on s old new works Fault is = stays_or_stops s old new works (inr is)
+replied_on : (layout : Layout) (old new : Device) → Works layout old → (reply : Reply) → new.front ≡ replied reply old.front → Follows layout old new [] []
+replied_on layout old new works (Accepted number) is = stands layout old new works (ap (λ b. b.queue) is) (ap (λ b. b.stage) is)
+replied_on layout old new works Busy is = stays_or_stops layout old new works (inl is)
+replied_on layout old new works (Asked page) is = stands layout old new works (ap (λ b. b.queue) is) (ap (λ b. b.stage) is)
+replied_on layout old new works Fault is = stays_or_stops layout old new works (inr is)
 
-pub turns_on : (s : ℕ) (old new : Device) → Works s old → (turn : Turn) → Turns old turn new
-    → Follows s old new (taken_at old turn) (finished_at turn)
-turns_on s old new works (TakesStep outcome) happens = steps_on s old new works outcome happens
-turns_on s old new works (HearsMade number bytes) happens = by (is_it old.front.waits number)
+pub turns_on : (layout : Layout) (old new : Device) → Works layout old → (turn : Turn) → Turns old turn new
+    → Follows layout old new (taken_at old turn) (finished_at turn)
+turns_on layout old new works (TakesStep outcome) happens = steps_on layout old new works outcome happens
+turns_on layout old new works (HearsMade number bytes) happens = by (is_it old.front.waits number)
   where
-    by : (old.front.waits ≡ Some number) ⊎ (old.front.waits ≢ Some number) → Follows s old new [] []
-    by (inl its) = heard s old new bytes works (happens.0 its)
-    by (inr other) = stays_or_stops s old new works (inl (happens.1 other))
-turns_on s old new works (HearsReply reply) happens = replied_on s old new works reply happens
-turns_on s old new works (HearsRefusal page) happens = by (is_it old.front.asked page)
+    by : (old.front.waits ≡ Some number) ⊎ (old.front.waits ≢ Some number) → Follows layout old new [] []
+    by (inl its) = heard layout old new bytes works (happens.0 its)
+    by (inr other) = stays_or_stops layout old new works (inl (happens.1 other))
+turns_on layout old new works (HearsReply reply) happens = replied_on layout old new works reply happens
+turns_on layout old new works (HearsRefusal page) happens = by (is_it old.front.asked page)
   where
-    by : (old.front.asked ≡ Some page) ⊎ (old.front.asked ≢ Some page) → Follows s old new [] []
-    by (inl its) = stays_or_stops s old new works (inr (happens.0 its))
-    by (inr other) = stays_or_stops s old new works (inl (happens.1 other))
-turns_on s old new works ChangesDisk happens = stays_or_stops s old new works (inl happens)
+    by : (old.front.asked ≡ Some page) ⊎ (old.front.asked ≢ Some page) → Follows layout old new [] []
+    by (inl its) = stays_or_stops layout old new works (inr (happens.0 its))
+    by (inr other) = stays_or_stops layout old new works (inl (happens.1 other))
+turns_on layout old new works ChangesDisk happens = stays_or_stops layout old new works (inl happens)
 
 -- a device that is to be reset
 

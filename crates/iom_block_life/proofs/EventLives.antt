@@ -8,6 +8,7 @@ use Rattle.iom_iommu.specs.declared.reply.Reply.{Reply as Answer}
 use Rattle.iom_iommu.specs.declared.reply.Reply.TheVariants as answer
 use Rattle.iom_machine.specs.declared.event.Event.{Event}
 use Rattle.iom_machine.specs.declared.event.Event.TheVariants as events
+use Rattle.iom_machine.specs.declared.outcome.BlockStep.TheVariants as rest
 use Rattle.iom_machine.specs.declared.outcome.Outcome.{Outcome}
 use Rattle.iom_machine.specs.declared.outcome.Outcome.TheVariants as outcome
 use Rattle.iom_machine.specs.declared.state.DeviceKind.{DeviceKind}
@@ -27,23 +28,22 @@ use Rattle.iom_virtqueue.specs.Layouts.{layout_of}
 use Rattle.iom_platform.specs.Blocks as model
 use Rattle.iom_platform.specs.Blocks.{block_with, Changes, Stay, StepsOnce, EndsStep, HasDisk, IsLeft, IsReset, SetsUp, DoesToBlocks, HearsOldest, BringsRefusal, HearsAnswer, PlugsBlock, refused_page, reply_of}
 use Rattle.iom_platform.specs.Seen.{BlockSeen, Seen}
-use Rattle.iom_block_life.specs.Lives.{Turn, Turns, Taken, Lives, finished_at, TakesStep, HearsMade, HearsReply, HearsRefusal, ChangesDisk, taken_at}
-use Rattle.iom_block_life.specs.Runs.{ends_life, finished_in, head_in}
+use Rattle.iom_block_life.specs.Lives.{Turn, Turns, Taken, Lives, entry_in, finished_at, TakesStep, HearsMade, HearsReply, HearsRefusal, ChangesDisk, taken_at}
+use Rattle.iom_block_life.specs.Runs.{ends_life, finished_in, head_in, went_on, entry_by, taken_in}
 use Rattle.iom_block_life.proofs.BlockChanges.{as_device, there_before, IsChanged, one_changes}
 
--- the device with the id goes on with its life, and finishes the requests with these heads
-pub record GoesOn (id : ℕ) (old : Device) (new : List BlockSeen) (heads : List ℕ) : Type 0 where
+-- the device with the id goes on with its life, takes these entries, and finishes the requests with these heads
+pub record GoesOn (id : ℕ) (old : Device) (new : List BlockSeen) (taken : List Taken) (heads : List ℕ) : Type 0 where
   pub block : BlockSeen
   pub there : block_with new id ≡ Some block
   pub turns : List Turn
-  pub taken : List Taken
   pub lives : Lives old turns taken heads block.device
 
 -- it is as it was
-pub same_on : (id : ℕ) (new : List BlockSeen) (block : BlockSeen) → block_with new id ≡ Some block → GoesOn id block.device new []
-same_on id new block there = record { block = block; there = there; turns = []; taken = []; lives = (refl, refl, refl) }
+pub same_on : (id : ℕ) (new : List BlockSeen) (block : BlockSeen) → block_with new id ≡ Some block → GoesOn id block.device new [] []
+same_on id new block there = record { block = block; there = there; turns = []; lives = (refl, refl, refl) }
 
-stay_on : (id : ℕ) (old new : Seen) (block : BlockSeen) → block_with old.blocks id ≡ Some block → Stay old new → GoesOn id block.device new.blocks []
+stay_on : (id : ℕ) (old new : Seen) (block : BlockSeen) → block_with old.blocks id ≡ Some block → Stay old new → GoesOn id block.device new.blocks [] []
 stay_on id old new block there same = same_on id new.blocks block (ap (λ blocks. block_with blocks id) same.0 ∙ there)
 
 -- a call that finishes nothing
@@ -53,159 +53,193 @@ one_turn old new turn none_taken none_finished happens =
     (new, [], [], happens, sym (append-nil (taken_at old turn) ∙ none_taken), sym (append-nil (finished_at turn) ∙ none_finished), (refl, refl, refl))
 
 turn_on : (id : ℕ) (new : List BlockSeen) (block : BlockSeen) (after : Device) (turn : Turn) → block_with new id ≡ Some (as_device block after)
-    → taken_at block.device turn ≡ [] → finished_at turn ≡ [] → Turns block.device turn after → GoesOn id block.device new []
+    → taken_at block.device turn ≡ [] → finished_at turn ≡ [] → Turns block.device turn after → GoesOn id block.device new [] []
 turn_on id new block after turn there none_taken none_finished happens = record {
   block = as_device block after;
   there = there;
   turns = turn ∷ [];
-  taken = [];
   lives = one_turn block.device after turn none_taken none_finished happens;
 }
 
 -- one of the devices changes by such a call, or by one that would end its life
 called : (How : Device → Device → Type 0) (old new : Seen) (id other : ℕ) (block : BlockSeen) → block_with old.blocks id ≡ Some block → Changes How old other new
-    → (IsChanged How new.blocks id other block → GoesOn id block.device new.blocks []) → GoesOn id block.device new.blocks []
+    → (IsChanged How new.blocks id other block → GoesOn id block.device new.blocks [] []) → GoesOn id block.device new.blocks [] []
 called How old new id other block there changes when = by (one_changes How old.blocks new.blocks id other block there changes.0)
   where
-    by : ((other ≢ id) × (block_with new.blocks id ≡ Some block)) ⊎ IsChanged How new.blocks id other block → GoesOn id block.device new.blocks []
+    by : ((other ≢ id) × (block_with new.blocks id ≡ Some block)) ⊎ IsChanged How new.blocks id other block → GoesOn id block.device new.blocks [] []
     by (inl stays) = same_on id new.blocks block stays.1
     by (inr changed) = when changed
 
 kept_alive : (How : Device → Device → Type 0) (new : List BlockSeen) (id other : ℕ) (block : BlockSeen) → (id == other) ≡ false
-    → IsChanged How new id other block → GoesOn id block.device new []
+    → IsChanged How new id other block → GoesOn id block.device new [] []
 kept_alive How new id other block alive changed = absurd (true≢false (sym (eq-eqb id other (sym changed.same)) ∙ alive))
 
--- what an access that is begun is told as isn't a request that is finished
-answered : (told : Outcome) (a : Answer) → told ≡ reply_told_of a → finished_in told ≡ []
-answered told (answer.Accepted number) is = ap finished_in is
-answered told answer.Busy is = ap finished_in is
-answered told answer.BadSpan is = ap finished_in is
-answered told (answer.Fault cause) is = ap finished_in is
+-- a step that is told what became of its access went on to it
+answered : (told : Outcome) (a : Answer) → told ≡ reply_told_of a → went_on told ≡ true
+answered told (answer.Accepted number) is = ap went_on is
+answered told answer.Busy is = ap went_on is
+answered told answer.BadSpan is = ap went_on is
+answered told (answer.Fault cause) is = ap went_on is
 
-frame_found : (frame : Option ℕ) (old : Parts) (id : ℕ) (access : Access) (told : Outcome) (new : Parts) → FindsFrame frame old id access told new → finished_in told ≡ []
-frame_found None old id access told new found = ap finished_in found.0
+frame_found : (frame : Option ℕ) (old : Parts) (id : ℕ) (access : Access) (told : Outcome) (new : Parts) → FindsFrame frame old id access told new → went_on told ≡ true
+frame_found None old id access told new found = ap went_on found.0
 frame_found (Some frame) old id access told new found = answered told found.reply found.told_so
 
-through_cache : (can : DeviceKind → Bool) (old : Parts) (id : ℕ) (access : Access) (told : Outcome) (new : Parts) → AsksThroughCache can old id access told new → finished_in told ≡ []
-through_cache can old id access told new (inl unknown) = ap finished_in unknown.told_so
-through_cache can old id access told new (inr (inl unable)) = ap finished_in unable.told_so
-through_cache can old id access told new (inr (inr (able, inl bad))) = ap finished_in bad.1
-through_cache can old id access told new (inr (inr (able, inr (inl full)))) = ap finished_in full.2
+through_cache : (can : DeviceKind → Bool) (old : Parts) (id : ℕ) (access : Access) (told : Outcome) (new : Parts) → AsksThroughCache can old id access told new → went_on told ≡ true
+through_cache can old id access told new (inl unknown) = ap went_on unknown.told_so
+through_cache can old id access told new (inr (inl unable)) = ap went_on unable.told_so
+through_cache can old id access told new (inr (inr (able, inl bad))) = ap went_on bad.1
+through_cache can old id access told new (inr (inr (able, inr (inl full)))) = ap went_on full.2
 through_cache can old id access told new (inr (inr (able, inr (inr finds)))) = frame_found (cached_frame old id access) old id access told new finds.2
 
-missed : (first : Outcome) (old : Parts) (id : ℕ) (access : Access) (told : Outcome) (new : Parts) → finished_in first ≡ [] → AsksIfMissed first old id access told new
-    → finished_in told ≡ []
-missed outcome.Miss old id access told new none asks = ap finished_in asks.0
-missed first old id access told new none asks = ap finished_in asks.0 ∙ none
+missed : (first : Outcome) (old : Parts) (id : ℕ) (access : Access) (told : Outcome) (new : Parts) → went_on first ≡ true → AsksIfMissed first old id access told new
+    → went_on told ≡ true
+missed outcome.Miss old id access told new none asks = ap went_on asks.0
+missed first old id access told new none asks = ap went_on asks.0 ∙ none
 
-to_memory : (has_cache : Bool) (old : Parts) (id : ℕ) (access : Access) (told : Outcome) (new : Parts) → GoesToMemory has_cache old id access told new → finished_in told ≡ []
-to_memory false old id access told new (inl unknown) = ap finished_in unknown.told_so
-to_memory false old id access told new (inr (inl unable)) = ap finished_in unable.told_so
+to_memory : (has_cache : Bool) (old : Parts) (id : ℕ) (access : Access) (told : Outcome) (new : Parts) → GoesToMemory has_cache old id access told new → went_on told ≡ true
+to_memory false old id access told new (inl unknown) = ap went_on unknown.told_so
+to_memory false old id access told new (inr (inl unable)) = ap went_on unable.told_so
 to_memory false old id access told new (inr (inr (able, replied))) = answered told replied.reply replied.told_so
 to_memory true old id access told new goes =
     missed goes.first goes.between id access told new (through_cache _ old id access goes.first goes.between goes.tries) goes.asks
 
+-- such a step finishes no request
+none_finished : (told : Outcome) → went_on told ≡ true → finished_in told ≡ []
+none_finished (outcome.Stepped rest.Idle) goes = refl
+none_finished (outcome.Stepped rest.Waiting) goes = refl
+none_finished (outcome.Stepped rest.Asked) goes = refl
+none_finished (outcome.Stepped (rest.Chain fault)) goes = refl
+none_finished (outcome.Stepped (rest.Finished head len)) goes = absurd (true≢false (sym goes))
+none_finished (outcome.Stepped rest.Down) goes = refl
+none_finished told goes = refl
+
 -- a step of the device
-record LivesOn (before after : Device) (heads : List ℕ) : Type 0 where
+record LivesOn (before after : Device) (taken : List Taken) (heads : List ℕ) : Type 0 where
   turns : List Turn
-  taken : List Taken
   lives : Lives before turns taken heads after
+
+-- the entry that it took, by whether it went on
+abbrev entry_at : Bool → Device → List Taken
+entry_at true before = entry_in before.front.is_made before.front.queue.phase before.front
+entry_at false before = []
 
 -- a step that begins no access
 ends_step : (before between after : Device) (outcome : Step) (told : Outcome) → taken_at before (TakesStep outcome) ≡ [] → finished_in told ≡ finished_at (TakesStep outcome)
-    → Turns before (TakesStep outcome) between → after ≡ between → LivesOn before after (finished_in told)
-ends_step before between after outcome told none heads happens same = record {
-  turns = TakesStep outcome ∷ [];
-  taken = [];
-  lives = (
-    between,
-    [],
-    [],
-    happens,
-    sym (append-nil (taken_at before (TakesStep outcome)) ∙ none),
-    heads ∙ sym (append-nil (finished_at (TakesStep outcome))),
-    (refl, refl, same),
-  );
-}
-
-steps : (old new : Parts) (id : ℕ) (told : Outcome) (before after : Device) → StepsOnce old id told new before after → LivesOn before after (finished_in told)
-steps old new id told before after once = by once.taken once.steps once.ends
-  where
-    by : (taken : Step) → Steps before taken once.between → EndsStep taken old id once.between told new after → LivesOn before after (finished_in told)
-    by step.Idle happens ends = ends_step before once.between after step.Idle told refl (ap finished_in ends.0) happens ends.2
-    by step.Waiting happens ends = ends_step before once.between after step.Waiting told refl (ap finished_in ends.0) happens ends.2
-    by step.Down happens ends = ends_step before once.between after step.Down told refl (ap finished_in ends.0) happens ends.2
-    by (step.Chain fault) happens ends = ends_step before once.between after (step.Chain fault) told refl (ap finished_in ends.0) happens ends.2
-    by (step.Finished head len) happens ends = ends_step before once.between after (step.Finished head len) told refl (ap finished_in ends.0) happens ends.2
-    by (step.Wants want) happens begins = record {
-      turns = TakesStep (step.Wants want) ∷ HearsReply (reply_of begins.access told) ∷ [];
-      taken = taken_at before (TakesStep (step.Wants want)) ++ [];
+    → went_on told ≡ false → Turns before (TakesStep outcome) between → after ≡ between → LivesOn before after (entry_at (went_on told) before) (finished_in told)
+ends_step before between after outcome told none heads stands happens same =
+    subst (λ (c : Bool). LivesOn before after (entry_at c before) (finished_in told)) (sym stands)
+    (record {
+      turns = TakesStep outcome ∷ [];
       lives = (
-        once.between,
+        between,
         [],
         [],
         happens,
-        refl,
-        to_memory (caches_translations (kind_in old.devices id)) old id begins.access told new begins.begun,
-        (after, [], [], ap (λ d. d.front) begins.hears, refl, refl, (refl, refl, refl)),
+        sym (append-nil (taken_at before (TakesStep outcome)) ∙ none),
+        heads ∙ sym (append-nil (finished_at (TakesStep outcome))),
+        (refl, refl, same),
       );
-    }
+    })
+
+steps : (old new : Parts) (id : ℕ) (told : Outcome) (before after : Device) → StepsOnce old id told new before after
+    → LivesOn before after (entry_at (went_on told) before) (finished_in told)
+steps old new id told before after once = by once.taken once.steps once.ends
+  where
+    by : (taken : Step) → Steps before taken once.between → EndsStep taken old id once.between told new after
+        → LivesOn before after (entry_at (went_on told) before) (finished_in told)
+    by step.Idle happens ends = ends_step before once.between after step.Idle told refl (ap finished_in ends.0) (ap went_on ends.0) happens ends.2
+    by step.Waiting happens ends = ends_step before once.between after step.Waiting told refl (ap finished_in ends.0) (ap went_on ends.0) happens ends.2
+    by step.Down happens ends = ends_step before once.between after step.Down told refl (ap finished_in ends.0) (ap went_on ends.0) happens ends.2
+    by (step.Chain fault) happens ends = ends_step before once.between after (step.Chain fault) told refl (ap finished_in ends.0) (ap went_on ends.0) happens ends.2
+    by (step.Finished head len) happens ends =
+        ends_step before once.between after (step.Finished head len) told refl (ap finished_in ends.0) (ap went_on ends.0) happens ends.2
+    by (step.Wants want) happens begins =
+        let goes = to_memory (caches_translations (kind_in old.devices id)) old id begins.access told new begins.begun in
+        subst (λ (c : Bool). LivesOn before after (entry_at c before) (finished_in told)) (sym goes)
+        (record {
+          turns = TakesStep (step.Wants want) ∷ HearsReply (reply_of begins.access told) ∷ [];
+          lives = (
+            once.between,
+            [],
+            [],
+            happens,
+            sym (append-nil (taken_at before (TakesStep (step.Wants want)))),
+            none_finished told goes,
+            (after, [], [], ap (λ d. d.front) begins.hears, refl, refl, (refl, refl, refl)),
+          );
+        })
 
 step_on : (id other : ℕ) (old new : Seen) (told : Outcome) (block : BlockSeen) → block_with old.blocks id ≡ Some block
     → Changes (StepsOnce (parts_of old.world) other told (parts_of new.world)) old other new
-    → GoesOn id block.device new.blocks (head_in id (events.Step other) told)
+    → GoesOn id block.device new.blocks (taken_in id old (events.Step other) told) (head_in id (events.Step other) told)
 step_on id other old new told block there changes =
     by (one_changes (StepsOnce (parts_of old.world) other told (parts_of new.world)) old.blocks new.blocks id other block there changes.0)
   where
-    as_told : (c : Bool) → (id == other) ≡ c → GoesOn id block.device new.blocks (if c then finished_in told else [])
-        → GoesOn id block.device new.blocks (head_in id (events.Step other) told)
-    as_told c is on = subst (λ (heads : List ℕ). GoesOn id block.device new.blocks heads) (sym (ap (λ b. if b then finished_in told else []) is)) on
+    entry : List Taken
+    entry = entry_by (went_on told) (block_with old.blocks id)
+
+    as_told : (c : Bool) → (id == other) ≡ c → GoesOn id block.device new.blocks (if c then entry else []) (if c then finished_in told else [])
+        → GoesOn id block.device new.blocks (taken_in id old (events.Step other) told) (head_in id (events.Step other) told)
+    as_told c is on = subst (λ (b : Bool). GoesOn id block.device new.blocks (if b then entry else []) (if b then finished_in told else [])) (sym is) on
+
+    same_entry : (c : Bool) → entry_by c (Some block) ≡ entry_at c block.device
+    same_entry true = refl
+    same_entry false = refl
 
     by : ((other ≢ id) × (block_with new.blocks id ≡ Some block)) ⊎ IsChanged (StepsOnce (parts_of old.world) other told (parts_of new.world)) new.blocks id other block
-        → GoesOn id block.device new.blocks (head_in id (events.Step other) told)
+        → GoesOn id block.device new.blocks (taken_in id old (events.Step other) told) (head_in id (events.Step other) told)
     by (inl (differ, stays)) = as_told false (ne_eqb id other (λ same. differ (sym same))) (same_on id new.blocks block stays)
     by (inr changed) =
         let on = steps (parts_of old.world) (parts_of new.world) other told block.device changed.after changed.changed in
         as_told true (eq-eqb id other (sym changed.same))
-        (record { block = as_device block changed.after; there = changed.there; turns = on.turns; taken = on.taken; lives = on.lives })
+        (record {
+          block = as_device block changed.after;
+          there = changed.there;
+          turns = on.turns;
+          lives =
+              subst (λ (t : List Taken). Lives block.device on.turns t (finished_in told) changed.after)
+              (sym (ap (λ (o : Option BlockSeen). entry_by (went_on told) o) there ∙ same_entry (went_on told))) on.lives;
+        })
 
 -- the other events
 
 plugs : (number id other : ℕ) (old new : Seen) (told : Outcome) (block : BlockSeen) → block_with old.blocks id ≡ Some block → PlugsBlock number old other told new
-    → GoesOn id block.device new.blocks []
+    → GoesOn id block.device new.blocks [] []
 plugs number id other old new outcome.Done block there plugged =
     same_on id new.blocks block (ap (λ blocks. block_with blocks id) plugged.behind ∙ there_before old.blocks _ id block there)
 plugs number id other old new told block there same = stay_on id old new block there same
 
 plugs_any : (number : Option ℕ) (id other : ℕ) (old new : Seen) (told : Outcome) (block : BlockSeen) → block_with old.blocks id ≡ Some block
-    → model.PlugsAny number old other told new → GoesOn id block.device new.blocks []
+    → model.PlugsAny number old other told new → GoesOn id block.device new.blocks [] []
 plugs_any None id other old new told block there same = stay_on id old new block there same
 plugs_any (Some number) id other old new told block there plugged = plugs number id other old new told block there plugged
 
 inserts : (number id other : ℕ) (old new : Seen) (told : Outcome) (block : BlockSeen) → block_with old.blocks id ≡ Some block → model.InsertsDisk number old other told new
-    → GoesOn id block.device new.blocks []
+    → GoesOn id block.device new.blocks [] []
 inserts number id other old new outcome.Done block there put =
     by (one_changes (HasDisk put.disk) old.blocks new.blocks id other block there put.changed)
   where
-    by : ((other ≢ id) × (block_with new.blocks id ≡ Some block)) ⊎ IsChanged (HasDisk put.disk) new.blocks id other block → GoesOn id block.device new.blocks []
+    by : ((other ≢ id) × (block_with new.blocks id ≡ Some block)) ⊎ IsChanged (HasDisk put.disk) new.blocks id other block → GoesOn id block.device new.blocks [] []
     by (inl stays) = same_on id new.blocks block stays.1
     by (inr changed) = turn_on id new.blocks block changed.after ChangesDisk changed.there refl refl (ap (λ d. d.front) changed.changed.1)
 inserts number id other old new told block there same = stay_on id old new block there same
 
-leaves : (id other : ℕ) (old new : Seen) (told : Outcome) (block : BlockSeen) → block_with old.blocks id ≡ Some block → (id == other) ≡ false → model.LeavesBlock old other told new
-    → GoesOn id block.device new.blocks []
+leaves : (id other : ℕ) (old new : Seen) (told : Outcome) (block : BlockSeen) → block_with old.blocks id ≡ Some block → ends_life id (events.Detach other) told ≡ false → model.LeavesBlock old other told new
+    → GoesOn id block.device new.blocks [] []
 leaves id other old new (outcome.Ticket ticket) block there alive changes =
     called IsLeft old new id other block there changes (kept_alive IsLeft new.blocks id other block alive)
 leaves id other old new told block there alive same = stay_on id old new block there same
 
-resets : (id other : ℕ) (old new : Seen) (told : Outcome) (block : BlockSeen) → block_with old.blocks id ≡ Some block → (id == other) ≡ false → model.ResetsBlock old other told new
-    → GoesOn id block.device new.blocks []
+resets : (id other : ℕ) (old new : Seen) (told : Outcome) (block : BlockSeen) → block_with old.blocks id ≡ Some block → ends_life id (events.Reset other) told ≡ false → model.ResetsBlock old other told new
+    → GoesOn id block.device new.blocks [] []
 resets id other old new outcome.Done block there alive changes =
     called IsReset old new id other block there changes (kept_alive IsReset new.blocks id other block alive)
 resets id other old new told block there alive same = stay_on id old new block there same
 
-queues : (layout : Layout) (id other : ℕ) (old new : Seen) (told : Outcome) (block : BlockSeen) → block_with old.blocks id ≡ Some block → (id == other) ≡ false
-    → model.SetsQueueOf layout old other told new → GoesOn id block.device new.blocks []
+queues : (layout : Layout) (id other : ℕ) (old new : Seen) (told : Outcome) (block : BlockSeen) → block_with old.blocks id ≡ Some block
+    → ends_life id (events.Reset other) told ≡ false
+    → model.SetsQueueOf layout old other told new → GoesOn id block.device new.blocks [] []
 queues layout id other old new outcome.Done block there alive changes =
     called (SetsUp layout) old new id other block there changes (kept_alive (SetsUp layout) new.blocks id other block alive)
 queues layout id other old new told block there alive same = stay_on id old new block there same
@@ -215,7 +249,7 @@ hears_made number bytes old new (inl own) = (λ is. own.1, λ differs. absurd (d
 hears_made number bytes old new (inr other) = (λ is. absurd (other.0 is), λ differs. ap (λ d. d.front) other.1)
 
 hears_oldest : (number : Option ℕ) (bytes : List ℕ) (id other : ℕ) (old new : Seen) (block : BlockSeen) → block_with old.blocks id ≡ Some block
-    → HearsOldest number bytes old other new → GoesOn id block.device new.blocks []
+    → HearsOldest number bytes old other new → GoesOn id block.device new.blocks [] []
 hears_oldest None bytes id other old new block there same = stay_on id old new block there same
 hears_oldest (Some number) bytes id other old new block there changes =
     called (model.HearsMade number bytes) old new id other block there changes
@@ -223,7 +257,7 @@ hears_oldest (Some number) bytes id other old new block there changes =
     (hears_made number bytes block.device changed.after changed.changed))
 
 commits : (id other : ℕ) (old new : Seen) (told : Outcome) (block : BlockSeen) → block_with old.blocks id ≡ Some block → model.CommitsOf old other told new
-    → GoesOn id block.device new.blocks []
+    → GoesOn id block.device new.blocks [] []
 commits id other old new (outcome.Read bytes) block there changes = hears_oldest _ bytes.items id other old new block there changes
 commits id other old new (outcome.Wrote count) block there changes = hears_oldest _ [] id other old new block there changes
 commits id other old new told block there same = stay_on id old new block there same
@@ -233,24 +267,24 @@ hears_refusal page old new (inl own) = (λ is. ap (λ d. d.front) own.1, λ diff
 hears_refusal page old new (inr other) = (λ is. absurd (other.0 is), λ differs. ap (λ d. d.front) other.1)
 
 hears_answer : (page : Option ℕ) (id other : ℕ) (old new : Seen) (block : BlockSeen) → block_with old.blocks id ≡ Some block → HearsAnswer page old other new
-    → GoesOn id block.device new.blocks []
+    → GoesOn id block.device new.blocks [] []
 hears_answer None id other old new block there same = stay_on id old new block there same
 hears_answer (Some page) id other old new block there changes =
     called (model.HearsRefusal page) old new id other block there changes
     (λ changed. turn_on id new.blocks block changed.after (HearsRefusal page) changed.there refl refl (hears_refusal page block.device changed.after changed.changed))
 
-brings : (on : Option OnLink) (id : ℕ) (old new : Seen) (block : BlockSeen) → block_with old.blocks id ≡ Some block → BringsRefusal on old new → GoesOn id block.device new.blocks []
+brings : (on : Option OnLink) (id : ℕ) (old new : Seen) (block : BlockSeen) → block_with old.blocks id ≡ Some block → BringsRefusal on old new → GoesOn id block.device new.blocks [] []
 brings None id old new block there same = stay_on id old new block there same
 brings (Some on) id old new block there heard = hears_answer (refused_page on.message) id on.device old new block there heard
 
 delivers : (place id : ℕ) (old new : Seen) (told : Outcome) (block : BlockSeen) → block_with old.blocks id ≡ Some block → model.DeliversTo old place told new
-    → GoesOn id block.device new.blocks []
+    → GoesOn id block.device new.blocks [] []
 delivers place id old new outcome.AnswerRefused block there brought = brings (slice_get (parts_of old.world).fabric place) id old new block there brought
 delivers place id old new told block there same = stay_on id old new block there same
 
 -- any event
-pub event_on : (id : ℕ) (old new : Seen) (event : Event) (told : Outcome) (block : BlockSeen) → block_with old.blocks id ≡ Some block → ends_life id event ≡ false
-    → DoesToBlocks old event told new → GoesOn id block.device new.blocks (head_in id event told)
+pub event_on : (id : ℕ) (old new : Seen) (event : Event) (told : Outcome) (block : BlockSeen) → block_with old.blocks id ≡ Some block → ends_life id event told ≡ false
+    → DoesToBlocks old event told new → GoesOn id block.device new.blocks (taken_in id old event told) (head_in id event told)
 event_on id old new (events.Plug other what) told block there alive does = plugs_any (disk_of what) id other old new told block there does
 event_on id old new (events.Medium other number) told block there alive does = inserts number id other old new told block there does
 event_on id old new (events.Detach other) told block there alive does = leaves id other old new told block there alive does

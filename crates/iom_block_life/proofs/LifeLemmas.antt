@@ -1,24 +1,29 @@
 -- What follows from a whole life.
-use Rattle.std.proofs.Common.{◌≡◌, inl, inr, ℕ, zero, suc, ◌+◌, ◌%◌, ◌≤◌, List, [], ◌∷◌, ◌++◌, length, map, slice_get, Some, sym, ap, ◌∙◌, subst, arith, append-nil, append_assoc, length-append}
+use Rattle.std.proofs.Common.{◌≡◌, inl, inr, ℕ, zero, suc, ◌+◌, ◌*◌, ◌%◌, ◌≤◌, List, [], ◌∷◌, ◌++◌, length, map, slice_get, Some, sym, ap, ◌∙◌, subst, arith, append-nil, append_assoc, length-append}
 use Rattle.std.proofs.lemmas.List.{map-append}
 use Rattle.std.proofs.lemmas.Option.{slice_get_within}
 use Rattle.std.proofs.Math.Nat.{mod-add-mod}
 use Rattle.iom_virtqueue.specs.declared.layout.Layout.{Layout}
+use Rattle.iom_virtqueue.specs.Accesses.{Access, reads, wrapped}
 use Rattle.iom_virtio_blk.specs.declared.stage.Stage.TheVariants.{NeedsReset}
 use Rattle.iom_virtqueue.specs.declared.phase.Phase.TheVariants.{AvailableIndex}
 use Rattle.iom_virtio_blk.specs.Steps.{Device}
-use Rattle.iom_block_life.specs.Lives.{Turn, Lives, Taken, taken_at, finished_at, head_of, IsFresh, UsesEachOnce}
+use Rattle.iom_block_life.specs.Lives.{Turn, Lives, Taken, taken_at, finished_at, head_of, reads_entry, IsFresh, UsesEachOnce}
 use Rattle.iom_block_life.proofs.QueueTurns.{in_work, sound, at_most_one}
 use Rattle.iom_block_life.proofs.DeviceTurns.{Works, Follows, turns_on, stopped_turns}
 
+-- the access that reads the entry at this place
+abbrev at_place : Layout → ℕ → Access
+at_place layout place = reads (wrapped (layout.available_ring + (4 + 2 * place))) 2
+
 -- what is shown of a life that begins with any device that works
-record LivesOn (s : ℕ) (old new : Device) (taken : List Taken) (finished : List ℕ) : Type 0 where
+record LivesOn (layout : Layout) (old new : Device) (taken : List Taken) (finished : List ℕ) : Type 0 where
   rest : List ℕ
   heads : in_work old.front.queue ++ map head_of taken ≡ finished ++ rest
   few : length rest ≤ 1
   counted : new.front.queue.finished ≡ (old.front.queue.finished + length finished) % 65536
   places : (k : ℕ) (entry : Taken) → slice_get taken k ≡ Some entry
-      → entry.place ≡ (old.front.queue.finished + length (in_work old.front.queue) + k) % s
+      → entry.access ≡ reads_entry layout (old.front.queue.finished + length (in_work old.front.queue) + k)
 
 nothing_there : (taken : List Taken) → taken ≡ [] → (k : ℕ) (entry : Taken) → slice_get taken k ≡ Some entry → ⊥
 nothing_there taken none k entry at =
@@ -56,9 +61,9 @@ order_append P (one ∷ first) later here there (suc k) entry at =
     order_append (λ n. P (suc n)) first later (λ n. here (suc n)) (λ n e found. subst (λ (m : ℕ). P m e) (omega arith) (there n e found)) k entry at
 
 -- nothing is taken or finished any more
-ended : (s : ℕ) (old new : Device) (taken : List Taken) (finished : List ℕ) → Works s old
-    → taken ≡ [] → finished ≡ [] → new.front.queue.finished ≡ old.front.queue.finished → LivesOn s old new taken finished
-ended s old new taken finished works none_taken none_finished same = record {
+ended : (layout : Layout) (old new : Device) (taken : List Taken) (finished : List ℕ) → Works layout old
+    → taken ≡ [] → finished ≡ [] → new.front.queue.finished ≡ old.front.queue.finished → LivesOn layout old new taken finished
+ended layout old new taken finished works none_taken none_finished same = record {
   rest = in_work old.front.queue;
   heads = ap (λ t. in_work old.front.queue ++ map head_of t) none_taken ∙ append-nil (in_work old.front.queue)
       ∙ sym (ap (λ f. f ++ in_work old.front.queue) none_finished);
@@ -68,12 +73,12 @@ ended s old new taken finished works none_taken none_finished same = record {
 }
 
 -- a turn, and the life after it
-joined : (s : ℕ) (old next new : Device) (first later : List Taken) (done ends : List ℕ) → Works s old → Follows s old next first done
-    → (Works s next → LivesOn s next new later ends) → (next.front.stage ≡ NeedsReset → Rests next new later ends)
-    → LivesOn s old new (first ++ later) (done ++ ends)
-joined s old next new first later done ends works (inl (goes, stage)) more rest =
+joined : (layout : Layout) (old next new : Device) (first later : List Taken) (done ends : List ℕ) → Works layout old → Follows layout old next first done
+    → (Works layout next → LivesOn layout next new later ends) → (next.front.stage ≡ NeedsReset → Rests next new later ends)
+    → LivesOn layout old new (first ++ later) (done ++ ends)
+joined layout old next new first later done ends works (inl (goes, stage)) more rest =
     let counted = goes.counted in
-    let on = more (record { stage = stage; size = goes.size; power = works.power; small = omega (arith, counted); sound = goes.sound }) in
+    let on = more (record { stage = stage; lies = goes.lies; power = works.power; small = omega (arith, counted); sound = goes.sound }) in
     record {
       rest = on.rest;
       heads = ap (λ l. in_work old.front.queue ++ l) (map-append head_of first later)
@@ -86,39 +91,39 @@ joined s old next new first later done ends works (inl (goes, stage)) more rest 
       counted = on.counted ∙ ap (λ n. (n + length ends) % 65536) goes.counted
           ∙ mod-add-mod (old.front.queue.finished + length done) 65536 (length ends)
           ∙ (let long = length-append done ends in ap (λ n. n % 65536) (omega (arith, long)));
-      places = order_append (λ k entry. entry.place ≡ (old.front.queue.finished + length (in_work old.front.queue) + k) % s) first later goes.places
-          (λ k entry at. on.places k entry at ∙ goes.begun k ∙ ap (λ n. n % s) (omega arith));
+      places = order_append (λ k entry. entry.access ≡ reads_entry layout (old.front.queue.finished + length (in_work old.front.queue) + k)) first later goes.places
+          (λ k entry at. on.places k entry at ∙ ap (λ place. at_place layout place) (goes.begun k) ∙ ap (λ n. reads_entry layout n) (omega arith));
     }
-joined s old next new first later done ends works (inr stops) more rest =
+joined layout old next new first later done ends works (inr stops) more rest =
     let none = rest stops.stage in
-    ended s old new (first ++ later) (done ++ ends) works (ap (λ l. l ++ later) stops.none_taken ∙ none.none_taken)
+    ended layout old new (first ++ later) (done ++ ends) works (ap (λ l. l ++ later) stops.none_taken ∙ none.none_taken)
     (ap (λ l. l ++ ends) stops.none_finished ∙ none.none_finished) (none.counted ∙ stops.counted)
 
-lives_on : (s : ℕ) (old new : Device) (turns : List Turn) (taken : List Taken) (finished : List ℕ)
-    → Works s old → Lives old turns taken finished new → LivesOn s old new taken finished
-lives_on s old new [] taken finished works lives =
-    ended s old new taken finished works lives.0 lives.1 (ap (λ d. d.front.queue.finished) lives.2)
-lives_on s old new (turn ∷ turns) taken finished works (next, later, ends, happens, took, done, lives) =
-    let whole = joined s old next new (taken_at old turn) later (finished_at turn) ends works (turns_on s old next works turn happens)
-    (λ goes. lives_on s next new turns later ends goes lives) (λ stops. rests next new turns later ends stops lives) in
-    subst (λ (t : List Taken). LivesOn s old new t finished) (sym took)
-    (subst (λ (f : List ℕ). LivesOn s old new (taken_at old turn ++ later) f) (sym done) whole)
+lives_on : (layout : Layout) (old new : Device) (turns : List Turn) (taken : List Taken) (finished : List ℕ)
+    → Works layout old → Lives old turns taken finished new → LivesOn layout old new taken finished
+lives_on layout old new [] taken finished works lives =
+    ended layout old new taken finished works lives.0 lives.1 (ap (λ d. d.front.queue.finished) lives.2)
+lives_on layout old new (turn ∷ turns) taken finished works (next, later, ends, happens, took, done, lives) =
+    let whole = joined layout old next new (taken_at old turn) later (finished_at turn) ends works (turns_on layout old next works turn happens)
+    (λ goes. lives_on layout next new turns later ends goes lives) (λ stops. rests next new turns later ends stops lives) in
+    subst (λ (t : List Taken). LivesOn layout old new t finished) (sym took)
+    (subst (λ (f : List ℕ). LivesOn layout old new (taken_at old turn ++ later) f) (sym done) whole)
 
 pub uses_each_once : (layout : Layout) (old new : Device) (turns : List Turn) (taken : List Taken) (finished : List ℕ)
     → IsFresh layout old → Lives old turns taken finished new → UsesEachOnce layout taken finished new
 uses_each_once layout old new turns taken finished fresh lives =
     let none_finished = ap (λ q. q.finished) fresh.queue in
     let none_begun = ap in_work fresh.queue in
-    let works : Works layout.size old = record {
+    let works : Works layout old = record {
       stage = fresh.stage;
-      size = ap (λ q. q.layout.size) fresh.queue;
+      lies = ap (λ q. q.layout) fresh.queue;
       power = fresh.lawful.power;
       small = omega (arith, none_finished);
       sound = λ fault. sound AvailableIndex tt (sym (ap (λ q. q.phase) fresh.queue) ∙ fault);
     } in
-    let on = lives_on layout.size old new turns taken finished works lives in
+    let on = lives_on layout old new turns taken finished works lives in
     record {
-      order = λ k entry at. on.places k entry at ∙ (let none = ap length none_begun in ap (λ n. n % layout.size) (omega (arith, none_finished, none)));
+      order = λ k entry at. on.places k entry at ∙ (let none = ap length none_begun in ap (λ n. reads_entry layout n) (omega (arith, none_finished, none)));
       rest = on.rest;
       ends = sym (ap (λ work. work ++ map head_of taken) none_begun) ∙ on.heads;
       few = on.few;

@@ -5,8 +5,10 @@ use Rattle.std.proofs.lemmas.Bool.{cases_lt}
 use Rattle.std.proofs.lemmas.Option.{slice_get_within}
 use Rattle.iom_virtqueue.specs.declared.phase.Phase.{Phase}
 use Rattle.iom_virtqueue.specs.declared.phase.Phase.TheVariants.{AvailableIndex, RingEntry, Table, Served, UsedElement, UsedIndex, Faulted}
-use Rattle.iom_virtqueue.specs.Queues.{QueueState, more_finished}
-use Rattle.iom_block_life.specs.Lives.{Taken, head_of}
+use Rattle.iom_virtqueue.specs.declared.layout.Layout.{Layout}
+use Rattle.iom_virtqueue.specs.Accesses.{Access, nothing, reads}
+use Rattle.iom_virtqueue.specs.Queues.{QueueState, ring_entry, more_finished}
+use Rattle.iom_block_life.specs.Lives.{Taken, head_of, reads_entry}
 
 -- the head of the request in work
 abbrev pub in_work_in : Phase → ℕ → List ℕ
@@ -59,61 +61,63 @@ more_mod s n k power small = by (cases_lt (n + 1) 65536)
         ap (λ m. m % s) none ∙ sym (mul-add-mod_self_left s ((256 / s) * 256) k) ∙ ap (λ m. (m + k) % s) product
 
 -- what goes on: the queue lies where it lay; what was in work and what was taken is what was finished and what is in work; the counts go on; and what was
--- taken stands where the counts say
-pub record GoesOn (s : ℕ) (q q' : QueueState) (taken : List Taken) (finished : List ℕ) : Type 0 where
-  pub size : q'.layout.size ≡ s
+-- taken was read where the counts say
+pub record GoesOn (layout : Layout) (q q' : QueueState) (taken : List Taken) (finished : List ℕ) : Type 0 where
+  pub lies : q'.layout ≡ layout
   pub sound : q'.phase ≢ Faulted
   pub heads : in_work q ++ map head_of taken ≡ finished ++ in_work q'
-  pub begun : (k : ℕ) → (q'.finished + length (in_work q') + k) % s ≡ (q.finished + length (in_work q) + length taken + k) % s
+  pub begun : (k : ℕ) → (q'.finished + length (in_work q') + k) % layout.size ≡ (q.finished + length (in_work q) + length taken + k) % layout.size
   pub counted : q'.finished ≡ (q.finished + length finished) % 65536
-  pub places : (k : ℕ) (entry : Taken) → slice_get taken k ≡ Some entry → entry.place ≡ (q.finished + length (in_work q) + k) % s
+  pub places : (k : ℕ) (entry : Taken) → slice_get taken k ≡ Some entry → entry.access ≡ reads_entry layout (q.finished + length (in_work q) + k)
 
 -- nothing is taken, and nothing finished
-pub stays : (s : ℕ) (q q' : QueueState) → q.layout.size ≡ s → q.finished < 65536
-    → q'.layout ≡ q.layout → q'.finished ≡ q.finished → in_work q' ≡ in_work q → q'.phase ≢ Faulted → GoesOn s q q' [] []
-stays s q q' is small layout finished work sound = record {
-  size = ap (λ l. l.size) layout ∙ is;
+pub stays : (layout : Layout) (q q' : QueueState) → q.layout ≡ layout → q.finished < 65536
+    → q'.layout ≡ q.layout → q'.finished ≡ q.finished → in_work q' ≡ in_work q → q'.phase ≢ Faulted → GoesOn layout q q' [] []
+stays layout q q' lies small kept finished work sound = record {
+  lies = kept ∙ lies;
   sound = sound;
   heads = append-nil (in_work q) ∙ sym work;
-  begun = λ k. let long = ap length work in ap (λ n. n % s) (omega (arith, finished, long));
+  begun = λ k. let long = ap length work in ap (λ n. n % layout.size) (omega (arith, finished, long));
   counted = finished ∙ omega (arith, small);
   places = λ k entry at. let none = slice_get_within [] k entry at in absurd (omega (arith, none));
 }
 
-abbrev place_or : Option Taken → ℕ
-place_or None = 0
-place_or (Some entry) = entry.place
+abbrev access_or : Option Taken → Access
+access_or None = nothing
+access_or (Some entry) = entry.access
 
 -- an entry of the ring is taken, and its request is in work
-pub takes : (s : ℕ) (q q' : QueueState) (head : ℕ) → q.layout.size ≡ s → q.finished < 65536
-    → q'.layout ≡ q.layout → q'.finished ≡ q.finished → in_work q ≡ [] → in_work q' ≡ head ∷ [] → q'.phase ≢ Faulted
-    → GoesOn s q q' (record { place = q.finished % q.layout.size; head = head } ∷ []) []
-takes s q q' head is small layout finished none some sound = record {
-  size = ap (λ l. l.size) layout ∙ is;
+pub takes : (layout : Layout) (q q' : QueueState) (head : ℕ) (access : Access) → q.layout ≡ layout → q.finished < 65536
+    → q'.layout ≡ q.layout → q'.finished ≡ q.finished → in_work q ≡ [] → in_work q' ≡ head ∷ [] → q'.phase ≢ Faulted → access ≡ reads (ring_entry q) 2
+    → GoesOn layout q q' (record { access = access; head = head } ∷ []) []
+takes layout q q' head access lies small kept finished none some sound read = record {
+  lies = kept ∙ lies;
   sound = sound;
   heads = ap (λ work. work ++ head ∷ []) none ∙ sym some;
-  begun = λ k. let short = ap length none in let long = ap length some in ap (λ n. n % s) (omega (arith, finished, short, long));
+  begun = λ k. let short = ap length none in let long = ap length some in ap (λ n. n % layout.size) (omega (arith, finished, short, long));
   counted = finished ∙ omega (arith, small);
   places = stands;
 }
   where
     entry_taken : Taken
-    entry_taken = record { place = q.finished % q.layout.size; head = head }
+    entry_taken = record { access = access; head = head }
 
-    stands : (k : ℕ) (entry : Taken) → slice_get (entry_taken ∷ []) k ≡ Some entry → entry.place ≡ (q.finished + length (in_work q) + k) % s
-    stands zero entry at = let short = ap length none in sym (ap place_or at) ∙ ap (λ z. q.finished % z) is ∙ ap (λ n. n % s) (omega (arith, short))
+    stands : (k : ℕ) (entry : Taken) → slice_get (entry_taken ∷ []) k ≡ Some entry → entry.access ≡ reads_entry layout (q.finished + length (in_work q) + k)
+    stands zero entry at =
+        let short = ap length none in
+        sym (ap access_or at) ∙ read ∙ ap (λ (l : Layout). reads_entry l q.finished) lies ∙ ap (λ n. reads_entry layout n) (omega (arith, short))
     stands (suc k) entry at = let within = slice_get_within (entry_taken ∷ []) (suc k) entry at in absurd (omega (arith, within))
 
 -- the request in work is finished
-pub finishes : (s : ℕ) (q q' : QueueState) → q.layout.size ≡ s → 256 % s ≡ 0 → q.finished < 65536
+pub finishes : (layout : Layout) (q q' : QueueState) → q.layout ≡ layout → 256 % layout.size ≡ 0 → q.finished < 65536
     → q'.layout ≡ q.layout → q'.finished ≡ more_finished q.finished → in_work q ≡ q.head ∷ [] → in_work q' ≡ [] → q'.phase ≢ Faulted
-    → GoesOn s q q' [] (q.head ∷ [])
-finishes s q q' is power small layout finished some none sound = record {
-  size = ap (λ l. l.size) layout ∙ is;
+    → GoesOn layout q q' [] (q.head ∷ [])
+finishes layout q q' lies power small kept finished some none sound = record {
+  lies = kept ∙ lies;
   sound = sound;
   heads = append-nil (in_work q) ∙ some ∙ sym (ap (λ work. (q.head ∷ []) ++ work) none);
   begun = λ k. let long = ap length some in let short = ap length none in
-      ap (λ n. n % s) (omega (arith, finished, short)) ∙ more_mod s q.finished k power small ∙ ap (λ n. n % s) (omega (arith, long));
+      ap (λ n. n % layout.size) (omega (arith, finished, short)) ∙ more_mod layout.size q.finished k power small ∙ ap (λ n. n % layout.size) (omega (arith, long));
   counted = finished;
   places = λ k entry at. let none = slice_get_within [] k entry at in absurd (omega (arith, none));
 }

@@ -1,24 +1,30 @@
 -- What the events of a run make of one block device, one after another.
-use Rattle.std.proofs.Common.{◌≡◌, ℕ, zero, suc, false, List, [], ◌∷◌, ◌++◌, Option, Some, None, sym, ap, ◌∙◌, subst, arith, append_assoc}
-use Rattle.std.specs.Prelude.{All}
+use Rattle.std.proofs.Common.{◌≡◌, ◌≢◌, ◌⊎◌, inl, inr, ℕ, List, [], ◌∷◌, ◌++◌, Option, Some, None, refl, sym, ap, ◌∙◌, subst, append_assoc}
 use Rattle.iom_machine.specs.declared.event.Event.{Event}
+use Rattle.iom_machine.specs.declared.event.Event.TheVariants as events
 use Rattle.iom_machine.specs.declared.outcome.Outcome.{Outcome}
+use Rattle.iom_machine.specs.declared.outcome.Outcome.TheVariants as outcome
 use Rattle.iom_machine.specs.declared.outcome.Trace.{Trace}
 use Rattle.iom_machine.specs.declared.state.State.{State}
 use Rattle.iom_machine.specs.Machine.{Run}
 use Rattle.iom_virtqueue.specs.declared.layout.Layout.{Layout}
 use Rattle.iom_virtio_blk.specs.Steps.{Device}
-use Rattle.iom_virtqueue.specs.Layouts.{IsLayout}
+use Rattle.iom_virtqueue.specs.Layouts.{IsLayout, layout_of}
 use Rattle.iom_virtqueue.specs.Queues.{QueueState, fresh_queue}
 use Rattle.iom_virtio_blk.specs.declared.front.Front.{Front}
 use Rattle.iom_virtio_blk.specs.declared.stage.Stage.{Stage}
 use Rattle.iom_virtio_blk.specs.declared.stage.Stage.TheVariants.{Reset, FeaturesOk}
 use Rattle.iom_virtio_blk.specs.Blocks.{with_queue}
 use Rattle.iom_platform.specs.Blocks.{block_with, SetsUp}
+use Rattle.iom_platform.specs.Happens.{HappensHere}
 use Rattle.iom_platform.specs.Runs.{GoesThrough}
+use Rattle.iom_world.specs.Seen.{parts_of}
+use Rattle.iom_composition.specs.Parts.{Parts}
+use Rattle.iom_composition.specs.BlockDevices.{SetsQueue}
 use Rattle.iom_platform.specs.Seen.{BlockSeen, Seen}
 use Rattle.iom_block_life.specs.Lives.{Turn, Taken, Lives, taken_at, finished_at, IsFresh, UsesEachOnce}
-use Rattle.iom_block_life.specs.Runs.{ends_life, heads_in}
+use Rattle.iom_block_life.specs.Runs.{LivesThrough, heads_in, entries_in}
+use Rattle.iom_block_life.proofs.BlockChanges.{as_device, IsChanged, one_changes}
 use Rattle.iom_block_life.proofs.EventLives.{GoesOn, same_on, event_on}
 use Rattle.iom_block_life.proofs.LifeLemmas.{uses_each_once}
 
@@ -39,33 +45,32 @@ lives_append (turn ∷ first) later old mid new taken more finished ends (next, 
 )
 
 runs_on : (events : List Event) (outcomes : List Outcome) (traces : List (Option Trace)) (state last : State) (run : Run state events outcomes last) (old new : Seen)
-    (id : ℕ) (block : BlockSeen) → GoesThrough state old events outcomes traces last run new → block_with old.blocks id ≡ Some block
-    → All (λ event. ends_life id event ≡ false) events → GoesOn id block.device new.blocks (heads_in id events outcomes)
+    (id : ℕ) (block : BlockSeen) (through : GoesThrough state old events outcomes traces last run new) → block_with old.blocks id ≡ Some block
+    → LivesThrough id events outcomes → GoesOn id block.device new.blocks (entries_in id state old events outcomes traces last run new through) (heads_in id events outcomes)
 runs_on [] [] [] state last run old new id block through there alive =
     same_on id new.blocks block (ap (λ seen. block_with seen.blocks id) through.1 ∙ there)
 runs_on [] [] (trace ∷ traces) state last run old new id block through there alive = absurd through
 runs_on [] (told ∷ outcomes) traces state last run old new id block through there alive = absurd through
 runs_on (event ∷ events) [] traces state last run old new id block through there alive = absurd through
 runs_on (event ∷ events) (told ∷ outcomes) [] state last run old new id block through there alive = absurd through
-runs_on (event ∷ events) (told ∷ outcomes) (trace ∷ traces) state last (next, step, rest) old new id block (shows, mid, happens, counts, later) there alive =
-    let one = event_on id old mid event told block there (alive zero event (omega arith)) happens.1 in
-    let more = runs_on events outcomes traces next last rest mid new id one.block later one.there (λ k d within. alive (suc k) d (omega (arith, within))) in
+runs_on (event ∷ events) (told ∷ outcomes) (trace ∷ traces) state last (next, step, rest) old new id block (shows, mid, happens, counts, later) there (lives, alive) =
+    let one = event_on id old mid event told block there lives happens.1 in
+    let more = runs_on events outcomes traces next last rest mid new id one.block later one.there alive in
     record {
       block = more.block;
       there = more.there;
       turns = one.turns ++ more.turns;
-      taken = one.taken ++ more.taken;
-      lives = lives_append one.turns more.turns block.device one.block.device more.block.device one.taken more.taken _ _ one.lives more.lives;
+      lives = lives_append one.turns more.turns block.device one.block.device more.block.device _ _ _ _ one.lives more.lives;
     }
 
 pub runs_use : (state last : State) (old new : Seen) (events : List Event) (outcomes : List Outcome) (traces : List (Option Trace)) (run : Run state events outcomes last)
-    (id : ℕ) (layout : Layout) (block : BlockSeen)
-    → GoesThrough state old events outcomes traces last run new
-    → block_with old.blocks id ≡ Some block → IsFresh layout block.device → All (λ event. ends_life id event ≡ false) events
-    → (after : BlockSeen) × (taken : List Taken) × (block_with new.blocks id ≡ Some after) × UsesEachOnce layout taken (heads_in id events outcomes) after.device
+    (id : ℕ) (layout : Layout) (block : BlockSeen) (through : GoesThrough state old events outcomes traces last run new)
+    → block_with old.blocks id ≡ Some block → IsFresh layout block.device → LivesThrough id events outcomes
+    → (after : BlockSeen) × (block_with new.blocks id ≡ Some after)
+    × UsesEachOnce layout (entries_in id state old events outcomes traces last run new through) (heads_in id events outcomes) after.device
 runs_use state last old new events outcomes traces run id layout block through there fresh alive =
     let on = runs_on events outcomes traces state last run old new id block through there alive in
-    (on.block, on.taken, on.there, uses_each_once layout block.device on.block.device on.turns on.taken (heads_in id events outcomes) fresh on.lives)
+    (on.block, on.there, uses_each_once layout block.device on.block.device on.turns _ (heads_in id events outcomes) fresh on.lives)
 
 abbrev stage_or : Option Front → Stage
 stage_or None = Reset
@@ -75,9 +80,39 @@ abbrev queue_or : QueueState → Option Front → QueueState
 queue_or other None = other
 queue_or other (Some b) = b.queue
 
-pub queues_begin : (layout : Layout) (old new : Device) → IsLayout layout → SetsUp layout old new → IsFresh layout new
-queues_begin layout old new lawful set =
+set_fresh : (layout : Layout) (old new : Device) → IsLayout layout → SetsUp layout old new → IsFresh layout new
+set_fresh layout old new lawful set =
     let settled : set.between.stage ≡ FeaturesOk = sym (ap stage_or set.features) in
     let queued : with_queue FeaturesOk layout set.between ≡ Some new.front =
     subst (λ (s : Stage). with_queue s layout set.between ≡ Some new.front) settled set.queue in
     record { stage = sym (ap stage_or queued); lawful = lawful; queue = sym (ap (queue_or (fresh_queue layout)) queued) }
+
+-- what is done isn't refused
+abbrev IsDone : Outcome → Type 0
+IsDone outcome.Done = Unit {0}
+IsDone told = ⊥
+
+lies_lawfully : (old new : Parts) (id : ℕ) (layout : Layout) → SetsQueue old id layout outcome.Done new → IsLayout layout
+lies_lawfully old new id layout (inl unknown) = absurd (subst IsDone unknown.told_so tt)
+lies_lawfully old new id layout (inr (inl unable)) = absurd (subst IsDone unable.told_so tt)
+lies_lawfully old new id layout (inr (inr (able, inl lawful))) = lawful.0
+lies_lawfully old new id layout (inr (inr (able, inr refused))) = absurd (subst IsDone refused.1 tt)
+
+pub queues_begin : (old new : Seen) (id size descriptors available used : ℕ) (block : BlockSeen)
+    → HappensHere old (events.Queue id size descriptors available used) outcome.Done new → block_with old.blocks id ≡ Some block
+    → (after : BlockSeen) × (block_with new.blocks id ≡ Some after) × IsFresh (layout_of size descriptors available used) after.device
+queues_begin old new id size descriptors available used block happens there =
+    by (one_changes (SetsUp layout) old.blocks new.blocks id id block there happens.1.0)
+  where
+    layout : Layout
+    layout = layout_of size descriptors available used
+
+    by : ((id ≢ id) × (block_with new.blocks id ≡ Some block)) ⊎ IsChanged (SetsUp layout) new.blocks id id block
+        → (after : BlockSeen) × (block_with new.blocks id ≡ Some after) × IsFresh layout after.device
+    by (inl (differ, stays)) = absurd (differ refl)
+    by (inr changed) = (
+      as_device block changed.after,
+      changed.there,
+      set_fresh layout block.device changed.after
+          (lies_lawfully (parts_of old.world) (parts_of new.world) id layout happens.0.does) changed.changed,
+    )

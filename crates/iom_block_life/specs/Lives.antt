@@ -1,9 +1,10 @@
 -- The life of a block device, from the setting of its queue to the next reset, and the entries of its ring that it uses (virtio 1.2, section 2.7.6,
 -- "The Virtqueue Available Ring", and section 2.7.8, "The Virtqueue Used Ring").
-use Rattle.std.specs.Prelude.{◌≡◌, ◌≢◌, ℕ, ◌%◌, ◌≤◌, Bool, true, false, List, [], ◌∷◌, ◌++◌, length, map, slice_get, Some}
+use Rattle.std.specs.Prelude.{◌≡◌, ◌≢◌, ℕ, ◌+◌, ◌*◌, ◌%◌, ◌≤◌, Bool, true, false, List, [], ◌∷◌, ◌++◌, length, map, slice_get, Some}
 use Rattle.iom_virtqueue.specs.declared.layout.Layout.{Layout}
 use Rattle.iom_virtqueue.specs.declared.phase.Phase.{Phase}
 use Rattle.iom_virtqueue.specs.declared.phase.Phase.TheVariants.{AvailableIndex, RingEntry, Table, Served, UsedElement, UsedIndex, Faulted}
+use Rattle.iom_virtqueue.specs.Accesses.{Access, reads, wrapped}
 use Rattle.iom_virtqueue.specs.Descriptors.{number_at}
 use Rattle.iom_virtqueue.specs.Layouts.{IsLayout}
 use Rattle.iom_virtqueue.specs.Queues.{fresh_queue}
@@ -12,7 +13,7 @@ use Rattle.iom_virtio_blk.specs.declared.stage.Stage.TheVariants.{DriverOk}
 use Rattle.iom_virtio_blk.specs.declared.step.Step.{Step}
 use Rattle.iom_virtio_blk.specs.declared.step.Step.TheVariants.{Idle, Waiting, Down, Chain, Finished, Wants}
 use Rattle.iom_virtio_blk.specs.declared.step.Reply.{Reply}
-use Rattle.iom_virtio_blk.specs.Blocks.{EndsWaiting, replied, down}
+use Rattle.iom_virtio_blk.specs.Blocks.{EndsWaiting, wanted_by, replied, down}
 use Rattle.iom_virtio_blk.specs.Steps.{Device, Steps}
 
 -- what happens to a device: it takes a step, with this outcome; it hears that its access of this number was made, with these bytes; it hears what became
@@ -35,16 +36,20 @@ Turns old (HearsRefusal page) new =
     (old.front.asked ≡ Some page → new.front ≡ down old.front) × (old.front.asked ≢ Some page → new.front ≡ old.front)
 Turns old ChangesDisk new = new.front ≡ old.front
 
--- an entry of the ring that was taken: its place in the ring, and the head of a chain that stood there
+-- an entry of the ring that was taken: the access that the device wants when it uses the bytes, and the head of a chain that these name
 pub record Taken : Type 0 where
-  pub place : ℕ
+  pub access : Access
   pub head : ℕ
 
--- the entry that a device takes that uses the bytes of its access: `ring_entry` of `iom_virtqueue` says where these were read
+-- the access that reads the k-th entry of the ring, modulo its size
+abbrev pub reads_entry : Layout → ℕ → Access
+reads_entry layout k = reads (wrapped (layout.available_ring + (4 + 2 * (k % layout.size)))) 2
+
+-- the entry that a device takes that uses the bytes of the access that it wanted
 abbrev pub entry_in : Bool → Phase → Front → List Taken
 entry_in false phase b = []
 entry_in true AvailableIndex b = []
-entry_in true RingEntry b = record { place = b.queue.finished % b.queue.layout.size; head = number_at 2 0 b.got.items } ∷ []
+entry_in true RingEntry b = record { access = wanted_by b; head = number_at 2 0 b.got.items } ∷ []
 entry_in true (Table index) b = []
 entry_in true Served b = []
 entry_in true (UsedElement done) b = []
@@ -93,11 +98,11 @@ pub record IsFresh (layout : Layout) (d : Device) : Type 0 where
 abbrev pub head_of : Taken → ℕ
 head_of entry = entry.head
 
--- The entries are taken in their order, from the first one on, each once: the k-th of them, counted from 0, stands at place k of the ring, modulo its
--- size. What is finished is what was taken, in the same order and each once, but for the last one, which may be in work or given up. The used idx
--- counts what was finished, modulo 2^16
+-- The entries are taken in their order, from the first one on, each once: the k-th of them, counted from 0, is wanted from place k of the ring, modulo its
+-- size. What is finished is what was taken, in the same order and each once, but for the last one, which may be in work or given up. The used idx that
+-- the device keeps counts what was finished, modulo 2^16
 pub record UsesEachOnce (layout : Layout) (taken : List Taken) (finished : List ℕ) (d : Device) : Type 0 where
-  pub order : (k : ℕ) (entry : Taken) → slice_get taken k ≡ Some entry → entry.place ≡ k % layout.size
+  pub order : (k : ℕ) (entry : Taken) → slice_get taken k ≡ Some entry → entry.access ≡ reads_entry layout k
   pub rest : List ℕ
   pub ends : map head_of taken ≡ finished ++ rest
   pub few : length rest ≤ 1

@@ -1,5 +1,5 @@
 -- The life of a block device within a run of the model: by the events and what came of them.
-use Rattle.std.specs.Prelude.{◌≡◌, ℕ, ◌==◌, Bool, false, All, List, [], ◌∷◌, ◌++◌, Option, Some, if◌then◌else◌}
+use Rattle.std.specs.Prelude.{◌≡◌, ⊤, ℕ, ◌==◌, Bool, true, false, List, [], ◌∷◌, ◌++◌, Option, None, Some, if◌then◌else◌}
 use Rattle.iom_machine.specs.declared.event.Event.{Event}
 use Rattle.iom_machine.specs.declared.event.Event.TheVariants as events
 use Rattle.iom_machine.specs.declared.outcome.BlockStep.TheVariants as rest
@@ -9,20 +9,28 @@ use Rattle.iom_machine.specs.declared.outcome.Trace.{Trace}
 use Rattle.iom_machine.specs.declared.state.State.{State}
 use Rattle.iom_machine.specs.Machine.{Run}
 use Rattle.iom_virtqueue.specs.declared.layout.Layout.{Layout}
-use Rattle.iom_virtqueue.specs.Layouts.{IsLayout}
-use Rattle.iom_virtio_blk.specs.Steps.{Device}
-use Rattle.iom_platform.specs.Blocks.{block_with, SetsUp}
+use Rattle.iom_virtqueue.specs.Layouts.{layout_of}
+use Rattle.iom_virtio_blk.specs.declared.front.Front.{Front}
+use Rattle.iom_platform.specs.Blocks.{block_with}
+use Rattle.iom_platform.specs.Happens.{HappensHere}
 use Rattle.iom_platform.specs.Runs.{GoesThrough}
 use Rattle.iom_platform.specs.Seen.{BlockSeen, Seen}
-use Rattle.iom_block_life.specs.Lives.{Taken, IsFresh, UsesEachOnce}
+use Rattle.iom_block_life.specs.Lives.{Taken, entry_in, IsFresh, UsesEachOnce}
 
--- whether the event may end the life of the device with this id: it is detached, revived or reset, or its queue is set anew
-abbrev pub ends_life : ℕ → Event → Bool
-ends_life id (events.Detach other) = id == other
-ends_life id (events.Revive other) = id == other
-ends_life id (events.Reset other) = id == other
-ends_life id (events.Queue other size descriptors available used) = id == other
-ends_life id event = false
+-- whether the event, told so, ends the life of the device with this id: it is detached, revived or reset, or its queue is set anew, and that isn't refused
+abbrev pub ends_life : ℕ → Event → Outcome → Bool
+ends_life id event (outcome.Refused why) = false
+ends_life id (events.Detach other) told = id == other
+ends_life id (events.Revive other) told = id == other
+ends_life id (events.Reset other) told = id == other
+ends_life id (events.Queue other size descriptors available used) told = id == other
+ends_life id event told = false
+
+-- none of these events does
+abbrev pub LivesThrough : ℕ → List Event → List Outcome → Type 0
+LivesThrough id [] outcomes = ⊤
+LivesThrough id (event ∷ events) [] = ⊤
+LivesThrough id (event ∷ events) (told ∷ outcomes) = (ends_life id event told ≡ false) × LivesThrough id events outcomes
 
 -- the head of the request that a step finished, by what is told
 abbrev pub finished_in : Outcome → List ℕ
@@ -40,15 +48,48 @@ heads_in id [] outcomes = []
 heads_in id (event ∷ events) [] = []
 heads_in id (event ∷ events) (told ∷ outcomes) = head_in id event told ++ heads_in id events outcomes
 
--- an event that sets the queue of a device begins a life, where the queue may lie so
-abbrev pub QueuesBeginLives : Type 0
-QueuesBeginLives = (layout : Layout) (old new : Device) → IsLayout layout → SetsUp layout old new → IsFresh layout new
+-- whether a step that is told so went on to another access: to one that was begun or not, or one that has to wait for a translation
+abbrev pub went_on : Outcome → Bool
+went_on (outcome.Stepped rest.Idle) = false
+went_on (outcome.Stepped rest.Waiting) = false
+went_on (outcome.Stepped rest.Asked) = true
+went_on (outcome.Stepped (rest.Chain fault)) = false
+went_on (outcome.Stepped (rest.Finished head len)) = false
+went_on (outcome.Stepped rest.Down) = false
+went_on told = true
 
--- THE LAW of the model: from a block device whose queue was just set, over any events of which none may end its life
+-- the entry that the step took, if it did, by the device before it
+abbrev pub entry_by : Bool → Option BlockSeen → List Taken
+entry_by true (Some block) = entry_in block.device.front.is_made block.device.front.queue.phase block.device.front
+entry_by true None = []
+entry_by false block = []
+
+-- the same of a step of this device
+abbrev pub taken_in : ℕ → Seen → Event → Outcome → List Taken
+taken_in id old (events.Step other) told = if id == other then entry_by (went_on told) (block_with old.blocks id) else []
+taken_in id old event told = []
+
+-- the entries that the steps of this device took, in their order, in the states that the platform goes through
+abbrev pub entries_in : (id : ℕ) (state : State) (old : Seen) (events : List Event) (outcomes : List Outcome) (traces : List (Option Trace)) (last : State)
+    (run : Run state events outcomes last) (new : Seen) → GoesThrough state old events outcomes traces last run new → List Taken
+entries_in id state old [] outcomes traces last run new through = []
+entries_in id state old (event ∷ events) [] traces last run new through = []
+entries_in id state old (event ∷ events) (told ∷ outcomes) [] last run new through = []
+entries_in id state old (event ∷ events) (told ∷ outcomes) (trace ∷ traces) last (next, step, rest) new (shows, mid, happens, counts, later) =
+    taken_in id old event told ++ entries_in id next mid events outcomes traces last rest new later
+
+-- a queue that is set begins a life
+abbrev pub QueuesBeginLives : Type 0
+QueuesBeginLives =
+    (old new : Seen) (id size descriptors available used : ℕ) (block : BlockSeen)
+    → HappensHere old (events.Queue id size descriptors available used) outcome.Done new → block_with old.blocks id ≡ Some block
+    → (after : BlockSeen) × (block_with new.blocks id ≡ Some after) × IsFresh (layout_of size descriptors available used) after.device
+
+-- THE LAW of the model: from a block device whose queue was just set, over any events of which none ends its life
 abbrev pub RunsUseEachOnce : Type 0
 RunsUseEachOnce =
     (state last : State) (old new : Seen) (events : List Event) (outcomes : List Outcome) (traces : List (Option Trace)) (run : Run state events outcomes last)
-    (id : ℕ) (layout : Layout) (block : BlockSeen)
-    → GoesThrough state old events outcomes traces last run new
-    → block_with old.blocks id ≡ Some block → IsFresh layout block.device → All (λ event. ends_life id event ≡ false) events
-    → (after : BlockSeen) × (taken : List Taken) × (block_with new.blocks id ≡ Some after) × UsesEachOnce layout taken (heads_in id events outcomes) after.device
+    (id : ℕ) (layout : Layout) (block : BlockSeen) (through : GoesThrough state old events outcomes traces last run new)
+    → block_with old.blocks id ≡ Some block → IsFresh layout block.device → LivesThrough id events outcomes
+    → (after : BlockSeen) × (block_with new.blocks id ≡ Some after)
+    × UsesEachOnce layout (entries_in id state old events outcomes traces last run new through) (heads_in id events outcomes) after.device

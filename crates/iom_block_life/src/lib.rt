@@ -14,14 +14,14 @@ ghost use Rattle.iom_block_life.specs.Runs.{QueuesBeginLives, RunsUseEachOnce};
 
 /// Whatever happens to a device since its queue was set: it takes the entries of its ring in their order, from the
 /// first one on, each once. The requests that it finishes are those that it took, in the same order and each once, but
-/// for the last one, which may be in work or given up. The used idx that it wrote last counts those that were
-/// finished.
+/// for the last one, which may be in work or given up. The used idx that it keeps counts those that were finished.
 pub fn uses_each_entry_once()
     ensures { LivesUseEachOnce }
 {}
 
-/// The same of a block device in a run of the model, from the event that set its queue to the next one that may end
-/// its life: the heads of its lines `finished` are those of the entries that it took, in their order and each once.
+/// The same of a block device in a run of the model, from the event that set its queue to the next one that ends its
+/// life: the entries that its steps take, in the states that the platform goes through, are those of its ring in their
+/// order, and the heads of its lines `finished` are theirs, each once, but for the last one.
 pub fn runs_use_each_entry_once()
     ensures begin { QueuesBeginLives }
     ensures runs { RunsUseEachOnce }
