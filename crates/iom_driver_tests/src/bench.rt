@@ -1,12 +1,17 @@
 // A driver with memory and registers of its own, of which a test sees no parts.
+ghost use Rattle.std.specs.Prelude.{◌+◌, ◌<◌, ◌^◌};
+ghost use Rattle.iom_device.specs.Caches.{epoch_in};
+
 use crate::recording::Recording;
 use iom_base::{DeviceId, GrantRights, Mode};
+use iom_device::Device;
 use iom_driver::laws::stays_ready;
 use iom_driver::{Driver, Polled, Ticket};
 use iom_fault_queue::Record;
 use iom_ledger::Refusal;
 use iom_phys_mem::{Bytes, MemError, Memory};
 use iom_registers::Register;
+use iom_revival::revive;
 use std::alloc::Global;
 use std::marker::Model;
 use std::process::Abort;
@@ -154,6 +159,17 @@ impl Bench {
         self.driver.revive(&mut self.memory, id)
     }
 
+    /// The device is reset first, which is among these.
+    pub(crate) fn revive_reset(
+        &mut self,
+        devices: &mut Vec<Device>,
+        id: DeviceId,
+    ) -> Result<(), Refusal>
+        requires epoch { epoch_in devices.old.items id + 1 < 2 ^ 64 }
+    {
+        revive(&mut self.driver, &mut self.memory, devices, id)
+    }
+
     fn restart(&mut self) -> Result<(), Refusal> {
         self.driver.restart(&mut self.memory, &mut self.io)
     }
@@ -286,7 +302,7 @@ impl Bench {
     }
 
     /// Takes the steps of a run, one after another.
-    fn follow(&mut self, rt: &impl Abort, says: &str, steps: &[Step]) {
+    pub(crate) fn follow(&mut self, rt: &impl Abort, says: &str, steps: &[Step]) {
         for (place, step) in steps.iter().enumerate() {
             let is_so = self.does(*step);
             holds(rt, says, place, is_so);
@@ -336,6 +352,11 @@ fn begun(alloc: Global, start: Start) -> Result<Box<Bench>, Fail> {
         Start::Usual => Bench::of_size(alloc, FRAMES, 1),
         Start::Sized(frames, levels) => Bench::of_size(alloc, frames, levels),
     }
+}
+
+/// A bench that is started, with 64 frames and a directory of one level.
+pub(crate) fn started(alloc: Global) -> Result<Box<Bench>, Fail> {
+    begun(alloc, Start::Usual)
 }
 
 /// The steps of each run are answered so.

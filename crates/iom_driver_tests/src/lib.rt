@@ -34,6 +34,8 @@ mod releases;
 #[cfg(test)]
 mod reports;
 #[cfg(test)]
+mod revivals;
+#[cfg(test)]
 mod second_stages;
 #[cfg(test)]
 mod starts;
