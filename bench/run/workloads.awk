@@ -29,6 +29,33 @@ function made(told) {
     say("commit 000001", told)
 }
 
+# So many bytes in hexadecimal, others for each seed.
+function bytes(count, seed, k, text) {
+    text = ""
+    for (k = 0; k < count; k++) text = text sprintf("%02x", (seed * 7 + k * 13) % 256)
+    return text
+}
+
+# Eight bytes of an entry of a guest's tables: page number and flags, the lowest byte first (privileged specification,
+# "Sv39: Page-Based 39-bit Virtual-Memory System").
+function entry(page, flags, word, k, text) {
+    word = page * 1024 + flags
+    text = ""
+    for (k = 0; k < 8; k++) { text = text sprintf("%02x", word % 256); word = int(word / 256) }
+    return text
+}
+
+# A guest's tables in its pages 0 to 3, which are frames 4 to 7: its pages 0 to 1,023 lead to its physical pages 4 to 259.
+function guest_tables(table, k, leaves) {
+    say("poke 0x4000 " entry(1, 1), "ok")
+    say("poke 0x5000 " entry(2, 1) entry(3, 1), "ok")
+    for (table = 0; table < 2; table++) {
+        leaves = ""
+        for (k = 0; k < 512; k++) leaves = leaves entry(4 + k % 256, 215)
+        say("poke " (table == 0 ? "0x6000 " : "0x7000 ") leaves, "ok")
+    }
+}
+
 BEGIN {
     # 64 pages of one device, read again and again.
     if (name == "hot") { started(128); granted(64, 64); for (i = 1; ; i++) read_page(i * 29 % 64, i) }
@@ -54,6 +81,56 @@ BEGIN {
     if (name == "polls") {
         say("world 64 1", "ok")
         for (;;) { say("poll", "confirmed -"); say("fetch", "empty") }
+    }
+
+    # The shortest lines.
+    if (name == "tiny") {
+        say("world 64 1", "ok")
+        for (;;) { say("poll", "confirmed -"); say("fetch", "empty"); say("faults", "no record") }
+    }
+
+    # Behind a guest's own tables: 1,024 pages, read in turn.
+    if (name == "both") {
+        say("world 512 1", "ok")
+        say("device 000001 raw", "ok")
+        say("attach 000001 both", "ok")
+        granted(260, 260)
+        guest_tables()
+        for (i = 1; ; i++) read_page(i * 577 % 1024, i)
+    }
+
+    # Long lines: bytes that the processor writes and reads, a write and a read of a device, and a fault and its record.
+    if (name == "text") {
+        started(64)
+        granted(2, 2)
+        for (i = 1; ; i++) {
+            poked = bytes(256, i)
+            written = bytes(64, i + 100)
+            say(sprintf("poke 0x%x %s", 16384 + 256 * (i % 16), poked), "ok")
+            say(sprintf("peek 0x%x 256", 16384 + 256 * (i % 16)), "bytes " poked)
+            say(sprintf("write 000001 0x%x %s", 4096 + 64 * (i % 64), written), "accepted " 2 * i - 1)
+            say(sprintf("read 000001 0x%x 64", 4096 + 64 * (i % 64)), "accepted " 2 * i)
+            say("read 000001 0x9000 1", "fault 13")
+            say("commit 000001", "wrote 64")
+            say("commit 000001", "read " written)
+            say("faults", "record 0x000001080000000d 0x0000000000000000 0x0000000000009000 0x0000000000000000")
+        }
+    }
+
+    # A device with a cache of its own asks for a page, and reads there.
+    if (name == "ats") {
+        say("world 128 1", "ok")
+        say("device 000001 ats", "ok")
+        say("attach 000001 first ats", "ok")
+        granted(64, 64)
+        for (i = 1; ; i++) {
+            page = i * 29 % 64
+            say("ask 000001 " page, "sent")
+            say("deliver 0", "answer " 4 + page " rw")
+            say("deliver 0", "kept")
+            say(sprintf("aread 000001 0x%x 8", 4096 * page + 8 * (i * 181 % 512)), "accepted " i)
+            say("commit 000001", "read 0000000000000000")
+        }
     }
 
     # A block device reads sector 0 again and again: its header, data and status are in page 1.
