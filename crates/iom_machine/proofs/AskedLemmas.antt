@@ -9,7 +9,7 @@ use Rattle.iom_machine.specs.declared.outcome.Outcome.TheVariants.{Accepted, Rea
 use Rattle.iom_base.specs.declared.access.Access.{Access}
 use Rattle.iom_base.specs.Accesses.{read_of, write_of}
 use Rattle.iom_machine.specs.Headline.{SaysMade, MakesAccessOf}
-use Rattle.iom_machine.specs.Theorem.{Asked, IsAskedBy, IsAcceptedAt, AreAccepted, AreMade}
+use Rattle.iom_machine.specs.Laws.{Asked, IsAskedBy, IsAcceptedAt, AreAccepted, AreMade}
 
 abbrev pub asked_untranslated : ℕ → Access → Option (ℕ × Asked)
 asked_untranslated id access = Some (id, Asked.Named access false)

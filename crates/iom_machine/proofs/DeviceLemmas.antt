@@ -23,7 +23,7 @@ use Rattle.iom_machine.specs.ThroughCache.{at_frame, MayAnswerThroughCache, stat
 use Rattle.iom_machine.specs.Machine.{Requests, RequestsThroughCache, InsertsDisk, Steps, Makes, Commits, Step, Run, plugged_device}
 use Rattle.iom_ledger.specs.Refusals.{first_that_applies}
 use Rattle.iom_machine.specs.Refusals.{has_cache, plug_reasons}
-use Rattle.iom_machine.specs.Theorem.{Asked, IsSentOf, AreSent, AreAccepted, AreMade, AccessesInFlightWereAccepted}
+use Rattle.iom_machine.specs.Laws.{Asked, IsSentOf, AreSent, AreAccepted, AreMade, AccessesInFlightWereAccepted}
 use Rattle.iom_machine.specs.PowerOn.{opening}
 use Rattle.iom_ledger.specs.History.{History}
 use Rattle.iom_machine.specs.Leaving.{leaving_under, device_once_confirmed}

@@ -8,7 +8,7 @@ use Rattle.iom_base.specs.declared.access.AccessKind.TheVariants as kinds
 use Rattle.iom_base.specs.declared.cause.Cause.{Cause}
 use Rattle.iom_ledger.specs.declared.entry.HistoryEntry.{HistoryEntry}
 use Rattle.iom_ledger.specs.declared.entry.HistoryEntry.TheVariants as entries
-use Rattle.iom_ledger.specs.History.{History, May, Pair, Holds}
+use Rattle.iom_ledger.specs.History.{History, May, Pair, Holds, confirmed_from}
 use Rattle.iom_ledger.specs.History as ledger
 use Rattle.iom_ledger.specs.declared.refusal.Refusal.TheVariants.{NoSuchDevice}
 use Rattle.iom_machine.specs.declared.choice.Choice.{Choice}
@@ -24,13 +24,12 @@ use Rattle.iom_base.specs.declared.access.AcceptedAccess.{AcceptedAccess}
 use Rattle.iom_machine.specs.declared.state.State.{State}
 use Rattle.iom_machine.specs.Frames.{bytes_of, stored}
 use Rattle.iom_machine.specs.Devices.{device_of, IsPlugged, EachInFlightMay}
-use Rattle.iom_ledger.specs.Confirmations.{confirmed_from}
 use Rattle.iom_base.specs.Accesses.{read_of, offset_of, IsWithinPage}
 use Rattle.iom_machine.specs.Requests.{IsBusy, HoldsFor, MayAcceptInOneStage, MayAccept, MayFault, MayAnswer, state_after, with_accepted}
 use Rattle.iom_machine.specs.Kinds.{sends_untranslated, is_any_kind}
 use Rattle.iom_machine.specs.Machine.{Requests, Makes, Step, with_oldest_made}
 use Rattle.iom_machine.specs.Headline.{byte_in, IsOutside, AreNamedBytes, TouchesItsOwn, AsksFor, IsOneStage, GrantsFrameTo, GrantsFrame, TouchesFrameBy, TouchesFrame}
-use Rattle.iom_machine.specs.Theorem.{IsReached}
+use Rattle.iom_machine.specs.Laws.{IsReached}
 use Rattle.iom_machine.proofs.ReachLemmas.{NamesFrame, reach_before}
 use Rattle.iom_machine.proofs.ByteLemmas.{slice_get-set_same, slice_get-set_other, slice_get-written_inside, slice_get-written_outside, slice_get-range, length-range}
 use Rattle.iom_machine.proofs.InFlightLemmas.{act_cases, able_act, some_case, All-at, AllInFlight-of, found_device, IsWhole}

@@ -7,7 +7,7 @@ use Rattle.iom_machine.specs.declared.state.State.{State}
 use Rattle.iom_machine.specs.Headline.{MadeAccessTouchesItsOwn, HeldPageIsAccepted, GrantsFrameTo, GrantsFrame, TouchesFrameBy, TouchesFrame}
 use Rattle.iom_machine.specs.Machine.{Step, Run}
 use Rattle.iom_machine.specs.Reclaim.{UntouchedUntilGranted, StaysUntouched, Reclaims}
-use Rattle.iom_machine.specs.Theorem.{IsReached, NoneGrants, MadeAccessesTouchTheirOwn, HeldPagesAreAccepted, FreeFramesAreNotTouched, OnlyGranteesTouch}
+use Rattle.iom_machine.specs.Laws.{IsReached, NoneGrants, MadeAccessesTouchTheirOwn, HeldPagesAreAccepted, FreeFramesAreNotTouched, OnlyGranteesTouch}
 use Rattle.iom_machine.proofs.HeadlineLemmas.{touches_its_own, accepted_on_its_frame, CannotReach, barred-step, free-step, untouched_by, untouched}
 use Rattle.iom_machine.proofs.SoundLemmas.{IsSound, sound-step, sound_if_reached, sound-run}
 

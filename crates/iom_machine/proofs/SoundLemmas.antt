@@ -14,7 +14,7 @@ use Rattle.iom_base.specs.GrantRights.{rights_of}
 use Rattle.iom_ledger.specs.declared.entry.HistoryEntry.{HistoryEntry}
 use Rattle.iom_ledger.specs.declared.entry.HistoryEntry.TheVariants as entries
 use Rattle.iom_ledger.specs.declared.refusal.Refusal.{Refusal}
-use Rattle.iom_ledger.specs.History.{History, May, Pair, held_at, confirms}
+use Rattle.iom_ledger.specs.History.{History, May, Pair, held_at, confirms, confirmed_from}
 use Rattle.iom_machine.specs.declared.event.Event.{Event}
 use Rattle.iom_machine.specs.declared.event.Event.TheVariants as events
 use Rattle.iom_machine.specs.declared.outcome.Outcome.{Outcome}
@@ -28,7 +28,6 @@ use Rattle.iom_base.specs.declared.owner.Owner.TheVariants.{System, OneDevice}
 use Rattle.iom_machine.specs.declared.state.State.{State}
 use Rattle.iom_machine.specs.Frames.{with_frame, reserved_for, stored}
 use Rattle.iom_machine.specs.Devices.{device_of, EachInFlightMay}
-use Rattle.iom_ledger.specs.Confirmations.{confirmed_from}
 use Rattle.iom_ledger.specs.Refusals.{NoneApplies, first_that_applies}
 use Rattle.iom_machine.specs.Refusals.{grant_reasons, has_cache, is_held, is_lingering}
 use Rattle.iom_base.specs.Accesses.{read_of, write_of, offset_of}
@@ -41,7 +40,7 @@ use Rattle.iom_machine.specs.PowerOn.{opening, empty_frame}
 use Rattle.iom_machine.specs.Leaving.{is_of_left, given_back}
 use Rattle.iom_machine.specs.Tickets.{with_confirmed}
 use Rattle.iom_machine.specs.Headline.{GrantsFrameTo}
-use Rattle.iom_machine.specs.Theorem.{IsReached}
+use Rattle.iom_machine.specs.Laws.{IsReached}
 use Rattle.iom_virtqueue.specs.Layouts.{layout_of}
 use Rattle.iom_machine.proofs.ReachLemmas.{NamesFrame, reach_before, reach_after_grant, reach_after_release, reach_after_release_of_all}
 use Rattle.iom_machine.proofs.ByteLemmas.{length-with_bytes}

@@ -1,5 +1,5 @@
-ghost use Rattle.iom_machine.specs.Theorem.{MadeAccessesTouchTheirOwn, HeldPagesAreAccepted, FreeFramesAreNotTouched, OnlyGranteesTouch};
-ghost use Rattle.iom_machine.specs.Theorem.{AccessesInFlightMay, AccessesInFlightWereAccepted, CommitsAreAnswered};
+ghost use Rattle.iom_machine.specs.Laws.{MadeAccessesTouchTheirOwn, HeldPagesAreAccepted, FreeFramesAreNotTouched, OnlyGranteesTouch};
+ghost use Rattle.iom_machine.specs.Laws.{AccessesInFlightMay, AccessesInFlightWereAccepted, CommitsAreAnswered};
 
 /// What every run from power-on has.
 ///

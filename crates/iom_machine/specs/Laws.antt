@@ -1,5 +1,5 @@
--- The reclaim theorem: what is true after any list of events from power-on.
-use Rattle.std.specs.Prelude.{◌≡◌, ℕ, ◌+◌, ◌⊎◌, Bool, true, false, List, [], ◌∷◌, ◌++◌, length, All, if◌then◌else◌, ⊤}
+-- What is true after any list of events from power-on: the clauses of the reclaim theorem. And one law of every state.
+use Rattle.std.specs.Prelude.{◌≡◌, ◌↔◌, ℕ, ◌+◌, ◌⊎◌, Bool, true, false, List, [], ◌∷◌, ◌++◌, length, All, if◌then◌else◌, ⊤}
 use Rattle.iom_machine.specs.declared.event.Event.{Event}
 use Rattle.iom_machine.specs.declared.event.Event.TheVariants as events
 use Rattle.iom_machine.specs.declared.outcome.Outcome.{Outcome}
@@ -11,6 +11,7 @@ use Rattle.iom_machine.specs.declared.state.State.{State}
 use Rattle.iom_base.specs.Accesses.{read_of, write_of}
 use Rattle.iom_machine.specs.Frames.{IsFree}
 use Rattle.iom_machine.specs.Devices.{EachInFlightMay}
+use Rattle.iom_machine.specs.Refusals.{is_held, is_lingering, has_grants}
 use Rattle.iom_machine.specs.ThroughCache.{at_frame}
 use Rattle.iom_machine.specs.Machine.{Step, Run}
 use Rattle.iom_machine.specs.PowerOn.{opening}
@@ -142,3 +143,9 @@ AccessesInFlightWereAccepted =
 abbrev pub CommitsAreAnswered : Type 0
 CommitsAreAnswered =
     (state : State) (id : ℕ) → IsReached state → (outcome : Outcome) × (new : State) × Step state (events.Commit id) outcome new
+
+-- A device has grants exactly where there is a page at which it holds something, or something lingers.
+abbrev pub GrantsAreAtPages : Type 0
+GrantsAreAtPages =
+    (state : State) (id : ℕ)
+    → (has_grants state id ≡ true) ↔ ((page : ℕ) × ((is_held state id page ≡ true) ⊎ (is_lingering state id page ≡ true)))
