@@ -2,7 +2,7 @@
 
 ghost use Rattle.std.specs.Prelude.{◌≡◌, true};
 ghost use Rattle.iom_ledger.specs.Counts.{AreCounted};
-ghost use Rattle.iom_ledger.specs.Pending.{pending_limit};
+ghost use Rattle.iom_ledger.specs.History.{pending_limit};
 ghost use Rattle.iom_ledger.specs.Ring.{is_ascending};
 ghost use Rattle.iom_ledger.specs.Rows.{AllGranted, AllNamed};
 
@@ -43,8 +43,8 @@ impl Ledger {
     ghost use Rattle.std.specs.Prelude.{◌↔◌, ◌+◌, ◌<◌, ◌≤◌, ℕ, List, [], ◌∷◌, Contains, length, max, slice_get, false, not};
     ghost use Rattle.std.specs.Prelude.{IsTrue, IsNone, IsSome, IfOk, IfSome, OnOk, OnErr, Some, None};
     ghost use Rattle.iom_ledger.specs.declared.entry.HistoryEntry.TheVariants.{Granted, Released, AllReleased, Confirmed};
-    ghost use Rattle.iom_ledger.specs.History.{History, Pair, confirms, held_at, lingering_at, Holds, Lingers, NoneMayReach};
-    ghost use Rattle.iom_ledger.specs.Pending.{pending_of, pending_limit};
+    ghost use Rattle.iom_ledger.specs.History.{History, Pair, confirms, held_at, lingering_at, Holds, Lingers, NoneMayReach, pending_limit};
+    ghost use Rattle.iom_ledger.specs.Pending.{pending_of};
     ghost use Rattle.iom_ledger.specs.Shown.{Agrees, IsFreeIn};
     ghost use Rattle.iom_ledger.specs.FrameRows.{IsRowOf, IsFreeRow};
     ghost use Rattle.iom_base.specs.Rights.{IsGrantable};

@@ -8,7 +8,7 @@ use Rattle.iom_machine.specs.declared.outcome.Outcome.{Outcome}
 use Rattle.iom_machine.specs.declared.outcome.Outcome.TheVariants.{Done}
 use Rattle.iom_machine.specs.declared.outcome.Trace.{Trace}
 use Rattle.iom_machine.specs.declared.state.State.{State}
-use Rattle.iom_machine.specs.Headline.{IsReached}
+use Rattle.iom_machine.specs.Laws.{IsReached}
 use Rattle.iom_machine.specs.Machine.{Run}
 use Rattle.iom_machine.specs.Traces.{IsTrace}
 use Rattle.iom_machine.proofs.ReclaimLemmas.{reclaims}

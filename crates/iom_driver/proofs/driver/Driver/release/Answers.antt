@@ -1,6 +1,6 @@
 use Rattle.std.proofs.Common.{◌≡◌, ◌≤◌, ◌<◌, ◌+◌, ◌-◌, ◌++◌, ◌∙◌, inl, ℕ, List, map, slice_get, Option, Some, None, IsSome, length, refl, sym, ap, subst, arith}
 use Rattle.iom_base.specs.Sizes.{page_limit}
-use Rattle.iom_ledger.specs.Pending.{pending_limit}
+use Rattle.iom_ledger.specs.History.{pending_limit}
 use Rattle.iom_ledger.specs.Shown.{pending_in}
 use Rattle.iom_base.specs.declared.owner.Owner.{Owner}
 use Rattle.iom_base.specs.declared.owner.Owner.TheVariants.{System, OneDevice}
