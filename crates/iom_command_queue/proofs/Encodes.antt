@@ -9,7 +9,7 @@ use Rattle.iom_command_queue.specs.declared.command.AtsRange.TheVariants.{Page, 
 use Rattle.iom_command_queue.specs.declared.command.FenceStore.{FenceStore}
 use Rattle.iom_command_queue.specs.Bits.{bits_of, as_bit, is_set, where_set}
 use Rattle.iom_command_queue.specs.Formats.{AreWordsOf, ats_device, first_of, second_of}
-use Rattle.iom_command_queue.specs.Decoded.{decoded}
+use Rattle.iom_command_queue.specs.Legal.{decoded}
 use Rattle.iom_command_queue.specs.Encoded.{first_word, second_word, or_zero, data_or_zero, address_or_zero, UnusedAreZero, encoded}
 use Rattle.iom_command_queue.proofs.Fits.{Fits, RangeFits, StoreFits, IsWithin}
 use Rattle.iom_command_queue.proofs.Exact.{found}

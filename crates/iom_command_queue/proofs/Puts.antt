@@ -5,7 +5,7 @@ use Rattle.iom_phys_mem.specs.Words.{word_at, byte_at, with_word, IsPlace}
 use Rattle.iom_command_queue.specs.declared.command.Command.{Command}
 use Rattle.iom_command_queue.specs.declared.entry.QueueEntry.{QueueEntry}
 use Rattle.iom_command_queue.specs.declared.entry.QueueEntry.TheVariants as stands
-use Rattle.iom_command_queue.specs.Decoded.{decoded}
+use Rattle.iom_command_queue.specs.Legal.{decoded}
 use Rattle.iom_command_queue.specs.Encoded.{first_word, second_word}
 use Rattle.iom_command_queue.specs.Waiting.{entry_at, decoded_entry, entry_by_words, with_command, WritesCommand}
 

@@ -2,9 +2,10 @@ ghost use Rattle.std.specs.Prelude.{◌≡◌, ◌+◌, ◌*◌, ◌/◌, ◌%�
 ghost use Rattle.std.specs.Bool.{OnTrue, OnFalse};
 ghost use Rattle.std.specs.Option.{option_to_list};
 ghost use Rattle.iom_base.specs.Bytes.{with_bytes};
-ghost use Rattle.iom_registers.specs.Queues.{fault_base, fault_entries, fault_head, fault_tail};
+ghost use Rattle.iom_registers.specs.Queues.{fault_base, fault_entries, fault_head, fault_tail, next_index};
+ghost use Rattle.iom_registers.specs.declared.register.Register.TheVariants.{Fqh};
 ghost use Rattle.iom_registers.specs.Table.{value_of};
-ghost use Rattle.iom_fault_queue.specs.Ring.{records_in, is_full, StoresRecord};
+ghost use Rattle.iom_fault_queue.specs.Ring.{records_in, record_at, record_place, is_full, StoresRecord};
 ghost use Rattle.iom_fault_queue.specs.Calls.{PutsRecord, after_put, TakesEntry};
 
 use crate::bytes::RECORD_SIZE;
@@ -69,13 +70,6 @@ fn read<M: Mmio>(io: &M, register: Register) -> u64
     io.read(register.offset(), register.width()).unwrap()
 }
 
-/// Writes a register.
-fn write<M: Mmio>(io: &mut M, register: Register, value: u64)
-    ensures { io.new ≡ M.after io.old register value }
-{
-    let _ = io.write(register.offset(), register.width(), value);
-}
-
 /// Where software finds the queue.
 #[derive(Clone, Copy)]
 struct Place {
@@ -105,6 +99,21 @@ fn head<M: Mmio>(io: &M) -> u32
     ensures below { result < fault_entries (M.registers io.now) }
 {
     read(io, Register::Fqh) as u32
+}
+
+/// Hands the place at the head back: `fqh` is the index after it, and the IOMMU may write another record
+/// there. Whoever does so is lent the memory, and has the entry that stands there.
+#[inline(always)]
+fn hand_back<M: Mmio>(memory: &Memory, io: &mut M, taken: &Entry, after: u32)
+    requires read { let r = M.registers io.old in record_at memory.now (record_place r (fault_head r)) ≡ taken.now }
+    requires next { after ≡ next_index (fault_entries (M.registers io.old)) (fault_head (M.registers io.old)) }
+    ensures { io.new ≡ M.after io.old Fqh after }
+{
+    let _ = io.write(
+        Register::Fqh.offset(),
+        Register::Fqh.width(),
+        u64::from(after),
+    );
 }
 
 impl FaultRing {
@@ -149,9 +158,9 @@ impl FaultRing {
             return None;
         }
         let place = place_by_fqb(io);
-        let entry = record_at(memory, place.address + RECORD_SIZE as u64 * u64::from(head));
-        let next = index_after(head, place.entries);
-        write(io, Register::Fqh, u64::from(next));
+        let address = place.address + RECORD_SIZE as u64 * u64::from(head);
+        let entry = record_at(memory, address);
+        hand_back(memory, io, &entry, index_after(head, place.entries));
         Some(entry)
     }
 }
