@@ -10,14 +10,14 @@ use Rattle.iom_virtio_blk.specs.Disks.{DiskState}
 use Rattle.iom_platform.specs.declared.block.DiskAtHand.{DiskAtHand}
 use Rattle.iom_platform.specs.Agreement.{numbers_of}
 use Rattle.iom_platform.specs.Places.{IsDiskAt, TakesOut, others_than}
-use Rattle.iom_platform.specs.Seen.{DiskSeen, disk_seen, disks_seen, state_of}
+use Rattle.iom_platform.specs.Seen.{DiskSeen, disk_seen, disks_seen}
 
 -- the first disk with the number
-pub disk_is : {D : Type 0} (held : D → List (List ℕ)) (failed : D → ℕ) (at_hand : List (DiskAtHand D)) (number place : ℕ) (one : DiskAtHand D)
+pub disk_is : {D : Type 0} (seen : D → DiskState) (at_hand : List (DiskAtHand D)) (number place : ℕ) (one : DiskAtHand D)
     → slice_get at_hand place ≡ Some one → one.number ≡ number → ((k : ℕ) (other : DiskAtHand D) → k < place → slice_get at_hand k ≡ Some other → other.number ≢ number)
-    → IsDiskAt held failed at_hand number place
-disk_is held failed [] number place one at own none = cc
-disk_is {D = D} held failed (first ∷ others) number zero one at own none =
+    → IsDiskAt seen at_hand number place
+disk_is seen [] number place one at own none = cc
+disk_is {D = D} seen (first ∷ others) number zero one at own none =
     let same : first ≡ one = cc in
     let is = eq-eqb first.number number (ap (λ (o : DiskAtHand D). o.number) same ∙ own) in
     record {
@@ -27,9 +27,9 @@ disk_is {D = D} held failed (first ∷ others) number zero one at own none =
       found = rw is refl;
       rest = rw is refl;
     }
-disk_is {D = D} held failed (first ∷ others) number (suc place) one at own none =
+disk_is {D = D} seen (first ∷ others) number (suc place) one at own none =
     let is = differs first.number number (none 0 first (omega arith) refl) in
-    let rest = disk_is held failed others number place one at own (λ k o lt there. none (suc k) o (omega arith) there) in
+    let rest = disk_is seen others number place one at own (λ k o lt there. none (suc k) o (omega arith) there) in
     record {
       one = rest.one;
       there = rest.there;
@@ -38,13 +38,13 @@ disk_is {D = D} held failed (first ∷ others) number (suc place) one at own non
       rest = rw is (ap (λ (l : List (DiskAtHand D)). first ∷ l) rest.rest);
     }
 
-pub disk_at : {D : Type 0} (held : D → List (List ℕ)) (failed : D → ℕ) (at_hand : List (DiskAtHand D)) (number place : ℕ) (default : DiskAtHand D)
+pub disk_at : {D : Type 0} (seen : D → DiskState) (at_hand : List (DiskAtHand D)) (number place : ℕ) (default : DiskAtHand D)
     → place < length at_hand → (get_or at_hand place default).number ≡ number
-    → ((k : ℕ) (other : DiskAtHand D) → k < place → slice_get at_hand k ≡ Some other → other.number ≢ number) → IsDiskAt held failed at_hand number place
-disk_at {D = D} held failed at_hand number place default lt own none =
+    → ((k : ℕ) (other : DiskAtHand D) → k < place → slice_get at_hand k ≡ Some other → other.number ≢ number) → IsDiskAt seen at_hand number place
+disk_at {D = D} seen at_hand number place default lt own none =
     let found = get_there at_hand place lt in
     let read = get_or_from_slice_get at_hand place found.0 default found.1 in
-    disk_is held failed at_hand number place found.0 found.1 (ap (λ (o : DiskAtHand D). o.number) (sym read) ∙ own) none
+    disk_is seen at_hand number place found.0 found.1 (ap (λ (o : DiskAtHand D). o.number) (sym read) ∙ own) none
 
 pub none_later : {D : Type 0} (at_hand : List (DiskAtHand D)) (number place : ℕ) (default : DiskAtHand D) → (get_or at_hand place default).number ≢ number
     → ((k : ℕ) (other : DiskAtHand D) → k < place → slice_get at_hand k ≡ Some other → other.number ≢ number)
@@ -65,17 +65,17 @@ no_disk (first ∷ others) number none =
     rw (differs first.number number (none 0 first (omega arith) refl)) (no_disk others number (λ k other lt at. none (suc k) other (omega arith) at))
 
 -- what is left is the same, seen from outside and by the numbers
-pub left_seen : {D : Type 0} (held : D → List (List ℕ)) (failed : D → ℕ) (at_hand : List (DiskAtHand D)) (number : ℕ)
-    → disks_seen held failed (others_than number at_hand) ≡ filter (λ (one : DiskSeen). not (one.number == number)) (disks_seen held failed at_hand)
-left_seen held failed [] number = refl
-left_seen {D = D} held failed (first ∷ others) number = by (first.number == number) (left_seen held failed others number)
+pub left_seen : {D : Type 0} (seen : D → DiskState) (at_hand : List (DiskAtHand D)) (number : ℕ)
+    → disks_seen seen (others_than number at_hand) ≡ filter (λ (one : DiskSeen). not (one.number == number)) (disks_seen seen at_hand)
+left_seen seen [] number = refl
+left_seen {D = D} seen (first ∷ others) number = by (first.number == number) (left_seen seen others number)
   where
-    by : (b : Bool) → disks_seen held failed (others_than number others) ≡ filter (λ (one : DiskSeen). not (one.number == number)) (disks_seen held failed others)
-        → disks_seen held failed (if not b then first ∷ others_than number others else others_than number others)
-        ≡ (if not b then disk_seen held failed first ∷ filter (λ (one : DiskSeen). not (one.number == number)) (disks_seen held failed others)
-        else filter (λ (one : DiskSeen). not (one.number == number)) (disks_seen held failed others))
+    by : (b : Bool) → disks_seen seen (others_than number others) ≡ filter (λ (one : DiskSeen). not (one.number == number)) (disks_seen seen others)
+        → disks_seen seen (if not b then first ∷ others_than number others else others_than number others)
+        ≡ (if not b then disk_seen seen first ∷ filter (λ (one : DiskSeen). not (one.number == number)) (disks_seen seen others)
+        else filter (λ (one : DiskSeen). not (one.number == number)) (disks_seen seen others))
     by true rest = rest
-    by false rest = ap (λ (l : List DiskSeen). disk_seen held failed first ∷ l) rest
+    by false rest = ap (λ (l : List DiskSeen). disk_seen seen first ∷ l) rest
 
 pub left_numbers : {D : Type 0} (at_hand : List (DiskAtHand D)) (number : ℕ) → numbers_of (others_than number at_hand) ≡ without_disk (Some number) (numbers_of at_hand)
 left_numbers [] number = refl
@@ -91,14 +91,14 @@ abbrev some : ℕ → DiskState → Option DiskSeen
 some n disk = Some (record { number = n; disk = disk })
 
 -- it is taken out
-pub takes_out : {D : Type 0} (held : D → List (List ℕ)) (failed : D → ℕ) (old new : List (DiskAtHand D)) (number place : ℕ) (taken : DiskAtHand D)
-    → (is : IsDiskAt held failed old number place) → taken ≡ is.one → new ≡ others_than number (remove old place) → TakesOut held failed number old new taken.disk
-takes_out {D = D} held failed old new number place taken is same left =
+pub takes_out : {D : Type 0} (seen : D → DiskState) (old new : List (DiskAtHand D)) (number place : ℕ) (taken : DiskAtHand D)
+    → (is : IsDiskAt seen old number place) → taken ≡ is.one → new ≡ others_than number (remove old place) → TakesOut seen number old new taken.disk
+takes_out {D = D} seen old new number place taken is same left =
     let all : new ≡ others_than number old = left ∙ is.rest in
     record {
       taken = record {
-        held = is.found ∙ ap (λ (n : ℕ). some n (state_of held failed is.one.disk)) is.own ∙ ap (λ (o : DiskAtHand D). some number (state_of held failed o.disk)) (sym same);
-        left = ap (disks_seen held failed) all ∙ left_seen held failed old number;
+        held = is.found ∙ ap (λ (n : ℕ). some n (seen is.one.disk)) is.own ∙ ap (λ (o : DiskAtHand D). some number (seen o.disk)) (sym same);
+        left = ap (disks_seen seen) all ∙ left_seen seen old number;
       };
       numbers = ap numbers_of all ∙ left_numbers old number;
     }

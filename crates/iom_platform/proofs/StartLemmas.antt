@@ -4,6 +4,7 @@ use Rattle.iom_driver.specs.declared.device.Device as driver
 use Rattle.iom_inflight.specs.Flights.{FlightRow}
 use Rattle.iom_device.specs.declared.device.Device.{Device}
 use Rattle.iom_composition.specs.Devices.{shown_devices}
+use Rattle.iom_virtio_blk.specs.Disks.{DiskState}
 use Rattle.iom_platform.specs.declared.block.DiskAtHand.{DiskAtHand}
 use Rattle.iom_platform.specs.Agreement.{numbers_of}
 use Rattle.iom_platform.specs.PowerOn.{number_of}
@@ -15,6 +16,6 @@ none_shown known rows [] none = refl
 none_shown known rows (device ∷ others) none = cc
 
 -- the numbers of the disks are those that are seen
-pub numbers_seen : {D : Type 0} (held : D → List (List ℕ)) (failed : D → ℕ) (at_hand : List (DiskAtHand D)) → numbers_of at_hand ≡ map number_of (disks_seen held failed at_hand)
-numbers_seen held failed [] = refl
-numbers_seen held failed (first ∷ others) = ap (λ (numbers : List ℕ). first.number ∷ numbers) (numbers_seen held failed others)
+pub numbers_seen : {D : Type 0} (seen : D → DiskState) (at_hand : List (DiskAtHand D)) → numbers_of at_hand ≡ map number_of (disks_seen seen at_hand)
+numbers_seen seen [] = refl
+numbers_seen seen (first ∷ others) = ap (λ (numbers : List ℕ). first.number ∷ numbers) (numbers_seen seen others)

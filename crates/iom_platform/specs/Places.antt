@@ -3,11 +3,12 @@
 use Rattle.std.specs.Prelude.{◌≡◌, ℕ, ◌==◌, not, Bool, List, [], ◌∷◌, find, filter, is_some, remove, slice_get, slice_set, Option, None, Some, if◌then◌else◌}
 use Rattle.iom_machine.specs.Disks.{without_disk}
 use Rattle.iom_virtio_blk.specs.declared.disk.Disk.{Ghosts}
+use Rattle.iom_virtio_blk.specs.Disks.{DiskState}
 use Rattle.iom_platform.specs.declared.block.Block.{Block}
 use Rattle.iom_platform.specs.declared.block.DiskAtHand.{DiskAtHand}
 use Rattle.iom_platform.specs.Agreement.{Entry, entries_of, numbers_of}
 use Rattle.iom_platform.specs.Blocks.{block_with, with_block, IsTaken}
-use Rattle.iom_platform.specs.Seen.{DiskSeen, block_seen, blocks_seen, disk_seen, disks_seen, state_of}
+use Rattle.iom_platform.specs.Seen.{DiskSeen, block_seen, blocks_seen, disk_seen, disks_seen}
 
 -- whether the block device with this id has a disk, if it is there
 abbrev pub has_in : List Entry → ℕ → Option Bool
@@ -20,13 +21,13 @@ with_has [] id has = []
 with_has (entry ∷ others) id has = if entry.0 == id then (entry.0, has) ∷ others else entry ∷ with_has others id has
 
 -- the block device that stands there is the one with the id, and where it changes that is all that changes
-pub record IsPlaceOf {D : Type 0} {d : Ghosts D} (held : D → List (List ℕ)) (failed : D → ℕ) (blocks : List (Block D d)) (id place : ℕ) : Type 0 where
+pub record IsPlaceOf {D : Type 0} {d : Ghosts D} (seen : D → DiskState) (blocks : List (Block D d)) (id place : ℕ) : Type 0 where
   pub block : Block D d
   pub there : slice_get blocks place ≡ Some block
-  pub found : block_with (blocks_seen held failed blocks) id ≡ Some (block_seen held failed block)
+  pub found : block_with (blocks_seen seen blocks) id ≡ Some (block_seen seen block)
   pub has : has_in (entries_of blocks) id ≡ Some (is_some block.blk.drive.disk)
   pub changed : (other : Block D d) → other.id ≡ block.id
-      → blocks_seen held failed (slice_set blocks place other) ≡ with_block (blocks_seen held failed blocks) id (block_seen held failed other).device
+      → blocks_seen seen (slice_set blocks place other) ≡ with_block (blocks_seen seen blocks) id (block_seen seen other).device
   pub entries : (other : Block D d) → other.id ≡ block.id → entries_of (slice_set blocks place other) ≡ with_has (entries_of blocks) id (is_some other.blk.drive.disk)
   pub kept : (other : Block D d) → other.id ≡ block.id → other.blk.drive ≡ block.blk.drive → entries_of (slice_set blocks place other) ≡ entries_of blocks
 
@@ -35,14 +36,14 @@ abbrev pub others_than : {D : Type 0} → ℕ → List (DiskAtHand D) → List (
 others_than {D = D} number at_hand = filter (λ (it : DiskAtHand D). not (it.number == number)) at_hand
 
 -- the disk that stands there is the first with the number
-pub record IsDiskAt {D : Type 0} (held : D → List (List ℕ)) (failed : D → ℕ) (at_hand : List (DiskAtHand D)) (number place : ℕ) : Type 0 where
+pub record IsDiskAt {D : Type 0} (seen : D → DiskState) (at_hand : List (DiskAtHand D)) (number place : ℕ) : Type 0 where
   pub one : DiskAtHand D
   pub there : slice_get at_hand place ≡ Some one
   pub own : one.number ≡ number
-  pub found : find (λ (it : DiskSeen). it.number == number) (disks_seen held failed at_hand) ≡ Some (disk_seen held failed one)
+  pub found : find (λ (it : DiskSeen). it.number == number) (disks_seen seen at_hand) ≡ Some (disk_seen seen one)
   pub rest : others_than number (remove at_hand place) ≡ others_than number at_hand
 
 -- this disk is taken out, which has the number
-pub record TakesOut {D : Type 0} (held : D → List (List ℕ)) (failed : D → ℕ) (number : ℕ) (old new : List (DiskAtHand D)) (disk : D) : Type 0 where
-  pub taken : IsTaken number (disks_seen held failed old) (state_of held failed disk) (disks_seen held failed new)
+pub record TakesOut {D : Type 0} (seen : D → DiskState) (number : ℕ) (old new : List (DiskAtHand D)) (disk : D) : Type 0 where
+  pub taken : IsTaken number (disks_seen seen old) (seen disk) (disks_seen seen new)
   pub numbers : numbers_of new ≡ without_disk (Some number) (numbers_of old)

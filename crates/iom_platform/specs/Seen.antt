@@ -23,28 +23,25 @@ pub record Seen : Type 0 where
   pub blocks : List BlockSeen
   pub at_hand : List DiskSeen
 
--- of a disk that is what its trait says: `held` are the bytes of its sectors, and so many of its calls `failed`
-abbrev pub block_seen : {D : Type 0} {d : Ghosts D} → (D → List (List ℕ)) → (D → ℕ) → Block D d → BlockSeen
-block_seen held failed block = record { id = block.id; device = device block.blk.front (disk_in held failed block.blk.drive.disk) }
+-- `seen` is that of the disk's trait, which says which disk it is
+abbrev pub block_seen : {D : Type 0} {d : Ghosts D} → (D → DiskState) → Block D d → BlockSeen
+block_seen seen block = record { id = block.id; device = device block.blk.front (disk_in seen block.blk.drive.disk) }
 
-abbrev pub blocks_seen : {D : Type 0} {d : Ghosts D} → (D → List (List ℕ)) → (D → ℕ) → List (Block D d) → List BlockSeen
-blocks_seen held failed blocks = map (block_seen held failed) blocks
+abbrev pub blocks_seen : {D : Type 0} {d : Ghosts D} → (D → DiskState) → List (Block D d) → List BlockSeen
+blocks_seen seen blocks = map (block_seen seen) blocks
 
-abbrev pub state_of : {D : Type 0} → (D → List (List ℕ)) → (D → ℕ) → D → DiskState
-state_of held failed disk = record { sectors = held disk; failures = failed disk }
+abbrev pub states_of : {D : Type 0} → (D → DiskState) → List D → List DiskState
+states_of seen disks = map seen disks
 
-abbrev pub states_of : {D : Type 0} → (D → List (List ℕ)) → (D → ℕ) → List D → List DiskState
-states_of held failed disks = map (state_of held failed) disks
+abbrev pub disk_seen : {D : Type 0} → (D → DiskState) → DiskAtHand D → DiskSeen
+disk_seen seen one = record { number = one.number; disk = seen one.disk }
 
-abbrev pub disk_seen : {D : Type 0} → (D → List (List ℕ)) → (D → ℕ) → DiskAtHand D → DiskSeen
-disk_seen held failed one = record { number = one.number; disk = state_of held failed one.disk }
+abbrev pub disks_seen : {D : Type 0} → (D → DiskState) → List (DiskAtHand D) → List DiskSeen
+disks_seen seen at_hand = map (disk_seen seen) at_hand
 
-abbrev pub disks_seen : {D : Type 0} → (D → List (List ℕ)) → (D → ℕ) → List (DiskAtHand D) → List DiskSeen
-disks_seen held failed at_hand = map (disk_seen held failed) at_hand
-
-abbrev pub platform_seen : {D : Type 0} {d : Ghosts D} → (D → List (List ℕ)) → (D → ℕ) → Platform D d → Seen
-platform_seen held failed platform = record {
+abbrev pub platform_seen : {D : Type 0} {d : Ghosts D} → (D → DiskState) → Platform D d → Seen
+platform_seen seen platform = record {
   world = platform.world;
-  blocks = blocks_seen held failed platform.blocks.items;
-  at_hand = disks_seen held failed platform.at_hand.items;
+  blocks = blocks_seen seen platform.blocks.items;
+  at_hand = disks_seen seen platform.at_hand.items;
 }

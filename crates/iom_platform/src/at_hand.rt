@@ -14,7 +14,7 @@ use iom_virtio_blk::{Blk, Disk};
 
 /// Where the disk with this number stands.
 fn place_of_disk<D: Disk>(at_hand: &[DiskAtHand<D>], number: u64) -> Option<usize>
-    ensures { MatchOption result (is_among (numbers_of at_hand.now) number ≡ false) (IsDiskAt D.held D.failed at_hand.now number) }
+    ensures { MatchOption result (is_among (numbers_of at_hand.now) number ≡ false) (IsDiskAt D.seen at_hand.now number) }
 {
     for place in 0..at_hand.len() {
         if at_hand[place].number == number {
@@ -34,7 +34,7 @@ fn leave_out<D: Disk>(at_hand: &mut Vec<DiskAtHand<D>>, number: u64)
 /// The disk with this number is taken out, if it is there.
 fn take_disk<D: Disk>(at_hand: &mut Vec<DiskAtHand<D>>, number: u64) -> Option<D>
     ensures { MatchOption result (is_among (numbers_of at_hand.old.items) number ≡ false)
-        (TakesOut D.held D.failed number at_hand.old.items at_hand.new.items) }
+        (TakesOut D.seen number at_hand.old.items at_hand.new.items) }
 {
     let Some(place) = place_of_disk(at_hand, number) else {
         return None;
@@ -55,8 +55,8 @@ pub(crate) fn plug_in<D: Disk>(
     requires among { is_among (numbers_of at_hand.old.items) number ≡ true }
     requires few { length blocks.old.items < device_limit }
     requires room { device_limit ≤ vec_capacity blocks.old }
-    ensures seen { IsPluggedIn number id (blocks_seen D.held D.failed blocks.old.items) (disks_seen D.held D.failed at_hand.old.items)
-        (blocks_seen D.held D.failed blocks.new.items) (disks_seen D.held D.failed at_hand.new.items) }
+    ensures seen { IsPluggedIn number id (blocks_seen D.seen blocks.old.items) (disks_seen D.seen at_hand.old.items)
+        (blocks_seen D.seen blocks.new.items) (disks_seen D.seen at_hand.new.items) }
     ensures entries { entries_of blocks.new.items ≡ entries_of blocks.old.items ++ (id, true) ∷ [] }
     ensures numbers { numbers_of at_hand.new.items ≡ without_disk (Some number) (numbers_of at_hand.old.items) }
     ensures room { device_limit ≤ vec_capacity blocks.new }
@@ -77,8 +77,8 @@ pub(crate) fn put_in<D: Disk>(
 )
     requires among { is_among (numbers_of at_hand.old.items) number ≡ true }
     requires empty { has_in (entries_of blocks.old.items) id ≡ Some false }
-    ensures seen { IsPutIn number id (blocks_seen D.held D.failed blocks.old.items) (disks_seen D.held D.failed at_hand.old.items)
-        (blocks_seen D.held D.failed blocks.new.items) (disks_seen D.held D.failed at_hand.new.items) }
+    ensures seen { IsPutIn number id (blocks_seen D.seen blocks.old.items) (disks_seen D.seen at_hand.old.items)
+        (blocks_seen D.seen blocks.new.items) (disks_seen D.seen at_hand.new.items) }
     ensures entries { entries_of blocks.new.items ≡ with_has (entries_of blocks.old.items) id true }
     ensures numbers { numbers_of at_hand.new.items ≡ without_disk (Some number) (numbers_of at_hand.old.items) }
     ensures room { vec_capacity blocks.new ≡ vec_capacity blocks.old }

@@ -4,7 +4,7 @@ ghost use Rattle.iom_virtqueue.specs.Layouts.{IsLayout};
 ghost use Rattle.iom_platform.specs.Agreement.{entries_of};
 ghost use Rattle.iom_platform.specs.Blocks.{block_with, ChangesOne, HasDisk, IsLeft, IsReset, SetsUp, HearsMade, HearsRefusal};
 ghost use Rattle.iom_platform.specs.Places.{IsPlaceOf, has_in, with_has};
-ghost use Rattle.iom_platform.specs.Seen.{blocks_seen, state_of};
+ghost use Rattle.iom_platform.specs.Seen.{blocks_seen};
 
 use crate::block::Block;
 use iom_base::DeviceId;
@@ -13,7 +13,7 @@ use iom_virtqueue::Layout;
 
 /// Where the block device with this id stands.
 pub(crate) fn place_of<D: Disk>(blocks: &[Block<D>], id: DeviceId) -> Option<usize>
-    ensures { MatchOption result (block_with (blocks_seen D.held D.failed blocks.now) id ≡ None) (IsPlaceOf D.held D.failed blocks.now id) }
+    ensures { MatchOption result (block_with (blocks_seen D.seen blocks.now) id ≡ None) (IsPlaceOf D.seen blocks.now id) }
 {
     for place in 0..blocks.len() {
         if blocks[place].id == id {
@@ -25,7 +25,7 @@ pub(crate) fn place_of<D: Disk>(blocks: &[Block<D>], id: DeviceId) -> Option<usi
 
 /// It is reset, and its disk stays.
 pub(crate) fn reset<D: Disk>(blocks: &mut Vec<Block<D>>, id: DeviceId)
-    ensures seen { ChangesOne IsReset (blocks_seen D.held D.failed blocks.old.items) id (blocks_seen D.held D.failed blocks.new.items) }
+    ensures seen { ChangesOne IsReset (blocks_seen D.seen blocks.old.items) id (blocks_seen D.seen blocks.new.items) }
     ensures entries { entries_of blocks.new.items ≡ entries_of blocks.old.items }
     ensures room { vec_capacity blocks.new ≡ vec_capacity blocks.old }
 {
@@ -36,7 +36,7 @@ pub(crate) fn reset<D: Disk>(blocks: &mut Vec<Block<D>>, id: DeviceId)
 
 /// It is reset, and its disk dropped.
 pub(crate) fn leave<D: Disk>(blocks: &mut Vec<Block<D>>, id: DeviceId)
-    ensures seen { ChangesOne IsLeft (blocks_seen D.held D.failed blocks.old.items) id (blocks_seen D.held D.failed blocks.new.items) }
+    ensures seen { ChangesOne IsLeft (blocks_seen D.seen blocks.old.items) id (blocks_seen D.seen blocks.new.items) }
     ensures entries { entries_of blocks.new.items ≡ with_has (entries_of blocks.old.items) id false }
     ensures room { vec_capacity blocks.new ≡ vec_capacity blocks.old }
 {
@@ -50,8 +50,8 @@ pub(crate) fn leave<D: Disk>(blocks: &mut Vec<Block<D>>, id: DeviceId)
 /// The disk goes into it, which is there and has none.
 pub(crate) fn insert<D: Disk>(blocks: &mut Vec<Block<D>>, id: DeviceId, disk: D)
     requires { has_in (entries_of blocks.old.items) id ≡ Some false }
-    ensures seen { ChangesOne (HasDisk (state_of D.held D.failed disk)) (blocks_seen D.held D.failed blocks.old.items) id
-        (blocks_seen D.held D.failed blocks.new.items) }
+    ensures seen { ChangesOne (HasDisk (D.seen disk)) (blocks_seen D.seen blocks.old.items) id
+        (blocks_seen D.seen blocks.new.items) }
     ensures entries { entries_of blocks.new.items ≡ with_has (entries_of blocks.old.items) id true }
     ensures room { vec_capacity blocks.new ≡ vec_capacity blocks.old }
 {
@@ -63,7 +63,7 @@ pub(crate) fn insert<D: Disk>(blocks: &mut Vec<Block<D>>, id: DeviceId, disk: D)
 /// Its queue is set: it is reset, takes what it offers, and works.
 pub(crate) fn set_up<D: Disk>(blocks: &mut Vec<Block<D>>, id: DeviceId, layout: Layout)
     requires { IsLayout layout }
-    ensures seen { ChangesOne (SetsUp layout) (blocks_seen D.held D.failed blocks.old.items) id (blocks_seen D.held D.failed blocks.new.items) }
+    ensures seen { ChangesOne (SetsUp layout) (blocks_seen D.seen blocks.old.items) id (blocks_seen D.seen blocks.new.items) }
     ensures entries { entries_of blocks.new.items ≡ entries_of blocks.old.items }
     ensures room { vec_capacity blocks.new ≡ vec_capacity blocks.old }
 {
@@ -83,8 +83,8 @@ pub(crate) fn hear_made<D: Disk>(
     number: u64,
     bytes: &[u8],
 )
-    ensures seen { ChangesOne (HearsMade number bytes.now) (blocks_seen D.held D.failed blocks.old.items) id
-        (blocks_seen D.held D.failed blocks.new.items) }
+    ensures seen { ChangesOne (HearsMade number bytes.now) (blocks_seen D.seen blocks.old.items) id
+        (blocks_seen D.seen blocks.new.items) }
     ensures entries { entries_of blocks.new.items ≡ entries_of blocks.old.items }
     ensures room { vec_capacity blocks.new ≡ vec_capacity blocks.old }
 {
@@ -95,7 +95,7 @@ pub(crate) fn hear_made<D: Disk>(
 
 /// It hears that the translation of a page is refused.
 pub(crate) fn hear_refusal<D: Disk>(blocks: &mut Vec<Block<D>>, id: DeviceId, page: u64)
-    ensures seen { ChangesOne (HearsRefusal page) (blocks_seen D.held D.failed blocks.old.items) id (blocks_seen D.held D.failed blocks.new.items) }
+    ensures seen { ChangesOne (HearsRefusal page) (blocks_seen D.seen blocks.old.items) id (blocks_seen D.seen blocks.new.items) }
     ensures entries { entries_of blocks.new.items ≡ entries_of blocks.old.items }
     ensures room { vec_capacity blocks.new ≡ vec_capacity blocks.old }
 {

@@ -60,7 +60,7 @@ impl<D: Disk> Platform<D> {
         kept: &'a mut KeptOutcomes,
     ) -> &'a mut Outcome
         requires count { self.old.world.events + 1 < 2 ^ 64 }
-        ensures { HappensHere (platform_seen D.held D.failed self.old) (events.Plug device new) result.now (platform_seen D.held D.failed self.new) }
+        ensures { HappensHere (platform_seen D.seen self.old) (events.Plug device new) result.now (platform_seen D.seen self.new) }
     {
         let told = world_takes(&mut self.world, &Event::Plug { device, new }, kept);
         if let Outcome::Done = told {
@@ -79,7 +79,7 @@ impl<D: Disk> Platform<D> {
         kept: &'a mut KeptOutcomes,
     ) -> &'a mut Outcome
         requires count { self.old.world.events + 1 < 2 ^ 64 }
-        ensures { HappensHere (platform_seen D.held D.failed self.old) (events.Medium device disk) result.now (platform_seen D.held D.failed self.new) }
+        ensures { HappensHere (platform_seen D.seen self.old) (events.Medium device disk) result.now (platform_seen D.seen self.new) }
     {
         let told = world_takes(&mut self.world, &Event::Medium { device, disk }, kept);
         if let Outcome::Done = told {
@@ -91,7 +91,7 @@ impl<D: Disk> Platform<D> {
     /// A device is detached: a block device is reset, and its disk dropped.
     fn detach<'a>(&mut self, device: DeviceId, kept: &'a mut KeptOutcomes) -> &'a mut Outcome
         requires count { self.old.world.events + 1 < 2 ^ 64 }
-        ensures { HappensHere (platform_seen D.held D.failed self.old) (events.Detach device) result.now (platform_seen D.held D.failed self.new) }
+        ensures { HappensHere (platform_seen D.seen self.old) (events.Detach device) result.now (platform_seen D.seen self.new) }
     {
         let told = world_takes(&mut self.world, &Event::Detach { device }, kept);
         if let Outcome::Ticket(_) = told {
@@ -103,7 +103,7 @@ impl<D: Disk> Platform<D> {
     /// A device that was cut off is attached again, and reset.
     fn revive<'a>(&mut self, device: DeviceId, kept: &'a mut KeptOutcomes) -> &'a mut Outcome
         requires count { self.old.world.events + 1 < 2 ^ 64 }
-        ensures { HappensHere (platform_seen D.held D.failed self.old) (events.Revive device) result.now (platform_seen D.held D.failed self.new) }
+        ensures { HappensHere (platform_seen D.seen self.old) (events.Revive device) result.now (platform_seen D.seen self.new) }
     {
         let told = world_takes(&mut self.world, &Event::Revive { device }, kept);
         if let Outcome::Done = told {
@@ -115,7 +115,7 @@ impl<D: Disk> Platform<D> {
     /// A device is reset.
     fn reset<'a>(&mut self, device: DeviceId, kept: &'a mut KeptOutcomes) -> &'a mut Outcome
         requires count { self.old.world.events + 1 < 2 ^ 64 }
-        ensures { HappensHere (platform_seen D.held D.failed self.old) (events.Reset device) result.now (platform_seen D.held D.failed self.new) }
+        ensures { HappensHere (platform_seen D.seen self.old) (events.Reset device) result.now (platform_seen D.seen self.new) }
     {
         let told = world_takes(&mut self.world, &Event::Reset { device }, kept);
         if let Outcome::Done = told {
@@ -135,8 +135,8 @@ impl<D: Disk> Platform<D> {
         kept: &'a mut KeptOutcomes,
     ) -> &'a mut Outcome
         requires count { self.old.world.events + 1 < 2 ^ 64 }
-        ensures { HappensHere (platform_seen D.held D.failed self.old) (events.Queue device size descriptors available used) result.now
-            (platform_seen D.held D.failed self.new) }
+        ensures { HappensHere (platform_seen D.seen self.old) (events.Queue device size descriptors available used) result.now
+            (platform_seen D.seen self.new) }
     {
         let told = world_takes(
             &mut self.world,
@@ -160,7 +160,7 @@ impl<D: Disk> Platform<D> {
     /// The oldest access in flight of a device is made: a block device hears of it.
     fn commit<'a>(&mut self, device: DeviceId, kept: &'a mut KeptOutcomes) -> &'a mut Outcome
         requires count { self.old.world.events + 1 < 2 ^ 64 }
-        ensures { HappensHere (platform_seen D.held D.failed self.old) (events.Commit device) result.now (platform_seen D.held D.failed self.new) }
+        ensures { HappensHere (platform_seen D.seen self.old) (events.Commit device) result.now (platform_seen D.seen self.new) }
     {
         let oldest = self.world.oldest_access(device);
         // The world's own call, written in: blocks commit at every other event.
@@ -178,7 +178,7 @@ impl<D: Disk> Platform<D> {
     /// A message is delivered: a block device hears of an answer that has no translation, where that counts.
     fn deliver<'a>(&mut self, place: u64, kept: &'a mut KeptOutcomes) -> &'a mut Outcome
         requires count { self.old.world.events + 1 < 2 ^ 64 }
-        ensures { HappensHere (platform_seen D.held D.failed self.old) (events.Deliver place) result.now (platform_seen D.held D.failed self.new) }
+        ensures { HappensHere (platform_seen D.seen self.old) (events.Deliver place) result.now (platform_seen D.seen self.new) }
     {
         let message = self.world.message(place);
         let told = world_takes(&mut self.world, &Event::Deliver { place }, kept);
@@ -195,7 +195,7 @@ impl<D: Disk> Platform<D> {
     /// A block device takes a step.
     fn take_step<'a>(&mut self, device: DeviceId, kept: &'a mut KeptOutcomes) -> &'a mut Outcome
         requires count { self.old.world.events + 1 < 2 ^ 64 }
-        ensures { HappensHere (platform_seen D.held D.failed self.old) (events.Step device) result.now (platform_seen D.held D.failed self.new) }
+        ensures { HappensHere (platform_seen D.seen self.old) (events.Step device) result.now (platform_seen D.seen self.new) }
     {
         // Without a block device of this id the world refuses the step, whatever it is.
         let Some(place) = place_of(&self.blocks, device) else {
@@ -207,7 +207,7 @@ impl<D: Disk> Platform<D> {
     /// The status of a block device is read.
     fn tell_status<'a>(&mut self, device: DeviceId, kept: &'a mut KeptOutcomes) -> &'a mut Outcome
         requires count { self.old.world.events + 1 < 2 ^ 64 }
-        ensures { HappensHere (platform_seen D.held D.failed self.old) (events.Status device) result.now (platform_seen D.held D.failed self.new) }
+        ensures { HappensHere (platform_seen D.seen self.old) (events.Status device) result.now (platform_seen D.seen self.new) }
     {
         // Without a block device of this id the world refuses to tell it.
         let Some(place) = place_of(&self.blocks, device) else {
@@ -221,7 +221,7 @@ impl<D: Disk> Platform<D> {
     fn pass<'a>(&mut self, event: &Event, kept: &'a mut KeptOutcomes) -> &'a mut Outcome
         requires other { StaysBeside event.now false }
         requires count { self.old.world.events + 1 < 2 ^ 64 }
-        ensures { HappensHere (platform_seen D.held D.failed self.old) event.now result.now (platform_seen D.held D.failed self.new) }
+        ensures { HappensHere (platform_seen D.seen self.old) event.now result.now (platform_seen D.seen self.new) }
     {
         world_takes(&mut self.world, event, kept)
     }
@@ -234,7 +234,7 @@ impl<D: Disk> Platform<D> {
         kept: &'a mut KeptOutcomes,
     ) -> &'a mut Outcome
         requires count { self.old.world.events + 1 < 2 ^ 64 }
-        ensures { HappensHere (platform_seen D.held D.failed self.old) event.now result.now (platform_seen D.held D.failed self.new) }
+        ensures { HappensHere (platform_seen D.seen self.old) event.now result.now (platform_seen D.seen self.new) }
     {
         match event {
             Event::Plug { device, new } => self.plug(*device, *new, kept),

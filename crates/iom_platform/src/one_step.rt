@@ -82,7 +82,7 @@ pub(crate) fn step_once<'a, D: Disk>(
     requires count { world.old.events + 1 < 2 ^ 64 }
     ensures happens { Happens world.old (events.Step id) result.now world.new }
     ensures steps { StepsOnce (parts_of world.old) id result.now (parts_of world.new)
-        (device blk.old.front (disk_in D.held D.failed blk.old.drive.disk)) (device blk.new.front (disk_in D.held D.failed blk.new.drive.disk)) }
+        (device blk.old.front (disk_in D.seen blk.old.drive.disk)) (device blk.new.front (disk_in D.seen blk.new.drive.disk)) }
 {
     match blk.step() {
         Step::Wants(want) => {

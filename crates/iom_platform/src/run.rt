@@ -72,9 +72,9 @@ impl<D: Disk> Platform<D> {
     pub fn run<S: Sink>(&mut self, events: &[Event], sink: &mut S) -> Result<(), S::Fault>
         requires count { self.old.world.events + length events.now < 2 ^ 64 }
         ensures ran { (state : State) → Shows self.old.world state
-            → OnOk result (RunsTo S.wants S.takes state (platform_seen D.held D.failed self.old) events.now sink.old sink.new (platform_seen D.held D.failed self.new)) }
+            → OnOk result (RunsTo S.wants S.takes state (platform_seen D.seen self.old) events.now sink.old sink.new (platform_seen D.seen self.new)) }
         ensures failed { (state : State) → Shows self.old.world state
-            → OnErr result (FailsAfter S.wants S.takes S.fails state (platform_seen D.held D.failed self.old) events.now sink.old sink.new (platform_seen D.held D.failed self.new)) }
+            → OnErr result (FailsAfter S.wants S.takes S.fails state (platform_seen D.seen self.old) events.now sink.old sink.new (platform_seen D.seen self.new)) }
         ensures counted { OnOk result (self.new.world.events ≡ self.old.world.events + length events.now) }
         ensures counted_at_most { OnErr result (self.new.world.events ≤ self.old.world.events + length events.now) }
     {

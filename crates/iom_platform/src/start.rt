@@ -27,7 +27,7 @@ fn is_size(frames: u32, levels: u8) -> bool
 
 /// The disks with their numbers, which are their places.
 fn number_disks<D: Disk>(alloc: Global, disks: Vec<D>) -> Result<Vec<DiskAtHand<D>>, AllocError>
-    ensures { IfOk result (λ at_hand. disks_seen D.held D.failed at_hand.items ≡ numbered 0 (states_of D.held D.failed disks.items)) }
+    ensures { IfOk result (λ at_hand. disks_seen D.seen at_hand.items ≡ numbered 0 (states_of D.seen disks.items)) }
 {
     let mut rest = disks;
     let mut at_hand = Vec::new(alloc);
@@ -61,7 +61,7 @@ impl<D: Disk> Platform<D> {
         levels: u8,
         disks: Vec<D>,
     ) -> Result<Platform<D>, MemError>
-        ensures begins { IfOk result (λ platform. BeginsAt frames levels (states_of D.held D.failed disks.items) (platform_seen D.held D.failed platform)) }
+        ensures begins { IfOk result (λ platform. BeginsAt frames levels (states_of D.seen disks.items) (platform_seen D.seen platform)) }
         ensures size { IfOk result (λ platform. IsMemorySize frames × IsLevels levels) }
         ensures bad_size { (IsErrOf result BadSize) ↔ ¬ (IsMemorySize frames × IsLevels levels) }
     {

@@ -47,7 +47,7 @@ impl<D: Disk> Platform<D> {
     #[inline(always)]
     pub(crate) fn take<'a>(&mut self, event: &Event, kept: &'a mut KeptOutcomes) -> &'a mut Outcome
         requires count { self.old.world.events + 1 < 2 ^ 64 }
-        ensures { HappensHere (platform_seen D.held D.failed self.old) event.now result.now (platform_seen D.held D.failed self.new) }
+        ensures { HappensHere (platform_seen D.seen self.old) event.now result.now (platform_seen D.seen self.new) }
     {
         if concerns(event, are_none(&self.blocks)) {
             return self.take_for_blocks(event, kept);
@@ -63,7 +63,7 @@ impl<D: Disk> Platform<D> {
     /// it had in work, and a detach drops its disk. A disk goes into one device, once.
     pub fn step(&mut self, event: &Event) -> Outcome
         requires count { self.old.world.events + 1 < 2 ^ 64 }
-        ensures { HappensHere (platform_seen D.held D.failed self.old) event.now result (platform_seen D.held D.failed self.new) }
+        ensures { HappensHere (platform_seen D.seen self.old) event.now result (platform_seen D.seen self.new) }
     {
         let mut kept = KeptOutcomes::new();
         mem::replace(self.take(event, &mut kept), Outcome::Done)

@@ -1,9 +1,9 @@
 // A script that is run with the program's own disks.
-ghost use Rattle.std.specs.Prelude.{◌≡◌, List, ℕ, map, IfOk, IfSome};
+ghost use Rattle.std.specs.Prelude.{◌≡◌, List, ℕ, IfOk, IfSome};
 ghost use Rattle.iom_platform.specs.Seen.{states_of};
 ghost use Rattle.iom_script.specs.Grammar.{IsWorldSize};
-ghost use Rattle.iom_virtio_blk.specs.MemoryDisks.{failures_of};
-ghost use Rattle.iom_runner.specs.Disks.{program_disks, program_failing, program_setting};
+ghost use Rattle.iom_virtio_blk.specs.MemoryDisks.{state_of};
+ghost use Rattle.iom_runner.specs.Disks.{program_disks, program_setting};
 ghost use Rattle.iom_runner.specs.Reading.{ConsumesAtMost, FailsWithin};
 ghost use Rattle.iom_runner.specs.Runs.{TellsScript, RunsBytes, AreLeft};
 
@@ -16,16 +16,16 @@ use std::alloc::{AllocError, Global};
 use std::io::{Read, Write};
 use std::mem;
 
-/// The disks of the program: 0 and 1 have 64 sectors, 2 has 2, and 3 has 64 and fails at its second call.
+/// The disks of the program, whose names are their places: 0 and 1 have 64 sectors, 2 has 2, and 3 has 64 and fails at
+/// its second call.
 pub fn program_disks(alloc: Global) -> Result<Vec<MemoryDisk>, AllocError>
-    ensures zero { IfOk result (λ disks. states_of (λ disk. disk.sectors.items) (λ disk. failures_of disk.failing) disks.items ≡ program_disks) }
-    ensures failing { IfOk result (λ disks. map (λ disk. disk.failing) disks.items ≡ program_failing) }
+    ensures { IfOk result (λ disks. states_of state_of disks.items ≡ program_disks) }
 {
     let mut disks = Vec::with_capacity(alloc, 4)?;
-    disks.push(MemoryDisk::new(alloc, 64, None)?)?;
-    disks.push(MemoryDisk::new(alloc, 64, None)?)?;
-    disks.push(MemoryDisk::new(alloc, 2, None)?)?;
-    disks.push(MemoryDisk::new(alloc, 64, Some(2))?)?;
+    disks.push(MemoryDisk::new(alloc, 0, 64, None)?)?;
+    disks.push(MemoryDisk::new(alloc, 1, 64, None)?)?;
+    disks.push(MemoryDisk::new(alloc, 2, 2, None)?)?;
+    disks.push(MemoryDisk::new(alloc, 3, 64, Some(2))?)?;
     Ok(disks)
 }
 

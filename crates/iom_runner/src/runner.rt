@@ -37,7 +37,7 @@ fn platform_of<D: Disk>(
     disks: Vec<D>,
 ) -> Result<Platform<D>, RunFault>
     requires { IsWorldSize size }
-    ensures begins { IfOk result (λ platform. BeginsAt size.frames size.levels (states_of D.held D.failed disks.items) (platform_seen D.held D.failed platform)) }
+    ensures begins { IfOk result (λ platform. BeginsAt size.frames size.levels (states_of D.seen disks.items) (platform_seen D.seen platform)) }
     ensures fault { IfErr result (λ fault. fault ≡ RunFault.Memory) }
 {
     Platform::new(alloc, size.frames as u32, size.levels as u8, disks).map_err(|_| RunFault::Memory)
@@ -51,13 +51,13 @@ fn tell_events<W: Write, D: Disk>(
 ) -> Result<(), WriteFault>
     requires count { platform.old.world.events + length events.now < 2 ^ 64 }
     requires empty { lines.old.buffer ≡ [] }
-    ensures same_writer { (setting : Setting) (size : WorldSize) → BeginsAt size.frames size.levels setting.disks (platform_seen D.held D.failed platform.old)
+    ensures same_writer { (setting : Setting) (size : WorldSize) → BeginsAt size.frames size.levels setting.disks (platform_seen D.seen platform.old)
         → KeepsWriter lines.old lines.new }
-    ensures told { (setting : Setting) (size : WorldSize) → BeginsAt size.frames size.levels setting.disks (platform_seen D.held D.failed platform.old)
+    ensures told { (setting : Setting) (size : WorldSize) → BeginsAt size.frames size.levels setting.disks (platform_seen D.seen platform.old)
         → lines.old.counts ≡ setting.counts → OnOk result (WritesRun setting size events.now (W.contents lines.old.writer.now) (W.contents lines.new.writer.now)) }
-    ensures front { (setting : Setting) (size : WorldSize) → BeginsAt size.frames size.levels setting.disks (platform_seen D.held D.failed platform.old)
+    ensures front { (setting : Setting) (size : WorldSize) → BeginsAt size.frames size.levels setting.disks (platform_seen D.seen platform.old)
         → lines.old.counts ≡ setting.counts → OnErr result (BeginsRun setting size events.now (W.contents lines.old.writer.now) (W.contents lines.new.writer.now)) }
-    ensures so_far { (setting : Setting) (size : WorldSize) → BeginsAt size.frames size.levels setting.disks (platform_seen D.held D.failed platform.old)
+    ensures so_far { (setting : Setting) (size : WorldSize) → BeginsAt size.frames size.levels setting.disks (platform_seen D.seen platform.old)
         → lines.old.counts ≡ setting.counts → OnErr result (BeginsRunSoFar setting size events.now (W.contents lines.old.writer.now) (W.contents lines.new.writer.now)) }
 {
     let trace = platform.trace_for(lines);
@@ -76,11 +76,11 @@ fn tell_run<W: Write, D: Disk>(
 ) -> Result<(), RunFault>
     requires count { platform.old.world.events + length events.now < 2 ^ 64 }
     requires empty { buffer ≡ [] }
-    ensures told { (setting : Setting) (size : WorldSize) → BeginsAt size.frames size.levels setting.disks (platform_seen D.held D.failed platform.old)
+    ensures told { (setting : Setting) (size : WorldSize) → BeginsAt size.frames size.levels setting.disks (platform_seen D.seen platform.old)
         → counts ≡ setting.counts → OnOk result (WritesRun setting size events.now (W.contents writer.old) (W.contents writer.new)) }
-    ensures front { (setting : Setting) (size : WorldSize) → BeginsAt size.frames size.levels setting.disks (platform_seen D.held D.failed platform.old)
+    ensures front { (setting : Setting) (size : WorldSize) → BeginsAt size.frames size.levels setting.disks (platform_seen D.seen platform.old)
         → counts ≡ setting.counts → OnErr result (BeginsRun setting size events.now (W.contents writer.old) (W.contents writer.new)) }
-    ensures so_far { (setting : Setting) (size : WorldSize) → BeginsAt size.frames size.levels setting.disks (platform_seen D.held D.failed platform.old)
+    ensures so_far { (setting : Setting) (size : WorldSize) → BeginsAt size.frames size.levels setting.disks (platform_seen D.seen platform.old)
         → counts ≡ setting.counts → OnErr result (BeginsRunSoFar setting size events.now (W.contents writer.old) (W.contents writer.new)) }
     ensures fault { IfErr result (λ fault. fault ≡ RunFault.Writing) }
 {
@@ -116,7 +116,7 @@ pub(crate) fn tell<W: Write, D: Disk>(
     writer: &mut W,
 ) -> Result<(), RunFault>
     requires world { IfSome script.now.world IsWorldSize }
-    ensures { TellsScript (setting_of D.held D.failed disks.items counts) script.now result (W.contents writer.old) (W.contents writer.new) }
+    ensures { TellsScript (setting_of D.seen disks.items counts) script.now result (W.contents writer.old) (W.contents writer.new) }
 {
     let Some(size) = script.world else {
         return Ok(());
@@ -145,7 +145,7 @@ pub fn run<R: Read, W: Write, D: Disk>(
 ) -> Result<(), RunFault>
     // Of a reader whose bytes aren't known, it is so of some bytes.
     ensures ran { (input : List ℕ) × AreLeft input (R.remaining reader.old)
-        × RunsBytes (setting_of D.held D.failed disks.items trace) input result (W.contents writer.old) (W.contents writer.new) }
+        × RunsBytes (setting_of D.seen disks.items trace) input result (W.contents writer.old) (W.contents writer.new) }
 
     // Of the reader at most one byte more is taken than a script may have, and where reading fails not that one.
     ensures consumed { ConsumesAtMost 1048577 (R.remaining reader.old) (R.remaining reader.new) }

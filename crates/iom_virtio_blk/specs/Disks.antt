@@ -1,15 +1,41 @@
 -- What a disk shows, and what its calls do.
-use Rattle.std.specs.Prelude.{◌≡◌, ℕ, ◌<◌, ◌≤◌, ◌⊎◌, List, length, slice_get, slice_set, Option, Some, None}
+use Rattle.std.specs.Prelude.{◌≡◌, ℕ, zero, suc, ◌<◌, ◌≤◌, ◌⊎◌, Bool, true, false, List, [], ◌∷◌, length, slice_get, slice_set, Option, Some, None}
 
--- a disk as it is seen: the bytes of each sector, and how many of its calls failed
+-- a disk as it is seen: which disk it is, by a name that no call changes; the bytes of each sector; and which of its calls will fail, by how many go well
+-- before each of them
 pub record DiskState : Type 0 where
+  pub name : ℕ
   pub sectors : List (List ℕ)
-  pub failures : ℕ
+  pub failing : List ℕ
 
--- what is seen of the disk that stands in a place, if there is one; `held` and `failed` are those of the disk's trait
-abbrev pub disk_in : {T : Type 0} → (T → List (List ℕ)) → (T → ℕ) → Option T → Option DiskState
-disk_in held failed None = None
-disk_in held failed (Some disk) = Some (record { sectors = held disk; failures = failed disk })
+-- what is seen of the disk that stands in a place, if there is one; `seen` is that of the disk's trait
+abbrev pub disk_in : {T : Type 0} → (T → DiskState) → Option T → Option DiskState
+disk_in seen None = None
+disk_in seen (Some disk) = Some (seen disk)
+
+-- whether the next call fails
+abbrev pub fails_next : List ℕ → Bool
+fails_next [] = false
+fails_next (zero ∷ later) = true
+fails_next (suc before ∷ later) = false
+
+-- which calls will fail, when one more was made
+abbrev pub after_call : List ℕ → List ℕ
+after_call [] = []
+after_call (zero ∷ later) = later
+after_call (suc before ∷ later) = before ∷ later
+
+-- it is the same disk, of which one more call was made
+pub record IsCalled (old new : DiskState) : Type 0 where
+  pub name : new.name ≡ old.name
+  pub failing : new.failing ≡ after_call old.failing
+
+-- the call went well, or failed: as was to come
+abbrev pub GoesWell : DiskState → DiskState → Type 0
+GoesWell old new = (fails_next old.failing ≡ false) × IsCalled old new
+
+abbrev pub Fails : DiskState → DiskState → Type 0
+Fails old new = (fails_next old.failing ≡ true) × IsCalled old new
 
 -- how many sectors there are, where there is a disk
 abbrev pub sector_count : Option DiskState → Option ℕ
@@ -20,18 +46,17 @@ sector_count (Some disk) = Some (length disk.sectors)
 abbrev pub IsOldOrNew : List (List ℕ) → ℕ → List ℕ → List (List ℕ) → Type 0
 IsOldOrNew old sector bytes new = (new ≡ old) ⊎ (new ≡ slice_set old sector bytes)
 
--- why a call may have failed: there is no disk, there is no such sector, or the disk counts one failure more
+-- why a call may have failed: there is no disk, or no such sector, and nothing was called; or this call of the disk was to fail
 abbrev pub HasReason : Option DiskState → ℕ → Option DiskState → Type 0
 HasReason None sector new = Unit {0}
 HasReason (Some old) sector None = ⊥
-HasReason (Some old) sector (Some new) = (length old.sectors ≤ sector) ⊎ (old.failures < new.failures)
+HasReason (Some old) sector (Some new) = ((length old.sectors ≤ sector) × (new ≡ old)) ⊎ Fails old new
 
--- none of the disk's calls failed meanwhile
-abbrev pub KeepsFailures : Option DiskState → Option DiskState → Type 0
-KeepsFailures None None = Unit {0}
-KeepsFailures None (Some new) = ⊥
-KeepsFailures (Some old) None = ⊥
-KeepsFailures (Some old) (Some new) = new.failures ≡ old.failures
+-- the disk was called once, and went well
+abbrev pub CalledWell : Option DiskState → Option DiskState → Type 0
+CalledWell None new = ⊥
+CalledWell (Some old) None = ⊥
+CalledWell (Some old) (Some new) = GoesWell old new
 
 -- no sector changed
 abbrev pub KeepsSectors : Option DiskState → Option DiskState → Type 0
@@ -63,8 +88,8 @@ abbrev pub IsThere : Option DiskState → Type 0
 IsThere None = ⊥
 IsThere (Some disk) = Unit {0}
 
--- why a flush may have failed
+-- why a flush may have failed: there is no disk, or this call of it was to fail
 abbrev pub HasFlushReason : Option DiskState → Option DiskState → Type 0
 HasFlushReason None new = Unit {0}
 HasFlushReason (Some old) None = ⊥
-HasFlushReason (Some old) (Some new) = old.failures < new.failures
+HasFlushReason (Some old) (Some new) = Fails old new

@@ -1,34 +1,29 @@
 -- A disk in memory, one of whose calls fails, or none.
-use Rattle.std.specs.Prelude.{ℕ, zero, suc, Bool, true, false, List, replicate, Option, None, Some}
+use Rattle.std.specs.Prelude.{ℕ, zero, suc, List, [], ◌∷◌, replicate, Option, None, Some}
 use Rattle.iom_virtio_blk.specs.declared.memory_disk.Failing.{Failing}
-use Rattle.iom_virtio_blk.specs.declared.memory_disk.Failing.TheVariants.{Never, After, Past}
+use Rattle.iom_virtio_blk.specs.declared.memory_disk.Failing.TheVariants.{Never, After}
+use Rattle.iom_virtio_blk.specs.declared.memory_disk.MemoryDisk.{MemoryDisk}
+use Rattle.iom_virtio_blk.specs.Disks.{DiskState}
 
 -- the bytes of a sector that was never written
 unfoldable pub zero_sector : List ℕ
 zero_sector = replicate 512 0
 
--- the call of this number fails, counted from 1
-abbrev pub failing_at : Option ℕ → Failing
-failing_at None = Never
-failing_at (Some zero) = Never
-failing_at (Some (suc before)) = After before
+-- the call of this number fails, counted from 1, and no other: so many go well before it
+abbrev pub failing_at : Option ℕ → List ℕ
+failing_at None = []
+failing_at (Some zero) = []
+failing_at (Some (suc before)) = before ∷ []
 
--- whether the next call fails
-abbrev pub fails_next : Failing → Bool
-fails_next Never = false
-fails_next (After zero) = true
-fails_next (After (suc before)) = false
-fails_next Past = false
+-- which calls will fail
+abbrev pub failing_of : Failing → List ℕ
+failing_of Never = []
+failing_of (After before) = before ∷ []
 
--- the same, when one more call was made
-abbrev pub after_call : Failing → Failing
-after_call Never = Never
-after_call (After zero) = Past
-after_call (After (suc before)) = After before
-after_call Past = Past
+-- the disk as it is seen
+abbrev pub state_of : MemoryDisk → DiskState
+state_of disk = record { name = disk.name; sectors = disk.sectors.items; failing = failing_of disk.failing }
 
--- how many calls failed
-abbrev pub failures_of : Failing → ℕ
-failures_of Never = 0
-failures_of (After before) = 0
-failures_of Past = 1
+-- a disk of this name with so many sectors of zeros
+abbrev pub zero_disk : (name sectors : ℕ) (failing : List ℕ) → DiskState
+zero_disk name sectors failing = record { name = name; sectors = replicate sectors zero_sector; failing = failing }

@@ -14,7 +14,7 @@ use Rattle.iom_virtio_blk.specs.declared.step.Call.{Call}
 use Rattle.iom_virtio_blk.specs.declared.step.Call.TheVariants.{Read, Write, Flush}
 use Rattle.iom_virtio_blk.specs.declared.step.Step.{Step}
 use Rattle.iom_virtio_blk.specs.declared.step.Step.TheVariants.{Idle, Waiting, Down, Chain, Finished, Wants}
-use Rattle.iom_virtio_blk.specs.Disks.{DiskState, sector_count, HasReason, HasFlushReason, KeepsFailures, KeepsSectors, DidRead, DidWrite, Tears, IsThere}
+use Rattle.iom_virtio_blk.specs.Disks.{DiskState, sector_count, HasReason, HasFlushReason, CalledWell, KeepsSectors, DidRead, DidWrite, Tears, IsThere}
 use Rattle.iom_virtio_blk.specs.Serving.{unread}
 use Rattle.iom_virtio_blk.specs.Wants.{access_wanted}
 use Rattle.iom_virtio_blk.specs.Blocks.{IsAsking, IsTaking, wanted_by, down, call_after, after_served}
@@ -27,15 +27,16 @@ pub record Device : Type 0 where
 abbrev pub device : Front → Option DiskState → Device
 device front disk = record { front = front; disk = disk }
 
--- the call of the disk, if there is one, went well or didn't; one that went well is the only one, or none of the others failed: `kept` is the buffer before it, and `buffer` the one after it
+-- the call of the disk, if there is one, went well or didn't; the disk is the same one, and called at most once: `kept` is the buffer before it, and
+-- `buffer` the one after it
 abbrev pub Calls : Option Call → Bool → Option DiskState → List ℕ → Option DiskState → List ℕ → Type 0
 Calls None true old kept new buffer = (new ≡ old) × (buffer ≡ kept)
 Calls None false old kept new buffer = ⊥
-Calls (Some (Read sector)) true old kept new buffer = DidRead old sector buffer × KeepsSectors old new × KeepsFailures old new
+Calls (Some (Read sector)) true old kept new buffer = DidRead old sector buffer × KeepsSectors old new × CalledWell old new
 Calls (Some (Read sector)) false old kept new buffer = HasReason old sector new × KeepsSectors old new × (buffer ≡ kept)
-Calls (Some (Write sector)) true old kept new buffer = DidWrite old sector kept new × (buffer ≡ kept) × KeepsFailures old new
+Calls (Some (Write sector)) true old kept new buffer = DidWrite old sector kept new × (buffer ≡ kept) × CalledWell old new
 Calls (Some (Write sector)) false old kept new buffer = HasReason old sector new × Tears old sector kept new × (buffer ≡ kept)
-Calls (Some Flush) true old kept new buffer = IsThere old × KeepsSectors old new × (buffer ≡ kept) × KeepsFailures old new
+Calls (Some Flush) true old kept new buffer = IsThere old × KeepsSectors old new × (buffer ≡ kept) × CalledWell old new
 Calls (Some Flush) false old kept new buffer = HasFlushReason old new × KeepsSectors old new × (buffer ≡ kept)
 
 -- a request whose disk failed ends IOERR, and the rest of its data is left

@@ -1,6 +1,6 @@
 // Scripts with the lines that they have to print, and what the judge finds of both as a trace.
 use iom_judge::{judge_trace, trace_of};
-use iom_runner::{program_disks, run};
+use iom_runner::run_words;
 use std::alloc::Global;
 use std::fs;
 
@@ -92,11 +92,12 @@ fn first_difference(printed: &str, wanted: &str) -> usize {
     same.saturating_add(1)
 }
 
-/// How what the script prints compares with what is wanted, and the fault that it ends with.
-fn compared(alloc: Global, script: &str, wanted: &str, trace: bool) -> anyhow::Result<String> {
+/// How what the program prints for the script, on its input, compares with what is wanted, and the fault that it ends with.
+fn compared(rt: &HostRuntime, script: &str, wanted: &str, trace: bool) -> anyhow::Result<String> {
+    let alloc = rt.alloc();
     let mut lines = Vec::new(alloc);
-    let disks = program_disks(alloc)?;
-    let done = run(alloc, &mut script.as_bytes(), &mut lines, disks, trace);
+    let words: &[&str] = if trace { &["--trace"] } else { &[] };
+    let done = run_words(rt, alloc, words, &mut script.as_bytes(), &mut lines);
     let printed = String::from_utf8(lines)?;
     let compared = if printed.as_str() == wanted {
         format!(in alloc; "as written")?
@@ -132,7 +133,7 @@ fn judged(alloc: Global, script: &str, wanted: &str) -> anyhow::Result<String> {
 
 /// Runs a script, and tells how what it prints compares with what is wanted, and what is found of both.
 fn tell(rt: &HostRuntime, name: &str, script: &str, wanted: &str) -> anyhow::Result<()> {
-    let compared = compared(rt.alloc(), script, wanted, COUNTED.contains(&name))?;
+    let compared = compared(rt, script, wanted, COUNTED.contains(&name))?;
     let judged = judged(rt.alloc(), script, wanted)?;
     println!(rt; "{name}: {compared}; {judged}")?;
     Ok(())

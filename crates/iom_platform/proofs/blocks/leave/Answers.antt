@@ -16,24 +16,24 @@ index_mut-requires g c =
 
 pub returns-in_default-clause-seen : goal.returns-in_default-clause-seen
 returns-in_default-clause-seen g c =
-    changed_none IsLeft (blocks_seen g.D.Disk.held g.D.Disk.failed c.args.blocks.now.items) c.args.id
-    (subst (λ blocks. block_with (blocks_seen g.D.Disk.held g.D.Disk.failed blocks) c.args.id ≡ None) c.deref.ensures.value c.in_default.ensures)
+    changed_none IsLeft (blocks_seen g.D.Disk.seen c.args.blocks.now.items) c.args.id
+    (subst (λ blocks. block_with (blocks_seen g.D.Disk.seen blocks) c.args.id ≡ None) c.deref.ensures.value c.in_default.ensures)
 
 pub returns-in-Some-clause-seen : goal.returns-in-Some-clause-seen
 returns-in-Some-clause-seen g c =
-    let here = subst (λ blocks. IsPlaceOf g.D.Disk.held g.D.Disk.failed blocks c.args.id c.in-Some.place) c.deref.ensures.value c.in-Some.ensures in
+    let here = subst (λ blocks. IsPlaceOf g.D.Disk.seen blocks c.args.id c.in-Some.place) c.deref.ensures.value c.in-Some.ensures in
     let at = c.index_mut.result.now in
-    let is = at_place g.D.Disk.held g.D.Disk.failed c.args.blocks.now.items c.args.id c.in-Some.place at here c.index_mut.ensures.value in
-    changed_from g.D.Disk.held g.D.Disk.failed IsLeft c.args.blocks.now.items c.args.id c.in-Some.place at (record { id = at.id; blk = c.eject.new.self }) here is refl
-    (is_left g.D.Disk.held g.D.Disk.failed at (record { id = at.id; blk = c.eject.new.self }) (c.eject.ensures.front ∙ c.reset.ensures.front) c.eject.ensures.disk)
+    let is = at_place g.D.Disk.seen c.args.blocks.now.items c.args.id c.in-Some.place at here c.index_mut.ensures.value in
+    changed_from g.D.Disk.seen IsLeft c.args.blocks.now.items c.args.id c.in-Some.place at (record { id = at.id; blk = c.eject.new.self }) here is refl
+    (is_left g.D.Disk.seen at (record { id = at.id; blk = c.eject.new.self }) (c.eject.ensures.front ∙ c.reset.ensures.front) c.eject.ensures.disk)
 
 pub returns-in-Some-clause-entries : goal.returns-in-Some-clause-entries
 returns-in-Some-clause-entries g c =
-    let here = subst (λ blocks. IsPlaceOf g.D.Disk.held g.D.Disk.failed blocks c.args.id c.in-Some.place) c.deref.ensures.value c.in-Some.ensures in
+    let here = subst (λ blocks. IsPlaceOf g.D.Disk.seen blocks c.args.id c.in-Some.place) c.deref.ensures.value c.in-Some.ensures in
     let at = c.index_mut.result.now in
-    let is = at_place g.D.Disk.held g.D.Disk.failed c.args.blocks.now.items c.args.id c.in-Some.place at here c.index_mut.ensures.value in
-    entries_as g.D.Disk.held g.D.Disk.failed c.args.blocks.now.items c.args.id c.in-Some.place at (record { id = at.id; blk = c.eject.new.self }) false here is refl (ap (λ disk. is_some disk) c.eject.ensures.disk)
+    let is = at_place g.D.Disk.seen c.args.blocks.now.items c.args.id c.in-Some.place at here c.index_mut.ensures.value in
+    entries_as g.D.Disk.seen c.args.blocks.now.items c.args.id c.in-Some.place at (record { id = at.id; blk = c.eject.new.self }) false here is refl (ap (λ disk. is_some disk) c.eject.ensures.disk)
 
 pub returns-in_default-clause-entries : goal.returns-in_default-clause-entries
 returns-in_default-clause-entries g c =
-    sym (with_none (entries_of c.args.blocks.now.items) c.args.id false (none_entries g.D.Disk.held g.D.Disk.failed c.args.blocks.now.items c.args.id (subst (λ blocks. block_with (blocks_seen g.D.Disk.held g.D.Disk.failed blocks) c.args.id ≡ None) c.deref.ensures.value c.in_default.ensures)))
+    sym (with_none (entries_of c.args.blocks.now.items) c.args.id false (none_entries g.D.Disk.seen c.args.blocks.now.items c.args.id (subst (λ blocks. block_with (blocks_seen g.D.Disk.seen blocks) c.args.id ≡ None) c.deref.ensures.value c.in_default.ensures)))

@@ -6,8 +6,8 @@ use Rattle.iom_platform.proofs.start.number_disks.Given as goal
 
 abbrev pub invariant-loop-at_hand : goal.invariant-loop-at_hand
 invariant-loop-at_hand g l =
-    disks_seen g.D.Disk.held g.D.Disk.failed l.at_hand.items
-    ++ numbered (length l.at_hand.items) (states_of g.D.Disk.held g.D.Disk.failed l.rest.items) ≡ numbered 0 (states_of g.D.Disk.held g.D.Disk.failed l.fn.disks.items)
+    disks_seen g.D.Disk.seen l.at_hand.items
+    ++ numbered (length l.at_hand.items) (states_of g.D.Disk.seen l.rest.items) ≡ numbered 0 (states_of g.D.Disk.seen l.fn.disks.items)
 
 abbrev pub decreases-loop-at_hand : goal.decreases-loop-at_hand
 decreases-loop-at_hand g l = length l.rest.items

@@ -8,9 +8,9 @@ use Rattle.iom_runner.proofs.runner.tell_events.Goals as goal
 
 pub returns-in_err-put-clause-so_far : goal.returns-in_err-put-clause-so_far
 returns-in_err-put-clause-so_far g c = λ setting size begins same.
-    let first : IsFirst setting size (platform_seen g.D.Disk.held g.D.Disk.failed c.args.platform.now) c.args.lines.now c.trace_for-trace.result = record { begins = begins; counts = same; wanted = c.trace_for-trace.ensures.wanted; counted = c.trace_for-trace.ensures.counts _ begins.world.shows } in
+    let first : IsFirst setting size (platform_seen g.D.Disk.seen c.args.platform.now) c.args.lines.now c.trace_for-trace.result = record { begins = begins; counts = same; wanted = c.trace_for-trace.ensures.wanted; counted = c.trace_for-trace.ensures.counts _ begins.world.shows } in
     at_err c.from_residual.result (so_far_none g.W.Write.contents setting size c.args.events.now c.args.lines.now c.put.new.self c.trace_for-trace.result
-    (platform_seen g.D.Disk.held g.D.Disk.failed c.args.platform.now) c.requires.empty first c.in_err-put.ensures.failed)
+    (platform_seen g.D.Disk.seen c.args.platform.now) c.requires.empty first c.in_err-put.ensures.failed)
 
 pub returns-in_err-put-clause-front : goal.returns-in_err-put-clause-front
 returns-in_err-put-clause-front g c = λ setting size begins same.
@@ -19,13 +19,13 @@ returns-in_err-put-clause-front g c = λ setting size begins same.
 pub returns-in_err-run-clause-same_writer : goal.returns-in_err-run-clause-same_writer
 returns-in_err-run-clause-same_writer g c = λ setting size begins.
     same_if_failed g.W.Write.contents c.args.events.now c.args.lines.now c.put.new.self c.run.new.sink c.trace_for-trace.result (power_on setting size)
-    (platform_seen g.D.Disk.held g.D.Disk.failed c.args.platform.now) (platform_seen g.D.Disk.held g.D.Disk.failed c.run.new.self) c.in_ok-put.ensures.taken (c.in_err-run.ensures.failed _ begins.world.shows)
+    (platform_seen g.D.Disk.seen c.args.platform.now) (platform_seen g.D.Disk.seen c.run.new.self) c.in_ok-put.ensures.taken (c.in_err-run.ensures.failed _ begins.world.shows)
 
 pub returns-in_err-run-clause-so_far : goal.returns-in_err-run-clause-so_far
 returns-in_err-run-clause-so_far g c = λ setting size begins same.
-    let first : IsFirst setting size (platform_seen g.D.Disk.held g.D.Disk.failed c.args.platform.now) c.args.lines.now c.trace_for-trace.result = record { begins = begins; counts = same; wanted = c.trace_for-trace.ensures.wanted; counted = c.trace_for-trace.ensures.counts _ begins.world.shows } in
+    let first : IsFirst setting size (platform_seen g.D.Disk.seen c.args.platform.now) c.args.lines.now c.trace_for-trace.result = record { begins = begins; counts = same; wanted = c.trace_for-trace.ensures.wanted; counted = c.trace_for-trace.ensures.counts _ begins.world.shows } in
     at_err c.from_residual-in_err-run.result (told_until_failure g.W.Write.contents setting size c.args.events.now c.args.lines.now c.put.new.self c.run.new.sink c.trace_for-trace.result
-    (platform_seen g.D.Disk.held g.D.Disk.failed c.args.platform.now) (platform_seen g.D.Disk.held g.D.Disk.failed c.run.new.self) c.requires.empty first c.in_ok-put.ensures.taken
+    (platform_seen g.D.Disk.seen c.args.platform.now) (platform_seen g.D.Disk.seen c.run.new.self) c.requires.empty first c.in_ok-put.ensures.taken
     (c.in_err-run.ensures.failed _ begins.world.shows))
 
 pub returns-in_err-run-clause-front : goal.returns-in_err-run-clause-front
@@ -35,21 +35,21 @@ returns-in_err-run-clause-front g c = λ setting size begins same.
 pub returns-clause-same_writer : goal.returns-clause-same_writer
 returns-clause-same_writer g c = λ setting size begins.
     same_if_ran g.W.Write.contents c.args.events.now c.args.lines.now c.put.new.self c.run.new.sink c.write_out.new.self c.trace_for-trace.result (power_on setting size)
-    (platform_seen g.D.Disk.held g.D.Disk.failed c.args.platform.now) (platform_seen g.D.Disk.held g.D.Disk.failed c.run.new.self) c.in_ok-put.ensures.taken (c.in_ok-run.ensures.ran _ begins.world.shows)
+    (platform_seen g.D.Disk.seen c.args.platform.now) (platform_seen g.D.Disk.seen c.run.new.self) c.in_ok-put.ensures.taken (c.in_ok-run.ensures.ran _ begins.world.shows)
     c.write_out.ensures.same_writer
 
 pub returns-clause-told : goal.returns-clause-told
 returns-clause-told g c = λ setting size begins same.
-    let first : IsFirst setting size (platform_seen g.D.Disk.held g.D.Disk.failed c.args.platform.now) c.args.lines.now c.trace_for-trace.result = record { begins = begins; counts = same; wanted = c.trace_for-trace.ensures.wanted; counted = c.trace_for-trace.ensures.counts _ begins.world.shows } in
+    let first : IsFirst setting size (platform_seen g.D.Disk.seen c.args.platform.now) c.args.lines.now c.trace_for-trace.result = record { begins = begins; counts = same; wanted = c.trace_for-trace.ensures.wanted; counted = c.trace_for-trace.ensures.counts _ begins.world.shows } in
     on_ok_weaker c.write_out.result (told_whole g.W.Write.contents setting size c.args.events.now c.args.lines.now c.put.new.self c.run.new.sink c.write_out.new.self c.trace_for-trace.result
-    (platform_seen g.D.Disk.held g.D.Disk.failed c.args.platform.now) (platform_seen g.D.Disk.held g.D.Disk.failed c.run.new.self) c.requires.empty first c.in_ok-put.ensures.taken
+    (platform_seen g.D.Disk.seen c.args.platform.now) (platform_seen g.D.Disk.seen c.run.new.self) c.requires.empty first c.in_ok-put.ensures.taken
     (c.in_ok-run.ensures.ran _ begins.world.shows)) c.write_out.ensures.all
 
 pub returns-clause-so_far : goal.returns-clause-so_far
 returns-clause-so_far g c = λ setting size begins same.
-    let first : IsFirst setting size (platform_seen g.D.Disk.held g.D.Disk.failed c.args.platform.now) c.args.lines.now c.trace_for-trace.result = record { begins = begins; counts = same; wanted = c.trace_for-trace.ensures.wanted; counted = c.trace_for-trace.ensures.counts _ begins.world.shows } in
+    let first : IsFirst setting size (platform_seen g.D.Disk.seen c.args.platform.now) c.args.lines.now c.trace_for-trace.result = record { begins = begins; counts = same; wanted = c.trace_for-trace.ensures.wanted; counted = c.trace_for-trace.ensures.counts _ begins.world.shows } in
     on_err_weaker c.write_out.result (told_in_part g.W.Write.contents setting size c.args.events.now c.args.lines.now c.put.new.self c.run.new.sink c.write_out.new.self c.trace_for-trace.result
-    (platform_seen g.D.Disk.held g.D.Disk.failed c.args.platform.now) (platform_seen g.D.Disk.held g.D.Disk.failed c.run.new.self) c.requires.empty first c.in_ok-put.ensures.taken
+    (platform_seen g.D.Disk.seen c.args.platform.now) (platform_seen g.D.Disk.seen c.run.new.self) c.requires.empty first c.in_ok-put.ensures.taken
     (c.in_ok-run.ensures.ran _ begins.world.shows)) c.write_out.ensures.part
 
 pub returns-clause-front : goal.returns-clause-front

@@ -20,9 +20,9 @@ invariant_of-result g c =
 pub returns-clause-begins : goal.returns-clause-begins
 returns-clause-begins g c =
     let numbers = c.deref-2.ensures.value ∙ c.in-Ok-numbers_of.ensures ∙ ap numbers_of c.deref.ensures.value
-    ∙ numbers_seen g.D.Disk.held g.D.Disk.failed c.in-Ok.at_hand.items ∙ ap (λ all. map number_of all) c.in-Ok.ensures in
+    ∙ numbers_seen g.D.Disk.seen c.in-Ok.at_hand.items ∙ ap (λ all. map number_of all) c.in-Ok.ensures in
     record {
       world = subst (λ (disks : List ℕ). world.BeginsAt c.args.frames c.args.levels disks c.in_ok-world.world) numbers c.in_ok-world.ensures.begins;
-      blocks = ap (λ blocks. blocks_seen g.D.Disk.held g.D.Disk.failed blocks) c.in-Ok-with_capacity.ensures.items;
+      blocks = ap (λ blocks. blocks_seen g.D.Disk.seen blocks) c.in-Ok-with_capacity.ensures.items;
       at_hand = c.in-Ok.ensures;
     }

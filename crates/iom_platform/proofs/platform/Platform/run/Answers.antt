@@ -7,7 +7,7 @@ use Rattle.iom_platform.proofs.platform.Platform.run.Goals as goal
 
 pub loop-event-init : goal.loop-event-init
 loop-event-init g c =
-    let seen = platform_seen g.D.Disk.held g.D.Disk.failed c.args.self.now in
+    let seen = platform_seen g.D.Disk.seen c.args.self.now in
     record {
       ran = λ state shows. ([], [], state, are_outcomes state state seen seen [] [] [] refl (shows, refl), refl);
       counted = omega arith;
@@ -28,7 +28,7 @@ pub returns-in_err-tell-clause-failed : goal.returns-in_err-tell-clause-failed
 returns-in_err-tell-clause-failed g c = λ state shows.
     let so_far = c.loop-event.invariant.ran state shows in
     let happens = c.take-outcome.ensures in
-    let seen = platform_seen g.D.Disk.held g.D.Disk.failed c.args.self.now in
+    let seen = platform_seen g.D.Disk.seen c.args.self.now in
     let next = happens.0.step so_far.2 (shown_so_far g.S.Sink.wants g.S.Sink.takes state _ _ _ _ _ so_far) in
     let fault = err_from_is_err_and c.from_residual.result c.from_residual.ensures.1 in
     rw fault.1 (ends_at g.S.Sink.wants g.S.Sink.takes g.S.Sink.fails state next.0 c.args.events.now c.loop-event.event-index c.event-item.result c.take-outcome.result.now c.in_err-tell.ensures.0 _ _ _ seen _ _

@@ -10,7 +10,7 @@ abbrev pub invariant-loop-event : goal.invariant-loop-event
 invariant-loop-event g l =
     record {
       ran : (state : State) → Shows l.fn.self.world state
-          → RunsTo g.S.Sink.wants g.S.Sink.takes state (platform_seen g.D.Disk.held g.D.Disk.failed l.fn.self) (take l.event-index l.events) l.fn.sink l.sink
-          (platform_seen g.D.Disk.held g.D.Disk.failed l.self);
+          → RunsTo g.S.Sink.wants g.S.Sink.takes state (platform_seen g.D.Disk.seen l.fn.self) (take l.event-index l.events) l.fn.sink l.sink
+          (platform_seen g.D.Disk.seen l.self);
       counted : l.self.world.events ≡ l.fn.self.world.events + l.event-index;
     }

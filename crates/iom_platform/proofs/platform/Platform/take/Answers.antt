@@ -14,6 +14,6 @@ invariant_of-self g c = record {
 pub returns : goal.returns
 returns g c = (
   c.take.ensures,
-  stays _ _ c.args.event.now c.take.result.now c.are_none.result (λ is. ap (λ blocks. blocks_seen g.D.Disk.held g.D.Disk.failed blocks) (sym c.deref.ensures.value ∙ c.are_none.ensures is))
+  stays _ _ c.args.event.now c.take.result.now c.are_none.result (λ is. ap (λ blocks. blocks_seen g.D.Disk.seen blocks) (sym c.deref.ensures.value ∙ c.are_none.ensures is))
       (c.concerns.ensures c.if-concerns.false) (refl, refl),
 )

@@ -22,16 +22,15 @@ invariant_of-self g c = record {
 
 pub returns-in_default : goal.returns-in_default
 returns-in_default g c =
-    let held = g.D.Disk.held in
-    let failed = g.D.Disk.failed in
+    let seen = g.D.Disk.seen in
     let self = c.args.self.now in
-    let none = subst (λ blocks. block_with (blocks_seen held failed blocks) c.args.device ≡ None) c.deref.ensures.value c.in_default.ensures in
-    let unknown = subst (λ (entries : List Entry). has_in entries c.args.device ≡ None) self.agrees.devices (none_entries held failed self.blocks.items c.args.device none) in
+    let none = subst (λ blocks. block_with (blocks_seen seen blocks) c.args.device ≡ None) c.deref.ensures.value c.in_default.ensures in
+    let unknown = subst (λ (entries : List Entry). has_in entries c.args.device ≡ None) self.agrees.devices (none_entries seen self.blocks.items c.args.device none) in
     let refused = rest_refused (parts_of self.world) (parts_of c.rest.new.self) c.args.device rest.Idle c.rest.result.now (unable_known (parts_of self.world).devices c.args.device unknown) c.rest.ensures.rests in (
       c.rest.ensures.happens,
       (
-        refused_if (block_with (blocks_seen held failed self.blocks.items) c.args.device) (parts_of self.world) (parts_of c.rest.new.self) c.args.device c.rest.result.now none refused,
-        (changed_none (StepsOnce (parts_of self.world) c.args.device c.rest.result.now (parts_of c.rest.new.self)) (blocks_seen held failed self.blocks.items) c.args.device none, refl),
+        refused_if (block_with (blocks_seen seen self.blocks.items) c.args.device) (parts_of self.world) (parts_of c.rest.new.self) c.args.device c.rest.result.now none refused,
+        (changed_none (StepsOnce (parts_of self.world) c.args.device c.rest.result.now (parts_of c.rest.new.self)) (blocks_seen seen self.blocks.items) c.args.device none, refl),
       ),
     )
 
@@ -43,41 +42,39 @@ index_mut-requires g c =
 
 pub step_once-requires-clause-able : goal.step_once-requires-clause-able
 step_once-requires-clause-able g c =
-    let here = subst (λ blocks. IsPlaceOf g.D.Disk.held g.D.Disk.failed blocks c.args.device c.in-Some.place) c.deref.ensures.value c.in-Some.ensures in
+    let here = subst (λ blocks. IsPlaceOf g.D.Disk.seen blocks c.args.device c.in-Some.place) c.deref.ensures.value c.in-Some.ensures in
     let has = is_some here.block.blk.drive.disk in
     able_known (parts_of c.args.self.now.world).devices c.args.device has c.args.self.now.world.sound.known.own_ids
     (subst (λ (entries : List Entry). has_in entries c.args.device ≡ Some has) c.args.self.now.agrees.devices here.has)
 
 pub invariant_of-self-2 : goal.invariant_of-self-2
 invariant_of-self-2 g c =
-    let held = g.D.Disk.held in
-    let failed = g.D.Disk.failed in
+    let seen = g.D.Disk.seen in
     let self = c.args.self.now in
-    let here = subst (λ blocks. IsPlaceOf held failed blocks c.args.device c.in-Some.place) c.deref.ensures.value c.in-Some.ensures in
-    let is = at_place held failed self.blocks.items c.args.device c.in-Some.place c.index_mut.result.now here c.index_mut.ensures.value in
+    let here = subst (λ blocks. IsPlaceOf seen blocks c.args.device c.in-Some.place) c.deref.ensures.value c.in-Some.ensures in
+    let is = at_place seen self.blocks.items c.args.device c.in-Some.place c.index_mut.result.now here c.index_mut.ensures.value in
     let stays = disk_stays (parts_of self.world) (parts_of c.step_once.new.world) c.args.device c.step_once.result.now _ _ c.step_once.ensures.steps in
     record {
       agrees = agree_kept self.world c.step_once.new.world self.blocks.items _ self.at_hand.items (events.Step c.args.device) c.step_once.result.now tt c.step_once.ensures.happens self.agrees
-          (entries_from held failed self.blocks.items c.args.device c.in-Some.place c.index_mut.result.now (record { id = c.index_mut.result.now.id; blk = c.step_once.new.blk }) here is refl stays);
+          (entries_from seen self.blocks.items c.args.device c.in-Some.place c.index_mut.result.now (record { id = c.index_mut.result.now.id; blk = c.step_once.new.blk }) here is refl stays);
       room = self.room;
     }
 
 pub returns : goal.returns
 returns g c =
-    let held = g.D.Disk.held in
-    let failed = g.D.Disk.failed in
+    let seen = g.D.Disk.seen in
     let self = c.args.self.now in
-    let here = subst (λ blocks. IsPlaceOf held failed blocks c.args.device c.in-Some.place) c.deref.ensures.value c.in-Some.ensures in
-    let is = at_place held failed self.blocks.items c.args.device c.in-Some.place c.index_mut.result.now here c.index_mut.ensures.value in
+    let here = subst (λ blocks. IsPlaceOf seen blocks c.args.device c.in-Some.place) c.deref.ensures.value c.in-Some.ensures in
+    let is = at_place seen self.blocks.items c.args.device c.in-Some.place c.index_mut.result.now here c.index_mut.ensures.value in
     let has = is_some here.block.blk.drive.disk in
     let able = able_known (parts_of self.world).devices c.args.device has self.world.sound.known.own_ids
     (subst (λ (entries : List Entry). has_in entries c.args.device ≡ Some has) self.agrees.devices here.has) in (
       c.step_once.ensures.happens,
       (
-        refused_not (block_with (blocks_seen held failed self.blocks.items) c.args.device) (block_seen held failed here.block) (parts_of self.world) (parts_of c.step_once.new.world) c.args.device c.step_once.result.now here.found
+        refused_not (block_with (blocks_seen seen self.blocks.items) c.args.device) (block_seen seen here.block) (parts_of self.world) (parts_of c.step_once.new.world) c.args.device c.step_once.result.now here.found
             (step_not_refused (parts_of self.world) (parts_of c.step_once.new.world) c.args.device c.step_once.result.now _ _ able c.step_once.ensures.steps),
         (
-          changed_from held failed (StepsOnce (parts_of self.world) c.args.device c.step_once.result.now (parts_of c.step_once.new.world)) self.blocks.items c.args.device c.in-Some.place c.index_mut.result.now
+          changed_from seen (StepsOnce (parts_of self.world) c.args.device c.step_once.result.now (parts_of c.step_once.new.world)) self.blocks.items c.args.device c.in-Some.place c.index_mut.result.now
               (record { id = c.index_mut.result.now.id; blk = c.step_once.new.blk }) here is refl c.step_once.ensures.steps,
           refl,
         ),

@@ -28,13 +28,12 @@ invariant_of-self-2 g c = record {
 
 pub returns-in_default : goal.returns-in_default
 returns-in_default g c =
-    let held = g.D.Disk.held in
-    let failed = g.D.Disk.failed in
+    let seen = g.D.Disk.seen in
     let self = c.args.self.now in
-    let none = subst (λ blocks. block_with (blocks_seen held failed blocks) c.args.device ≡ None) c.deref.ensures.value c.in_default.ensures in
-    let unknown = subst (λ (entries : List Entry). has_in entries c.args.device ≡ None) self.agrees.devices (none_entries held failed self.blocks.items c.args.device none) in
+    let none = subst (λ blocks. block_with (blocks_seen seen blocks) c.args.device ≡ None) c.deref.ensures.value c.in_default.ensures in
+    let unknown = subst (λ (entries : List Entry). has_in entries c.args.device ≡ None) self.agrees.devices (none_entries seen self.blocks.items c.args.device none) in
     let refused = status_refused (parts_of self.world) (parts_of c.tell_status.new.self) c.args.device 0 c.tell_status.result.now (unable_known (parts_of self.world).devices c.args.device unknown) c.tell_status.ensures.tells in
-    let found = block_with (blocks_seen held failed self.blocks.items) c.args.device in
+    let found = block_with (blocks_seen seen self.blocks.items) c.args.device in
     (c.tell_status.ensures.happens, (refused_if found (parts_of self.world) (parts_of c.tell_status.new.self) c.args.device c.tell_status.result.now none refused, no_status found c.tell_status.result.now none, (refl, refl)))
 
 pub index-requires : goal.index-requires
@@ -45,22 +44,21 @@ index-requires g c =
 
 pub returns : goal.returns
 returns g c =
-    let held = g.D.Disk.held in
-    let failed = g.D.Disk.failed in
+    let seen = g.D.Disk.seen in
     let self = c.args.self.now in
-    let here = subst (λ blocks. IsPlaceOf held failed blocks c.args.device c.in-Some.place) c.deref.ensures.value c.in-Some.ensures in
-    let is = at_place held failed self.blocks.items c.args.device c.in-Some.place c.index.result.now here c.index.ensures in
+    let here = subst (λ blocks. IsPlaceOf seen blocks c.args.device c.in-Some.place) c.deref.ensures.value c.in-Some.ensures in
+    let is = at_place seen self.blocks.items c.args.device c.in-Some.place c.index.result.now here c.index.ensures in
     let has = is_some here.block.blk.drive.disk in
     let able = able_known (parts_of self.world).devices c.args.device has self.world.sound.known.own_ids
     (subst (λ (entries : List Entry). has_in entries c.args.device ≡ Some has) self.agrees.devices here.has) in
     let told = status_told (parts_of self.world) (parts_of c.tell_status-2.new.self) c.args.device c.status-status.result c.tell_status-2.result.now able c.tell_status-2.ensures.tells in
-    let found = block_with (blocks_seen held failed self.blocks.items) c.args.device in
-    let status = c.status-status.ensures ∙ ap (λ block. device_status (block_seen held failed block).device.front.stage) is in (
+    let found = block_with (blocks_seen seen self.blocks.items) c.args.device in
+    let status = c.status-status.ensures ∙ ap (λ block. device_status (block_seen seen block).device.front.stage) is in (
       c.tell_status-2.ensures.happens,
       (
-        refused_not found (block_seen held failed here.block) (parts_of self.world) (parts_of c.tell_status-2.new.self) c.args.device c.tell_status-2.result.now here.found
+        refused_not found (block_seen seen here.block) (parts_of self.world) (parts_of c.tell_status-2.new.self) c.args.device c.tell_status-2.result.now here.found
             (told_so (outcome.Status c.status-status.result) c.tell_status-2.result.now told tt),
-        status_of found (block_seen held failed here.block) c.tell_status-2.result.now here.found (told ∙ ap (λ (n : ℕ). outcome.Status n) status),
+        status_of found (block_seen seen here.block) c.tell_status-2.result.now here.found (told ∙ ap (λ (n : ℕ). outcome.Status n) status),
         (refl, refl),
       ),
     )
