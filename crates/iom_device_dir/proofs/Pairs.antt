@@ -1,7 +1,7 @@
 -- Look-ups in the entries of a cache that gives up the least recently used, after each of its calls. Of any keys, told apart by `eq`, and values.
 use Rattle.std.specs.Prelude.{IsSome, IsOk}
 use Rattle.std.proofs.lemmas.Bool.{false≢true}
-use Rattle.std.proofs.Common.{◌≡◌, ◌≢◌, ◌+◌, ◌-◌, ◌<◌, ◌≤◌, ◌++◌, ◌∙◌, ◌⊎◌, inl, inr, ℕ, Bool, true, false, cond, drop, append-nil, length-drop, List, [], ◌∷◌, length, take, Option, Some, None, Ok, Err, Result, OnOk, OnErr, refl, sym, ap, subst, arith, option_map}
+use Rattle.std.proofs.Common.{◌≡◌, ◌≢◌, ◌+◌, ◌-◌, ◌<◌, ◌≤◌, ◌++◌, ◌∙◌, ◌⊎◌, inl, inr, ℕ, Bool, true, false, not, cond, filter, drop, append-nil, length-drop, List, [], ◌∷◌, length, take, Option, Some, None, Ok, Err, Result, OnOk, OnErr, refl, sym, ap, subst, arith, option_map}
 use Rattle.std.specs.List.{IsDistinct, AllByRecursion}
 use Rattle.std.specs.Option.{option_map_or}
 use Rattle.std.specs.Map.{keys_of, lookup, lookup_entry, remove_entry}
@@ -46,6 +46,24 @@ module _ {K V : Type 0} (eq : K → K → Bool) (laws : IsEquivalence eq) (same_
   removed_none : (k : K) (es : List (K × V)) → lookup_entry (eq k) es ≡ None → remove_entry (eq k) es ≡ es
   removed_none k [] f = refl
   removed_none k (x ∷ es) f = stay k x es (eq k x.0) (removed_none k es) f
+
+  -- where no key stands twice, without the entry of a key there is none of that key
+  none_of_key : (k x : K) (es : List (K × V)) → eq k x ≡ true → AllByRecursion (λ y. eq x y ≡ false) (keys_of es) → filter (λ e. not (eq k e.0)) es ≡ es
+  none_of_key k x [] h all = refl
+  none_of_key k x (e ∷ es) h all =
+      let other : eq k e.0 ≡ false = laws.congr k x e.0 h ∙ all.0 in
+      rw other (ap (λ (ys : List (K × V)). e ∷ ys) (none_of_key k x es h all.1))
+
+  one_of_key : (k : K) (x : K × V) (es : List (K × V)) (b : Bool) → eq k x.0 ≡ b → AllByRecursion (λ y. eq x.0 y ≡ false) (keys_of es)
+      → remove_entry (eq k) es ≡ filter (λ e. not (eq k e.0)) es
+      → cond b es (x ∷ remove_entry (eq k) es) ≡ cond (not b) (x ∷ filter (λ e. not (eq k e.0)) es) (filter (λ e. not (eq k e.0)) es)
+  one_of_key k x es true h all rest = sym (none_of_key k x.0 es h all)
+  one_of_key k x es false h all rest = ap (λ (ys : List (K × V)). x ∷ ys) rest
+
+  pub remove-filter : (k : K) (es : List (K × V)) → IsDistinct eq (keys_of es) → remove_entry (eq k) es ≡ filter (λ e. not (eq k e.0)) es
+  unfolding IsDistinct
+  remove-filter k [] d = refl
+  remove-filter k (x ∷ es) d = one_of_key k x es (eq k x.0) refl d.0 (remove-filter k es d.1)
 
   -- what is put goes first, and of the others one fewer stay than there is room for
   put_first_at : (k : K) (v : V) (es : List (K × V)) (others : ℕ) → length es ≤ others + 1 → (o : Option (K × V)) → lookup_entry (eq k) es ≡ o

@@ -1,12 +1,12 @@
--- What is cached, in the order of use: the entry that was looked at or kept last stands first. What each call makes of that list. No key stands in it twice.
-use Rattle.std.specs.Prelude.{◌≡◌, ◌⊎◌, ℕ, nat_eq, List, ◌∷◌, take, None}
-use Rattle.std.specs.Map.{lookup, remove_entry}
+-- What is cached, in the order of use: the entry that was looked at or kept last stands first. What each call makes of that list.
+use Rattle.std.specs.Prelude.{◌≡◌, ◌⊎◌, ℕ, nat_eq, not, List, ◌∷◌, take, filter, None}
+use Rattle.std.specs.Map.{lookup}
 use Rattle.std.specs.Option.{option_map_or}
 
 module _ {V : Type 0} where
-  -- the others: without the entry of a key
+  -- the others: without what is at a key
   unfoldable pub without : ℕ → List (ℕ × V) → List (ℕ × V)
-  without key entries = remove_entry (nat_eq key) entries
+  without key entries = filter (λ entry. not (nat_eq key entry.0)) entries
 
   -- A LOOK: the entry of the key goes first. Where it has none, all stays
   unfoldable pub after_look : ℕ → List (ℕ × V) → List (ℕ × V)

@@ -58,7 +58,6 @@ impl DirCache {
         ensures looked { LooksUp (cached_contexts self.old) id result (cached_contexts self.new) }
         ensures order { contexts_in_order self.new ≡ after_look id (contexts_in_order self.old) }
     {
-        // Its contract says that the keys are distinct, here and below.
         let _ = self.contexts.len();
         let found = self.contexts.peek(&id).copied();
         self.contexts.promote(&id);
@@ -72,6 +71,8 @@ impl DirCache {
         ensures looked { LooksUp (cached_contexts self.old) id result (cached_contexts self.new) }
         ensures order { contexts_in_order self.new ≡ after_look id (contexts_in_order self.old) }
     {
+        // Its contract says that the keys are distinct, here, above and below.
+        let _ = self.contexts.len();
         // A device that makes one request after another is found without a search.
         if let Some(context) = self.last_used(id) {
             return Some(*context);
@@ -92,7 +93,7 @@ impl DirCache {
     }
 
     /// Drops the context of the device alone (IODIR.INVAL_DDT with DV).
-    #[tactic(auto, using(crate::proofs::CachedIds::dropped), unfolding(crate::specs::Cached::cached_contexts, crate::specs::Cached::contexts_in_order, crate::specs::Orders::without))]
+    #[tactic(auto, using(crate::proofs::CachedIds::dropped), unfolding(crate::specs::Cached::cached_contexts, crate::specs::Cached::contexts_in_order))]
     pub fn drop_one(&mut self, id: DeviceId)
         ensures dropped { DropsCovered (cached_contexts self.old) (λ key. key == id) (cached_contexts self.new) }
         ensures order { contexts_in_order self.new ≡ without id (contexts_in_order self.old) }

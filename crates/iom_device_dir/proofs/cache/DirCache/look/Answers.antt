@@ -6,4 +6,4 @@ use Rattle.iom_device_dir.proofs.cache.DirCache.look.Goals as goal
 
 pub returns-in-Some-clause-order : goal.returns-in-Some-clause-order
 unfolding contexts_in_order last_in
-returns-in-Some-clause-order c = first_stays c.args.id c.args.self.now.contexts.entries (c.last_used.ensures.last.0 (ap is_some c.in-Some.is))
+returns-in-Some-clause-order c = first_stays c.args.id c.args.self.now.contexts.entries c.len.ensures.valid.0 (c.last_used.ensures.last.0 (ap is_some c.in-Some.is))
