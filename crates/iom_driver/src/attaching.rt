@@ -11,6 +11,7 @@ ghost use Rattle.iom_driver.specs.Choices.{AreHighestFree};
 ghost use Rattle.iom_driver.specs.Devices.{is_used, IsLowestNumber};
 ghost use Rattle.iom_driver.specs.Directory.{context_for};
 ghost use Rattle.iom_driver.specs.Entering.{MayEnter};
+ghost use Rattle.iom_driver.specs.Orders.{MapsNothing};
 ghost use Rattle.iom_driver.specs.Places.{IsPlaceOf};
 ghost use Rattle.iom_driver.specs.Ready.{TablesStand, IsReady};
 ghost use Rattle.iom_driver.specs.Seen.{state_of};
@@ -78,10 +79,12 @@ fn space(number: u32) -> Pscid
 }
 
 /// The context of a device that is attached in these stages. In both the root of the first is the guest
-/// physical page 0.
-pub(crate) fn context_for(stages: Stages) -> Context
+/// physical page 0. The IOMMU may use the tables at the root once the context is written: whoever has it was lent
+/// the memory, in which these tables map nothing already.
+pub(crate) fn context_for(memory: &Memory, stages: Stages) -> Context
     requires number { stages.number < 2 ^ 16 }
     requires root { IsAligned stages.mode stages.root }
+    requires nothing { MapsNothing stages.mode memory.now stages.root }
     ensures { result ≡ context_for stages }
 {
     match stages.mode {
@@ -164,10 +167,10 @@ impl Driver {
         ensures ready { (r : Registers) → IsReady (state_of self.old) memory.old r → IsReady (state_of self.new) memory.new r }
     {
         let directory = directory_frame(self.frames);
-        let context = context_for(stages);
         let owner = Owner::OneDevice(id);
         reserve_all(&mut self.marks, memory, pages, Owner::System);
         reserve_root(&mut self.marks, memory, stages.mode, stages.root, owner);
+        let context = context_for(memory, stages);
         put_context(memory, self.levels, directory, id, context, pages);
         self.devices[place].attachment = Attachment::Attached(stages);
     }

@@ -4,7 +4,6 @@ ghost use Rattle.iom_driver.specs.Ready.{IsReady};
 ghost use Rattle.iom_driver.specs.Seen.{state_of};
 
 use crate::answers::Ticket;
-use crate::appending::append_detach;
 use crate::device::Attachment;
 use crate::driver::Driver;
 use crate::layout::directory_frame;
@@ -42,7 +41,7 @@ impl Driver {
         set_attachment(&mut self.devices, id, Attachment::Leaving { ticket, stage });
         let directory = directory_frame(self.frames);
         clear_context(memory, self.levels, directory, id);
-        append_detach(memory, io, self.frames, id, stage, number);
+        self.append_detach(memory, io, id, stage, number);
         Ok(Ticket(ticket))
     }
 }
