@@ -3,7 +3,7 @@ ghost use Rattle.std.specs.Prelude.{◌≡◌, refl, IfOk, is_some};
 ghost use Rattle.iom_inflight.specs.Flights.{row_of};
 ghost use Rattle.iom_inflight.specs.Sound.{AreFlights, AreRowsIn};
 ghost use Rattle.iom_tlb.specs.Content.{HasNothing};
-ghost use Rattle.iom_iommu.specs.Parts.{IsAtPowerOn, AddsDevice, registers_of, flights_of, frames_of, after_write};
+ghost use Rattle.iom_iommu.specs.Parts.{IsAtPowerOn, cache_of, AddsDevice, registers_of, flights_of, frames_of, after_write};
 
 use crate::iommu::Iommu;
 use iom_base::DeviceId;
@@ -15,11 +15,12 @@ use iom_tlb::TransCache;
 use std::alloc::{AllocError, Global};
 
 impl<C: TransCache + Drop> Iommu<C> {
-    /// The IOMMU at power-on, beside a memory of so many frames, over a cache that has nothing. Takes its
+    /// The IOMMU at power-on, beside a memory of so many frames, over this cache, which has nothing. Takes its
     /// memory here, but for the contexts and translations that it caches.
     pub fn new(alloc: Global, frames: u32, translations: C) -> Result<Iommu<C>, AllocError>
         requires { HasNothing (C.content translations) }
-        ensures { IfOk result (IsAtPowerOn frames) }
+        ensures power_on { IfOk result (IsAtPowerOn frames) }
+        ensures cache { IfOk result (λ iommu. cache_of iommu ≡ translations) }
     {
         Ok(Iommu {
             registers: Registers::new(),
