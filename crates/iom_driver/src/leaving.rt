@@ -4,10 +4,10 @@ ghost use Rattle.iom_driver.specs.Ready.{IsReady};
 ghost use Rattle.iom_driver.specs.Seen.{state_of};
 
 use crate::answers::Ticket;
+use crate::attachments::set_attachment;
 use crate::device::Attachment;
 use crate::driver::Driver;
 use crate::layout::directory_frame;
-use crate::lookups::set_attachment;
 use iom_base::DeviceId;
 use iom_directory::clear_context;
 use iom_ledger::Refusal;

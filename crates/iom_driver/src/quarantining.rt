@@ -12,11 +12,11 @@ ghost use Rattle.iom_driver.specs.Revivals.{AnswersRevive};
 ghost use Rattle.iom_driver.specs.Seen.{state_of};
 
 use crate::answers::Ticket;
-use crate::attaching::context_for;
+use crate::attachments::set_attachment;
+use crate::contexts::context_for;
 use crate::device::Attachment;
 use crate::driver::Driver;
 use crate::layout::directory_frame;
-use crate::lookups::set_attachment;
 use iom_base::DeviceId;
 use iom_directory::{clear_context, put_context};
 use iom_ledger::{Ledger, Refusal};
