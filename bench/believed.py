@@ -53,6 +53,8 @@ class File:
             words = statement[0].split()
             if re.match(r'(pub )?use ', statement[0]):
                 self.scope.update(imports(statement))
+            elif words[0] == 'module':
+                continue  # none that is reached stands in such a block
             elif words[0] != 'mod' and words[:2] != ['pub', 'mod']:
                 head = HEAD.match(statement[0])
                 if head or words[0].startswith('infix'):
@@ -78,59 +80,68 @@ class File:
                 if module + '.' in self.scope:
                     yield self.scope[module + '.'][0], word
             for word in WORD.findall(text):
-                if word in bound and word[0].islower():
-                    continue
-                if word in self.scope:
-                    yield self.scope[word]
-                elif word in self.defined and word != name:
-                    yield None, word
+                if not (word in bound and word[0].islower()) and (word in self.scope or word in self.defined):
+                    yield self.scope.get(word, (None, word))
 
 
-def declaration(crate, module, name):
-    """How many lines the declaration of a type has in the code; 0 where it isn't found."""
-    for path in (ROOT / crate / 'src').rglob('*.rt'):
-        found = re.search(r'^(?:pub(?:\([^)]*\))? )?(?:struct|enum|trait|type|const) ' + name + r'\b.*?(?:^\}|;$)', path.read_text(), re.M | re.S)
-        if found and (path.stem == module or module == 'lib'):
-            return sum(1 for line in found.group().splitlines() if line.strip() and not line.strip().startswith('//'))
-    return 0
+def resolve(files, key, module, word):
+    """Where a name is defined that a file, the one at the key, has from a module or defines itself; None where that isn't in specs/."""
+    parts = module.split('.') if module else [key[0], 'specs', key[1]]
+    key = (parts[0], parts[2]) if parts[1] == 'specs' else None
+    if key not in files:
+        return None
+    if word in files[key].defined:
+        return key, word
+    if parts[3:] and parts[3] in files[key].defined:
+        return key, parts[3]
+    return resolve(files, key, *files[key].scope[word]) if word in files[key].scope else None
 
 
-def main():
-    flags = {word for word in sys.argv[1:] if word.startswith('--')}
-    names = [word for word in sys.argv[1:] if not word.startswith('--')]
-    roots = names or ['IsScript', 'WritesText' if '--platform' in flags else 'WritesLines']
-    files = {(path.parts[1], path.stem): File(path) for path in ROOT.glob('*/specs/*.antt')}
-    start = [(key, root) for root in roots for key, file in files.items() if root in file.defined]
-    if len(start) != len(roots):
-        sys.exit(f'not one definition each in specs/: {roots}')
+def follow(files, start):
+    """The definitions that these rest on, with themselves; and the types of the code that they import, each with its crate and its module."""
     reached, types, todo = set(start), set(), list(start)
     while todo:
         key, name = todo.pop()
         for module, word in files[key].names_in(name):
             parts = module.split('.') if module else []
-            if parts[1:3] == ['specs', 'declared']:
-                types.add((parts[0], parts[-2] if parts[-1].startswith('The') else parts[-1], parts[3]))
-                continue
-            target = ((parts[0], parts[2]) if parts[1:2] == ['specs'] and len(parts) > 2 else key, word)
-            while target[0] in files and word not in files[target[0]].defined and word in files[target[0]].scope:
-                parts, word = files[target[0]].scope[word][0].split('.'), files[target[0]].scope[word][1]
-                target = ((parts[0], parts[2]), word) if parts[1:2] == ['specs'] and len(parts) > 2 else (None, word)
-            if target[0] in files and word in files[target[0]].defined and target not in reached:
-                reached.add(target)
-                todo.append(target)
+            if parts[1:3] == ['specs', 'declared'] and (ROOT / parts[0]).is_dir() and not parts[4].startswith('The'):
+                types.add((parts[0], parts[4], parts[3]))
+            found = resolve(files, key, module, word)
+            if found and found not in reached:
+                reached.add(found)
+                todo.append(found)
+    return reached, types
+
+
+def declaration(crate, name, module):
+    """How many lines the declaration of a type has in the code; 0 where it isn't found."""
+    start = r'^(?:pub(?:\([^)]*\))? )?(?:struct|enum|trait|type) ' + name + r'\b.*?(?:^\}|;$)'
+    texts = [path.read_text() for path in (ROOT / crate / 'src').rglob(f'{module}.rt')]
+    lines = [line.strip() for text in texts for found in re.finditer(start, text, re.M | re.S) for line in found.group().splitlines()]
+    return sum(1 for line in lines if line and not line.startswith('//'))
+
+
+def main():
+    flags = {word for word in sys.argv[1:] if word.startswith('--')}
+    roots = [word for word in sys.argv[1:] if not word.startswith('--')]
+    roots = roots or ['IsScript', 'WritesText' if '--platform' in flags else 'WritesLines']
+    files = {(path.parts[1], path.stem): File(path) for path in ROOT.glob('*/specs/*.antt')}
+    start = [(key, root) for root in roots for key, file in files.items() if root in file.defined]
+    if len(start) != len(roots):
+        sys.exit(f'not one definition each in specs/: {roots}')
+    reached, types = follow(files, start)
     total = rest = 0
     for key, file in sorted(files.items()):
-        here = [name for name in file.defined if (key, name) in reached]
+        here = {name for name in file.defined if (key, name) in reached}
         if not here:
             continue
-        yes = sum(file.lines(name) for name in here)
-        no = sum(file.lines(name) for name in file.defined if name not in here)
+        yes, no = (sum(file.lines(name) for name in file.defined if (name in here) == wanted) for wanted in (True, False))
         total, rest = total + yes, rest + no
         print(f'{key[0]:22} {key[1]:16} {yes:5} reached {no:5} not')
         if no and '--missed' in flags:
             print('    not reached:', ', '.join(f'{name} {file.lines(name)}' for name in file.defined if name not in here))
     print(f'{"all":39} {total:5} reached {rest:5} not, in these files')
-    sizes = {found: declaration(found[0], found[2], found[1]) for found in types}
+    sizes = {found: declaration(*found) for found in types}
     print(f'{len(types)} types of the code, with {sum(sizes.values())} lines of declarations:')
     for crate in sorted({found[0] for found in types}):
         print(f'  {crate}:', ', '.join(f'{found[1]} {size}' for found, size in sorted(sizes.items()) if found[0] == crate))

@@ -1,7 +1,8 @@
 -- The path of a device id through the directory: it finds a context, or stops with a cause (IOMMU specification, sections 2.1 and
 -- 2.3.1, "Process to locate the Device-context").
 use Rattle.std.specs.Prelude.{◌≡◌, ℕ, zero, suc, ◌+◌, ◌*◌, ◌^◌, ◌<◌, ◌≤◌, ◌⊎◌, nat_lt, Bool, true, List, Option, Some, None}
-use Rattle.iom_base.specs.Sizes.{page_size, entry_size}
+use Rattle.iom_base.specs.Sizes.{page_size}
+use Rattle.iom_base.specs.Tables.{entry_size}
 use Rattle.iom_base.specs.declared.cause.Cause.{Cause}
 use Rattle.iom_base.specs.declared.cause.Cause.TheVariants.{AllInboundDisallowed, DirectoryLoadFault, TransactionTypeDisallowed}
 use Rattle.iom_phys_mem.specs.Words.{word_at}

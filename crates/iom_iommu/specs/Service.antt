@@ -1,7 +1,7 @@
 -- How a transaction is translated, and what is cached for it (IOMMU specification, section 2.3, "Process to translate an IOVA", and section
 -- 2.8, "Caching in-memory data structures").
 use Rattle.std.specs.Prelude.{◌≡◌, ℕ, ◌/◌, nat_lt, Bool, List, length, Option, None, Some, Result, Ok, Err, if◌then◌else◌}
-use Rattle.iom_base.specs.Causes.{access_fault_of}
+use Rattle.iom_base.specs.Tables.{access_fault_of}
 use Rattle.iom_base.specs.Rights.{allows, rw}
 use Rattle.iom_base.specs.Sizes.{page_size}
 use Rattle.iom_base.specs.declared.access.AccessKind.{AccessKind}

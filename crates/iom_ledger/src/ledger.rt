@@ -47,7 +47,7 @@ impl Ledger {
     ghost use Rattle.iom_ledger.specs.Pending.{pending_of};
     ghost use Rattle.iom_ledger.specs.Shown.{Agrees, IsFreeIn};
     ghost use Rattle.iom_ledger.specs.FrameRows.{IsRowOf, IsFreeRow};
-    ghost use Rattle.iom_base.specs.Rights.{IsGrantable};
+    ghost use Rattle.iom_base.specs.Calls.{IsGrantable};
     ghost use Rattle.iom_frame_set.specs.Sets.{has};
     ghost use Rattle.iom_ledger.specs.Shown.{held_in, released_in, lingering_in, pending_in, pages_listed, frames_in};
     ghost use Rattle.iom_ledger.specs.Changes.{IsUnchanged, ShowsGrant, ShowsRelease, ShowsReleaseOfAll, ShowsConfirmation};

@@ -19,7 +19,8 @@ use Rattle.iom_platform.proofs.RunLemmas.{are_outcomes}
 use Rattle.iom_script.specs.declared.script.WorldSize.{WorldSize}
 use Rattle.iom_world.specs.declared.world.World.{World}
 use Rattle.iom_line_writer.specs.declared.writing.LineWriter.{LineWriter}
-use Rattle.iom_runner.specs.Text.{Setting, power_on, run_text, AreThere, AreTraces, TellsRun, TellsPlatform, WritesRun, BeginsRun, BeginsRunSoFar}
+use Rattle.iom_runner.specs.Text.{Setting, power_on, run_text, AreThere, AreTraces, TellsRun}
+use Rattle.iom_runner.specs.PlatformText.{TellsPlatform, WritesRun, BeginsRun, BeginsRunSoFar}
 use Rattle.iom_line_writer.specs.Told.{told_line, told_lines}
 use Rattle.iom_line_writer.specs.Writing.{AppendsFront, AppendsPart, KeepsWriter, wants_counts, TakesText, TakesLine, FailsWriting}
 use Rattle.iom_runner.proofs.AnswerLemmas.{CountedRun, goes_on}

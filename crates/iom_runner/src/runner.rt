@@ -8,7 +8,8 @@ ghost use Rattle.iom_runner.specs.Bytes.{ExplainsUnparsed};
 ghost use Rattle.iom_runner.specs.Disks.{setting_of};
 ghost use Rattle.iom_runner.specs.Reading.{ConsumesAtMost, FailsWithin};
 ghost use Rattle.iom_runner.specs.Runs.{TellsScript, RunsBytes, AreLeft};
-ghost use Rattle.iom_runner.specs.Text.{Setting, WritesRun, BeginsRun, BeginsRunSoFar};
+ghost use Rattle.iom_runner.specs.Text.{Setting};
+ghost use Rattle.iom_runner.specs.PlatformText.{WritesRun, BeginsRun, BeginsRunSoFar};
 ghost use Rattle.iom_line_writer.specs.Writing.{KeepsWriter};
 
 use crate::faults::RunFault;

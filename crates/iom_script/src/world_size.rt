@@ -1,6 +1,6 @@
 //! The size of the world that a script begins with.
 ghost use Rattle.std.specs.Prelude.{◌≤◌, ◌↔◌, IsTrue};
-ghost use Rattle.iom_script.specs.Words.{Reads};
+ghost use Rattle.iom_script.specs.Reading.{Reads};
 ghost use Rattle.iom_script.specs.Grammar.{IsWorldLine};
 
 use crate::script::WorldSize;
