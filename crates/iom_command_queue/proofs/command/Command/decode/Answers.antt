@@ -1,4 +1,4 @@
-use Rattle.std.proofs.Common.{◌≡◌, ◌∙◌, ap}
+use Rattle.std.proofs.Common.{◌∙◌, ap}
 use Rattle.iom_command_queue.specs.Formats.{first_of, second_of}
 use Rattle.iom_command_queue.specs.Legal.{decoded}
 use Rattle.iom_command_queue.proofs.Exact.{answers, refuses}
