@@ -4,3 +4,5 @@ pub mod LifeLemmas
 pub mod BlockChanges
 pub mod EventLives
 pub mod RunLives
+pub mod StoryLemmas
+pub mod StoryRuns

@@ -80,12 +80,17 @@ abbrev queue_or : QueueState → Option Front → QueueState
 queue_or other None = other
 queue_or other (Some b) = b.queue
 
+queued : (layout : Layout) (old new : Device) → (set : SetsUp layout old new) → with_queue FeaturesOk layout set.between ≡ Some new.front
+queued layout old new set =
+    let settled : set.between.stage ≡ FeaturesOk = sym (ap stage_or set.features) in
+    subst (λ (s : Stage). with_queue s layout set.between ≡ Some new.front) settled set.queue
+
+pub queue_set : (layout : Layout) (old new : Device) → SetsUp layout old new → new.front.queue ≡ fresh_queue layout
+queue_set layout old new set = sym (ap (queue_or (fresh_queue layout)) (queued layout old new set))
+
 set_fresh : (layout : Layout) (old new : Device) → IsLayout layout → SetsUp layout old new → IsFresh layout new
 set_fresh layout old new lawful set =
-    let settled : set.between.stage ≡ FeaturesOk = sym (ap stage_or set.features) in
-    let queued : with_queue FeaturesOk layout set.between ≡ Some new.front =
-    subst (λ (s : Stage). with_queue s layout set.between ≡ Some new.front) settled set.queue in
-    record { stage = sym (ap stage_or queued); lawful = lawful; queue = sym (ap (queue_or (fresh_queue layout)) queued) }
+    record { stage = sym (ap stage_or (queued layout old new set)); lawful = lawful; queue = queue_set layout old new set }
 
 -- what is done isn't refused
 abbrev IsDone : Outcome → Type 0

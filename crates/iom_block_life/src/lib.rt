@@ -1,16 +1,18 @@
-//! The life of a block device, from the setting of its queue to the next reset: which entries of its ring it uses, and
-//! which requests it finishes.
+//! What follows from all steps of a block device together: which entries of its ring it uses, and which requests it
+//! finishes, from the setting of its queue to the next reset; and what its disk holds, from the plug on.
 //!
-//! OASIS Virtual I/O Device (VIRTIO) Version 1.2, section 2.7.6 ("The Virtqueue Available Ring") and section 2.7.8
-//! ("The Virtqueue Used Ring"). `iom_virtio_blk` says of each call of a device what it does, and `iom_platform` which
-//! calls an event makes. This crate has no code: `specs/Lives.antt` says what a life is, calls one after another, each
-//! with the device before and after it, and [`uses_each_entry_once`] what follows from all of them together;
-//! `specs/Runs.antt` and [`runs_use_each_entry_once`] say the same of the events of a run and their outcomes. Both hold
-//! whatever the driver writes into its rings, and whenever.
+//! OASIS Virtual I/O Device (VIRTIO) Version 1.2, section 2.7.6 ("The Virtqueue Available Ring"), section 2.7.8 ("The
+//! Virtqueue Used Ring") and section 5.2.6 ("Device Operation"). `iom_virtio_blk` says of each call of a device what it
+//! does, and `iom_platform` which calls an event makes. This crate has no code: `specs/Lives.antt` says what a life is,
+//! calls one after another, each with the device before and after it, and [`uses_each_entry_once`] what follows from all of
+//! them together; `specs/Runs.antt` and [`runs_use_each_entry_once`] say the same of the events of a run and their
+//! outcomes. `specs/Stories.antt` and [`runs_tell_disks`] say of a run which disk the device has, and what it holds. All
+//! hold whatever the driver writes into its rings, and whenever.
 #![tactic(auto)]
 
 ghost use Rattle.iom_block_life.specs.Lives.{LivesUseEachOnce};
 ghost use Rattle.iom_block_life.specs.Runs.{QueuesBeginLives, RunsUseEachOnce};
+ghost use Rattle.iom_block_life.specs.Stories.{PlugsBeginStories, RunsTellDisks};
 
 /// Whatever happens to a device since its queue was set: it takes the entries of its ring in their order, from the
 /// first one on, each once. The requests that it finishes are those that it took, in the same order and each once, but
@@ -25,4 +27,12 @@ pub fn uses_each_entry_once()
 pub fn runs_use_each_entry_once()
     ensures begin { QueuesBeginLives }
     ensures runs { RunsUseEachOnce }
+{}
+
+/// What the disk of a block device holds in a run of the model, from the event that plugged the device in: at every moment
+/// the disk is the one that was put in last, and holds what was there then and what the device's requests OUT wrote since,
+/// each that ended well with all of its data.
+pub fn runs_tell_disks()
+    ensures begin { PlugsBeginStories }
+    ensures runs { RunsTellDisks }
 {}

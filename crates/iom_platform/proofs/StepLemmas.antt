@@ -7,6 +7,7 @@ use Rattle.iom_machine.specs.declared.outcome.Outcome.TheVariants as outcome
 use Rattle.iom_machine.specs.declared.state.DeviceKind.{DeviceKind}
 use Rattle.iom_machine.specs.Kinds.{is_block_device}
 use Rattle.iom_virtio_blk.specs.declared.step.Step.{Step}
+use Rattle.iom_virtio_blk.specs.Histories.{KeepsTelling}
 use Rattle.iom_virtio_blk.specs.Stages.{device_status}
 use Rattle.iom_virtio_blk.specs.Steps.{Device, Steps}
 use Rattle.iom_composition.specs.BlockDevices.{Rests, TellsStatus}
@@ -81,10 +82,10 @@ refused_not None block old new id told there never = cc
 refused_not (Some other) block old new id told there never = never
 
 -- a step that began no access, whole
-pub once : (old new : Parts) (id : ℕ) (told : Outcome) (before between : Device) (result taken : Step) → result ≡ taken → Steps before result between → EndsStep taken old id between told new between
+pub once : (old new : Parts) (id : ℕ) (told : Outcome) (before between : Device) (result taken : Step) → result ≡ taken → Steps before result between → KeepsTelling before between → EndsStep taken old id between told new between
     → StepsOnce old id told new before between
-once old new id told before between result taken same steps ends =
-    record { taken = taken; between = between; steps = subst (λ (s : Step). Steps before s between) same steps; ends = ends }
+once old new id told before between result taken same steps tells ends =
+    record { taken = taken; between = between; steps = subst (λ (s : Step). Steps before s between) same steps; tells = tells; ends = ends }
 
 pub get_lt : {X : Type 0} (xs : List X) (k : ℕ) (x : X) → slice_get xs k ≡ Some x → k < length xs
 get_lt [] k x at = cc

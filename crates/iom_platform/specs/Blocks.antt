@@ -24,6 +24,7 @@ use Rattle.iom_virtio_blk.specs.declared.step.Step.TheVariants as step
 use Rattle.iom_virtio_blk.specs.Blocks.{IsQuiet, EndsWaiting, wanted_by, given_up, down, replied, negotiated, with_queue}
 use Rattle.iom_virtio_blk.specs.Disks.{DiskState}
 use Rattle.iom_virtio_blk.specs.Features.{offered, flush_of}
+use Rattle.iom_virtio_blk.specs.Histories.{KeepsTelling}
 use Rattle.iom_virtio_blk.specs.Stages.{device_status}
 use Rattle.iom_virtio_blk.specs.Steps.{Device, device, Steps}
 use Rattle.iom_virtqueue.specs.declared.layout.Layout.{Layout}
@@ -217,11 +218,12 @@ EndsStep (step.Chain fault) old id between told new after = (told ≡ outcome.St
 EndsStep (step.Finished head len) old id between told new after = (told ≡ outcome.Stepped (rest.Finished head len)) × (new ≡ old) × (after ≡ between)
 EndsStep (step.Wants want) old id between told new after = Begins old id between told new after
 
--- the device takes a step, which calls its disk at most once, up to the access that it wants next
+-- the device takes a step, which calls its disk at most once, up to the access that it wants next; and what tells its disk goes on with the step
 pub record StepsOnce (old : Parts) (id : ℕ) (told : Outcome) (new : Parts) (before : Device) (after : Device) : Type 0 where
   pub taken : Step
   pub between : Device
   pub steps : Steps before taken between
+  pub tells : KeepsTelling before between
   pub ends : EndsStep taken old id between told new after
 
 -- what is told is no refusal

@@ -4,3 +4,4 @@ pub mod HistoryLemmas
 pub mod ToldLemmas
 pub mod StepLemmas
 pub mod DiskStays
+pub mod OrderLemmas

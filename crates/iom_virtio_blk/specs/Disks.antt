@@ -13,6 +13,11 @@ abbrev pub disk_in : {T : Type 0} → (T → DiskState) → Option T → Option 
 disk_in seen None = None
 disk_in seen (Some disk) = Some (seen disk)
 
+-- which disk it is, if there is one
+abbrev pub name_in : Option DiskState → Option ℕ
+name_in None = None
+name_in (Some disk) = Some disk.name
+
 -- whether the next call fails
 abbrev pub fails_next : List ℕ → Bool
 fails_next [] = false

@@ -107,3 +107,7 @@ told_in phase old new history = history
 abbrev pub history_after : Bool → Device → Device → List Entry → List Entry
 history_after false old new history = history
 history_after true old new history = told_in old.front.queue.phase old new history
+
+-- a history that tells the disk before goes on to one that tells it afterwards
+abbrev pub KeepsTelling : Device → Device → Type 0
+KeepsTelling old new = (history : List Entry) → TellsDisk history old → TellsDisk (history_after old.front.is_made old new history) new

@@ -9,3 +9,4 @@ pub mod Steps
 pub mod ReadyProps
 pub mod Histories
 pub mod MemoryDisks
+pub mod Order

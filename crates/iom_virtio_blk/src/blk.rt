@@ -8,7 +8,7 @@ ghost use Rattle.iom_virtio_blk.specs.Stages.{device_status};
 ghost use Rattle.iom_virtio_blk.specs.Disks.{disk_in};
 ghost use Rattle.iom_virtio_blk.specs.Blocks.{IsReady, IsAsking, IsTaking, EndsWaiting, replied, given_up, down, negotiated, with_queue, wanted_by};
 ghost use Rattle.iom_virtio_blk.specs.Steps.{device, Steps, Serves, Calls};
-ghost use Rattle.iom_virtio_blk.specs.Histories.{Entry, inserted, TellsDisk, history_after};
+ghost use Rattle.iom_virtio_blk.specs.Histories.{Entry, inserted, TellsDisk, KeepsTelling};
 ghost use Rattle.iom_virtio_blk.specs.ReadyProps.{IsReady-prop};
 
 use crate::disk::Disk;
@@ -136,9 +136,7 @@ impl<D: Disk> Blk<D> {
     pub fn step(&mut self) -> Step
         ensures step { Steps (device self.old.front (disk_in D.seen self.old.drive.disk)) result
             (device self.new.front (disk_in D.seen self.new.drive.disk)) }
-        ensures history { (history : List Entry) → TellsDisk history (device self.old.front (disk_in D.seen self.old.drive.disk))
-            → TellsDisk (history_after self.old.front.is_made (device self.old.front (disk_in D.seen self.old.drive.disk))
-            (device self.new.front (disk_in D.seen self.new.drive.disk)) history)
+        ensures history { KeepsTelling (device self.old.front (disk_in D.seen self.old.drive.disk))
             (device self.new.front (disk_in D.seen self.new.drive.disk)) }
     {
         match self.front.stage() {

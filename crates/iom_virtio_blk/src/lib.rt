@@ -19,6 +19,7 @@ mod drive;
 mod features;
 mod front;
 mod memory_disk;
+mod order;
 mod request;
 mod serving;
 mod stage;
@@ -32,6 +33,7 @@ pub use features::{
     VIRTIO_F_VERSION_1,
 };
 pub use memory_disk::MemoryDisk;
+pub use order::accesses_keep_their_order;
 pub use request::RequestStatus;
 pub use step::{Reply, Step};
 pub use want::WantedAccess;

@@ -1,0 +1,11 @@
+// The order of a request's accesses.
+ghost use Rattle.iom_virtio_blk.specs.Order.{FinishesLast, StepsFollowOrder};
+
+/// A device makes the accesses of a request in one order (virtio 1.2, sections 2.7 and 5.2.6): the avail idx, the entry
+/// of its ring, the descriptors, the header, the data, the status, the used element and the used idx. A step that goes
+/// on to another access goes on in this order, whatever the driver's memory holds; and a request is finished with its last
+/// access, after which the first is wanted again.
+pub fn accesses_keep_their_order()
+    ensures follows { StepsFollowOrder }
+    ensures finishes { FinishesLast }
+{}
