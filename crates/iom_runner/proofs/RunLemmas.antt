@@ -12,7 +12,8 @@ use Rattle.iom_machine.specs.Laws.{IsReached}
 use Rattle.iom_machine.specs.Machine.{Run}
 use Rattle.iom_machine.specs.Traces.{IsTrace}
 use Rattle.iom_machine.proofs.ReclaimLemmas.{reclaims}
-use Rattle.iom_platform.specs.PowerOn.{BeginsAt, numbered, number_of}
+use Rattle.iom_platform.specs.PowerOn.{BeginsAt}
+use Rattle.iom_platform.specs.Numbered.{numbered, number_of}
 use Rattle.iom_platform.specs.Runs.{AreCounts, AreOutcomes, GoesThrough, RunsTo, FailsAfter}
 use Rattle.iom_platform.specs.Seen.{Seen}
 use Rattle.iom_platform.proofs.RunLemmas.{are_outcomes}

@@ -10,10 +10,10 @@ use Rattle.iom_machine.specs.Machine.{Run}
 use Rattle.iom_machine.specs.PowerOn.{opening}
 use Rattle.iom_machine.specs.Reclaim.{Reclaims}
 use Rattle.iom_machine.specs.Traces.{IsTrace}
-use Rattle.iom_platform.specs.PowerOn.{numbered, number_of}
+use Rattle.iom_platform.specs.Numbered.{numbered, number_of}
 use Rattle.iom_script.specs.declared.script.Script.{Script}
 use Rattle.iom_script.specs.declared.script.WorldSize.{WorldSize}
-use Rattle.iom_virtio_blk.specs.Disks.{DiskState}
+use Rattle.iom_virtio_blk.specs.DiskStates.{DiskState}
 use Rattle.iom_line_writer.specs.Told.{told_line, told_lines}
 
 -- what scripts are run with: the disks that are at hand, whose numbers are their places from 0, and whether the counts stand behind each line

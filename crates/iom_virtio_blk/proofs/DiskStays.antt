@@ -4,7 +4,8 @@ use Rattle.iom_virtio_blk.specs.declared.step.Call.{Call}
 use Rattle.iom_virtio_blk.specs.declared.step.Call.TheVariants.{Read, Write, Flush}
 use Rattle.iom_virtio_blk.specs.declared.step.Step.{Step}
 use Rattle.iom_virtio_blk.specs.declared.step.Step.TheVariants as step
-use Rattle.iom_virtio_blk.specs.Disks.{DiskState, name_in, CalledWell, HasReason, HasFlushReason, KeepsSectors, Tears, sector_count}
+use Rattle.iom_virtio_blk.specs.Disks.{name_in, CalledWell, HasReason, HasFlushReason, KeepsSectors, Tears, sector_count}
+use Rattle.iom_virtio_blk.specs.DiskStates.{DiskState}
 use Rattle.iom_virtio_blk.specs.Blocks.{call_after, after_served}
 use Rattle.iom_virtio_blk.specs.Steps.{Device, Steps, Calls, UsesIn, GoesOnIn}
 use Rattle.iom_virtqueue.specs.declared.phase.Phase.{Phase}

@@ -1,13 +1,6 @@
 -- What a disk shows, and what its calls do.
 use Rattle.std.specs.Prelude.{◌≡◌, ℕ, zero, suc, ◌<◌, ◌≤◌, ◌⊎◌, Bool, true, false, List, [], ◌∷◌, length, slice_get, slice_set, Option, Some, None}
-
--- a disk as it is seen: which disk it is, by a name that no call changes; the bytes of each sector; how many of its calls failed; and, where that is
--- settled beforehand, which will fail, by how many go well before each of them
-pub record DiskState : Type 0 where
-  pub name : ℕ
-  pub sectors : List (List ℕ)
-  pub failures : ℕ
-  pub failing : Option (List ℕ)
+use Rattle.iom_virtio_blk.specs.DiskStates.{DiskState}
 
 -- what is seen of the disk that stands in a place, if there is one; `seen` is that of the disk's trait
 abbrev pub disk_in : {T : Type 0} → (T → DiskState) → Option T → Option DiskState

@@ -3,7 +3,7 @@ use Rattle.std.specs.Prelude.{ℕ, zero, suc, List, [], ◌∷◌, replicate, Op
 use Rattle.iom_virtio_blk.specs.declared.memory_disk.Failing.{Failing}
 use Rattle.iom_virtio_blk.specs.declared.memory_disk.Failing.TheVariants.{Never, After, Past}
 use Rattle.iom_virtio_blk.specs.declared.memory_disk.MemoryDisk.{MemoryDisk}
-use Rattle.iom_virtio_blk.specs.Disks.{DiskState}
+use Rattle.iom_virtio_blk.specs.DiskStates.{DiskState}
 
 -- the bytes of a sector that was never written
 unfoldable pub zero_sector : List ℕ

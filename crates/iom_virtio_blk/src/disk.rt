@@ -1,5 +1,6 @@
 ghost use Rattle.std.specs.Prelude.{◌≡◌, ◌<◌, length, OnOk, OnErr, Some, slice_get, slice_set};
-ghost use Rattle.iom_virtio_blk.specs.Disks.{DiskState, GoesWell, Fails, IsOldOrNew};
+ghost use Rattle.iom_virtio_blk.specs.Disks.{GoesWell, Fails, IsOldOrNew};
+ghost use Rattle.iom_virtio_blk.specs.DiskStates.{DiskState};
 
 /// The bytes of a sector (virtio 1.2, section 5.2.4).
 pub const SECTOR_SIZE: usize = 512;
