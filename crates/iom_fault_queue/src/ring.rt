@@ -2,7 +2,7 @@ ghost use Rattle.std.specs.Prelude.{◌≡◌, ◌+◌, ◌*◌, ◌/◌, ◌%�
 ghost use Rattle.std.specs.Bool.{OnTrue, OnFalse};
 ghost use Rattle.std.specs.Option.{option_to_list};
 ghost use Rattle.iom_base.specs.Bytes.{with_bytes};
-ghost use Rattle.iom_registers.specs.Queues.{fault_base, fault_entries, fault_head, fault_tail, next_index};
+ghost use Rattle.iom_registers.specs.Queues.{fault_base, fault_entries, fault_head, fault_tail, next_index, with_record_written};
 ghost use Rattle.iom_registers.specs.declared.register.Register.TheVariants.{Fqh};
 ghost use Rattle.iom_registers.specs.Table.{value_of};
 ghost use Rattle.iom_fault_queue.specs.Ring.{records_in, record_at, record_place, is_full, StoresRecord};
@@ -54,6 +54,17 @@ fn store(memory: &mut Memory, address: u64, record: Record) -> bool
     };
     put_bytes(frame, (address % 4096) as usize, &record.encode());
     true
+}
+
+/// Hands the place at the tail over: the next record comes after it, and software may take this one. Whoever
+/// does so is lent the memory, in which the record stands there already.
+#[inline(always)]
+fn hand_over(memory: &Memory, registers: &mut Registers, reported: &Record)
+    requires { let r = registers.old in
+        record_at memory.now (record_place r (fault_tail r)) ≡ Entry.Record reported.now }
+    ensures { registers.new ≡ with_record_written registers.old }
+{
+    registers.advance_fault_tail();
 }
 
 /// Whether the tail is one before the head.
@@ -141,7 +152,7 @@ impl FaultRing {
             registers.set_fqmf();
             return Put::Overflow;
         }
-        registers.advance_fault_tail();
+        hand_over(memory, registers, &record);
         Put::Written
     }
 
