@@ -8,7 +8,7 @@ use Rattle.iom_base.specs.declared.access.AccessKind.TheVariants as kinds
 use Rattle.iom_base.specs.declared.cause.Cause.{Cause}
 use Rattle.iom_ledger.specs.declared.entry.HistoryEntry.{HistoryEntry}
 use Rattle.iom_ledger.specs.declared.entry.HistoryEntry.TheVariants as entries
-use Rattle.iom_ledger.specs.History.{History, May, Pair, Holds, confirmed_from}
+use Rattle.iom_ledger.specs.History.{History, May, Pair, confirmed_from}
 use Rattle.iom_ledger.specs.History as ledger
 use Rattle.iom_ledger.specs.declared.refusal.Refusal.TheVariants.{NoSuchDevice}
 use Rattle.iom_machine.specs.declared.choice.Choice.{Choice}
