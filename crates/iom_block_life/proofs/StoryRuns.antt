@@ -24,7 +24,7 @@ use Rattle.iom_platform.specs.Runs.{GoesThrough}
 use Rattle.iom_platform.specs.Seen.{BlockSeen, DiskSeen, Seen}
 use Rattle.iom_block_life.specs.Stories.{Story, Tells, begins, ended, goes_on, put_in, story_after, story_in}
 use Rattle.iom_block_life.proofs.BlockChanges.{as_device, there_before, IsChanged, one_changes}
-use Rattle.iom_block_life.proofs.StoryLemmas.{hears_made, hears_refusal, is_left, is_new, is_reset, put, sets_up, steps_once}
+use Rattle.iom_block_life.proofs.StoryLemmas.{hears_made, hears_refusal, is_left, is_new, is_reset, put, sets_up, steps_once, tells_still}
 
 -- the device with the id is there, and this is the story of its disk
 pub record IsTold (id : ℕ) (new : List BlockSeen) (story : Story) : Type 0 where
@@ -113,7 +113,7 @@ hears_oldest : (number : Option ℕ) (bytes : List ℕ) (id other : ℕ) (old ne
 hears_oldest None bytes id other old new block story has same = stay_told id old new block story has same
 hears_oldest (Some number) bytes id other old new block story has changes =
     changes_told (model.HearsMade number bytes) id other old new block story has
-    (λ after how. hears_made number bytes story block.device after how has.tells) changes
+    (λ after how. tells_still story block.device after (hears_made number bytes block.device after how) has.tells) changes
 
 commits : (id other : ℕ) (old new : Seen) (told : Outcome) (block : BlockSeen) (story : Story) → Has id old block story → model.CommitsOf old other told new
     → IsTold id new.blocks story
@@ -126,7 +126,7 @@ hears_answer : (page : Option ℕ) (id other : ℕ) (old new : Seen) (block : Bl
 hears_answer None id other old new block story has same = stay_told id old new block story has same
 hears_answer (Some page) id other old new block story has changes =
     changes_told (model.HearsRefusal page) id other old new block story has
-    (λ after how. hears_refusal page story block.device after how has.tells) changes
+    (λ after how. tells_still story block.device after (hears_refusal page block.device after how) has.tells) changes
 
 brings : (on : Option OnLink) (id : ℕ) (old new : Seen) (block : BlockSeen) (story : Story) → Has id old block story → BringsRefusal on old new
     → IsTold id new.blocks story

@@ -10,3 +10,4 @@ pub mod ReadyProps
 pub mod Histories
 pub mod MemoryDisks
 pub mod Order
+pub mod Elements
