@@ -14,7 +14,8 @@ use Rattle.iom_virtio_blk.specs.declared.step.Reply.TheVariants.{Accepted, Busy,
 use Rattle.iom_virtio_blk.specs.declared.step.Step.{Step}
 use Rattle.iom_virtio_blk.specs.declared.step.Step.TheVariants as step
 use Rattle.iom_virtio_blk.specs.Blocks.{EndsWaiting, TakesBytes, down, given_up, replied}
-use Rattle.iom_virtio_blk.specs.Disks.{DiskState, name_in}
+use Rattle.iom_virtio_blk.specs.Disks.{name_in}
+use Rattle.iom_virtio_blk.specs.DiskStates.{DiskState}
 use Rattle.iom_virtio_blk.specs.Histories.{Entry, IsMap, TellsDisk, told, told_in, history_after}
 use Rattle.iom_virtio_blk.specs.Steps.{Device, device}
 use Rattle.iom_virtio_blk.proofs.DiskStays.{name_stays}

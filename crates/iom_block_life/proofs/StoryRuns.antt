@@ -12,7 +12,7 @@ use Rattle.iom_machine.specs.declared.state.NewDevice.{NewDevice}
 use Rattle.iom_machine.specs.declared.state.State.{State}
 use Rattle.iom_machine.specs.Kinds.{disk_of}
 use Rattle.iom_machine.specs.Machine.{Run}
-use Rattle.iom_virtio_blk.specs.Disks.{DiskState}
+use Rattle.iom_virtio_blk.specs.DiskStates.{DiskState}
 use Rattle.iom_virtio_blk.specs.Steps.{Device}
 use Rattle.iom_virtqueue.specs.declared.layout.Layout.{Layout}
 use Rattle.iom_virtqueue.specs.Layouts.{layout_of}
@@ -21,7 +21,8 @@ use Rattle.iom_platform.specs.Blocks as model
 use Rattle.iom_platform.specs.Blocks.{block_with, Changes, ChangesOne, Stay, StepsOnce, HasDisk, IsLeft, IsReset, IsTaken, SetsUp, DoesToBlocks, HearsOldest, BringsRefusal, HearsAnswer, PlugsBlock, refused_page}
 use Rattle.iom_platform.specs.Happens.{HappensHere}
 use Rattle.iom_platform.specs.Runs.{GoesThrough}
-use Rattle.iom_platform.specs.Seen.{BlockSeen, DiskSeen, Seen}
+use Rattle.iom_platform.specs.Seen.{BlockSeen, Seen}
+use Rattle.iom_platform.specs.Numbered.{DiskSeen}
 use Rattle.iom_block_life.specs.Stories.{Story, Tells, begins, ended, goes_on, put_in, story_after, story_in}
 use Rattle.iom_block_life.proofs.BlockChanges.{as_device, there_before, IsChanged, one_changes}
 use Rattle.iom_block_life.proofs.StoryLemmas.{hears_made, hears_refusal, is_left, is_new, is_reset, put, sets_up, steps_once, tells_still}

@@ -9,13 +9,15 @@ use Rattle.iom_machine.specs.declared.state.NewDevice.{NewDevice}
 use Rattle.iom_machine.specs.declared.state.State.{State}
 use Rattle.iom_machine.specs.Kinds.{disk_of}
 use Rattle.iom_machine.specs.Machine.{Run}
-use Rattle.iom_virtio_blk.specs.Disks.{DiskState, name_in}
+use Rattle.iom_virtio_blk.specs.Disks.{name_in}
+use Rattle.iom_virtio_blk.specs.DiskStates.{DiskState}
 use Rattle.iom_virtio_blk.specs.Histories.{Entry, inserted, TellsDisk, history_after}
 use Rattle.iom_virtio_blk.specs.Steps.{Device}
 use Rattle.iom_platform.specs.Blocks.{block_with, IsTaken}
 use Rattle.iom_platform.specs.Happens.{HappensHere}
 use Rattle.iom_platform.specs.Runs.{GoesThrough}
-use Rattle.iom_platform.specs.Seen.{BlockSeen, DiskSeen, Seen}
+use Rattle.iom_platform.specs.Seen.{BlockSeen, Seen}
+use Rattle.iom_platform.specs.Numbered.{DiskSeen}
 
 -- the story of a device's disk: which disk it is, if there is one, and what happened to it since it was put in, the newest first
 pub record Story : Type 0 where

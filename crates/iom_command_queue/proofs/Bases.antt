@@ -1,5 +1,5 @@
 -- What the values of cqb, cqh and cqt tell software.
-use Rattle.std.proofs.Common.{◌≡◌, ◌+◌, ◌*◌, ◌/◌, ◌%◌, ◌^◌, ◌<◌, ◌≤◌, ℕ, refl, sym, ap, ◌∙◌, arith}
+use Rattle.std.proofs.Common.{◌≡◌, ◌*◌, ◌/◌, ◌%◌, ◌^◌, ◌≤◌, ap, ◌∙◌, arith}
 use Rattle.iom_registers.proofs.Sizes.{shifted, few}
 use Rattle.iom_registers.specs.Fields.{entry_count, address, base_value}
 use Rattle.iom_registers.specs.declared.queue_base.QueueBase.{QueueBase}

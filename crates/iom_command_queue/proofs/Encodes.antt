@@ -1,5 +1,5 @@
 -- The words that are written for a command are that command, and all that it doesn't use is zero.
-use Rattle.std.proofs.Common.{◌≡◌, ◌+◌, ◌*◌, ◌/◌, ◌%◌, ◌^◌, ◌<◌, ◌∙◌, ◌==◌, ℕ, Bool, true, false, List, Option, Some, None, Result, Ok, refl, sym, ap, subst, arith, lit<, if◌then◌else◌}
+use Rattle.std.proofs.Common.{◌≡◌, ◌+◌, ◌*◌, ◌/◌, ◌%◌, ◌^◌, ◌<◌, ◌∙◌, ◌==◌, ℕ, Bool, true, false, Option, Some, None, Ok, refl, sym, ap, subst, arith, lit<, if◌then◌else◌}
 use Rattle.std.specs.Prelude.{is_some}
 use Rattle.std.proofs.lemmas.Nat.{pow_pos}
 use Rattle.iom_command_queue.specs.declared.command.Command.{Command}
@@ -7,11 +7,11 @@ use Rattle.iom_command_queue.specs.declared.command.Command.TheVariants.{Iotinva
 use Rattle.iom_command_queue.specs.declared.command.AtsRange.{AtsRange}
 use Rattle.iom_command_queue.specs.declared.command.AtsRange.TheVariants.{Page, Everything}
 use Rattle.iom_command_queue.specs.declared.command.FenceStore.{FenceStore}
-use Rattle.iom_command_queue.specs.Bits.{bits_of, as_bit, is_set, where_set}
+use Rattle.iom_command_queue.specs.Bits.{bits_of, as_bit, where_set}
 use Rattle.iom_command_queue.specs.Formats.{AreWordsOf, ats_device, first_of, second_of}
-use Rattle.iom_command_queue.specs.Decoded.{decoded}
+use Rattle.iom_command_queue.specs.Legal.{decoded}
 use Rattle.iom_command_queue.specs.Encoded.{first_word, second_word, or_zero, data_or_zero, address_or_zero, UnusedAreZero, encoded}
-use Rattle.iom_command_queue.proofs.Fits.{Fits, RangeFits, StoreFits, IsWithin}
+use Rattle.iom_command_queue.proofs.Fits.{Fits, RangeFits, IsWithin}
 use Rattle.iom_command_queue.proofs.Exact.{found}
 use Rattle.iom_command_queue.proofs.TwoWords.{first_back, second_back}
 use Rattle.iom_command_queue.proofs.Words.{IotinvalBits, iotinval_bits, AddressBits, address_bits, FenceBits, fence_bits, FenceAddressBits, fence_address_bits, DirectoryBits, directory_bits, AtsBits, ats_bits, PayloadBits, payload_bits}

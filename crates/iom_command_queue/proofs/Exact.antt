@@ -1,5 +1,5 @@
 -- Decoding is exact to the grammar: what it answers is what the words are, and what they are is what it answers.
-use Rattle.std.proofs.Common.{◌≡◌, ◌≢◌, ◌+◌, ◌*◌, ◌^◌, ◌<◌, ◌∙◌, ◌&&◌, ◌==◌, ℕ, Bool, true, false, inl, inr, List, [], ◌∷◌, Option, Some, None, Result, Ok, Err, refl, sym, ap, subst, arith, if◌then◌else◌}
+use Rattle.std.proofs.Common.{◌≡◌, ◌≢◌, ◌<◌, ◌∙◌, ◌&&◌, ℕ, Bool, true, false, inl, inr, List, [], ◌∷◌, Result, Ok, Err, refl, sym, ap, subst, arith, if◌then◌else◌}
 use Rattle.std.specs.Prelude.{◌↔◌}
 use Rattle.std.proofs.lemmas.Bool.Decides.{eqb_tells}
 use Rattle.iom_command_queue.specs.declared.illegal.Illegal.{Illegal}
@@ -10,7 +10,7 @@ use Rattle.iom_command_queue.specs.declared.command.Command.{Command}
 use Rattle.iom_command_queue.specs.declared.command.Command.TheVariants.{IotinvalVma, IotinvalGvma, IofenceC, IodirInvalDdt, AtsInval}
 use Rattle.iom_command_queue.specs.Bits.{bits_of, is_set, where_set}
 use Rattle.iom_command_queue.specs.Formats.{operation_of, opcode_of, func3_of, reserved_first, reserved_second, AreZero, IsClear, HasFields, AreWordsOf, ats_range}
-use Rattle.iom_command_queue.specs.Decoded.{IsOperation, is_forbidden, IsIllegal, operation_at, are_zero, is_clear, command_of, decoded_as, decoded_by, decoded}
+use Rattle.iom_command_queue.specs.Legal.{IsOperation, is_forbidden, IsIllegal, operation_at, are_zero, is_clear, command_of, decoded_as, decoded_by, decoded}
 
 -- what an opcode and a func3 tell
 abbrev Tells : ℕ → ℕ → Result Operation Illegal → Type 0

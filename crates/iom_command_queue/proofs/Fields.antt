@@ -1,5 +1,5 @@
 -- Fields of a word, read and placed by shifts.
-use Rattle.std.proofs.Common.{◌≡◌, ◌+◌, ◌-◌, ◌*◌, ◌/◌, ◌%◌, ◌^◌, ◌<◌, ◌≤◌, ◌∙◌, ℕ, refl, ap, sym, subst, arith}
+use Rattle.std.proofs.Common.{◌≡◌, ◌+◌, ◌-◌, ◌*◌, ◌/◌, ◌%◌, ◌^◌, ◌<◌, ◌≤◌, ◌∙◌, ℕ, ap, sym, arith}
 use Rattle.std.proofs.lemmas.Nat.{field_of, shl-shr, shr-shr, shl_whole, mod_below, pow_pos}
 use Rattle.iom_command_queue.specs.Bits.{bits_of}
 

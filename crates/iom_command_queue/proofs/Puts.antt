@@ -1,13 +1,12 @@
 -- Commands and the bytes that they stand in.
-use Rattle.std.proofs.Common.{◌≡◌, ◌≢◌, ◌+◌, ◌*◌, ◌/◌, ◌%◌, ◌<◌, ◌∙◌, ℕ, List, length, slice_get, Option, Some, None, Ok, refl, sym, ap, arith}
+use Rattle.std.proofs.Common.{◌≡◌, ◌≢◌, ◌+◌, ◌/◌, ◌%◌, ◌<◌, ◌∙◌, ℕ, List, length, slice_get, Option, Some, None, Ok, refl, ap, arith}
 use Rattle.std.specs.Prelude.{IsSome, OnSome, ◌↔◌}
 use Rattle.iom_phys_mem.specs.Words.{word_at, byte_at, with_word, IsPlace}
 use Rattle.iom_command_queue.specs.declared.command.Command.{Command}
-use Rattle.iom_command_queue.specs.declared.entry.QueueEntry.{QueueEntry}
 use Rattle.iom_command_queue.specs.declared.entry.QueueEntry.TheVariants as stands
-use Rattle.iom_command_queue.specs.Decoded.{decoded}
+use Rattle.iom_command_queue.specs.Legal.{decoded}
 use Rattle.iom_command_queue.specs.Encoded.{first_word, second_word}
-use Rattle.iom_command_queue.specs.Waiting.{entry_at, decoded_entry, entry_by_words, with_command, WritesCommand}
+use Rattle.iom_command_queue.specs.Waiting.{entry_at, decoded_entry, entry_by_words, WritesCommand}
 
 word_of_frame : (old new : List (List ℕ)) (a frame : ℕ) → a / 4096 ≡ frame → slice_get new frame ≡ slice_get old frame → word_at 8 new a ≡ word_at 8 old a
 word_of_frame old new a frame at same = rw (at, same) refl

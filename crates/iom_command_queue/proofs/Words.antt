@@ -1,5 +1,5 @@
 -- The words of an encoded command, field by field, over plain numbers.
-use Rattle.std.proofs.Common.{◌≡◌, ◌+◌, ◌-◌, ◌*◌, ◌/◌, ◌%◌, ◌^◌, ◌<◌, ◌≤◌, ℕ, arith}
+use Rattle.std.proofs.Common.{◌≡◌, ◌+◌, ◌*◌, ◌/◌, ◌%◌, ◌^◌, ◌<◌, ℕ, arith}
 use Rattle.iom_command_queue.specs.Bits.{bits_of}
 
 -- IOTINVAL: head is opcode and func3, then AV, PSCID, PSCV, GV and GSCID

@@ -1,5 +1,5 @@
 -- Bits of a word, by their numbers from 0 upward.
-use Rattle.std.specs.Prelude.{◌≡◌, ℕ, ◌+◌, ◌-◌, ◌/◌, ◌%◌, ◌^◌, ◌==◌, Bool, true, false, Option, Some, None, if◌then◌else◌}
+use Rattle.std.specs.Prelude.{ℕ, ◌+◌, ◌-◌, ◌/◌, ◌%◌, ◌^◌, ◌==◌, Bool, true, false, Option, Some, None, if◌then◌else◌}
 
 -- the number in the bits high:low of a word
 unfoldable pub bits_of : ℕ → ℕ → ℕ → ℕ

@@ -1,6 +1,6 @@
 -- The grammar of commands: which 16 bytes are which command (IOMMU specification, section 3.1, "Command-Queue (CQ)"). Bytes are read as two
 -- little-endian words. Each line names a field of the standard's figure by its bits; fields that a valid bit leaves unused are free.
-use Rattle.std.specs.Prelude.{◌≡◌, ℕ, ◌+◌, ◌*◌, ◌^◌, List, [], ◌∷◌, ◌++◌, drop, Bool, false, Option, if◌then◌else◌}
+use Rattle.std.specs.Prelude.{◌≡◌, ℕ, ◌+◌, ◌*◌, ◌^◌, List, [], ◌∷◌, ◌++◌, drop, false, if◌then◌else◌}
 use Rattle.byteorder.specs.Endian.{little_number, little_bytes}
 use Rattle.iom_command_queue.specs.declared.operation.Operation.{Operation}
 use Rattle.iom_command_queue.specs.declared.operation.Operation.TheVariants as is

@@ -1,6 +1,6 @@
 pub mod Bits
 pub mod Formats
-pub mod Decoded
+pub mod Legal
 pub mod Names
 pub mod Encoded
 pub mod OpenSlots

@@ -1,6 +1,6 @@
 -- The slots of invalidation requests that devices have still to complete (IOMMU specification, section 3.1.4, "IOMMU Address-translation services
 -- (ATS) commands"; PCI Express, "Invalidate Completion").
-use Rattle.std.specs.Prelude.{◌≡◌, ℕ, ◌+◌, ◌<◌, ◌≤◌, ◌==◌, ◌&&◌, Bool, not, List, [], ◌∷◌, ◌++◌, filter, length}
+use Rattle.std.specs.Prelude.{ℕ, ◌+◌, ◌<◌, ◌≤◌, ◌==◌, ◌&&◌, Bool, not, List, [], ◌∷◌, ◌++◌, filter, length}
 use Rattle.iom_command_queue.specs.declared.slot.Slot.{Slot}
 
 -- the open requests, the oldest first, and the last number that was given

@@ -7,7 +7,7 @@ use Rattle.iom_command_queue.specs.declared.illegal.Illegal.{Illegal}
 use Rattle.iom_command_queue.specs.declared.command.Command.{Command as Commanded}
 use Rattle.iom_command_queue.specs.declared.entry.QueueEntry.{QueueEntry}
 use Rattle.iom_command_queue.specs.declared.entry.QueueEntry.TheVariants.{Command, Illegal as IllegalBytes, Outside}
-use Rattle.iom_command_queue.specs.Decoded.{decoded}
+use Rattle.iom_command_queue.specs.Legal.{decoded}
 use Rattle.iom_command_queue.specs.Encoded.{first_word, second_word}
 
 abbrev pub decoded_entry : Result Commanded Illegal → QueueEntry

@@ -57,7 +57,7 @@ impl Command {
     ghost use Rattle.std.specs.Prelude.{◌≡◌, ◌↔◌, Ok, Err};
     ghost use Rattle.iom_command_queue.specs.declared.illegal.Illegal.{Illegal};
     ghost use Rattle.iom_command_queue.specs.Formats.{IsCommand, operation_of, first_of, second_of};
-    ghost use Rattle.iom_command_queue.specs.Decoded.{IsIllegal, decoded};
+    ghost use Rattle.iom_command_queue.specs.Legal.{IsIllegal, decoded};
     ghost use Rattle.iom_command_queue.specs.Encoded.{encoded, UnusedAreZero};
 
     /// The command that 16 bytes are. Exactly where they are none, the reason: the first that applies.

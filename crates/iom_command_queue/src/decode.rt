@@ -2,7 +2,7 @@
 ghost use Rattle.std.specs.Prelude.{◌≡◌, ◌+◌, ◌*◌, ◌<◌, ◌≤◌, ◌==◌};
 ghost use Rattle.iom_command_queue.specs.Bits.{bits_of, is_set, where_set};
 ghost use Rattle.iom_command_queue.specs.Formats.{ats_device, ats_range};
-ghost use Rattle.iom_command_queue.specs.Decoded.{decoded, is_clear, is_forbidden, command_of};
+ghost use Rattle.iom_command_queue.specs.Legal.{decoded, is_clear, is_forbidden, command_of};
 
 use crate::command::{AtsRange, Command, FenceStore};
 use crate::field::Field;
@@ -12,7 +12,7 @@ use crate::operation::Operation;
 use crate::values::{DeviceNumber, FenceAddress, PageNumber, Pscid};
 
 /// The command that two words are.
-#[tactic(auto, unfolding(crate::specs::Decoded::decoded))]
+#[tactic(auto, unfolding(crate::specs::Legal::decoded))]
 pub(crate) fn decode_words(first: u64, second: u64) -> Result<Command, Illegal>
     ensures { result ≡ decoded first second }
 {

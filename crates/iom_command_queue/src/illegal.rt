@@ -1,5 +1,5 @@
 /// Why 16 bytes are no command: the first of these that applies. When each does is `IsIllegal` in
-/// `specs/Decoded.antt`.
+/// `specs/Legal.antt`.
 #[derive(Clone, Copy, PartialEq, Eq, Debug)]
 pub enum Illegal {
     /// No command has this opcode.

@@ -4,7 +4,7 @@ ghost use Rattle.iom_registers.specs.declared.register.Register.TheVariants.{Cqt
 ghost use Rattle.iom_registers.specs.Queues.{command_base, command_entries, command_head, command_tail, next_index, with_command_done};
 ghost use Rattle.iom_registers.specs.Table.{written};
 ghost use Rattle.iom_command_queue.specs.Formats.{IsCommand, first_of, second_of};
-ghost use Rattle.iom_command_queue.specs.Decoded.{decoded};
+ghost use Rattle.iom_command_queue.specs.Legal.{decoded};
 ghost use Rattle.iom_command_queue.specs.Encoded.{encoded, first_word, second_word};
 ghost use Rattle.iom_command_queue.specs.Waiting.{commands_in, first_entry, how_many, place_of, WritesCommand};
 

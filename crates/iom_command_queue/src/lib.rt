@@ -4,7 +4,7 @@
 //! RISC-V IOMMU Architecture Specification, section 3.1, "Command-Queue (CQ)". The layers above may
 //! rely on three things. [`Command::decode`] and [`Command::encode`] are exact to the grammar of
 //! commands, `specs/Formats.antt`; which bytes are an illegal command, and for which reason, is
-//! `specs/Decoded.antt`. The commands that wait are a list that is read off memory and registers
+//! `specs/Legal.antt`. The commands that wait are a list that is read off memory and registers
 //! (`specs/Waiting.antt`): an append puts one at its end, an advance drops its first. [`Slots`] is
 //! the list of the open requests.
 #![tactic(auto)]

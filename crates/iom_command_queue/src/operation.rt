@@ -1,6 +1,6 @@
 ghost use Rattle.std.specs.Prelude.{◌≡◌, Some};
 ghost use Rattle.iom_command_queue.specs.Formats.{opcode_of, func3_of};
-ghost use Rattle.iom_command_queue.specs.Decoded.{operation_at};
+ghost use Rattle.iom_command_queue.specs.Legal.{operation_at};
 ghost use Rattle.iom_command_queue.specs.Names.{operation_name};
 
 use crate::illegal::Illegal;

@@ -56,13 +56,6 @@ fn read<M: Mmio>(io: &M, register: Register) -> u64
     io.read(register.offset(), register.width()).unwrap()
 }
 
-/// Writes a register.
-fn write<M: Mmio>(io: &mut M, register: Register, value: u64)
-    ensures { io.new ≡ M.after io.old register value }
-{
-    let _ = io.write(register.offset(), register.width(), value);
-}
-
 /// Where software finds the queue.
 #[derive(Clone, Copy)]
 struct Place {
@@ -92,6 +85,22 @@ fn tail<M: Mmio>(io: &M) -> u32
     ensures below { result < command_entries (M.registers io.now) }
 {
     read(io, Register::Cqt) as u32
+}
+
+/// Rings the doorbell: `cqt` is the index after the tail, and the IOMMU may fetch what stands at the tail's
+/// place. Whoever rings is lent the memory, in which the command stands there already.
+#[inline(always)]
+fn ring<M: Mmio>(memory: &Memory, io: &mut M, command: &Command, after: u32)
+    requires stands { let r = M.registers io.old in
+        entry_at memory.now (place_of r (command_tail r)) ≡ QueueEntry.Command command.now }
+    requires next { after ≡ next_index (command_entries (M.registers io.old)) (command_tail (M.registers io.old)) }
+    ensures { io.new ≡ M.after io.old Cqt after }
+{
+    let _ = io.write(
+        Register::Cqt.offset(),
+        Register::Cqt.width(),
+        u64::from(after),
+    );
 }
 
 impl CommandRing {
@@ -157,12 +166,8 @@ impl CommandRing {
     {
         let place = place_by_cqb(io);
         let tail = tail(io);
-        put(
-            memory,
-            place.base + COMMAND_SIZE as u64 * tail as u64,
-            command,
-        );
-        let after = index_after(tail, place.entries);
-        write(io, Register::Cqt, u64::from(after));
+        let address = place.base + COMMAND_SIZE as u64 * tail as u64;
+        put(memory, address, command);
+        ring(memory, io, &command, index_after(tail, place.entries));
     }
 }

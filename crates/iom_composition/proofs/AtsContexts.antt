@@ -5,7 +5,6 @@ use Rattle.iom_base.specs.declared.cause.Cause.TheVariants.{TransactionTypeDisal
 use Rattle.iom_base.specs.declared.mode.Mode.{Mode}
 use Rattle.iom_base.specs.declared.mode.Mode.TheVariants.{First, Second, Both}
 use Rattle.iom_device_dir.specs.declared.context.Context.{Context}
-use Rattle.iom_device_dir.specs.Located.{located_context}
 use Rattle.iom_driver.specs.declared.device.Attachment.{Attachment}
 use Rattle.iom_driver.specs.declared.device.Attachment.TheVariants.{Detached, Attached, Quarantined, Leaving}
 use Rattle.iom_driver.specs.declared.device.Stages.{Stages}
@@ -14,7 +13,7 @@ use Rattle.iom_driver.specs.Directory.{context_in, context_for, mode_of}
 use Rattle.iom_driver.specs.Layout.{IsLevels}
 use Rattle.iom_driver.specs.State.{DriverState}
 use Rattle.iom_iommu.specs.Parts.{registers_of, contexts_of}
-use Rattle.iom_iommu.specs.Service.{found_context, letting_ats, ats_context_in, ats_context_for}
+use Rattle.iom_iommu.specs.Service.{found_context, context_for as context_found, letting_ats, ats_context_in, ats_context_for}
 use Rattle.iom_composition.specs.Parts.{Parts}
 use Rattle.iom_composition.specs.Sound.{AreSound}
 use Rattle.iom_composition.proofs.CutOffLemmas.{IsPending, pending_cached}
@@ -69,9 +68,8 @@ found_for : ServiceLaws → (parts : Parts) (events : ℕ) → AreSound parts ev
     → ats_context_for parts.memory (registers_of parts.iommu) (contexts_of parts.iommu) id
     ≡ letting_ats (found_context (contexts_of parts.iommu id) (located_as parts.driver.levels id (stages_of parts.driver.devices id)))
 found_for laws parts events sound own id =
-    let cached = contexts_of parts.iommu id in
-    let found = found_context cached (located_context parts.memory (registers_of parts.iommu).ddtp id) in
-    ap (λ m. ats_context_in m found) (sound.ready.directory sound.started).mode ∙ ats_in parts.driver.levels own.sizes.in_range found ∙ ap letting_ats (found_as laws parts events sound own id cached)
+    let found = context_found parts.memory (registers_of parts.iommu) (contexts_of parts.iommu) id in
+    ap (λ m. ats_context_in m found) (sound.ready.directory sound.started).mode ∙ ats_in parts.driver.levels own.sizes.in_range found ∙ ap letting_ats (found_as laws parts events sound own id)
 
 pub finds_ats : ServiceLaws → (parts : Parts) (events : ℕ) → AreSound parts events → IsSoundDriver parts.driver → (id : ℕ)
     → FindsAts (attachment_of parts.driver.devices id) parts.driver id (ats_context_for parts.memory (registers_of parts.iommu) (contexts_of parts.iommu) id)

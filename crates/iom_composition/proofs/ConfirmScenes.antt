@@ -6,7 +6,7 @@ use Rattle.iom_copies.specs.Occurrences.{Confirm}
 use Rattle.iom_ledger.specs.declared.entry.HistoryEntry.TheVariants.{Confirmed}
 use Rattle.iom_copies.specs.Scene.{Scene}
 use Rattle.iom_copies.proofs.OccurrenceLemmas.{occurrences_keep_facts}
-use Rattle.iom_ledger.specs.Confirmations.{confirmed_from}
+use Rattle.iom_ledger.specs.History.{confirmed_from}
 use Rattle.iom_machine.specs.declared.state.Attachment.{Attachment}
 use Rattle.iom_composition.specs.Queued.{pending_after}
 

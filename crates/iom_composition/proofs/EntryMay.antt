@@ -17,7 +17,7 @@ use Rattle.iom_base.specs.declared.mode.Mode.{Mode}
 use Rattle.iom_base.specs.declared.mode.Mode.TheVariants.{First, Second, Both}
 use Rattle.iom_base.specs.declared.rights.Rights.{Rights}
 use Rattle.iom_base.specs.Accesses.{page_of}
-use Rattle.iom_base.specs.Causes.{access_fault_of}
+use Rattle.iom_base.specs.Tables.{access_fault_of}
 use Rattle.iom_base.specs.Rights as of_rights
 use Rattle.iom_base.specs.Rights.{allows}
 use Rattle.iom_copies.specs.Attachments.{has_ats, is_both, in_both_stages}

@@ -8,7 +8,7 @@ use Rattle.iom_command_queue.specs.declared.entry.QueueEntry.TheVariants.{Comman
 use Rattle.iom_copies.specs.Attachments.{IsAttached, caches_translations}
 use Rattle.iom_copies.specs.DriverCalls.{with_attachment, with_kind, with_ticket, released_extent, release_commands, leave_commands, once_confirmed}
 use Rattle.iom_copies.proofs.ListLemmas.{in_none, contains_head, contains_tail}
-use Rattle.iom_ledger.specs.Confirmations.{confirmed_from}
+use Rattle.iom_ledger.specs.History.{confirmed_from, History, Pair, confirms, lingering_at}
 use Rattle.iom_copies.specs.Faithful.{GrantsFit, IsFaithful}
 use Rattle.iom_copies.specs.Queue.{Extent, WholeSpace, QueuedCommand, DropTranslations, DropContext, Fence}
 use Rattle.iom_copies.specs.Occurrences.{Plug, Attach, Grant, Release, Detach}
@@ -16,7 +16,6 @@ use Rattle.iom_copies.specs.Scene.{Copy, Scene}
 use Rattle.iom_copies.proofs.OccurrenceLemmas.{occurrences_keep_facts}
 use Rattle.iom_driver.specs.Appends.{fence}
 use Rattle.iom_ledger.specs.declared.entry.HistoryEntry.TheVariants.{Granted, Released}
-use Rattle.iom_ledger.specs.History.{History, Pair, confirms, lingering_at}
 use Rattle.iom_ledger.specs.Shown.{Agrees, held_in, lingering_in, released_in}
 use Rattle.iom_machine.specs.declared.state.Attachment.{Attachment}
 use Rattle.iom_machine.specs.declared.state.Attachment.TheVariants.{Detached, Attached, Quarantined, Leaving}

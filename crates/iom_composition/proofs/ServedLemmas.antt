@@ -13,7 +13,7 @@ use Rattle.iom_base.specs.Rights.{allows}
 use Rattle.iom_base.specs.Sizes.{page_limit}
 use Rattle.iom_device_dir.specs.declared.context.Context.{Context}
 use Rattle.iom_device_dir.specs.Located.{located_context, path_end_from}
-use Rattle.iom_device_dir.specs.Paths.{ids_below}
+use Rattle.iom_device_dir.specs.Paths.{ids_below, fits_directory}
 use Rattle.iom_directory.specs.Laws.{LawfulEnds, IsModeOf}
 use Rattle.iom_directory.specs.Pages.{root_level}
 use Rattle.iom_driver.specs.declared.device.Attachment.{Attachment}
@@ -26,7 +26,7 @@ use Rattle.iom_driver.specs.State.{DriverState}
 use Rattle.iom_driver.specs.Tables.{AreTablesOf}
 use Rattle.iom_driver.proofs.Lists.{get_within}
 use Rattle.iom_iommu.specs.Parts.{registers_of, contexts_of}
-use Rattle.iom_iommu.specs.Service.{Serves, ServesBy, ServesIn, LooksOrWalks, Walks, cached_for, translation_of, found_context}
+use Rattle.iom_iommu.specs.Service.{Serves, ServesBy, ServesIn, LooksOrWalks, Walks, cached_for, translation_of, found_context, context_for as context_found}
 use Rattle.iom_tlb.specs.declared.space.Space.TheVariants as space
 use Rattle.iom_tlb.specs.declared.trans_cache.Translation.{Translation}
 use Rattle.iom_tlb.specs.Content.{Content as Translations, Stays, Keeps}
@@ -167,6 +167,14 @@ room_for_ids (suc (suc zero)) range = refl
 room_for_ids (suc (suc (suc zero))) range = refl
 room_for_ids (suc (suc (suc (suc n)))) range = absurd (let high = range.1 in omega (arith, high))
 
+-- and as many ids fit it
+fits_levels : (levels : ℕ) → IsLevels levels → (id : ℕ) → fits_directory (mode_of levels) id ≡ nat_lt id (id_limit levels)
+fits_levels zero range id = absurd (let low = range.0 in omega (arith, low))
+fits_levels (suc zero) range id = refl
+fits_levels (suc (suc zero)) range id = refl
+fits_levels (suc (suc (suc zero))) range id = refl
+fits_levels (suc (suc (suc (suc n)))) range id = absurd (let high = range.1 in omega (arith, high))
+
 -- what the directory has for a device, by the stage that it is attached in
 abbrev pub located_as : ℕ → ℕ → Option Stages → Result Context Cause
 located_as levels id None = Err (cause_at levels id)
@@ -219,10 +227,28 @@ module _ (laws : ServiceLaws) (parts : Parts) (events : ℕ) (sound : AreSound p
           let high : id_limit d.levels < suc id = leb-false (suc id) (id_limit d.levels) is in
           located_high id (omega (arith, high)) (stages_of d.devices id) refl
 
-  -- the context that is found: that of the directory, or a cached one, which is true
-  pub found_as : (id : ℕ) (cached : Option Context) → found_context cached (located_context parts.memory (registers_of parts.iommu).ddtp id)
-      ≡ found_context cached (located_as parts.driver.levels id (stages_of parts.driver.devices id))
-  found_as id cached = ap (found_context cached) (located id)
+  -- the context that is found: that of the directory, or a cached one, which is true: its device has stages, and so no id that is too wide
+  pub found_as : (id : ℕ) → context_found parts.memory (registers_of parts.iommu) (contexts_of parts.iommu) id
+      ≡ found_context (contexts_of parts.iommu id) (located_as parts.driver.levels id (stages_of parts.driver.devices id))
+  found_as id =
+      ap (λ b. if b then found_context (contexts_of parts.iommu id) (located_context parts.memory r.ddtp id) else Err TransactionTypeDisallowed)
+      (ap (λ m. fits_directory m id) names.mode ∙ fits_levels d.levels own.sizes.in_range id)
+      ∙ by (nat_lt id (id_limit d.levels)) refl (contexts_of parts.iommu id) (λ context is. sound.contexts id context is)
+    where
+      too_wide : (stages : Option Stages) (context : Context) → owned_stages_of d.devices id ≡ stages → option_map context_for stages ≡ Some context → id_limit d.levels < suc id → ⊥
+      too_wide None context is owned high = cc
+      too_wide (Some stage) context is owned high = let low = own.named id stage is in omega (arith, low, high)
+
+      by : (b : Bool) → nat_lt id (id_limit d.levels) ≡ b → (cached : Option Context)
+          → ((context : Context) → cached ≡ Some context → option_map context_for (owned_stages_of d.devices id) ≡ Some context)
+          → (if b then found_context cached (located_context parts.memory r.ddtp id) else Err TransactionTypeDisallowed)
+          ≡ found_context cached (located_as d.levels id (stages_of d.devices id))
+      by true is cached true_for = ap (found_context cached) (located id)
+      by false is None true_for =
+          let high : id_limit d.levels < suc id = leb-false (suc id) (id_limit d.levels) is in
+          located_high id (omega (arith, high)) (stages_of d.devices id) refl
+      by false is (Some context) true_for =
+          absurd (too_wide (owned_stages_of d.devices id) context refl (true_for context refl) (leb-false (suc id) (id_limit d.levels) is))
 
   -- the frame of what is held is one of memory
   pub held_inside : (id page frame : ℕ) (rights : Rights) → held_in parts.driver.ledger id page ≡ Some (frame, rights) → frame < length parts.memory
@@ -386,12 +412,12 @@ module _ (laws : ServiceLaws) (parts : Parts) (events : ℕ) (sound : AreSound p
     pub service : (answer : Result Translation WalkFault) → Serves sure parts.memory (registers_of parts.iommu) (contexts_of parts.iommu) id address kind old answer new → IsAnswered sure parts.driver id address kind old answer new
     service answer served =
         let cached = contexts_of parts.iommu id in
-        let located_cached = found_context cached (located_context parts.memory r.ddtp id) in
-        let by_mode : ServesIn sure (mode_of d.levels) located_cached parts.memory address kind old answer new =
-        subst (λ m. ServesIn sure m located_cached parts.memory address kind old answer new) names.mode served in
+        let found = context_found parts.memory r (contexts_of parts.iommu) id in
+        let by_mode : ServesIn sure (mode_of d.levels) found parts.memory address kind old answer new =
+        subst (λ m. ServesIn sure m found parts.memory address kind old answer new) names.mode served in
         by_attachment (attachment_of d.devices id) cached answer refl (λ context is. sound.contexts id context is) (λ there. pending_cached parts events sound id there)
-        (subst (λ f. ServesBy sure f parts.memory address kind old answer new) (found_as id cached)
-        (served_in sure d.levels own.sizes.in_range located_cached parts.memory address kind old answer new by_mode))
+        (subst (λ f. ServesBy sure f parts.memory address kind old answer new) (found_as id)
+        (served_in sure d.levels own.sizes.in_range found parts.memory address kind old answer new by_mode))
 
 -- WHAT THE SERVICE MEANS
 pub served : ServiceLaws → (parts : Parts) (events : ℕ) → AreSound parts events → IsSoundDriver parts.driver → (id address : ℕ) (kind : AccessKind) (sure : Bool) (old new : Translations)

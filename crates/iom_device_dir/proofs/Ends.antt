@@ -11,7 +11,7 @@ use Rattle.iom_device_dir.specs.declared.context.Context.{Context}
 use Rattle.iom_device_dir.specs.declared.entry.NonLeafEntry.{NonLeafEntry}
 use Rattle.iom_device_dir.specs.declared.words.ContextWords.{ContextWords}
 use Rattle.iom_device_dir.specs.Decoded.{decoded_non_leaf_entry, decoded_context}
-use Rattle.iom_device_dir.specs.Paths.{ddi, entry_place, context_place, context_words_at, LoadsEntry, StopsAtLoadedEntry, LoadsContext, StopsAtLoadedContext, LeadsToContext, StopsBeforeContext, ids_below, FindsFromLevel, StopsFromLevel, FindsByMode, StopsByMode}
+use Rattle.iom_device_dir.specs.Paths.{ddi, entry_place, context_place, context_words_at, LoadsEntry, StopsAtLoadedEntry, LoadsContext, StopsAtLoadedContext, LeadsToContext, StopsBeforeContext, ids_below, fits_directory, FindsFromLevel, StopsFromLevel, FindsByMode, StopsByMode}
 use Rattle.iom_device_dir.specs.Located.{loaded_entry, loaded_context, follow_entry, path_end_from, located_from_level, located_by_mode}
 use Rattle.iom_device_dir.proofs.Exact.{Judges, judged, found, refused, JudgesNonLeaf, judged_non_leaf, found_non_leaf, refused_non_leaf}
 
@@ -178,3 +178,12 @@ module _ (mode : DirectoryMode) (memory : List (List ℕ)) (root id : ℕ) where
 
   pub one_cause : (one other : Cause) → StopsByMode mode memory root id one → StopsByMode mode memory root id other → one ≡ other
   one_cause one other a b = let e : Err one ≡ Err other = sym (stops_by mode memory root id one a) ∙ stops_by mode memory root id other b in cc
+
+-- an id that is too wide for the directory has no context there
+pub located-too_wide : (mode : DirectoryMode) (memory : List (List ℕ)) (root id : ℕ) → fits_directory mode id ≡ false → located_by_mode mode memory root id ≡ Err TransactionTypeDisallowed
+unfolding located_by_mode
+located-too_wide Off memory root id wide = absurd cc
+located-too_wide Bare memory root id wide = absurd cc
+located-too_wide OneLevel memory root id wide = rw wide refl
+located-too_wide TwoLevels memory root id wide = rw wide refl
+located-too_wide ThreeLevels memory root id wide = rw wide refl

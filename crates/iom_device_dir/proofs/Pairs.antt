@@ -1,13 +1,13 @@
 -- Look-ups in the entries of a cache that gives up the least recently used, after each of its calls. Of any keys, told apart by `eq`, and values.
 use Rattle.std.specs.Prelude.{IsSome, IsOk}
 use Rattle.std.proofs.lemmas.Bool.{false≢true}
-use Rattle.std.proofs.Common.{◌≡◌, ◌≢◌, ◌-◌, ◌<◌, ◌≤◌, ◌++◌, ◌∙◌, ◌⊎◌, inl, inr, ℕ, Bool, true, false, cond, drop, append-nil, length-drop, List, [], ◌∷◌, length, take, Option, Some, None, Ok, Err, Result, OnOk, OnErr, refl, sym, ap, subst, arith, option_map}
+use Rattle.std.proofs.Common.{◌≡◌, ◌≢◌, ◌+◌, ◌-◌, ◌<◌, ◌≤◌, ◌++◌, ◌∙◌, ◌⊎◌, inl, inr, ℕ, Bool, true, false, not, cond, filter, drop, append-nil, length-drop, List, [], ◌∷◌, length, take, Option, Some, None, Ok, Err, Result, OnOk, OnErr, refl, sym, ap, subst, arith, option_map}
 use Rattle.std.specs.List.{IsDistinct, AllByRecursion}
 use Rattle.std.specs.Option.{option_map_or}
 use Rattle.std.specs.Map.{keys_of, lookup, lookup_entry, remove_entry}
 use Rattle.std.specs.Cmp.{IsEquivalence}
 use Rattle.std.proofs.lemmas.Map.{lookup-remove_entry}
-use Rattle.std.proofs.lemmas.List.{take-append-drop}
+use Rattle.std.proofs.lemmas.List.{take-append-drop, take_all}
 use Rattle.lru.specs.LruCache.{LruCache, lru_cache, put_entries, promoted}
 use Rattle.lru.proofs.CallerLemmas.{Contains-lookup_entry}
 use Rattle.lru.proofs.Pairs.{lookup-lookup_entry}
@@ -26,6 +26,59 @@ module _ {K V : Type 0} (eq : K → K → Bool) (laws : IsEquivalence eq) (same_
 
   pub removed : (k q : K) (es : List (K × V)) → IsDistinct eq (keys_of es) → answers (remove_entry (eq k) es) q ≡ cond (eq k q) None (answers es q)
   removed k q es d = lookup-remove_entry laws (eq k) (λ x y e. laws.congr k x y e) q es d
+
+  -- an entry that is found is one that goes
+  fewer : (k : K) (x e : K × V) (es : List (K × V)) (b : Bool) → (lookup_entry (eq k) es ≡ Some e → length (remove_entry (eq k) es) < length es)
+      → cond b (Some x) (lookup_entry (eq k) es) ≡ Some e → length (cond b es (x ∷ remove_entry (eq k) es)) < length (x ∷ es)
+  fewer k x e es true rest f = omega arith
+  fewer k x e es false rest f = omega (arith, rest f)
+
+  removed_fewer : (k : K) (es : List (K × V)) (e : K × V) → lookup_entry (eq k) es ≡ Some e → length (remove_entry (eq k) es) < length es
+  removed_fewer k [] e f = absurd (cc)
+  removed_fewer k (x ∷ es) e f = fewer k x e es (eq k x.0) (removed_fewer k es e) f
+
+  -- and where none is found none goes
+  stay : (k : K) (x : K × V) (es : List (K × V)) (b : Bool) → (lookup_entry (eq k) es ≡ None → remove_entry (eq k) es ≡ es)
+      → cond b (Some x) (lookup_entry (eq k) es) ≡ None → cond b es (x ∷ remove_entry (eq k) es) ≡ x ∷ es
+  stay k x es true rest f = absurd (cc)
+  stay k x es false rest f = ap (λ (ys : List (K × V)). x ∷ ys) (rest f)
+
+  removed_none : (k : K) (es : List (K × V)) → lookup_entry (eq k) es ≡ None → remove_entry (eq k) es ≡ es
+  removed_none k [] f = refl
+  removed_none k (x ∷ es) f = stay k x es (eq k x.0) (removed_none k es) f
+
+  -- where no key stands twice, without the entry of a key there is none of that key
+  none_of_key : (k x : K) (es : List (K × V)) → eq k x ≡ true → AllByRecursion (λ y. eq x y ≡ false) (keys_of es) → filter (λ e. not (eq k e.0)) es ≡ es
+  none_of_key k x [] h all = refl
+  none_of_key k x (e ∷ es) h all =
+      let other : eq k e.0 ≡ false = laws.congr k x e.0 h ∙ all.0 in
+      rw other (ap (λ (ys : List (K × V)). e ∷ ys) (none_of_key k x es h all.1))
+
+  one_of_key : (k : K) (x : K × V) (es : List (K × V)) (b : Bool) → eq k x.0 ≡ b → AllByRecursion (λ y. eq x.0 y ≡ false) (keys_of es)
+      → remove_entry (eq k) es ≡ filter (λ e. not (eq k e.0)) es
+      → cond b es (x ∷ remove_entry (eq k) es) ≡ cond (not b) (x ∷ filter (λ e. not (eq k e.0)) es) (filter (λ e. not (eq k e.0)) es)
+  one_of_key k x es true h all rest = sym (none_of_key k x.0 es h all)
+  one_of_key k x es false h all rest = ap (λ (ys : List (K × V)). x ∷ ys) rest
+
+  pub remove-filter : (k : K) (es : List (K × V)) → IsDistinct eq (keys_of es) → remove_entry (eq k) es ≡ filter (λ e. not (eq k e.0)) es
+  unfolding IsDistinct
+  remove-filter k [] d = refl
+  remove-filter k (x ∷ es) d = one_of_key k x es (eq k x.0) refl d.0 (remove-filter k es d.1)
+
+  -- what is put goes first, and of the others one fewer stay than there is room for
+  put_first_at : (k : K) (v : V) (es : List (K × V)) (others : ℕ) → length es ≤ others + 1 → (o : Option (K × V)) → lookup_entry (eq k) es ≡ o
+      → option_map_or (λ e. (e.0, v) ∷ remove_entry (eq k) es) o ((k, v) ∷ take others es) ≡ (k, v) ∷ take others (remove_entry (eq k) es)
+  put_first_at k v es others le None f = ap (λ (rest : List (K × V)). (k, v) ∷ take others rest) (sym (removed_none k es f))
+  put_first_at k v es others le (Some e) f =
+      let same : e.0 ≡ k = sym (same_key k e.0 (Contains-lookup_entry (eq k) es e f).1) in
+      let few : length (remove_entry (eq k) es) ≤ others = omega (arith, removed_fewer k es e f) in
+      rw same (ap (λ (rest : List (K × V)). (k, v) ∷ rest) (sym (take_all others (remove_entry (eq k) es) few)))
+
+  pub put_first : (k : K) (v : V) (c : LruCache K V) (others : ℕ) → length c.entries ≤ c.cap → c.cap ≡ others + 1
+      → put_entries eq c k v ≡ (k, v) ∷ take others (remove_entry (eq k) c.entries)
+  put_first k v c others le room =
+      let one_fewer : c.cap - 1 ≡ others = omega (arith, room) in
+      rw one_fewer (put_first_at k v c.entries others (omega (arith, le, room)) (lookup_entry (eq k) c.entries) refl)
 
   -- after a removal the key is dropped, and no other
   pub removed_drops : (k : K) (es : List (K × V)) → IsDistinct eq (keys_of es) → DropsCovered (answers es) (λ q. eq q k) (answers (remove_entry (eq k) es))
@@ -117,7 +170,7 @@ module _ {K V : Type 0} (eq : K → K → Bool) (laws : IsEquivalence eq) (same_
   put_at k v es cap d le pos None f = put_new k v es cap d le pos (drop (cap - 1) es) refl
   put_at k v es cap d le pos (Some e) f = put_there k v es d e f
 
-  nothing : (o : Option V) → (IsSome o → ⊥) → o ≡ None
+  pub nothing : (o : Option V) → (IsSome o → ⊥) → o ≡ None
   nothing None none = refl
   nothing (Some v) none = absurd (none refl)
 

@@ -7,5 +7,6 @@ pub mod Paths
 pub mod Located
 pub mod Laws
 pub mod Contents
+pub mod Orders
 pub mod Cached
 pub mod CacheLaws

@@ -1,7 +1,8 @@
 -- The path of a device id through the directory: it finds a context, or stops with a cause (IOMMU specification, sections 2.1 and
 -- 2.3.1, "Process to locate the Device-context").
-use Rattle.std.specs.Prelude.{◌≡◌, ℕ, zero, suc, ◌+◌, ◌*◌, ◌^◌, ◌<◌, ◌≤◌, ◌⊎◌, List, Option, Some, None}
-use Rattle.iom_base.specs.Sizes.{page_size, entry_size}
+use Rattle.std.specs.Prelude.{◌≡◌, ℕ, zero, suc, ◌+◌, ◌*◌, ◌^◌, ◌<◌, ◌≤◌, ◌⊎◌, nat_lt, Bool, true, List, Option, Some, None}
+use Rattle.iom_base.specs.Sizes.{page_size}
+use Rattle.iom_base.specs.Tables.{entry_size}
 use Rattle.iom_base.specs.declared.cause.Cause.{Cause}
 use Rattle.iom_base.specs.declared.cause.Cause.TheVariants.{AllInboundDisallowed, DirectoryLoadFault, TransactionTypeDisallowed}
 use Rattle.iom_phys_mem.specs.Words.{word_at}
@@ -86,6 +87,14 @@ abbrev pub ids_below : ℕ → ℕ
 ids_below zero = 2 ^ 7
 ids_below (suc zero) = 2 ^ 16
 ids_below (suc (suc level)) = 2 ^ 24
+
+-- whether the id is as wide at most as the levels that there are, by ddtp's mode. Where there is no directory each id is
+abbrev pub fits_directory : DirectoryMode → ℕ → Bool
+fits_directory Off id = true
+fits_directory Bare id = true
+fits_directory OneLevel id = nat_lt id (ids_below 0)
+fits_directory TwoLevels id = nat_lt id (ids_below 1)
+fits_directory ThreeLevels id = nat_lt id (ids_below 2)
 
 -- in a directory whose root has this level the id's path finds a context
 abbrev pub FindsFromLevel : ℕ → List (List ℕ) → ℕ → ℕ → Context → Type 0

@@ -21,14 +21,16 @@ pub struct DirCache {
 }
 
 impl DirCache {
-    ghost use Rattle.std.specs.Prelude.{◌==◌, ◌≢◌, ◌↔◌, true, None, Some, IfOk, IfSome, IsSome};
+    ghost use Rattle.std.specs.Prelude.{◌==◌, ◌↔◌, [], true, Some, IfOk, IfSome, IsSome};
     ghost use Rattle.iom_device_dir.specs.Contents.{IsEmptyContent, LooksUp, KeepsOne, DropsCovered};
-    ghost use Rattle.iom_device_dir.specs.Cached.{cached_contexts, last_in};
+    ghost use Rattle.iom_device_dir.specs.Orders.{without, after_look, KeepsInOrder};
+    ghost use Rattle.iom_device_dir.specs.Cached.{contexts_in_order, cached_contexts, last_in};
 
     /// A cache of nothing, or the want of memory.
-    #[tactic(auto, unfolding(crate::specs::Cached::cached_contexts))]
+    #[tactic(auto, unfolding(crate::specs::Cached::cached_contexts, crate::specs::Cached::contexts_in_order))]
     pub fn new(alloc: Global) -> Result<DirCache, AllocError>
-        ensures { IfOk result (λ cache. IsEmptyContent (cached_contexts cache)) }
+        ensures empty { IfOk result (λ cache. IsEmptyContent (cached_contexts cache)) }
+        ensures order { IfOk result (λ cache. contexts_in_order cache ≡ []) }
     {
         let capacity = NonZeroUsize::new(CACHED_CONTEXTS).unwrap();
         Ok(DirCache {
@@ -39,7 +41,7 @@ impl DirCache {
     /// The context of the device, where of those that are cached it was the last that was looked at or kept: then it
     /// stands where a look would put it. None where another one was, though one may be cached for the device.
     #[inline(always)]
-    #[tactic(auto, unfolding(crate::specs::Cached::cached_contexts, crate::specs::Cached::last_in))]
+    #[tactic(auto, unfolding(crate::specs::Cached::cached_contexts, crate::specs::Cached::contexts_in_order, crate::specs::Cached::last_in))]
     pub fn last_used(&self, id: DeviceId) -> Option<&Context>
         ensures cached { IfSome result (λ context. cached_contexts self.now id ≡ Some context.now) }
         ensures last { IsSome result ↔ (last_in self.now ≡ Some id) }
@@ -51,13 +53,11 @@ impl DirCache {
     /// The context that is cached for the device, by a search.
     // On its own, so that the look at the last one is short enough to be written into its callers.
     #[inline(never)]
-    #[tactic(auto, using(crate::proofs::CachedIds::looked), unfolding(crate::specs::Cached::cached_contexts))]
+    #[tactic(auto, using(crate::proofs::CachedIds::looked), unfolding(crate::specs::Cached::cached_contexts, crate::specs::Cached::contexts_in_order))]
     fn search(&mut self, id: DeviceId) -> Option<Context>
         ensures looked { LooksUp (cached_contexts self.old) id result (cached_contexts self.new) }
-        ensures last { IsSome result → last_in self.new ≡ Some id }
-        ensures stays { result ≡ None → last_in self.new ≡ last_in self.old }
+        ensures order { contexts_in_order self.new ≡ after_look id (contexts_in_order self.old) }
     {
-        // Its contract says that the keys are distinct, here and below.
         let _ = self.contexts.len();
         let found = self.contexts.peek(&id).copied();
         self.contexts.promote(&id);
@@ -69,9 +69,10 @@ impl DirCache {
     #[inline(always)]
     pub fn look(&mut self, id: DeviceId) -> Option<Context>
         ensures looked { LooksUp (cached_contexts self.old) id result (cached_contexts self.new) }
-        ensures last { IsSome result → last_in self.new ≡ Some id }
-        ensures stays { result ≡ None → last_in self.new ≡ last_in self.old }
+        ensures order { contexts_in_order self.new ≡ after_look id (contexts_in_order self.old) }
     {
+        // Its contract says that the keys are distinct, here, above and below.
+        let _ = self.contexts.len();
         // A device that makes one request after another is found without a search.
         if let Some(context) = self.last_used(id) {
             return Some(*context);
@@ -79,31 +80,33 @@ impl DirCache {
         self.search(id)
     }
 
-    /// Caches the context for the device. At most one other goes. Where none is cached for it yet, and there is
-    /// no memory for it, nothing changes and nobody is told: the next look finds none.
+    /// Caches the context for the device, in place of its old one. Of the others all stay, or where sixteen are
+    /// cached and the device has none, all but the one that was looked at or kept the longest ago. Where none is
+    /// cached for the device yet, and there is no memory for it, nothing changes and nobody is told: the next look
+    /// finds none.
     pub fn keep(&mut self, id: DeviceId, context: Context)
         ensures kept { KeepsOne (cached_contexts self.old) id context (cached_contexts self.new) }
-        ensures last { IsSome (cached_contexts self.new id) → last_in self.new ≡ Some id }
-        ensures stays { cached_contexts self.new id ≡ None → last_in self.new ≡ last_in self.old }
+        ensures order { KeepsInOrder (contexts_in_order self.old) id context (contexts_in_order self.new) }
     {
         let _ = self.contexts.len();
         let _ = self.contexts.put(id, context);
     }
 
     /// Drops the context of the device alone (IODIR.INVAL_DDT with DV).
-    #[tactic(auto, using(crate::proofs::CachedIds::dropped), unfolding(crate::specs::Cached::cached_contexts))]
+    #[tactic(auto, using(crate::proofs::CachedIds::dropped), unfolding(crate::specs::Cached::cached_contexts, crate::specs::Cached::contexts_in_order))]
     pub fn drop_one(&mut self, id: DeviceId)
         ensures dropped { DropsCovered (cached_contexts self.old) (λ key. key == id) (cached_contexts self.new) }
-        ensures stays { last_in self.old ≢ Some id → last_in self.new ≡ last_in self.old }
+        ensures order { contexts_in_order self.new ≡ without id (contexts_in_order self.old) }
     {
         let _ = self.contexts.len();
         self.contexts.pop(&id);
     }
 
     /// Drops the contexts of all devices (IODIR.INVAL_DDT without DV).
-    #[tactic(auto, unfolding(crate::specs::Cached::cached_contexts))]
+    #[tactic(auto, unfolding(crate::specs::Cached::cached_contexts, crate::specs::Cached::contexts_in_order))]
     pub fn drop_all(&mut self)
-        ensures { DropsCovered (cached_contexts self.old) (λ key. true) (cached_contexts self.new) }
+        ensures dropped { DropsCovered (cached_contexts self.old) (λ key. true) (cached_contexts self.new) }
+        ensures order { contexts_in_order self.new ≡ [] }
     {
         self.contexts.clear();
     }

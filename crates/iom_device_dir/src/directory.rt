@@ -3,7 +3,7 @@ ghost use Rattle.iom_base.specs.declared.cause.Cause.{Cause};
 ghost use Rattle.iom_phys_mem.specs.Words.{word_at};
 ghost use Rattle.iom_registers.specs.declared.directory.DirectoryMode.TheVariants.{Bare};
 ghost use Rattle.iom_device_dir.specs.declared.context.Context.{Context};
-ghost use Rattle.iom_device_dir.specs.Paths.{entry_place, context_words_at, FindsContext, StopsLocating};
+ghost use Rattle.iom_device_dir.specs.Paths.{entry_place, context_words_at, fits_directory, FindsContext, StopsLocating};
 ghost use Rattle.iom_device_dir.specs.Located.{loaded_entry, path_end_from, located_by_mode, located_context};
 
 use crate::context::{CONTEXT_SIZE, Context};
@@ -74,6 +74,20 @@ fn from_top<B: Bytes>(memory: &B, page: Ppn, id: DeviceId) -> Result<Context, Ca
     from_middle(memory, entry.next, id)
 }
 
+/// Whether the id is as wide at most as the levels of the directory are: with one it has no DDI[1] and no DDI[2], with
+/// two no DDI[2]. Where there is no directory each id is.
+#[inline(always)]
+pub fn fits_directory(mode: DirectoryMode, id: DeviceId) -> bool
+    ensures { result ≡ fits_directory mode id }
+{
+    match mode {
+        DirectoryMode::Off | DirectoryMode::Bare => true,
+        DirectoryMode::OneLevel => id < 1 << 7,
+        DirectoryMode::TwoLevels => id < 1 << 16,
+        DirectoryMode::ThreeLevels => id < 1 << 24,
+    }
+}
+
 /// Where the path of the id ends, by the levels that the mode gives the directory.
 #[tactic(auto, unfolding(crate::specs::Located::located_by_mode))]
 fn follow<B: Bytes>(
@@ -85,15 +99,15 @@ fn follow<B: Bytes>(
     requires { mode ≢ Bare }
     ensures { result ≡ located_by_mode mode (B.frames_of memory.now) root.number id }
 {
+    if !fits_directory(mode, id) {
+        return Err(Cause::TransactionTypeDisallowed);
+    }
     match mode {
         DirectoryMode::Off => Err(Cause::AllInboundDisallowed),
         DirectoryMode::Bare => unreachable!(),
-        DirectoryMode::OneLevel if id < 1 << 7 => from_contexts(memory, root, id),
-        DirectoryMode::TwoLevels if id < 1 << 16 => from_middle(memory, root, id),
-        DirectoryMode::ThreeLevels if id < 1 << 24 => from_top(memory, root, id),
-        DirectoryMode::OneLevel | DirectoryMode::TwoLevels | DirectoryMode::ThreeLevels => {
-            Err(Cause::TransactionTypeDisallowed)
-        }
+        DirectoryMode::OneLevel => from_contexts(memory, root, id),
+        DirectoryMode::TwoLevels => from_middle(memory, root, id),
+        DirectoryMode::ThreeLevels => from_top(memory, root, id),
     }
 }
 

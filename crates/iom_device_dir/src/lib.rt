@@ -21,7 +21,7 @@ mod words;
 
 pub use cache::DirCache;
 pub use context::{CONTEXT_SIZE, Context};
-pub use directory::locate;
+pub use directory::{fits_directory, locate};
 pub use entry::NonLeafEntry;
 pub use stages::{FirstStage, SecondStage};
 pub use values::{GuestRoot, Pscid};

@@ -109,6 +109,15 @@ pub page_left : (old now : List (List ℕ)) (top root id : ℕ) (pages : List �
 page_left old now top root id pages context level page used h named =
     let count : length pages ≡ used + suc level = h.count ∙ ap (λ n. used + n) (missing_at now level page id None named) in omega (arith, count)
 
+-- and that one is zero
+pub next_zero : (old now : List (List ℕ)) (top root id : ℕ) (pages : List ℕ) (context : Context) (n page used : ℕ) → 1 < n → Hung old now top root id pages context (n - 1) page used
+    → next_page now page (n - 1) id ≡ None → slice_get now (slice_index pages used) ≡ Some zeroed
+next_zero old now top root id pages context n page used lt h named =
+    let up : n - 1 ≡ suc (n - 1 - 1) = omega (arith, lt) in
+    h.zero used (omega arith)
+    (page_left old now top root id pages context (n - 1 - 1) page used (subst (λ l. Hung old now top root id pages context l page used) up h)
+    (subst (λ l. next_page now page l id ≡ None) up named))
+
 pub page_inside : (old now : List (List ℕ)) (top root id : ℕ) (pages : List ℕ) (context : Context) (level page used : ℕ) → id < ids_below top → Hung old now top root id pages context level page used → page < length now
 page_inside old now top root id pages context level page used in_range h = h.directory.inside page (level, id, h.within, in_range, h.at)
 

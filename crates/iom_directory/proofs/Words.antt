@@ -134,6 +134,17 @@ pub zeros_found : loaded_context (four_context_words (Some 0) (Some 0) (Some 0) 
 unfolding decoded_context
 zeros_found = refl
 
+-- three words of a context are stored: with its first word it is there
+pub others_stand : (zeroth first second third : List (List ℕ)) (place tc iohgatp ta fsc : ℕ) (found : Result Context Cause)
+    → Stores zeroth first (place + 24) fsc → Stores first second (place + 16) ta → Stores second third (place + 8) iohgatp
+    → loaded_context (four_context_words (Some tc) (Some iohgatp) (Some ta) (Some fsc)) ≡ found
+    → loaded_context (four_context_words (Some tc) (word_at 8 third (place + 8)) (word_at 8 third (place + 16)) (word_at 8 third (place + 24))) ≡ found
+others_stand zeroth first second third place tc iohgatp ta fsc found u v w words =
+    let last : word_at 8 third (place + 24) ≡ Some fsc =
+    w.elsewhere (place + 24) (λ e. omega (arith, e)) ∙ v.elsewhere (place + 24) (λ e. omega (arith, e)) ∙ u.here in
+    let before : word_at 8 third (place + 16) ≡ Some ta = w.elsewhere (place + 16) (λ e. omega (arith, e)) ∙ v.here in
+    rw (w.here, before, last) words
+
 -- a context is written, its first word last
 pub context_written : (zeroth first second third fourth : List (List ℕ)) (place page id tc iohgatp ta fsc : ℕ) (found : Result Context Cause) → place ≡ context_place page (ddi 0 id)
     → Stores zeroth first (place + 24) fsc → Stores first second (place + 16) ta → Stores second third (place + 8) iohgatp → Stores third fourth place tc

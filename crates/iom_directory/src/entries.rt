@@ -1,7 +1,7 @@
 // Entries and contexts, in a page of the directory.
-ghost use Rattle.std.specs.Prelude.{◌≡◌, ◌<◌, ◌≤◌, ◌^◌, [], ◌∷◌, length, Some, IfSome, Ok, Err};
+ghost use Rattle.std.specs.Prelude.{◌≡◌, ◌+◌, ◌<◌, ◌≤◌, ◌^◌, [], ◌∷◌, length, slice_get, Some, IfSome, Ok, Err};
 ghost use Rattle.iom_base.specs.declared.cause.Cause.TheVariants.{DirectoryEntryNotValid};
-ghost use Rattle.iom_phys_mem.specs.Words.{IsPlace, with_word};
+ghost use Rattle.iom_phys_mem.specs.Words.{IsPlace, word_at, with_word, zeroed};
 ghost use Rattle.iom_device_dir.specs.Words.{context_word};
 ghost use Rattle.iom_device_dir.specs.Paths.{ddi, entry_place, four_context_words};
 ghost use Rattle.iom_device_dir.specs.Located.{loaded_context};
@@ -50,11 +50,13 @@ fn put_word<B: Bytes>(memory: &mut B, address: u64, word: u64)
     let _stored = memory.store_u64(address, word);
 }
 
-/// Writes the id's entry in a page of a level above 0: it names the next page.
+/// Writes the id's entry in a page of a level above 0: it names the next page. The IOMMU may follow it from then
+/// on: that page is zero already.
 pub(crate) fn put_entry<B: Bytes>(memory: &mut B, page: u64, level: u8, id: DeviceId, next: u32)
     requires page { page < length (B.frames_of memory.old) }
     requires small { page < 2 ^ 44 }
     requires level { level ≤ 2 }
+    requires zero { slice_get (B.frames_of memory.old) next ≡ Some zeroed }
     ensures stores { Stores (B.frames_of memory.old) (B.frames_of memory.new) (entry_place page (ddi level id)) (entry_word next) }
     ensures whole { B.frames_of memory.new ≡ with_entry_at (B.frames_of memory.old) page level id next }
 {
@@ -94,6 +96,30 @@ fn words_of(context: Context) -> [u64; 4]
     words_of_bytes(&context.encode())
 }
 
+/// Stores the first word of a context, which makes it valid. The IOMMU may load the context from then on: its other
+/// words stand already, so that what it loads is this context.
+fn make_valid<B: Bytes>(memory: &mut B, place: u64, word: u64, context: &Context)
+    requires place { IsPlace 8 (B.frames_of memory.old) place }
+    requires others { let old = B.frames_of memory.old in
+        loaded_context (four_context_words (Some word) (word_at 8 old (place + 8)) (word_at 8 old (place + 16)) (word_at 8 old (place + 24)))
+        ≡ Ok context.now }
+    ensures stores { Stores (B.frames_of memory.old) (B.frames_of memory.new) place word }
+    ensures whole { B.frames_of memory.new ≡ with_word 8 (B.frames_of memory.old) place word }
+{
+    put_word(memory, place, word);
+}
+
+/// Clears a word of the context at a place, behind its first. That one is zero already, so that the IOMMU finds no
+/// context there.
+fn clear_behind<B: Bytes>(memory: &mut B, place: u64, address: u64)
+    requires place { IsPlace 8 (B.frames_of memory.old) address }
+    requires invalid { word_at 8 (B.frames_of memory.old) place ≡ Some 0 }
+    ensures stores { Stores (B.frames_of memory.old) (B.frames_of memory.new) address 0 }
+    ensures whole { B.frames_of memory.new ≡ with_word 8 (B.frames_of memory.old) address 0 }
+{
+    put_word(memory, address, 0);
+}
+
 /// Writes the context of the id in a page of level 0. The word that makes it valid is stored last.
 pub(crate) fn write_context<B: Bytes>(memory: &mut B, page: u64, id: DeviceId, context: Context)
     requires page { page < length (B.frames_of memory.old) }
@@ -106,7 +132,7 @@ pub(crate) fn write_context<B: Bytes>(memory: &mut B, page: u64, id: DeviceId, c
     put_word(memory, place + 24, fsc);
     put_word(memory, place + 16, ta);
     put_word(memory, place + 8, iohgatp);
-    put_word(memory, place, tc);
+    make_valid(memory, place, tc, &context);
 }
 
 /// Clears the place of the id's context in a page of level 0. The word that makes it invalid is stored first.
@@ -118,7 +144,7 @@ pub(crate) fn erase_context<B: Bytes>(memory: &mut B, page: u64, id: DeviceId)
 {
     let place = context_place(page, id);
     put_word(memory, place, 0);
-    put_word(memory, place + 8, 0);
-    put_word(memory, place + 16, 0);
-    put_word(memory, place + 24, 0);
+    clear_behind(memory, place, place + 8);
+    clear_behind(memory, place, place + 16);
+    clear_behind(memory, place, place + 24);
 }

@@ -100,6 +100,9 @@ module _ (d : DriverState) (frames : ℕ) (memory : List (List ℕ)) (id count :
   taken_zero f here = zero_among (pages ++ roots) memory
       (all_among (λ n. n < length memory) (pages ++ roots) (λ n at. subst (λ m. n < m) (sym may.size) (taken_inside d.marks d.ledger frames count pages roots may.taken n at))) f here
 
+  pub roots_zero : (f : ℕ) → Among f roots → slice_get between f ≡ Some zeroed
+  roots_zero f here = taken_zero f (among_right f pages roots here)
+
   pub fresh : AreFresh between (root_level d.levels) (directory_frame frames) pages
   fresh = record {
     zero = λ k d lt. taken_zero (get_or pages k d) (among_left (get_or pages k d) pages roots (among_get pages k d lt));

@@ -15,17 +15,17 @@ use Rattle.iom_driver.specs.declared.device.Stages.{Stages}
 use Rattle.iom_driver.specs.Admitted.{IsAligned}
 use Rattle.iom_driver.specs.Attaching.{root_frames}
 use Rattle.iom_driver.specs.Devices.{owned_stages, is_plugged, with_attachment}
+use Rattle.iom_driver.specs.Orders.{MapsNothing}
 use Rattle.iom_driver.specs.Tables.{AreTablesOf, HaveTables, leaf_for}
 use Rattle.iom_driver.proofs.Keeps.{set_or_other}
 use Rattle.iom_driver.proofs.Marks.{Among}
 use Rattle.iom_driver.proofs.Modes.{rest, root_in, table_of, frames_are, rest_differs}
 use Rattle.iom_driver.proofs.Stays.{tables_stay}
 
--- the root of a device that holds nothing is zero
-tables_new : (memory : List (List ℕ)) (marks : List (Option Owner)) (ledger : Ledger) (id : ℕ) (mode : Mode) (root : ℕ) → IsAligned mode root
-    → ((f : ℕ) → Among f (root ∷ rest mode root) → slice_get memory f ≡ Some zeroed) → ((f : ℕ) → Among f (root ∷ rest mode root) → slice_get marks f ≡ Some (Some (OneDevice id)))
-    → ((page : ℕ) → held_in ledger id page ≡ None) → AreTablesOf memory marks ledger id mode root
-tables_new memory marks ledger id mode root aligned cleared marked none =
+-- a root that is zero maps nothing
+pub zeroed_maps_nothing : (memory : List (List ℕ)) (mode : Mode) (root : ℕ) → IsAligned mode root → ((f : ℕ) → Among f (root ∷ rest mode root) → slice_get memory f ≡ Some zeroed)
+    → MapsNothing mode memory root
+zeroed_maps_nothing memory mode root aligned cleared =
     let zero : slice_get memory root ≡ Some zeroed = cleared root (inl refl) in
     record {
       tree = root_in mode memory root record {
@@ -34,11 +34,23 @@ tables_new memory marks ledger id mode root aligned cleared marked none =
         apart = λ f at here. rest_differs mode root f here ((zeroed_frames memory root zero f).0 at);
         aligned = aligned;
       };
+      leaves = λ page low. zeroed_leaves memory root zero page;
+    }
+
+-- the root of a device that holds nothing is zero
+tables_new : (memory : List (List ℕ)) (marks : List (Option Owner)) (ledger : Ledger) (id : ℕ) (mode : Mode) (root : ℕ) → IsAligned mode root
+    → ((f : ℕ) → Among f (root ∷ rest mode root) → slice_get memory f ≡ Some zeroed) → ((f : ℕ) → Among f (root ∷ rest mode root) → slice_get marks f ≡ Some (Some (OneDevice id)))
+    → ((page : ℕ) → held_in ledger id page ≡ None) → AreTablesOf memory marks ledger id mode root
+tables_new memory marks ledger id mode root aligned cleared marked none =
+    let zero : slice_get memory root ≡ Some zeroed = cleared root (inl refl) in
+    let new = zeroed_maps_nothing memory mode root aligned cleared in
+    record {
+      tree = new.tree;
       own = λ f at. elim (table_of mode memory root f at) [
         | inl now ↦ ap (λ n. slice_get marks n) ((zeroed_frames memory root zero f).0 now) ∙ marked root (inl refl)
         | inr here ↦ marked f (inr here)
       ];
-      leaves = λ page low. zeroed_leaves memory root zero page ∙ ap (option_map leaf_for) (sym (none page));
+      leaves = λ page low. new.leaves page low ∙ ap (option_map leaf_for) (sym (none page));
     }
 
 -- the tables of all devices, where one more has a zeroed root, and what is another device's stays

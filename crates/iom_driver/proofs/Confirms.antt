@@ -4,10 +4,10 @@ use Rattle.std.proofs.lemmas.Bool.{eqb-true, lt-ltb, le-ltb, le-leb, lt-leb, and
 use Rattle.std.proofs.lemmas.Bool.Decides.{nat_tests}
 use Rattle.iom_ledger.specs.declared.entry.HistoryEntry.TheVariants.{Confirmed}
 use Rattle.iom_ledger.specs.declared.ledger.Ledger.{Ledger}
-use Rattle.iom_ledger.specs.History.{History, Pair}
+use Rattle.iom_ledger.specs.History.{History, Pair, confirmed_from}
 use Rattle.iom_ledger.specs.Shown.{Agrees}
 use Rattle.iom_ledger.specs.Changes.{ShowsConfirmation, unless_under}
-use Rattle.iom_ledger.specs.Confirmations.{confirmed_from, is_among_next, unless_among, ConfirmsFrom}
+use Rattle.iom_ledger.specs.Confirmations.{is_among_next, unless_among, ConfirmsFrom}
 
 -- tickets within the row, below it and above it
 pub among_yes : (first n t : ℕ) → first ≤ t → t < first + n → is_among_next first n t ≡ true

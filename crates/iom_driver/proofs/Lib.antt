@@ -32,3 +32,4 @@ pub mod Again
 pub mod AppendLists
 pub mod Unmaps
 pub mod CuttingOff
+pub mod Orders

@@ -4,7 +4,7 @@ use Rattle.iom_base.specs.declared.mode.Mode.{Mode}
 use Rattle.iom_base.specs.declared.mode.Mode.TheVariants.{First, Second, Both}
 use Rattle.iom_base.specs.Sizes.{page_limit}
 use Rattle.iom_command_queue.specs.Waiting.{how_many}
-use Rattle.iom_ledger.specs.Pending.{pending_limit}
+use Rattle.iom_ledger.specs.History.{pending_limit}
 use Rattle.iom_ledger.specs.Shown.{held_in, lingering_in}
 use Rattle.iom_registers.specs.declared.registers.Registers.{Registers}
 use Rattle.iom_table_frames.specs.Marks.{is_marked}

@@ -7,6 +7,7 @@ pub mod Sound
 pub mod Seen
 pub mod Tables
 pub mod Directory
+pub mod Orders
 pub mod Confirmed
 pub mod Ready
 pub mod ReadyIsFact

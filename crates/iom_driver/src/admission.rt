@@ -11,11 +11,11 @@ ghost use Rattle.iom_driver.specs.Places.{IsPlaceOf};
 ghost use Rattle.iom_driver.specs.Reasons.{release_places, why_not_attach, why_not_attached, why_not_grant, why_not_release, why_not_detach, why_not_quarantine, why_not_revive, HasGrants};
 ghost use Rattle.iom_driver.specs.Seen.{state_of};
 
-use crate::access::lacks_places;
 use crate::device::{Attachment, Stages};
 use crate::driver::Driver;
 use crate::layout::id_limit;
 use crate::lookups::place_of;
+use crate::room::lacks_places;
 use iom_base::{DeviceId, PAGE_LIMIT};
 use iom_ledger::{MAX_PENDING, Refusal};
 use iom_registers::Mmio;

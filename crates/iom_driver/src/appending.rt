@@ -1,17 +1,21 @@
 // The commands of a release, of a detach or a quarantine, and of a restart. Those of a release are made in place, so that the constant parts of
 // their words are known when it is compiled.
-ghost use Rattle.std.specs.Prelude.{◌≡◌, ◌+◌, ◌*◌, ◌/◌, ◌%◌, ◌<◌, ◌≤◌, ◌^◌, ◌≢◌, ◌∷◌, [], ℕ, true, Some, length, slice_get, if◌then◌else◌};
+ghost use Rattle.std.specs.Prelude.{◌≡◌, ◌+◌, ◌*◌, ◌/◌, ◌%◌, ◌<◌, ◌≤◌, ◌^◌, ◌≢◌, ◌∷◌, [], ℕ, true, None, Some, length, slice_get, if◌then◌else◌};
 ghost use Rattle.iom_command_queue.specs.declared.command.Command.TheVariants.{AtsInval};
 ghost use Rattle.iom_command_queue.specs.Waiting.{how_many};
+ghost use Rattle.iom_page_table.specs.Leaves.{leaf_of};
+ghost use Rattle.iom_stage_walk.specs.Paths.{first_levels};
 ghost use Rattle.iom_driver.specs.Appends.{invalidation_of, invalidation, space_invalidation, context_invalidation, dropped_range, device_invalidation, fence};
 ghost use Rattle.iom_driver.specs.Appends.{release_commands, detach_commands, Appends, AppendsAll};
 ghost use Rattle.iom_driver.specs.Restarts.{device_reset, requeued, IsNamable};
-ghost use Rattle.iom_driver.specs.Layout.{command_frame, completion_address, queue_entries};
+ghost use Rattle.iom_driver.specs.Layout.{command_frame, completion_address, directory_frame, queue_entries};
+ghost use Rattle.iom_driver.specs.Orders.{IsCutOff};
 ghost use Rattle.iom_driver.specs.Directory.{KeepsDirectory};
 ghost use Rattle.iom_driver.specs.Ready.{IsRing, KeepsFaults};
 ghost use Rattle.iom_driver.specs.Reasons.{release_places};
 
 use crate::device::{Device, Stages};
+use crate::driver::Driver;
 use crate::layout::completion_address;
 use iom_base::{DeviceId, Mode};
 use iom_command_queue::{
@@ -154,7 +158,8 @@ fn append_device_invalidation<M: Mmio>(
 }
 
 /// Appends the commands of a release: the invalidation of its page, where the device has ATS the one that asks
-/// it to drop its own translations, and the fence of this number.
+/// it to drop its own translations, and the fence of this number. The page has no leaf any more by then: the
+/// IOMMU could else load it again once it has done the invalidation.
 #[inline(always)]
 pub(crate) fn append_release<M: Mmio>(
     memory: &mut Memory,
@@ -172,6 +177,7 @@ pub(crate) fn append_release<M: Mmio>(
     requires id { id < 2 ^ 24 }
     requires number { stage.number < 2 ^ 16 }
     requires page { page < 2 ^ 52 }
+    requires unmapped { leaf_of first_levels memory.old stage.root page ≡ None }
     ensures appended { let commands = release_commands id stage page (completion_address frames) number in
         AppendsAll M.Mmio memory.old io.old commands memory.new io.new }
     ensures ring { IsRing frames (M.registers io.new) }
@@ -185,33 +191,37 @@ pub(crate) fn append_release<M: Mmio>(
     append(memory, io, fence(completion_address(frames), number));
 }
 
-/// Appends the commands of a detach, or of a quarantine: the invalidations of the device's context and of its
-/// address space, and the fence of this number.
-pub(crate) fn append_detach<M: Mmio>(
-    memory: &mut Memory,
-    io: &mut M,
-    frames: u32,
-    id: DeviceId,
-    stage: Stages,
-    number: u32,
-)
-    requires frames { length memory.old ≡ frames }
-    requires many { 64 ≤ frames }
-    requires ring { IsRing frames (M.registers io.old) }
-    requires room { how_many (M.registers io.old) + 3 < queue_entries }
-    requires id { id < 2 ^ 24 }
-    requires number { stage.number < 2 ^ 16 }
-    ensures appended { let commands = detach_commands id stage (completion_address frames) number in
-        AppendsAll M.Mmio memory.old io.old commands memory.new io.new }
-    ensures ring { IsRing frames (M.registers io.new) }
-    ensures named { KeepsDirectory (M.registers io.old) (M.registers io.new) }
-    ensures faults { KeepsFaults (M.registers io.old) (M.registers io.new) }
-    ensures other_frames { (n : ℕ) → n ≢ command_frame frames → slice_get memory.new n ≡ slice_get memory.old n }
-    ensures size { length memory.new ≡ length memory.old }
-{
-    append(memory, io, context_invalidation(id));
-    append(memory, io, space_invalidation(stage.mode, stage.number));
-    append(memory, io, fence(completion_address(frames), number));
+impl Driver {
+    /// Appends the commands of a detach, or of a quarantine: the invalidations of the device's context and of its
+    /// address space, and the fence of this number. The device has no context any more by then, and its tables map
+    /// nothing: the IOMMU could else load them again once it has done the invalidations.
+    pub(crate) fn append_detach<M: Mmio>(
+        &self,
+        memory: &mut Memory,
+        io: &mut M,
+        id: DeviceId,
+        stage: Stages,
+        number: u32,
+    )
+        requires frames { length memory.old ≡ self.now.frames }
+        requires many { 64 ≤ self.now.frames }
+        requires ring { IsRing self.now.frames (M.registers io.old) }
+        requires room { how_many (M.registers io.old) + 3 < queue_entries }
+        requires id { id < 2 ^ 24 }
+        requires number { stage.number < 2 ^ 16 }
+        requires cut_off { IsCutOff memory.old self.now.levels (directory_frame self.now.frames) id stage }
+        ensures appended { let commands = detach_commands id stage (completion_address self.now.frames) number in
+            AppendsAll M.Mmio memory.old io.old commands memory.new io.new }
+        ensures ring { IsRing self.now.frames (M.registers io.new) }
+        ensures named { KeepsDirectory (M.registers io.old) (M.registers io.new) }
+        ensures faults { KeepsFaults (M.registers io.old) (M.registers io.new) }
+        ensures other_frames { (n : ℕ) → n ≢ command_frame self.now.frames → slice_get memory.new n ≡ slice_get memory.old n }
+        ensures size { length memory.new ≡ length memory.old }
+    {
+        append(memory, io, context_invalidation(id));
+        append(memory, io, space_invalidation(stage.mode, stage.number));
+        append(memory, io, fence(completion_address(self.frames), number));
+    }
 }
 
 /// Where the device has ATS, appends the command that asks it to drop all its own translations.

@@ -1,15 +1,9 @@
 // A device is attached.
-ghost use Rattle.std.specs.Prelude.{◌≡◌, ◌≤◌, ◌<◌, ◌^◌, ◌%◌, ◌⊎◌, ℕ, List, None, length, IfSome, IfNone, MatchOption};
-ghost use Rattle.iom_base.specs.PageNumbers.{page_from};
-ghost use Rattle.iom_device_dir.specs.Values.{address_space_from, guest_root_from};
-ghost use Rattle.iom_device_dir.specs.declared.stages.FirstStage.TheVariants as first;
-ghost use Rattle.iom_device_dir.specs.declared.stages.SecondStage.TheVariants as second;
+ghost use Rattle.std.specs.Prelude.{◌≡◌, ◌≤◌, ◌<◌, ◌⊎◌, ℕ, List, None, length, IfSome, IfNone, MatchOption};
 ghost use Rattle.iom_registers.specs.declared.registers.Registers.{Registers};
-ghost use Rattle.iom_driver.specs.Admitted.{IsAligned};
 ghost use Rattle.iom_driver.specs.Attaching.{AnswersAttach, IsRootBelow, NoRootBelow, TakesRoot, limit_below};
 ghost use Rattle.iom_driver.specs.Choices.{AreHighestFree};
 ghost use Rattle.iom_driver.specs.Devices.{is_used, IsLowestNumber};
-ghost use Rattle.iom_driver.specs.Directory.{context_for};
 ghost use Rattle.iom_driver.specs.Entering.{MayEnter};
 ghost use Rattle.iom_driver.specs.Places.{IsPlaceOf};
 ghost use Rattle.iom_driver.specs.Ready.{TablesStand, IsReady};
@@ -17,12 +11,12 @@ ghost use Rattle.iom_driver.specs.Seen.{state_of};
 ghost use Rattle.iom_table_frames.specs.Marks.{HasFree};
 
 use crate::choosing::{reserve_all, reserve_root};
+use crate::contexts::context_for;
 use crate::device::{Attachment, Device, Stages};
 use crate::driver::Driver;
 use crate::layout::{MAX_DEVICES, directory_frame};
 use arrayvec::ArrayVec;
-use iom_base::{DeviceId, Mode, Owner, Ppn};
-use iom_device_dir::{Context, FirstStage, GuestRoot, Pscid, SecondStage};
+use iom_base::{DeviceId, Mode, Owner};
 use iom_directory::{missing, put_context};
 use iom_ledger::Refusal;
 use iom_phys_mem::Memory;
@@ -52,61 +46,6 @@ fn lowest_number(devices: &[Device]) -> u32
         }
     }
     MAX_DEVICES as u32 + 1
-}
-
-/// A first stage with its root in this page.
-fn sv39(root: u32) -> FirstStage
-    ensures { result ≡ first.Sv39 (page_from 0 root) }
-{
-    FirstStage::Sv39(Ppn::new(u64::from(root)).unwrap())
-}
-
-/// A second stage with its root in the four frames from this one on.
-fn sv39x4(root: u32) -> SecondStage
-    requires { root % 4 ≡ 0 }
-    ensures { result ≡ second.Sv39x4 (guest_root_from root) }
-{
-    SecondStage::Sv39x4(GuestRoot::new(u64::from(root)).unwrap())
-}
-
-/// The address space of this number.
-fn space(number: u32) -> Pscid
-    requires { number < 2 ^ 20 }
-    ensures { result ≡ address_space_from 0 number }
-{
-    Pscid::new(number).unwrap()
-}
-
-/// The context of a device that is attached in these stages. In both the root of the first is the guest
-/// physical page 0.
-pub(crate) fn context_for(stages: Stages) -> Context
-    requires number { stages.number < 2 ^ 16 }
-    requires root { IsAligned stages.mode stages.root }
-    ensures { result ≡ context_for stages }
-{
-    match stages.mode {
-        Mode::First => Context {
-            en_ats: stages.ats,
-            first_stage: sv39(stages.root),
-            second_stage: SecondStage::Bare,
-            pscid: space(stages.number),
-            gscid: 0,
-        },
-        Mode::Second => Context {
-            en_ats: stages.ats,
-            first_stage: FirstStage::Bare,
-            second_stage: sv39x4(stages.root),
-            pscid: space(0),
-            gscid: stages.number as u16,
-        },
-        Mode::Both => Context {
-            en_ats: stages.ats,
-            first_stage: sv39(0),
-            second_stage: sv39x4(stages.root),
-            pscid: space(stages.number),
-            gscid: stages.number as u16,
-        },
-    }
 }
 
 /// The frames that an attach takes: pages of the directory, and the root of a device's tables, by the first
@@ -164,10 +103,10 @@ impl Driver {
         ensures ready { (r : Registers) → IsReady (state_of self.old) memory.old r → IsReady (state_of self.new) memory.new r }
     {
         let directory = directory_frame(self.frames);
-        let context = context_for(stages);
         let owner = Owner::OneDevice(id);
         reserve_all(&mut self.marks, memory, pages, Owner::System);
         reserve_root(&mut self.marks, memory, stages.mode, stages.root, owner);
+        let context = context_for(memory, stages);
         put_context(memory, self.levels, directory, id, context, pages);
         self.devices[place].attachment = Attachment::Attached(stages);
     }

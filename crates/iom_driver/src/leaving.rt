@@ -4,11 +4,10 @@ ghost use Rattle.iom_driver.specs.Ready.{IsReady};
 ghost use Rattle.iom_driver.specs.Seen.{state_of};
 
 use crate::answers::Ticket;
-use crate::appending::append_detach;
+use crate::attachments::set_attachment;
 use crate::device::Attachment;
 use crate::driver::Driver;
 use crate::layout::directory_frame;
-use crate::lookups::set_attachment;
 use iom_base::DeviceId;
 use iom_directory::clear_context;
 use iom_ledger::Refusal;
@@ -42,7 +41,7 @@ impl Driver {
         set_attachment(&mut self.devices, id, Attachment::Leaving { ticket, stage });
         let directory = directory_frame(self.frames);
         clear_context(memory, self.levels, directory, id);
-        append_detach(memory, io, self.frames, id, stage, number);
+        self.append_detach(memory, io, id, stage, number);
         Ok(Ticket(ticket))
     }
 }

@@ -30,7 +30,10 @@ mod admission;
 mod answers;
 mod appending;
 mod attaching;
+mod attachments;
+mod building;
 mod choosing;
+mod contexts;
 mod device;
 mod driver;
 mod fences;
@@ -45,6 +48,7 @@ mod quarantining;
 mod releasing;
 mod reporting;
 mod restarting;
+mod room;
 mod starting;
 
 pub use answers::{Polled, Ticket};

@@ -1,8 +1,8 @@
 // What the driver learns of its fences.
 ghost use Rattle.std.specs.Prelude.{◌≡◌, ◌+◌, ◌-◌, ◌≤◌, ◌<◌, ◌*◌, Some, length, map};
 ghost use Rattle.iom_base.specs.Sizes.{page_size};
-ghost use Rattle.iom_ledger.specs.Confirmations.{confirmed_from, ConfirmsFrom};
-ghost use Rattle.iom_ledger.specs.History.{History};
+ghost use Rattle.iom_ledger.specs.Confirmations.{ConfirmsFrom};
+ghost use Rattle.iom_ledger.specs.History.{History, confirmed_from};
 ghost use Rattle.iom_ledger.specs.Shown.{Agrees};
 ghost use Rattle.iom_phys_mem.specs.Words.{word_at};
 ghost use Rattle.iom_driver.specs.Confirmed.{once_confirmed, given_back, ClearsGone};

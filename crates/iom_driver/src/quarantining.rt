@@ -12,12 +12,11 @@ ghost use Rattle.iom_driver.specs.Revivals.{AnswersRevive};
 ghost use Rattle.iom_driver.specs.Seen.{state_of};
 
 use crate::answers::Ticket;
-use crate::appending::append_detach;
-use crate::attaching::context_for;
+use crate::attachments::set_attachment;
+use crate::contexts::context_for;
 use crate::device::Attachment;
 use crate::driver::Driver;
 use crate::layout::directory_frame;
-use crate::lookups::set_attachment;
 use iom_base::DeviceId;
 use iom_directory::{clear_context, put_context};
 use iom_ledger::{Ledger, Refusal};
@@ -79,7 +78,7 @@ impl Driver {
             id,
             Attachment::Quarantined { ticket, stage },
         );
-        append_detach(memory, io, self.frames, id, stage, number);
+        self.append_detach(memory, io, id, stage, number);
         Ok(Ticket(ticket))
     }
 
@@ -108,7 +107,8 @@ impl Driver {
             Err(why) => return Err(why),
         };
         let directory = directory_frame(self.frames);
-        put_context(memory, self.levels, directory, id, context_for(stage), &[]);
+        let context = context_for(memory, stage);
+        put_context(memory, self.levels, directory, id, context, &[]);
         set_attachment(&mut self.devices, id, Attachment::Attached(stage));
         Ok(())
     }

@@ -1,7 +1,9 @@
 // The IOMMU is told where its structures are, and its queues are turned on.
-ghost use Rattle.std.specs.Prelude.{◌≡◌, ◌<◌, length, false, slice_set};
+ghost use Rattle.std.specs.Prelude.{◌≡◌, ◌<◌, ◌≤◌, length, false, Some, slice_get, slice_set};
 ghost use Rattle.iom_phys_mem.specs.Words.{zeroed};
+ghost use Rattle.iom_registers.specs.declared.register.Register.TheVariants.{Ddtp};
 ghost use Rattle.iom_driver.specs.Calls.{Starts, IsOff};
+ghost use Rattle.iom_driver.specs.Layout.{directory_frame, ddtp_of};
 ghost use Rattle.iom_driver.specs.Ready.{IsReady};
 ghost use Rattle.iom_driver.specs.Seen.{state_of};
 
@@ -25,6 +27,16 @@ fn clear(memory: &mut Memory, frame: u32)
     }
 }
 
+/// Tells the IOMMU where the device directory is. It may look up any id from then on: whoever tells it is lent the
+/// memory, in which the directory's root is zero already.
+fn name_directory<M: Mmio>(memory: &Memory, io: &mut M, frames: u32, levels: u8)
+    requires many { 64 ≤ frames }
+    requires zero { slice_get memory.now (directory_frame frames) ≡ Some zeroed }
+    ensures { io.new ≡ M.after io.old Ddtp (ddtp_of frames levels) }
+{
+    write(io, Register::Ddtp, ddtp_of(frames, levels));
+}
+
 impl Driver {
     /// Starts a driver that isn't started, on a memory of its size, where both queues are off and the indices
     /// that software writes are 0, as at power-on. The completion word and the root of the device directory
@@ -38,7 +50,7 @@ impl Driver {
     {
         memory.store_u32(completion_address(self.frames), 0);
         clear(memory, directory_frame(self.frames));
-        write(io, Register::Ddtp, ddtp_of(self.frames, self.levels));
+        name_directory(memory, io, self.frames, self.levels);
         write(io, Register::Cqb, cqb_of(self.frames));
         write(io, Register::Cqcsr, ON);
         write(io, Register::Fqb, fqb_of(self.frames));

@@ -2,9 +2,10 @@ ghost use Rattle.std.specs.Prelude.{◌≡◌, ◌+◌, ◌*◌, ◌/◌, ◌%�
 ghost use Rattle.std.specs.Bool.{OnTrue, OnFalse};
 ghost use Rattle.std.specs.Option.{option_to_list};
 ghost use Rattle.iom_base.specs.Bytes.{with_bytes};
-ghost use Rattle.iom_registers.specs.Queues.{fault_base, fault_entries, fault_head, fault_tail};
+ghost use Rattle.iom_registers.specs.Queues.{fault_base, fault_entries, fault_head, fault_tail, next_index, with_record_written};
+ghost use Rattle.iom_registers.specs.declared.register.Register.TheVariants.{Fqh};
 ghost use Rattle.iom_registers.specs.Table.{value_of};
-ghost use Rattle.iom_fault_queue.specs.Ring.{records_in, is_full, StoresRecord};
+ghost use Rattle.iom_fault_queue.specs.Ring.{records_in, record_at, record_place, is_full, StoresRecord};
 ghost use Rattle.iom_fault_queue.specs.Calls.{PutsRecord, after_put, TakesEntry};
 
 use crate::bytes::RECORD_SIZE;
@@ -55,6 +56,17 @@ fn store(memory: &mut Memory, address: u64, record: Record) -> bool
     true
 }
 
+/// Hands the place at the tail over: the next record comes after it, and software may take this one. Whoever
+/// does so is lent the memory, in which the record stands there already.
+#[inline(always)]
+fn hand_over(memory: &Memory, registers: &mut Registers, reported: &Record)
+    requires { let r = registers.old in
+        record_at memory.now (record_place r (fault_tail r)) ≡ Entry.Record reported.now }
+    ensures { registers.new ≡ with_record_written registers.old }
+{
+    registers.advance_fault_tail();
+}
+
 /// Whether the tail is one before the head.
 fn is_full(registers: &Registers) -> bool
     ensures { result ≡ is_full registers.now }
@@ -67,13 +79,6 @@ fn read<M: Mmio>(io: &M, register: Register) -> u64
     ensures { result ≡ value_of (M.registers io.now) register }
 {
     io.read(register.offset(), register.width()).unwrap()
-}
-
-/// Writes a register.
-fn write<M: Mmio>(io: &mut M, register: Register, value: u64)
-    ensures { io.new ≡ M.after io.old register value }
-{
-    let _ = io.write(register.offset(), register.width(), value);
 }
 
 /// Where software finds the queue.
@@ -107,6 +112,21 @@ fn head<M: Mmio>(io: &M) -> u32
     read(io, Register::Fqh) as u32
 }
 
+/// Hands the place at the head back: `fqh` is the index after it, and the IOMMU may write another record
+/// there. Whoever does so is lent the memory, and has the entry that stands there.
+#[inline(always)]
+fn hand_back<M: Mmio>(memory: &Memory, io: &mut M, taken: &Entry, after: u32)
+    requires read { let r = M.registers io.old in record_at memory.now (record_place r (fault_head r)) ≡ taken.now }
+    requires next { after ≡ next_index (fault_entries (M.registers io.old)) (fault_head (M.registers io.old)) }
+    ensures { io.new ≡ M.after io.old Fqh after }
+{
+    let _ = io.write(
+        Register::Fqh.offset(),
+        Register::Fqh.width(),
+        u64::from(after),
+    );
+}
+
 impl FaultRing {
     /// The IOMMU reports a fault. `Off` exactly while the queue is off, and then nothing changes. While
     /// `fqof` or `fqmf` is 1 no record is written, and nothing changes. A record for a full queue is
@@ -132,7 +152,7 @@ impl FaultRing {
             registers.set_fqmf();
             return Put::Overflow;
         }
-        registers.advance_fault_tail();
+        hand_over(memory, registers, &record);
         Put::Written
     }
 
@@ -149,9 +169,9 @@ impl FaultRing {
             return None;
         }
         let place = place_by_fqb(io);
-        let entry = record_at(memory, place.address + RECORD_SIZE as u64 * u64::from(head));
-        let next = index_after(head, place.entries);
-        write(io, Register::Fqh, u64::from(next));
+        let address = place.address + RECORD_SIZE as u64 * u64::from(head);
+        let entry = record_at(memory, address);
+        hand_back(memory, io, &entry, index_after(head, place.entries));
         Some(entry)
     }
 }

@@ -88,7 +88,8 @@ impl InFlight {
         })
     }
 
-    /// What holds of them, whatever calls were made. It does nothing.
+    /// What holds of them, whatever calls were made. It does nothing: a proof knows of a value what a call told of it,
+    /// so this is a call.
     pub fn facts(&self)
         ensures { AreFlights self.now }
     {
@@ -165,13 +166,6 @@ impl InFlight {
     {
         let place = find(&self.rows, device)?;
         self.rows[place].oldest()
-    }
-
-    /// What holds whatever calls were made. It does nothing.
-    pub fn hold(&self)
-        ensures { AreFlights self.now }
-    {
-        let _so_far = self.so_far;
     }
 
     /// How many accesses of all devices were ever accepted: the number of the last one.

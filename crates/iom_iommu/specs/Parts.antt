@@ -1,5 +1,5 @@
 -- The parts of the IOMMU, and what a write of software to its registers leaves of it (IOMMU specification, chapter 5).
-use Rattle.std.specs.Prelude.{◌≡◌, ℕ, Bool, false, Option, None, [], if◌then◌else◌}
+use Rattle.std.specs.Prelude.{◌≡◌, ℕ, Bool, false, List, Option, None, [], if◌then◌else◌}
 use Rattle.iom_registers.specs.declared.register.Register.{Register}
 use Rattle.iom_registers.specs.declared.registers.Registers.{Registers}
 use Rattle.iom_registers.specs.declared.mmio.Mmio.{Ghosts}
@@ -8,7 +8,7 @@ use Rattle.iom_registers.specs.Queues.{is_command_queue_on}
 use Rattle.iom_command_queue.specs.declared.slot.Slot.{Slot}
 use Rattle.iom_command_queue.specs.OpenSlots.{OpenSlots, no_slots}
 use Rattle.iom_device_dir.specs.declared.context.Context.{Context}
-use Rattle.iom_device_dir.specs.Cached.{cached_contexts}
+use Rattle.iom_device_dir.specs.Cached.{cached_contexts, contexts_in_order}
 use Rattle.iom_device_dir.specs.Contents.{Content, IsEmptyContent}
 use Rattle.iom_inflight.specs.Flights.{Flights, no_flights, IsAdded as IsAddedTo}
 use Rattle.iom_inflight.specs.Calls.{Adds}
@@ -22,6 +22,14 @@ registers_of iommu = iommu.registers
 -- the contexts that are cached, by device id
 abbrev pub contexts_of : {C : Type 0} {c : Cache C} → Iommu C c → Content ℕ Context
 contexts_of iommu = cached_contexts iommu.contexts
+
+-- the same in the order of use: that which was looked at or kept last stands first
+abbrev pub context_order_of : {C : Type 0} {c : Cache C} → Iommu C c → List (ℕ × Context)
+context_order_of iommu = contexts_in_order iommu.contexts
+
+-- the cache of translations, with all that it has beside its content
+abbrev pub cache_of : {C : Type 0} {c : Cache C} → Iommu C c → C
+cache_of iommu = iommu.translations
 
 -- the translations that are cached, by page of an address space
 abbrev pub translations_of : {C : Type 0} {c : Cache C} → Iommu C c → Translations
@@ -59,6 +67,7 @@ IsAdded iommu id = IsAddedTo (flights_of iommu) id
 pub record IsAtPowerOn {C : Type 0} {c : Cache C} (count : ℕ) (iommu : Iommu C c) : Type 0 where
   pub registers : registers_of iommu ≡ at_power_on
   pub contexts : IsEmptyContent (contexts_of iommu)
+  pub context_order : context_order_of iommu ≡ []
   pub translations : HasNothing (translations_of iommu)
   pub flights : flights_of iommu ≡ no_flights
   pub stock : stock_of iommu ≡ None

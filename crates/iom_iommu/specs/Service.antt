@@ -1,7 +1,7 @@
 -- How a transaction is translated, and what is cached for it (IOMMU specification, section 2.3, "Process to translate an IOVA", and section
 -- 2.8, "Caching in-memory data structures").
 use Rattle.std.specs.Prelude.{◌≡◌, ℕ, ◌/◌, nat_lt, Bool, List, length, Option, None, Some, Result, Ok, Err, if◌then◌else◌}
-use Rattle.iom_base.specs.Causes.{access_fault_of}
+use Rattle.iom_base.specs.Tables.{access_fault_of}
 use Rattle.iom_base.specs.Rights.{allows, rw}
 use Rattle.iom_base.specs.Sizes.{page_size}
 use Rattle.iom_base.specs.declared.access.AccessKind.{AccessKind}
@@ -23,6 +23,7 @@ use Rattle.iom_device_dir.specs.declared.stages.SecondStage.{SecondStage}
 use Rattle.iom_device_dir.specs.declared.stages.SecondStage.TheVariants as second
 use Rattle.iom_device_dir.specs.Contents.{Content, IsSameContent, KeepsOne}
 use Rattle.iom_device_dir.specs.Located.{located_context}
+use Rattle.iom_device_dir.specs.Paths.{fits_directory}
 use Rattle.iom_tlb.specs.declared.space.Space.TheVariants as space
 use Rattle.iom_tlb.specs.declared.trans_cache.Translation.{Translation}
 use Rattle.iom_tlb.specs.Content.{Key, Content as Translations, Stays, Keeps}
@@ -32,9 +33,11 @@ abbrev pub found_context : Option Context → Result Context Cause → Result Co
 found_context None located = located
 found_context (Some cached) located = Ok cached
 
--- the context of a device, or the cause for which there is none
+-- the context of a device, or the cause for which there is none. The width of the id is asked first (section 2.3.1): one that is too wide for the
+-- directory has none, also where one is cached for it
 abbrev pub context_for : List (List ℕ) → Registers → Content ℕ Context → ℕ → Result Context Cause
-context_for memory r content id = found_context (content id) (located_context memory r.ddtp id)
+context_for memory r content id =
+    if fits_directory (directory_mode r) id then found_context (content id) (located_context memory r.ddtp id) else Err TransactionTypeDisallowed
 
 -- the same where the transaction is of ATS, a question or a translated request: none is let through in the modes Off and Bare, nor by a context that
 -- has EN_ATS clear
@@ -131,7 +134,7 @@ abbrev pub Serves : Bool → List (List ℕ) → Registers → Content ℕ Conte
 Serves sure memory r contexts id address kind old answer new =
     ServesIn sure (directory_mode r) (context_for memory r contexts id) memory address kind old answer new
 
--- a context that was located is kept, where none was cached
+-- a context that was located is kept, where none was cached. An id that is too wide for the directory has none there: nothing is kept for it
 abbrev pub KeepsLocated : Option Context → Result Context Cause → Content ℕ Context → ℕ → Content ℕ Context → Type 0
 KeepsLocated (Some cached) located old id new = IsSameContent old new
 KeepsLocated None (Ok context) old id new = KeepsOne old id context new

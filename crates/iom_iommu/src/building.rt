@@ -1,25 +1,26 @@
-// The IOMMU at power-on, its devices, and what software sees of its registers.
-ghost use Rattle.std.specs.Prelude.{◌≡◌, refl, IfOk, is_some};
+// The IOMMU at power-on, and its devices.
+ghost use Rattle.std.specs.Prelude.{◌≡◌, IfOk, is_some};
 ghost use Rattle.iom_inflight.specs.Flights.{row_of};
 ghost use Rattle.iom_inflight.specs.Sound.{AreFlights, AreRowsIn};
 ghost use Rattle.iom_tlb.specs.Content.{HasNothing};
-ghost use Rattle.iom_iommu.specs.Parts.{IsAtPowerOn, AddsDevice, registers_of, flights_of, frames_of, after_write};
+ghost use Rattle.iom_iommu.specs.Parts.{IsAtPowerOn, cache_of, AddsDevice, flights_of, frames_of};
 
 use crate::iommu::Iommu;
 use iom_base::DeviceId;
 use iom_command_queue::Slots;
 use iom_device_dir::DirCache;
 use iom_inflight::InFlight;
-use iom_registers::{Mmio, RegFault, Register, Registers};
+use iom_registers::Registers;
 use iom_tlb::TransCache;
 use std::alloc::{AllocError, Global};
 
 impl<C: TransCache + Drop> Iommu<C> {
-    /// The IOMMU at power-on, beside a memory of so many frames, over a cache that has nothing. Takes its
+    /// The IOMMU at power-on, beside a memory of so many frames, over this cache, which has nothing. Takes its
     /// memory here, but for the contexts and translations that it caches.
     pub fn new(alloc: Global, frames: u32, translations: C) -> Result<Iommu<C>, AllocError>
         requires { HasNothing (C.content translations) }
-        ensures { IfOk result (IsAtPowerOn frames) }
+        ensures power_on { IfOk result (IsAtPowerOn frames) }
+        ensures cache { IfOk result (λ iommu. cache_of iommu ≡ translations) }
     {
         Ok(Iommu {
             registers: Registers::new(),
@@ -64,39 +65,5 @@ impl<C: TransCache> Iommu<C> {
         ensures inside { AreRowsIn (frames_of self.now) (flights_of self.now).rows }
     {
         self.in_flight.facts();
-    }
-
-    /// Its registers.
-    pub fn registers(&self) -> &Registers
-        ensures { result.now ≡ registers_of self.now }
-    {
-        &self.registers
-    }
-}
-
-/// What follows a write is what the table of the registers says; and where the command queue is off after it, no
-/// invalidation request is open, no fence waits for one, and what a fence at its head had counted is given up.
-impl<C: TransCache> Mmio for Iommu<C> {
-    ghost registers = { registers_of };
-
-    ghost after = { after_write };
-
-    ghost writes_registers = { λ x r value. refl };
-
-    fn read(&self, offset: u64, width: u32) -> Result<u64, RegFault> {
-        self.registers.read(offset, width)
-    }
-
-    // Written into its caller, which knows the register.
-    #[inline(always)]
-    fn write(&mut self, offset: u64, width: u32, value: u64) -> Result<(), RegFault> {
-        let register = Register::at(offset, width)?;
-        self.registers.set(register, value);
-        if !self.registers.is_command_queue_on() {
-            self.stock = None;
-            self.fence_waits = false;
-            self.slots.close_all();
-        }
-        Ok(())
     }
 }

@@ -1,14 +1,15 @@
 // The context of a device: the cached one, or the one that the directory has (IOMMU specification, section 2.3.1, "Process to
 // locate the Device-context", and section 2.8, "Caching in-memory data structures").
-ghost use Rattle.std.specs.Prelude.{◌≡◌, ◌≢◌, None};
+ghost use Rattle.std.specs.Prelude.{◌≡◌, ◌≢◌, true, None};
 ghost use Rattle.iom_registers.specs.Queues.{directory_mode};
 ghost use Rattle.iom_registers.specs.declared.directory.DirectoryMode.TheVariants.{Bare};
 ghost use Rattle.iom_device_dir.specs.Cached.{cached_contexts};
 ghost use Rattle.iom_device_dir.specs.Located.{located_context};
+ghost use Rattle.iom_device_dir.specs.Paths.{fits_directory};
 ghost use Rattle.iom_iommu.specs.Service.{context_for, ats_context_for, letting_ats, KeepsLocated, KeepsContext};
 
 use iom_base::{Cause, DeviceId};
-use iom_device_dir::{Context, DirCache, locate};
+use iom_device_dir::{Context, DirCache, fits_directory, locate};
 use iom_phys_mem::Memory;
 use iom_registers::{DirectoryMode, DirectoryPointer, Registers};
 
@@ -32,7 +33,8 @@ fn find_in_directory(
     Ok(context)
 }
 
-/// The context of the device: the cached one, or else the one that the directory has, which is kept.
+/// The context of the device, whose id isn't too wide for the directory: the cached one, or else the one that the
+/// directory has, which is kept.
 // Written into its callers, as `translate_by` and `accept` are: these are the way of each request.
 #[inline(always)]
 pub(crate) fn find_context(
@@ -41,7 +43,8 @@ pub(crate) fn find_context(
     contexts: &mut DirCache,
     device: DeviceId,
 ) -> Result<Context, Cause>
-    requires { directory_mode registers.now ≢ Bare }
+    requires mode { directory_mode registers.now ≢ Bare }
+    requires width { fits_directory (directory_mode registers.now) device ≡ true }
     ensures found { result ≡ context_for memory.now registers.now (cached_contexts contexts.old) device }
     ensures kept { KeepsLocated (cached_contexts contexts.old device) (located_context memory.now registers.now.ddtp device)
         (cached_contexts contexts.old) device (cached_contexts contexts.new) }
@@ -75,9 +78,11 @@ pub(crate) fn find_ats_context(
     ensures found { result ≡ ats_context_for memory.now registers.now (cached_contexts contexts.old) device }
     ensures kept { KeepsContext memory.now registers.now (cached_contexts contexts.old) device (cached_contexts contexts.new) }
 {
-    match registers.directory_mode() {
+    let mode = registers.directory_mode();
+    match mode {
         DirectoryMode::Off => Err(Cause::AllInboundDisallowed),
         DirectoryMode::Bare => Err(Cause::TransactionTypeDisallowed),
+        _ if !fits_directory(mode, device) => Err(Cause::TransactionTypeDisallowed),
         DirectoryMode::OneLevel | DirectoryMode::TwoLevels | DirectoryMode::ThreeLevels => {
             letting_ats(find_context(memory, registers, contexts, device))
         }

@@ -33,6 +33,7 @@ mod reply;
 mod reports;
 mod requests;
 mod service;
+mod software;
 mod timeouts;
 mod translated;
 mod translations;

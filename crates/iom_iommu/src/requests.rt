@@ -112,7 +112,7 @@ impl<C: TransCache> Iommu<C> {
         ensures within { IfSome result (IsWithinFrame (frames_of self.old)) }
     {
         // What it ensures is known from here on: each access stays within its page.
-        self.in_flight.hold();
+        self.in_flight.facts();
         self.in_flight.make(device, memory)
     }
 

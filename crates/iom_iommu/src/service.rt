@@ -1,7 +1,8 @@
 // An untranslated request is served (IOMMU specification, section 2.3, "Process to translate an IOVA").
-ghost use Rattle.std.specs.Prelude.{◌≢◌, ◌<◌, length, IfOk};
+ghost use Rattle.std.specs.Prelude.{◌≡◌, ◌≢◌, ◌<◌, true, length, IfOk};
 ghost use Rattle.iom_device_dir.specs.Cached.{cached_contexts};
 ghost use Rattle.iom_device_dir.specs.Located.{located_context};
+ghost use Rattle.iom_device_dir.specs.Paths.{fits_directory};
 ghost use Rattle.iom_iommu.specs.Cached.{AreTranslationsIn};
 ghost use Rattle.iom_iommu.specs.Service.{context_for, Serves, ServesBy, KeepsContext, KeepsLocated};
 ghost use Rattle.iom_registers.specs.Queues.{directory_mode};
@@ -10,13 +11,13 @@ ghost use Rattle.iom_registers.specs.declared.directory.DirectoryMode.TheVariant
 use crate::contexts::find_context;
 use crate::translations::{own_page, plain, translate, translate_by};
 use iom_base::{AccessKind, Cause, DeviceId};
-use iom_device_dir::DirCache;
+use iom_device_dir::{DirCache, fits_directory};
 use iom_phys_mem::Memory;
 use iom_registers::{DirectoryMode, Registers};
 use iom_stage_walk::WalkFault;
 use iom_tlb::{TransCache, Translation};
 
-/// The translation of an access of a device whose context has to be searched for.
+/// The translation of an access of a device whose context has to be searched for. Its id isn't too wide.
 // On its own, so that a device that makes one request after another doesn't pay for it.
 #[inline(never)]
 fn serve_by_search<C: TransCache>(
@@ -30,6 +31,7 @@ fn serve_by_search<C: TransCache>(
 ) -> Result<Translation, WalkFault>
     requires inside { AreTranslationsIn (length memory.now) (C.content translations.old) }
     requires mode { directory_mode registers.now ≢ Bare }
+    requires width { fits_directory (directory_mode registers.now) device ≡ true }
     ensures served { ServesBy C.SURE (context_for memory.now registers.now (cached_contexts contexts.old) device) memory.now address kind
         (C.content translations.old) result (C.content translations.new) }
     ensures kept { KeepsLocated (cached_contexts contexts.old device) (located_context memory.now registers.now.ddtp device)
@@ -57,9 +59,12 @@ pub(crate) fn serve<C: TransCache>(
     ensures kept { KeepsContext memory.now registers.now (cached_contexts contexts.old) device (cached_contexts contexts.new) }
     ensures inside { IfOk result (λ translation. translation.frame < length memory.now) }
 {
-    match registers.directory_mode() {
+    let mode = registers.directory_mode();
+    match mode {
         DirectoryMode::Off => Err(plain(Cause::AllInboundDisallowed)),
         DirectoryMode::Bare => own_page(memory, address, kind),
+        // Also where a context is cached: software may have given the directory fewer levels since.
+        _ if !fits_directory(mode, device) => Err(plain(Cause::TransactionTypeDisallowed)),
         DirectoryMode::OneLevel | DirectoryMode::TwoLevels | DirectoryMode::ThreeLevels => {
             // A device that makes one request after another pays for no search, and for no copy of its context.
             match contexts.last_used(device) {

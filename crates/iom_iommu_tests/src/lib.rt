@@ -40,3 +40,5 @@ mod timeouts;
 mod translated;
 #[cfg(test)]
 mod translations;
+#[cfg(test)]
+mod widths;

@@ -1,5 +1,5 @@
 -- What a certificate says: that the text of a trace is the lines of a run of the ledger machine from power-on.
-use Rattle.std.specs.Prelude.{◌≡◌, ℕ, Bool, true, false, List, [], ◌∷◌, All, Option, ⊤}
+use Rattle.std.specs.Prelude.{◌≡◌, ℕ, Bool, true, false, List, [], ◌∷◌, All, Option, None, Some, ⊤}
 use Rattle.iom_base.specs.declared.access.Access.{Access}
 use Rattle.iom_machine.specs.declared.event.Event.{Event}
 use Rattle.iom_machine.specs.declared.outcome.Outcome.{Outcome}
@@ -22,6 +22,14 @@ is_lawful (Uncertified line) = false
 is_lawful (Unlawful line reason) = false
 is_lawful (Undecided line reason) = false
 is_lawful (Bad line) = false
+
+-- the line from which on it doesn't certify the trace, if there is one
+abbrev pub uncertified_line : Verdict → Option ℕ
+uncertified_line Lawful = None
+uncertified_line (Uncertified line) = Some line
+uncertified_line (Unlawful line reason) = None
+uncertified_line (Undecided line reason) = None
+uncertified_line (Bad line) = None
 
 -- the numbers of the disks that a world has at power-on
 abbrev pub four_disks : List ℕ

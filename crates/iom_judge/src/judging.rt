@@ -1,10 +1,10 @@
 // A trace, judged line by line.
-ghost use Rattle.std.specs.Prelude.{◌≡◌, ◌++◌, ◌∷◌, [], ℕ, List, Option, None, IfOk, IfSome, IsSomeAnd, IsTrue, MatchOption, OnOk, false, true};
+ghost use Rattle.std.specs.Prelude.{◌≡◌, ◌+◌, ◌-◌, ◌^◌, ◌++◌, ◌∷◌, [], ℕ, List, Option, None, IfOk, IfSome, IsSomeAnd, IsTrue, MatchOption, OnOk, false, true, min, if◌then◌else◌};
 ghost use Rattle.iom_script.specs.Grammar.{is_spoken};
 ghost use Rattle.iom_known.specs.Allowed.{Past, IsTrueOf};
 ghost use Rattle.iom_known.specs.Starts.{IsPowerOn, SomeAreAllowed};
 ghost use Rattle.iom_trace_lines.specs.Taken.{AreLines};
-ghost use Rattle.iom_judge.specs.Certificates.{four_disks, is_lawful, IsLawfulTrace, SaysStep};
+ghost use Rattle.iom_judge.specs.Certificates.{four_disks, is_lawful, IsLawfulTrace, SaysStep, uncertified_line};
 ghost use Rattle.iom_judge.specs.Certified.{CertifyIf, GoesOn, HasJudged};
 
 use crate::belief::{Belief, Shown};
@@ -144,7 +144,8 @@ impl Judge {
 
     /// Notes up to which line each was followed.
     fn note_line(&mut self)
-        ensures { (self.new.is_certified ≡ self.old.is_certified) × (self.new.belief ≡ self.old.belief) }
+        ensures same { (self.new.is_certified ≡ self.old.is_certified) × (self.new.belief ≡ self.old.belief) }
+        ensures noted { self.new.last_followed ≡ (if self.old.is_certified then self.old.line else self.old.last_followed) }
     {
         if self.is_certified {
             self.last_followed = self.line;
@@ -187,9 +188,11 @@ impl Judge {
         Ok(())
     }
 
-    /// What is found of the lines, where there are no others.
+    /// What is found of the lines, where there are no others. Where they aren't certified, the line that it names is the
+    /// one behind the last up to which each was followed.
     pub(crate) fn end(&self) -> Verdict
-        ensures { (text : List ℕ) (lines : List (List ℕ)) → CertifyIf self.now.is_certified self.now.belief lines
+        ensures named { IfSome (uncertified_line result) (λ line. line ≡ min (self.now.last_followed + 1) (2 ^ 64 - 1)) }
+        ensures lawful { (text : List ℕ) (lines : List (List ℕ)) → CertifyIf self.now.is_certified self.now.belief lines
             → AreLines lines text → IsTrue (is_lawful result) → IsLawfulTrace text }
     {
         if self.is_certified {

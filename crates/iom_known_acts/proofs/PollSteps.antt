@@ -6,8 +6,7 @@ use Rattle.std.proofs.lemmas.Bool.{false≢true, eqb-true, eq-eqb, ltb-true, ltb
 use Rattle.std.proofs.lemmas.Option.{slice_get_within}
 use Rattle.iom_base.specs.declared.owner.Owner.{Owner}
 use Rattle.iom_base.specs.declared.owner.Owner.TheVariants.{System, OneDevice}
-use Rattle.iom_ledger.specs.Confirmations.{confirmed_from}
-use Rattle.iom_ledger.specs.History.{History, confirms}
+use Rattle.iom_ledger.specs.History.{confirmed_from, History, confirms}
 use Rattle.iom_ledger.specs.Shown.{Agrees}
 use Rattle.iom_ledger.specs.declared.ledger.Ledger.{Ledger}
 use Rattle.iom_machine.specs.Devices.{DeviceMay, EachInFlightMay}

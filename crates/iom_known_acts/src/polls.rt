@@ -1,6 +1,6 @@
 // Which tickets a poll may confirm, and what that leaves.
 ghost use Rattle.std.specs.Prelude.{◌≡◌, ◌-◌, ◌≤◌, suc, Bool, IsTrue, All};
-ghost use Rattle.iom_ledger.specs.Confirmations.{confirmed_from};
+ghost use Rattle.iom_ledger.specs.History.{confirmed_from};
 ghost use Rattle.iom_ledger.specs.History.{History, May};
 ghost use Rattle.iom_ledger.specs.Shown.{Agrees};
 ghost use Rattle.iom_machine.specs.Devices.{DeviceMay, EachInFlightMay};

@@ -81,7 +81,7 @@ module _ (laws : ServiceLaws) (parts : Parts) (events : ℕ) (sound : AreSound p
   pub reads_guest_tables : ReadsGuestTables parts state.history id access
   reads_guest_tables at_first at_second walked is reaches =
       let owner = owner_of parts.driver.levels id (attachment_of parts.driver.devices id) (contexts_of parts.iommu id) is.context (λ c at. sound.contexts id c at)
-      (sym (found_as laws parts events sound own id (contexts_of parts.iommu id)) ∙ is.found) in
+      (sym (found_as laws parts events sound own id) ∙ is.found) in
       let stage = owner.0 in
       let tables = sound.ready.stand.tables id stage owner.1 in
       let below = root_low parts.memory parts.driver.marks parts.driver.ledger id stage.mode stage.root tables in

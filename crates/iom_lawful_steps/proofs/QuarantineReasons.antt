@@ -10,7 +10,7 @@ use Rattle.iom_iommu.specs.Parts.{registers_of}
 use Rattle.iom_ledger.specs.declared.refusal.Refusal.{Refusal}
 use Rattle.iom_ledger.specs.declared.refusal.Refusal.TheVariants.{NoSuchDevice, NotAttached, NotStarted, TooManyPending, QueueFull, NumbersUsedUp}
 use Rattle.iom_ledger.specs.declared.refusal.Refusal.TheVariants as refusal
-use Rattle.iom_ledger.specs.Pending.{pending_limit}
+use Rattle.iom_ledger.specs.History.{pending_limit}
 use Rattle.iom_ledger.specs.Refusals.{first_that_applies, NoneApplies, IsRefusedBy}
 use Rattle.iom_machine.specs.declared.state.Attachment.{Attachment}
 use Rattle.iom_machine.specs.declared.state.State.{State}

@@ -9,7 +9,7 @@ use Rattle.iom_base.specs.declared.access.AccessKind.TheVariants.{Read}
 use Rattle.iom_base.specs.declared.rights.Rights.{Rights}
 use Rattle.iom_base.specs.Rights.{allows}
 use Rattle.iom_ledger.specs.declared.page_row.PageRow.{PageRow}
-use Rattle.iom_ledger.specs.declared.page_row.Pending.{Pending}
+use Rattle.iom_ledger.specs.declared.pending.Pending.{Pending}
 use Rattle.iom_ledger.specs.declared.entry.HistoryEntry.TheVariants.{Confirmed}
 use Rattle.iom_ledger.specs.declared.ledger.Ledger.{Ledger}
 use Rattle.iom_ledger.specs.History.{History, Pair, confirms, released_at, Holds, Lingers, May}

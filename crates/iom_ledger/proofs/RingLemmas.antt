@@ -5,7 +5,7 @@ use Rattle.std.proofs.lemmas.Bool.{leb-true, le-leb, ne_eqb, and_parts, and_from
 use Rattle.std.proofs.lemmas.List.{take_more, take-append-drop}
 use Rattle.std.proofs.lemmas.List.Elements.{filter-append}
 use Rattle.std.proofs.lemmas.List.Folds.{list_any-append}
-use Rattle.iom_ledger.specs.declared.page_row.Pending.{Pending}
+use Rattle.iom_ledger.specs.declared.pending.Pending.{Pending}
 use Rattle.iom_ledger.specs.Rows.{Devices, row_at, names, AllNamed}
 use Rattle.iom_ledger.specs.RowChanges.{DropsRows, DropsNamed}
 use Rattle.iom_ledger.specs.Ring.{tickets, is_among, all_from, is_ascending, is_other, any_names, dropped, DropsNamedBy, TakesFirst}

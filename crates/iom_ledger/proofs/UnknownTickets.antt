@@ -4,7 +4,7 @@ use Rattle.std.proofs.lemmas.Bool.{eqb-true, eq-eqb, and_parts, or_parts, or_lef
 use Rattle.indexmap.proofs.CallerLemmas.{Contains-list_any}
 use Rattle.iom_base.specs.declared.rights.Rights.{Rights}
 use Rattle.iom_ledger.specs.declared.page_row.PageRow.{PageRow}
-use Rattle.iom_ledger.specs.declared.page_row.Pending.{Pending}
+use Rattle.iom_ledger.specs.declared.pending.Pending.{Pending}
 use Rattle.iom_ledger.specs.declared.ledger.Ledger.{Ledger}
 use Rattle.iom_ledger.specs.Rows.{row_at, held_of, released_of, names, ticket_of, is_named, AllNamed}
 use Rattle.iom_ledger.specs.RowChanges.{unless_waiting, DropsRows}

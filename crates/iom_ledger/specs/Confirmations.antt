@@ -1,14 +1,8 @@
--- Tickets that are confirmed in a row: the history then, and what a ledger then shows.
-use Rattle.std.specs.Prelude.{◌≡◌, ℕ, zero, suc, ◌+◌, nat_le, nat_lt, Bool, not, ◌&&◌, ◌∷◌, filter, Option, None, Some, if◌then◌else◌}
-use Rattle.iom_ledger.specs.declared.entry.HistoryEntry.TheVariants.{Confirmed}
+-- Tickets that are confirmed in a row: what a ledger then shows.
+use Rattle.std.specs.Prelude.{◌≡◌, ℕ, ◌+◌, nat_le, nat_lt, Bool, not, ◌&&◌, filter, Option, None, Some, if◌then◌else◌}
 use Rattle.iom_ledger.specs.declared.ledger.Ledger.{Ledger}
-use Rattle.iom_ledger.specs.History.{History, Pair}
+use Rattle.iom_ledger.specs.History.{Pair}
 use Rattle.iom_ledger.specs.Shown.{held_in, released_in, pending_in}
-
--- the history, where so many tickets from the first on are confirmed, one after another
-abbrev pub confirmed_from : ℕ → ℕ → History → History
-confirmed_from first zero history = history
-confirmed_from first (suc n) history = Confirmed (first + n) ∷ confirmed_from first n history
 
 -- whether the ticket is one of so many from the first on
 abbrev pub is_among_next : ℕ → ℕ → ℕ → Bool

@@ -1,5 +1,5 @@
--- What a history of grants says of a device's page and of a frame.
-use Rattle.std.specs.Prelude.{◌≡◌, ℕ, ◌⊎◌, Bool, true, false, not, ◌==◌, ◌&&◌, ◌||◌, List, [], ◌∷◌, ◌++◌, filter, Contains, Option, None, Some, is_some, if◌then◌else◌}
+-- What a history of grants says of a device's page, of a frame and of tickets.
+use Rattle.std.specs.Prelude.{◌≡◌, ℕ, zero, suc, ◌+◌, ◌⊎◌, Bool, true, false, not, ◌==◌, ◌&&◌, ◌||◌, List, [], ◌∷◌, ◌++◌, filter, Contains, Option, None, Some, is_some, if◌then◌else◌}
 use Rattle.iom_base.specs.declared.access.AccessKind.{AccessKind}
 use Rattle.iom_base.specs.declared.rights.Rights.{Rights}
 use Rattle.iom_base.specs.Rights.{allows}
@@ -63,10 +63,6 @@ abbrev pub lingering_at : History → ℕ → ℕ → List (ℕ × Pair)
 lingering_at history device page =
     filter (λ released. not (confirms history released.0)) (released_at history device page)
 
--- whether the pair is on the frame, with a right that allows the kind
-abbrev pub serves : ℕ → AccessKind → Pair → Bool
-serves frame kind pair = (pair.0 == frame) && allows pair.1 kind
-
 -- the device holds the pair at the page
 abbrev pub Holds : History → ℕ → ℕ → Pair → Type 0
 Holds history device page pair = held_at history device page ≡ Some pair
@@ -86,3 +82,12 @@ May history device frame kind =
 -- no device may reach the frame: it is free, by the ledger alone
 abbrev pub NoneMayReach : History → ℕ → Type 0
 NoneMayReach history frame = (device : ℕ) (kind : AccessKind) → ¬ May history device frame kind
+
+-- the most tickets that are pending at a time
+abbrev pub pending_limit : ℕ
+pending_limit = 256
+
+-- the history, where so many tickets from the first on are confirmed, one after another
+abbrev pub confirmed_from : ℕ → ℕ → History → History
+confirmed_from first zero history = history
+confirmed_from first (suc n) history = Confirmed (first + n) ∷ confirmed_from first n history

@@ -4,10 +4,6 @@ use Rattle.iom_ledger.specs.declared.entry.HistoryEntry.{HistoryEntry}
 use Rattle.iom_ledger.specs.declared.entry.HistoryEntry.TheVariants.{Granted, Released, AllReleased, Confirmed}
 use Rattle.iom_ledger.specs.History.{History, confirms}
 
--- the most tickets that are pending at a time
-abbrev pub pending_limit : ℕ
-pending_limit = 256
-
 -- the ticket under which the entry releases
 abbrev pub tickets_by : HistoryEntry → List ℕ
 tickets_by (Granted device page frame rights) = []

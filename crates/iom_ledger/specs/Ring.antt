@@ -3,7 +3,7 @@
 use Rattle.std.specs.Prelude.{◌≡◌, ℕ, Bool, true, not, ◌==◌, ◌&&◌, List, [], ◌∷◌, filter, map, drop, take, nat_eq, nat_le, Option, if◌then◌else◌}
 use Rattle.std.specs.List.{list_any}
 use Rattle.iom_ledger.specs.declared.page_row.PageRow.{PageRow}
-use Rattle.iom_ledger.specs.declared.page_row.Pending.{Pending}
+use Rattle.iom_ledger.specs.declared.pending.Pending.{Pending}
 use Rattle.iom_ledger.specs.Rows.{Devices, row_at, names}
 use Rattle.iom_ledger.specs.RowChanges.{unless_waiting}
 

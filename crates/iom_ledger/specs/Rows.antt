@@ -9,7 +9,7 @@ use Rattle.iom_base.specs.declared.rights.Rights.{Rights}
 use Rattle.iom_ledger.specs.declared.device_list.DevicePages.{DevicePages}
 pub use Rattle.iom_ledger.specs.declared.device_list.Devices.{Devices}
 use Rattle.iom_ledger.specs.declared.page_row.PageRow.{PageRow}
-use Rattle.iom_ledger.specs.declared.page_row.Pending.{Pending}
+use Rattle.iom_ledger.specs.declared.pending.Pending.{Pending}
 use Rattle.iom_ledger.specs.History.{Pair}
 
 -- the pages of a device, each with its row

@@ -8,7 +8,8 @@ ghost use Rattle.iom_ledger.specs.RowChanges.{released_row_if_any, held_frame, u
 
 use crate::device_list::{DevicePages, Devices, Pages};
 use crate::frame_rows::FrameRows;
-use crate::page_row::{PageRow, Pending};
+use crate::page_row::PageRow;
+use crate::pending::Pending;
 use crate::pages::{place_of, row_of};
 use indexmap::IndexMap;
 use iom_base::DeviceId;

@@ -2,7 +2,7 @@
 
 ghost use Rattle.std.specs.Prelude.{◌≡◌, true};
 ghost use Rattle.iom_ledger.specs.Counts.{AreCounted};
-ghost use Rattle.iom_ledger.specs.Pending.{pending_limit};
+ghost use Rattle.iom_ledger.specs.History.{pending_limit};
 ghost use Rattle.iom_ledger.specs.Ring.{is_ascending};
 ghost use Rattle.iom_ledger.specs.Rows.{AllGranted, AllNamed};
 
@@ -10,7 +10,8 @@ use crate::device_list::Devices;
 use crate::devices::{grant_in, page_at, release_all_in, release_in, row_count, row_in};
 use crate::frame_rows::FrameRows;
 use crate::lookups::{holds_anything_in, lingers_anything_in};
-use crate::page_row::{PageRow, Pending};
+use crate::page_row::PageRow;
+use crate::pending::Pending;
 use crate::ring::{Ring, confirm_in, note, still_ascend};
 use crate::row::Row;
 use circular_buffer::HeapCircularBuffer;
@@ -42,11 +43,11 @@ impl Ledger {
     ghost use Rattle.std.specs.Prelude.{◌↔◌, ◌+◌, ◌<◌, ◌≤◌, ℕ, List, [], ◌∷◌, Contains, length, max, slice_get, false, not};
     ghost use Rattle.std.specs.Prelude.{IsTrue, IsNone, IsSome, IfOk, IfSome, OnOk, OnErr, Some, None};
     ghost use Rattle.iom_ledger.specs.declared.entry.HistoryEntry.TheVariants.{Granted, Released, AllReleased, Confirmed};
-    ghost use Rattle.iom_ledger.specs.History.{History, Pair, confirms, held_at, lingering_at, Holds, Lingers, NoneMayReach};
-    ghost use Rattle.iom_ledger.specs.Pending.{pending_of, pending_limit};
+    ghost use Rattle.iom_ledger.specs.History.{History, Pair, confirms, held_at, lingering_at, Holds, Lingers, NoneMayReach, pending_limit};
+    ghost use Rattle.iom_ledger.specs.Pending.{pending_of};
     ghost use Rattle.iom_ledger.specs.Shown.{Agrees, IsFreeIn};
     ghost use Rattle.iom_ledger.specs.FrameRows.{IsRowOf, IsFreeRow};
-    ghost use Rattle.iom_base.specs.Rights.{IsGrantable};
+    ghost use Rattle.iom_base.specs.Calls.{IsGrantable};
     ghost use Rattle.iom_frame_set.specs.Sets.{has};
     ghost use Rattle.iom_ledger.specs.Shown.{held_in, released_in, lingering_in, pending_in, pages_listed, frames_in};
     ghost use Rattle.iom_ledger.specs.Changes.{IsUnchanged, ShowsGrant, ShowsRelease, ShowsReleaseOfAll, ShowsConfirmation};

@@ -26,6 +26,7 @@ mod ledger;
 mod lookups;
 mod page_row;
 mod pages;
+mod pending;
 mod refusal;
 mod ring;
 mod row;

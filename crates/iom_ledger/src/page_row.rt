@@ -1,9 +1,9 @@
-//! The row of a page, and what is kept beside the rows of each ticket that isn't confirmed.
+//! The row of a page.
 ghost use Rattle.std.specs.Prelude.{◌≡◌, ◌==◌, Some};
 ghost use Rattle.iom_ledger.specs.Rows.{waits_for};
 ghost use Rattle.iom_ledger.specs.RowChanges.{released_row, held_frame};
 
-use iom_base::{DeviceId, Rights};
+use iom_base::Rights;
 
 /// A frame and the right to it, and the ticket under which it was released, if it was.
 #[derive(Clone, Copy)]
@@ -11,15 +11,6 @@ pub(crate) struct PageRow {
     pub(crate) frame: u32,
     pub(crate) rights: Rights,
     pub(crate) ticket: Option<u32>,
-}
-
-/// A release whose ticket isn't confirmed: of one page, or where no page is named of all that the
-/// device held.
-#[derive(Clone, Copy)]
-pub(crate) struct Pending {
-    pub(crate) ticket: u32,
-    pub(crate) device: DeviceId,
-    pub(crate) page: Option<u64>,
 }
 
 impl PageRow {

@@ -1,6 +1,6 @@
 //! The releases that aren't confirmed, the oldest first, in a ring that is made once.
 ghost use Rattle.std.specs.Prelude.{◌≡◌, ◌<◌, ◌≤◌, ◌==◌, ℕ, List, true, false, not, [], ◌∷◌, ◌++◌, length, filter};
-ghost use Rattle.iom_ledger.specs.declared.page_row.Pending.{Pending};
+ghost use Rattle.iom_ledger.specs.declared.pending.Pending.{Pending};
 ghost use Rattle.iom_ledger.specs.Counts.{AreCounted};
 ghost use Rattle.iom_ledger.specs.Ring.{tickets, is_among, is_ascending, is_other, DropsNamedBy, TakesFirst};
 ghost use Rattle.iom_ledger.specs.Rows.{AllNamed};
@@ -9,7 +9,7 @@ ghost use Rattle.iom_ledger.specs.RowChanges.{DropsRows, DropsNamed};
 use crate::device_list::Devices;
 use crate::devices::drop_named_in;
 use crate::frame_rows::FrameRows;
-use crate::page_row::Pending;
+use crate::pending::Pending;
 use circular_buffer::HeapCircularBuffer;
 
 /// The releases that aren't confirmed, the oldest first.

@@ -23,11 +23,12 @@ use Rattle.iom_machine.specs.ThroughCache.{at_frame, MayAnswerThroughCache, stat
 use Rattle.iom_machine.specs.Machine.{Requests, RequestsThroughCache, InsertsDisk, Steps, Makes, Commits, Step, Run, plugged_device}
 use Rattle.iom_ledger.specs.Refusals.{first_that_applies}
 use Rattle.iom_machine.specs.Refusals.{has_cache, plug_reasons}
-use Rattle.iom_machine.specs.Headline.{Asked, asked_untranslated, asked_through_cache, asked_by, IsSentOf, AreSent, accepted_by, accepted_in, made_by, made_in, AccessesInFlightWereAccepted}
+use Rattle.iom_machine.specs.Laws.{Asked, IsSentOf, AreSent, AreAccepted, AreMade, AccessesInFlightWereAccepted}
 use Rattle.iom_machine.specs.PowerOn.{opening}
 use Rattle.iom_ledger.specs.History.{History}
 use Rattle.iom_machine.specs.Leaving.{leaving_under, device_once_confirmed}
 use Rattle.iom_machine.specs.Tickets.{with_confirmed}
+use Rattle.iom_machine.proofs.AskedLemmas.{asked_untranslated, asked_through_cache, asked_by, accepted_by, accepted_in, made_by, made_in, are_accepted, are_made}
 use Rattle.iom_machine.proofs.InFlightLemmas.{act_cases, some_case, found_device, same-sets_queue, same-tells_status, same-translated, same-asks, same-forges, same-delivers, same-drops, same-repeats, same-resets}
 use Rattle.iom_virtqueue.specs.Layouts.{layout_of}
 use Rattle.iom_machine.proofs.LeavingLemmas.{found_once_confirmed}
@@ -534,4 +535,12 @@ in_flight_were_accepted state events outcomes (frames, levels, disks, run) k d b
     let flows : Flows (accepted_in events outcomes device.id) (made_in events outcomes device.id) None (Some device) =
     subst (λ found. Flows (accepted_in events outcomes device.id) (made_in events outcomes device.id) None found) there (flows-run (opening frames levels disks) state events outcomes run device.id) in
     let from = flows [] tt in
-    record { made = from.made; waiting = from.later; as_many = from.as_many; in_order = from.in_order; in_flight = from.sent; counted = from.counted ∙ omega arith }
+    record {
+      made = from.made;
+      waiting = from.later;
+      in_order = subst (AreAccepted events outcomes device.id) from.in_order (are_accepted events outcomes device.id);
+      as_many = subst (AreMade events outcomes device.id) (sym from.as_many) (are_made events outcomes device.id);
+      in_flight = from.sent;
+      counted = let same : length (accepted_in events outcomes device.id) ≡ length (from.made ++ from.later) = ap (λ (l : List Asked). length l) from.in_order in
+          from.counted ∙ omega (arith, same);
+    }

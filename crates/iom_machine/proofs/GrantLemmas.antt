@@ -6,7 +6,8 @@ use Rattle.iom_ledger.specs.declared.entry.HistoryEntry.TheVariants.{Granted, Re
 use Rattle.iom_ledger.specs.History.{History, Pair, held_at, released_at, confirms}
 use Rattle.iom_machine.specs.declared.state.State.{State}
 use Rattle.iom_machine.specs.Judging.{grants_left_in}
-use Rattle.iom_machine.specs.Refusals.{is_held, is_lingering, pages_granted, has_grants, GrantsAreAtPages}
+use Rattle.iom_machine.specs.Refusals.{is_held, is_lingering, pages_granted, has_grants}
+use Rattle.iom_machine.specs.Laws.{GrantsAreAtPages}
 use Rattle.iom_machine.proofs.ReachLemmas.{contains_head, contains_tail}
 use Rattle.iom_machine.proofs.JudgeLemmas.{some_passes, passing_element, some_kept, grants_at, held_was_granted, released_was_granted}
 

@@ -1,5 +1,5 @@
 -- The sentences of the headline, over every run.
-use Rattle.std.proofs.Common.{◌≡◌, ◌≢◌, ℕ, suc, zero, ◌+◌, ◌<◌, ◌≤◌, ◌⊎◌, inl, inr, true, false, List, [], ◌∷◌, length, slice_range, Option, None, Some, slice_get, slice_set, refl, sym, ap, ◌∙◌, subst, arith}
+use Rattle.std.proofs.Common.{◌≡◌, ◌≢◌, ℕ, suc, zero, ◌+◌, ◌<◌, ◌≤◌, ◌⊎◌, inl, inr, List, [], ◌∷◌, length, slice_range, Option, None, Some, slice_get, slice_set, refl, sym, ap, ◌∙◌, subst, arith}
 use Rattle.std.specs.Option.{option_map_or}
 use Rattle.std.proofs.lemmas.Bool.{cases_eq}
 use Rattle.iom_base.specs.Bytes.{with_bytes}
@@ -8,7 +8,7 @@ use Rattle.iom_base.specs.declared.access.AccessKind.TheVariants as kinds
 use Rattle.iom_base.specs.declared.cause.Cause.{Cause}
 use Rattle.iom_ledger.specs.declared.entry.HistoryEntry.{HistoryEntry}
 use Rattle.iom_ledger.specs.declared.entry.HistoryEntry.TheVariants as entries
-use Rattle.iom_ledger.specs.History.{History, May, Pair, Holds}
+use Rattle.iom_ledger.specs.History.{History, May, Pair, Holds, confirmed_from}
 use Rattle.iom_ledger.specs.History as ledger
 use Rattle.iom_ledger.specs.declared.refusal.Refusal.TheVariants.{NoSuchDevice}
 use Rattle.iom_machine.specs.declared.choice.Choice.{Choice}
@@ -24,12 +24,12 @@ use Rattle.iom_base.specs.declared.access.AcceptedAccess.{AcceptedAccess}
 use Rattle.iom_machine.specs.declared.state.State.{State}
 use Rattle.iom_machine.specs.Frames.{bytes_of, stored}
 use Rattle.iom_machine.specs.Devices.{device_of, IsPlugged, EachInFlightMay}
-use Rattle.iom_ledger.specs.Confirmations.{confirmed_from}
-use Rattle.iom_base.specs.Accesses.{read_of, write_of, offset_of, IsWithinPage}
+use Rattle.iom_base.specs.Accesses.{read_of, offset_of, IsWithinPage}
 use Rattle.iom_machine.specs.Requests.{IsBusy, HoldsFor, MayAcceptInOneStage, MayAccept, MayFault, MayAnswer, state_after, with_accepted}
 use Rattle.iom_machine.specs.Kinds.{sends_untranslated, is_any_kind}
-use Rattle.iom_machine.specs.Machine.{Requests, Makes, Step, Run, with_oldest_made}
-use Rattle.iom_machine.specs.Headline.{IsReached, byte_in, IsOldest, IsOutside, AreNamedBytes, TouchesItsOwn, Asked, asked_untranslated, asked_through_cache, AsksFor, IsOneStage, GrantsFrame, NoneGrants, TouchesFrame}
+use Rattle.iom_machine.specs.Machine.{Requests, Makes, Step, with_oldest_made}
+use Rattle.iom_machine.specs.Headline.{byte_in, IsOutside, AreNamedBytes, TouchesItsOwn, AsksFor, IsOneStage, GrantsFrameTo, GrantsFrame, TouchesFrameBy, TouchesFrame}
+use Rattle.iom_machine.specs.Laws.{IsReached}
 use Rattle.iom_machine.proofs.ReachLemmas.{NamesFrame, reach_before}
 use Rattle.iom_machine.proofs.ByteLemmas.{slice_get-set_same, slice_get-set_other, slice_get-written_inside, slice_get-written_outside, slice_get-range, length-range}
 use Rattle.iom_machine.proofs.InFlightLemmas.{act_cases, able_act, some_case, All-at, AllInFlight-of, found_device, IsWhole}
@@ -213,92 +213,71 @@ asked_where_held chosen old new id frame device access outcome step there raw on
     let own : device.id ≡ id = (found_device old.devices id device there).1 in
     answered_where_held chosen old new frame device access outcome answer.0 answer.1 one within room (subst (λ i. HoldsFor old.history i access frame) (sym own) held)
 
--- a device that asks for an access is the one that asks for it, and the access the one that it asks for
-asked_parts : (d id : ℕ) (its asked : Asked) → ◌≡◌ {A = Option (ℕ × Asked)} (Some (d, its)) (Some (id, asked)) → (d ≡ id) × (its ≡ asked)
-asked_parts d id its asked same =
-    let pairs : ◌≡◌ {A = ℕ × Asked} (d, its) (id, asked) = cc in (ap (λ (p : ℕ × Asked). p.0) pairs, ap (λ (p : ℕ × Asked). p.1) pairs)
-
--- an access that the IOMMU translates is not one through a cache, nor one of a step
-translated_parts : (d id : ℕ) (its access : Access) → asked_untranslated d its ≡ asked_untranslated id access → (d ≡ id) × (its ≡ access)
-translated_parts d id its access asks =
-    let parts = asked_parts d id (Asked.Named its false) (Asked.Named access false) asks in
-    let same : Asked.Named its false ≡ Asked.Named access false = parts.1 in (parts.0, cc)
-
-cached_is_none : (d id : ℕ) (its access : Access) → asked_through_cache d its ≡ asked_untranslated id access → ⊥
-cached_is_none d id its access asks =
-    let parts = asked_parts d id (Asked.Named its true) (Asked.Named access false) asks in
-    let same : Asked.Named its true ≡ Asked.Named access false = parts.1 in
-    let flags : true ≡ false = cc in cc
-
-chosen_is_none : (d id : ℕ) (access : Access) → ◌≡◌ {A = Option (ℕ × Asked)} (Some (d, Asked.Chosen)) (asked_untranslated id access) → ⊥
-chosen_is_none d id access asks =
-    let parts = asked_parts d id Asked.Chosen (Asked.Named access false) asks in
-    let same : Asked.Chosen ≡ Asked.Named access false = parts.1 in cc
-
 pub accepted_on_its_frame : (old new : State) (event : Event) (outcome : Outcome) (id frame : ℕ) (device : Device) (access : Access)
     → Step old event outcome new → AsksFor event id access → IsPlugged old id device → device.kind ≡ Raw → IsOneStage device → IsWithinPage access → ¬ IsBusy device.in_flight
     → HoldsFor old.history id access frame
     → (outcome ≡ Accepted (device.accepted + 1)) × (new ≡ with_accepted old device access frame)
-accepted_on_its_frame old new (events.Read d address len) outcome id frame device access (choice, step) asks there raw one within room held =
-    let asked = translated_parts d id (read_of address len) access asks in
-    asked_where_held choice.frame old new id frame device access outcome
-    (subst (λ i. Requests choice.frame old i access outcome new) asked.0 (subst (λ x. Requests choice.frame old d x outcome new) asked.1 step)) there raw one within room held
-accepted_on_its_frame old new (events.Write d address bytes) outcome id frame device access (choice, step) asks there raw one within room held =
-    let asked = translated_parts d id (write_of address bytes) access asks in
-    asked_where_held choice.frame old new id frame device access outcome
-    (subst (λ i. Requests choice.frame old i access outcome new) asked.0 (subst (λ x. Requests choice.frame old d x outcome new) asked.1 step)) there raw one within room held
-accepted_on_its_frame old new (events.ReadThroughCache d address len) outcome id frame device access step asks there raw one within room held =
-    absurd (cached_is_none d id (read_of address len) access asks)
-accepted_on_its_frame old new (events.WriteThroughCache d address bytes) outcome id frame device access step asks there raw one within room held =
-    absurd (cached_is_none d id (write_of address bytes) access asks)
-accepted_on_its_frame old new (events.Step d) outcome id frame device access step asks there raw one within room held =
-    absurd (chosen_is_none d id access asks)
-accepted_on_its_frame old new _ outcome id frame device access step asks there raw one within room held = cc
+accepted_on_its_frame old new event outcome id frame device access step asks there raw one within room held =
+    let its = asks_requests old new event outcome id access asks step in
+    asked_where_held its.0 old new id frame device access outcome its.1 there raw one within room held
+  where
+    asks_requests : (old new : State) (event : Event) (outcome : Outcome) (id : ℕ) (access : Access) → AsksFor event id access → Step old event outcome new
+        → (chosen : ℕ) × Requests chosen old id access outcome new
+    asks_requests old new event outcome id access (inl (address, len, is, same)) step =
+        let its = subst (λ e. Step old e outcome new) is step in (its.0.frame, subst (λ a. Requests its.0.frame old id a outcome new) (sym same) its.1)
+    asks_requests old new event outcome id access (inr (address, bytes, is, same)) step =
+        let its = subst (λ e. Step old e outcome new) is step in (its.0.frame, subst (λ a. Requests its.0.frame old id a outcome new) (sym same) its.1)
 
--- a frame that is free stays so, after an entry that doesn't grant it
-free_after : (entry : HistoryEntry) (h : History) (frame : ℕ) → ¬ NamesFrame entry frame → ledger.NoneMayReach h frame → ledger.NoneMayReach (entry ∷ h) frame
-free_after entry h frame other free device kind may = elim (reach_before entry h device frame kind may) [
+-- by no access may the device reach the frame
+abbrev pub CannotReach : History → ℕ → ℕ → Type 0
+CannotReach history id frame = (kind : AccessKind) → ¬ May history id frame kind
+
+-- so it is after an entry that doesn't grant it the frame
+barred_after : (entry : HistoryEntry) (h : History) (id frame : ℕ) → ¬ NamesFrame entry id frame → CannotReach h id frame → CannotReach (entry ∷ h) id frame
+barred_after entry h id frame other barred kind may = elim (reach_before entry h id frame kind may) [
   | inl named ↦ other named
-  | inr before ↦ free device kind before
+  | inr before ↦ barred kind before
 ]
 
-free_confirmed : (first n : ℕ) (h : History) (frame : ℕ) → ledger.NoneMayReach h frame → ledger.NoneMayReach (confirmed_from first n h) frame
-free_confirmed first zero h frame free = free
-free_confirmed first (suc n) h frame free = free_after (entries.Confirmed (first + n)) (confirmed_from first n h) frame (λ x. x) (free_confirmed first n h frame free)
+barred_confirmed : (first n : ℕ) (h : History) (id frame : ℕ) → CannotReach h id frame → CannotReach (confirmed_from first n h) id frame
+barred_confirmed first zero h id frame barred = barred
+barred_confirmed first (suc n) h id frame barred =
+    barred_after (entries.Confirmed (first + n)) (confirmed_from first n h) id frame (λ x. x) (barred_confirmed first n h id frame barred)
+
+barred-change : (event : Event) (outcome : Outcome) (old new : State) (id frame : ℕ) → Change event outcome old new → ¬ GrantsFrameTo event outcome id frame
+    → CannotReach old.history id frame → CannotReach new.history id frame
+barred-change event outcome old new id frame (Change.ledger_stays stays) other barred = subst (λ h. CannotReach h id frame) (sym stays.0) barred
+barred-change event outcome old new id frame (Change.detaches stays next) other barred = subst (λ h. CannotReach h id frame) (sym stays) barred
+barred-change event outcome old new id frame (Change.grants d page named rights granted low empty extended tickets) other barred =
+    subst (λ h. CannotReach h id frame) (sym extended)
+    (barred_after (entries.Granted d page named rights) old.history id frame
+    (λ same. other (subst (λ f. GrantsFrameTo event outcome id f) same.1 (subst (λ i. GrantsFrameTo event outcome i named) same.0 granted))) barred)
+barred-change event outcome old new id frame (Change.releases d page extended next) other barred =
+    subst (λ h. CannotReach h id frame) (sym extended) (barred_after (entries.Released d page new.last_ticket) old.history id frame (λ x. x) barred)
+barred-change event outcome old new id frame (Change.releases_all d extended next) other barred =
+    subst (λ h. CannotReach h id frame) (sym extended) (barred_after (entries.AllReleased d new.last_ticket) old.history id frame (λ x. x) barred)
+barred-change event outcome old new id frame (Change.confirms_some first n most extended tickets reaches) other barred =
+    subst (λ h. CannotReach h id frame) (sym extended) (barred_confirmed first n old.history id frame barred)
+
+-- a device that can't reach a frame can't after a step that doesn't grant it that frame
+pub barred-step : (id frame : ℕ) (old new : State) (event : Event) (outcome : Outcome) → Step old event outcome new → ¬ GrantsFrameTo event outcome id frame
+    → CannotReach old.history id frame → CannotReach new.history id frame
+barred-step id frame old new event outcome step other barred = barred-change event outcome old new id frame (change-step old new event outcome step) other barred
 
 -- a frame that is free stays so, after a step that doesn't grant it
-pub free-change : (event : Event) (outcome : Outcome) (old new : State) (frame : ℕ) → Change event outcome old new → ¬ GrantsFrame event outcome frame
+pub free-step : (frame : ℕ) (old new : State) (event : Event) (outcome : Outcome) → Step old event outcome new → ¬ GrantsFrame event outcome frame
     → ledger.NoneMayReach old.history frame → ledger.NoneMayReach new.history frame
-free-change event outcome old new frame (Change.ledger_stays stays) other free = subst (λ h. ledger.NoneMayReach h frame) (sym stays.0) free
-free-change event outcome old new frame (Change.detaches stays next) other free = subst (λ h. ledger.NoneMayReach h frame) (sym stays) free
-free-change event outcome old new frame (Change.grants id page named rights granted low empty extended tickets) other free =
-    subst (λ h. ledger.NoneMayReach h frame) (sym extended)
-    (free_after (entries.Granted id page named rights) old.history frame (λ same. other (subst (GrantsFrame event outcome) same granted)) free)
-free-change event outcome old new frame (Change.releases id page extended next) other free =
-    subst (λ h. ledger.NoneMayReach h frame) (sym extended) (free_after (entries.Released id page new.last_ticket) old.history frame (λ x. x) free)
-free-change event outcome old new frame (Change.releases_all id extended next) other free =
-    subst (λ h. ledger.NoneMayReach h frame) (sym extended) (free_after (entries.AllReleased id new.last_ticket) old.history frame (λ x. x) free)
-free-change event outcome old new frame (Change.confirms_some first n most extended tickets reaches) other free =
-    subst (λ h. ledger.NoneMayReach h frame) (sym extended) (free_confirmed first n old.history frame free)
+free-step frame old new event outcome step other free id = barred-step id frame old new event outcome step (λ granted. other (id, granted)) (free id)
 
--- over a run in which no event grants it
-pub free-run : (old new : State) (events : List Event) (outcomes : List Outcome) (frame : ℕ) → Run old events outcomes new → NoneGrants events outcomes frame
-    → ledger.NoneMayReach old.history frame → ledger.NoneMayReach new.history frame
-free-run old new [] [] frame run none free = subst (λ (s : State). ledger.NoneMayReach s.history frame) (sym run) free
-free-run old new (event ∷ events) (outcome ∷ outcomes) frame (mid, step, run) (other, none) free =
-    free-run mid new events outcomes frame run none (free-change event outcome old mid frame (change-step old mid event outcome step) other free)
-free-run old new [] (outcome ∷ outcomes) frame run none free = absurd run
-free-run old new (event ∷ events) [] frame run none free = absurd run
+-- a device touches no frame that it can't reach
+pub untouched_by : (id frame : ℕ) (old : State) (event : Event) (outcome : Outcome) → IsSound old → CannotReach old.history id frame → ¬ TouchesFrameBy old event outcome id frame
+untouched_by id frame old event outcome sound barred (makes, made, (device, at, first), on) =
+    let may = subst (λ f. May old.history device.id f made.access.kind) on (made_facts old sound id device made at first).1 in
+    barred made.access.kind (subst (λ i. May old.history i frame made.access.kind) (found_device old.devices id device at).1 may)
 
--- what a commit makes may be reached
-made_may : (old new : State) (id frame : ℕ) (outcome : Outcome) (made : AcceptedAccess) → IsSound old → IsOldest old id made → made.frame ≡ frame → ledger.NoneMayReach old.history frame → ⊥
-made_may old new id frame outcome made sound (device, at, first) on free =
-    free device.id made.access.kind (subst (λ f. May old.history device.id f made.access.kind) on (made_facts old sound id device made at first).1)
-
-pub untouched : (old new : State) (event : Event) (outcome : Outcome) (frame : ℕ) → IsSound old → ledger.NoneMayReach old.history frame → TouchesFrame old event outcome frame → ⊥
-untouched old new (events.Commit id) (Read bytes) frame sound free (made, oldest, on) = made_may old new id frame (Read bytes) made sound oldest on free
-untouched old new (events.Commit id) (Wrote len) frame sound free (made, oldest, on) = made_may old new id frame (Wrote len) made sound oldest on free
-untouched old new _ _ frame sound free touches = absurd touches
+-- and none touches one that is free
+pub untouched : (frame : ℕ) (old : State) (event : Event) (outcome : Outcome) → IsSound old → ledger.NoneMayReach old.history frame → ¬ TouchesFrame old event outcome frame
+untouched frame old event outcome sound free (id, touches) = untouched_by id frame old event outcome sound (free id) touches
 
 -- the oldest access of a device can be made, where there is one
 makes_of : (state : State) → IsSound state → (id : ℕ) (device : Device) → device_of state id ≡ Some device → (outcome : Outcome) × (new : State) × Makes state device outcome new

@@ -37,7 +37,6 @@ use Rattle.iom_machine.specs.ThroughCache.{at_frame, MayGoThrough, MayAnswerThro
 use Rattle.iom_machine.specs.Machine.{IfItCan, Acts, Requests, RequestsTranslated, RequestsThroughCache, Asks, Forges, Resets, InsertsDisk, SetsQueue, Steps, TellsStatus, Makes, Commits, Step}
 use Rattle.iom_machine.specs.Leaving.{device_once_confirmed}
 use Rattle.iom_machine.specs.Tickets.{with_confirmed}
-use Rattle.iom_machine.specs.Headline.{Asked, asked_by, IsSentOf}
 use Rattle.iom_machine.proofs.ReachLemmas.{contains_head, contains_tail}
 
 -- a fact by cases of an option, with the case that it is
@@ -136,16 +135,6 @@ accepted_reach (Leaving ticket mode ats) state id access frame (unconfirmed, for
 abbrev pub IsAcceptance : Outcome → Type 0
 IsAcceptance (Accepted number) = ⊤
 IsAcceptance _ = ⊥
-
--- the event asked for the access in flight, and was answered that it is accepted
-abbrev pub IsAccepted : Event → Outcome → ℕ → AcceptedAccess → Type 0
-IsAccepted event (Accepted number) id flight = (asked : Asked) × (asked_by event ≡ Some (id, asked)) × IsSentOf asked flight
-IsAccepted event _ id flight = ⊥
-
-pub accepted_if : (event : Event) (outcome : Outcome) (id : ℕ) (asked : Asked) (flight : AcceptedAccess) → asked_by event ≡ Some (id, asked) → IsSentOf asked flight
-    → IsAcceptance outcome → IsAccepted event outcome id flight
-accepted_if event (Accepted number) id asked flight asks sent accepts = (asked, asks, sent)
-accepted_if event _ id asked flight asks sent never = absurd never
 
 -- an access names as many bytes as it has
 abbrev pub NamesItsBytes : Access → Type 0
@@ -384,7 +373,7 @@ same-repeats old new _ step = absurd step
 
 -- A step keeps each fact of each access in flight, where it is true of those that enter.
 pub in_flight-step : (P : ℕ → AcceptedAccess → Type 0) (old new : State) (event : Event) (outcome : Outcome) → Step old event outcome new
-    → ((id : ℕ) (flight : AcceptedAccess) → IsAccepted event outcome id flight → IsWhole id flight → StillMay old.history id flight → P id flight)
+    → ((id : ℕ) (flight : AcceptedAccess) → IsWhole id flight → StillMay old.history id flight → P id flight)
     → AllInFlight P old.devices → AllInFlight P new.devices
 in_flight-step P old new (events.Plug id what) Done (choice, step) enters all =
     subst (λ (s : State). AllInFlight P s.devices) (sym step.1) (All-push (λ (d : Device). All (P d.id) d.in_flight) old.devices _ all (All-nil (P id)))
@@ -434,18 +423,18 @@ in_flight-step P old new events.Faults NoRecord (choice, step) enters all = devi
 in_flight-step P old new events.Faults _ (choice, step) enters all = absurd step
 in_flight-step P old new (events.Read id address len) outcome (choice, step) enters all =
     in_flight-requests P choice.frame old new id (read_of address len) outcome step
-    (λ accepts within may. enters id _ (accepted_if (events.Read id address len) outcome id _ _ refl refl accepts) (within, read_names address len) may) all
+    (λ accepts within may. enters id _ (within, read_names address len) may) all
 in_flight-step P old new (events.Write id address bytes) outcome (choice, step) enters all =
     in_flight-requests P choice.frame old new id (write_of address bytes) outcome step
-    (λ accepts within may. enters id _ (accepted_if (events.Write id address bytes) outcome id _ _ refl refl accepts) (within, write_names address bytes) may) all
+    (λ accepts within may. enters id _ (within, write_names address bytes) may) all
 in_flight-step P old new (events.ReadTranslated id address len) outcome (choice, step) enters all = devices_stay P old new (ap (λ (s : State). s.devices) (same-translated old new id (read_of address len) outcome step)) all
 in_flight-step P old new (events.WriteTranslated id address bytes) outcome (choice, step) enters all = devices_stay P old new (ap (λ (s : State). s.devices) (same-translated old new id (write_of address bytes) outcome step)) all
 in_flight-step P old new (events.ReadThroughCache id address len) outcome (choice, step) enters all =
     in_flight-through_cache P choice.frame old new id (read_of address len) outcome step
-    (λ accepts within may. enters id _ (accepted_if (events.ReadThroughCache id address len) outcome id _ _ refl refl accepts) (within, read_names address len) may) all
+    (λ accepts within may. enters id _ (within, read_names address len) may) all
 in_flight-step P old new (events.WriteThroughCache id address bytes) outcome (choice, step) enters all =
     in_flight-through_cache P choice.frame old new id (write_of address bytes) outcome step
-    (λ accepts within may. enters id _ (accepted_if (events.WriteThroughCache id address bytes) outcome id _ _ refl refl accepts) (within, write_names address bytes) may) all
+    (λ accepts within may. enters id _ (within, write_names address bytes) may) all
 in_flight-step P old new (events.Ask id page) outcome (choice, step) enters all = devices_stay P old new (ap (λ (s : State). s.devices) (same-asks old new id outcome step)) all
 in_flight-step P old new (events.Forge id serial) outcome (choice, step) enters all = devices_stay P old new (ap (λ (s : State). s.devices) (same-forges old new id outcome step)) all
 in_flight-step P old new (events.Deliver place) outcome (choice, step) enters all = devices_stay P old new (ap (λ (s : State). s.devices) (same-delivers choice.device choice.page old new outcome step)) all
@@ -456,7 +445,7 @@ in_flight-step P old new (events.Queue id size descriptors available used) outco
     devices_stay P old new (ap (λ (s : State). s.devices) (same-sets_queue (layout_of size descriptors available used) old new id outcome step)) all
 in_flight-step P old new (events.Step id) outcome (choice, step) enters all =
     in_flight-steps P choice.access choice.frame old new id outcome step
-    (λ flight accepts whole may. enters id flight (accepted_if (events.Step id) outcome id Asked.Chosen flight refl tt accepts) whole may) all
+    (λ flight accepts whole may. enters id flight whole may) all
 in_flight-step P old new (events.Status id) outcome (choice, step) enters all =
     devices_stay P old new (ap (λ (s : State). s.devices) (same-tells_status old new id outcome step)) all
 in_flight-step P old new (events.Commit id) outcome (choice, step) enters all = in_flight-commits P old new id outcome step all

@@ -18,8 +18,8 @@ use Rattle.std.proofs.lemmas.List.Elements.{All-contains}
 use Rattle.iom_machine.specs.Frames.{FewerThan}
 use Rattle.iom_ledger.specs.declared.entry.HistoryEntry.{HistoryEntry}
 use Rattle.iom_ledger.specs.declared.entry.HistoryEntry.TheVariants.{Granted, Released, AllReleased, Confirmed}
-use Rattle.iom_ledger.specs.History.{History, Pair, is_about, granted_by, held_at, released_by, released_at, confirms, Holds, Lingers, May, NoneMayReach, serves}
-use Rattle.iom_machine.specs.Judging.{holds_for, still_serves, is_pair, still_is, lingers_for, lingers_among, reaches_in, anyone_reaches_in}
+use Rattle.iom_ledger.specs.History.{History, Pair, is_about, granted_by, held_at, released_by, released_at, confirms, Holds, Lingers, May, NoneMayReach}
+use Rattle.iom_machine.specs.Judging.{serves, holds_for, still_serves, is_pair, still_is, lingers_for, lingers_among, reaches_in, anyone_reaches_in}
 use Rattle.iom_machine.proofs.ReachLemmas.{cons_cases, contains_head, contains_tail, contains_from_filter, contains_filter, released_was_held}
 
 -- a test that some element passes, and the element

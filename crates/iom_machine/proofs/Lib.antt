@@ -3,6 +3,7 @@ pub mod ByteLemmas
 pub mod InFlightLemmas
 pub mod LeavingLemmas
 pub mod GrantLemmas
+pub mod AskedLemmas
 pub mod DeviceLemmas
 pub mod SoundLemmas
 pub mod HeadlineLemmas

@@ -9,7 +9,7 @@ use Rattle.iom_machine.specs.declared.outcome.Outcome.TheVariants.{Done, Refused
 use Rattle.iom_machine.specs.declared.state.Frame.{Frame}
 use Rattle.iom_machine.specs.declared.state.State.{State}
 use Rattle.iom_machine.specs.Frames.{is_reserved, bytes_of, stored}
-use Rattle.iom_machine.specs.Headline.{IsReached}
+use Rattle.iom_machine.specs.Laws.{IsReached}
 use Rattle.iom_machine.specs.Judging.{anyone_reaches_in}
 use Rattle.iom_machine.specs.Machine.{Pokes, Peeks, TellsFree}
 use Rattle.iom_ledger.specs.Refusals.{first_that_applies, NoneApplies, IsRefusedBy}

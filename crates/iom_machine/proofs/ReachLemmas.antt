@@ -45,12 +45,12 @@ contains_filter p (a ∷ xs) x c passes = by (p a) refl (cons_cases a xs x c) (�
     by true e (inl same) rest = subst (λ y. Contains (a ∷ filter p xs) y) same (contains_head a (filter p xs))
     by true e (inr later) rest = contains_tail a (filter p xs) x (rest later)
 
--- the entry grants the frame
-abbrev pub NamesFrame : HistoryEntry → ℕ → Type 0
-NamesFrame (Granted d a named rights) frame = named ≡ frame
-NamesFrame (Released d a ticket) frame = ⊥
-NamesFrame (AllReleased d ticket) frame = ⊥
-NamesFrame (Confirmed ticket) frame = ⊥
+-- the entry grants the frame to the device
+abbrev pub NamesFrame : HistoryEntry → ℕ → ℕ → Type 0
+NamesFrame (Granted d a named rights) device frame = (d ≡ device) × (named ≡ frame)
+NamesFrame (Released d a ticket) device frame = ⊥
+NamesFrame (AllReleased d ticket) device frame = ⊥
+NamesFrame (Confirmed ticket) device frame = ⊥
 
 -- a ticket that isn't confirmed was not before
 unconfirmed_before : (entry : HistoryEntry) (h : History) (t : ℕ) → not (confirms (entry ∷ h) t) ≡ true → not (confirms h t) ≡ true
@@ -91,24 +91,27 @@ lingers_before entry h d p pair (t, c) =
     by true x = released_was_held entry (held_at h d p) t pair x
     by false (k, below, at) = absurd (omega arith)
 
--- what is held was held before, or is granted now
+-- what is held was held before, or is granted to that device now
 holds_before : (entry : HistoryEntry) (h : History) (d p frame : ℕ) (rights : Rights) → Holds (entry ∷ h) d p (frame, rights)
-    → NamesFrame entry frame ⊎ Holds h d p (frame, rights)
-holds_before entry h d p frame rights holds = by (is_about entry (held_at h d p) d p) holds
+    → NamesFrame entry d frame ⊎ Holds h d p (frame, rights)
+holds_before entry h d p frame rights holds = by (is_about entry (held_at h d p) d p) refl holds
   where
-    granted : (e : HistoryEntry) → granted_by e ≡ Some (frame, rights) → NamesFrame e frame
-    granted (Granted x a named r) same = let pairs : ◌≡◌ {A = Pair} (named, r) (frame, rights) = cc in ap (λ (x : Pair). x.0) pairs
-    granted (Released x a ticket) same = cc
-    granted (AllReleased x ticket) same = cc
-    granted (Confirmed ticket) same = cc
+    granted : (e : HistoryEntry) → is_about e (held_at h d p) d p ≡ true → granted_by e ≡ Some (frame, rights) → NamesFrame e d frame
+    granted (Granted x a named r) about same =
+        let pairs : ◌≡◌ {A = Pair} (named, r) (frame, rights) = cc in
+        (eqb-true x d (and_parts (x == d) (a == p) about).0, ap (λ (pair : Pair). pair.0) pairs)
+    granted (Released x a ticket) about same = cc
+    granted (AllReleased x ticket) about same = cc
+    granted (Confirmed ticket) about same = cc
 
-    by : (b : Bool) → (if b then granted_by entry else held_at h d p) ≡ Some (frame, rights) → NamesFrame entry frame ⊎ Holds h d p (frame, rights)
-    by true x = inl (granted entry x)
-    by false x = inr x
+    by : (b : Bool) → is_about entry (held_at h d p) d p ≡ b → (if b then granted_by entry else held_at h d p) ≡ Some (frame, rights)
+        → NamesFrame entry d frame ⊎ Holds h d p (frame, rights)
+    by true about x = inl (granted entry about x)
+    by false about x = inr x
 
--- a device reaches a frame only where it did before, or the frame is granted now
+-- a device reaches a frame only where it did before, or the frame is granted to that device now
 pub reach_before : (entry : HistoryEntry) (h : History) (device frame : ℕ) (kind : AccessKind) → May (entry ∷ h) device frame kind
-    → NamesFrame entry frame ⊎ May h device frame kind
+    → NamesFrame entry device frame ⊎ May h device frame kind
 reach_before entry h device frame kind (page, rights, reaches, allowed) = elim reaches [
   | inl holds ↦ elim (holds_before entry h device page frame rights holds) [
     | inl named ↦ inl named

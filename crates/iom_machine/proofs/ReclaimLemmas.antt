@@ -1,14 +1,15 @@
 -- The sentences of the headline, of every step and of one run.
-use Rattle.std.proofs.Common.{ℕ, inl, inr, List, [], ◌∷◌, sym, subst}
+use Rattle.std.proofs.Common.{ℕ, List, [], ◌∷◌, sym, subst}
 use Rattle.iom_ledger.specs.History as ledger
 use Rattle.iom_machine.specs.declared.event.Event.{Event}
 use Rattle.iom_machine.specs.declared.outcome.Outcome.{Outcome}
 use Rattle.iom_machine.specs.declared.state.State.{State}
-use Rattle.iom_machine.specs.Headline.{IsReached, MadeAccessTouchesItsOwn, HeldPageIsAccepted, GrantsFrame, MadeAccessesTouchTheirOwn, HeldPagesAreAccepted, FreeFramesAreNotTouched}
+use Rattle.iom_machine.specs.Headline.{MadeAccessTouchesItsOwn, HeldPageIsAccepted, GrantsFrameTo, GrantsFrame, TouchesFrameBy, TouchesFrame}
 use Rattle.iom_machine.specs.Machine.{Step, Run}
-use Rattle.iom_machine.specs.Reclaim.{IsFreeYet, ReclaimsAlong, Reclaims}
-use Rattle.iom_machine.proofs.HeadlineLemmas.{touches_its_own, accepted_on_its_frame, free-change, free-run, untouched}
-use Rattle.iom_machine.proofs.SoundLemmas.{IsSound, change-step, sound-step, sound_if_reached, sound-run}
+use Rattle.iom_machine.specs.Reclaim.{UntouchedUntilGranted, StaysUntouched, Reclaims}
+use Rattle.iom_machine.specs.Laws.{IsReached, NoneGrants, MadeAccessesTouchTheirOwn, HeldPagesAreAccepted, FreeFramesAreNotTouched, OnlyGranteesTouch}
+use Rattle.iom_machine.proofs.HeadlineLemmas.{touches_its_own, accepted_on_its_frame, CannotReach, barred-step, free-step, untouched_by, untouched}
+use Rattle.iom_machine.proofs.SoundLemmas.{IsSound, sound-step, sound_if_reached, sound-run}
 
 -- the sentences of a step from a sound state
 step_touches_its_own : (old new : State) (event : Event) (outcome : Outcome) → IsSound old → Step old event outcome new → MadeAccessTouchesItsOwn old event outcome new
@@ -25,38 +26,65 @@ made_accesses_touch_their_own old new event outcome reached step = step_touches_
 pub held_pages_are_accepted : HeldPagesAreAccepted
 held_pages_are_accepted old new event outcome reached step = step_accepts_held old new event outcome step
 
-pub free_frames_are_not_touched : FreeFramesAreNotTouched
-free_frames_are_not_touched free old new since told event outcome reached step frame is_free run none touches =
-    untouched old new event outcome frame (sound-run free old since told (sound_if_reached free reached) run)
-    (free-run free old since told frame run none is_free.2) touches
+-- what a state has, and each step keeps that is no such grant, it has after a run with none
+kept_until : (IsGrant : Event → Outcome → Type 0) (IsOut : State → Type 0)
+    → ((old new : State) (event : Event) (outcome : Outcome) → Step old event outcome new → ¬ IsGrant event outcome → IsOut old → IsOut new)
+    → (old new : State) (events : List Event) (outcomes : List Outcome) → Run old events outcomes new → NoneGrants IsGrant events outcomes → IsOut old → IsOut new
+kept_until IsGrant IsOut keeps old new [] [] run none out = subst IsOut (sym run) out
+kept_until IsGrant IsOut keeps old new (event ∷ events) (outcome ∷ outcomes) (mid, step, run) (other, none) out =
+    kept_until IsGrant IsOut keeps mid new events outcomes run none (keeps old mid event outcome step other out)
+kept_until IsGrant IsOut keeps old new [] (outcome ∷ outcomes) run none out = absurd run
+kept_until IsGrant IsOut keeps old new (event ∷ events) [] run none out = absurd run
 
--- what is free or was, and wasn't granted since, may be reached by no device
-free_yet : (IsStillFree : ℕ → Type 0) (state : State) → ((frame : ℕ) → IsStillFree frame → ledger.NoneMayReach state.history frame)
-    → (frame : ℕ) → IsFreeYet IsStillFree state frame → ledger.NoneMayReach state.history frame
-free_yet IsStillFree state still frame (inl before) = still frame before
-free_yet IsStillFree state still frame (inr now) = now.2
+pub free_frames_are_not_touched : FreeFramesAreNotTouched
+free_frames_are_not_touched free old new since told event outcome reached step frame is_free run none =
+    untouched frame old event outcome (sound-run free old since told (sound_if_reached free reached) run)
+    (kept_until (λ its what. GrantsFrame its what frame) (λ (s : State). ledger.NoneMayReach s.history frame) (free-step frame) free old since told run none is_free.2)
+
+pub only_grantees_touch : OnlyGranteesTouch
+only_grantees_touch free old new since told event outcome reached step id frame is_free run none =
+    untouched_by id frame old event outcome (sound-run free old since told (sound_if_reached free reached) run)
+    (kept_until (λ its what. GrantsFrameTo its what id frame) (λ (s : State). CannotReach s.history id frame) (barred-step id frame) free old since told run none (is_free.2 id))
+
+-- and where it excludes such a touch, there is none along a run until there is such a grant
+untouched_until : (IsTouch : State → Event → Outcome → Type 0) (IsGrant : Event → Outcome → Type 0) (IsOut : State → Type 0)
+    → ((old : State) (event : Event) (outcome : Outcome) → IsSound old → IsOut old → ¬ IsTouch old event outcome)
+    → ((old new : State) (event : Event) (outcome : Outcome) → Step old event outcome new → ¬ IsGrant event outcome → IsOut old → IsOut new)
+    → (state : State) (events : List Event) (outcomes : List Outcome) (last : State) (run : Run state events outcomes last)
+    → IsSound state → IsOut state → UntouchedUntilGranted IsTouch IsGrant state events outcomes last run
+untouched_until IsTouch IsGrant IsOut excludes keeps state (event ∷ events) (outcome ∷ outcomes) last (next, step, rest) sound out = (
+  excludes state event outcome sound out,
+  λ other. untouched_until IsTouch IsGrant IsOut excludes keeps next events outcomes last rest (sound-step state next event outcome sound step) (keeps state next event outcome step other out),
+)
+untouched_until IsTouch IsGrant IsOut excludes keeps state _ _ last run sound out = tt
+
+-- a frame that is free stays untouched along each run from there
+stays_untouched : (state : State) (events : List Event) (outcomes : List Outcome) (last : State) (run : Run state events outcomes last) (frame : ℕ)
+    → IsSound state → ledger.NoneMayReach state.history frame → StaysUntouched state events outcomes last run frame
+stays_untouched state events outcomes last run frame sound free = record {
+  by_any = untouched_until (λ old event outcome. TouchesFrame old event outcome frame) (λ event outcome. GrantsFrame event outcome frame)
+      (λ (s : State). ledger.NoneMayReach s.history frame) (untouched frame) (free-step frame) state events outcomes last run sound free;
+  by_each = λ id. untouched_until (λ old event outcome. TouchesFrameBy old event outcome id frame) (λ event outcome. GrantsFrameTo event outcome id frame)
+      (λ (s : State). CannotReach s.history id frame) (untouched_by id frame) (barred-step id frame) state events outcomes last run sound (free id);
+}
 
 -- the sentences hold along a run from a sound state
-reclaims_along : (IsStillFree : ℕ → Type 0) (state : State) (events : List Event) (outcomes : List Outcome) (last : State) (run : Run state events outcomes last)
-    → IsSound state → ((frame : ℕ) → IsStillFree frame → ledger.NoneMayReach state.history frame)
-    → ReclaimsAlong IsStillFree state events outcomes last run
-reclaims_along IsStillFree state [] [] last run sound still = (subst IsSound (sym run) sound).reaches
-reclaims_along IsStillFree state [] (outcome ∷ outcomes) last run sound still = absurd run
-reclaims_along IsStillFree state (event ∷ events) [] last run sound still = absurd run
-reclaims_along IsStillFree state (event ∷ events) (outcome ∷ outcomes) last (next, step, rest) sound still =
-    let free = free_yet IsStillFree state still in (
-      record {
-        may = sound.reaches;
-        made = step_touches_its_own state next event outcome sound step;
-        accepted = step_accepts_held state next event outcome step;
-        free = λ frame its. untouched state next event outcome frame sound (free frame its);
-      },
-      reclaims_along (λ frame. IsFreeYet IsStillFree state frame × (¬ GrantsFrame event outcome frame)) next events outcomes last rest (sound-step state next event outcome sound step)
-          (λ frame its. free-change event outcome state next frame (change-step state next event outcome step) its.1 (free frame its.0)),
-    )
+reclaims_along : (state : State) (events : List Event) (outcomes : List Outcome) (last : State) (run : Run state events outcomes last)
+    → IsSound state → Reclaims state events outcomes last run
+reclaims_along state [] [] last run sound = (subst IsSound (sym run) sound).reaches
+reclaims_along state [] (outcome ∷ outcomes) last run sound = absurd run
+reclaims_along state (event ∷ events) [] last run sound = absurd run
+reclaims_along state (event ∷ events) (outcome ∷ outcomes) last (next, step, rest) sound = (
+  record {
+    may = sound.reaches;
+    made = step_touches_its_own state next event outcome sound step;
+    accepted = step_accepts_held state next event outcome step;
+  },
+  (λ frame free. stays_untouched state (event ∷ events) (outcome ∷ outcomes) last (next, step, rest) frame sound free.2),
+  reclaims_along next events outcomes last rest (sound-step state next event outcome sound step),
+)
 
 -- the sentences hold of every run from a state that is reached
 pub reclaims : (state : State) (events : List Event) (outcomes : List Outcome) (last : State) → IsReached state
     → (run : Run state events outcomes last) → Reclaims state events outcomes last run
-reclaims state events outcomes last reached run =
-    reclaims_along (λ frame. ⊥) state events outcomes last run (sound_if_reached state reached) (λ frame never. absurd never)
+reclaims state events outcomes last reached run = reclaims_along state events outcomes last run (sound_if_reached state reached)

@@ -14,7 +14,7 @@ use Rattle.iom_base.specs.GrantRights.{rights_of}
 use Rattle.iom_ledger.specs.declared.entry.HistoryEntry.{HistoryEntry}
 use Rattle.iom_ledger.specs.declared.entry.HistoryEntry.TheVariants as entries
 use Rattle.iom_ledger.specs.declared.refusal.Refusal.{Refusal}
-use Rattle.iom_ledger.specs.History.{History, May, Pair, held_at, confirms}
+use Rattle.iom_ledger.specs.History.{History, May, Pair, held_at, confirms, confirmed_from}
 use Rattle.iom_machine.specs.declared.event.Event.{Event}
 use Rattle.iom_machine.specs.declared.event.Event.TheVariants as events
 use Rattle.iom_machine.specs.declared.outcome.Outcome.{Outcome}
@@ -28,7 +28,6 @@ use Rattle.iom_base.specs.declared.owner.Owner.TheVariants.{System, OneDevice}
 use Rattle.iom_machine.specs.declared.state.State.{State}
 use Rattle.iom_machine.specs.Frames.{with_frame, reserved_for, stored}
 use Rattle.iom_machine.specs.Devices.{device_of, EachInFlightMay}
-use Rattle.iom_ledger.specs.Confirmations.{confirmed_from}
 use Rattle.iom_ledger.specs.Refusals.{NoneApplies, first_that_applies}
 use Rattle.iom_machine.specs.Refusals.{grant_reasons, has_cache, is_held, is_lingering}
 use Rattle.iom_base.specs.Accesses.{read_of, write_of, offset_of}
@@ -40,7 +39,8 @@ use Rattle.iom_machine.specs.Machine.{Requests, RequestsThroughCache, InsertsDis
 use Rattle.iom_machine.specs.PowerOn.{opening, empty_frame}
 use Rattle.iom_machine.specs.Leaving.{is_of_left, given_back}
 use Rattle.iom_machine.specs.Tickets.{with_confirmed}
-use Rattle.iom_machine.specs.Headline.{GrantsFrame, IsReached}
+use Rattle.iom_machine.specs.Headline.{GrantsFrameTo}
+use Rattle.iom_machine.specs.Laws.{IsReached}
 use Rattle.iom_virtqueue.specs.Layouts.{layout_of}
 use Rattle.iom_machine.proofs.ReachLemmas.{NamesFrame, reach_before, reach_after_grant, reach_after_release, reach_after_release_of_all}
 use Rattle.iom_machine.proofs.ByteLemmas.{length-with_bytes}
@@ -226,7 +226,7 @@ same_ledger-steps access chosen old new id outcome step = (
 -- How a step changes the ledger.
 pub data Change (event : Event) (outcome : Outcome) (old new : State) : Type 0 where
   ledger_stays : SameLedger old new → Change event outcome old new
-  grants : (id page frame : ℕ) (rights : Rights) → GrantsFrame event outcome frame → frame < length old.frames → held_at old.history id page ≡ None → new.history ≡ entries.Granted id page frame rights ∷ old.history → new.last_ticket ≡ old.last_ticket → Change event outcome old new
+  grants : (id page frame : ℕ) (rights : Rights) → GrantsFrameTo event outcome id frame → frame < length old.frames → held_at old.history id page ≡ None → new.history ≡ entries.Granted id page frame rights ∷ old.history → new.last_ticket ≡ old.last_ticket → Change event outcome old new
   detaches : new.history ≡ old.history → new.last_ticket ≡ old.last_ticket + 1 → Change event outcome old new
   releases : (id page : ℕ) → new.history ≡ entries.Released id page new.last_ticket ∷ old.history → new.last_ticket ≡ old.last_ticket + 1 → Change event outcome old new
   releases_all : (id : ℕ) → new.history ≡ entries.AllReleased id new.last_ticket ∷ old.history → new.last_ticket ≡ old.last_ticket + 1 → Change event outcome old new
@@ -249,7 +249,7 @@ change-step old new (events.Detach id) (Ticket ticket) (choice, step) =
 change-step old new (events.Detach id) (Refused why) (choice, step) = unchanged _ _ old new step.1
 change-step old new (events.Detach id) _ (choice, step) = absurd step
 change-step old new (events.Grant id page frame rights) Done (choice, step) =
-    Change.grants id page frame (rights_of rights) refl (grant_in_memory old id page frame step.0) (grant_finds_nothing old id page frame step.0) (ap (λ (s : State). s.history) step.2) (ap (λ (s : State). s.last_ticket) step.2)
+    Change.grants id page frame (rights_of rights) (page, rights, refl, refl) (grant_in_memory old id page frame step.0) (grant_finds_nothing old id page frame step.0) (ap (λ (s : State). s.history) step.2) (ap (λ (s : State). s.last_ticket) step.2)
 change-step old new (events.Grant id page frame rights) (Refused why) (choice, step) = unchanged _ _ old new step.1
 change-step old new (events.Grant id page frame rights) _ (choice, step) = absurd step
 change-step old new (events.Release id page) (Ticket ticket) (choice, step) =
@@ -354,25 +354,25 @@ in_memory-change : (event : Event) (outcome : Outcome) (old new : State) → Cha
     → AreInMemory new.history (length new.frames)
 in_memory-change event outcome old new change size low = subst (λ n. AreInMemory new.history n) (sym size) (by change)
   where
-    entered : (e : HistoryEntry) → ((frame : ℕ) → NamesFrame e frame → frame < length old.frames) → (h : History) → AreInMemory h (length old.frames) → AreInMemory (e ∷ h) (length old.frames)
+    entered : (e : HistoryEntry) → ((device frame : ℕ) → NamesFrame e device frame → frame < length old.frames) → (h : History) → AreInMemory h (length old.frames) → AreInMemory (e ∷ h) (length old.frames)
     entered e names h before device frame kind may = elim (reach_before e h device frame kind may) [
-      | inl named ↦ names frame named
+      | inl named ↦ names device frame named
       | inr reached ↦ before device frame kind reached
     ]
 
     confirmed : (first n : ℕ) → AreInMemory (confirmed_from first n old.history) (length old.frames)
     confirmed first zero = low
-    confirmed first (suc n) = entered (entries.Confirmed (first + n)) (λ frame named. absurd named) (confirmed_from first n old.history) (confirmed first n)
+    confirmed first (suc n) = entered (entries.Confirmed (first + n)) (λ device frame named. absurd named) (confirmed_from first n old.history) (confirmed first n)
 
     by : Change event outcome old new → AreInMemory new.history (length old.frames)
     by (Change.ledger_stays stays) = subst (λ h. AreInMemory h (length old.frames)) (sym stays.0) low
     by (Change.detaches stays next) = subst (λ h. AreInMemory h (length old.frames)) (sym stays) low
     by (Change.grants id page frame rights granted below empty extended tickets) = subst (λ h. AreInMemory h (length old.frames)) (sym extended)
-        (entered (entries.Granted id page frame rights) (λ named same. subst (λ n. n < length old.frames) same below) old.history low)
+        (entered (entries.Granted id page frame rights) (λ device named same. subst (λ n. n < length old.frames) same.1 below) old.history low)
     by (Change.releases id page extended next) = subst (λ h. AreInMemory h (length old.frames)) (sym extended)
-        (entered (entries.Released id page new.last_ticket) (λ frame named. absurd named) old.history low)
+        (entered (entries.Released id page new.last_ticket) (λ device frame named. absurd named) old.history low)
     by (Change.releases_all id extended next) = subst (λ h. AreInMemory h (length old.frames)) (sym extended)
-        (entered (entries.AllReleased id new.last_ticket) (λ frame named. absurd named) old.history low)
+        (entered (entries.AllReleased id new.last_ticket) (λ device frame named. absurd named) old.history low)
     by (Change.confirms_some first n most extended tickets reaches) = subst (λ h. AreInMemory h (length old.frames)) (sym extended) (confirmed first n)
 
 same_frames-requests : (chosen : ℕ) (old new : State) (id : ℕ) (access : Access) (outcome : Outcome) → Requests chosen old id access outcome new → new.frames ≡ old.frames
@@ -580,8 +580,8 @@ pub sound-step : (old new : State) (event : Event) (outcome : Outcome) → IsSou
 sound-step old new event outcome sound step =
     let change = change-step old new event outcome step in
     record {
-      reaches = reaches-change event outcome old new change sound.tickets (in_flight-step (StillMay old.history) old new event outcome step (λ id flight accepted whole may. may) sound.reaches);
-      whole = in_flight-step IsWhole old new event outcome step (λ id flight accepted whole may. whole) sound.whole;
+      reaches = reaches-change event outcome old new change sound.tickets (in_flight-step (StillMay old.history) old new event outcome step (λ id flight whole may. may) sound.reaches);
+      whole = in_flight-step IsWhole old new event outcome step (λ id flight whole may. whole) sound.whole;
       tickets = tickets-change event outcome old new change sound.tickets;
       frames = frames-step (IsWhole 0) AreWholeFrames
           (λ frames number owner all. All-with_frame (λ (f : Frame). length f.bytes ≡ 4096) frames number (λ frame. record frame { owner = Some owner }) (λ frame its. its) all)

@@ -1,4 +1,4 @@
-ghost use Rattle.iom_machine.specs.Refusals.{GrantsAreAtPages};
+ghost use Rattle.iom_machine.specs.Laws.{GrantsAreAtPages};
 
 /// A device has grants exactly where there is a page at which it holds something, or something
 /// lingers.

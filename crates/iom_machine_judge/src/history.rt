@@ -1,9 +1,9 @@
 // What a history says, read off it entry by entry.
 ghost use Rattle.std.specs.Prelude.{◌≡◌, ◌↔◌, IsTrue, ◌==◌, not, [], ◌∷◌, length, option_to_list, if◌then◌else◌};
 ghost use Rattle.std.specs.List.{list_any};
-ghost use Rattle.iom_ledger.specs.History.{is_about, granted_by, held_at, released_by, released_at, confirms, lingering_at, May, NoneMayReach, serves};
+ghost use Rattle.iom_ledger.specs.History.{is_about, granted_by, held_at, released_by, released_at, confirms, lingering_at, May, NoneMayReach};
 ghost use Rattle.iom_machine.specs.Tickets.{last_confirmed};
-ghost use Rattle.iom_machine.specs.Judging.{holds_for, still_serves, lingers_for, lingers_among, reaches_in, anyone_reaches_in, grants_left_in};
+ghost use Rattle.iom_machine.specs.Judging.{serves, holds_for, still_serves, lingers_for, lingers_among, reaches_in, anyone_reaches_in, grants_left_in};
 ghost use Rattle.iom_machine.specs.Requests.{LingersSomewhere};
 
 use iom_base::{AccessKind, DeviceId, Rights};

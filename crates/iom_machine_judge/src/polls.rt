@@ -2,7 +2,7 @@
 ghost use Rattle.std.specs.Prelude.{◌≡◌, ◌↔◌, ◌-◌, ◌≤◌, suc, IfOk, OnOk, IsTrue, Some, All};
 ghost use Rattle.iom_ledger.specs.History.{May};
 ghost use Rattle.iom_machine.specs.Devices.{DeviceMay};
-ghost use Rattle.iom_ledger.specs.Confirmations.{confirmed_from};
+ghost use Rattle.iom_ledger.specs.History.{confirmed_from};
 ghost use Rattle.iom_machine.specs.Tickets.{AreNextTickets};
 ghost use Rattle.iom_machine.specs.Machine.{Polls};
 ghost use Rattle.iom_machine_judge.specs.Deciding.{left_by};

@@ -1,7 +1,8 @@
 ghost use Rattle.std.specs.Prelude.{◌≡◌, ◌⊎◌, ◌↔◌, ℕ, ◌*◌, ◌/◌, ◌%◌, ◌<◌, [], ◌∷◌, ◌++◌, length, Some, None, is_some};
 ghost use Rattle.std.specs.List.{Contains};
 ghost use Rattle.iom_base.specs.Rights.{r, rw};
-ghost use Rattle.iom_base.specs.Sizes.{entry_size, table_entries, page_limit};
+ghost use Rattle.iom_base.specs.Sizes.{page_limit};
+ghost use Rattle.iom_base.specs.Tables.{entry_size, table_entries};
 ghost use Rattle.iom_phys_mem.specs.Words.{word_at, byte_at};
 ghost use Rattle.iom_stage_walk.specs.Paths.{path_of, first_levels};
 ghost use Rattle.iom_page_table.specs.Leaves.{leaf_of};

@@ -6,7 +6,8 @@ use Rattle.iom_virtio_blk.specs.declared.front.Front.{Front}
 use Rattle.iom_virtio_blk.specs.declared.stage.Stage.{Stage}
 use Rattle.iom_virtio_blk.specs.declared.stage.Stage.TheVariants.{Reset, FeaturesOk, DriverOk, NeedsReset}
 use Rattle.iom_virtio_blk.specs.Blocks.{EndsWaiting, given_up, down, negotiated, with_queue}
-use Rattle.iom_virtio_blk.specs.Disks.{DiskState, disk_in}
+use Rattle.iom_virtio_blk.specs.Disks.{disk_in}
+use Rattle.iom_virtio_blk.specs.DiskStates.{DiskState}
 use Rattle.iom_virtio_blk.specs.Features.{offered, flush_of}
 use Rattle.iom_virtio_blk.specs.Steps.{device}
 use Rattle.iom_virtqueue.specs.declared.layout.Layout.{Layout}

@@ -6,11 +6,12 @@ use Rattle.std.proofs.lemmas.Bool.Decides.{eqb_tells}
 use Rattle.std.proofs.lemmas.Option.{get_or_from_slice_get}
 use Rattle.iom_driver.proofs.Lists.{differs, get_there}
 use Rattle.iom_machine.specs.Disks.{is_among, without_disk}
-use Rattle.iom_virtio_blk.specs.Disks.{DiskState}
+use Rattle.iom_virtio_blk.specs.DiskStates.{DiskState}
 use Rattle.iom_platform.specs.declared.block.DiskAtHand.{DiskAtHand}
 use Rattle.iom_platform.specs.Agreement.{numbers_of}
 use Rattle.iom_platform.specs.Places.{IsDiskAt, TakesOut, others_than}
-use Rattle.iom_platform.specs.Seen.{DiskSeen, disk_seen, disks_seen}
+use Rattle.iom_platform.specs.Seen.{disk_seen, disks_seen}
+use Rattle.iom_platform.specs.Numbered.{DiskSeen}
 
 -- the first disk with the number
 pub disk_is : {D : Type 0} (seen : D → DiskState) (at_hand : List (DiskAtHand D)) (number place : ℕ) (one : DiskAtHand D)

@@ -5,7 +5,8 @@ use Rattle.std.proofs.lemmas.Bool.Decides.{eqb_tells}
 use Rattle.std.proofs.lemmas.Option.{get_or_from_slice_get}
 use Rattle.iom_driver.proofs.Lists.{differs, get_there}
 use Rattle.iom_virtio_blk.specs.declared.disk.Disk.{Ghosts}
-use Rattle.iom_virtio_blk.specs.Disks.{DiskState, disk_in}
+use Rattle.iom_virtio_blk.specs.Disks.{disk_in}
+use Rattle.iom_virtio_blk.specs.DiskStates.{DiskState}
 use Rattle.iom_virtio_blk.specs.Steps.{Device}
 use Rattle.iom_platform.specs.declared.block.Block.{Block}
 use Rattle.iom_platform.specs.Agreement.{Entry, entry_of, entries_of}

@@ -4,10 +4,10 @@ use Rattle.iom_driver.specs.declared.device.Device as driver
 use Rattle.iom_inflight.specs.Flights.{FlightRow}
 use Rattle.iom_device.specs.declared.device.Device.{Device}
 use Rattle.iom_composition.specs.Devices.{shown_devices}
-use Rattle.iom_virtio_blk.specs.Disks.{DiskState}
+use Rattle.iom_virtio_blk.specs.DiskStates.{DiskState}
 use Rattle.iom_platform.specs.declared.block.DiskAtHand.{DiskAtHand}
 use Rattle.iom_platform.specs.Agreement.{numbers_of}
-use Rattle.iom_platform.specs.PowerOn.{number_of}
+use Rattle.iom_platform.specs.Numbered.{number_of}
 use Rattle.iom_platform.specs.Seen.{disks_seen}
 
 -- where no device is shown, there is none

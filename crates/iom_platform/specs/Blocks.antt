@@ -22,7 +22,7 @@ use Rattle.iom_virtio_blk.specs.declared.step.Reply.TheVariants as reply
 use Rattle.iom_virtio_blk.specs.declared.step.Step.{Step}
 use Rattle.iom_virtio_blk.specs.declared.step.Step.TheVariants as step
 use Rattle.iom_virtio_blk.specs.Blocks.{IsQuiet, EndsWaiting, wanted_by, given_up, down, replied, negotiated, with_queue}
-use Rattle.iom_virtio_blk.specs.Disks.{DiskState}
+use Rattle.iom_virtio_blk.specs.DiskStates.{DiskState}
 use Rattle.iom_virtio_blk.specs.Features.{offered, flush_of}
 use Rattle.iom_virtio_blk.specs.Histories.{KeepsTelling}
 use Rattle.iom_virtio_blk.specs.Stages.{device_status}
@@ -35,7 +35,8 @@ use Rattle.iom_world.specs.Counts.{oldest_number}
 use Rattle.iom_composition.specs.Parts.{Parts}
 use Rattle.iom_world.specs.Seen.{parts_of}
 use Rattle.iom_composition.specs.Unable.{IsUnknown, IsUnable}
-use Rattle.iom_platform.specs.Seen.{BlockSeen, DiskSeen, Seen}
+use Rattle.iom_platform.specs.Seen.{BlockSeen, Seen}
+use Rattle.iom_platform.specs.Numbered.{DiskSeen}
 
 -- the block device with this id
 abbrev pub block_with : List BlockSeen → ℕ → Option BlockSeen

@@ -1,3 +1,4 @@
+pub mod Numbered
 pub mod Agreement
 pub mod AgreementIsFact
 pub mod Seen

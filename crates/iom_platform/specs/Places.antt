@@ -3,12 +3,13 @@
 use Rattle.std.specs.Prelude.{◌≡◌, ℕ, ◌==◌, not, Bool, List, [], ◌∷◌, find, filter, is_some, remove, slice_get, slice_set, Option, None, Some, if◌then◌else◌}
 use Rattle.iom_machine.specs.Disks.{without_disk}
 use Rattle.iom_virtio_blk.specs.declared.disk.Disk.{Ghosts}
-use Rattle.iom_virtio_blk.specs.Disks.{DiskState}
+use Rattle.iom_virtio_blk.specs.DiskStates.{DiskState}
 use Rattle.iom_platform.specs.declared.block.Block.{Block}
 use Rattle.iom_platform.specs.declared.block.DiskAtHand.{DiskAtHand}
 use Rattle.iom_platform.specs.Agreement.{Entry, entries_of, numbers_of}
 use Rattle.iom_platform.specs.Blocks.{block_with, with_block, IsTaken}
-use Rattle.iom_platform.specs.Seen.{DiskSeen, block_seen, blocks_seen, disk_seen, disks_seen}
+use Rattle.iom_platform.specs.Seen.{block_seen, blocks_seen, disk_seen, disks_seen}
+use Rattle.iom_platform.specs.Numbered.{DiskSeen}
 
 -- whether the block device with this id has a disk, if it is there
 abbrev pub has_in : List Entry → ℕ → Option Bool

@@ -1,16 +1,9 @@
 -- A platform at power-on.
-use Rattle.std.specs.Prelude.{◌≡◌, ℕ, ◌+◌, List, [], ◌∷◌, map}
-use Rattle.iom_virtio_blk.specs.Disks.{DiskState}
+use Rattle.std.specs.Prelude.{◌≡◌, ℕ, List, [], map}
+use Rattle.iom_virtio_blk.specs.DiskStates.{DiskState}
 use Rattle.iom_world.specs.PowerOn as world
-use Rattle.iom_platform.specs.Seen.{DiskSeen, Seen}
-
--- the disks with their numbers, in a row from the first on
-abbrev pub numbered : ℕ → List DiskState → List DiskSeen
-numbered first [] = []
-numbered first (disk ∷ others) = record { number = first; disk = disk } ∷ numbered (first + 1) others
-
-abbrev pub number_of : DiskSeen → ℕ
-number_of one = one.number
+use Rattle.iom_platform.specs.Seen.{Seen}
+use Rattle.iom_platform.specs.Numbered.{numbered, number_of}
 
 -- THE PLATFORM BEGINS with these disks: its world does, with so many frames of memory and levels of the device directory, and with the numbers of the
 -- disks, which are their places, from 0; no block device is plugged in, and all disks are at hand

@@ -4,7 +4,7 @@ use Rattle.iom_machine.specs.declared.event.Event.{Event}
 use Rattle.iom_machine.specs.declared.outcome.Outcome.{Outcome}
 use Rattle.iom_machine.specs.declared.outcome.Trace.{Trace}
 use Rattle.iom_machine.specs.declared.state.State.{State}
-use Rattle.iom_machine.specs.Headline.{IsReached}
+use Rattle.iom_machine.specs.Laws.{IsReached}
 use Rattle.iom_machine.specs.Machine.{Run}
 use Rattle.iom_machine.specs.Reclaim.{Reclaims}
 use Rattle.iom_world.specs.declared.world.World.{World}

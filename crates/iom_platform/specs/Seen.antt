@@ -1,9 +1,11 @@
 -- A platform as it is seen: the world, its block devices with their disks, and the disks that were never in a device.
 use Rattle.std.specs.Prelude.{ℕ, List, map}
 use Rattle.iom_virtio_blk.specs.declared.disk.Disk.{Ghosts}
-use Rattle.iom_virtio_blk.specs.Disks.{DiskState, disk_in}
+use Rattle.iom_virtio_blk.specs.Disks.{disk_in}
+use Rattle.iom_virtio_blk.specs.DiskStates.{DiskState}
 use Rattle.iom_virtio_blk.specs.Steps.{Device, device}
 use Rattle.iom_world.specs.declared.world.World.{World}
+use Rattle.iom_platform.specs.Numbered.{DiskSeen}
 use Rattle.iom_platform.specs.declared.block.Block.{Block}
 use Rattle.iom_platform.specs.declared.block.DiskAtHand.{DiskAtHand}
 use Rattle.iom_platform.specs.declared.platform.Platform.{Platform}
@@ -12,11 +14,6 @@ use Rattle.iom_platform.specs.declared.platform.Platform.{Platform}
 pub record BlockSeen : Type 0 where
   pub id : ℕ
   pub device : Device
-
--- a disk, by its number
-pub record DiskSeen : Type 0 where
-  pub number : ℕ
-  pub disk : DiskState
 
 pub record Seen : Type 0 where
   pub world : World

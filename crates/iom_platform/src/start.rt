@@ -4,7 +4,8 @@ ghost use Rattle.iom_driver.specs.Layout.{IsLevels};
 ghost use Rattle.iom_phys_mem.specs.Sizes.{IsMemorySize};
 ghost use Rattle.iom_phys_mem.specs.declared.memory.MemError.TheVariants.{BadSize};
 ghost use Rattle.iom_platform.specs.Agreement.{numbers_of};
-ghost use Rattle.iom_platform.specs.PowerOn.{BeginsAt, numbered};
+ghost use Rattle.iom_platform.specs.PowerOn.{BeginsAt};
+ghost use Rattle.iom_platform.specs.Numbered.{numbered};
 ghost use Rattle.iom_platform.specs.Seen.{platform_seen, disks_seen, states_of};
 
 use crate::block::DiskAtHand;

@@ -8,18 +8,20 @@ use Rattle.iom_machine.specs.declared.outcome.Outcome.{Outcome}
 use Rattle.iom_machine.specs.declared.outcome.Outcome.TheVariants.{Done}
 use Rattle.iom_machine.specs.declared.outcome.Trace.{Trace}
 use Rattle.iom_machine.specs.declared.state.State.{State}
-use Rattle.iom_machine.specs.Headline.{IsReached}
+use Rattle.iom_machine.specs.Laws.{IsReached}
 use Rattle.iom_machine.specs.Machine.{Run}
 use Rattle.iom_machine.specs.Traces.{IsTrace}
 use Rattle.iom_machine.proofs.ReclaimLemmas.{reclaims}
-use Rattle.iom_platform.specs.PowerOn.{BeginsAt, numbered, number_of}
+use Rattle.iom_platform.specs.PowerOn.{BeginsAt}
+use Rattle.iom_platform.specs.Numbered.{numbered, number_of}
 use Rattle.iom_platform.specs.Runs.{AreCounts, AreOutcomes, GoesThrough, RunsTo, FailsAfter}
 use Rattle.iom_platform.specs.Seen.{Seen}
 use Rattle.iom_platform.proofs.RunLemmas.{are_outcomes}
 use Rattle.iom_script.specs.declared.script.WorldSize.{WorldSize}
 use Rattle.iom_world.specs.declared.world.World.{World}
 use Rattle.iom_line_writer.specs.declared.writing.LineWriter.{LineWriter}
-use Rattle.iom_runner.specs.Text.{Setting, power_on, run_text, AreThere, AreTraces, TellsRun, TellsPlatform, WritesRun, BeginsRun, BeginsRunSoFar}
+use Rattle.iom_runner.specs.Text.{Setting, power_on, run_text, AreThere, AreTraces, TellsRun}
+use Rattle.iom_runner.specs.PlatformText.{TellsPlatform, WritesRun, BeginsRun, BeginsRunSoFar}
 use Rattle.iom_line_writer.specs.Told.{told_line, told_lines}
 use Rattle.iom_line_writer.specs.Writing.{AppendsFront, AppendsPart, KeepsWriter, wants_counts, TakesText, TakesLine, FailsWriting}
 use Rattle.iom_runner.proofs.AnswerLemmas.{CountedRun, goes_on}

@@ -5,7 +5,8 @@ use Rattle.std.specs.Io.KnownBytes.{Appends}
 use Rattle.iom_machine.specs.declared.event.Event.{Event}
 use Rattle.iom_script.specs.declared.script.Script.{Script}
 use Rattle.iom_script.specs.declared.script.WorldSize.{WorldSize}
-use Rattle.iom_script.specs.Grammar.{IsScript, IsFirstBadLine}
+use Rattle.iom_script.specs.Grammar.{IsScript}
+use Rattle.iom_script.specs.BadLines.{IsFirstBadLine}
 use Rattle.iom_script.proofs.LimitLemmas.{front_script, front_fault}
 use Rattle.iom_command_line.specs.declared.fault.ArgsFault.{ArgsFault}
 use Rattle.iom_command_line.specs.declared.fault.ArgsFault.TheVariants as args_faults
@@ -17,7 +18,8 @@ use Rattle.iom_runner.specs.Bytes.{ExplainsUnparsed}
 use Rattle.iom_runner.specs.Disks.{program_setting}
 use Rattle.iom_runner.specs.Reading.{IsReadFault}
 use Rattle.iom_runner.specs.Runs.{TellsScript, RunsBytes, RunsProgram, AreLeft}
-use Rattle.iom_runner.specs.Text.{Setting, TellsRun, TellsPlatform, TellsSoFar, IsTextOf, WritesText, WritesLines, WritesRun, BeginsRun, BeginsRunSoFar}
+use Rattle.iom_runner.specs.Text.{Setting, TellsRun, IsTextOf, WritesLines}
+use Rattle.iom_runner.specs.PlatformText.{TellsPlatform, TellsSoFar, WritesText, WritesRun, BeginsRun, BeginsRunSoFar}
 use Rattle.iom_line_writer.specs.Writing.{AppendsFront, AppendsPart}
 use Rattle.iom_runner.proofs.RunLemmas.{machine_run}
 

@@ -5,7 +5,7 @@ use Rattle.iom_runner.specs.declared.faults.RunFault.{RunFault}
 use Rattle.iom_runner.specs.declared.faults.RunFault.TheVariants.{Reading, Writing, Memory, Script}
 use Rattle.iom_script.specs.declared.parser.ScriptFault.{ScriptFault}
 use Rattle.iom_script.specs.declared.parser.ScriptFault.TheVariants as script_faults
-use Rattle.iom_script.specs.Grammar.{IsFirstBadLine}
+use Rattle.iom_script.specs.BadLines.{IsFirstBadLine}
 
 -- the bytes weren't parsed: for want of memory, or since this line is the first that isn't in the grammar
 abbrev pub ExplainsUnparsed : List ℕ → RunFault → Type 0

@@ -1,5 +1,5 @@
 -- What is taken from a reader. `IsReadFault` and `ReadsMore` serve private contracts alone.
-use Rattle.std.specs.Prelude.{◌≡◌, ℕ, ◌+◌, ◌≤◌, ◌⊎◌, ◌++◌, List, length, Option, Result, IfOk, OnOk}
+use Rattle.std.specs.Prelude.{◌≡◌, ℕ, ◌+◌, ◌≤◌, ◌⊎◌, ◌++◌, List, length, Option, Result, IfErr, IfOk, OnOk}
 use Rattle.std.specs.Io.KnownBytes.{Consumes, IsAtEnd}
 use Rattle.iom_runner.specs.declared.faults.RunFault.{RunFault}
 use Rattle.iom_runner.specs.declared.faults.RunFault.TheVariants.{Reading, Memory}
@@ -12,10 +12,16 @@ ConsumesAtMost most old new = (bytes : List ℕ) × Consumes old new bytes × (l
 abbrev pub IsReadFault : RunFault → Type 0
 IsReadFault fault = (fault ≡ Reading) ⊎ (fault ≡ Memory)
 
--- One read: the bytes that the reader loses are appended, so many in all at most, and none come at the end alone. Without memory they are lost.
+-- where reading failed, the reader had lost this many bytes at most
+abbrev pub FailsWithin : {T : Type 0} → ℕ → Option (List ℕ) → Option (List ℕ) → Result T RunFault → Type 0
+FailsWithin most old new result = IfErr result (λ fault. fault ≡ Reading → ConsumesAtMost most old new)
+
+-- One read: the bytes that the reader loses are appended, so many in all at most, and none come at the end alone. Without memory they are lost; a read
+-- that fails loses none.
 pub record ReadsMore (old new : Option (List ℕ)) (before after : List ℕ) (result : Result ℕ RunFault) (most : ℕ) : Type 0 where
   pub bytes : List ℕ
   pub taken : Consumes old new bytes
   pub few : length before + length bytes ≤ most
   pub appended : OnOk result (after ≡ before ++ bytes)
   pub counted : IfOk result (λ count. (length bytes ≡ count) × (count ≡ 0 → IsAtEnd new))
+  pub failed : IfErr result (λ fault. fault ≡ Reading → length bytes ≡ 0)

@@ -2,13 +2,15 @@
 use Rattle.std.specs.Prelude.{◌≡◌, ◌≢◌, ℕ, List, Option, None, Result, Ok, Err, IfSome}
 use Rattle.std.specs.Io.KnownBytes.{Keeps}
 use Rattle.iom_script.specs.declared.script.Script.{Script}
-use Rattle.iom_script.specs.Grammar.{IsScript, IsFirstBadLine}
+use Rattle.iom_script.specs.Grammar.{IsScript}
+use Rattle.iom_script.specs.BadLines.{IsFirstBadLine}
 use Rattle.iom_command_line.specs.declared.fault.ArgsFault.TheVariants as args_faults
 use Rattle.iom_runner.specs.declared.faults.RunFault.{RunFault}
 use Rattle.iom_runner.specs.declared.faults.RunFault.TheVariants.{Reading, Writing, Memory, Script as BadLine}
 use Rattle.iom_runner.specs.declared.faults.ProgramFault.{ProgramFault}
 use Rattle.iom_runner.specs.declared.faults.ProgramFault.TheVariants.{Args, Run}
-use Rattle.iom_runner.specs.Text.{Setting, WritesText, BeginsText, BeginsTextSoFar, WritesLines}
+use Rattle.iom_runner.specs.Text.{Setting, WritesLines}
+use Rattle.iom_runner.specs.PlatformText.{WritesText, BeginsText, BeginsTextSoFar}
 
 -- Telling a script ends so. Where it ends well, its text is written, told of a run that a platform goes through. Where writing fails, what was written is a
 -- beginning of that, and one, but not all, of the text of its first events. Where memory fails, nothing is written, and the script says something.

@@ -1,5 +1,5 @@
--- The statuses that the program ends with, where it doesn't end well.
-use Rattle.std.specs.Prelude.{ℕ}
+-- The statuses that the program ends with.
+use Rattle.std.specs.Prelude.{ℕ, Result, Ok, Err}
 use Rattle.iom_command_line.specs.declared.fault.ArgsFault.TheVariants as args_faults
 use Rattle.iom_runner.specs.declared.faults.RunFault.TheVariants as run_faults
 use Rattle.iom_runner.specs.declared.faults.ProgramFault.{ProgramFault}
@@ -13,3 +13,8 @@ status_of (Run (run_faults.Script number)) = 2
 status_of (Run run_faults.Reading) = 1
 status_of (Run run_faults.Writing) = 1
 status_of (Run run_faults.Memory) = 1
+
+-- 0 where it ends well
+abbrev pub status_at_end : Result (Unit {0}) ProgramFault → ℕ
+status_at_end (Ok done) = 0
+status_at_end (Err fault) = status_of fault

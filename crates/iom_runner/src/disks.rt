@@ -4,7 +4,7 @@ ghost use Rattle.iom_platform.specs.Seen.{states_of};
 ghost use Rattle.iom_script.specs.Grammar.{IsWorldSize};
 ghost use Rattle.iom_virtio_blk.specs.MemoryDisks.{state_of};
 ghost use Rattle.iom_runner.specs.Disks.{program_disks, program_setting};
-ghost use Rattle.iom_runner.specs.Reading.{ConsumesAtMost};
+ghost use Rattle.iom_runner.specs.Reading.{ConsumesAtMost, FailsWithin};
 ghost use Rattle.iom_runner.specs.Runs.{TellsScript, RunsBytes, AreLeft};
 
 use crate::faults::RunFault;
@@ -60,6 +60,7 @@ pub(crate) fn run_with_disks<R: Read, W: Write>(
     ensures ran { (input : List ℕ) × AreLeft input (R.remaining reader.old)
         × RunsBytes (program_setting counts) input result (W.contents writer.old) (W.contents writer.new) }
     ensures consumed { ConsumesAtMost 1048577 (R.remaining reader.old) (R.remaining reader.new) }
+    ensures within { FailsWithin 1048576 (R.remaining reader.old) (R.remaining reader.new) result }
 {
     let bytes = read_script(alloc, reader)?;
     let script = script_of(alloc, &bytes)?;

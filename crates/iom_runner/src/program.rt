@@ -1,10 +1,12 @@
 // The program `iommu-run`, from its command line to its exit status.
 ghost use Rattle.std.specs.Prelude.{◌≡◌, ◌≢◌, ℕ, List, true, map, Err, None};
 ghost use Rattle.std.specs.Io.KnownBytes.{Keeps};
+ghost use Rattle.std.specs.Process.{exit_status};
 ghost use Rattle.iom_command_line.specs.CommandLine.{is_command_line, wants_trace, named_file};
 ghost use Rattle.iom_runner.specs.Disks.{program_setting};
 ghost use Rattle.iom_runner.specs.Reading.{ConsumesAtMost};
 ghost use Rattle.iom_runner.specs.Runs.{RunsProgram, AreLeft};
+ghost use Rattle.iom_runner.specs.Statuses.{status_at_end};
 
 use crate::disks::run_with_disks;
 use crate::faults::{ProgramFault, RunFault};
@@ -59,14 +61,22 @@ fn run_command_line(rt: &HostRuntime) -> Result<(), ProgramFault> {
     run_words(rt, rt.alloc(), &texts, &mut rt.stdin(), &mut rt.stdout())
 }
 
-/// The whole program: it runs the script that its command line names, tells on standard error what went
-/// wrong, as `iommu-run: TEXT`, and gives the exit status.
-pub fn start(rt: &HostRuntime) -> ExitCode {
-    match run_command_line(rt) {
+/// The exit status of a run that ended so: 0 where it ended well, and else that of its fault, whose text goes to
+/// standard error, as `iommu-run: TEXT`.
+fn end(rt: &HostRuntime, ended: Result<(), ProgramFault>) -> ExitCode
+    ensures { exit_status result ≡ status_at_end ended }
+{
+    match ended {
         Ok(()) => ExitCode::SUCCESS,
         Err(fault) => {
             let _ = eprintln!(rt; "iommu-run: {fault}");
             ExitCode::from(fault.status())
         }
     }
+}
+
+/// The whole program: it runs the script that its command line names, tells on standard error what went
+/// wrong, as `iommu-run: TEXT`, and gives the exit status.
+pub fn start(rt: &HostRuntime) -> ExitCode {
+    end(rt, run_command_line(rt))
 }

@@ -3,7 +3,7 @@ ghost use Rattle.std.specs.Prelude.{◌≡◌, ◌≢◌, ◌<◌, length, take,
 ghost use Rattle.std.specs.Io.{ReadsAtMost};
 ghost use Rattle.std.specs.IoError.{error_kind};
 ghost use Rattle.std.specs.Io.KnownBytes.{ReadConsumes};
-ghost use Rattle.iom_runner.specs.Reading.{IsReadFault, ReadsMore, ConsumesAtMost};
+ghost use Rattle.iom_runner.specs.Reading.{IsReadFault, ReadsMore, ConsumesAtMost, FailsWithin};
 
 use crate::faults::RunFault;
 use iom_script::SCRIPT_LIMIT;
@@ -68,10 +68,12 @@ fn read_more<R: Read>(
 }
 
 /// The bytes of the reader, or the first [`READ_LIMIT`] of them where there are more: no byte behind
-/// those is taken from it.
+/// those is taken from it. Where it fails, fewer were taken: so a script that is too long isn't told as one
+/// that can't be read.
 pub(crate) fn read_script<R: Read>(alloc: Global, reader: &mut R) -> Result<Vec<u8>, RunFault>
     ensures bytes { IfOk result (λ bytes. IfSome (R.remaining reader.old) (λ input. bytes.items ≡ take 1048577 input)) }
     ensures consumed { ConsumesAtMost 1048577 (R.remaining reader.old) (R.remaining reader.new) }
+    ensures within { FailsWithin 1048576 (R.remaining reader.old) (R.remaining reader.new) result }
     ensures fault { IfErr result IsReadFault }
 {
     let mut chunk = [0u8; CHUNK_SIZE];

@@ -6,9 +6,10 @@ ghost use Rattle.iom_script.specs.declared.script.WorldSize.{WorldSize};
 ghost use Rattle.iom_script.specs.Grammar.{IsScript, IsWorldSize};
 ghost use Rattle.iom_runner.specs.Bytes.{ExplainsUnparsed};
 ghost use Rattle.iom_runner.specs.Disks.{setting_of};
-ghost use Rattle.iom_runner.specs.Reading.{ConsumesAtMost};
+ghost use Rattle.iom_runner.specs.Reading.{ConsumesAtMost, FailsWithin};
 ghost use Rattle.iom_runner.specs.Runs.{TellsScript, RunsBytes, AreLeft};
-ghost use Rattle.iom_runner.specs.Text.{Setting, WritesRun, BeginsRun, BeginsRunSoFar};
+ghost use Rattle.iom_runner.specs.Text.{Setting};
+ghost use Rattle.iom_runner.specs.PlatformText.{WritesRun, BeginsRun, BeginsRunSoFar};
 ghost use Rattle.iom_line_writer.specs.Writing.{KeepsWriter};
 
 use crate::faults::RunFault;
@@ -147,8 +148,9 @@ pub fn run<R: Read, W: Write, D: Disk>(
     ensures ran { (input : List ℕ) × AreLeft input (R.remaining reader.old)
         × RunsBytes (setting_of D.seen disks.items trace) input result (W.contents writer.old) (W.contents writer.new) }
 
-    // Of the reader at most one byte more is taken than a script may have.
+    // Of the reader at most one byte more is taken than a script may have, and where reading fails not that one.
     ensures consumed { ConsumesAtMost 1048577 (R.remaining reader.old) (R.remaining reader.new) }
+    ensures within { FailsWithin 1048576 (R.remaining reader.old) (R.remaining reader.new) result }
 {
     let bytes = read_script(alloc, reader)?;
     let script = script_of(alloc, &bytes)?;

@@ -1,7 +1,8 @@
 -- A page, and how a device is attached, from their words.
 use Rattle.std.proofs.Common.{◌≡◌, ℕ, ◌^◌, ◌<◌, Bool, true, false, List, Some, None, codes, ap, sym, subst, ◌∙◌}
 use Rattle.iom_base.specs.declared.mode.Mode.{Mode}
-use Rattle.iom_script.specs.Words.{Reads, ◌␣◌, IsNumber, IsPage, IsMode}
+use Rattle.iom_script.specs.Words.{◌␣◌, IsNumber, IsPage, IsMode}
+use Rattle.iom_script.specs.Reading.{Reads}
 use Rattle.iom_script.proofs.ReadsLemmas.{reads_some, reads_none, read_holds, read_only, read_nothing}
 use Rattle.iom_script.proofs.CutLemmas.{cut_is_one}
 use Rattle.iom_script.proofs.FieldLemmas.{CutOf}

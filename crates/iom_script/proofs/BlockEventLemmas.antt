@@ -4,7 +4,8 @@ use Rattle.std.specs.Option.{option_map}
 use Rattle.std.proofs.lemmas.List.{append_cancel_left}
 use Rattle.iom_machine.specs.declared.event.Event.{Event}
 use Rattle.iom_machine.specs.declared.event.Event.TheVariants.{Medium, Queue, Step, Status}
-use Rattle.iom_script.specs.Words.{Reads, ◌␣◌, IsDevice, IsNumber, IsAddress}
+use Rattle.iom_script.specs.Words.{◌␣◌, IsDevice, IsNumber, IsAddress}
+use Rattle.iom_script.specs.Reading.{Reads}
 use Rattle.iom_script.specs.Cuts.{IsLineWith}
 use Rattle.iom_script.specs.Grammar.{IsEventLine}
 use Rattle.iom_script.proofs.FieldLemmas.{Followed}

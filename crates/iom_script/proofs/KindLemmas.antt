@@ -4,7 +4,8 @@ use Rattle.std.specs.Option.{option_map}
 use Rattle.std.proofs.lemmas.List.{append_cancel_left}
 use Rattle.iom_machine.specs.declared.state.NewDevice.{NewDevice}
 use Rattle.iom_machine.specs.declared.state.NewDevice.TheVariants.{Raw, Ats, Block, CachedBlock}
-use Rattle.iom_script.specs.Words.{Reads, IsNumber, IsKind}
+use Rattle.iom_script.specs.Words.{IsNumber, IsKind}
+use Rattle.iom_script.specs.Reading.{Reads}
 use Rattle.iom_script.proofs.ReadsLemmas.{reads_some, reads_none, read_holds, read_nothing}
 use Rattle.iom_script.proofs.EventLemmas.{never_both}
 use Rattle.iom_script.proofs.SameLemmas.{kind_same}

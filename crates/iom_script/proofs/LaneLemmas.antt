@@ -6,7 +6,7 @@ use Rattle.std.proofs.lemmas.List.Elements.{All-head, All-tail, All-from_get_or}
 use Rattle.std.proofs.lemmas.Simd.{bitmask_splat, Each1-get_or, Each1-from_get_or}
 use lib.Lanes.{Each1, zip2, sel_l, mask_l, top, number_l, digits_l}
 use Rattle.iom_script.specs.Digits.{hex_digit, hex_of}
-use Rattle.iom_script.specs.Words.{Reads}
+use Rattle.iom_script.specs.Reading.{Reads}
 use Rattle.iom_script.specs.Cuts.{value_of, IsHexOf}
 use Rattle.iom_script.proofs.ReadsLemmas.{reads_some, reads_none}
 use Rattle.iom_script.proofs.HexBytesLemmas.{IsByte, same_hex_of}

@@ -9,7 +9,8 @@ use Rattle.std.proofs.lemmas.List.Elements.{Contains-append_left, Contains-appen
 use Rattle.iom_machine.specs.declared.event.Event.{Event}
 use Rattle.iom_machine.specs.declared.event.Event.TheVariants as events
 use Rattle.iom_script.specs.declared.script.WorldSize.{WorldSize}
-use Rattle.iom_script.specs.Words.{Reads, ◌␣◌, IsNumber}
+use Rattle.iom_script.specs.Words.{◌␣◌, IsNumber}
+use Rattle.iom_script.specs.Reading.{Reads}
 use Rattle.iom_script.specs.Cuts.{start_of, IsLineOf, IsLineWith, single_starts, starts_under_a, starts_under_d, starts_under_f, starts_under_p, starts_under_q, starts_under_r, starts_under_s, starts_under_t}
 use Rattle.iom_script.specs.Grammar.{IsEventLine, IsWorldSize, IsWorldLine}
 use Rattle.iom_script.proofs.ReadsLemmas.{reads_some, reads_none, read_holds, read_only, read_nothing}

@@ -4,7 +4,8 @@ use Rattle.std.specs.Option.{option_map}
 use Rattle.std.proofs.lemmas.List.{append_cancel_left}
 use Rattle.iom_machine.specs.declared.event.Event.{Event}
 use Rattle.iom_machine.specs.declared.event.Event.TheVariants.{Quarantine, Revive, Restart, Timeout, Reset}
-use Rattle.iom_script.specs.Words.{Reads, ◌␣◌, IsDevice}
+use Rattle.iom_script.specs.Words.{◌␣◌, IsDevice}
+use Rattle.iom_script.specs.Reading.{Reads}
 use Rattle.iom_script.specs.Cuts.{IsLineWith}
 use Rattle.iom_script.specs.Grammar.{IsEventLine}
 use Rattle.iom_script.proofs.EventLemmas.{event_reads, other_line}

@@ -1,9 +1,8 @@
-ghost use Rattle.std.specs.Prelude.{◌≡◌, ◌≤◌, ◌↔◌, codes, IfOk, IsTrue};
-ghost use Rattle.iom_script.specs.Words.{Reads};
+ghost use Rattle.std.specs.Prelude.{◌≡◌, codes, IfOk};
+ghost use Rattle.iom_script.specs.Reading.{Reads};
 ghost use Rattle.iom_script.specs.Cuts.{IsLineWith, IsLineOf, single_starts, starts_under_a, starts_under_d, starts_under_f, starts_under_p, starts_under_q, starts_under_r, starts_under_s, starts_under_t};
-ghost use Rattle.iom_script.specs.Grammar.{IsEventLine, IsWorldLine};
+ghost use Rattle.iom_script.specs.Grammar.{IsEventLine};
 
-use crate::script::WorldSize;
 use crate::words::{
     address_and, address_of, after, attaching_of, bytes_of, device_and, device_of, is_word,
     kind_of, number_and, number_of, page_of, right_of,
@@ -477,40 +476,4 @@ pub fn event_of(alloc: Global, line: &[u8]) -> Result<Option<Event>, AllocError>
         b'm' => Ok(medium(line)),
         _ => Ok(None),
     }
-}
-
-/// The frames of the smallest world.
-const FEWEST_FRAMES: u64 = 64;
-
-/// The frames of the largest world.
-const MOST_FRAMES: u64 = 4096;
-
-/// Whether a world can have so many frames.
-fn is_frame_count(frames: u64) -> bool
-    ensures { IsTrue result ↔ ((64 ≤ frames) × (frames ≤ 4096)) }
-{
-    (FEWEST_FRAMES..=MOST_FRAMES).contains(&frames)
-}
-
-/// The levels of the largest device directory.
-const MOST_LEVELS: u64 = 3;
-
-/// Whether a device directory can have so many levels.
-fn is_level_count(levels: u64) -> bool
-    ensures { IsTrue result ↔ ((1 ≤ levels) × (levels ≤ 3)) }
-{
-    (1..=MOST_LEVELS).contains(&levels)
-}
-
-/// The size of the world that a line says.
-pub fn world_of(line: &[u8]) -> Option<WorldSize>
-    ensures { Reads result (IsWorldLine line.now) }
-{
-    let arguments = after(line, b"world ")?;
-    let (frames, rest) = number_and(arguments)?;
-    let levels = number_of(rest)?;
-    if !is_frame_count(frames) || !is_level_count(levels) {
-        return None;
-    }
-    Some(WorldSize { frames, levels })
 }

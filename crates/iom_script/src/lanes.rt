@@ -2,7 +2,7 @@
 ghost use Rattle.std.specs.Prelude.{◌≡◌, ◌<◌, ◌↔◌, length, map, IsTrue};
 ghost use Rattle.std.specs.List.{AllByRecursion};
 ghost use Rattle.iom_script.specs.Digits.{hex_digit};
-ghost use Rattle.iom_script.specs.Words.{Reads};
+ghost use Rattle.iom_script.specs.Reading.{Reads};
 ghost use Rattle.iom_script.specs.Cuts.{value_of, IsHexOf};
 
 use std::simd::prelude::*;

@@ -1,7 +1,8 @@
 ghost use Rattle.std.specs.Prelude.{◌≡◌, ◌/◌, ◌%◌, ◌^◌, ◌*◌, ◌<◌, ◌≤◌, ◌++◌, ◌↔◌, length, IfOk, IsTrue, MatchOption, None};
 ghost use Rattle.memchr.specs.Find.{IsFirstByte, is_byte};
 ghost use Rattle.iom_script.specs.Digits.{hex_digit, hex_digits};
-ghost use Rattle.iom_script.specs.Words.{Reads, IsDevice, IsNumber, IsPage, IsAddress, IsRight, IsMode, IsAttaching, IsKind, IsHex};
+ghost use Rattle.iom_script.specs.Words.{IsDevice, IsNumber, IsPage, IsAddress, IsRight, IsMode, IsAttaching, IsKind, IsHex};
+ghost use Rattle.iom_script.specs.Reading.{Reads};
 ghost use Rattle.iom_script.specs.Cuts.{shown, shown_rest, with_rest, IsCut, Begins, LeadsWithHex, LeadsWithDecimal, LeadsWithNumber, SaysFirst};
 
 use crate::lanes::eight_bytes;

@@ -1,6 +1,7 @@
 -- The second stage leads an address to one place, or stops it with one fault.
 use Rattle.std.proofs.Common.{◌≡◌, ◌/◌, ◌^◌, ◌*◌, ◌+◌, ◌<◌, ◌∙◌, ℕ, Bool, List, sym, ap}
-use Rattle.iom_base.specs.Causes.{access_fault_of, guest_page_fault_of}
+use Rattle.iom_base.specs.Causes.{guest_page_fault_of}
+use Rattle.iom_base.specs.Tables.{access_fault_of}
 use Rattle.iom_base.specs.declared.access.AccessKind.{AccessKind}
 use Rattle.iom_base.specs.declared.cause.Cause.{Cause}
 use Rattle.iom_base.specs.declared.rights.Rights.{Rights}

@@ -1,6 +1,7 @@
 -- Memories that are alike on the frames of the path of an address.
 use Rattle.std.proofs.Common.{◌≡◌, ◌+◌, ◌*◌, ◌/◌, ◌^◌, ◌<◌, inl, inr, ℕ, List, length}
-use Rattle.iom_base.specs.Causes.{page_fault_of, access_fault_of, guest_page_fault_of}
+use Rattle.iom_base.specs.Causes.{page_fault_of, guest_page_fault_of}
+use Rattle.iom_base.specs.Tables.{access_fault_of}
 use Rattle.iom_base.specs.declared.access.AccessKind.{AccessKind}
 use Rattle.iom_base.specs.declared.cause.Cause.{Cause}
 use Rattle.iom_stage_walk.specs.Entries.{entries}

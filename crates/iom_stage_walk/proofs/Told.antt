@@ -1,6 +1,7 @@
 -- What a fault of both stages tells.
 use Rattle.std.proofs.Common.{◌≡◌, ◌⊎◌, ◌%◌, ◌*◌, ◌+◌, ◌/◌, ◌^◌, ◌<◌, ◌∙◌, inl, inr, ℕ, Bool, true, false, List, [], ◌∷◌, sym, refl, ap, subst, arith}
-use Rattle.iom_base.specs.Causes.{page_fault_of, access_fault_of, guest_page_fault_of}
+use Rattle.iom_base.specs.Causes.{page_fault_of, guest_page_fault_of}
+use Rattle.iom_base.specs.Tables.{access_fault_of}
 use Rattle.iom_base.specs.declared.access.AccessKind.{AccessKind}
 use Rattle.iom_base.specs.declared.access.AccessKind.TheVariants.{Read, Write}
 use Rattle.iom_base.specs.declared.cause.Cause.{Cause}

@@ -4,7 +4,8 @@
 use Rattle.std.specs.Prelude.{◌≡◌, ℕ, ◌+◌, ◌-◌, ◌*◌, ◌%◌, ◌&&◌, ◌⊎◌, true, false, List, [], ◌∷◌, replicate, Option, Some, None, if◌then◌else◌}
 use Rattle.iom_base.specs.Causes.{page_fault_of}
 use Rattle.iom_base.specs.Rights.{allows, r, rw}
-use Rattle.iom_base.specs.Sizes.{page_size, entry_size, table_entries}
+use Rattle.iom_base.specs.Sizes.{page_size}
+use Rattle.iom_base.specs.Tables.{entry_size, table_entries}
 use Rattle.iom_base.specs.declared.access.AccessKind.{AccessKind}
 use Rattle.iom_base.specs.declared.access.AccessKind.TheVariants.{Read, Write}
 use Rattle.iom_base.specs.declared.cause.Cause.{Cause}

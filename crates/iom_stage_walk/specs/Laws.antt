@@ -1,9 +1,9 @@
 -- Laws of the paths of a first stage, of a second, and of both.
 use Rattle.std.specs.Prelude.{◌≡◌, ◌↔◌, ◌⊎◌, ◌%◌, ℕ, true, false, List, Option, None, Some}
 use Rattle.std.specs.List.{All}
-use Rattle.iom_base.specs.Causes.{page_fault_of, access_fault_of, guest_page_fault_of}
+use Rattle.iom_base.specs.Causes.{page_fault_of, guest_page_fault_of}
+use Rattle.iom_base.specs.Tables.{access_fault_of, entry_size}
 use Rattle.iom_base.specs.Rights.{allows}
-use Rattle.iom_base.specs.Sizes.{entry_size}
 use Rattle.iom_base.specs.declared.access.AccessKind.{AccessKind}
 use Rattle.iom_base.specs.declared.rights.Rights.{Rights}
 use Rattle.iom_base.specs.declared.access.AccessKind.TheVariants.{Read, Write}

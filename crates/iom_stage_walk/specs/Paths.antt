@@ -1,9 +1,10 @@
 -- The path of a translation: reaches a leaf, or stops with a cause (RISC-V Privileged Architecture, "Sv39",
 -- virtual address translation), for any number of levels.
 use Rattle.std.specs.Prelude.{◌≡◌, ◌≢◌, ℕ, ◌+◌, ◌*◌, ◌/◌, ◌%◌, ◌^◌, ◌<◌, ◌≤◌, ◌⊎◌, true, false, List, [], ◌∷◌, length, replicate, None}
-use Rattle.iom_base.specs.Causes.{page_fault_of, access_fault_of}
+use Rattle.iom_base.specs.Causes.{page_fault_of}
+use Rattle.iom_base.specs.Tables.{access_fault_of, table_entries}
 use Rattle.iom_base.specs.Rights.{allows}
-use Rattle.iom_base.specs.Sizes.{page_size, table_entries}
+use Rattle.iom_base.specs.Sizes.{page_size}
 use Rattle.iom_base.specs.declared.access.AccessKind.{AccessKind}
 use Rattle.iom_base.specs.declared.cause.Cause.{Cause}
 use Rattle.iom_base.specs.declared.rights.Rights.{Rights}

@@ -1,8 +1,9 @@
 -- The second stage of a translation, from guest physical addresses to memory (RISC-V Privileged Architecture, hypervisor
 -- extension, "Two-Stage Address Translation", guest physical address translation; Sv39x4), for any number of levels.
 use Rattle.std.specs.Prelude.{◌≡◌, ℕ, ◌+◌, ◌*◌, ◌/◌, ◌^◌, ◌<◌, Bool, false, zero, suc, List, [], ◌∷◌, replicate, None}
-use Rattle.iom_base.specs.Causes.{access_fault_of, guest_page_fault_of}
-use Rattle.iom_base.specs.Sizes.{page_size, table_entries}
+use Rattle.iom_base.specs.Causes.{guest_page_fault_of}
+use Rattle.iom_base.specs.Tables.{access_fault_of, table_entries}
+use Rattle.iom_base.specs.Sizes.{page_size}
 use Rattle.iom_base.specs.declared.access.AccessKind.{AccessKind}
 use Rattle.iom_base.specs.declared.cause.Cause.{Cause}
 use Rattle.iom_base.specs.declared.cause.Cause.TheVariants.{ReadGuestPageFault, WriteGuestPageFault}

@@ -1,7 +1,7 @@
 -- The frames that a path goes through, and memories that are alike on them.
 use Rattle.std.specs.Prelude.{◌≡◌, ℕ, ◌/◌, List, [], ◌∷◌, length, slice_get}
 use Rattle.std.specs.List.{All}
-use Rattle.iom_base.specs.Sizes.{table_entries}
+use Rattle.iom_base.specs.Tables.{table_entries}
 use Rattle.iom_stage_walk.specs.Entries.{Entries, entries, slot}
 use Rattle.iom_stage_walk.specs.Paths.{first_path}
 use Rattle.iom_stage_walk.specs.Second.{second_path}

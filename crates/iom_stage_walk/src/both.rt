@@ -1,6 +1,7 @@
 ghost use Rattle.std.specs.Prelude.{◌≡◌, ◌≢◌, ◌↔◌, ℕ, ◌/◌, ◌^◌, ◌<◌, ◌≤◌, List, true, false, IfOk, IfErr, Ok, Err, length, slice_index, EachIndex};
 ghost use Rattle.iom_base.specs.Causes.{page_fault_of};
-ghost use Rattle.iom_base.specs.Sizes.{page_size, table_entries};
+ghost use Rattle.iom_base.specs.Sizes.{page_size};
+ghost use Rattle.iom_base.specs.Tables.{table_entries};
 ghost use Rattle.iom_base.specs.declared.access.AccessKind.TheVariants.{Read};
 ghost use Rattle.iom_stage_walk.specs.Entries.{IsBounded, slot};
 ghost use Rattle.iom_stage_walk.specs.Paths.{path_of, first_levels, first_widths};

@@ -9,13 +9,15 @@ use std::io::{self, ErrorKind, Read, Write};
 use std::process::Abort;
 use std::test::Fail;
 
-/// A reader that gives at most so many bytes a call, is interrupted at every other call, and fails at
-/// one: after so many calls. After that it goes on.
+/// A reader that gives at most so many bytes a call, is interrupted so many times in a row before each, and
+/// fails at one: after so many calls. After that it goes on.
 #[derive(Drop)]
 struct Slow<'a> {
     rest: &'a [u8],
     at_once: usize,
-    interrupted: bool,
+    in_a_row: usize,
+    /// How many interruptions are to come before the next call that isn't interrupted.
+    interruptions: usize,
     calls: usize,
 }
 
@@ -28,10 +30,11 @@ impl Read for Slow<'_> {
             return Err(io::Error::from(ErrorKind::Other));
         }
         self.calls -= 1;
-        self.interrupted = !self.interrupted;
-        if self.interrupted {
+        if self.interruptions > 0 {
+            self.interruptions -= 1;
             return Err(io::Error::from(ErrorKind::Interrupted));
         }
+        self.interruptions = self.in_a_row;
         let count = self.rest.len().min(buf.len()).min(self.at_once.max(1));
         let (front, back) = self.rest.split_at(count);
         buf[..count].copy_from_slice(front);
@@ -40,14 +43,16 @@ impl Read for Slow<'_> {
     }
 }
 
-/// A writer that takes at most so many bytes a call, is interrupted at every other call, and fails at one
-/// call, or takes nothing: when its room is used up. After that it goes on.
+/// A writer that takes at most so many bytes a call, is interrupted so many times in a row before each, and
+/// fails at one call, or takes nothing: when its room is used up. After that it goes on.
 #[derive(Drop)]
 struct Stingy {
     got: Vec<u8>,
     at_once: usize,
     room: usize,
-    interrupted: bool,
+    in_a_row: usize,
+    /// How many interruptions are to come before the next call that isn't interrupted.
+    interruptions: usize,
     takes_nothing: bool,
 }
 
@@ -55,10 +60,11 @@ impl Write for Stingy {
     ghost contents = { λ w. Some w.got.items };
 
     fn write(&mut self, buf: &[u8]) -> io::Result<usize> {
-        self.interrupted = !self.interrupted;
-        if self.interrupted {
+        if self.interruptions > 0 {
+            self.interruptions -= 1;
             return Err(io::Error::from(ErrorKind::Interrupted));
         }
+        self.interruptions = self.in_a_row;
         if self.room == 0 {
             self.room = usize::MAX;
             if self.takes_nothing {
@@ -104,13 +110,14 @@ fn ends(alloc: Global, reader: &mut Slow, writer: &mut Stingy) -> End {
     end_of(run(alloc, reader, writer, disks, false))
 }
 
-/// A run: its script; how many bytes are read and how many are written at once; after how many calls reading fails, and
-/// after how many bytes writing; how it ends, and what it wrote by then.
+/// A run: its script; how many bytes are read and how many are written at once, and after how many interruptions; after
+/// how many calls reading fails, and after how many bytes writing; how it ends, and what it wrote by then.
 #[derive(Clone, Copy)]
 struct Play<'a> {
     script: &'a [u8],
     read: usize,
     written: usize,
+    interruptions: usize,
     calls: usize,
     room: usize,
     /// Writing doesn't fail after that many bytes, but takes nothing.
@@ -124,14 +131,16 @@ fn is_so(alloc: Global, play: &Play) -> bool {
     let mut reader = Slow {
         rest: play.script,
         at_once: play.read,
-        interrupted: false,
+        in_a_row: play.interruptions,
+        interruptions: play.interruptions,
         calls: play.calls,
     };
     let mut writer = Stingy {
         got: Vec::new(alloc),
         at_once: play.written,
         room: play.room,
-        interrupted: false,
+        in_a_row: play.interruptions,
+        interruptions: play.interruptions,
         takes_nothing: play.takes_nothing,
     };
     ends(alloc, &mut reader, &mut writer) == play.end && writer.got.as_slice() == play.lines
@@ -171,6 +180,7 @@ fn whole() -> Play<'static> {
         script: FIRST_PATH,
         read: usize::MAX,
         written: usize::MAX,
+        interruptions: 1,
         calls: usize::MAX,
         room: usize::MAX,
         takes_nothing: false,
@@ -233,6 +243,16 @@ fn short_reads_and_writes_are_continued(rt: HostRuntime) {
         };
         expect(&rt, is_so(rt.alloc(), &play));
     }
+}
+
+// No number of interruptions counts as a failure.
+#[test]
+fn interruptions_are_outlasted(rt: HostRuntime) {
+    let play = Play {
+        interruptions: 5000,
+        ..whole()
+    };
+    expect(&rt, is_so(rt.alloc(), &play));
 }
 
 #[test]

@@ -1,12 +1,12 @@
 -- What is found at each key in the entries of a least-recently-used cache, after each of its calls; for any keys whose test tells whether they
 -- are one.
-use Rattle.std.proofs.Common.{◌≡◌, ◌≢◌, ◌-◌, ◌<◌, ◌≤◌, ◌++◌, ◌∙◌, ◌⊎◌, inl, inr, Bool, true, false, cond, drop, append-nil, length-drop, List, [], ◌∷◌, length, take, Option, Some, None, refl, sym, ap, subst, arith, option_map}
+use Rattle.std.proofs.Common.{◌≡◌, ◌≢◌, ℕ, ◌+◌, ◌-◌, ◌<◌, ◌≤◌, ◌++◌, ◌∙◌, ◌⊎◌, inl, inr, Bool, true, false, not, cond, filter, drop, append-nil, length-drop, List, [], ◌∷◌, length, take, Option, Some, None, refl, sym, ap, subst, arith, option_map}
 use Rattle.std.specs.List.{IsDistinct, AllByRecursion, find}
 use Rattle.std.specs.Option.{option_map_or}
 use Rattle.std.specs.Map.{keys_of, lookup, lookup_entry, remove_entry}
 use Rattle.std.specs.Cmp.{IsEquivalence}
 use Rattle.std.proofs.lemmas.Map.{lookup-remove_entry}
-use Rattle.std.proofs.lemmas.List.{take-append-drop}
+use Rattle.std.proofs.lemmas.List.{take-append-drop, take_all}
 use Rattle.lru.specs.LruCache.{LruCache, put_entries, promoted}
 use Rattle.lru.proofs.CallerLemmas.{Contains-lookup_entry}
 use Rattle.lru.proofs.Pairs.{lookup-lookup_entry}
@@ -154,6 +154,66 @@ module _ {K : Type 0} (eq : K → K → Bool) (laws : IsEquivalence eq) (one : (
         → length (remove_entry (eq key) es) < length es
     drop_fewer p es key h = fewer p es key (find (λ e. p e.0) es) refl h
 
+    -- an entry that is found is one that goes
+    found_fewer : (k : K) (x e : K × V) (es : List (K × V)) (b : Bool) → (lookup_entry (eq k) es ≡ Some e → length (remove_entry (eq k) es) < length es)
+        → cond b (Some x) (lookup_entry (eq k) es) ≡ Some e → length (cond b es (x ∷ remove_entry (eq k) es)) < length (x ∷ es)
+    found_fewer k x e es true rest f = omega arith
+    found_fewer k x e es false rest f = omega (arith, rest f)
+
+    removed_fewer : (k : K) (es : List (K × V)) (e : K × V) → lookup_entry (eq k) es ≡ Some e → length (remove_entry (eq k) es) < length es
+    removed_fewer k [] e f = absurd (cc)
+    removed_fewer k (x ∷ es) e f = found_fewer k x e es (eq k x.0) (removed_fewer k es e) f
+
+    -- and where none is found none goes
+    none_goes : (k : K) (x : K × V) (es : List (K × V)) (b : Bool) → (lookup_entry (eq k) es ≡ None → remove_entry (eq k) es ≡ es)
+        → cond b (Some x) (lookup_entry (eq k) es) ≡ None → cond b es (x ∷ remove_entry (eq k) es) ≡ x ∷ es
+    none_goes k x es true rest f = absurd (cc)
+    none_goes k x es false rest f = ap (λ (ys : List (K × V)). x ∷ ys) (rest f)
+
+    removed_none : (k : K) (es : List (K × V)) → lookup_entry (eq k) es ≡ None → remove_entry (eq k) es ≡ es
+    removed_none k [] f = refl
+    removed_none k (x ∷ es) f = none_goes k x es (eq k x.0) (removed_none k es) f
+
+    put_first_at : (k : K) (v : V) (es : List (K × V)) (others : ℕ) → length es ≤ others + 1 → (o : Option (K × V)) → lookup_entry (eq k) es ≡ o
+        → option_map_or (λ e. (e.0, v) ∷ remove_entry (eq k) es) o ((k, v) ∷ take others es) ≡ (k, v) ∷ take others (remove_entry (eq k) es)
+    put_first_at k v es others le None f = ap (λ (rest : List (K × V)). (k, v) ∷ take others rest) (sym (removed_none k es f))
+    put_first_at k v es others le (Some e) f =
+        let same : e.0 ≡ k = sym (one k e.0 (Contains-lookup_entry (eq k) es e f).1) in
+        let few : length (remove_entry (eq k) es) ≤ others = omega (arith, removed_fewer k es e f) in
+        rw same (ap (λ (rest : List (K × V)). (k, v) ∷ rest) (sym (take_all others (remove_entry (eq k) es) few)))
+
+    -- what is put goes first, and of the others one fewer stay than there is room for
+    pub put_first : (k : K) (v : V) (c : LruCache K V) (others : ℕ) → length c.entries ≤ c.cap → c.cap ≡ others + 1
+        → put_entries eq c k v ≡ (k, v) ∷ take others (remove_entry (eq k) c.entries)
+    put_first k v c others le room =
+        let one_fewer : c.cap - 1 ≡ others = omega (arith, room) in
+        rw one_fewer (put_first_at k v c.entries others (omega (arith, le, room)) (lookup_entry (eq k) c.entries) refl)
+
+    look_first_at : (k : K) (es : List (K × V)) (o : Option (K × V)) → lookup_entry (eq k) es ≡ o
+        → option_map_or (λ e. e ∷ remove_entry (eq k) es) o es ≡ option_map_or (λ v. (k, v) ∷ remove_entry (eq k) es) (option_map (λ (e : K × V). e.1) o) es
+    look_first_at k es None f = refl
+    look_first_at k es (Some e) f =
+        ap (λ (x : K). (x, e.1) ∷ remove_entry (eq k) es) (sym (one k e.0 (Contains-lookup_entry (eq k) es e f).1))
+
+    -- what is looked at goes first
+    pub look_first : (k : K) (es : List (K × V))
+        → promoted (eq k) es ≡ option_map_or (λ v. (k, v) ∷ remove_entry (eq k) es) (lookup (eq k) es) es
+    look_first k es = rw (sym (lookup-lookup_entry (eq k) es)) (look_first_at k es (lookup_entry (eq k) es) refl)
+
+    -- without an entry that is out, those that aren't are as they were
+    stay_without : (p : K → Bool) (k : K) (x : K × V) (es : List (K × V)) (b t : Bool) → eq k x.0 ≡ b → p x.0 ≡ t → p k ≡ true
+        → filter (λ e. not (p e.0)) (remove_entry (eq k) es) ≡ filter (λ e. not (p e.0)) es
+        → filter (λ e. not (p e.0)) (cond b es (x ∷ remove_entry (eq k) es)) ≡ cond (not t) (x ∷ filter (λ e. not (p e.0)) es) (filter (λ e. not (p e.0)) es)
+    stay_without p k x es true true h t out rest = refl
+    stay_without p k x es true false h t out rest = absurd (let same = test_same p k x.0 true h out t in cc)
+    stay_without p k x es false true h t out rest = rw t rest
+    stay_without p k x es false false h t out rest = rw t (ap (λ (ys : List (K × V)). x ∷ ys) rest)
+
+    pub filter_without : (p : K → Bool) (k : K) (es : List (K × V)) → p k ≡ true
+        → filter (λ e. not (p e.0)) (remove_entry (eq k) es) ≡ filter (λ e. not (p e.0)) es
+    filter_without p k [] out = refl
+    filter_without p k (x ∷ es) out = stay_without p k x es (eq k x.0) (p x.0) refl refl out (filter_without p k es out)
+
     missed : (p : K → Bool) (x : K × V) (es : List (K × V)) (k : K) → p k ≡ true → (t : Bool) → p x.0 ≡ t → cond t (Some x) (find (λ e. p e.0) es) ≡ None
         → (find (λ e. p e.0) es ≡ None → lookup (eq k) es ≡ None) → lookup (eq k) (x ∷ es) ≡ None
     missed p x es k h true g f rest = absurd (cc)
@@ -176,6 +236,11 @@ module _ {K : Type 0} (eq : K → K → Bool) (laws : IsEquivalence eq) (one : (
     key_passes p es key None f h = absurd (cc)
     key_passes p es key (Some e) f h = let same : key ≡ e.0 = cc in rw same (found_passes p e es f)
 
+    -- without the key of an entry that passes, those that don't are as they were
+    pub drop_others : (p : K → Bool) (es : List (K × V)) (key : K) → Some key ≡ option_map (λ e. e.0) (find (λ e. p e.0) es)
+        → filter (λ e. not (p e.0)) (remove_entry (eq key) es) ≡ filter (λ e. not (p e.0)) es
+    drop_others p es key h = filter_without p key es (key_passes p es key (find (λ e. p e.0) es) refl h)
+
     -- what doesn't pass the test stays
     pub drop_keeps : (p : K → Bool) (es : List (K × V)) (key k : K) → IsDistinct eq (keys_of es) → Some key ≡ option_map (λ e. e.0) (find (λ e. p e.0) es) → p k ≡ false
         → lookup (eq k) (remove_entry (eq key) es) ≡ lookup (eq k) es
@@ -195,3 +260,35 @@ module _ {K : Type 0} (eq : K → K → Bool) (laws : IsEquivalence eq) (one : (
     pub drop_done : (p : K → Bool) (old new : List (K × V)) → None ≡ option_map (λ e. e.0) (find (λ e. p e.0) new)
         → ((k : K) → p k ≡ false → lookup (eq k) new ≡ lookup (eq k) old) → (k : K) → lookup (eq k) new ≡ cond (p k) None (lookup (eq k) old)
     drop_done p old new none same k = cleared p k _ _ (p k) refl (same k) (none_found p new (no_entry _ none) k)
+
+    all_in : (p : K → Bool) (x : K × V) (es : List (K × V)) (t : Bool) → p x.0 ≡ t → cond t (Some x) (find (λ e. p e.0) es) ≡ None
+        → (find (λ e. p e.0) es ≡ None → filter (λ e. not (p e.0)) es ≡ es) → cond (not t) (x ∷ filter (λ e. not (p e.0)) es) (filter (λ e. not (p e.0)) es) ≡ x ∷ es
+    all_in p x es true h f rest = absurd (cc)
+    all_in p x es false h f rest = ap (λ (ys : List (K × V)). x ∷ ys) (rest f)
+
+    -- and where none passes all stay
+    pub none_out : (p : K → Bool) (es : List (K × V)) → find (λ e. p e.0) es ≡ None → filter (λ e. not (p e.0)) es ≡ es
+    none_out p [] f = refl
+    none_out p (x ∷ es) f = all_in p x es (p x.0) refl f (none_out p es)
+
+    pub drop_left : (p : K → Bool) (old new : List (K × V)) → None ≡ option_map (λ e. e.0) (find (λ e. p e.0) new)
+        → filter (λ e. not (p e.0)) new ≡ filter (λ e. not (p e.0)) old → new ≡ filter (λ e. not (p e.0)) old
+    drop_left p old new none same = sym (none_out p new (no_entry _ none)) ∙ same
+
+    none_of_key : (k x : K) (es : List (K × V)) → eq k x ≡ true → AllByRecursion (λ y. eq x y ≡ false) (keys_of es) → filter (λ e. not (eq k e.0)) es ≡ es
+    none_of_key k x [] h all = refl
+    none_of_key k x (e ∷ es) h all =
+        let other : eq k e.0 ≡ false = laws.congr k x e.0 h ∙ all.0 in
+        rw other (ap (λ (ys : List (K × V)). e ∷ ys) (none_of_key k x es h all.1))
+
+    one_of_key : (k : K) (x : K × V) (es : List (K × V)) (b : Bool) → eq k x.0 ≡ b → AllByRecursion (λ y. eq x.0 y ≡ false) (keys_of es)
+        → remove_entry (eq k) es ≡ filter (λ e. not (eq k e.0)) es
+        → cond b es (x ∷ remove_entry (eq k) es) ≡ cond (not b) (x ∷ filter (λ e. not (eq k e.0)) es) (filter (λ e. not (eq k e.0)) es)
+    one_of_key k x es true h all rest = sym (none_of_key k x.0 es h all)
+    one_of_key k x es false h all rest = ap (λ (ys : List (K × V)). x ∷ ys) rest
+
+    -- where no key stands twice, without the entry of a key there is none of that key
+    pub remove-filter : (k : K) (es : List (K × V)) → IsDistinct eq (keys_of es) → remove_entry (eq k) es ≡ filter (λ e. not (eq k e.0)) es
+    unfolding IsDistinct
+    remove-filter k [] d = refl
+    remove-filter k (x ∷ es) d = one_of_key k x es (eq k x.0) refl d.0 (remove-filter k es d.1)

@@ -44,6 +44,19 @@ PutsWay old word page translation new =
     × (((way < 8) × HasKey old word page way × (next ≡ old.next)) ⊎ (((other : ℕ) → HasKey old word page other → ⊥) × TakesWay old.spaces old.next way next))
     × (new ≡ with_way old way word page translation next)
 
+-- the set of a page takes the translation so, and the other sets stay
+abbrev pub PutsInSet : List Ways → Key → Translation → List Ways → Type 0
+PutsInSet old key translation new =
+    (ways : Ways) × PutsWay (get_or old (key.1 % 64) no_ways) (space_word key.0) key.1 translation ways × (new ≡ set old (key.1 % 64) ways)
+
+-- the counters of all sets begin at 0
+abbrev pub AreCountersAtZero : List Ways → Type 0
+AreCountersAtZero sets = (number : ℕ) → (get_or sets number no_ways).next ≡ 0
+
+-- they are as they were
+abbrev pub CountersStay : List Ways → List Ways → Type 0
+CountersStay old new = (number : ℕ) → (get_or new number no_ways).next ≡ (get_or old number no_ways).next
+
 -- ways are empty now: each whose key passes the test, and no other that had one
 pub record Empties (is_out : Key → Bool) (pages old new : List ℕ) : Type 0 where
   pub as_many : length new ≡ length old

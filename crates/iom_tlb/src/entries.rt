@@ -4,7 +4,7 @@ ghost use Rattle.std.specs.Prelude.{◌≡◌, false, option_map};
 ghost use Rattle.std.specs.List.{find as first_of};
 ghost use Rattle.iom_tlb.specs.Content.{Stays, Keeps, Drops};
 ghost use Rattle.iom_tlb.specs.Covers.{covers};
-ghost use Rattle.iom_tlb.specs.Entries.{is_key, content_of};
+ghost use Rattle.iom_tlb.specs.Entries.{is_key, content_of, after_look, KeepsInOrder, after_drop};
 
 use crate::cover::Cover;
 use crate::space::Space;
@@ -18,6 +18,7 @@ pub(crate) fn find(
 ) -> Option<Translation>
     ensures found { result ≡ content_of entries.old.entries key }
     ensures stays { Stays (content_of entries.old.entries) (content_of entries.new.entries) }
+    ensures order { entries.new.entries ≡ after_look key entries.old.entries }
     ensures capacity { entries.new.cap ≡ entries.old.cap }
 {
     let _ = entries.len();
@@ -33,8 +34,10 @@ pub(crate) fn put(
     key: (Space, u64),
     translation: Translation,
 )
+    requires { entries.old.cap ≡ 64 }
     ensures kept { Keeps false (content_of entries.old.entries) key translation
         (content_of entries.new.entries) }
+    ensures order { KeepsInOrder entries.old.entries key translation entries.new.entries }
     ensures capacity { entries.new.cap ≡ entries.old.cap }
 {
     let _ = entries.len();
@@ -45,6 +48,7 @@ pub(crate) fn put(
 pub(crate) fn remove(entries: &mut LruCache<(Space, u64), Translation>, key: (Space, u64))
     ensures dropped { Drops (is_key key) (content_of entries.old.entries)
         (content_of entries.new.entries) }
+    ensures order { entries.new.entries ≡ after_drop (is_key key) entries.old.entries }
     ensures capacity { entries.new.cap ≡ entries.old.cap }
 {
     let _ = entries.len();
@@ -55,6 +59,7 @@ pub(crate) fn remove(entries: &mut LruCache<(Space, u64), Translation>, key: (Sp
 pub(crate) fn remove_covered(entries: &mut LruCache<(Space, u64), Translation>, cover: &Cover)
     ensures dropped { Drops (covers cover.now) (content_of entries.old.entries)
         (content_of entries.new.entries) }
+    ensures order { entries.new.entries ≡ after_drop (covers cover.now) entries.old.entries }
     ensures capacity { entries.new.cap ≡ entries.old.cap }
 {
     while let Some(key) = first_covered(entries, cover) {

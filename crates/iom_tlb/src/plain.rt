@@ -1,6 +1,7 @@
-ghost use Rattle.std.specs.Prelude.{IfOk, false};
-ghost use Rattle.iom_tlb.specs.Content.{HasNothing};
-ghost use Rattle.iom_tlb.specs.Entries.{content_of};
+ghost use Rattle.std.specs.Prelude.{◌≡◌, [], IfOk, false};
+ghost use Rattle.iom_tlb.specs.Content.{HasNothing, Stays, Keeps, Drops};
+ghost use Rattle.iom_tlb.specs.Covers.{covers};
+ghost use Rattle.iom_tlb.specs.Entries.{content_of, after_look, KeepsInOrder, after_drop};
 
 use crate::cover::Cover;
 use crate::entries;
@@ -15,7 +16,7 @@ use std::num::NonZeroUsize;
 pub const MAX_TRANSLATIONS: usize = 64;
 
 /// A cache of 64 translations, seen as the list of them, the most recently used first. Where it is full a new one
-/// takes out the least recently used.
+/// takes out the least recently used. Beside what each cache does, each call says what becomes of that list (`order`).
 ///
 /// A keep of a new page takes memory, and keeps nothing where there is none. No other call takes any.
 #[derive(Drop)]
@@ -38,7 +39,8 @@ impl Model for PlainCache {
 impl PlainCache {
     /// A cache that has nothing.
     pub fn new(alloc: Global) -> Result<PlainCache, AllocError>
-        ensures { IfOk result (λ cache. HasNothing (content_of cache)) }
+        ensures nothing { IfOk result (λ cache. HasNothing (content_of cache)) }
+        ensures order { IfOk result (λ cache. cache ≡ []) }
     {
         let entries = LruCache::new(alloc, NonZeroUsize::new(MAX_TRANSLATIONS).unwrap())?;
         Ok(PlainCache { entries })
@@ -52,22 +54,35 @@ impl TransCache for PlainCache {
 
     ghost content = { content_of };
 
-    fn look(&mut self, space: Space, page: u64) -> Option<Translation> {
+    fn look(&mut self, space: Space, page: u64) -> Option<Translation>
+        ensures found { result ≡ content_of self.old (space, page) }
+        ensures stays { Stays (content_of self.old) (content_of self.new) }
+        ensures order { self.new ≡ after_look (space, page) self.old }
+    {
         entries::find(&mut self.entries, (space, page))
     }
 
-    fn keep(&mut self, space: Space, page: u64, translation: Translation) {
+    fn keep(&mut self, space: Space, page: u64, translation: Translation)
+        ensures kept { Keeps false (content_of self.old) (space, page) translation (content_of self.new) }
+        ensures order { KeepsInOrder self.old (space, page) translation self.new }
+    {
         entries::put(&mut self.entries, (space, page), translation);
     }
 
-    fn drop_where(&mut self, cover: &Cover) {
+    fn drop_where(&mut self, cover: &Cover)
+        ensures dropped { Drops (covers cover.now) (content_of self.old) (content_of self.new) }
+        ensures order { self.new ≡ after_drop (covers cover.now) self.old }
+    {
         match cover.only_key() {
             Some(key) => entries::remove(&mut self.entries, key),
             None => entries::remove_covered(&mut self.entries, cover),
         }
     }
 
-    fn drop_all(&mut self) {
+    fn drop_all(&mut self)
+        ensures empty { HasNothing (content_of self.new) }
+        ensures order { self.new ≡ [] }
+    {
         self.entries.clear();
     }
 }

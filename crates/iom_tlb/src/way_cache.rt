@@ -1,8 +1,8 @@
 ghost use Rattle.std.specs.Prelude.{◌≡◌, ◌<◌, ◌%◌, ℕ, true, IfOk, length, get_or};
-ghost use Rattle.iom_tlb.specs.Content.{Drops, HasNothing};
+ghost use Rattle.iom_tlb.specs.Content.{Keeps, Drops, HasNothing};
 ghost use Rattle.iom_tlb.specs.Covers.{covers};
 ghost use Rattle.iom_tlb.specs.Ways.{in_set, no_ways, content_of_sets};
-ghost use Rattle.iom_tlb.specs.WayCalls.{AreAtHome};
+ghost use Rattle.iom_tlb.specs.WayCalls.{AreAtHome, AreCountersAtZero, CountersStay, PutsInSet};
 
 use crate::cover::Cover;
 use crate::space::Space;
@@ -16,7 +16,8 @@ const SETS: usize = 64;
 
 /// A cache of 64 sets of eight ways, seen as the list of its sets. A page is in the set of its number modulo 64.
 /// A new page takes the lowest empty way of its set. Where none is empty it takes the way at the counter of the
-/// set, which begins at 0 and then goes on by one modulo 8. Drops don't touch the counters.
+/// set, which begins at 0 and then goes on by one modulo 8. Drops don't touch the counters: also after a drop of all
+/// the counter says which way goes first once the set is full again.
 ///
 /// It takes all its memory when it is made, so each keep keeps.
 #[derive(Drop)]
@@ -50,8 +51,7 @@ fn new_sets(alloc: Global) -> Result<Vec<WaySet>, AllocError>
         → HasNothing (in_set (get_or sets.items number no_ways))) }
     ensures home { IfOk result (λ sets. (number : ℕ)
         → AreAtHome number (get_or sets.items number no_ways)) }
-    ensures counters { IfOk result (λ sets. (number : ℕ)
-        → (get_or sets.items number no_ways).next ≡ 0) }
+    ensures counters { IfOk result (λ sets. AreCountersAtZero sets.items) }
 {
     let mut sets = Vec::with_capacity(alloc, SETS)?;
     for made in 0..SETS {
@@ -66,6 +66,7 @@ fn drop_in_all(sets: &mut [WaySet], cover: &Cover)
         (in_set (get_or sets.old number no_ways)) (in_set (get_or sets.new number no_ways)) }
     ensures home { (number : ℕ) → AreAtHome number (get_or sets.old number no_ways)
         → AreAtHome number (get_or sets.new number no_ways) }
+    ensures counters { CountersStay sets.old sets.new }
 {
     for number in 0..sets.len() {
         let set = &mut sets[number];
@@ -77,6 +78,7 @@ fn drop_in_all(sets: &mut [WaySet], cover: &Cover)
 fn empty_all(sets: &mut [WaySet])
     ensures nothing { (number : ℕ) → HasNothing (in_set (get_or sets.new number no_ways)) }
     ensures home { (number : ℕ) → AreAtHome number (get_or sets.new number no_ways) }
+    ensures counters { CountersStay sets.old sets.new }
 {
     for number in 0..sets.len() {
         let set = &mut sets[number];
@@ -87,7 +89,8 @@ fn empty_all(sets: &mut [WaySet])
 impl WayCache {
     /// A cache that has nothing, with all the memory that it ever takes.
     pub fn new(alloc: Global) -> Result<WayCache, AllocError>
-        ensures { IfOk result (λ cache. HasNothing (content_of_sets cache)) }
+        ensures nothing { IfOk result (λ cache. HasNothing (content_of_sets cache)) }
+        ensures counters { IfOk result AreCountersAtZero }
     {
         let sets = new_sets(alloc)?;
         Ok(WayCache { sets })
@@ -106,14 +109,20 @@ impl TransCache for WayCache {
         set.look(space, page)
     }
 
-    fn keep(&mut self, space: Space, page: u64, translation: Translation) {
+    fn keep(&mut self, space: Space, page: u64, translation: Translation)
+        ensures kept { Keeps true (content_of_sets self.old) (space, page) translation (content_of_sets self.new) }
+        ensures put { PutsInSet self.old (space, page) translation self.new }
+    {
         let set = &mut self.sets[set_of(page)];
         set.keep(space, page, translation);
     }
 
     // Written into the fetch of a command, where it is known which of the covers it is.
     #[inline(always)]
-    fn drop_where(&mut self, cover: &Cover) {
+    fn drop_where(&mut self, cover: &Cover)
+        ensures dropped { Drops (covers cover.now) (content_of_sets self.old) (content_of_sets self.new) }
+        ensures counters { CountersStay self.old self.new }
+    {
         if let Some((space, page)) = cover.only_key() {
             let set = &mut self.sets[set_of(page)];
             set.drop_key(space, page);
@@ -125,7 +134,10 @@ impl TransCache for WayCache {
         }
     }
 
-    fn drop_all(&mut self) {
+    fn drop_all(&mut self)
+        ensures empty { HasNothing (content_of_sets self.new) }
+        ensures counters { CountersStay self.old self.new }
+    {
         empty_all(&mut self.sets);
     }
 }

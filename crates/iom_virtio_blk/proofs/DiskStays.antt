@@ -4,7 +4,8 @@ use Rattle.iom_virtio_blk.specs.declared.step.Call.{Call}
 use Rattle.iom_virtio_blk.specs.declared.step.Call.TheVariants.{Read, Write, Flush}
 use Rattle.iom_virtio_blk.specs.declared.step.Step.{Step}
 use Rattle.iom_virtio_blk.specs.declared.step.Step.TheVariants as step
-use Rattle.iom_virtio_blk.specs.Disks.{DiskState, name_in, CalledWell, HasReason, HasFlushReason, KeepsSectors, Tears, sector_count}
+use Rattle.iom_virtio_blk.specs.Disks.{name_in, CalledWell, HasReason, HasFlushReason, KeepsSectors, Tears, sector_count}
+use Rattle.iom_virtio_blk.specs.DiskStates.{DiskState}
 use Rattle.iom_virtio_blk.specs.Blocks.{call_after, after_served}
 use Rattle.iom_virtio_blk.specs.Steps.{Device, Steps, Calls, UsesIn, GoesOnIn}
 use Rattle.iom_virtqueue.specs.declared.phase.Phase.{Phase}
@@ -13,12 +14,12 @@ use Rattle.iom_virtqueue.specs.declared.phase.Phase.TheVariants.{Served}
 well : (old new : Option DiskState) → CalledWell old new → name_in new ≡ name_in old
 well None new called = absurd called
 well (Some old) None called = absurd called
-well (Some old) (Some new) called = ap Some called.1.name
+well (Some old) (Some new) called = ap Some called.name
 
 -- a call that failed where there is a disk
 reason : (old new : DiskState) (sector : ℕ) → HasReason (Some old) sector (Some new) → new.name ≡ old.name
 reason old new sector (inl beyond) = ap (λ (disk : DiskState). disk.name) beyond.1
-reason old new sector (inr fails) = fails.1.name
+reason old new sector (inr fails) = fails.name
 
 failed_read : (old new : Option DiskState) (sector : ℕ) → HasReason old sector new → KeepsSectors old new → name_in new ≡ name_in old
 failed_read None None sector why same = refl
@@ -36,7 +37,7 @@ failed_flush : (old new : Option DiskState) → HasFlushReason old new → Keeps
 failed_flush None None why same = refl
 failed_flush None (Some new) why same = absurd same
 failed_flush (Some old) None why same = absurd why
-failed_flush (Some old) (Some new) why same = ap Some why.1.name
+failed_flush (Some old) (Some new) why same = ap Some why.name
 
 called : (call : Option Call) (done : Bool) (old new : Option DiskState) (kept buffer : List ℕ) → Calls call done old kept new buffer → name_in new ≡ name_in old
 called None true old new kept buffer calls = ap name_in calls.0

@@ -5,7 +5,8 @@ use Rattle.std.proofs.lemmas.List.{take_all}
 use Rattle.std.proofs.lemmas.Grind.{common_steps}
 use Rattle.std.proofs.lemmas.Option.{gets}
 use Rattle.std.proofs.lemmas.Bool.{cases_order, cases_lt}
-use Rattle.iom_virtio_blk.specs.Disks.{DiskState, KeepsSectors, DidWrite, Tears}
+use Rattle.iom_virtio_blk.specs.Disks.{KeepsSectors, DidWrite, Tears}
+use Rattle.iom_virtio_blk.specs.DiskStates.{DiskState}
 use Rattle.iom_virtio_blk.specs.Histories.{Entry, inserted, gave, failed, Gives, MayHold, IsDisk, IsMap}
 use Rattle.iom_virtio_blk.proofs.SectorLemmas.{same_sector}
 

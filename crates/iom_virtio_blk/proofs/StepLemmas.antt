@@ -15,7 +15,8 @@ use Rattle.iom_virtio_blk.specs.declared.stage.Stage.{Stage}
 use Rattle.iom_virtio_blk.specs.declared.stage.Stage.TheVariants.{Reset, FeaturesOk, DriverOk, NeedsReset}
 use Rattle.iom_virtio_blk.specs.declared.step.Step.{Step}
 use Rattle.iom_virtio_blk.specs.declared.step.Step.TheVariants.{Idle, Waiting, Down, Chain, Finished, Wants}
-use Rattle.iom_virtio_blk.specs.Disks.{DiskState, sector_count, IsThere}
+use Rattle.iom_virtio_blk.specs.Disks.{sector_count, IsThere}
+use Rattle.iom_virtio_blk.specs.DiskStates.{DiskState}
 use Rattle.iom_virtio_blk.specs.Requests.{plan_of}
 use Rattle.iom_virtio_blk.specs.Serving.{unread, piece_in, piece_len, data_in, data_out, IsUnderWayIn}
 use Rattle.iom_virtio_blk.specs.Blocks.{IsReady, IsTaking, planned, kind_in, sector_in, buffer_in, serving_in, call_in, queue_in}

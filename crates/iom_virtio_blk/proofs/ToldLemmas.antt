@@ -11,7 +11,8 @@ use Rattle.iom_virtio_blk.specs.declared.step.Call.TheVariants.{Read, Write, Flu
 use Rattle.iom_virtio_blk.specs.declared.serving.Serving.{Serving}
 use Rattle.iom_virtio_blk.specs.declared.serving.Job.{Job}
 use Rattle.iom_virtio_blk.specs.declared.serving.Job.TheVariants.{Header, Reading, Writing, Ending}
-use Rattle.iom_virtio_blk.specs.Disks.{DiskState, KeepsSectors, DidRead, DidWrite, IsThere}
+use Rattle.iom_virtio_blk.specs.Disks.{KeepsSectors, DidRead, DidWrite, IsThere}
+use Rattle.iom_virtio_blk.specs.DiskStates.{DiskState}
 use Rattle.iom_virtio_blk.specs.Serving.{begun, call_of, with_header, call_with_header, with_written, call_with_written, with_data, call_with_data, data_in, data_out}
 use Rattle.iom_virtio_blk.specs.Blocks.{overlaid}
 use Rattle.iom_virtio_blk.specs.Steps.{Calls, settled}

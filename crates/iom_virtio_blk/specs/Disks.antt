@@ -1,12 +1,6 @@
 -- What a disk shows, and what its calls do.
 use Rattle.std.specs.Prelude.{◌≡◌, ℕ, zero, suc, ◌<◌, ◌≤◌, ◌⊎◌, Bool, true, false, List, [], ◌∷◌, length, slice_get, slice_set, Option, Some, None}
-
--- a disk as it is seen: which disk it is, by a name that no call changes; the bytes of each sector; and which of its calls will fail, by how many go well
--- before each of them
-pub record DiskState : Type 0 where
-  pub name : ℕ
-  pub sectors : List (List ℕ)
-  pub failing : List ℕ
+use Rattle.iom_virtio_blk.specs.DiskStates.{DiskState}
 
 -- what is seen of the disk that stands in a place, if there is one; `seen` is that of the disk's trait
 abbrev pub disk_in : {T : Type 0} → (T → DiskState) → Option T → Option DiskState
@@ -30,17 +24,22 @@ after_call [] = []
 after_call (zero ∷ later) = later
 after_call (suc before ∷ later) = before ∷ later
 
--- it is the same disk, of which one more call was made
-pub record IsCalled (old new : DiskState) : Type 0 where
+-- where it is settled which calls fail: whether this one was to, and which are to come
+abbrev pub IsSettled : Option (List ℕ) → (has_failed : Bool) → Option (List ℕ) → Type 0
+IsSettled None has_failed new = new ≡ None
+IsSettled (Some failing) has_failed new = (fails_next failing ≡ has_failed) × (new ≡ Some (after_call failing))
+
+-- it is the same disk, of which one more call was made, and went well
+pub record GoesWell (old new : DiskState) : Type 0 where
   pub name : new.name ≡ old.name
-  pub failing : new.failing ≡ after_call old.failing
+  pub failures : new.failures ≡ old.failures
+  pub failing : IsSettled old.failing false new.failing
 
--- the call went well, or failed: as was to come
-abbrev pub GoesWell : DiskState → DiskState → Type 0
-GoesWell old new = (fails_next old.failing ≡ false) × IsCalled old new
-
-abbrev pub Fails : DiskState → DiskState → Type 0
-Fails old new = (fails_next old.failing ≡ true) × IsCalled old new
+-- or failed, which it counts
+pub record Fails (old new : DiskState) : Type 0 where
+  pub name : new.name ≡ old.name
+  pub failures : old.failures < new.failures
+  pub failing : IsSettled old.failing true new.failing
 
 -- how many sectors there are, where there is a disk
 abbrev pub sector_count : Option DiskState → Option ℕ
@@ -51,7 +50,7 @@ sector_count (Some disk) = Some (length disk.sectors)
 abbrev pub IsOldOrNew : List (List ℕ) → ℕ → List ℕ → List (List ℕ) → Type 0
 IsOldOrNew old sector bytes new = (new ≡ old) ⊎ (new ≡ slice_set old sector bytes)
 
--- why a call may have failed: there is no disk, or no such sector, and nothing was called; or this call of the disk was to fail
+-- why a call may have failed: there is no disk, or no such sector, and nothing was called; or the disk counts a failure
 abbrev pub HasReason : Option DiskState → ℕ → Option DiskState → Type 0
 HasReason None sector new = Unit {0}
 HasReason (Some old) sector None = ⊥
@@ -93,7 +92,7 @@ abbrev pub IsThere : Option DiskState → Type 0
 IsThere None = ⊥
 IsThere (Some disk) = Unit {0}
 
--- why a flush may have failed: there is no disk, or this call of it was to fail
+-- why a flush may have failed: there is no disk, or it counts a failure
 abbrev pub HasFlushReason : Option DiskState → Option DiskState → Type 0
 HasFlushReason None new = Unit {0}
 HasFlushReason (Some old) None = ⊥

@@ -7,7 +7,8 @@ use Rattle.iom_virtio_blk.specs.declared.request.RequestStatus.TheVariants as st
 use Rattle.iom_virtio_blk.specs.declared.serving.Serving.{Serving}
 use Rattle.iom_virtio_blk.specs.declared.serving.Job.{Job}
 use Rattle.iom_virtio_blk.specs.declared.serving.Job.TheVariants.{Header, Reading, Writing, Ending}
-use Rattle.iom_virtio_blk.specs.Disks.{DiskState, DidRead, IsThere}
+use Rattle.iom_virtio_blk.specs.Disks.{DidRead, IsThere}
+use Rattle.iom_virtio_blk.specs.DiskStates.{DiskState}
 use Rattle.iom_virtio_blk.specs.Steps.{Device}
 
 -- what happened to a disk: it was put in as it is; an OUT gave these bytes of data, in order from a first sector on, and each sector that is

@@ -1,6 +1,7 @@
 pub mod Features
 pub mod Stages
 pub mod Requests
+pub mod DiskStates
 pub mod Disks
 pub mod Serving
 pub mod Blocks

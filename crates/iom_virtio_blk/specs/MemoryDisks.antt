@@ -1,9 +1,9 @@
 -- A disk in memory, one of whose calls fails, or none.
 use Rattle.std.specs.Prelude.{ℕ, zero, suc, List, [], ◌∷◌, replicate, Option, None, Some}
 use Rattle.iom_virtio_blk.specs.declared.memory_disk.Failing.{Failing}
-use Rattle.iom_virtio_blk.specs.declared.memory_disk.Failing.TheVariants.{Never, After}
+use Rattle.iom_virtio_blk.specs.declared.memory_disk.Failing.TheVariants.{Never, After, Past}
 use Rattle.iom_virtio_blk.specs.declared.memory_disk.MemoryDisk.{MemoryDisk}
-use Rattle.iom_virtio_blk.specs.Disks.{DiskState}
+use Rattle.iom_virtio_blk.specs.DiskStates.{DiskState}
 
 -- the bytes of a sector that was never written
 unfoldable pub zero_sector : List ℕ
@@ -19,11 +19,18 @@ failing_at (Some (suc before)) = before ∷ []
 abbrev pub failing_of : Failing → List ℕ
 failing_of Never = []
 failing_of (After before) = before ∷ []
+failing_of Past = []
+
+-- how many calls failed
+abbrev pub failures_of : Failing → ℕ
+failures_of Never = 0
+failures_of (After before) = 0
+failures_of Past = 1
 
 -- the disk as it is seen
 abbrev pub state_of : MemoryDisk → DiskState
-state_of disk = record { name = disk.name; sectors = disk.sectors.items; failing = failing_of disk.failing }
+state_of disk = record { name = disk.name; sectors = disk.sectors.items; failures = failures_of disk.failing; failing = Some (failing_of disk.failing) }
 
--- a disk of this name with so many sectors of zeros
+-- a disk of this name with so many sectors of zeros, of which no call failed yet, and of which these will
 abbrev pub zero_disk : (name sectors : ℕ) (failing : List ℕ) → DiskState
-zero_disk name sectors failing = record { name = name; sectors = replicate sectors zero_sector; failing = failing }
+zero_disk name sectors failing = record { name = name; sectors = replicate sectors zero_sector; failures = 0; failing = Some failing }

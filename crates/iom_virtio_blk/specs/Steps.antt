@@ -14,7 +14,8 @@ use Rattle.iom_virtio_blk.specs.declared.step.Call.{Call}
 use Rattle.iom_virtio_blk.specs.declared.step.Call.TheVariants.{Read, Write, Flush}
 use Rattle.iom_virtio_blk.specs.declared.step.Step.{Step}
 use Rattle.iom_virtio_blk.specs.declared.step.Step.TheVariants.{Idle, Waiting, Down, Chain, Finished, Wants}
-use Rattle.iom_virtio_blk.specs.Disks.{DiskState, sector_count, HasReason, HasFlushReason, CalledWell, KeepsSectors, DidRead, DidWrite, Tears, IsThere}
+use Rattle.iom_virtio_blk.specs.Disks.{sector_count, HasReason, HasFlushReason, CalledWell, KeepsSectors, DidRead, DidWrite, Tears, IsThere}
+use Rattle.iom_virtio_blk.specs.DiskStates.{DiskState}
 use Rattle.iom_virtio_blk.specs.Serving.{unread}
 use Rattle.iom_virtio_blk.specs.Wants.{access_wanted}
 use Rattle.iom_virtio_blk.specs.Blocks.{IsAsking, IsTaking, wanted_by, down, call_after, after_served}

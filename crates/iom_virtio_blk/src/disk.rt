@@ -1,6 +1,6 @@
 ghost use Rattle.std.specs.Prelude.{◌≡◌, ◌<◌, length, OnOk, OnErr, Some, slice_get, slice_set};
-ghost use Rattle.std.specs.Result.{is_err};
-ghost use Rattle.iom_virtio_blk.specs.Disks.{DiskState, IsCalled, IsOldOrNew, fails_next};
+ghost use Rattle.iom_virtio_blk.specs.Disks.{GoesWell, Fails, IsOldOrNew};
+ghost use Rattle.iom_virtio_blk.specs.DiskStates.{DiskState};
 
 /// The bytes of a sector (virtio 1.2, section 5.2.4).
 pub const SECTOR_SIZE: usize = 512;
@@ -11,11 +11,12 @@ pub struct DiskFault;
 
 /// What a block device keeps its sectors on.
 ///
-/// Each disk has a name that no call changes, so that no disk passes for another that holds the same. Which of its calls
-/// fail is settled beforehand, and each call is one of these. A write that failed leaves its sector old or new, and all
-/// others as they were.
+/// Each disk has a name that no call changes, so that no disk passes for another that holds the same. A call fails only
+/// where the disk counts one failure more; at the last number it counts, a disk fails no more. Where it is settled
+/// beforehand which of its calls fail, each call is one of these. A write that failed leaves its sector old or new, and
+/// all others as they were.
 pub trait Disk: Drop {
-    /// Its name, the bytes of each sector, and which calls will fail.
+    /// Its name, the bytes of each sector, how many calls failed, and which will, where that is settled.
     ghost seen: { Self → DiskState };
 
     /// The name of the disk.
@@ -26,25 +27,29 @@ pub trait Disk: Drop {
     fn sectors(&self) -> u64
         ensures { result ≡ length (seen self.now).sectors };
 
+    /// How many calls failed so far.
+    fn failures(&self) -> u64
+        ensures { result ≡ (seen self.now).failures };
+
     /// Reads a sector. What was written stays.
     fn read(&mut self, sector: u64, bytes: &mut [u8; 512]) -> Result<(), DiskFault>
         requires { sector < length (seen self.old).sectors }
         ensures ok { OnOk result (slice_get (seen self.old).sectors sector ≡ Some bytes.new) }
         ensures same { (seen self.new).sectors ≡ (seen self.old).sectors }
-        ensures fails { is_err result ≡ fails_next (seen self.old).failing }
-        ensures called { IsCalled (seen self.old) (seen self.new) };
+        ensures well { OnOk result (GoesWell (seen self.old) (seen self.new)) }
+        ensures fails { OnErr result (Fails (seen self.old) (seen self.new)) };
 
     /// Writes a sector.
     fn write(&mut self, sector: u64, bytes: &[u8; 512]) -> Result<(), DiskFault>
         requires { sector < length (seen self.old).sectors }
         ensures ok { OnOk result ((seen self.new).sectors ≡ slice_set (seen self.old).sectors sector bytes.now) }
         ensures err { OnErr result (IsOldOrNew (seen self.old).sectors sector bytes.now (seen self.new).sectors) }
-        ensures fails { is_err result ≡ fails_next (seen self.old).failing }
-        ensures called { IsCalled (seen self.old) (seen self.new) };
+        ensures well { OnOk result (GoesWell (seen self.old) (seen self.new)) }
+        ensures fails { OnErr result (Fails (seen self.old) (seen self.new)) };
 
     /// Makes what was written last.
     fn flush(&mut self) -> Result<(), DiskFault>
         ensures same { (seen self.new).sectors ≡ (seen self.old).sectors }
-        ensures fails { is_err result ≡ fails_next (seen self.old).failing }
-        ensures called { IsCalled (seen self.old) (seen self.new) };
+        ensures well { OnOk result (GoesWell (seen self.old) (seen self.new)) }
+        ensures fails { OnErr result (Fails (seen self.old) (seen self.new)) };
 }

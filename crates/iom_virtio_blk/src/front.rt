@@ -140,7 +140,7 @@ impl Front {
         requires ready { IsReady self.now }
         ensures { IsTrue result ↔ AreOf bytes.now (wanted_by self.now) }
     {
-        self.queue.promises();
+        self.queue.facts();
         match self.queue.phase() {
             Phase::AvailableIndex | Phase::RingEntry => bytes.len() == 2,
             Phase::Table(_) => bytes.len() == 16,
@@ -229,7 +229,7 @@ impl Front {
         ensures want { access_wanted self.now.buffer result ≡ wanted_by self.now }
         ensures within { self.now.stage ≡ DriverOk → LiesInPage (wanted_by self.now) }
     {
-        self.queue.promises();
+        self.queue.facts();
         match self.queue.phase() {
             Phase::Served => self.serving.access(self.queue.chain()),
             _ => WantedAccess::Small(self.queue.next()),

@@ -1,7 +1,6 @@
-ghost use Rattle.std.specs.Prelude.{◌≡◌, ◌<◌, length, IfOk, OnOk, OnErr, Some, slice_get, slice_set};
-ghost use Rattle.std.specs.Result.{is_err};
-ghost use Rattle.iom_virtio_blk.specs.Disks.{IsCalled, after_call, fails_next};
-ghost use Rattle.iom_virtio_blk.specs.MemoryDisks.{failing_at, failing_of, state_of, zero_disk, zero_sector};
+ghost use Rattle.std.specs.Prelude.{◌≡◌, ◌<◌, length, true, false, IfOk, OnOk, OnErr, Some, slice_get, slice_set};
+ghost use Rattle.iom_virtio_blk.specs.Disks.{GoesWell, Fails, after_call, fails_next};
+ghost use Rattle.iom_virtio_blk.specs.MemoryDisks.{failing_at, failing_of, failures_of, state_of, zero_disk, zero_sector};
 
 use crate::disk::{Disk, DiskFault, SECTOR_SIZE};
 use std::alloc::{AllocError, Global};
@@ -9,16 +8,19 @@ use std::alloc::{AllocError, Global};
 /// Which of a disk's calls fails.
 #[derive(Clone, Copy, PartialEq, Eq, Debug)]
 pub(crate) enum Failing {
-    /// None does any more.
+    /// None does.
     Never,
     /// One will, when so many more calls were made.
     After(u64),
+    /// One did, and no other will.
+    Past,
 }
 
 impl Failing {
     /// The call of this number does, counted from 1.
     fn at(call: Option<u64>) -> Failing
-        ensures { failing_of result ≡ failing_at call }
+        ensures failing { failing_of result ≡ failing_at call }
+        ensures none { failures_of result ≡ 0 }
     {
         match call {
             None | Some(0) => Failing::Never,
@@ -30,11 +32,13 @@ impl Failing {
     fn call(&mut self) -> bool
         ensures fails { result ≡ fails_next (failing_of self.old) }
         ensures after { failing_of self.new ≡ after_call (failing_of self.old) }
+        ensures well { result ≡ false → failures_of self.new ≡ failures_of self.old }
+        ensures counted { result ≡ true → failures_of self.old < failures_of self.new }
     {
         match *self {
-            Failing::Never => false,
+            Failing::Never | Failing::Past => false,
             Failing::After(0) => {
-                *self = Failing::Never;
+                *self = Failing::Past;
                 true
             }
             Failing::After(before) => {
@@ -94,12 +98,19 @@ impl Disk for MemoryDisk {
         self.sectors.len() as u64
     }
 
+    fn failures(&self) -> u64 {
+        match self.failing {
+            Failing::Never | Failing::After(_) => 0,
+            Failing::Past => 1,
+        }
+    }
+
     fn read(&mut self, sector: u64, bytes: &mut [u8; 512]) -> Result<(), DiskFault>
         requires { sector < length self.old.sectors.items }
-        ensures fails { is_err result ≡ fails_next (failing_of self.old.failing) }
         ensures ok { OnOk result (slice_get self.old.sectors.items sector ≡ Some bytes.new) }
         ensures same { self.new.sectors.items ≡ self.old.sectors.items }
-        ensures called { IsCalled (state_of self.old) (state_of self.new) }
+        ensures well { OnOk result (GoesWell (state_of self.old) (state_of self.new)) }
+        ensures fails { OnErr result (Fails (state_of self.old) (state_of self.new)) }
     {
         if self.failing.call() {
             return Err(DiskFault);
@@ -110,10 +121,10 @@ impl Disk for MemoryDisk {
 
     fn write(&mut self, sector: u64, bytes: &[u8; 512]) -> Result<(), DiskFault>
         requires { sector < length self.old.sectors.items }
-        ensures fails { is_err result ≡ fails_next (failing_of self.old.failing) }
         ensures ok { OnOk result (self.new.sectors.items ≡ slice_set self.old.sectors.items sector bytes.now) }
         ensures err { OnErr result (self.new.sectors.items ≡ self.old.sectors.items) }
-        ensures called { IsCalled (state_of self.old) (state_of self.new) }
+        ensures well { OnOk result (GoesWell (state_of self.old) (state_of self.new)) }
+        ensures fails { OnErr result (Fails (state_of self.old) (state_of self.new)) }
     {
         if self.failing.call() {
             return Err(DiskFault);
@@ -123,9 +134,9 @@ impl Disk for MemoryDisk {
     }
 
     fn flush(&mut self) -> Result<(), DiskFault>
-        ensures fails { is_err result ≡ fails_next (failing_of self.old.failing) }
         ensures same { self.new.sectors.items ≡ self.old.sectors.items }
-        ensures called { IsCalled (state_of self.old) (state_of self.new) }
+        ensures well { OnOk result (GoesWell (state_of self.old) (state_of self.new)) }
+        ensures fails { OnErr result (Fails (state_of self.old) (state_of self.new)) }
     {
         if self.failing.call() {
             return Err(DiskFault);

@@ -114,7 +114,7 @@ impl Queue {
 
     /// Does nothing: what holds of every queue. What was read of the request in work is the beginning of a
     /// chain, and from the time that it is served the whole of one; what is wanted lies in one page.
-    pub fn promises(&self)
+    pub fn facts(&self)
         ensures layout { IsLayout self.now.layout }
         ensures sound { IsChainSoFar self.now }
         ensures within { wanted self.now ≢ nothing → LiesInPage (wanted self.now) }

@@ -1,6 +1,4 @@
-ghost use Rattle.std.specs.Prelude.{◌≡◌, Some};
-ghost use Rattle.iom_virtio_blk.specs.Disks.{after_call, fails_next};
-ghost use Rattle.iom_virtio_blk.specs.MemoryDisks.{failing_at};
+ghost use Rattle.std.specs.Prelude.{◌≡◌, None};
 
 use iom_virtio_blk::{Disk, DiskFault};
 
@@ -9,6 +7,8 @@ use iom_virtio_blk::{Disk, DiskFault};
 pub(crate) struct FailingDisk {
     sectors: [[u8; 512]; 4],
     fails_at: u64,
+    calls: u64,
+    failures: u64,
 }
 
 impl FailingDisk {
@@ -16,31 +16,24 @@ impl FailingDisk {
         FailingDisk {
             sectors: [[0; 512]; 4],
             fails_at,
+            calls: 0,
+            failures: 0,
         }
     }
 
-    // A call is made: whether it fails. No sector changes.
+    // Counts a call, and tells whether it fails. No sector changes.
     fn fails(&mut self) -> bool
         ensures same { self.new.sectors ≡ self.old.sectors }
-        ensures fails { result ≡ fails_next (failing_at (Some self.old.fails_at)) }
-        ensures after { failing_at (Some self.new.fails_at) ≡ after_call (failing_at (Some self.old.fails_at)) }
+        ensures failures { self.new.failures ≡ self.old.failures }
     {
-        match self.fails_at {
-            0 => false,
-            1 => {
-                self.fails_at = 0;
-                true
-            }
-            more => {
-                self.fails_at = more - 1;
-                false
-            }
-        }
+        self.calls = self.calls.saturating_add(1);
+        self.calls == self.fails_at && self.failures == 0
     }
 }
 
 impl Disk for FailingDisk {
-    ghost seen = { λ disk. record { name = 0; sectors = disk.sectors; failing = failing_at (Some disk.fails_at) } };
+    // Which of its calls fail isn't told beforehand, as of a disk outside.
+    ghost seen = { λ disk. record { name = 0; sectors = disk.sectors; failures = disk.failures; failing = None } };
 
     fn name(&self) -> u64 {
         0
@@ -50,8 +43,13 @@ impl Disk for FailingDisk {
         4
     }
 
+    fn failures(&self) -> u64 {
+        self.failures
+    }
+
     fn read(&mut self, sector: u64, bytes: &mut [u8; 512]) -> Result<(), DiskFault> {
-        if self.fails() {
+        if self.fails() && self.failures == 0 {
+            self.failures = 1;
             return Err(DiskFault);
         }
         *bytes = self.sectors[sector as usize];
@@ -59,7 +57,8 @@ impl Disk for FailingDisk {
     }
 
     fn write(&mut self, sector: u64, bytes: &[u8; 512]) -> Result<(), DiskFault> {
-        if self.fails() {
+        if self.fails() && self.failures == 0 {
+            self.failures = 1;
             return Err(DiskFault);
         }
         self.sectors[sector as usize] = *bytes;
@@ -67,7 +66,8 @@ impl Disk for FailingDisk {
     }
 
     fn flush(&mut self) -> Result<(), DiskFault> {
-        if self.fails() {
+        if self.fails() && self.failures == 0 {
+            self.failures = 1;
             return Err(DiskFault);
         }
         Ok(())

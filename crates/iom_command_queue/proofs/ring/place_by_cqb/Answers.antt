@@ -1,4 +1,4 @@
-use Rattle.std.proofs.Common.{◌≡◌, ◌∙◌, ◌+◌, ◌*◌, ◌/◌, ◌%◌, ◌^◌, ap}
+use Rattle.std.proofs.Common.{◌∙◌, ◌*◌, ◌/◌, ◌%◌, ◌^◌, ap}
 use Rattle.iom_command_queue.proofs.Bases.{base_by_value, entries_by_value, few_entries}
 use Rattle.iom_command_queue.proofs.ring.place_by_cqb.Goals as goal
 

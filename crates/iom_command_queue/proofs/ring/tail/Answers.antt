@@ -1,4 +1,4 @@
-use Rattle.std.proofs.Common.{◌≡◌, ◌≤◌, ◌∙◌, arith}
+use Rattle.std.proofs.Common.{arith}
 use Rattle.iom_command_queue.proofs.Waits.{tail_below}
 use Rattle.iom_command_queue.proofs.Bases.{few_entries}
 use Rattle.iom_command_queue.proofs.ring.tail.Goals as goal

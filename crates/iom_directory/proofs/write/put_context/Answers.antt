@@ -1,7 +1,7 @@
 -- The loop hangs the missing pages, and the context is written in the last of the path's pages.
 use Rattle.std.proofs.Common.{◌-◌, ◌∙◌, ◌^◌, ◌<◌, slice_index, sym, arith}
 use Rattle.iom_directory.specs.Pages.{root_level}
-use Rattle.iom_directory.proofs.Hanging.{hung_start, page_inside, goes_past, hangs_next, puts_all}
+use Rattle.iom_directory.proofs.Hanging.{hung_start, page_inside, next_zero, goes_past, hangs_next, puts_all}
 use Rattle.iom_directory.proofs.write.put_context.Goals as goal
 
 pub loop-level-init : goal.loop-level-init
@@ -29,6 +29,11 @@ pub put_entry-requires-clause-page : goal.put_entry-requires-clause-page
 put_entry-requires-clause-page g c =
     page_inside (g.B.Bytes.frames_of c.args.memory.now) (g.B.Bytes.frames_of c.loop-level.memory) (root_level c.args.levels) c.args.root c.args.id c.args.pages.now c.args.context (c.loop-level.level - 1) c.loop-level.page c.loop-level.used
     c.requires.id c.loop-level.invariant.hung
+
+pub put_entry-requires-clause-zero : goal.put_entry-requires-clause-zero
+put_entry-requires-clause-zero g c =
+    next_zero (g.B.Bytes.frames_of c.args.memory.now) (g.B.Bytes.frames_of c.loop-level.memory) (root_level c.args.levels) c.args.root c.args.id c.args.pages.now c.args.context c.loop-level.level c.loop-level.page c.loop-level.used
+    c.loop-level-test.true c.loop-level.invariant.hung (sym c.next_page.ensures.value ∙ c.in-None.is)
 
 pub loop-level-preserved : goal.loop-level-preserved
 loop-level-preserved g c =

@@ -1,5 +1,5 @@
 use Rattle.std.proofs.Common.{◌≡◌, ◌+◌, ◌-◌, suc, subst, sym, arith}
-use Rattle.iom_ledger.specs.Confirmations.{confirmed_from}
+use Rattle.iom_ledger.specs.History.{confirmed_from}
 use Rattle.iom_ledger.specs.Shown.{Agrees}
 use Rattle.iom_driver.proofs.Confirms.{confirms_none, confirms_more, agrees_more}
 use Rattle.iom_driver.proofs.polling.confirm_after.Goals as goal

@@ -1,6 +1,6 @@
 use Rattle.std.proofs.Common.{◌-◌, ◌+◌}
-use Rattle.iom_ledger.specs.Confirmations.{confirmed_from, ConfirmsFrom}
-use Rattle.iom_ledger.specs.History.{History}
+use Rattle.iom_ledger.specs.Confirmations.{ConfirmsFrom}
+use Rattle.iom_ledger.specs.History.{confirmed_from, History}
 use Rattle.iom_ledger.specs.Shown.{Agrees}
 use Rattle.iom_driver.proofs.polling.confirm_after.Given as goal
 

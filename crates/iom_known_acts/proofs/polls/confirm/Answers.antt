@@ -1,5 +1,5 @@
 use Rattle.std.proofs.Common.{◌≡◌, ◌-◌, suc, ℕ, subst, arith}
-use Rattle.iom_ledger.specs.Confirmations.{confirmed_from}
+use Rattle.iom_ledger.specs.History.{confirmed_from}
 use Rattle.iom_ledger.specs.Shown.{Agrees}
 use Rattle.iom_known_acts.proofs.polls.confirm.Goals as goal
 

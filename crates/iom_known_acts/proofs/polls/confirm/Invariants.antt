@@ -1,6 +1,5 @@
 use Rattle.std.proofs.Common.{◌-◌, ◌≤◌, ◌+◌}
-use Rattle.iom_ledger.specs.Confirmations.{confirmed_from}
-use Rattle.iom_ledger.specs.History.{History}
+use Rattle.iom_ledger.specs.History.{confirmed_from, History}
 use Rattle.iom_ledger.specs.Shown.{Agrees}
 use Rattle.iom_known_acts.proofs.polls.confirm.Given as goal
 

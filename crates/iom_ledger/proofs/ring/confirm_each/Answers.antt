@@ -1,5 +1,5 @@
 use Rattle.std.proofs.Common.{◌+◌, ◌<◌, ◌++◌, ◌∙◌, length, take, drop, get_or, filter, None, arith}
-use Rattle.iom_ledger.specs.declared.page_row.Pending.{Pending}
+use Rattle.iom_ledger.specs.declared.pending.Pending.{Pending}
 use Rattle.iom_ledger.specs.Ring.{is_other}
 use Rattle.iom_ledger.proofs.PendingLemmas.{split_at, rows_more, items_more}
 use Rattle.iom_ledger.proofs.ring.confirm_each.Goals as goal

@@ -1,7 +1,7 @@
 use Rattle.std.proofs.Common.{◌≡◌, ◌++◌, ◌∷◌, [], ◌∙◌, ◌≤◌, Option, Some, sym, ap, subst}
 use Rattle.std.specs.Option.{option_copied}
 use Rattle.std.proofs.lemmas.Bool.{leb-true}
-use Rattle.iom_ledger.specs.declared.page_row.Pending.{Pending}
+use Rattle.iom_ledger.specs.declared.pending.Pending.{Pending}
 use Rattle.iom_ledger.specs.Ring.{is_ascending}
 use Rattle.iom_ledger.proofs.RingLemmas.{nil_from_back, is_ascending-push}
 use Rattle.iom_ledger.proofs.ring.still_ascend.Goals as goal

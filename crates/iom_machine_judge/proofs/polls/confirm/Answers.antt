@@ -1,5 +1,5 @@
 use Rattle.std.proofs.Common.{◌≡◌, ◌∙◌, ◌-◌, suc, ap, arith}
-use Rattle.iom_ledger.specs.Confirmations.{confirmed_from}
+use Rattle.iom_ledger.specs.History.{confirmed_from}
 use Rattle.iom_machine_judge.proofs.polls.confirm.Goals as goal
 
 pub returns : goal.returns

@@ -1,5 +1,5 @@
 use Rattle.std.proofs.Common.{◌≡◌, ◌-◌, ◌≤◌, ◌+◌}
-use Rattle.iom_ledger.specs.Confirmations.{confirmed_from}
+use Rattle.iom_ledger.specs.History.{confirmed_from}
 use Rattle.iom_machine_judge.proofs.polls.confirm.Given as goal
 
 abbrev pub invariant-loop-ticket : goal.invariant-loop-ticket

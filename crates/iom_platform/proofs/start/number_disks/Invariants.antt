@@ -1,6 +1,6 @@
 -- The disks so far have their numbers, and those that are left will have the next ones.
 use Rattle.std.proofs.Common.{◌≡◌, ◌++◌, length}
-use Rattle.iom_platform.specs.PowerOn.{numbered}
+use Rattle.iom_platform.specs.Numbered.{numbered}
 use Rattle.iom_platform.specs.Seen.{disks_seen, states_of}
 use Rattle.iom_platform.proofs.start.number_disks.Given as goal
 

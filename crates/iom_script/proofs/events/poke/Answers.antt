@@ -1,6 +1,7 @@
 use Rattle.std.proofs.Common.{codes, Some, None, ℕ, subst}
 use Rattle.std.specs.Prelude.{List}
-use Rattle.iom_script.specs.Words.{Reads, IsAddress, IsHex}
+use Rattle.iom_script.specs.Words.{IsAddress, IsHex}
+use Rattle.iom_script.specs.Reading.{Reads}
 use Rattle.iom_script.proofs.FieldLemmas.{followed_none, followed_by_none, followed_by}
 use Rattle.iom_script.proofs.EventLemmas.{no_start, poke_reads}
 use Rattle.iom_script.proofs.events.poke.Goals as goal

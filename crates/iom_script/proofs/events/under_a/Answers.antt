@@ -1,7 +1,7 @@
 use Rattle.std.proofs.Common.{◌≡◌, ℕ, codes, [], ◌∷◌, List, Option, Some, None, refl, subst}
 use Rattle.std.proofs.lemmas.Result.{IfOk-weaker}
 use Rattle.iom_machine.specs.declared.event.Event.{Event}
-use Rattle.iom_script.specs.Words.{Reads}
+use Rattle.iom_script.specs.Reading.{Reads}
 use Rattle.iom_script.specs.Cuts.{IsLineOf, IsLineWith, starts_under_a}
 use Rattle.iom_script.proofs.LineLemmas.{either_line}
 use Rattle.iom_script.proofs.events.under_a.Goals as goal

@@ -1,6 +1,6 @@
 use Rattle.std.proofs.Common.{codes, [], ◌∷◌, None, refl, arith}
 use Rattle.std.proofs.lemmas.Result.{IfOk-weaker}
-use Rattle.iom_script.specs.Words.{Reads}
+use Rattle.iom_script.specs.Reading.{Reads}
 use Rattle.iom_script.specs.Cuts.{IsLineOf, IsLineWith, starts_under_t}
 use Rattle.iom_script.proofs.LineLemmas.{either_line, found_line}
 use Rattle.iom_script.proofs.events.under_t.Goals as goal

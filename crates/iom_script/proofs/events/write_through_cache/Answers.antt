@@ -1,6 +1,7 @@
 use Rattle.std.proofs.Common.{codes, Some, None, ℕ, subst}
 use Rattle.std.specs.Prelude.{List}
-use Rattle.iom_script.specs.Words.{Reads, IsDevice, IsAddress, IsHex}
+use Rattle.iom_script.specs.Words.{IsDevice, IsAddress, IsHex}
+use Rattle.iom_script.specs.Reading.{Reads}
 use Rattle.iom_script.proofs.FieldLemmas.{Followed, followed_none, followed_by_none, followed_by}
 use Rattle.iom_script.proofs.EventLemmas.{no_start}
 use Rattle.iom_script.proofs.AtsEventLemmas.{awrite_reads}

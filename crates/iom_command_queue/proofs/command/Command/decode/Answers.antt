@@ -1,6 +1,6 @@
-use Rattle.std.proofs.Common.{◌≡◌, ◌∙◌, ap}
+use Rattle.std.proofs.Common.{◌∙◌, ap}
 use Rattle.iom_command_queue.specs.Formats.{first_of, second_of}
-use Rattle.iom_command_queue.specs.Decoded.{decoded}
+use Rattle.iom_command_queue.specs.Legal.{decoded}
 use Rattle.iom_command_queue.proofs.Exact.{answers, refuses}
 use Rattle.iom_command_queue.proofs.command.Command.decode.Goals as goal
 

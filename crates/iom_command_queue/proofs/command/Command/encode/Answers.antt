@@ -1,6 +1,6 @@
-use Rattle.std.proofs.Common.{◌≡◌, ◌∙◌, ap, sym, subst, rules}
-use Rattle.iom_command_queue.specs.Formats.{AreWordsOf, first_of, second_of, two_words}
-use Rattle.iom_command_queue.specs.Encoded.{second_word, encoded, UnusedAreZero}
+use Rattle.std.proofs.Common.{◌≡◌, sym, subst, rules}
+use Rattle.iom_command_queue.specs.Formats.{AreWordsOf, first_of, second_of}
+use Rattle.iom_command_queue.specs.Encoded.{encoded, UnusedAreZero}
 use Rattle.iom_command_queue.proofs.Fits.{Fits}
 use Rattle.iom_command_queue.proofs.Encodes.{means, unused_means}
 use Rattle.iom_command_queue.proofs.command.Command.encode.Goals as goal

@@ -1,6 +1,6 @@
-use Rattle.std.proofs.Common.{◌≡◌, ◌≢◌, ◌+◌, ◌*◌, ◌∙◌, Some, sym, ap, rules}
+use Rattle.std.proofs.Common.{◌≡◌, ◌≢◌, ◌∙◌, Some, sym, ap}
 use Rattle.iom_registers.specs.Queues.{command_head, command_tail}
-use Rattle.iom_command_queue.specs.Waiting.{entry_at, first_entry}
+use Rattle.iom_command_queue.specs.Waiting.{first_entry}
 use Rattle.iom_command_queue.proofs.Waits.{first_is, none_is}
 use Rattle.iom_command_queue.proofs.ring.CommandRing.next.Goals as goal
 

@@ -1,4 +1,3 @@
-use Rattle.std.proofs.Common.{rules}
 use Rattle.std.specs.Prelude.{not}
 use Rattle.iom_command_queue.specs.OpenSlots.{is_request}
 use Rattle.iom_command_queue.proofs.SlotLemmas.{rise_filter}

@@ -1,4 +1,3 @@
-use Rattle.std.proofs.Common.{rules}
 use Rattle.iom_command_queue.proofs.SlotLemmas.{rise_more}
 use Rattle.iom_command_queue.proofs.slots.Slots.open.Goals as goal
 

@@ -1,14 +1,10 @@
-use Rattle.std.proofs.Common.{◌≡◌, ◌≢◌, ◌<◌, ◌≤◌, ◌+◌, ◌-◌, ◌++◌, ◌∙◌, ℕ, List, map, Option, None, Some, Err, length, slice_get, refl, sym, ap, subst, arith}
+use Rattle.std.proofs.Common.{◌≡◌, ◌≢◌, ◌<◌, ◌≤◌, ◌+◌, ◌-◌, ◌++◌, ◌∙◌, ℕ, List, map, Option, None, Some, length, slice_get, refl, sym, ap, subst, arith}
 use Rattle.iom_command_queue.specs.declared.entry.QueueEntry.{QueueEntry}
 use Rattle.iom_command_queue.specs.declared.entry.QueueEntry.TheVariants as stands
-use Rattle.iom_base.specs.declared.cause.Cause.TheVariants.{DirectoryEntryNotValid}
 use Rattle.iom_base.specs.declared.owner.Owner.{Owner}
-use Rattle.iom_device_dir.specs.Located.{path_end_from}
-use Rattle.iom_device_dir.specs.Paths.{ids_below}
-use Rattle.iom_directory.specs.Changes.{KeepsOthers, KeepsOutside}
 use Rattle.iom_ledger.specs.declared.ledger.Ledger.{Ledger}
-use Rattle.iom_directory.specs.Pages.{IsDirectory, HasPage, HasWholePath, root_level}
-use Rattle.iom_base.specs.declared.owner.Owner.TheVariants.{System, OneDevice}
+use Rattle.iom_directory.specs.Pages.{HasPage, root_level}
+use Rattle.iom_base.specs.declared.owner.Owner.TheVariants.{OneDevice}
 use Rattle.iom_driver.specs.declared.device.Attachment.TheVariants.{Leaving}
 use Rattle.iom_driver.specs.declared.device.Device.{Device}
 use Rattle.iom_driver.specs.Appends.{detach_commands, AppendsAll}
@@ -18,25 +14,15 @@ use Rattle.iom_driver.specs.Layout.{command_frame, fault_frame, completion_addre
 use Rattle.iom_driver.specs.Ready.{IsRing}
 use Rattle.iom_driver.specs.Sound.{IsSound}
 use Rattle.iom_driver.specs.Tables.{HaveTables}
+use Rattle.iom_driver.proofs.CuttingOff.{IsCleared, not_of_device, tables_uncontexted}
 use Rattle.iom_driver.proofs.Directories.{DirectoryIn, low_id, room_for_ids, in_stands, stands_in, directory_cleared, directory_stay}
 use Rattle.iom_driver.proofs.FaultRings.{fault_ring_stays}
 use Rattle.iom_driver.proofs.Keeps.{sound_detached, owned_leaving}
+use Rattle.iom_driver.proofs.Orders.{maps_nothing}
 use Rattle.iom_driver.proofs.Places.{attached_owns, attached_there, attachment_set, attachment_other}
 use Rattle.iom_driver.proofs.Ring.{same_commands, all_last, stays_named}
 use Rattle.iom_driver.proofs.Stays.{all_stay, of_one}
 use Rattle.iom_driver.proofs.driver.Driver.detach.Goals as goal
-
--- what clearing a context leaves, by the directory's root
-record Cleared (memory memory' : List (List ℕ)) (levels root id : ℕ) : Type 0 where
-  tree : IsDirectory memory' (root_level levels) root
-  pages : (f : ℕ) → HasPage memory' (root_level levels) root f → HasPage memory (root_level levels) root f
-  here : path_end_from memory' (root_level levels) root id ≡ Err DirectoryEntryNotValid
-  paths : (other : ℕ) → other < ids_below (root_level levels) → HasWholePath memory (root_level levels) root other → HasWholePath memory' (root_level levels) root other
-  others : KeepsOthers memory memory' (root_level levels) root id
-  outside : KeepsOutside memory memory' (root_level levels) root
-
-system_device : (marks : List (Option Owner)) (n id : ℕ) → slice_get marks n ≡ Some (Some System) → slice_get marks n ≡ Some (Some (OneDevice id)) → ⊥
-system_device marks n id system own = let both : ◌≡◌ {A = Option (Option Owner)} (Some (Some System)) (Some (Some (OneDevice id))) = sym system ∙ own in cc
 
 -- the tables of devices that own the same stages
 owned_tables : (memory : List (List ℕ)) (marks : List (Option Owner)) (ledger : Ledger) (devices devices' : List Device) → ((id : ℕ) → owned_stages_of devices' id ≡ owned_stages_of devices id)
@@ -101,6 +87,30 @@ append_detach-requires-clause-number g c =
     let le : c.in-Ok.stage.number ≤ 17 = small.1 in
     omega (arith, le)
 
+pub append_detach-requires-clause-cut_off : goal.append_detach-requires-clause-cut_off
+append_detach-requires-clause-cut_off g c =
+    let driver = c.args.self.now in
+    let memory = c.args.memory.now in
+    let stage = c.in-Ok.stage in
+    let stand = c.requires.ready.stand in
+    let may = c.in-Ok.ensures.may in
+    let here = in_stands driver.frames memory driver.marks driver.devices.items driver.levels (stand.size ∙ driver.sound.sizes.marked) (stand.directory may.started) in
+    let cleared = subst (λ r. IsCleared memory c.clear_context.new.memory driver.levels r c.args.id) c.directory_frame-directory.ensures record {
+      tree = c.clear_context.ensures.directory;
+      pages = λ f. (c.clear_context.ensures.pages f).0;
+      here = c.clear_context.ensures.here;
+      paths = c.clear_context.ensures.paths;
+      others = c.clear_context.ensures.others;
+      outside = c.clear_context.ensures.outside;
+      size = c.clear_context.ensures.size;
+    } in
+    let tables = tables_uncontexted driver.frames memory c.clear_context.new.memory driver.marks driver.ledger driver.devices.items driver.levels c.args.id here cleared stand.tables c.args.id stage
+    (attached_owns (attachment_of driver.devices.items c.args.id) stage may.attached) in
+    record {
+      context = cleared.here;
+      tables = maps_nothing c.clear_context.new.memory driver.marks driver.ledger c.args.id stage.mode stage.root tables may.none_held;
+    }
+
 pub returns-clause-effect : goal.returns-clause-effect
 returns-clause-effect g c =
     let driver = c.args.self.now in
@@ -149,13 +159,14 @@ returns-clause-ready g c =
     let many : length memory ≡ driver.frames = stand.size ∙ driver.sound.sizes.marked in
     let size : length c.append_detach.new.memory ≡ length memory = c.append_detach.ensures.size ∙ c.clear_context.ensures.size in
     let here : DirectoryIn driver.frames memory driver.marks driver.devices.items driver.levels = in_stands driver.frames memory driver.marks driver.devices.items driver.levels many (stand.directory may.started) in
-    let cleared = subst (λ r. Cleared memory c.clear_context.new.memory driver.levels r c.args.id) c.directory_frame-directory.ensures record {
+    let cleared = subst (λ r. IsCleared memory c.clear_context.new.memory driver.levels r c.args.id) c.directory_frame-directory.ensures record {
       tree = c.clear_context.ensures.directory;
       pages = λ f. (c.clear_context.ensures.pages f).0;
       here = c.clear_context.ensures.here;
       paths = c.clear_context.ensures.paths;
       others = c.clear_context.ensures.others;
       outside = c.clear_context.ensures.outside;
+      size = c.clear_context.ensures.size;
     } in
     let none : stages_of devices c.args.id ≡ None = ap attached_stages (attachment_set driver.devices.items c.args.id (Leaving (driver.given + 1) c.in-Ok.stage) (attached_there driver.devices.items c.args.id c.in-Ok.stage may.attached)) in
     let same : (other : ℕ) → other ≢ c.args.id → stages_of devices other ≡ stages_of driver.devices.items other =
@@ -164,7 +175,7 @@ returns-clause-ready g c =
     (owned_leaving driver.devices.items c.args.id (driver.given + 1) c.in-Ok.stage may.attached) in
     let kept : (n id : ℕ) → slice_get driver.marks n ≡ Some (Some (OneDevice id)) → slice_get c.append_detach.new.memory n ≡ slice_get memory n =
     λ n id own. c.append_detach.ensures.other_frames n (of_one driver.marks (driver.frames - 1) n id driver.sound.fixed.command own)
-    ∙ cleared.outside n (λ at. system_device driver.marks n id (here.own n (cleared.pages n at)).system own) in
+    ∙ cleared.outside n (λ at. not_of_device driver.marks n id (here.own n (cleared.pages n at)).system own) in
     rw c.set_attachment.ensures record {
       stand = record {
         size = size ∙ stand.size;

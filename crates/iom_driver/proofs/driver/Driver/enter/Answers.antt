@@ -13,17 +13,18 @@ use Rattle.iom_driver.specs.Choices.{AreHighestFree, marked_for, cleared}
 use Rattle.iom_driver.specs.Devices.{attachment_of, with_attachment}
 use Rattle.iom_driver.specs.Entering.{MayEnter}
 use Rattle.iom_driver.specs.Layout.{directory_frame, fault_frame}
+use Rattle.iom_driver.specs.Orders.{MapsNothing}
 use Rattle.iom_driver.specs.Places.{IsPlaceOf}
 use Rattle.iom_driver.specs.Ready.{TablesStand}
 use Rattle.iom_driver.specs.Seen.{state_of}
-use Rattle.iom_driver.proofs.AttachDirectory.{IsPut, MayTake, may_take, stands_between, fresh, counted, empty, others_keep, reports_keep, devices_keep, roots_new, stands_after}
+use Rattle.iom_driver.proofs.AttachDirectory.{IsPut, MayTake, may_take, stands_between, roots_zero, fresh, counted, empty, others_keep, reports_keep, devices_keep, roots_new, stands_after}
 use Rattle.iom_driver.proofs.AttachRoots.{root_aligned}
-use Rattle.iom_driver.proofs.AttachTables.{tables_attached}
+use Rattle.iom_driver.proofs.AttachTables.{zeroed_maps_nothing, tables_attached}
 use Rattle.iom_driver.proofs.Directories.{stands_in, room_for_ids}
 use Rattle.iom_driver.proofs.Keeps.{sound_attached}
 use Rattle.iom_driver.proofs.Lists.{read_is, get_within}
-use Rattle.iom_driver.proofs.Marks.{all_among, length-cleared, length-marked_for, cleared_append}
-use Rattle.iom_driver.proofs.Modes.{root_among}
+use Rattle.iom_driver.proofs.Marks.{Among, all_among, length-cleared, length-marked_for, cleared_append}
+use Rattle.iom_driver.proofs.Modes.{root_among, frames_are}
 use Rattle.iom_driver.proofs.Places.{not_attached, attachment_set, attachment_other}
 use Rattle.iom_driver.proofs.Stays.{ready_from}
 use Rattle.iom_driver.proofs.Taken.{taken_marks, length-taken}
@@ -89,6 +90,21 @@ context_for-context-requires-clause-root c =
 
 pub context_for-context-requires-clause-number : goal.context_for-context-requires-clause-number
 context_for-context-requires-clause-number c = let small = c.requires.may.small in omega (arith, small)
+
+pub context_for-context-requires-clause-nothing : goal.context_for-context-requires-clause-nothing
+context_for-context-requires-clause-nothing c =
+    let driver = c.args.self.now in
+    let d = state_of driver in
+    let memory = c.args.memory.now in
+    let pages = c.args.pages.now in
+    let stages = c.args.stages in
+    let roots = root_frames stages.mode stages.root in
+    let may = found driver memory c.args.id stages pages c.requires.stand c.requires.may in
+    subst (λ m. MapsNothing stages.mode m stages.root)
+    (sym (both_cleared memory c.reserve_all.new.memory c.reserve_root.new.memory pages roots c.reserve_all.ensures.memory c.reserve_root.ensures.memory))
+    (zeroed_maps_nothing (cleared (pages ++ roots) memory) stages.mode stages.root
+    (root_aligned stages.mode d (limit_below driver.frames pages) stages.root c.requires.may.root)
+    (λ f here. roots_zero d driver.frames memory c.args.id (lacking driver memory c.args.id) pages roots may f (subst (λ fs. Among f fs) (sym (frames_are stages.mode stages.root)) here)))
 
 pub put_context-requires : goal.put_context-requires
 put_context-requires c =

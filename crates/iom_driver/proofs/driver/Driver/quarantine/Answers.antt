@@ -4,7 +4,7 @@ use Rattle.iom_command_queue.specs.declared.entry.QueueEntry.{QueueEntry}
 use Rattle.iom_command_queue.specs.declared.entry.QueueEntry.TheVariants as stands
 use Rattle.iom_directory.specs.Pages.{HasPage, root_level}
 use Rattle.iom_directory.specs.Written.{without_context}
-use Rattle.iom_ledger.specs.Pending.{pending_limit}
+use Rattle.iom_ledger.specs.History.{pending_limit}
 use Rattle.iom_ledger.specs.Shown.{held_in, pending_in, pages_listed}
 use Rattle.iom_driver.specs.declared.device.Attachment.TheVariants.{Quarantined}
 use Rattle.iom_driver.specs.declared.device.Device.{Device}
@@ -19,6 +19,7 @@ use Rattle.iom_driver.proofs.CuttingOff.{IsCleared, not_of_device, tables_uncont
 use Rattle.iom_driver.proofs.Directories.{DirectoryIn, low_id, room_for_ids, in_stands, stands_in, directory_cleared, directory_stay}
 use Rattle.iom_driver.proofs.FaultRings.{fault_ring_stays}
 use Rattle.iom_driver.proofs.Modes.{rooted, table_in}
+use Rattle.iom_driver.proofs.Orders.{maps_nothing, none_left, still_cleared}
 use Rattle.iom_driver.proofs.Places.{attached_owns, attached_there, attachment_set, attachment_other}
 use Rattle.iom_driver.proofs.Ring.{same_commands, all_last, stays_named}
 use Rattle.iom_driver.proofs.Stays.{all_stay, of_one}
@@ -121,6 +122,44 @@ append_detach-requires-clause-number g c =
     let small = driver.sound.numbers.small c.args.id c.in-Ok.stage (attached_owns (attachment_of driver.devices.items c.args.id) c.in-Ok.stage c.in-Ok.ensures.may.attached) in
     let le : c.in-Ok.stage.number ≤ 17 = small.1 in
     omega (arith, le)
+
+pub append_detach-requires-clause-cut_off : goal.append_detach-requires-clause-cut_off
+append_detach-requires-clause-cut_off g c =
+    let driver = c.args.self.now in
+    let memory = c.args.memory.now in
+    let id = c.args.id in
+    let stage = c.in-Ok.stage in
+    let stand = c.requires.ready.stand in
+    let may = c.in-Ok.ensures.may in
+    let between = c.clear_context.new.memory in
+    let bare = c.clear_leaves.new.memory in
+    let ledger = c.release_all.new.self in
+    let owns = attached_owns (attachment_of driver.devices.items id) stage may.attached in
+    let here = in_stands driver.frames memory driver.marks driver.devices.items driver.levels (stand.size ∙ driver.sound.sizes.marked) (stand.directory may.started) in
+    let cleared = subst (λ r. IsCleared memory between driver.levels r id) c.directory_frame-directory.ensures record {
+      tree = c.clear_context.ensures.directory;
+      pages = λ f. (c.clear_context.ensures.pages f).0;
+      here = c.clear_context.ensures.here;
+      paths = c.clear_context.ensures.paths;
+      others = c.clear_context.ensures.others;
+      outside = c.clear_context.ensures.outside;
+      size = c.clear_context.ensures.size;
+    } in
+    let tables = tables_uncontexted driver.frames memory between driver.marks driver.ledger driver.devices.items driver.levels id here cleared stand.tables in
+    let unmapped : AreUnmapped driver.ledger id stage.root between bare = record {
+      tree = c.clear_leaves.ensures.tree;
+      tables = c.clear_leaves.ensures.tables;
+      leaves = c.clear_leaves.ensures.leaves;
+      outside = c.clear_leaves.ensures.outside;
+      size = c.clear_leaves.ensures.size;
+    } in
+    let mapped = tables_unmapped between bare driver.marks driver.ledger ledger driver.devices.items id (driver.given + 1) stage tables owns unmapped c.release_all.ensures.released in
+    let low = subst (λ n. id < n) (room_for_ids driver.levels driver.sound.sizes.in_range) (driver.sound.named id stage owns) in
+    record {
+      context = still_cleared driver.frames memory between bare driver.marks driver.ledger driver.devices.items driver.levels id stage.root driver.sound.sizes.in_range here cleared low
+          (λ f at. (tables id stage owns).own f (table_in stage.mode between stage.root f (inl at))) unmapped;
+      tables = maps_nothing bare driver.marks ledger id stage.mode stage.root (mapped id stage owns) (none_left driver.ledger ledger id (driver.given + 1) c.release_all.ensures.released);
+    }
 
 pub returns-clause-effect : goal.returns-clause-effect
 returns-clause-effect g c =

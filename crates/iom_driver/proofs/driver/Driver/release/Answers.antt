@@ -1,6 +1,7 @@
 use Rattle.std.proofs.Common.{◌≡◌, ◌≤◌, ◌<◌, ◌+◌, ◌-◌, ◌++◌, ◌∙◌, inl, ℕ, List, map, slice_get, Option, Some, None, IsSome, length, refl, sym, ap, subst, arith}
+use Rattle.std.proofs.lemmas.Bool.{eq-eqb}
 use Rattle.iom_base.specs.Sizes.{page_limit}
-use Rattle.iom_ledger.specs.Pending.{pending_limit}
+use Rattle.iom_ledger.specs.History.{pending_limit}
 use Rattle.iom_ledger.specs.Shown.{pending_in}
 use Rattle.iom_base.specs.declared.owner.Owner.{Owner}
 use Rattle.iom_base.specs.declared.owner.Owner.TheVariants.{System, OneDevice}
@@ -94,6 +95,12 @@ append_release-requires-clause-page g c =
     let held = there _ c.in-Ok.ensures.may.held in
     let low : c.args.page < page_limit = (c.args.self.now.sound.grants.held c.args.id c.args.page held.0.0 held.0.1 held.1).page_low in
     omega arith
+
+pub append_release-requires-clause-unmapped : goal.append_release-requires-clause-unmapped
+append_release-requires-clause-unmapped g c =
+    let held = there _ c.in-Ok.ensures.may.held in
+    let low : c.args.page < page_limit = (c.args.self.now.sound.grants.held c.args.id c.args.page held.0.0 held.0.1 held.1).page_low in
+    c.unmap.ensures.leaf c.args.page (omega arith) ∙ rw (eq-eqb c.args.page c.args.page refl) refl
 
 pub returns-clause-effect : goal.returns-clause-effect
 returns-clause-effect g c =

@@ -12,6 +12,7 @@ use Rattle.iom_driver.specs.Sound.{IsSound}
 use Rattle.iom_driver.proofs.CuttingOff.{IsPutAgain, cut_off_there, owned_revived, sound_revived, tables_put_again}
 use Rattle.iom_driver.proofs.Directories.{DirectoryIn, room_for_ids, in_stands, stands_in, directory_put}
 use Rattle.iom_driver.proofs.Modes.{rooted}
+use Rattle.iom_driver.proofs.Orders.{maps_nothing}
 use Rattle.iom_driver.proofs.Places.{attachment_set, attachment_other}
 use Rattle.iom_driver.proofs.Stays.{ready_from}
 use Rattle.iom_driver.proofs.driver.Driver.revive.Goals as goal
@@ -27,11 +28,19 @@ returns-in-Err c = record {
   ready = λ r ready. ready;
 }
 
-pub context_for-requires-clause-root : goal.context_for-requires-clause-root
-context_for-requires-clause-root c =
+pub context_for-context-requires-clause-root : goal.context_for-context-requires-clause-root
+context_for-context-requires-clause-root c =
     let may = c.in-Ok.ensures.may in
     let stage = c.in-Ok.stage in
     (rooted stage.mode c.args.memory.now stage.root (c.requires.stand.tables c.args.id stage (ap owned_stages may.cut_off)).tree).aligned
+
+pub context_for-context-requires-clause-nothing : goal.context_for-context-requires-clause-nothing
+context_for-context-requires-clause-nothing c =
+    let driver = c.args.self.now in
+    let may = c.in-Ok.ensures.may in
+    let stage = c.in-Ok.stage in
+    maps_nothing c.args.memory.now driver.marks driver.ledger c.args.id stage.mode stage.root (c.requires.stand.tables c.args.id stage (ap owned_stages may.cut_off))
+    (λ page. driver.sound.holders c.args.id page (ap attached_stages may.cut_off))
 
 pub put_context-requires-clause-levels : goal.put_context-requires-clause-levels
 put_context-requires-clause-levels c = c.args.self.now.sound.sizes.in_range
@@ -91,7 +100,7 @@ returns-clause-effect c =
     let put = subst (λ r. IsPutAgain memory c.put_context.new.memory driver.levels r c.args.id c.in-Ok.stage) c.directory_frame-directory.ensures record {
       tree = c.put_context.ensures.directory;
       pages = λ f at. elim ((c.put_context.ensures.pages f).0 at) [ inl was ↦ was | inr new ↦ absurd (none_contained f new) ];
-      here = c.put_context.ensures.here ∙ ap Ok c.context_for.ensures;
+      here = c.put_context.ensures.here ∙ ap Ok c.context_for-context.ensures;
       path = c.put_context.ensures.path;
       paths = c.put_context.ensures.paths;
       others = c.put_context.ensures.others;
@@ -106,8 +115,8 @@ returns-clause-effect c =
         driver = rw c.set_attachment.ensures refl;
         bytes =
             c.put_context.ensures.whole
-            ∙ ap (λ r. hung memory (root_level driver.levels) r c.args.id [] c.context_for.result) at_root
-            ∙ ap (λ x. hung memory (root_level driver.levels) (directory_frame (length memory)) c.args.id [] x) c.context_for.ensures;
+            ∙ ap (λ r. hung memory (root_level driver.levels) r c.args.id [] c.context_for-context.result) at_root
+            ∙ ap (λ x. hung memory (root_level driver.levels) (directory_frame (length memory)) c.args.id [] x) c.context_for-context.ensures;
         others = λ f apart. put.outside f (λ at. apart (here.own f (put.pages f at)).system);
       },
     )
@@ -126,7 +135,7 @@ returns-clause-stand c =
     let put = subst (λ r. IsPutAgain memory c.put_context.new.memory driver.levels r id stage) c.directory_frame-directory.ensures record {
       tree = c.put_context.ensures.directory;
       pages = λ f at. elim ((c.put_context.ensures.pages f).0 at) [ inl was ↦ was | inr new ↦ absurd (none_contained f new) ];
-      here = c.put_context.ensures.here ∙ ap Ok c.context_for.ensures;
+      here = c.put_context.ensures.here ∙ ap Ok c.context_for-context.ensures;
       path = c.put_context.ensures.path;
       paths = c.put_context.ensures.paths;
       others = c.put_context.ensures.others;
@@ -156,7 +165,7 @@ returns-clause-ready c = λ r ready.
     let put = subst (λ root. IsPutAgain memory c.put_context.new.memory driver.levels root c.args.id c.in-Ok.stage) c.directory_frame-directory.ensures record {
       tree = c.put_context.ensures.directory;
       pages = λ f at. elim ((c.put_context.ensures.pages f).0 at) [ inl was ↦ was | inr new ↦ absurd (none_contained f new) ];
-      here = c.put_context.ensures.here ∙ ap Ok c.context_for.ensures;
+      here = c.put_context.ensures.here ∙ ap Ok c.context_for-context.ensures;
       path = c.put_context.ensures.path;
       paths = c.put_context.ensures.paths;
       others = c.put_context.ensures.others;

@@ -19,4 +19,4 @@ invariant_of-self g c = record {
 
 pub returns-clause-within : goal.returns-clause-within
 returns-clause-within g c =
-    made_within c.args.self.now.frames c.args.memory.now c.args.self.now.in_flight c.args.device c.make.result c.make.new.memory c.make.new.self c.hold.ensures c.args.self.now.inside c.make.ensures
+    made_within c.args.self.now.frames c.args.memory.now c.args.self.now.in_flight c.args.device c.make.result c.make.new.memory c.make.new.self c.facts.ensures c.args.self.now.inside c.make.ensures

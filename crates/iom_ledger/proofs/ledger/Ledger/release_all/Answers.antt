@@ -1,6 +1,6 @@
 use Rattle.std.proofs.Common.{refl, ap, [], ◌∷◌, ◌++◌, None, true, ◌∙◌, ◌==◌, ◌&&◌}
 use Rattle.std.proofs.lemmas.Bool.{and_from, eq-eqb}
-use Rattle.iom_ledger.specs.declared.page_row.Pending.{Pending}
+use Rattle.iom_ledger.specs.declared.pending.Pending.{Pending}
 use Rattle.iom_ledger.specs.Ring.{is_ascending}
 use Rattle.iom_ledger.specs.Rows.{row_at, is_named, ticket_of}
 use Rattle.iom_ledger.proofs.PendingLemmas.{named_released}

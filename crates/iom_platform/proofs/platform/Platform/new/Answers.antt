@@ -1,7 +1,7 @@
 use Rattle.std.proofs.Common.{◌∙◌, ℕ, List, map, ap, sym, subst}
 use Rattle.iom_world.specs.PowerOn as world
 use Rattle.iom_platform.specs.Agreement.{entries_of, known_blocks, numbers_of}
-use Rattle.iom_platform.specs.PowerOn.{number_of}
+use Rattle.iom_platform.specs.Numbered.{number_of}
 use Rattle.iom_platform.specs.Seen.{blocks_seen}
 use Rattle.iom_platform.proofs.StartLemmas.{none_shown, numbers_seen}
 use Rattle.iom_platform.proofs.platform.Platform.new.Goals as goal

@@ -4,7 +4,7 @@ use Rattle.iom_virtqueue.specs.Accesses.{nothing, LiesInPage}
 use Rattle.iom_virtqueue.specs.Layouts.{IsLayout}
 use Rattle.iom_virtqueue.specs.contracts.queue.Queue.{the_view}
 use Rattle.iom_virtqueue.proofs.PageLemmas.{wanted-within}
-use Rattle.iom_virtqueue.proofs.queue.Queue.promises.Goals as goal
+use Rattle.iom_virtqueue.proofs.queue.Queue.facts.Goals as goal
 
 pub returns : goal.returns
 returns c = record {

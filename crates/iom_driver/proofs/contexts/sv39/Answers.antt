@@ -4,7 +4,7 @@ use Rattle.iom_base.specs.PageNumbers.{page_from}
 use Rattle.iom_device_dir.specs.declared.stages.FirstStage.TheVariants as first
 use Rattle.iom_device_dir.proofs.SameValues.{same_page}
 use Rattle.iom_driver.proofs.Lists.{of_some}
-use Rattle.iom_driver.proofs.attaching.sv39.Goals as goal
+use Rattle.iom_driver.proofs.contexts.sv39.Goals as goal
 
 pub returns : goal.returns
 returns c =

@@ -1,11 +1,11 @@
-use Rattle.std.proofs.Common.{◌≡◌, ◌≢◌, ◌+◌, ◌<◌, ◌≤◌, ◌∙◌, ℕ, length, slice_get, refl, sym, ap, subst, arith}
+use Rattle.std.proofs.Common.{◌≡◌, ◌≢◌, ◌+◌, ◌<◌, ◌≤◌, ◌∙◌, ℕ, slice_get, refl, sym, ap, subst, arith}
 use Rattle.iom_command_queue.specs.declared.command.Command.{Command}
 use Rattle.iom_command_queue.specs.Waiting.{how_many}
 use Rattle.iom_driver.specs.Appends.{Appends, fence}
 use Rattle.iom_driver.specs.Layout.{command_frame}
 use Rattle.iom_driver.specs.Ready.{IsRing}
 use Rattle.iom_driver.proofs.Appended.{GoesOn, goes_on}
-use Rattle.iom_driver.proofs.appending.append_detach.Goals as goal
+use Rattle.iom_driver.proofs.driver.Driver.append_detach.Goals as goal
 
 pub append-requires : goal.append-requires
 append-requires g c =
@@ -43,7 +43,7 @@ append-requires-3 g c =
 
 pub returns : goal.returns
 returns g c =
-    let frames = c.args.frames in
+    let frames = c.args.self.now.frames in
     let m0 = c.args.memory.now in
     let m1 = c.append.new.memory in
     let m2 = c.append-2.new.memory in

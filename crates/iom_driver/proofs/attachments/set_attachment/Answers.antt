@@ -2,7 +2,7 @@ use Rattle.std.proofs.Common.{◌≡◌, List, None, sym, subst}
 use Rattle.iom_driver.specs.declared.device.Device.{Device}
 use Rattle.iom_driver.specs.Devices.{device_of}
 use Rattle.iom_driver.proofs.Places.{with_absent}
-use Rattle.iom_driver.proofs.lookups.set_attachment.Goals as goal
+use Rattle.iom_driver.proofs.attachments.set_attachment.Goals as goal
 
 pub returns-in_default : goal.returns-in_default
 returns-in_default c =

@@ -1,7 +1,7 @@
 -- What the fence at the head had counted is given up where the queue is off, and no request is open.
 use Rattle.std.proofs.Common.{◌∙◌, sym}
 use Rattle.iom_iommu.proofs.PartLemmas.{wrote_off, wrote_on}
-use Rattle.iom_iommu.proofs.building.IommuMmio.write.Goals as goal
+use Rattle.iom_iommu.proofs.software.IommuMmio.write.Goals as goal
 
 pub returns-then-not-is_command_queue_on-clause-left : goal.returns-then-not-is_command_queue_on-clause-left
 returns-then-not-is_command_queue_on-clause-left g c =

@@ -4,7 +4,7 @@ use Rattle.iom_device_dir.specs.declared.stages.SecondStage.TheVariants as secon
 use Rattle.iom_device_dir.specs.Values.{guest_root_from}
 use Rattle.iom_device_dir.proofs.SameValues.{same_root}
 use Rattle.iom_driver.proofs.Lists.{of_some}
-use Rattle.iom_driver.proofs.attaching.sv39x4.Goals as goal
+use Rattle.iom_driver.proofs.contexts.sv39x4.Goals as goal
 
 pub returns : goal.returns
 returns c =

@@ -1,6 +1,6 @@
 use Rattle.std.proofs.Common.{refl}
 use Rattle.iom_driver.proofs.Openings.{sound_opening, ready_opening}
-use Rattle.iom_driver.proofs.lookups.opening.Goals as goal
+use Rattle.iom_driver.proofs.building.opening.Goals as goal
 
 pub invariant_of-result : goal.invariant_of-result
 invariant_of-result c = record {

@@ -1,5 +1,5 @@
 -- What 16 bytes are decoded to: the grammar as a function, and which refusal comes where the bytes are no command.
-use Rattle.std.specs.Prelude.{◌≡◌, ◌≢◌, ℕ, ◌+◌, ◌*◌, ◌==◌, ◌&&◌, List, [], ◌∷◌, Bool, true, false, Result, Ok, Err, if◌then◌else◌}
+use Rattle.std.specs.Prelude.{◌≡◌, ◌≢◌, ℕ, ◌*◌, ◌==◌, ◌&&◌, List, [], ◌∷◌, Bool, true, false, Result, Ok, Err, if◌then◌else◌}
 use Rattle.iom_command_queue.specs.declared.illegal.Illegal.{Illegal}
 use Rattle.iom_command_queue.specs.declared.illegal.Illegal.TheVariants.{Opcode, Func, Reserved, Combination}
 use Rattle.iom_command_queue.specs.declared.operation.Operation.{Operation}

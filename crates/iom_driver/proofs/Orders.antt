@@ -1,0 +1,44 @@
+-- What stands in memory by the time a step tells the IOMMU of it: tables that map nothing, and a context that is cleared.
+use Rattle.std.proofs.Common.{◌≡◌, ◌<◌, ◌∙◌, ℕ, List, Option, None, Some, Err, option_map, slice_get, refl, ap}
+use Rattle.std.proofs.lemmas.Bool.{eq-eqb}
+use Rattle.iom_base.specs.declared.cause.Cause.TheVariants.{DirectoryEntryNotValid}
+use Rattle.iom_base.specs.declared.mode.Mode.{Mode}
+use Rattle.iom_base.specs.declared.owner.Owner.{Owner}
+use Rattle.iom_base.specs.declared.owner.Owner.TheVariants.{OneDevice}
+use Rattle.iom_device_dir.specs.Located.{path_end_from}
+use Rattle.iom_device_dir.specs.Paths.{ids_below}
+use Rattle.iom_directory.specs.Pages.{root_level}
+use Rattle.iom_directory.proofs.Stays.{stays}
+use Rattle.iom_ledger.specs.Changes.{ShowsReleaseOfAll}
+use Rattle.iom_ledger.specs.declared.ledger.Ledger.{Ledger}
+use Rattle.iom_ledger.specs.Shown.{held_in}
+use Rattle.iom_page_table.specs.Sv39.{HasTable}
+use Rattle.iom_driver.specs.declared.device.Device.{Device}
+use Rattle.iom_driver.specs.Layout.{IsLevels, directory_frame}
+use Rattle.iom_driver.specs.Orders.{MapsNothing}
+use Rattle.iom_driver.specs.Tables.{AreTablesOf, leaf_for}
+use Rattle.iom_driver.proofs.CuttingOff.{IsCleared, not_of_device}
+use Rattle.iom_driver.proofs.Directories.{DirectoryIn, low_levels}
+use Rattle.iom_driver.proofs.Unmaps.{AreUnmapped, frame_stays}
+
+-- the tables of a device that holds nothing
+pub maps_nothing : (memory : List (List ℕ)) (marks : List (Option Owner)) (ledger : Ledger) (id : ℕ) (mode : Mode) (root : ℕ) → AreTablesOf memory marks ledger id mode root
+    → ((page : ℕ) → held_in ledger id page ≡ None) → MapsNothing mode memory root
+maps_nothing memory marks ledger id mode root tables none = record {
+  tree = tables.tree;
+  leaves = λ page low. tables.leaves page low ∙ ap (option_map leaf_for) (none page);
+}
+
+-- whoever released everything holds nothing
+pub none_left : (old new : Ledger) (id ticket : ℕ) → ShowsReleaseOfAll old new id ticket → (page : ℕ) → held_in new id page ≡ None
+none_left old new id ticket released page = released.held id page ∙ rw (eq-eqb id id refl) refl
+
+-- a context that is cleared stays so while leaves of the device are
+pub still_cleared : (frames : ℕ) (memory between bare : List (List ℕ)) (marks : List (Option Owner)) (ledger : Ledger) (devices : List Device) (levels id root : ℕ) → IsLevels levels
+    → DirectoryIn frames memory marks devices levels → IsCleared memory between levels (directory_frame frames) id → id < ids_below (root_level levels)
+    → ((f : ℕ) → HasTable between root f → slice_get marks f ≡ Some (Some (OneDevice id))) → AreUnmapped ledger id root between bare
+    → path_end_from bare (root_level levels) (directory_frame frames) id ≡ Err DirectoryEntryNotValid
+still_cleared frames memory between bare marks ledger devices levels id root range stands cleared low own unmapped =
+    (stays between bare (root_level levels) (directory_frame frames) (low_levels levels range) cleared.tree unmapped.size
+    (λ f at. frame_stays ledger id root between bare f unmapped (λ table. not_of_device marks f id (stands.own f (cleared.pages f at)).system (own f table)))).ends id low
+    ∙ cleared.here
