@@ -1,10 +1,10 @@
 -- The story of a device's disk goes on with what happens to the device.
-use Rattle.std.proofs.Common.{◌≡◌, ◌≢◌, ◌⊎◌, inl, inr, ℕ, Bool, true, false, List, Option, Some, None, refl, sym, ap, ◌∙◌, subst}
+use Rattle.std.proofs.Common.{◌≡◌, inl, inr, ℕ, Bool, true, false, List, Option, refl, sym, ap, ◌∙◌, subst}
 use Rattle.iom_machine.specs.declared.outcome.Outcome.{Outcome}
 use Rattle.iom_virtqueue.specs.declared.layout.Layout.{Layout}
 use Rattle.iom_virtqueue.specs.declared.phase.Phase.{Phase}
 use Rattle.iom_virtqueue.specs.declared.phase.Phase.TheVariants.{AvailableIndex, RingEntry, Table, Served, UsedElement, UsedIndex, Faulted}
-use Rattle.iom_virtqueue.specs.Queues.{QueueState, fresh_queue}
+use Rattle.iom_virtqueue.specs.Queues.{QueueState}
 use Rattle.iom_virtio_blk.specs.declared.front.Front.{Front}
 use Rattle.iom_virtio_blk.specs.declared.serving.Serving.{Serving}
 use Rattle.iom_virtio_blk.specs.declared.stage.Stage.{Stage}
@@ -13,7 +13,7 @@ use Rattle.iom_virtio_blk.specs.declared.step.Reply.{Reply}
 use Rattle.iom_virtio_blk.specs.declared.step.Reply.TheVariants.{Accepted, Busy, Asked, Fault}
 use Rattle.iom_virtio_blk.specs.declared.step.Step.{Step}
 use Rattle.iom_virtio_blk.specs.declared.step.Step.TheVariants as step
-use Rattle.iom_virtio_blk.specs.Blocks.{EndsWaiting, TakesBytes, down, given_up, replied}
+use Rattle.iom_virtio_blk.specs.Blocks.{EndsWaiting, TakesBytes, down, replied}
 use Rattle.iom_virtio_blk.specs.Disks.{name_in}
 use Rattle.iom_virtio_blk.specs.DiskStates.{DiskState}
 use Rattle.iom_virtio_blk.specs.Histories.{Entry, IsMap, TellsDisk, told, told_in, history_after}

@@ -17,13 +17,12 @@ use Rattle.iom_machine.specs.Kinds.{disk_of}
 use Rattle.iom_machine.specs.Machine.{Run}
 use Rattle.iom_virtio_blk.specs.declared.step.Step.{Step}
 use Rattle.iom_virtio_blk.specs.declared.step.Step.TheVariants as step
-use Rattle.iom_virtio_blk.specs.Elements.{Byte, Done, IsWithin, IsWithinIn, Writes, begun, bytes_from, count_after, done_at, element_of, elements_from, wrote_at, wrote_by}
+use Rattle.iom_virtio_blk.specs.Elements.{Byte, Done, IsWithin, Writes, begun, bytes_from, count_after, done_at, element_of, elements_from, wrote_at, wrote_by}
 use Rattle.iom_virtio_blk.specs.Steps.{Device, Steps}
 use Rattle.iom_virtio_blk.proofs.ElementLemmas.{steps_write}
 use Rattle.iom_virtqueue.specs.declared.layout.Layout.{Layout}
-use Rattle.iom_virtqueue.specs.declared.phase.Phase.{Phase}
 use Rattle.iom_virtqueue.specs.Layouts.{layout_of}
-use Rattle.iom_virtqueue.specs.Queues.{QueueState, fresh_queue, more_finished}
+use Rattle.iom_virtqueue.specs.Queues.{QueueState, more_finished}
 use Rattle.iom_world.specs.Seen.{parts_of}
 use Rattle.iom_platform.specs.Blocks as model
 use Rattle.iom_platform.specs.Blocks.{block_with, Changes, Stay, StepsOnce, EndsStep, HasDisk, IsLeft, IsReset, SetsUp, DoesToBlocks, HearsOldest, BringsRefusal, HearsAnswer, PlugsBlock, refused_page}
@@ -306,11 +305,10 @@ pub runs_write : (state last : State) (old new : Seen) (events : List Event) (ou
     × (bytes_in id state old events outcomes traces last run new through ≡ elements_from layout 0 (requests_in id events outcomes) ++ begun after.device.front.queue)
 runs_write state last old new events outcomes traces run id layout block through there fresh lives =
     let within : IsWithin block.device.front.queue = subst (λ (q : QueueState). IsWithin q) (sym fresh.queue) tt in
-    let on = runs_on events outcomes traces state last run old new id block through (record { there = there; within = within }) lives in
-    (
+    let on = runs_on events outcomes traces state last run old new id block through (record { there = there; within = within }) lives in (
       on.block,
       on.there,
       ap (λ l. l ++ bytes_in id state old events outcomes traces last run new through) (sym (ap begun fresh.queue))
-      ∙ on.writes.bytes
-      ∙ ap (λ (q : QueueState). elements_from q.layout q.finished (requests_in id events outcomes) ++ begun on.block.device.front.queue) fresh.queue,
+          ∙ on.writes.bytes
+          ∙ ap (λ (q : QueueState). elements_from q.layout q.finished (requests_in id events outcomes) ++ begun on.block.device.front.queue) fresh.queue,
     )

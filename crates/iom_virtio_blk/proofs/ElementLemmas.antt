@@ -1,5 +1,5 @@
 -- The elements of the used ring are written one after another, each whole.
-use Rattle.std.proofs.Common.{◌≡◌, ◌≢◌, ◌∙◌, inl, inr, ℕ, ◌+◌, ◌-◌, ◌==◌, ◌≤◌, Bool, true, false, cond, List, [], ◌∷◌, ◌++◌, length, take, drop, min, Option, Some, None, refl, sym, ap, subst, arith, append-nil, length-append, length-take}
+use Rattle.std.proofs.Common.{◌≡◌, ◌≢◌, ◌∙◌, inl, inr, ℕ, ◌+◌, ◌==◌, ◌≤◌, Bool, true, false, cond, List, [], ◌∷◌, ◌++◌, length, take, drop, Option, Some, None, refl, sym, ap, subst, arith, append-nil, length-append, length-take}
 use Rattle.std.proofs.Math.Seq.{take-add}
 use Rattle.std.proofs.lemmas.Bool.{eqb-true}
 use Rattle.std.proofs.lemmas.List.{take_all}
@@ -10,7 +10,7 @@ use Rattle.iom_virtqueue.specs.declared.layout.Layout.{Layout}
 use Rattle.iom_virtqueue.specs.declared.phase.Phase.{Phase}
 use Rattle.iom_virtqueue.specs.declared.phase.Phase.TheVariants.{AvailableIndex, RingEntry, Table, Served, UsedElement, UsedIndex, Faulted}
 use Rattle.iom_virtqueue.specs.Descriptors.{descriptor_of, next_of, number_at}
-use Rattle.iom_virtqueue.specs.Queues.{QueueState, after, after_fault, after_in, element_piece, fault_in, goes_on_at, more_finished, new_requests, with_phase}
+use Rattle.iom_virtqueue.specs.Queues.{QueueState, after_fault, after_in, element_piece, fault_in, goes_on_at, new_requests, with_phase}
 use Rattle.iom_virtio_blk.specs.declared.front.Front.{Front}
 use Rattle.iom_virtio_blk.specs.declared.serving.Job.{Job}
 use Rattle.iom_virtio_blk.specs.declared.serving.Job.TheVariants.{Header, Reading, Writing, Ending}
@@ -18,7 +18,7 @@ use Rattle.iom_virtio_blk.specs.declared.step.Step.{Step}
 use Rattle.iom_virtio_blk.specs.declared.step.Step.TheVariants.{Idle, Waiting, Down, Chain, Finished, Wants}
 use Rattle.iom_virtio_blk.specs.Blocks.{queue_in}
 use Rattle.iom_virtio_blk.specs.Steps.{Device, GoesOnIn, Serves, Steps, TakesQueue, UsesIn}
-use Rattle.iom_virtio_blk.specs.Elements.{Byte, Done, IsWithin, IsWithinIn, Writes, begun, begun_in, bytes_from, count_after, done_at, element_of, element_place, elements_from, in_work, wrote_at, wrote_by, wrote_in}
+use Rattle.iom_virtio_blk.specs.Elements.{Byte, Done, IsWithin, IsWithinIn, Writes, begun, begun_in, bytes_from, done_at, element_of, element_place, in_work, wrote_at, wrote_by, wrote_in}
 use Rattle.iom_virtio_blk.proofs.OrderLemmas.{queue_then}
 
 bytes-append : (layout : Layout) (count offset : ℕ) (xs ys : List ℕ)
@@ -56,7 +56,7 @@ element_grown true q written le is =
     let all : written + element_piece q written ≡ 8 = eqb-true (written + element_piece q written) 8 is in
     grows q.layout q.finished written (element_piece q written) (element_of (in_work q)) (omega (arith, long))
     ∙ ap (λ bytes. bytes_from q.layout q.finished 0 bytes)
-        (take_all (written + element_piece q written) (element_of (in_work q)) (omega (arith, long, all)))
+    (take_all (written + element_piece q written) (element_of (in_work q)) (omega (arith, long, all)))
 element_grown false q written le is =
     let long = element_long (in_work q) in
     grows q.layout q.finished written (element_piece q written) (element_of (in_work q)) (omega (arith, long))
