@@ -1,5 +1,5 @@
 -- What an event makes of one block device: a part of its life.
-use Rattle.std.proofs.Common.{◌≡◌, ◌≢◌, ◌⊎◌, inl, inr, ℕ, ◌==◌, Bool, true, false, List, [], ◌∷◌, ◌++◌, Option, Some, None, if◌then◌else◌, refl, sym, ap, ◌∙◌, subst, append-nil}
+use Rattle.std.proofs.Common.{◌≡◌, ◌≢◌, ◌⊎◌, inl, inr, ℕ, ◌==◌, Bool, true, false, List, [], ◌∷◌, Option, Some, None, if◌then◌else◌, refl, sym, ap, ◌∙◌, subst, append-nil}
 use Rattle.std.specs.Prelude.{slice_get}
 use Rattle.std.proofs.lemmas.Bool.{eq-eqb, ne_eqb, true≢false}
 use Rattle.iom_base.specs.declared.access.Access.{Access}
@@ -97,7 +97,7 @@ missed : (first : Outcome) (old : Parts) (id : ℕ) (access : Access) (told : Ou
 missed outcome.Miss old id access told new none asks = ap went_on asks.0
 missed first old id access told new none asks = ap went_on asks.0 ∙ none
 
-to_memory : (has_cache : Bool) (old : Parts) (id : ℕ) (access : Access) (told : Outcome) (new : Parts) → GoesToMemory has_cache old id access told new → went_on told ≡ true
+pub to_memory : (has_cache : Bool) (old : Parts) (id : ℕ) (access : Access) (told : Outcome) (new : Parts) → GoesToMemory has_cache old id access told new → went_on told ≡ true
 to_memory false old id access told new (inl unknown) = ap went_on unknown.told_so
 to_memory false old id access told new (inr (inl unable)) = ap went_on unable.told_so
 to_memory false old id access told new (inr (inr (able, replied))) = answered told replied.reply replied.told_so

@@ -6,3 +6,4 @@ pub mod EventLives
 pub mod RunLives
 pub mod StoryLemmas
 pub mod StoryRuns
+pub mod UsedRingRuns

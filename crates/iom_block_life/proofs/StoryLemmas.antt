@@ -1,10 +1,10 @@
 -- The story of a device's disk goes on with what happens to the device.
-use Rattle.std.proofs.Common.{◌≡◌, ◌≢◌, ◌⊎◌, inl, inr, ℕ, Bool, true, false, List, Option, Some, None, refl, sym, ap, ◌∙◌, subst}
+use Rattle.std.proofs.Common.{◌≡◌, inl, inr, ℕ, Bool, true, false, List, Option, refl, sym, ap, ◌∙◌, subst}
 use Rattle.iom_machine.specs.declared.outcome.Outcome.{Outcome}
 use Rattle.iom_virtqueue.specs.declared.layout.Layout.{Layout}
 use Rattle.iom_virtqueue.specs.declared.phase.Phase.{Phase}
 use Rattle.iom_virtqueue.specs.declared.phase.Phase.TheVariants.{AvailableIndex, RingEntry, Table, Served, UsedElement, UsedIndex, Faulted}
-use Rattle.iom_virtqueue.specs.Queues.{QueueState, fresh_queue}
+use Rattle.iom_virtqueue.specs.Queues.{QueueState}
 use Rattle.iom_virtio_blk.specs.declared.front.Front.{Front}
 use Rattle.iom_virtio_blk.specs.declared.serving.Serving.{Serving}
 use Rattle.iom_virtio_blk.specs.declared.stage.Stage.{Stage}
@@ -13,7 +13,7 @@ use Rattle.iom_virtio_blk.specs.declared.step.Reply.{Reply}
 use Rattle.iom_virtio_blk.specs.declared.step.Reply.TheVariants.{Accepted, Busy, Asked, Fault}
 use Rattle.iom_virtio_blk.specs.declared.step.Step.{Step}
 use Rattle.iom_virtio_blk.specs.declared.step.Step.TheVariants as step
-use Rattle.iom_virtio_blk.specs.Blocks.{EndsWaiting, TakesBytes, down, given_up, replied}
+use Rattle.iom_virtio_blk.specs.Blocks.{EndsWaiting, TakesBytes, down, replied}
 use Rattle.iom_virtio_blk.specs.Disks.{name_in}
 use Rattle.iom_virtio_blk.specs.DiskStates.{DiskState}
 use Rattle.iom_virtio_blk.specs.Histories.{Entry, IsMap, TellsDisk, told, told_in, history_after}
@@ -114,14 +114,13 @@ ends_waiting : (old new : Device) (bytes : List ℕ) → EndsWaiting old.front b
 ends_waiting old new bytes (inl is) disk = took old new bytes is.1 disk
 ends_waiting old new bytes (inr lost) disk = stopped old new lost.1 disk
 
-pub hears_made : (number : ℕ) (bytes : List ℕ) (story : Story) (old new : Device) → HearsMade number bytes old new → Tells story old → Tells story new
-hears_made number bytes story old new (inl own) tells = tells_still story old new (ends_waiting old new bytes own.1 own.2) tells
-hears_made number bytes story old new (inr other) tells = tells_still story old new (same_device old new other.1) tells
+pub hears_made : (number : ℕ) (bytes : List ℕ) (old new : Device) → HearsMade number bytes old new → Stays old new
+hears_made number bytes old new (inl own) = ends_waiting old new bytes own.1 own.2
+hears_made number bytes old new (inr other) = same_device old new other.1
 
-pub hears_refusal : (page : ℕ) (story : Story) (old new : Device) → HearsRefusal page old new → Tells story old → Tells story new
-hears_refusal page story old new (inl own) tells =
-    tells_still story old new (stopped old new (ap (λ (d : Device). d.front) own.1) (ap (λ (d : Device). d.disk) own.1)) tells
-hears_refusal page story old new (inr other) tells = tells_still story old new (same_device old new other.1) tells
+pub hears_refusal : (page : ℕ) (old new : Device) → HearsRefusal page old new → Stays old new
+hears_refusal page old new (inl own) = stopped old new (ap (λ (d : Device). d.front) own.1) (ap (λ (d : Device). d.disk) own.1)
+hears_refusal page old new (inr other) = same_device old new other.1
 
 -- a disk that is put in
 pub put : (disk : DiskState) (story : Story) (old new : Device) → HasDisk disk old new → Tells story old → Tells (begins disk) new
@@ -159,7 +158,7 @@ told_reply (Asked page) old new is = record {
 }
 told_reply Fault old new is = stopped old new (ap (λ (d : Device). d.front) is) (ap (λ (d : Device). d.disk) is)
 
-ends : (taken : Step) (old new : Parts) (id : ℕ) (told : Outcome) (between after : Device) → EndsStep taken old id between told new after → Stays between after
+pub ends : (taken : Step) (old new : Parts) (id : ℕ) (told : Outcome) (between after : Device) → EndsStep taken old id between told new after → Stays between after
 ends step.Idle old new id told between after end = same_device between after end.2
 ends step.Waiting old new id told between after end = same_device between after end.2
 ends step.Down old new id told between after end = same_device between after end.2

@@ -1,7 +1,7 @@
 -- The story of a device's disk goes on with the events of a run.
 use Rattle.std.proofs.Common.{◌≡◌, ◌≢◌, ◌⊎◌, inl, inr, ℕ, ◌==◌, Bool, true, false, List, [], ◌∷◌, ◌++◌, Option, Some, None, if◌then◌else◌, refl, sym, ap, ◌∙◌, subst}
 use Rattle.std.specs.Prelude.{find, slice_get}
-use Rattle.std.proofs.lemmas.Bool.{eq-eqb, eqb-true, ne_eqb, true≢false}
+use Rattle.std.proofs.lemmas.Bool.{eq-eqb, ne_eqb}
 use Rattle.iom_fabric.specs.declared.fabric.OnLink.{OnLink}
 use Rattle.iom_machine.specs.declared.event.Event.{Event}
 use Rattle.iom_machine.specs.declared.event.Event.TheVariants as events
@@ -25,7 +25,7 @@ use Rattle.iom_platform.specs.Seen.{BlockSeen, Seen}
 use Rattle.iom_platform.specs.Numbered.{DiskSeen}
 use Rattle.iom_block_life.specs.Stories.{Story, Tells, begins, ended, goes_on, put_in, story_after, story_in}
 use Rattle.iom_block_life.proofs.BlockChanges.{as_device, there_before, IsChanged, one_changes}
-use Rattle.iom_block_life.proofs.StoryLemmas.{hears_made, hears_refusal, is_left, is_new, is_reset, put, sets_up, steps_once}
+use Rattle.iom_block_life.proofs.StoryLemmas.{hears_made, hears_refusal, is_left, is_new, is_reset, put, sets_up, steps_once, tells_still}
 
 -- the device with the id is there, and this is the story of its disk
 pub record IsTold (id : ℕ) (new : List BlockSeen) (story : Story) : Type 0 where
@@ -114,7 +114,7 @@ hears_oldest : (number : Option ℕ) (bytes : List ℕ) (id other : ℕ) (old ne
 hears_oldest None bytes id other old new block story has same = stay_told id old new block story has same
 hears_oldest (Some number) bytes id other old new block story has changes =
     changes_told (model.HearsMade number bytes) id other old new block story has
-    (λ after how. hears_made number bytes story block.device after how has.tells) changes
+    (λ after how. tells_still story block.device after (hears_made number bytes block.device after how) has.tells) changes
 
 commits : (id other : ℕ) (old new : Seen) (told : Outcome) (block : BlockSeen) (story : Story) → Has id old block story → model.CommitsOf old other told new
     → IsTold id new.blocks story
@@ -127,7 +127,7 @@ hears_answer : (page : Option ℕ) (id other : ℕ) (old new : Seen) (block : Bl
 hears_answer None id other old new block story has same = stay_told id old new block story has same
 hears_answer (Some page) id other old new block story has changes =
     changes_told (model.HearsRefusal page) id other old new block story has
-    (λ after how. hears_refusal page story block.device after how has.tells) changes
+    (λ after how. tells_still story block.device after (hears_refusal page block.device after how) has.tells) changes
 
 brings : (on : Option OnLink) (id : ℕ) (old new : Seen) (block : BlockSeen) (story : Story) → Has id old block story → BringsRefusal on old new
     → IsTold id new.blocks story

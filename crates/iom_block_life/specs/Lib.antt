@@ -1,3 +1,4 @@
 pub mod Lives
 pub mod Runs
 pub mod Stories
+pub mod UsedRings

@@ -10,7 +10,6 @@ use Rattle.iom_machine.specs.declared.state.State.{State}
 use Rattle.iom_machine.specs.Machine.{Run}
 use Rattle.iom_virtqueue.specs.declared.layout.Layout.{Layout}
 use Rattle.iom_virtqueue.specs.Layouts.{layout_of}
-use Rattle.iom_virtio_blk.specs.declared.front.Front.{Front}
 use Rattle.iom_platform.specs.Blocks.{block_with}
 use Rattle.iom_platform.specs.Happens.{HappensHere}
 use Rattle.iom_platform.specs.Runs.{GoesThrough}

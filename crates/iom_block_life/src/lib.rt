@@ -13,6 +13,7 @@
 ghost use Rattle.iom_block_life.specs.Lives.{LivesUseEachOnce};
 ghost use Rattle.iom_block_life.specs.Runs.{QueuesBeginLives, RunsUseEachOnce};
 ghost use Rattle.iom_block_life.specs.Stories.{PlugsBeginStories, RunsTellDisks};
+ghost use Rattle.iom_block_life.specs.UsedRings.{RunsWriteElements};
 
 /// Whatever happens to a device since its queue was set: it takes the entries of its ring in their order, from the
 /// first one on, each once. The requests that it finishes are those that it took, in the same order and each once, but
@@ -35,4 +36,11 @@ pub fn runs_use_each_entry_once()
 pub fn runs_tell_disks()
     ensures begin { PlugsBeginStories }
     ensures runs { RunsTellDisks }
+{}
+
+/// What a block device writes into its used ring in a run of the model, from the event that set its queue to the next one
+/// that ends its life: for each line `finished` one element, whole, in their order, with the head and the length that the
+/// line tells, and nothing else but the beginning of the next one.
+pub fn runs_write_elements()
+    ensures { RunsWriteElements }
 {}

@@ -5,3 +5,4 @@ pub mod ToldLemmas
 pub mod StepLemmas
 pub mod DiskStays
 pub mod OrderLemmas
+pub mod ElementLemmas

@@ -138,7 +138,7 @@ serves_next old new purpose served (done, called, front) is =
     (subst (λ (p : Purpose). IsNext p (queue_in job old.front).phase (settled done (serving_in job old.front (sector_count old.disk))).job) own
     (served_next job old.front done (sector_count old.disk) served refl))
 
-queue_then : (old new : Device) → TakesQueue old new → new.front.queue ≡ after_in old.front.queue.phase old.front.queue old.front.got.items
+pub queue_then : (old new : Device) → TakesQueue old new → new.front.queue ≡ after_in old.front.queue.phase old.front.queue old.front.got.items
 queue_then old new takes = ap (λ (f : Front). f.queue) takes.2 ∙ ap (λ fault. after_fault fault old.front.queue old.front.got.items) takes.0
 
 serving_then : (old new : Device) → TakesQueue old new

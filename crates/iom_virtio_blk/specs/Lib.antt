@@ -11,3 +11,4 @@ pub mod ReadyProps
 pub mod Histories
 pub mod MemoryDisks
 pub mod Order
+pub mod Elements

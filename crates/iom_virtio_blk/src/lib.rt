@@ -33,7 +33,7 @@ pub use features::{
     VIRTIO_F_VERSION_1,
 };
 pub use memory_disk::MemoryDisk;
-pub use order::accesses_keep_their_order;
+pub use order::{accesses_keep_their_order, steps_write_elements};
 pub use request::RequestStatus;
 pub use step::{Reply, Step};
 pub use want::WantedAccess;

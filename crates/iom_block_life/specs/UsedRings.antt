@@ -1,0 +1,64 @@
+-- What a block device writes into its used ring over a run of the model (virtio 1.2, section 2.7.8, "The Virtqueue Used Ring").
+use Rattle.std.specs.Prelude.{◌≡◌, ℕ, ◌==◌, Bool, true, false, List, [], ◌∷◌, ◌++◌, Option, None, Some, if◌then◌else◌}
+use Rattle.iom_machine.specs.declared.event.Event.{Event}
+use Rattle.iom_machine.specs.declared.event.Event.TheVariants as events
+use Rattle.iom_machine.specs.declared.outcome.BlockStep.TheVariants as rest
+use Rattle.iom_machine.specs.declared.outcome.Outcome.{Outcome}
+use Rattle.iom_machine.specs.declared.outcome.Outcome.TheVariants as outcome
+use Rattle.iom_machine.specs.declared.outcome.Trace.{Trace}
+use Rattle.iom_machine.specs.declared.state.State.{State}
+use Rattle.iom_machine.specs.Machine.{Run}
+use Rattle.iom_virtqueue.specs.declared.layout.Layout.{Layout}
+use Rattle.iom_virtio_blk.specs.Elements.{Byte, Done, begun, elements_from, wrote_by}
+use Rattle.iom_platform.specs.Blocks.{block_with}
+use Rattle.iom_platform.specs.Runs.{GoesThrough}
+use Rattle.iom_platform.specs.Seen.{BlockSeen, Seen}
+use Rattle.iom_block_life.specs.Lives.{IsFresh}
+use Rattle.iom_block_life.specs.Runs.{LivesThrough, went_on}
+
+-- the request that a step finished, by what is told: the head of its chain, and the count of the bytes that were written
+abbrev pub done_in : Outcome → List Done
+done_in (outcome.Stepped (rest.Finished head len)) = record { head = head; len = len } ∷ []
+done_in told = []
+
+-- the same of a step of this device
+abbrev pub done_by : ℕ → Event → Outcome → List Done
+done_by id (events.Step other) told = if id == other then done_in told else []
+done_by id event told = []
+
+-- all requests of this device that the events finished, in their order
+abbrev pub requests_in : ℕ → List Event → List Outcome → List Done
+requests_in id [] outcomes = []
+requests_in id (event ∷ events) [] = []
+requests_in id (event ∷ events) (told ∷ outcomes) = done_by id event told ++ requests_in id events outcomes
+
+-- the bytes of the used ring that were written by the access whose end the step heard, if it went on, by the device before it
+abbrev pub wrote_when : Bool → Option BlockSeen → List Byte
+wrote_when true (Some block) = wrote_by block.device.front.is_made block.device.front.queue
+wrote_when true None = []
+wrote_when false block = []
+
+-- the same of a step of this device
+abbrev pub bytes_by : ℕ → Seen → Event → Outcome → List Byte
+bytes_by id old (events.Step other) told = if id == other then wrote_when (went_on told) (block_with old.blocks id) else []
+bytes_by id old event told = []
+
+-- the bytes of its used ring that this device wrote, in their order, in the states that the platform goes through
+abbrev pub bytes_in : (id : ℕ) (state : State) (old : Seen) (events : List Event) (outcomes : List Outcome) (traces : List (Option Trace)) (last : State)
+    (run : Run state events outcomes last) (new : Seen) → GoesThrough state old events outcomes traces last run new → List Byte
+bytes_in id state old [] outcomes traces last run new through = []
+bytes_in id state old (event ∷ events) [] traces last run new through = []
+bytes_in id state old (event ∷ events) (told ∷ outcomes) [] last run new through = []
+bytes_in id state old (event ∷ events) (told ∷ outcomes) (trace ∷ traces) last (next, step, rest) new (shows, mid, happens, counts, later) =
+    bytes_by id old event told ++ bytes_in id next mid events outcomes traces last rest new later
+
+-- THE LAW: from a block device whose queue was just set, over any events of which none ends its life. What it wrote into its used ring are the elements of
+-- the requests that its lines `finished` tell, one for each, whole, in their order, from the first place on, each with its head and its count of bytes;
+-- and what is begun of the element of the request in work
+abbrev pub RunsWriteElements : Type 0
+RunsWriteElements =
+    (state last : State) (old new : Seen) (events : List Event) (outcomes : List Outcome) (traces : List (Option Trace)) (run : Run state events outcomes last)
+    (id : ℕ) (layout : Layout) (block : BlockSeen) (through : GoesThrough state old events outcomes traces last run new)
+    → block_with old.blocks id ≡ Some block → IsFresh layout block.device → LivesThrough id events outcomes
+    → (after : BlockSeen) × (block_with new.blocks id ≡ Some after)
+    × (bytes_in id state old events outcomes traces last run new through ≡ elements_from layout 0 (requests_in id events outcomes) ++ begun after.device.front.queue)
