@@ -92,11 +92,15 @@ fn first_difference(printed: &str, wanted: &str) -> usize {
     same.saturating_add(1)
 }
 
+/// The words of a command line that asks for counts.
+static ASKS_FOR_COUNTS: [&str; 1] = ["--trace"];
+
 /// How what the program prints for the script, on its input, compares with what is wanted, and the fault that it ends with.
 fn compared(rt: &HostRuntime, script: &str, wanted: &str, trace: bool) -> anyhow::Result<String> {
     let alloc = rt.alloc();
     let mut lines = Vec::new(alloc);
-    let words: &[&str] = if trace { &["--trace"] } else { &[] };
+    let count = if trace { 1 } else { 0 };
+    let words = &ASKS_FOR_COUNTS[..count];
     let done = run_words(rt, alloc, words, &mut script.as_bytes(), &mut lines);
     let printed = String::from_utf8(lines)?;
     let compared = if printed.as_str() == wanted {
