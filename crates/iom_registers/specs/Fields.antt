@@ -11,10 +11,10 @@ use Rattle.iom_registers.specs.declared.status.CommandStatus.{CommandStatus}
 use Rattle.iom_registers.specs.declared.status.FaultStatus.{FaultStatus}
 use Rattle.iom_registers.specs.declared.status.PendingInterrupts.{PendingInterrupts}
 
--- "IOMMU capabilities (capabilities)": version 7:0 is 1.0, Sv39 9, Sv39x4 17, ATS 25; IGS 29:28 is 1, interrupts by wire alone; PAS
+-- "IOMMU capabilities (capabilities)": version 7:0 is 1.0, Sv39 9, Sv48 10, Sv39x4 17, Sv48x4 18, ATS 25; IGS 29:28 is 1, interrupts by wire alone; PAS
 -- 37:32 is 32 bits of physical address
 abbrev pub capabilities_value : ℕ
-capabilities_value = 16 + bit 9 true + bit 17 true + bit 25 true + 1 * 2 ^ 28 + 32 * 2 ^ 32
+capabilities_value = 16 + bit 9 true + bit 10 true + bit 17 true + bit 18 true + bit 25 true + 1 * 2 ^ 28 + 32 * 2 ^ 32
 
 -- "Features-control register (fctl)": WSI 1, interrupts by wire
 abbrev pub fctl_value : ℕ

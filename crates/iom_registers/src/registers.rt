@@ -10,8 +10,8 @@ use crate::queue_base::QueueBase;
 use crate::register::{RegFault, Register};
 use crate::status::{CommandStatus, FaultStatus, PendingInterrupts};
 
-/// What `capabilities` reads: version 1.0, Sv39, Sv39x4, ATS, interrupts by wire, 32 bits of address.
-const CAPABILITIES: u64 = 0x20_1202_0210;
+/// What `capabilities` reads: version 1.0, Sv39, Sv48, Sv39x4, Sv48x4, ATS, interrupts by wire, 32 bits of address.
+const CAPABILITIES: u64 = 0x20_1206_0610;
 
 /// What `fctl` reads: interrupts by wire.
 const FCTL: u64 = 2;
