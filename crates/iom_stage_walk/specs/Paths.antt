@@ -1,5 +1,5 @@
--- The path of a translation: reaches a leaf, or stops with a cause (RISC-V Privileged Architecture, "Sv39",
--- virtual address translation), for any number of levels.
+-- The path of a translation: reaches a leaf, or stops with a cause (RISC-V Privileged Architecture, "Sv39"
+-- and "Sv48", virtual address translation), for any number of levels.
 use Rattle.std.specs.Prelude.{◌≡◌, ◌≢◌, ℕ, ◌+◌, ◌*◌, ◌/◌, ◌%◌, ◌^◌, ◌<◌, ◌≤◌, ◌⊎◌, true, false, List, [], ◌∷◌, length, replicate, None}
 use Rattle.iom_base.specs.Causes.{page_fault_of}
 use Rattle.iom_base.specs.Tables.{access_fault_of, table_entries}
@@ -67,10 +67,6 @@ abbrev pub path_of : List ℕ → ℕ → List ℕ
 path_of [] page = []
 path_of (width ∷ widths) page = page / table_entries ^ length widths % width ∷ path_of widths page
 
--- the levels of a first stage, Sv39
-abbrev pub first_levels : ℕ
-first_levels = 3
-
 -- the widths of the tables of a first stage of so many levels: each is a frame of entries
 abbrev pub first_widths : ℕ → List ℕ
 first_widths levels = replicate levels table_entries
@@ -79,7 +75,7 @@ first_widths levels = replicate levels table_entries
 abbrev pub first_path : ℕ → ℕ → List ℕ
 first_path levels address = path_of (first_widths levels) (address / page_size)
 
--- the highest bit that such tables translate, 38 in Sv39, equals all higher bits of the 64
+-- the highest bit that such tables translate, 38 in Sv39 and 47 in Sv48, equals all higher bits of the 64
 abbrev pub IsCanonical : ℕ → ℕ → Type 0
 IsCanonical levels address = (address < 2 ^ (9 * levels + 11)) ⊎ (2 ^ 64 ≤ address + 2 ^ (9 * levels + 11))
 

@@ -1,5 +1,5 @@
 -- The second stage of a translation, from guest physical addresses to memory (RISC-V Privileged Architecture, hypervisor
--- extension, "Two-Stage Address Translation", guest physical address translation; Sv39x4), for any number of levels.
+-- extension, "Two-Stage Address Translation", guest physical address translation; Sv39x4 and Sv48x4), for any number of levels.
 use Rattle.std.specs.Prelude.{◌≡◌, ℕ, ◌+◌, ◌*◌, ◌/◌, ◌^◌, ◌<◌, Bool, false, zero, suc, List, [], ◌∷◌, replicate, None}
 use Rattle.iom_base.specs.Causes.{guest_page_fault_of}
 use Rattle.iom_base.specs.Tables.{access_fault_of, table_entries}
@@ -12,10 +12,6 @@ use Rattle.iom_stage_walk.specs.Entries.{entries}
 use Rattle.iom_stage_walk.specs.Paths.{Reaches, StopsIn, path_of, IsInMemory}
 use Rattle.iom_stage_walk.specs.declared.walked.Walked.{Walked}
 use Rattle.iom_stage_walk.specs.declared.walked.WalkFault.{WalkFault}
-
--- the levels of a second stage, Sv39x4
-abbrev pub second_levels : ℕ
-second_levels = 3
 
 -- the entries of the root of a second stage, which fills four frames
 abbrev pub root_entries : ℕ
@@ -30,7 +26,7 @@ second_widths (suc below) = root_entries ∷ replicate below table_entries
 abbrev pub second_path : ℕ → ℕ → List ℕ
 second_path levels address = path_of (second_widths levels) (address / page_size)
 
--- all bits above those that such tables translate, 41 in Sv39x4, are zero
+-- all bits above those that such tables translate, 41 in Sv39x4 and 50 in Sv48x4, are zero
 abbrev pub IsGuestPhysical : ℕ → ℕ → Type 0
 IsGuestPhysical levels address = address < 2 ^ (9 * levels + 14)
 

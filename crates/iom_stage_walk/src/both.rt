@@ -1,11 +1,11 @@
 ghost use Rattle.std.specs.Prelude.{◌≡◌, ◌≢◌, ◌↔◌, ℕ, ◌/◌, ◌^◌, ◌<◌, ◌≤◌, List, true, false, IfOk, IfErr, Ok, Err, length, slice_index, EachIndex};
 ghost use Rattle.iom_base.specs.Causes.{page_fault_of};
-ghost use Rattle.iom_base.specs.Sizes.{page_size};
+ghost use Rattle.iom_base.specs.Sizes.{page_size, levels_of};
 ghost use Rattle.iom_base.specs.Tables.{table_entries};
 ghost use Rattle.iom_base.specs.declared.access.AccessKind.TheVariants.{Read};
 ghost use Rattle.iom_stage_walk.specs.Entries.{IsBounded, slot};
-ghost use Rattle.iom_stage_walk.specs.Paths.{path_of, first_levels, first_widths};
-ghost use Rattle.iom_stage_walk.specs.Second.{second_levels, LeadsTo, LeadsToFault};
+ghost use Rattle.iom_stage_walk.specs.Paths.{path_of, first_widths};
+ghost use Rattle.iom_stage_walk.specs.Second.{LeadsTo, LeadsToFault};
 ghost use Rattle.iom_stage_walk.specs.Both.{IsReadFrom, entry_address, ReachesGuest, StopsGuest, plain, padded, rights_of_both, guest_address, ReachesBoth, StopsBoth};
 ghost use Rattle.iom_stage_walk.specs.declared.entry.Entry.TheVariants.{Outside};
 ghost use Rattle.iom_stage_walk.specs.declared.walked.Walked.{Walked};
@@ -13,9 +13,9 @@ ghost use Rattle.iom_stage_walk.specs.declared.walked.WalkFault.{WalkFault};
 
 use crate::entry::{Entry, entry_at};
 use crate::second::{lead, report};
-use crate::walk::{first_indices, is_canonical, judge_leaf};
+use crate::walk::{first_indices, is_canonical, judge_leaf, last_indices};
 use crate::walked::{WalkFault, Walked};
-use iom_base::{AccessKind, Cause, ENTRY_SIZE, PAGE_SIZE, Ppn, Rights};
+use iom_base::{AccessKind, Cause, ENTRY_SIZE, PAGE_SIZE, Ppn, Rights, Size};
 use iom_phys_mem::Bytes;
 
 /// An entry of a guest's tables, and the frame from which it was read.
@@ -48,6 +48,7 @@ fn first_fault(kind: AccessKind) -> WalkFault
 /// Reads the entry at an index of a guest's table, through the second stage. At most four loads.
 fn guest_entry<B: Bytes>(
     memory: &B,
+    size: Size,
     second: u64,
     table: u64,
     index: u16,
@@ -56,14 +57,14 @@ fn guest_entry<B: Bytes>(
     requires table { table < 2 ^ 44 }
     requires index { index < table_entries }
     ensures ok { IfOk result (λ loaded.
-        IsReadFrom second_levels (B.frames_of memory.now) second (slot table index) loaded.frame loaded.entry) }
+        IsReadFrom (levels_of size) (B.frames_of memory.now) second (slot table index) loaded.frame loaded.entry) }
     ensures bounded { IfOk result (λ loaded. IsBounded loaded.entry) }
     ensures inside { IfOk result (λ loaded. loaded.entry ≢ Outside) }
     ensures err { IfErr result
-        (LeadsToFault second_levels (B.frames_of memory.now) second (entry_address (slot table index)) Read original true) }
+        (LeadsToFault (levels_of size) (B.frames_of memory.now) second (entry_address (slot table index)) Read original true) }
 {
     let address = PAGE_SIZE * table + ENTRY_SIZE * u64::from(index);
-    match lead(memory, second, address, AccessKind::Read, original) {
+    match lead(memory, size, second, address, AccessKind::Read, original) {
         Ok(led) => Ok(Loaded {
             frame: led.frame,
             entry: entry_at(memory, u64::from(led.frame), index),
@@ -75,6 +76,7 @@ fn guest_entry<B: Bytes>(
 /// Follows the indices, one a level, from the guest's table at `root`.
 fn walk_guest<B: Bytes>(
     memory: &B,
+    size: Size,
     second: u64,
     root: u64,
     indices: &[u16],
@@ -84,14 +86,14 @@ fn walk_guest<B: Bytes>(
     requires small { EachIndex indices.now (λ k. slice_index indices.now k < table_entries) }
     requires short { length indices.now ≤ 4 }
     ensures ok { IfOk result (λ leaf. (loaded : List ℕ) × (leaf.frames ≡ padded 4 loaded)
-        × ReachesGuest second_levels (B.frames_of memory.now) second kind root indices.now loaded leaf.page leaf.rights) }
+        × ReachesGuest (levels_of size) (B.frames_of memory.now) second kind root indices.now loaded leaf.page leaf.rights) }
     ensures page { IfOk result (λ leaf. leaf.page < 2 ^ 45) }
-    ensures err { IfErr result (StopsGuest second_levels (B.frames_of memory.now) second kind root indices.now) }
+    ensures err { IfErr result (StopsGuest (levels_of size) (B.frames_of memory.now) second kind root indices.now) }
 {
     let mut table = root;
     let mut frames = [None; 4];
     for (k, index) in indices.iter().enumerate() {
-        let loaded = guest_entry(memory, second, table, *index, kind)?;
+        let loaded = guest_entry(memory, size, second, table, *index, kind)?;
         frames[k] = Some(loaded.frame);
         match loaded.entry {
             Entry::Pointer(next) => table = next,
@@ -126,6 +128,7 @@ fn both_rights(first: Rights, second: Rights) -> Rights
 /// The access to the page that the first stage gives, through the second stage.
 fn final_access<B: Bytes>(
     memory: &B,
+    size: Size,
     second: u64,
     leaf: GuestReached,
     address: u64,
@@ -134,13 +137,13 @@ fn final_access<B: Bytes>(
     requires { leaf.page < 2 ^ 45 }
     ensures ok { IfOk result (λ walked. (walked.guest_frames ≡ leaf.frames) × ((own : Rights)
         × (walked.rights ≡ rights_of_both leaf.rights own)
-        × LeadsTo second_levels (B.frames_of memory.now) second (guest_address leaf.page address) kind walked.frame own)) }
+        × LeadsTo (levels_of size) (B.frames_of memory.now) second (guest_address leaf.page address) kind walked.frame own)) }
     ensures err { IfErr result
-        (LeadsToFault second_levels (B.frames_of memory.now) second (guest_address leaf.page address) kind kind false) }
+        (LeadsToFault (levels_of size) (B.frames_of memory.now) second (guest_address leaf.page address) kind kind false) }
 {
     let guest = PAGE_SIZE * leaf.page + address % PAGE_SIZE;
     let guest_frames = leaf.frames;
-    match lead(memory, second, guest, kind, kind) {
+    match lead(memory, size, second, guest, kind, kind) {
         Ok(led) => Ok(Walked {
             frame: led.frame,
             rights: both_rights(leaf.rights, led.rights),
@@ -154,6 +157,7 @@ fn final_access<B: Bytes>(
 fn walk_both_levels<B: Bytes>(
     memory: &B,
     first: Ppn,
+    size: Size,
     second: u64,
     address: u64,
     indices: &[u16],
@@ -161,32 +165,36 @@ fn walk_both_levels<B: Bytes>(
 ) -> Result<Walked, WalkFault>
     requires short { length indices.now ≤ 4 }
     requires path { indices.now ≡ path_of (first_widths (length indices.now)) (address / page_size) }
-    ensures ok { IfOk result (ReachesBoth (length indices.now) second_levels (B.frames_of memory.now) first.number second address kind) }
-    ensures err { IfErr result (StopsBoth (length indices.now) second_levels (B.frames_of memory.now) first.number second address kind) }
+    ensures ok { IfOk result (ReachesBoth (length indices.now) (levels_of size) (B.frames_of memory.now) first.number second address kind) }
+    ensures err { IfErr result (StopsBoth (length indices.now) (levels_of size) (B.frames_of memory.now) first.number second address kind) }
 {
     if !is_canonical(indices.len(), address) {
         return Err(first_fault(kind));
     }
-    let leaf = walk_guest(memory, second, first.number(), indices, kind)?;
-    final_access(memory, second, leaf, address, kind)
+    let leaf = walk_guest(memory, size, second, first.number(), indices, kind)?;
+    final_access(memory, size, second, leaf, address, kind)
 }
 
-/// The walk of both stages, Sv39 over Sv39x4: the first stage's root table is at the guest physical page `first`, the
-/// second's begins at the page number `second`. Ok exactly where the path of the address reaches through both, with
-/// the frame, what both allow, and the frames from which the guest's tables were read; else the fault with which it
-/// stops. At most fifteen loads.
+/// The walk of both stages: the first stage's root table is at the guest physical page `first`, the second's begins at
+/// the page number `second`; each stage has the size that stands before its root. Ok exactly where the path of the
+/// address reaches through both, with the frame, what both allow, and the frames from which the guest's tables were
+/// read; else the fault with which it stops. At most 24 loads: four levels of the first stage, each entry of which and
+/// the page itself four loads of the second.
 pub fn walk_both<B: Bytes>(
     memory: &B,
+    first_size: Size,
     first: Ppn,
+    second_size: Size,
     second: u64,
     address: u64,
     kind: AccessKind,
 ) -> Result<Walked, WalkFault>
     ensures reached { (walked : Walked) → (result ≡ Ok walked)
-        ↔ ReachesBoth first_levels second_levels (B.frames_of memory.now) first.number second address kind walked }
+        ↔ ReachesBoth (levels_of first_size) (levels_of second_size) (B.frames_of memory.now) first.number second address kind walked }
     ensures stopped { (fault : WalkFault) → (result ≡ Err fault)
-        ↔ StopsBoth first_levels second_levels (B.frames_of memory.now) first.number second address kind fault }
+        ↔ StopsBoth (levels_of first_size) (levels_of second_size) (B.frames_of memory.now) first.number second address kind fault }
 {
-    let indices = first_indices(address / PAGE_SIZE);
-    walk_both_levels(memory, first, second, address, &indices, kind)
+    let all = first_indices(address / PAGE_SIZE);
+    let indices = last_indices(first_size, &all);
+    walk_both_levels(memory, first, second_size, second, address, indices, kind)
 }

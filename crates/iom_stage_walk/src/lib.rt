@@ -1,4 +1,4 @@
-//! Walks of page tables in memory: of a first stage, Sv39, of a second, Sv39x4, and of both (RISC-V Privileged
+//! Walks of page tables in memory: of a first stage, Sv39 or Sv48, of a second, Sv39x4 or Sv48x4, and of both (RISC-V Privileged
 //! Architecture).
 //!
 //! An entry is [`Pte`], as the chapter "Sv39" lays it out; what it means to a walk is [`Entry`].
@@ -21,6 +21,6 @@ mod walked;
 pub use both::walk_both;
 pub use entry::{Entry, entry_at};
 pub use pte::{Pte, PteFlags};
-pub use second::{SECOND_LEVELS, walk_second};
-pub use walk::{FIRST_LEVELS, first_indices, walk_first};
+pub use second::walk_second;
+pub use walk::{MAX_LEVELS, first_indices, walk_first};
 pub use walked::{WalkFault, Walked};

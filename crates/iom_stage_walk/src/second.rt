@@ -1,17 +1,16 @@
-ghost use Rattle.std.specs.Prelude.{◌≡◌, ◌↔◌, ◌/◌, ◌≤◌, IsTrue, false, IfOk, IfErr, Ok, Err, length};
-ghost use Rattle.iom_base.specs.Sizes.{page_size};
+ghost use Rattle.std.specs.Prelude.{◌≡◌, ◌↔◌, ◌-◌, ◌/◌, ◌≤◌, IsTrue, false, IfOk, IfErr, Ok, Err, length, drop};
+ghost use Rattle.iom_base.specs.Sizes.{page_size, levels_of};
 ghost use Rattle.iom_stage_walk.specs.Paths.{path_of};
-ghost use Rattle.iom_stage_walk.specs.Second.{second_levels, second_widths, IsGuestPhysical, LeadsTo, LeadsNowhere, LeadsToFault, reported, ReachesSecond, StopsSecond};
+ghost use Rattle.iom_stage_walk.specs.Second.{second_widths, IsGuestPhysical, LeadsTo, LeadsNowhere, LeadsToFault, reported, ReachesSecond, StopsSecond};
 ghost use Rattle.iom_stage_walk.specs.declared.walked.Walked.{Walked};
 ghost use Rattle.iom_stage_walk.specs.declared.walked.WalkFault.{WalkFault};
 
-use crate::walk::{Faults, SPAN_OF_TWO, walk};
+use crate::walk::{
+    Faults, MAX_LEVELS, SPAN_OF_THREE, SPAN_OF_TWO, first_indices, last_indices, walk,
+};
 use crate::walked::{WalkFault, Walked};
-use iom_base::{AccessKind, Cause, PAGE_SIZE, Rights, TABLE_ENTRIES};
+use iom_base::{AccessKind, Cause, PAGE_SIZE, Rights, Size, TABLE_ENTRIES};
 use iom_phys_mem::Bytes;
-
-/// The levels of a second stage, Sv39x4.
-pub const SECOND_LEVELS: usize = 3;
 
 /// The entries of the root of a second stage, which fills four frames.
 const ROOT_ENTRIES: u64 = 4 * TABLE_ENTRIES;
@@ -80,47 +79,66 @@ fn lead_levels<B: Bytes>(
     })
 }
 
-/// The indices of a guest physical page in the three levels of Sv39x4, the root's first: eleven bits of its number,
-/// then nine each.
-fn second_indices(page: u64) -> [u16; SECOND_LEVELS]
-    ensures { result ≡ path_of (second_widths second_levels) page }
+/// The indices of a guest physical page in tables of the size, the root's first: eleven bits of its number, then nine
+/// each. They are the last of these four.
+fn second_indices(size: Size, page: u64) -> [u16; MAX_LEVELS]
+    ensures { drop (4 - levels_of size) result ≡ path_of (second_widths (levels_of size)) page }
 {
-    [
-        (page / SPAN_OF_TWO % ROOT_ENTRIES) as u16,
-        (page / TABLE_ENTRIES % TABLE_ENTRIES) as u16,
-        (page % TABLE_ENTRIES) as u16,
-    ]
+    let [root, upper, middle, last] = first_indices(page);
+    match size {
+        Size::Sv39 => [
+            root,
+            (page / SPAN_OF_TWO % ROOT_ENTRIES) as u16,
+            middle,
+            last,
+        ],
+        Size::Sv48 => [
+            (page / SPAN_OF_THREE % ROOT_ENTRIES) as u16,
+            upper,
+            middle,
+            last,
+        ],
+    }
 }
 
-/// Where the second stage, Sv39x4, leads an access of this kind from the guest physical address. Its faults are
-/// numbered by the original access: a walk reads a first stage's entry whatever that is. At most three loads.
+/// Where a second stage of the size leads an access of this kind from the guest physical address. Its faults are
+/// numbered by the original access: a walk reads a first stage's entry whatever that is. At most one load a level.
 pub(crate) fn lead<B: Bytes>(
     memory: &B,
+    size: Size,
     root: u64,
     address: u64,
     kind: AccessKind,
     original: AccessKind,
 ) -> Result<Led, Cause>
-    ensures ok { IfOk result (λ led. LeadsTo second_levels (B.frames_of memory.now) root address kind led.frame led.rights) }
-    ensures err { IfErr result (LeadsNowhere second_levels (B.frames_of memory.now) root address kind original) }
+    ensures ok { IfOk result (λ led. LeadsTo (levels_of size) (B.frames_of memory.now) root address kind led.frame led.rights) }
+    ensures err { IfErr result (LeadsNowhere (levels_of size) (B.frames_of memory.now) root address kind original) }
 {
-    let indices = second_indices(address / PAGE_SIZE);
-    lead_levels(memory, root, address, &indices, kind, original)
+    let all = second_indices(size, address / PAGE_SIZE);
+    lead_levels(
+        memory,
+        root,
+        address,
+        last_indices(size, &all),
+        kind,
+        original,
+    )
 }
 
-/// The walk of a second stage of three levels, Sv39x4, whose root table begins at the page number `root`: Ok exactly
-/// where the path of the guest physical address reaches, with its leaf; else the fault with which it stops. A root
-/// outside memory gives an access fault. At most three loads.
+/// The walk of a second stage of the size, Sv39x4 or Sv48x4, whose root table begins at the page number `root`: Ok
+/// exactly where the path of the guest physical address reaches, with its leaf; else the fault with which it stops. A
+/// root outside memory gives an access fault. At most one load a level.
 pub fn walk_second<B: Bytes>(
     memory: &B,
+    size: Size,
     root: u64,
     address: u64,
     kind: AccessKind,
 ) -> Result<Walked, WalkFault>
-    ensures reached { (walked : Walked) → (result ≡ Ok walked) ↔ ReachesSecond second_levels (B.frames_of memory.now) root address kind walked }
-    ensures stopped { (fault : WalkFault) → (result ≡ Err fault) ↔ StopsSecond second_levels (B.frames_of memory.now) root address kind fault }
+    ensures reached { (walked : Walked) → (result ≡ Ok walked) ↔ ReachesSecond (levels_of size) (B.frames_of memory.now) root address kind walked }
+    ensures stopped { (fault : WalkFault) → (result ≡ Err fault) ↔ StopsSecond (levels_of size) (B.frames_of memory.now) root address kind fault }
 {
-    match lead(memory, root, address, kind, kind) {
+    match lead(memory, size, root, address, kind, kind) {
         Ok(led) => Ok(Walked {
             frame: led.frame,
             rights: led.rights,

@@ -1,26 +1,26 @@
-ghost use Rattle.std.specs.Prelude.{◌≡◌, ◌≢◌, ◌↔◌, ℕ, ◌+◌, ◌*◌, ◌/◌, ◌%◌, ◌^◌, ◌<◌, ◌≤◌, ◌⊎◌, IsTrue, IfOk, IfErr, IfSome, IfNone, Ok, Err, length};
+ghost use Rattle.std.specs.Prelude.{◌≡◌, ◌≢◌, ◌↔◌, ℕ, ◌+◌, ◌-◌, ◌*◌, ◌/◌, ◌%◌, ◌^◌, ◌<◌, ◌≤◌, ◌⊎◌, IsTrue, IfOk, IfErr, IfSome, IfNone, Ok, Err, length, drop};
 ghost use Rattle.std.specs.Prelude.{slice_index, EachIndex, true, false};
 ghost use Rattle.iom_base.specs.Rights.{allows};
-ghost use Rattle.iom_base.specs.Sizes.{page_size};
+ghost use Rattle.iom_base.specs.Sizes.{page_size, levels_of};
 ghost use Rattle.iom_stage_walk.specs.Entries.{entries};
 ghost use Rattle.iom_stage_walk.specs.Paths.{pages_spanned, page_in, IsLawfulLeaf, IsUnlawfulLeaf, Reaches, StopsAs, StopsAt, path_of};
-ghost use Rattle.iom_stage_walk.specs.Paths.{first_levels, first_widths, IsCanonical, ReachesFirst, StopsFirst};
+ghost use Rattle.iom_stage_walk.specs.Paths.{first_widths, IsCanonical, ReachesFirst, StopsFirst};
 ghost use Rattle.iom_stage_walk.specs.declared.walked.Walked.{Walked};
 ghost use Rattle.iom_stage_walk.specs.declared.walked.WalkFault.{WalkFault};
 
 use crate::entry::{Entry, entry_at};
 use crate::walked::{WalkFault, Walked};
-use iom_base::{AccessKind, Cause, PAGE_SIZE, Rights, TABLE_ENTRIES};
+use iom_base::{AccessKind, Cause, PAGE_SIZE, Rights, Size, TABLE_ENTRIES};
 use iom_phys_mem::Bytes;
 
-/// The levels of a first stage, Sv39.
-pub const FIRST_LEVELS: usize = 3;
+/// The most levels that tables have.
+pub const MAX_LEVELS: usize = 4;
 
 /// The pages that two levels of tables span.
 pub(crate) const SPAN_OF_TWO: u64 = TABLE_ENTRIES * TABLE_ENTRIES;
 
 /// The pages that three levels of tables span.
-const SPAN_OF_THREE: u64 = SPAN_OF_TWO * TABLE_ENTRIES;
+pub(crate) const SPAN_OF_THREE: u64 = SPAN_OF_TWO * TABLE_ENTRIES;
 
 /// The leaf of a path: the frame of the asked page, wherever that is, and what it allows.
 #[derive(Clone, Copy)]
@@ -150,31 +150,44 @@ fn walk_levels<B: Bytes>(
     })
 }
 
-/// The indices of a page in the three levels of Sv39, the root's first: nine bits of its number each.
-pub fn first_indices(page: u64) -> [u16; FIRST_LEVELS]
-    ensures { result ≡ path_of (first_widths first_levels) page }
+/// The indices of a page in four levels, the root's first: nine bits of its number each. Those of tables with fewer
+/// levels are the last of them.
+pub fn first_indices(page: u64) -> [u16; MAX_LEVELS]
+    ensures { result ≡ path_of (first_widths 4) page }
 {
     [
+        (page / SPAN_OF_THREE % TABLE_ENTRIES) as u16,
         (page / SPAN_OF_TWO % TABLE_ENTRIES) as u16,
         (page / TABLE_ENTRIES % TABLE_ENTRIES) as u16,
         (page % TABLE_ENTRIES) as u16,
     ]
 }
 
-/// The walk of a first stage of three levels, Sv39, whose root table is at the page number `root`:
+/// The last of four indices, as many as tables of the size have levels.
+pub(crate) fn last_indices(size: Size, all: &[u16; MAX_LEVELS]) -> &[u16]
+    ensures { result.now ≡ drop (4 - levels_of size) all.now }
+{
+    match size {
+        Size::Sv39 => &all[1..],
+        Size::Sv48 => &all[0..],
+    }
+}
+
+/// The walk of a first stage of the size, Sv39 or Sv48, whose root table is at the page number `root`:
 /// Ok exactly where the path of the address reaches, with its leaf; else the cause with which it stops. A
-/// root outside memory gives an access fault. At most three loads.
+/// root outside memory gives an access fault. At most one load a level.
 pub fn walk_first<B: Bytes>(
     memory: &B,
+    size: Size,
     root: u64,
     address: u64,
     kind: AccessKind,
 ) -> Result<Walked, WalkFault>
-    ensures reached { (walked : Walked) → (result ≡ Ok walked) ↔ ReachesFirst first_levels (B.frames_of memory.now) root address kind walked }
-    ensures stopped { (fault : WalkFault) → (result ≡ Err fault) ↔ StopsFirst first_levels (B.frames_of memory.now) root address kind fault }
+    ensures reached { (walked : Walked) → (result ≡ Ok walked) ↔ ReachesFirst (levels_of size) (B.frames_of memory.now) root address kind walked }
+    ensures stopped { (fault : WalkFault) → (result ≡ Err fault) ↔ StopsFirst (levels_of size) (B.frames_of memory.now) root address kind fault }
 {
-    let indices = first_indices(address / PAGE_SIZE);
-    match walk_levels(memory, root, address, &indices, kind) {
+    let all = first_indices(address / PAGE_SIZE);
+    match walk_levels(memory, root, address, last_indices(size, &all), kind) {
         Ok(walked) => Ok(walked),
         Err(cause) => Err(WalkFault {
             cause,
