@@ -1,4 +1,4 @@
-//! Laws of the tables of Sv39 and of Sv39x4, each the contract of a function that does nothing.
+//! Laws of the tables of both stages, of either size, each the contract of a function that does nothing.
 ghost use Rattle.iom_page_table.specs.Laws.{WalkReachesLeaf, WalkThroughTables, WalkFaultsElse, TreeStays, TreesApart, ZeroedTree, DifferentTables};
 ghost use Rattle.iom_page_table.specs.GuestLaws.{GuestWalkReachesLeaf, GuestLeaves, GuestWalkFaultsElse, GuestTablesFault, ZeroedGuestRoot, GuestTablesStay};
 

@@ -1,43 +1,47 @@
 ghost use Rattle.std.specs.Prelude.{◌≡◌, ◌⊎◌, ◌↔◌, ℕ, ◌*◌, ◌/◌, ◌%◌, ◌<◌, [], ◌∷◌, ◌++◌, length, Some, None, is_some};
 ghost use Rattle.std.specs.List.{Contains};
 ghost use Rattle.iom_base.specs.Rights.{r, rw};
-ghost use Rattle.iom_base.specs.Sizes.{page_limit};
+ghost use Rattle.iom_base.specs.Sizes.{levels_of, page_limit_of};
 ghost use Rattle.iom_base.specs.Tables.{entry_size, table_entries};
 ghost use Rattle.iom_phys_mem.specs.Words.{word_at, byte_at};
-ghost use Rattle.iom_stage_walk.specs.Paths.{path_of, first_levels};
+ghost use Rattle.iom_stage_walk.specs.Paths.{path_of, first_widths};
 ghost use Rattle.iom_page_table.specs.Leaves.{leaf_of};
-ghost use Rattle.iom_page_table.specs.Sv39.{IsRoot, HasTable, missing_for, IsLeafEntry, FillsEntry, ChangesLeaf, KeepsOutside, mapped, unmapped};
-ghost use Rattle.iom_page_table.specs.Trees.{sv39, AreFresh};
+ghost use Rattle.iom_page_table.specs.FirstTables.{IsRoot, HasTable, missing_for, IsLeafEntry, FillsEntry, ChangesLeaf, KeepsOutside, mapped, unmapped};
+ghost use Rattle.iom_page_table.specs.Trees.{shape_of, AreFresh};
 
 use crate::build::{build, count_missing, leaf_word, put, table_under};
 use crate::leaf::PageLeaf;
-use iom_base::TABLE_ENTRIES;
+use iom_base::{Size, TABLE_ENTRIES};
 use iom_phys_mem::Bytes;
-use iom_stage_walk::{Entry, entry_at, first_indices};
+use iom_stage_walk::{Entry, MAX_LEVELS, entry_at, first_indices};
 
-/// The indices of a page in the tables above the last.
-fn upper_of(page: u64) -> [u16; 2]
-    ensures { result ++ page % table_entries ∷ [] ≡ path_of sv39 page }
+/// The indices of a page in the tables of the size above the last, of its four.
+fn upper_of(size: Size, all: &[u16; MAX_LEVELS]) -> &[u16]
+    ensures { (page : ℕ) → all.now ≡ path_of (first_widths 4) page → result.now ++ page % table_entries ∷ [] ≡ path_of (shape_of size) page }
 {
-    let [root, middle, _] = first_indices(page);
-    [root, middle]
+    match size {
+        Size::Sv39 => &all[1..3],
+        Size::Sv48 => &all[0..3],
+    }
 }
 
-/// How many tables are missing for a leaf of the page, 0 to 2. Of the page's number the low 27 bits count. At most
-/// two loads.
-pub fn missing<B: Bytes>(memory: &B, root: u32, page: u64) -> usize
-    ensures { result ≡ missing_for (B.frames_of memory.now) root page }
+/// How many tables are missing for a leaf of the page: fewer than its tables have levels. Of the page's number the
+/// low bits count that they translate. At most one load for each level but the last.
+pub fn missing<B: Bytes>(memory: &B, size: Size, root: u32, page: u64) -> usize
+    ensures { result ≡ missing_for size (B.frames_of memory.now) root page }
 {
-    count_missing(memory, root, &upper_of(page))
+    let all = first_indices(page);
+    count_missing(memory, root, upper_of(size, &all))
 }
 
-/// Whether the page has a leaf. At most three loads.
-pub fn is_mapped<B: Bytes>(memory: &B, root: u32, page: u64) -> bool
-    requires page { page < page_limit }
-    requires tree { IsRoot (B.frames_of memory.now) root }
-    ensures { result ≡ is_some (leaf_of first_levels (B.frames_of memory.now) root page) }
+/// Whether the page has a leaf. At most one load a level.
+pub fn is_mapped<B: Bytes>(memory: &B, size: Size, root: u32, page: u64) -> bool
+    requires page { page < page_limit_of size }
+    requires tree { IsRoot size (B.frames_of memory.now) root }
+    ensures { result ≡ is_some (leaf_of (levels_of size) (B.frames_of memory.now) root page) }
 {
-    match table_under(memory, root, &upper_of(page)) {
+    let all = first_indices(page);
+    match table_under(memory, root, upper_of(size, &all)) {
         Some(table) => match entry_at(memory, table, (page % TABLE_ENTRIES) as u16) {
             Entry::Leaf(_, _) => true,
             _ => false,
@@ -48,52 +52,61 @@ pub fn is_mapped<B: Bytes>(memory: &B, root: u32, page: u64) -> bool
 
 /// Maps a page that isn't mapped: hangs the missing tables under the root, from the root down, in the
 /// frames handed in, and writes the leaf. `frames` are as many as [`missing`] says, zeroed, distinct and no
-/// tables of the root. Two loads, and one store more than there are frames: a byte changes only in an entry on
+/// tables of the root. One load for each level but the last, and one store more than there are frames: a byte changes only in an entry on
 /// the page's path that led nowhere.
-pub fn map<B: Bytes>(memory: &mut B, root: u32, page: u64, leaf: PageLeaf, frames: &[u32])
-    requires page { page < page_limit }
+pub fn map<B: Bytes>(
+    memory: &mut B,
+    size: Size,
+    root: u32,
+    page: u64,
+    leaf: PageLeaf,
+    frames: &[u32],
+)
+    requires page { page < page_limit_of size }
     requires rights { (leaf.rights ≡ r) ⊎ (leaf.rights ≡ rw) }
-    requires tree { IsRoot (B.frames_of memory.old) root }
-    requires free { leaf_of first_levels (B.frames_of memory.old) root page ≡ None }
-    requires count { length frames.now ≡ missing_for (B.frames_of memory.old) root page }
-    requires fresh { AreFresh sv39 (B.frames_of memory.old) root frames.now }
-    ensures tree { IsRoot (B.frames_of memory.new) root }
-    ensures tables { (f : ℕ) → HasTable (B.frames_of memory.new) root f
-        ↔ (HasTable (B.frames_of memory.old) root f ⊎ Contains frames.now f) }
-    ensures leaf { ChangesLeaf (B.frames_of memory.old) (B.frames_of memory.new) root page (Some leaf) }
-    ensures other_bytes { (a : ℕ) → (FillsEntry (B.frames_of memory.old) (B.frames_of memory.new) root page (a / entry_size) → ⊥)
+    requires tree { IsRoot size (B.frames_of memory.old) root }
+    requires free { leaf_of (levels_of size) (B.frames_of memory.old) root page ≡ None }
+    requires count { length frames.now ≡ missing_for size (B.frames_of memory.old) root page }
+    requires fresh { AreFresh (shape_of size) (B.frames_of memory.old) root frames.now }
+    ensures tree { IsRoot size (B.frames_of memory.new) root }
+    ensures tables { (f : ℕ) → HasTable size (B.frames_of memory.new) root f
+        ↔ (HasTable size (B.frames_of memory.old) root f ⊎ Contains frames.now f) }
+    ensures leaf { ChangesLeaf size (B.frames_of memory.old) (B.frames_of memory.new) root page (Some leaf) }
+    ensures other_bytes { (a : ℕ) → (FillsEntry size (B.frames_of memory.old) (B.frames_of memory.new) root page (a / entry_size) → ⊥)
         → byte_at (B.frames_of memory.new) a ≡ byte_at (B.frames_of memory.old) a }
-    ensures outside { KeepsOutside (B.frames_of memory.old) (B.frames_of memory.new) root }
+    ensures outside { KeepsOutside size (B.frames_of memory.old) (B.frames_of memory.new) root }
     ensures size { length (B.frames_of memory.new) ≡ length (B.frames_of memory.old) }
 
     // What the clauses above follow from, as one equation.
-    ensures whole { B.frames_of memory.new ≡ mapped (B.frames_of memory.old) root page leaf frames.now }
+    ensures whole { B.frames_of memory.new ≡ mapped size (B.frames_of memory.old) root page leaf frames.now }
 {
     let last = (page % TABLE_ENTRIES) as u16;
-    let table = build(memory, root, &upper_of(page), last, frames);
+    let all = first_indices(page);
+    let table = build(memory, root, upper_of(size, &all), last, frames);
     put(memory, table, last, leaf_word(leaf));
 }
 
 /// Clears the leaf of a page: its eight bytes are zero, and no other byte changes. A page that has no last
 /// table has nothing to clear.
-pub fn unmap<B: Bytes>(memory: &mut B, root: u32, page: u64)
-    requires page { page < page_limit }
-    requires tree { IsRoot (B.frames_of memory.old) root }
-    ensures tree { IsRoot (B.frames_of memory.new) root }
-    ensures tables { (f : ℕ) → HasTable (B.frames_of memory.new) root f
-        ↔ HasTable (B.frames_of memory.old) root f }
-    ensures leaf { ChangesLeaf (B.frames_of memory.old) (B.frames_of memory.new) root page None }
-    ensures cleared { (s : ℕ) → IsLeafEntry (B.frames_of memory.old) root page s
+pub fn unmap<B: Bytes>(memory: &mut B, size: Size, root: u32, page: u64)
+    requires page { page < page_limit_of size }
+    requires tree { IsRoot size (B.frames_of memory.old) root }
+    ensures tree { IsRoot size (B.frames_of memory.new) root }
+    ensures tables { (f : ℕ) → HasTable size (B.frames_of memory.new) root f
+        ↔ HasTable size (B.frames_of memory.old) root f }
+    ensures leaf { ChangesLeaf size (B.frames_of memory.old) (B.frames_of memory.new) root page None }
+    ensures cleared { (s : ℕ) → IsLeafEntry size (B.frames_of memory.old) root page s
         → word_at entry_size (B.frames_of memory.new) (entry_size * s) ≡ Some 0 }
-    ensures other_bytes { (a : ℕ) → (IsLeafEntry (B.frames_of memory.old) root page (a / entry_size) → ⊥)
+    ensures other_bytes { (a : ℕ) → (IsLeafEntry size (B.frames_of memory.old) root page (a / entry_size) → ⊥)
         → byte_at (B.frames_of memory.new) a ≡ byte_at (B.frames_of memory.old) a }
-    ensures outside { KeepsOutside (B.frames_of memory.old) (B.frames_of memory.new) root }
+    ensures outside { KeepsOutside size (B.frames_of memory.old) (B.frames_of memory.new) root }
     ensures size { length (B.frames_of memory.new) ≡ length (B.frames_of memory.old) }
 
     // What the clauses above follow from, as one equation.
-    ensures whole { B.frames_of memory.new ≡ unmapped (B.frames_of memory.old) root page }
+    ensures whole { B.frames_of memory.new ≡ unmapped size (B.frames_of memory.old) root page }
 {
-    match table_under(memory, root, &upper_of(page)) {
+    let all = first_indices(page);
+    match table_under(memory, root, upper_of(size, &all)) {
         Some(table) => put(memory, table, (page % TABLE_ENTRIES) as u16, 0),
         None => {}
     }
