@@ -6,6 +6,7 @@ use Rattle.iom_device_dir.specs.declared.stages.FirstStage.{FirstStage}
 use Rattle.iom_device_dir.specs.declared.stages.FirstStage.TheVariants as first
 use Rattle.iom_device_dir.specs.declared.stages.SecondStage.{SecondStage}
 use Rattle.iom_device_dir.specs.declared.stages.SecondStage.TheVariants as second
+use Rattle.iom_base.specs.declared.size.Size.TheVariants.{Sv39, Sv48}
 use Rattle.iom_device_dir.specs.Words.{context_words}
 use Rattle.iom_device_dir.specs.Formats.{IsFirstStage, IsSecondStage, AreContextWords, IsContext}
 use Rattle.iom_device_dir.specs.Decoded.{decoded_context}
@@ -16,7 +17,7 @@ use Rattle.iom_device_dir.proofs.Exact.{found}
 -- no field is wider than its bits: what the fields' own types say
 abbrev pub StageFits : FirstStage → Type 0
 StageFits first.Bare = Unit {0}
-StageFits (first.Sv39 root) = root.number < 2 ^ 44
+StageFits (first.Tables size root) = root.number < 2 ^ 44
 
 abbrev pub ContextFits : Context → Type 0
 ContextFits context = (context.pscid.number < 2 ^ 20) × (context.gscid < 2 ^ 16) × StageFits context.first_stage
@@ -39,31 +40,38 @@ tc_clear false = refl
 
 second_is : (stage : SecondStage) (gscid : ℕ) → gscid < 2 ^ 16 → IsSecondStage (bits 63 60 (second_stage_word stage + gscid * 2 ^ 44)) (bits 43 0 (second_stage_word stage + gscid * 2 ^ 44)) stage
 second_is second.Bare gscid small = omega arith
-second_is (second.Sv39x4 root) gscid small = let fits : root.number < 2 ^ 44 = root.in_range in (omega arith, omega arith)
+second_is (second.Tables Sv39 root) gscid small = let fits : root.number < 2 ^ 44 = root.in_range in (omega arith, omega arith)
+second_is (second.Tables Sv48 root) gscid small = let fits : root.number < 2 ^ 44 = root.in_range in (omega arith, omega arith)
 
 second_gscid : (stage : SecondStage) (gscid : ℕ) → gscid < 2 ^ 16 → gscid ≡ bits 59 44 (second_stage_word stage + gscid * 2 ^ 44)
 second_gscid second.Bare gscid small = omega arith
-second_gscid (second.Sv39x4 root) gscid small = let fits : root.number < 2 ^ 44 = root.in_range in omega arith
+second_gscid (second.Tables Sv39 root) gscid small = let fits : root.number < 2 ^ 44 = root.in_range in omega arith
+second_gscid (second.Tables Sv48 root) gscid small = let fits : root.number < 2 ^ 44 = root.in_range in omega arith
 
 second_unused : (stage : SecondStage) (gscid : ℕ) → gscid < 2 ^ 16 → stage ≡ second.Bare → bits 43 0 (second_stage_word stage + gscid * 2 ^ 44) ≡ 0
 second_unused second.Bare gscid small bare = omega arith
-second_unused (second.Sv39x4 root) gscid small bare = cc
+second_unused (second.Tables Sv39 root) gscid small bare = cc
+second_unused (second.Tables Sv48 root) gscid small bare = cc
 
 second_wide : (stage : SecondStage) (gscid : ℕ) → gscid < 2 ^ 16 → second_stage_word stage + gscid * 2 ^ 44 < 18446744073709551616
 second_wide second.Bare gscid small = omega arith
-second_wide (second.Sv39x4 root) gscid small = let fits : root.number < 2 ^ 44 = root.in_range in omega arith
+second_wide (second.Tables Sv39 root) gscid small = let fits : root.number < 2 ^ 44 = root.in_range in omega arith
+second_wide (second.Tables Sv48 root) gscid small = let fits : root.number < 2 ^ 44 = root.in_range in omega arith
 
 first_is : (stage : FirstStage) → StageFits stage → IsFirstStage (bits 63 60 (first_stage_word stage)) (bits 43 0 (first_stage_word stage)) stage
 first_is first.Bare fits = refl
-first_is (first.Sv39 root) fits = (omega arith, omega arith)
+first_is (first.Tables Sv39 root) fits = (omega arith, omega arith)
+first_is (first.Tables Sv48 root) fits = (omega arith, omega arith)
 
 first_clear : (stage : FirstStage) → StageFits stage → bits 59 44 (first_stage_word stage) ≡ 0
 first_clear first.Bare fits = refl
-first_clear (first.Sv39 root) fits = omega arith
+first_clear (first.Tables Sv39 root) fits = omega arith
+first_clear (first.Tables Sv48 root) fits = omega arith
 
 first_wide : (stage : FirstStage) → StageFits stage → first_stage_word stage < 18446744073709551616
 first_wide first.Bare fits = omega arith
-first_wide (first.Sv39 root) fits = omega arith
+first_wide (first.Tables Sv39 root) fits = omega arith
+first_wide (first.Tables Sv48 root) fits = omega arith
 
 are_wide : (context : Context) → ContextFits context → AreWide (encoded_context_words context)
 unfolding encoded_context_words

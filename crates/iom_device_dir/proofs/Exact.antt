@@ -1,9 +1,11 @@
 -- Decoding is exact to the grammars: what it answers is what the words are, and what they are is what it answers.
-use Rattle.std.proofs.Common.{◌≡◌, ◌≢◌, ◌<◌, ◌*◌, ◌/◌, ◌%◌, ◌^◌, ◌∙◌, ◌==◌, ℕ, zero, suc, Bool, true, false, inl, inr, Option, Some, None, Result, Ok, Err, refl, sym, ap, subst, arith, if◌then◌else◌}
+use Rattle.std.proofs.Common.{◌≡◌, ◌≢◌, ◌<◌, ◌*◌, ◌/◌, ◌%◌, ◌^◌, ◌∙◌, ◌==◌, ℕ, zero, suc, Bool, true, false, inl, inr, Option, Some, None, option_map, Result, Ok, Err, refl, sym, ap, subst, arith, if◌then◌else◌}
 use Rattle.std.specs.Prelude.{◌↔◌}
 use Rattle.std.proofs.lemmas.Bool.Decides.{eqb_tells}
 use Rattle.iom_base.specs.declared.cause.Cause.{Cause}
 use Rattle.iom_base.specs.declared.cause.Cause.TheVariants.{DirectoryEntryNotValid, DirectoryEntryMisconfigured}
+use Rattle.iom_base.specs.declared.size.Size.{Size}
+use Rattle.iom_base.specs.declared.size.Size.TheVariants.{Sv39, Sv48}
 use Rattle.iom_registers.specs.Bits.{bits}
 use Rattle.iom_device_dir.specs.declared.context.Context.{Context}
 use Rattle.iom_device_dir.specs.declared.entry.NonLeafEntry.{NonLeafEntry}
@@ -15,8 +17,8 @@ use Rattle.iom_base.specs.declared.ppn.Ppn.{Ppn}
 use Rattle.iom_device_dir.specs.declared.words.ContextWords.{ContextWords}
 use Rattle.iom_base.specs.PageNumbers.{page_from}
 use Rattle.iom_device_dir.specs.Values.{address_space_from, guest_root_from}
-use Rattle.iom_device_dir.specs.Formats.{IsNonLeafEntry, IsNonLeafEntryRefused, IsFirstStage, IsSecondStage, SetsOnlyOfferedBits, AreContextWords, IsContextMisconfigured, IsContextRefused}
-use Rattle.iom_device_dir.specs.Decoded.{decoded_non_leaf_entry, first_stage_at, second_stage_at, sets_only_offered_bits, context_with_stages, decoded_context}
+use Rattle.iom_device_dir.specs.Formats.{mode_of, IsNonLeafEntry, IsNonLeafEntryRefused, IsFirstStage, IsSecondStage, SetsOnlyOfferedBits, AreContextWords, IsContextMisconfigured, IsContextRefused}
+use Rattle.iom_device_dir.specs.Decoded.{decoded_non_leaf_entry, size_at, first_stage_at, second_stage_at, sets_only_offered_bits, context_with_stages, decoded_context}
 use Rattle.iom_device_dir.proofs.SameValues.{same_page, same_space, same_root}
 
 -- a bit that isn't 0 is 1
@@ -49,39 +51,64 @@ clear_told w =
       | inr a ↦ rw a.0 (λ clear. a.1 clear.tc)
     ]
 
+-- what a mode tells of the size of tables
+abbrev TellsSize : ℕ → Option Size → Type 0
+TellsSize mode (Some size) = mode ≡ mode_of size
+TellsSize mode None = (size : Size) → mode ≢ mode_of size
+
+no_size : (mode : ℕ) → mode ≢ 8 → mode ≢ 9 → (size : Size) → mode ≢ mode_of size
+no_size mode small large Sv39 h = small h
+no_size mode small large Sv48 h = large h
+
+size_told : (mode : ℕ) → TellsSize mode (size_at mode)
+size_told mode =
+    elim (eqb_tells mode 8) [
+      | inl e ↦ rw e.0 e.1
+      | inr n ↦ rw n.0 (elim (eqb_tells mode 9) [ inl e ↦ rw e.0 e.1 | inr m ↦ rw m.0 (no_size mode n.1 m.1) ])
+    ]
+
 -- what the mode of the first stage tells
 abbrev TellsFirst : ℕ → ℕ → Option FirstStage → Type 0
 TellsFirst mode ppn (Some stage) = IsFirstStage mode ppn stage
 TellsFirst mode ppn None = (stage : FirstStage) → ¬ IsFirstStage mode ppn stage
 
-no_first : (mode ppn : ℕ) → mode ≢ 0 → mode ≢ 8 → (stage : FirstStage) → ¬ IsFirstStage mode ppn stage
-no_first mode ppn bare sv39 first.Bare h = bare h
-no_first mode ppn bare sv39 (first.Sv39 root) h = sv39 h.0
+no_first : (mode ppn : ℕ) → mode ≢ 0 → ((size : Size) → mode ≢ mode_of size) → (stage : FirstStage) → ¬ IsFirstStage mode ppn stage
+no_first mode ppn bare none first.Bare h = bare h
+no_first mode ppn bare none (first.Tables size root) h = none size h.0
+
+first_by_size : (mode : ℕ) (root : Ppn) → mode ≢ 0 → (found : Option Size) → TellsSize mode found
+    → TellsFirst mode root.number (option_map (λ size. first.Tables size root) found)
+first_by_size mode root bare (Some size) told = (told, refl)
+first_by_size mode root bare None told = no_first mode root.number bare told
 
 first_told : (mode : ℕ) (root : Ppn) → TellsFirst mode root.number (first_stage_at mode root)
 first_told mode root =
     elim (eqb_tells mode 0) [
       | inl z ↦ rw z.0 z.1
-      | inr z ↦ rw z.0 (elim (eqb_tells mode 8) [ inl e ↦ rw e.0 (e.1, refl) | inr e ↦ rw e.0 (no_first mode root.number z.1 e.1) ])
+      | inr z ↦ rw z.0 (first_by_size mode root z.1 (size_at mode) (size_told mode))
     ]
+
+tables_first : (mode : ℕ) (root : Ppn) (size : Size) → mode ≡ mode_of size → first_stage_at mode root ≡ Some (first.Tables size root)
+tables_first mode root Sv39 h = rw h refl
+tables_first mode root Sv48 h = rw h refl
 
 first_found : (mode : ℕ) (root : Ppn) (stage : FirstStage) → IsFirstStage mode root.number stage → first_stage_at mode root ≡ Some stage
 first_found mode root first.Bare h = rw h refl
-first_found mode root (first.Sv39 own) h = rw h.0 (ap (λ page. Some (first.Sv39 page)) (sym (same_page own root h.1)))
+first_found mode root (first.Tables size own) h = tables_first mode root size h.0 ∙ ap (λ page. Some (first.Tables size page)) (sym (same_page own root h.1))
 
 -- what mode and root of the second stage tell
 abbrev TellsSecond : ℕ → ℕ → Option SecondStage → Type 0
 TellsSecond mode ppn (Some stage) = IsSecondStage mode ppn stage
 TellsSecond mode ppn None = (stage : SecondStage) → ¬ IsSecondStage mode ppn stage
 
-no_second : (mode ppn : ℕ) → mode ≢ 0 → mode ≢ 8 → (stage : SecondStage) → ¬ IsSecondStage mode ppn stage
-no_second mode ppn bare sv39x4 second.Bare h = bare h
-no_second mode ppn bare sv39x4 (second.Sv39x4 root) h = sv39x4 h.0
+no_second : (mode ppn : ℕ) → mode ≢ 0 → ((size : Size) → mode ≢ mode_of size) → (stage : SecondStage) → ¬ IsSecondStage mode ppn stage
+no_second mode ppn bare none second.Bare h = bare h
+no_second mode ppn bare none (second.Tables size root) h = none size h.0
 
 -- a root that isn't aligned is none
 unaligned : (mode ppn : ℕ) → mode ≢ 0 → ppn % 4 ≢ 0 → (stage : SecondStage) → ¬ IsSecondStage mode ppn stage
 unaligned mode ppn bare odd second.Bare h = bare h
-unaligned mode ppn bare odd (second.Sv39x4 root) h = odd (ap (λ n. n % 4) (sym h.1) ∙ root.aligned)
+unaligned mode ppn bare odd (second.Tables size root) h = odd (ap (λ n. n % 4) (sym h.1) ∙ root.aligned)
 
 root_number : (ppn : ℕ) → ppn < 2 ^ 44 → ppn % 4 ≡ 0 → 4 * (ppn / 4 % 2 ^ 42) ≡ ppn
 root_number ppn small even = omega (arith, small, even)
@@ -89,26 +116,32 @@ root_number ppn small even = omega (arith, small, even)
 root_small : (word : ℕ) → bits 43 0 word < 2 ^ 44
 root_small word = omega arith
 
+second_by_size : (mode ppn : ℕ) → mode ≢ 0 → ppn < 2 ^ 44 → ppn % 4 ≡ 0 → (found : Option Size) → TellsSize mode found
+    → TellsSecond mode ppn (option_map (λ size. second.Tables size (guest_root_from ppn)) found)
+second_by_size mode ppn bare small even (Some size) told = (told, root_number ppn small even)
+second_by_size mode ppn bare small even None told = no_second mode ppn bare told
+
 second_told : (mode ppn : ℕ) → ppn < 2 ^ 44 → TellsSecond mode ppn (second_stage_at mode ppn)
 second_told mode ppn small =
     elim (eqb_tells mode 0) [
       | inl z ↦ rw z.0 z.1
-      | inr z ↦ rw z.0 (elim (eqb_tells mode 8) [
-        | inl e ↦ rw e.0 (elim (eqb_tells (ppn % 4) 0) [
-          | inl a ↦ rw a.0 (e.1, root_number ppn small a.1)
-          | inr a ↦ rw a.0 (unaligned mode ppn z.1 a.1)
-        ])
-        | inr e ↦ rw e.0 (no_second mode ppn z.1 e.1)
+      | inr z ↦ rw z.0 (elim (eqb_tells (ppn % 4) 0) [
+        | inl a ↦ rw a.0 (second_by_size mode ppn z.1 small a.1 (size_at mode) (size_told mode))
+        | inr a ↦ rw a.0 (unaligned mode ppn z.1 a.1)
       ])
     ]
 
+tables_second : (mode ppn : ℕ) (size : Size) → mode ≡ mode_of size → (ppn % 4 == 0) ≡ true → second_stage_at mode ppn ≡ Some (second.Tables size (guest_root_from ppn))
+tables_second mode ppn Sv39 h even = rw (h, even) refl
+tables_second mode ppn Sv48 h even = rw (h, even) refl
+
 second_found : (mode ppn : ℕ) → ppn < 2 ^ 44 → (stage : SecondStage) → IsSecondStage mode ppn stage → second_stage_at mode ppn ≡ Some stage
 second_found mode ppn small second.Bare h = rw h refl
-second_found mode ppn small (second.Sv39x4 root) h =
+second_found mode ppn small (second.Tables size root) h =
     let even : ppn % 4 ≡ 0 = ap (λ n. n % 4) (sym h.1) ∙ root.aligned in
     let is : guest_root_from ppn ≡ root = same_root (guest_root_from ppn) root (root_number ppn small even ∙ sym h.1) in
     let is_even : (ppn % 4 == 0) ≡ true = ap (λ n. n == 0) even in
-    rw (h.0, is_even) (ap (λ own. Some (second.Sv39x4 own)) is)
+    tables_second mode ppn size h.0 is_even ∙ ap (λ own. Some (second.Tables size own)) is
 
 -- what decoding answers, judged by the grammar
 abbrev pub Judges : ContextWords → Result Context Cause → Type 0

@@ -1,7 +1,9 @@
 -- The grammars as functions: what words are decoded to.
-use Rattle.std.specs.Prelude.{ℕ, ◌%◌, ◌==◌, ◌&&◌, Bool, Option, Some, None, Result, Ok, Err, if◌then◌else◌}
+use Rattle.std.specs.Prelude.{ℕ, ◌%◌, ◌==◌, ◌&&◌, Bool, Option, Some, None, option_map, Result, Ok, Err, if◌then◌else◌}
 use Rattle.iom_base.specs.declared.cause.Cause.{Cause}
 use Rattle.iom_base.specs.declared.cause.Cause.TheVariants.{DirectoryEntryNotValid, DirectoryEntryMisconfigured}
+use Rattle.iom_base.specs.declared.size.Size.{Size}
+use Rattle.iom_base.specs.declared.size.Size.TheVariants.{Sv39, Sv48}
 use Rattle.iom_registers.specs.Bits.{bits}
 use Rattle.iom_device_dir.specs.declared.context.Context.{Context}
 use Rattle.iom_device_dir.specs.declared.entry.NonLeafEntry.{NonLeafEntry}
@@ -21,15 +23,19 @@ decoded_non_leaf_entry word =
     else if (bits 9 1 word == 0) && (bits 63 54 word == 0) then Ok (record { next = page_from 10 word })
     else Err DirectoryEntryMisconfigured
 
+-- the size of tables by their mode; None where it isn't offered, or has none
+abbrev pub size_at : ℕ → Option Size
+size_at mode = if mode == 8 then Some Sv39 else if mode == 9 then Some Sv48 else None
+
 -- the stage of a mode; None where the mode isn't offered
 abbrev pub first_stage_at : ℕ → Ppn → Option FirstStage
-first_stage_at mode ppn = if mode == 0 then Some first.Bare else if mode == 8 then Some (first.Sv39 ppn) else None
+first_stage_at mode ppn = if mode == 0 then Some first.Bare else option_map (λ size. first.Tables size ppn) (size_at mode)
 
 -- the second's root has to be aligned
 abbrev pub second_stage_at : ℕ → ℕ → Option SecondStage
 second_stage_at mode ppn =
     if mode == 0 then Some second.Bare
-    else if (mode == 8) && (ppn % 4 == 0) then Some (second.Sv39x4 (guest_root_from ppn))
+    else if ppn % 4 == 0 then option_map (λ size. second.Tables size (guest_root_from ppn)) (size_at mode)
     else None
 
 -- whether no bit is set that may not be
