@@ -3,14 +3,16 @@ use Rattle.std.proofs.Common.{◌≡◌, ◌/◌, ◌<◌, ℕ, Bool, List, leng
 use Rattle.std.specs.Prelude.{◌↔◌}
 use Rattle.iom_base.specs.declared.access.AccessKind.{AccessKind}
 use Rattle.iom_base.specs.declared.ppn.Ppn.{Ppn}
+use Rattle.iom_base.specs.declared.size.Size.{Size}
+use Rattle.iom_base.specs.Sizes.{levels_of}
 use Rattle.iom_stage_walk.specs.declared.walked.Walked.{Walked}
 use Rattle.iom_stage_walk.specs.declared.walked.WalkFault.{WalkFault}
-use Rattle.iom_stage_walk.specs.Paths.{first_levels, ReachesFirst, StopsFirst}
-use Rattle.iom_stage_walk.specs.Second.{second_levels, ReachesSecond, StopsSecond}
+use Rattle.iom_stage_walk.specs.Paths.{ReachesFirst, StopsFirst}
+use Rattle.iom_stage_walk.specs.Second.{ReachesSecond, StopsSecond}
 use Rattle.iom_stage_walk.specs.Both.{ReachesBoth, StopsBoth}
 use Rattle.iom_device_dir.specs.declared.context.Context.{Context}
 use Rattle.iom_device_dir.specs.declared.stages.FirstStage.{FirstStage}
-use Rattle.iom_device_dir.specs.declared.stages.FirstStage.TheVariants.{Bare, Sv39}
+use Rattle.iom_device_dir.specs.declared.stages.FirstStage.TheVariants.{Bare, Tables}
 use Rattle.iom_device_dir.specs.declared.stages.SecondStage.{SecondStage}
 use Rattle.iom_device_dir.specs.declared.stages.SecondStage.TheVariants as second
 use Rattle.iom_device_dir.specs.declared.values.GuestRoot.{GuestRoot}
@@ -25,9 +27,9 @@ use Rattle.iom_iommu.specs.Stages.{space_through, ReachesThrough, StopsThrough}
 pub reached_inside : (first_stage : FirstStage) (second_stage : SecondStage) (memory : List (List ℕ)) (address : ℕ) (kind : AccessKind) (walked : Walked)
     → ReachesThrough first_stage second_stage memory address kind walked → walked.frame < length memory
 reached_inside Bare second.Bare memory address kind walked reached = absurd reached
-reached_inside (Sv39 root) second.Bare memory address kind walked reached = reached.inside
-reached_inside Bare (second.Sv39x4 root) memory address kind walked reached = reached.leads.inside
-reached_inside (Sv39 first) (second.Sv39x4 second) memory address kind walked reached = reached.leads.inside
+reached_inside (Tables size root) second.Bare memory address kind walked reached = reached.inside
+reached_inside Bare (second.Tables size root) memory address kind walked reached = reached.leads.inside
+reached_inside (Tables first_size first) (second.Tables second_size second) memory address kind walked reached = reached.leads.inside
 
 -- an answer of which each is exactly so is so
 ok_of : {A E : Type 0} (P : A → Type 0) (result : Result A E) → ((a : A) → (result ≡ Ok a) ↔ P a) → IfOk result P
@@ -45,26 +47,26 @@ module _ (memory : List (List ℕ)) (address : ℕ) (kind : AccessKind) (first_s
       IfOk result (ReachesThrough first_stage second_stage memory address kind)
       × IfErr result (StopsThrough first_stage second_stage memory address kind)
 
-  pub walks_first : (root : Ppn) (number : ℕ) → first_stage ≡ Sv39 root → second_stage ≡ second.Bare → number ≡ root.number
-      → ((walked : Walked) → (result ≡ Ok walked) ↔ ReachesFirst first_levels memory number address kind walked)
-      → ((fault : WalkFault) → (result ≡ Err fault) ↔ StopsFirst first_levels memory number address kind fault) → EndsThrough
-  walks_first root number one two rooted reached stopped =
-      rw (one, two) (subst (λ n. IfOk result (ReachesFirst first_levels memory n address kind) × IfErr result (StopsFirst first_levels memory n address kind)) rooted
-      (ok_of (ReachesFirst first_levels memory number address kind) result reached, err_of (StopsFirst first_levels memory number address kind) result stopped))
+  pub walks_first : (size : Size) (root : Ppn) (number : ℕ) → first_stage ≡ Tables size root → second_stage ≡ second.Bare → number ≡ root.number
+      → ((walked : Walked) → (result ≡ Ok walked) ↔ ReachesFirst (levels_of size) memory number address kind walked)
+      → ((fault : WalkFault) → (result ≡ Err fault) ↔ StopsFirst (levels_of size) memory number address kind fault) → EndsThrough
+  walks_first size root number one two rooted reached stopped =
+      rw (one, two) (subst (λ n. IfOk result (ReachesFirst (levels_of size) memory n address kind) × IfErr result (StopsFirst (levels_of size) memory n address kind)) rooted
+      (ok_of (ReachesFirst (levels_of size) memory number address kind) result reached, err_of (StopsFirst (levels_of size) memory number address kind) result stopped))
 
-  pub walks_second : (root : GuestRoot) (number : ℕ) → first_stage ≡ Bare → second_stage ≡ second.Sv39x4 root → number ≡ root.number
-      → ((walked : Walked) → (result ≡ Ok walked) ↔ ReachesSecond second_levels memory number address kind walked)
-      → ((fault : WalkFault) → (result ≡ Err fault) ↔ StopsSecond second_levels memory number address kind fault) → EndsThrough
-  walks_second root number one two rooted reached stopped =
-      rw (one, two) (subst (λ n. IfOk result (ReachesSecond second_levels memory n address kind) × IfErr result (StopsSecond second_levels memory n address kind)) rooted
-      (ok_of (ReachesSecond second_levels memory number address kind) result reached, err_of (StopsSecond second_levels memory number address kind) result stopped))
+  pub walks_second : (size : Size) (root : GuestRoot) (number : ℕ) → first_stage ≡ Bare → second_stage ≡ second.Tables size root → number ≡ root.number
+      → ((walked : Walked) → (result ≡ Ok walked) ↔ ReachesSecond (levels_of size) memory number address kind walked)
+      → ((fault : WalkFault) → (result ≡ Err fault) ↔ StopsSecond (levels_of size) memory number address kind fault) → EndsThrough
+  walks_second size root number one two rooted reached stopped =
+      rw (one, two) (subst (λ n. IfOk result (ReachesSecond (levels_of size) memory n address kind) × IfErr result (StopsSecond (levels_of size) memory n address kind)) rooted
+      (ok_of (ReachesSecond (levels_of size) memory number address kind) result reached, err_of (StopsSecond (levels_of size) memory number address kind) result stopped))
 
-  pub walks_both : (first : Ppn) (root : GuestRoot) (number : ℕ) → first_stage ≡ Sv39 first → second_stage ≡ second.Sv39x4 root → number ≡ root.number
-      → ((walked : Walked) → (result ≡ Ok walked) ↔ ReachesBoth first_levels second_levels memory first.number number address kind walked)
-      → ((fault : WalkFault) → (result ≡ Err fault) ↔ StopsBoth first_levels second_levels memory first.number number address kind fault) → EndsThrough
-  walks_both first root number one two rooted reached stopped =
-      rw (one, two) (subst (λ n. IfOk result (ReachesBoth first_levels second_levels memory first.number n address kind) × IfErr result (StopsBoth first_levels second_levels memory first.number n address kind)) rooted
-      (ok_of (ReachesBoth first_levels second_levels memory first.number number address kind) result reached, err_of (StopsBoth first_levels second_levels memory first.number number address kind) result stopped))
+  pub walks_both : (first_size second_size : Size) (first : Ppn) (root : GuestRoot) (number : ℕ) → first_stage ≡ Tables first_size first → second_stage ≡ second.Tables second_size root → number ≡ root.number
+      → ((walked : Walked) → (result ≡ Ok walked) ↔ ReachesBoth (levels_of first_size) (levels_of second_size) memory first.number number address kind walked)
+      → ((fault : WalkFault) → (result ≡ Err fault) ↔ StopsBoth (levels_of first_size) (levels_of second_size) memory first.number number address kind fault) → EndsThrough
+  walks_both first_size second_size first root number one two rooted reached stopped =
+      rw (one, two) (subst (λ n. IfOk result (ReachesBoth (levels_of first_size) (levels_of second_size) memory first.number n address kind) × IfErr result (StopsBoth (levels_of first_size) (levels_of second_size) memory first.number n address kind)) rooted
+      (ok_of (ReachesBoth (levels_of first_size) (levels_of second_size) memory first.number number address kind) result reached, err_of (StopsBoth (levels_of first_size) (levels_of second_size) memory first.number number address kind) result stopped))
 
 module _ (sure : Bool) (Reaches : Walked → Type 0) (Stops : WalkFault → Type 0) (kind : AccessKind) (key : Key) (old : Content) (found : Option Translation) (is : found ≡ cached_for (old key) kind) where
   -- by the translation that was found
@@ -90,20 +92,20 @@ module _ (sure : Bool) (context : Context) (memory : List (List ℕ)) (address :
       (StopsThrough first_stage second_stage memory address kind) (at, address / 4096) old answer new
       → Translates sure first_stage second_stage context memory address kind old answer new
   through Bare second.Bare at is l = absurd (cc)
-  through (Sv39 root) second.Bare at is l =
+  through (Tables size root) second.Bare at is l =
       let same : at ≡ space.First context.pscid.number = cc in
-      subst (LooksOrWalksIn (ReachesFirst first_levels memory root.number address kind) (StopsFirst first_levels memory root.number address kind)) same l
-  through Bare (second.Sv39x4 root) at is l =
+      subst (LooksOrWalksIn (ReachesFirst (levels_of size) memory root.number address kind) (StopsFirst (levels_of size) memory root.number address kind)) same l
+  through Bare (second.Tables size root) at is l =
       let same : at ≡ space.Second context.gscid = cc in
-      subst (LooksOrWalksIn (ReachesSecond second_levels memory root.number address kind) (StopsSecond second_levels memory root.number address kind)) same l
-  through (Sv39 first) (second.Sv39x4 second) at is l =
+      subst (LooksOrWalksIn (ReachesSecond (levels_of size) memory root.number address kind) (StopsSecond (levels_of size) memory root.number address kind)) same l
+  through (Tables first_size first) (second.Tables second_size second) at is l =
       let same : at ≡ space.Both context.gscid context.pscid.number = cc in
-      subst (LooksOrWalksIn (ReachesBoth first_levels second_levels memory first.number second.number address kind)
-      (StopsBoth first_levels second_levels memory first.number second.number address kind)) same l
+      subst (LooksOrWalksIn (ReachesBoth (levels_of first_size) (levels_of second_size) memory first.number second.number address kind)
+      (StopsBoth (levels_of first_size) (levels_of second_size) memory first.number second.number address kind)) same l
 
   pub through_none : (first_stage : FirstStage) (second_stage : SecondStage) → space_through first_stage second_stage context ≡ None
       → answer ≡ own_page memory address kind → Stays old new → Translates sure first_stage second_stage context memory address kind old answer new
   through_none Bare second.Bare none is stays = (is, stays)
-  through_none (Sv39 root) second.Bare none is stays = absurd (cc)
-  through_none Bare (second.Sv39x4 root) none is stays = absurd (cc)
-  through_none (Sv39 first) (second.Sv39x4 second) none is stays = absurd (cc)
+  through_none (Tables size root) second.Bare none is stays = absurd (cc)
+  through_none Bare (second.Tables size root) none is stays = absurd (cc)
+  through_none (Tables first_size first) (second.Tables second_size second) none is stays = absurd (cc)

@@ -3,7 +3,7 @@
 use Rattle.std.specs.Prelude.{◌≡◌, ℕ, ◌/◌, nat_lt, Bool, List, length, Option, None, Some, Result, Ok, Err, if◌then◌else◌}
 use Rattle.iom_base.specs.Tables.{access_fault_of}
 use Rattle.iom_base.specs.Rights.{allows, rw}
-use Rattle.iom_base.specs.Sizes.{page_size}
+use Rattle.iom_base.specs.Sizes.{page_size, levels_of}
 use Rattle.iom_base.specs.declared.access.AccessKind.{AccessKind}
 use Rattle.iom_base.specs.declared.cause.Cause.{Cause}
 use Rattle.iom_base.specs.declared.cause.Cause.TheVariants.{AllInboundDisallowed, TransactionTypeDisallowed}
@@ -13,12 +13,12 @@ use Rattle.iom_registers.specs.declared.registers.Registers.{Registers}
 use Rattle.iom_registers.specs.Queues.{directory_mode}
 use Rattle.iom_stage_walk.specs.declared.walked.Walked.{Walked}
 use Rattle.iom_stage_walk.specs.declared.walked.WalkFault.{WalkFault}
-use Rattle.iom_stage_walk.specs.Paths.{first_levels, ReachesFirst, StopsFirst}
-use Rattle.iom_stage_walk.specs.Second.{second_levels, ReachesSecond, StopsSecond}
+use Rattle.iom_stage_walk.specs.Paths.{ReachesFirst, StopsFirst}
+use Rattle.iom_stage_walk.specs.Second.{ReachesSecond, StopsSecond}
 use Rattle.iom_stage_walk.specs.Both.{plain, ReachesBoth, StopsBoth}
 use Rattle.iom_device_dir.specs.declared.context.Context.{Context}
 use Rattle.iom_device_dir.specs.declared.stages.FirstStage.{FirstStage}
-use Rattle.iom_device_dir.specs.declared.stages.FirstStage.TheVariants.{Bare, Sv39}
+use Rattle.iom_device_dir.specs.declared.stages.FirstStage.TheVariants.{Bare, Tables}
 use Rattle.iom_device_dir.specs.declared.stages.SecondStage.{SecondStage}
 use Rattle.iom_device_dir.specs.declared.stages.SecondStage.TheVariants as second
 use Rattle.iom_device_dir.specs.Contents.{Content, IsSameContent, KeepsOne}
@@ -98,18 +98,18 @@ LooksOrWalks sure None Reaches Stops key old answer new = Walks sure Reaches Sto
 abbrev pub Translates : Bool → FirstStage → SecondStage → Context → List (List ℕ) → ℕ → AccessKind → Translations → Result Translation WalkFault
     → Translations → Type 0
 Translates sure Bare second.Bare context memory address kind old answer new = (answer ≡ own_page memory address kind) × Stays old new
-Translates sure (Sv39 root) second.Bare context memory address kind old answer new =
+Translates sure (Tables size root) second.Bare context memory address kind old answer new =
     LooksOrWalks sure (cached_for (old (first_key context address)) kind)
-    (ReachesFirst first_levels memory root.number address kind) (StopsFirst first_levels memory root.number address kind)
+    (ReachesFirst (levels_of size) memory root.number address kind) (StopsFirst (levels_of size) memory root.number address kind)
     (first_key context address) old answer new
-Translates sure Bare (second.Sv39x4 root) context memory address kind old answer new =
+Translates sure Bare (second.Tables size root) context memory address kind old answer new =
     LooksOrWalks sure (cached_for (old (second_key context address)) kind)
-    (ReachesSecond second_levels memory root.number address kind) (StopsSecond second_levels memory root.number address kind)
+    (ReachesSecond (levels_of size) memory root.number address kind) (StopsSecond (levels_of size) memory root.number address kind)
     (second_key context address) old answer new
-Translates sure (Sv39 first) (second.Sv39x4 second) context memory address kind old answer new =
+Translates sure (Tables first_size first) (second.Tables second_size second) context memory address kind old answer new =
     LooksOrWalks sure (cached_for (old (both_key context address)) kind)
-    (ReachesBoth first_levels second_levels memory first.number second.number address kind)
-    (StopsBoth first_levels second_levels memory first.number second.number address kind)
+    (ReachesBoth (levels_of first_size) (levels_of second_size) memory first.number second.number address kind)
+    (StopsBoth (levels_of first_size) (levels_of second_size) memory first.number second.number address kind)
     (both_key context address) old answer new
 
 -- by the context that was found

@@ -1,7 +1,7 @@
 // What a device asks of memory, and what becomes of an access in flight.
 ghost use Rattle.std.specs.Prelude.{◌≡◌, ◌<◌, ◌≤◌, ◌+◌, ◌*◌, ◌^◌, length, IfSome};
 ghost use Rattle.iom_base.specs.Sizes.{in_flight_limit, device_limit};
-ghost use Rattle.iom_inflight.specs.Flights.{count_in, accepted_in, count_all, oldest_in, row_of};
+ghost use Rattle.iom_inflight.specs.Flights.{count_in, accepted_in, count_all, first_busy, oldest_in, row_of};
 ghost use Rattle.iom_inflight.specs.Sound.{CarriesBytes};
 ghost use Rattle.iom_inflight.specs.Calls.{IsAccepted};
 ghost use Rattle.iom_inflight.specs.Rows.{StandsAt};
@@ -145,6 +145,14 @@ impl<C: TransCache> Iommu<C> {
         ensures { result ≡ oldest_in (row_of (flights_of self.now).rows device) }
     {
         self.in_flight.oldest(device)
+    }
+
+    /// The first device, in the order in which they were added, of which an access is in flight. None where nothing
+    /// is.
+    pub fn first_busy(&self) -> Option<DeviceId>
+        ensures { result ≡ first_busy (flights_of self.now).rows }
+    {
+        self.in_flight.first_busy()
     }
 
     /// How many accesses of all devices were ever accepted.

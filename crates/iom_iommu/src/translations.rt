@@ -52,9 +52,11 @@ fn space_of(context: &Context) -> Option<Space>
     let gscid = context.gscid;
     match (context.first_stage, context.second_stage) {
         (FirstStage::Bare, SecondStage::Bare) => None,
-        (FirstStage::Sv39(_), SecondStage::Bare) => Some(Space::First { pscid }),
-        (FirstStage::Bare, SecondStage::Sv39x4(_)) => Some(Space::Second { gscid }),
-        (FirstStage::Sv39(_), SecondStage::Sv39x4(_)) => Some(Space::Both { gscid, pscid }),
+        (FirstStage::Tables { .. }, SecondStage::Bare) => Some(Space::First { pscid }),
+        (FirstStage::Bare, SecondStage::Tables { .. }) => Some(Space::Second { gscid }),
+        (FirstStage::Tables { .. }, SecondStage::Tables { .. }) => {
+            Some(Space::Both { gscid, pscid })
+        }
     }
 }
 
@@ -71,14 +73,32 @@ fn walk(
 {
     match (context.first_stage, context.second_stage) {
         (FirstStage::Bare, SecondStage::Bare) => unreachable!(),
-        (FirstStage::Sv39(root), SecondStage::Bare) => {
-            walk_first(memory, root.number(), address, kind)
+        (FirstStage::Tables { size, root }, SecondStage::Bare) => {
+            walk_first(memory, size, root.number(), address, kind)
         }
-        (FirstStage::Bare, SecondStage::Sv39x4(root)) => {
-            walk_second(memory, root.number(), address, kind)
+        (FirstStage::Bare, SecondStage::Tables { size, root }) => {
+            walk_second(memory, size, root.number(), address, kind)
         }
-        (FirstStage::Sv39(first), SecondStage::Sv39x4(second)) => {
-            walk_both(memory, first, second.number(), address, kind)
+        (
+            FirstStage::Tables {
+                size: first_size,
+                root: first,
+            },
+            SecondStage::Tables {
+                size: second_size,
+                root: second,
+            },
+        ) => {
+            let number = second.number();
+            walk_both(
+                memory,
+                first_size,
+                first,
+                second_size,
+                number,
+                address,
+                kind,
+            )
         }
     }
 }

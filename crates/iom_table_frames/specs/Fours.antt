@@ -1,4 +1,4 @@
--- Runs of four free frames, for the root of a second stage (RISC-V Privileged Architecture, "Sv39x4": 16 KiB, aligned to that).
+-- Runs of four free frames, for the root of a second stage (RISC-V Privileged Architecture, "Sv39x4" and "Sv48x4": 16 KiB, aligned to that).
 use Rattle.std.specs.Prelude.{◌≡◌, ℕ, ◌+◌, ◌*◌, ◌<◌, ◌≤◌, List, Option, None, slice_set}
 use Rattle.iom_base.specs.declared.owner.Owner.{Owner}
 use Rattle.iom_ledger.specs.declared.ledger.Ledger.{Ledger}

@@ -1,5 +1,5 @@
-// Runs of four frames, for the root of a second stage (RISC-V Privileged Architecture, "Sv39x4": the root of a
-// guest physical address space has 16 KiB and is aligned to that).
+// Runs of four frames, for the root of a second stage (RISC-V Privileged Architecture, "Sv39x4" and "Sv48x4": the
+// root of a guest physical address space has 16 KiB and is aligned to that).
 ghost use Rattle.std.specs.Prelude.{◌≡◌, ◌↔◌, ◌+◌, ◌^◌, ◌<◌, ◌≤◌, length, IsTrue, MatchOption, Some};
 ghost use Rattle.std.specs.Option.{option_map_or};
 ghost use Rattle.iom_phys_mem.specs.Words.{zeroed};
